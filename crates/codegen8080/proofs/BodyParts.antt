@@ -1,5 +1,5 @@
 -- The code of procedures and of main programs, from that of their parts.
-use Rattle.std.proofs.Common.{◌≡◌, ℕ, Bool, true, false, List, [], ◌∷◌, ◌++◌, length, None, Result, Ok, Err, OnOk, drop, refl, sym, ap, subst, ◌∙◌}
+use Rattle.std.proofs.Common.{◌≡◌, ℕ, inl, inr, Bool, true, false, List, [], ◌∷◌, ◌++◌, length, None, Result, Ok, Err, OnOk, drop, refl, sym, ap, subst, ◌∙◌}
 use Rattle.std.proofs.lemmas.List.{drop_at}
 use Rattle.std.specs.Prelude.{IfOk}
 use Rattle.isa8080.specs.declared.instr.Instr.{Instr}
@@ -8,6 +8,7 @@ use Rattle.isa8080.specs.declared.instr.Pair.TheVariants.{Sp}
 use Rattle.asm8080.specs.declared.item.Item.{Item}
 use Rattle.asm8080.specs.declared.item.Item.TheVariants as items
 use Rattle.asm8080.specs.declared.item.WordForm.TheVariants.{LoadPair}
+use Rattle.runtime8080.specs.declared.routine.Routine.{Routine}
 use Rattle.treecode.specs.declared.module.TreeModule.{TreeModule}
 use Rattle.treecode.specs.declared.procedure.ProcedureKind.TheVariants as kinds
 use Rattle.treecode.specs.declared.procedure.TreeProcedure.{TreeProcedure}
@@ -21,9 +22,9 @@ use Rattle.steps8080.specs.Writer.{Writes, stack_end_item}
 use Rattle.steps8080.proofs.Numbered.{writes_nothing, writes_then}
 use Rattle.sites8080.specs.declared.site.Site.{Site}
 use Rattle.exprgen8080.specs.declared.emission.Emission.{Emission}
-use Rattle.exprgen8080.specs.Emission.{AreWritten, MarkWritten, NoneWritten, PlainWritten}
-use Rattle.exprgen8080.specs.Emitted.{EmitsSteps, HasAll}
-use Rattle.exprgen8080.proofs.Emitting.{has_itself}
+use Rattle.exprgen8080.specs.Emission.{AreWritten, call_routine, MarkWritten, NoneWritten, PlainWritten}
+use Rattle.exprgen8080.specs.Emitted.{EmitsSteps, HasAll, NotesCalled}
+use Rattle.exprgen8080.proofs.Emitting.{has_itself, none_noted, notes_then}
 use Rattle.statements8080.specs.declared.body.Body.{Body}
 use Rattle.statements8080.specs.declared.plan.Planned.{Planned}
 use Rattle.codegen8080.specs.declared.generator.Generator.{Generator}
@@ -53,8 +54,8 @@ pub planned_added :
     → ready.plan.list.items ≡ before.plan.list.items ++ list
     → start ≡ length before.plan.list.items
     → AddsPlanned body (drop start ready.plan.list.items) ready after
-    → AddsCode (λ called added. AreCarriedOut body called (here_of before) None list added (here_of after)) before
-    after
+    → AddsCode body.tree.now
+    (λ called added. AreCarriedOut body called (here_of before) None list added (here_of after)) before after
 planned_added body list start before ready after emission goes_on plan begins adds =
     let called : List Bool = after.emission.is_called.items in
     let left : drop start ready.plan.list.items ≡ list =
@@ -70,6 +71,8 @@ planned_added body list start before ready after emission goes_on plan begins ad
           (subst (λ goes. AreCarriedOut body called (record { facts = ready.emission.facts; goes_on = goes }) None
           list adds.list (here_of after)) goes_on written);
       called = subst (λ (from : Emission). HasAll from.is_called.items called) emission adds.called;
+      notes = subst (λ (from : Emission). NotesCalled body.tree.now from.is_called.items called adds.list) emission
+          adds.notes;
     }
 
 -- and so is how a procedure begins
@@ -83,7 +86,13 @@ pub entry_added :
     → OnOk result (AddsEntry body before after)
 entry_added body first start before ready after (Ok done) emission goes_on plan begins adds =
     let added = planned_added body (entry_steps body first) start before ready after emission goes_on plan begins adds in
-    record { list = added.list; writes = added.writes; written = (first, added.written); called = added.called }
+    record {
+      list = added.list;
+      writes = added.writes;
+      written = (first, added.written);
+      called = added.called;
+      notes = added.notes;
+    }
 entry_added body first start before ready after (Err fault) emission goes_on plan begins adds = adds
 
 -- and how it ends
@@ -107,6 +116,7 @@ end_added body start before ready after (Ok done) reached emission goes_on plan 
           subst (λ is_reached. IsEndCode body after.emission.is_called.items (here_of before) is_reached added.list)
           (sym reached) (here_of after, added.written);
       called = added.called;
+      notes = added.notes;
     }
 end_added body start before ready after (Err fault) reached emission goes_on plan begins adds = adds
 
@@ -119,13 +129,30 @@ no_end_added body before reached = record {
       subst (λ is_reached. IsEndCode body before.emission.is_called.items (here_of before) is_reached [])
       (sym reached) refl;
   called = has_itself before.emission.is_called.items;
+  notes = λ routine given. inl given;
 }
+
+-- an item that calls no routine is added
+alone_noted :
+    (tree other : TreeModule) (before after : List Bool) (list : List Item) (item : Item)
+    → ((routine : Routine) → call_routine tree routine (item ∷ []) ≡ false)
+    → list ≡ item ∷ []
+    → NotesCalled tree before after list
+    → NotesCalled other before after (item ∷ [])
+alone_noted tree other before after list item calls_none same notes = λ routine given.
+    elim (notes routine given) [
+      | inl old ↦ inl old
+      | inr bad ↦ absurd (
+          let no : false ≡ true = sym (calls_none routine) ∙ ap (call_routine tree routine) (sym same) ∙ bad in cc
+          )
+    ]
 
 -- a label is added
 record IsMarked (label : ℕ) (before after : Emission) : Type 0 where
   writes : Writes before.writer after.writer (items.Mark label ∷ [])
   facts : after.facts ≡ no_facts
   called : HasAll before.is_called.items after.is_called.items
+  notes : (tree : TreeModule) → NotesCalled tree before.is_called.items after.is_called.items (items.Mark label ∷ [])
 
 mark_is :
     {site : Site} {called : List Bool} {facts last : Facts} {label : LabelNumber} {list : List Item}
@@ -142,6 +169,9 @@ marked site label before after emits =
       writes = subst (Writes before.writer after.writer) is.0 emits.writes;
       facts = is.1;
       called = emits.called;
+      notes = λ tree.
+          alone_noted site.tree.now tree before.is_called.items after.is_called.items emits.list
+          (items.Mark label.index) (λ routine. refl) is.0 emits.notes;
     }
 
 -- an instruction is added
@@ -218,6 +248,21 @@ own_added tree procedure label body site before begun labelled entered listed af
       called =
           subst (λ (from : Emission). HasAll from.is_called.items called) same
           (λ routine given. from_entry routine (entry.called routine (mark.called routine given)));
+      notes =
+          subst
+          (λ (from : Emission). NotesCalled tree from.is_called.items called
+          (items.Mark label.index ∷ (entry.list ++ (list.list ++ end.list))))
+          same
+          (subst
+          (λ (at : TreeModule). NotesCalled at begun.emission.is_called.items called
+          (items.Mark label.index ∷ (entry.list ++ (list.list ++ end.list))))
+          tree_is
+          (notes_then body.tree.now begun.emission.is_called.items labelled.emission.is_called.items called
+          (items.Mark label.index ∷ []) (entry.list ++ (list.list ++ end.list)) (mark.notes body.tree.now)
+          (notes_then body.tree.now labelled.emission.is_called.items entered.emission.is_called.items called
+          entry.list (list.list ++ end.list) entry.notes
+          (notes_then body.tree.now entered.emission.is_called.items listed.emission.is_called.items called list.list
+          end.list list.notes end.notes))));
     }
 
 -- and so is a main program
@@ -274,4 +319,24 @@ main_added tree label body site last before begun labelled ready listed after tr
           (λ routine given. halts.called routine (list.called routine
           (subst (λ at. HasAll labelled.emission.is_called.items at) (sym table)
           (λ one is. is) routine (mark.called routine given))));
+      notes =
+          subst
+          (λ (from : Emission). NotesCalled tree from.is_called.items called
+          (items.Mark label.index ∷ stack_end_item (LoadPair Sp) ∷ (list.list ++ (items.Plain Hlt ∷ []))))
+          same
+          (subst
+          (λ (at : TreeModule). NotesCalled at begun.emission.is_called.items called
+          (items.Mark label.index ∷ stack_end_item (LoadPair Sp) ∷ (list.list ++ (items.Plain Hlt ∷ []))))
+          tree_is
+          (notes_then body.tree.now begun.emission.is_called.items labelled.emission.is_called.items called
+          (items.Mark label.index ∷ []) (stack_end_item (LoadPair Sp) ∷ (list.list ++ (items.Plain Hlt ∷ [])))
+          (mark.notes body.tree.now)
+          (notes_then body.tree.now labelled.emission.is_called.items ready.emission.is_called.items called
+          (stack_end_item (LoadPair Sp) ∷ []) (list.list ++ (items.Plain Hlt ∷ []))
+          (none_noted body.tree.now labelled.emission ready.emission (stack_end_item (LoadPair Sp) ∷ [])
+          (ap (λ (at : Emission). at.is_called) kept))
+          (notes_then body.tree.now ready.emission.is_called.items listed.emission.is_called.items called list.list
+          (items.Plain Hlt ∷ []) list.notes
+          (alone_noted last.tree.now body.tree.now listed.emission.is_called.items called halts.list (items.Plain Hlt)
+          (λ routine. refl) (plain_is halts.written) halts.notes)))));
     }

@@ -1,5 +1,5 @@
 -- The code of statements as it is written step by step.
-use Rattle.std.proofs.Common.{◌≡◌, ℕ, suc, ◌+◌, ◌-◌, ◌≤◌, ◌<◌, Bool, true, false, List, [], ◌∷◌, ◌++◌, length, Option, Some, None, Result, Ok, Err, OnOk, slice_get, drop, take, refl, sym, ap, subst, ◌∙◌, arith, append_assoc, append-nil}
+use Rattle.std.proofs.Common.{◌≡◌, ℕ, suc, ◌+◌, ◌-◌, ◌≤◌, ◌<◌, inl, Bool, true, false, List, [], ◌∷◌, ◌++◌, length, Option, Some, None, Result, Ok, Err, OnOk, slice_get, drop, take, refl, sym, ap, subst, ◌∙◌, arith, append_assoc, append-nil}
 use Rattle.std.proofs.lemmas.List.{drop_at, drop_all, drop_more, take_at}
 use Rattle.std.proofs.lemmas.Option.{get_or_from_slice_get, slice_get_within}
 use Rattle.std.specs.Prelude.{IfOk}
@@ -14,8 +14,8 @@ use Rattle.steps8080.proofs.Numbered.{writes_nothing, writes_then}
 use Rattle.sites8080.specs.declared.site.Site.{Site}
 use Rattle.exprgen8080.specs.declared.emission.Emission.{Emission}
 use Rattle.exprgen8080.specs.Emission.{AreWritten, knowing}
-use Rattle.exprgen8080.specs.Emitted.{EmitsSteps, HasAll}
-use Rattle.exprgen8080.proofs.Emitting.{are_kept, emits_then, has_itself, left_is, none_is}
+use Rattle.exprgen8080.specs.Emitted.{EmitsSteps, HasAll, NotesCalled}
+use Rattle.exprgen8080.proofs.Emitting.{are_kept, emits_then, has_itself, left_is, none_is, notes_then}
 use Rattle.statements8080.specs.declared.body.Body.{Body}
 use Rattle.statements8080.specs.declared.plan.Planned.{Planned}
 use Rattle.statements8080.specs.declared.plan.Planned.TheVariants as planned
@@ -87,6 +87,11 @@ module _ (body : Body) (waiting : Option Facts) (before after : Generator) where
             (subst (λ at. AreCarriedOut body called (here_of after) at others more last) adds.waiting_is rest));
         called = subst (λ (to : Emission). HasAll before.emission.is_called.items to.is_called.items) same
             adds.emits.called;
+        notes =
+            subst
+            (λ (to : Emission). NotesCalled body.tree.now before.emission.is_called.items to.is_called.items
+            adds.emits.list)
+            same adds.emits.notes;
         plan = ap (λ at. at.list.items) adds.plan;
       }
 
@@ -108,6 +113,7 @@ module _ (body : Body) (waiting : Option Facts) (before after : Generator) where
     followed = λ called others more last wider rest.
         StatementCarriedOut (statement_kept wider adds.written) rest;
     called = adds.called;
+    notes = adds.notes;
     plan = plan;
   }
 
@@ -122,6 +128,7 @@ module _ (body : Body) (waiting : Option Facts) (before after : Generator) where
     followed = λ called others more last wider rest.
         ListCarriedOut (list_kept wider adds.written) rest;
     called = adds.called;
+    notes = adds.notes;
     plan = plan;
   }
 
@@ -153,6 +160,7 @@ pub record IsCarrying
       → AreCarriedOut body called (here_of now) waiting (drop index now.plan.list.items) more last
       → AreCarriedOut body called (here_of before) None (drop start before.plan.list.items) (list ++ more) last
   pub called : HasAll before.emission.is_called.items now.emission.is_called.items
+  pub notes : NotesCalled body.tree.now before.emission.is_called.items now.emission.is_called.items list
   pub plan : now.plan.list.items ≡ before.plan.list.items
 
 pub carrying_begins : (body : Body) (before : Generator) (start : ℕ)
@@ -162,6 +170,7 @@ carrying_begins body before start = record {
   writes = writes_nothing before.emission.writer;
   left = λ called more last wider rest. rest;
   called = has_itself before.emission.is_called.items;
+  notes = λ routine given. inl given;
   plan = refl;
 }
 
@@ -188,6 +197,9 @@ module _ (body : Body) (before now : Generator) (waiting : Option Facts) (start 
             (subst (λ at. AreCarriedOut body called (here_of next) waits (drop (index + 1) at) more last)
             carries.plan rest))));
         called = λ routine given. carries.called routine (so_far.called routine given);
+        notes =
+            notes_then body.tree.now before.emission.is_called.items now.emission.is_called.items
+            next.emission.is_called.items so_far.list carries.list so_far.notes carries.notes;
         plan = carries.plan ∙ so_far.plan;
       }
 
@@ -203,6 +215,7 @@ module _ (body : Body) (before now : Generator) (waiting : Option Facts) (start 
         (subst (λ left. AreCarriedOut body called (here_of now) waiting left more last)
         (sym (none_is now.plan.list.items index none)) rest);
     called = so_far.called;
+    notes = so_far.notes;
     plan = so_far.plan;
   }
 
@@ -234,6 +247,11 @@ module _ (body : Body) (before now : Generator) (waiting : Option Facts) (start 
             (record { facts = to.facts; goes_on = now.goes_on })) (sym emission) written);
         called = subst (λ (to : Emission). HasAll before.emission.is_called.items to.is_called.items) (sym emission)
             so_far.called;
+        notes =
+            subst
+            (λ (to : Emission). NotesCalled body.tree.now before.emission.is_called.items to.is_called.items
+            so_far.list)
+            (sym emission) so_far.notes;
       }
 
 -- a statement is carried out by the steps that are planned for it
@@ -263,6 +281,8 @@ statement_added body number statement label before ready after at emission goes_
           (subst (λ goes. AreCarriedOut body called (record { facts = ready.emission.facts; goes_on = goes }) None
           steps adds.list (here_of after)) goes_on written));
       called = subst (λ (from : Emission). HasAll from.is_called.items called) emission adds.called;
+      notes = subst (λ (from : Emission). NotesCalled body.tree.now from.is_called.items called adds.list) emission
+          adds.notes;
     }
 
 pub statement_added_if : (body : Body) (number : StatementNumber) (statement : TreeStatement) (label start : ℕ)
@@ -290,6 +310,7 @@ pub record IsListing (body : Body) (range : Range) (before now : Generator) (ind
       → AreAllCarriedOut body called (here_of now) (range.first + index) (range.count - index) more last
       → IsListCarriedOut body called before.emission.facts range (list ++ more) last
   pub called : HasAll before.emission.is_called.items now.emission.is_called.items
+  pub notes : NotesCalled body.tree.now before.emission.is_called.items now.emission.is_called.items list
   pub plan : now.plan.list.items ≡ before.plan.list.items
 
 module _ (body : Body) (range : Range) (before now : Generator) where
@@ -307,6 +328,7 @@ module _ (body : Body) (range : Range) (before now : Generator) where
             (subst (λ at. AreAllCarriedOut body called (record { facts = before.emission.facts; goes_on = true })
             (range.first + 0) at more last) count rest));
         called = has_itself before.emission.is_called.items;
+        notes = λ routine given. inl given;
         plan = refl;
       })
 
@@ -335,6 +357,9 @@ module _ (body : Body) (range : Range) (before now : Generator) where
               (subst (λ first. AreAllCarriedOut body called (here_of next) first (range.count - (index + 1)) more last)
               following rest))));
           called = λ routine given. adds.called routine (so_far.called routine given);
+          notes =
+              notes_then body.tree.now before.emission.is_called.items now.emission.is_called.items
+              next.emission.is_called.items so_far.list adds.list so_far.notes adds.notes;
           plan = plan ∙ so_far.plan;
         }
 
@@ -352,4 +377,5 @@ module _ (body : Body) (range : Range) (before now : Generator) where
               (subst (λ count. AreAllCarriedOut body called (here_of now) (range.first + index) count [] (here_of now))
               (sym none) NoStatements));
           called = so_far.called;
+          notes = so_far.notes;
         }

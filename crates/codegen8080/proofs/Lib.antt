@@ -6,6 +6,7 @@ pub mod Driving
 pub mod BodyParts
 pub mod ModuleParts
 pub mod ObjectParts
+pub mod Refused
 pub mod NameLoops
 pub mod ItemsByName
 pub mod RoutinesStand

@@ -1,5 +1,5 @@
 -- The code of a module, from that of its parts.
-use Rattle.std.proofs.Common.{◌≡◌, ℕ, ◌+◌, Bool, true, false, List, [], ◌∷◌, ◌++◌, Option, Some, None, Result, Ok, Err, OnOk, slice_get, length, take, drop, ◌-◌, ◌<◌, arith, unwrap_or, refl, sym, ap, subst, ◌∙◌, append_assoc, append-nil, add-one}
+use Rattle.std.proofs.Common.{◌≡◌, ℕ, zero, suc, ◌+◌, inl, inr, Bool, true, false, List, replicate, slice_index_or, [], ◌∷◌, ◌++◌, Option, Some, None, Result, Ok, Err, OnOk, slice_get, length, take, drop, ◌-◌, ◌<◌, arith, unwrap_or, refl, sym, ap, subst, ◌∙◌, append_assoc, append-nil, add-one}
 use Rattle.std.specs.Prelude.{option_map}
 use Rattle.std.proofs.lemmas.Option.{none-some}
 use Rattle.asm8080.specs.declared.item.Item.{Item}
@@ -14,8 +14,8 @@ use Rattle.steps8080.specs.Externals.{Extends, entry}
 use Rattle.steps8080.specs.Writer.{Written, Writes, in_front}
 use Rattle.steps8080.proofs.Numbered.{items_stay, writes_nothing, writes_then}
 use Rattle.exprgen8080.specs.Emission.{has_routine, index_of_routine, module_routine_label}
-use Rattle.exprgen8080.specs.Emitted.{HasAll, IsEmpty}
-use Rattle.exprgen8080.proofs.Emitting.{has_itself}
+use Rattle.exprgen8080.specs.Emitted.{HasAll, IsEmpty, NotesCalled}
+use Rattle.exprgen8080.proofs.Emitting.{has_itself, none_noted, notes_then}
 use Rattle.codegen8080.specs.declared.generator.Generator.{Generator}
 use Rattle.codegen8080.specs.Modules.{AreCodeOf, AreRoutines, IsCodeOf, IsCodeOfMain, IsCodeOfRoutine, IsCodeWritten, IsProcedureCode, all_routines, content_items, contents_items, has_main}
 use Rattle.codegen8080.specs.internal.Bodies.{AddsCalled, AddsCodeOfMain, AddsMain, AddsOwnCode, AddsProcedure, AddsProcedures, AddsRoutineIf, AddsRoutines}
@@ -125,6 +125,7 @@ pub record AreBeingPut
       → AreCodeOf tree called number left more
       → AreCodeOf tree called 0 whole (list ++ more)
   pub called : HasAll before.emission.is_called.items now.emission.is_called.items
+  pub notes : NotesCalled tree before.emission.is_called.items now.emission.is_called.items list
 
 pub procedures_begin :
     (tree : TreeModule) (before : Generator) (whole : List TreeProcedure)
@@ -134,6 +135,7 @@ procedures_begin tree before whole = record {
   writes = writes_nothing before.emission.writer;
   left_is = λ called more wider rest. rest;
   called = has_itself before.emission.is_called.items;
+  notes = λ routine given. inl given;
 }
 
 pub procedures_go_on :
@@ -158,6 +160,9 @@ procedures_go_on tree before now next number following whole procedure others fo
         refl,
       ));
   called = λ routine given. adds.called routine (putting.called routine given);
+  notes =
+      notes_then tree before.emission.is_called.items now.emission.is_called.items next.emission.is_called.items
+      putting.list adds.list putting.notes adds.notes;
 }
 
 pub procedures_step :
@@ -186,6 +191,7 @@ procedures_end tree before now number whole putting = record {
       subst (AreCodeOf tree now.emission.is_called.items 0 whole) (append-nil putting.list)
       (putting.left_is now.emission.is_called.items [] (has_itself now.emission.is_called.items) refl);
   called = putting.called;
+  notes = putting.notes;
 }
 
 pub procedures_done :
@@ -211,6 +217,7 @@ main_there tree start before after (Ok done) there adds = record {
       subst (λ is_there. IsCodeOfMain tree after.emission.is_called.items start is_there adds.list) (sym there)
       adds.written;
   called = adds.called;
+  notes = adds.notes;
 }
 
 pub no_main_there :
@@ -223,6 +230,7 @@ no_main_there tree start before none = record {
   written =
       subst (λ is_there. IsCodeOfMain tree before.emission.is_called.items start is_there []) (sym none) refl;
   called = has_itself before.emission.is_called.items;
+  notes = λ routine given. inl given;
 }
 
 -- all of a module's code but the routines
@@ -253,6 +261,12 @@ own_code_added tree start before ready between after constants same main procedu
       subst (λ table. HasAll table after.emission.is_called.items)
       (ap (λ (flags : _). flags.items) same)
       (λ routine given. procedures.called routine (main.called routine given));
+  notes =
+      notes_then tree before.emission.is_called.items ready.emission.is_called.items after.emission.is_called.items
+      (contents_items tree.constants.items) (main.list ++ procedures.list)
+      (none_noted tree before.emission ready.emission (contents_items tree.constants.items) same)
+      (notes_then tree ready.emission.is_called.items between.emission.is_called.items
+      after.emission.is_called.items main.list procedures.list main.notes procedures.notes);
 }
 
 -- The code of a routine where code has more labels.
@@ -286,6 +300,7 @@ record AddsOne (tree : TreeModule) (is_called : Bool) (routine : Routine) (befor
   is : IsCodeOfRoutine tree after routine is_called list
   labels : Extends before.labels after.labels
   externals : Extends before.externals after.externals
+  no_names : Extends after.externals before.externals
 
 one_added :
     (tree : TreeModule) (routine : Routine) (is_called : Bool) (before after : Written)
@@ -297,6 +312,7 @@ one_added tree routine false before after same = record {
   is = refl;
   labels = λ number found given. ap (λ (written : Written). entry written.labels number) same ∙ given;
   externals = λ number found given. ap (λ (written : Written). entry written.externals number) same ∙ given;
+  no_names = λ number found given. ap (λ (written : Written). entry written.externals number) (sym same) ∙ given;
 }
 one_added tree routine true before after writes =
     let entered : Written = writes.entered in
@@ -321,6 +337,11 @@ one_added tree routine true before after writes =
           ap (λ table. entry table number) writes.labels ∙ writes.marked.labels number found given;
       externals = λ number found given.
           ap (λ table. entry table number) writes.externals ∙ writes.marked.externals number found given;
+      no_names = λ number found given.
+          elim (writes.marked.names number found (ap (λ table. entry table number) (sym writes.externals) ∙ given)) [
+            | inl old ↦ old
+            | inr bad ↦ absurd (let no : false ≡ true = bad in cc)
+          ];
     }
 
 -- no routine is added
@@ -331,6 +352,7 @@ no_routines tree called written = record {
   are = refl;
   labels = λ number found given. given;
   externals = λ number found given. given;
+  no_names = λ number found given. given;
 }
 
 -- a routine is added, and others after it
@@ -356,6 +378,7 @@ routine_then tree called routine others before between after first rest =
       );
       labels = λ number found given. rest.labels number found (one.labels number found given);
       externals = λ number found given. rest.externals number found (one.externals number found given);
+      no_names = λ number found given. one.no_names number found (rest.no_names number found given);
     }
 
 -- routines where code has more labels
@@ -406,7 +429,20 @@ routines_then tree called routines others before between after first second = re
       (are_kept tree called between after routines first.list second.labels first.are) second.are;
   labels = λ number found given. second.labels number found (first.labels number found given);
   externals = λ number found given. second.externals number found (first.externals number found given);
+  no_names = λ number found given. first.no_names number found (second.no_names number found given);
 }
+
+-- where no name has a number, none is found
+no_number : (count name number : ℕ) → entry (replicate count None) name ≡ Some number → ⊥
+no_number zero name number given = none-some number given
+no_number (suc count) zero number given = none-some number given
+no_number (suc count) (suc name) number given = no_number count name number given
+
+-- and no routine is called
+no_flag : (count index : ℕ) → slice_index_or (replicate count false) index false ≡ true → ⊥
+no_flag zero index given = let no : false ≡ true = given in cc
+no_flag (suc count) zero given = let no : false ≡ true = given in cc
+no_flag (suc count) (suc index) given = no_flag count index given
 
 -- the code of a module, from its own and the routines
 pub code_written :
@@ -437,4 +473,16 @@ code_written tree start before between called written after none own called_is w
           routines.added
           ∙ ap (λ list. list ++ routines.list)
           (own.writes.added ∙ ap (λ list. list ++ own.writes.made) nothing);
+      names = λ name number given.
+          elim (own.writes.names name number (routines.no_names name number given)) [
+            | inl old ↦ absurd (no_number (length tree.externals.items) name number
+                (ap (λ (written : Written). entry written.externals name) (sym none.items) ∙ old))
+            | inr used ↦ used
+          ];
+      calls = λ routine given.
+          elim (own.notes routine given) [
+            | inl old ↦ absurd (no_flag 9 (index_of_routine routine)
+                (ap (λ flags. has_routine flags routine) (sym none.called) ∙ old))
+            | inr is_called ↦ is_called
+          ];
     }

@@ -1,5 +1,5 @@
 -- The object module of a module, from its parts.
-use Rattle.std.proofs.Common.{◌≡◌, ℕ, zero, suc, ◌+◌, ◌<◌, Bool, true, false, ◌&&◌, nat_lt, if◌then◌else◌, List, [], ◌∷◌, ◌++◌, length, map, Option, Some, None, slice_get, refl, sym, ap, subst, ◌∙◌, arith, append_assoc}
+use Rattle.std.proofs.Common.{◌≡◌, ℕ, zero, suc, ◌+◌, ◌<◌, inl, inr, Bool, true, false, ◌&&◌, nat_lt, if◌then◌else◌, List, [], ◌∷◌, ◌++◌, length, map, Option, Some, None, slice_get, refl, sym, ap, subst, ◌∙◌, arith, append_assoc}
 use Rattle.std.proofs.lemmas.Bool.{lt-ltb}
 use Rattle.std.proofs.lemmas.Option.{none-some}
 use Rattle.std.specs.Prelude.{unwrap_or}
@@ -16,7 +16,8 @@ use Rattle.treecode.specs.declared.module.PublicPlace.{PublicPlace}
 use Rattle.treecode.specs.declared.module.PublicPlace.TheVariants.{Object, Procedure}
 use Rattle.treecode.specs.declared.module.TreeModule.{TreeModule}
 use Rattle.steps8080.specs.Externals.{Extends, entry}
-use Rattle.steps8080.specs.Writer.{Finishes, Written, known_label, numbered, place_of_known, place_of_label}
+use Rattle.steps8080.specs.Writer.{Finishes, NumbersNames, Written, known_label, numbered, place_of_known, place_of_label}
+use Rattle.steps8080.proofs.Numbered.{use_either}
 use Rattle.codegen8080.specs.Modules.{AreTargets, ArePublicsOf, IsCodeWritten, IsGenerated, IsPublicOf, contents_items, has_main, used_names}
 use Rattle.codegen8080.specs.internal.Listing.{AreListed, ArePublicsIn, HavePlaces, IsMadeOf, IsPublicIn}
 use Rattle.codegen8080.specs.internal.Names.{Linkage}
@@ -75,13 +76,13 @@ record IsFound
   low : place < 65536
   found : slice_get listed place ≡ Some external.name
 
-behind : {A : Type 0} (front : List A) (item : A) (others : List A) (place : ℕ)
+item_after : {A : Type 0} (front : List A) (item : A) (others : List A) (place : ℕ)
     → length front ≡ place → slice_get (front ++ item ∷ others) place ≡ Some item
-behind [] item others place same =
+item_after [] item others place same =
     ap (λ number. slice_get (item ∷ others) number) (sym same)
-behind (first ∷ front) item others place same =
+item_after (first ∷ front) item others place same =
     ap (λ number. slice_get ((first ∷ front) ++ item ∷ others) number) (sym same)
-    ∙ behind front item others (length front) refl
+    ∙ item_after front item others (length front) refl
 
 one_longer : {A : Type 0} (front : List A) (item : A) (place : ℕ)
     → length front ≡ place → length (front ++ item ∷ []) ≡ place + 1
@@ -114,7 +115,7 @@ find_name places listed front place (Some known ∷ numbers) (external ∷ exter
       low = omega (arith, have.1.follows.1, have.1.follows.2);
       found =
           ap (λ names. slice_get names place) is
-          ∙ behind front external.name (used_names numbers externals) place size;
+          ∙ item_after front external.name (used_names numbers externals) place size;
     }
 find_name places listed front place (None ∷ numbers) (external ∷ externals) (suc index) number is size have at =
     let there = find_name places listed front have.0 numbers externals index number is (size ∙ sym have.1.follows) have.2 at in
@@ -198,6 +199,7 @@ pub generated :
     → Finishes code code_bytes code_labels
     → numbered variables (contents_items tree.variables.items) ≡ Some variables.code.items
     → Extends code.externals variables.externals
+    → NumbersNames code.externals variables.externals (contents_items tree.variables.items)
     → Finishes variables variable_bytes variable_labels
     → AreListed tree.externals.items variables.externals places listed
     → names.externals ≡ listed.externals
@@ -206,7 +208,7 @@ pub generated :
     → IsMadeOf tree.name code_bytes variable_bytes names places start object
     → IsGenerated tree object
 generated tree start_label code variables code_bytes variable_bytes code_labels variable_labels listed names places
-    start object code_is code_ends variables_are grown variables_end are same publics start_is made =
+    start object code_is code_ends variables_are grown names_are variables_end are same publics start_is made =
     let externals : object.externals ≡ used_names variables.externals tree.externals.items =
     made.externals ∙ same ∙ are.names_are in
     let to : Target → Target = retarget places (length object.externals) in
@@ -228,6 +230,12 @@ generated tree start_label code variables code_bytes variable_bytes code_labels 
       variables_are = variables_are;
       grown = grown;
       externals = externals;
+      used = λ name number given.
+          use_either name code_is.own (contents_items tree.variables.items)
+          (elim (names_are name number given) [
+            | inl known ↦ inl (code_is.names name number known)
+            | inr referred ↦ inr referred
+          ]);
       to = to;
       targets = targets_are tree.externals.items variables.externals places object.externals externals are.places_are;
       code_segment = record {

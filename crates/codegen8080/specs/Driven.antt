@@ -2,11 +2,12 @@
 use Rattle.std.specs.Prelude.{◌≡◌, ℕ, Bool, List, Option, None}
 use Rattle.asm8080.specs.declared.item.Item.{Item}
 use Rattle.treecode.specs.declared.lists.Range.{Range}
+use Rattle.treecode.specs.declared.module.TreeModule.{TreeModule}
 use Rattle.treecode.specs.declared.statement.StatementNumber.{StatementNumber}
 use Rattle.steps8080.specs.declared.facts.Facts.{Facts}
 use Rattle.steps8080.specs.Writer.{Writes}
 use Rattle.exprgen8080.specs.declared.emission.Emission.{Emission}
-use Rattle.exprgen8080.specs.Emitted.{EmitsSteps, HasAll}
+use Rattle.exprgen8080.specs.Emitted.{EmitsSteps, HasAll, NotesCalled}
 use Rattle.statements8080.specs.declared.body.Body.{Body}
 use Rattle.statements8080.specs.declared.plan.Planned.{Planned}
 use Rattle.codegen8080.specs.declared.generator.Generator.{Generator}
@@ -17,30 +18,32 @@ use Rattle.codegen8080.specs.Generated.{AreCarriedOut, IsCarriedOut, IsListCarri
 abbrev pub here_of : Generator → Here
 here_of generator = record { facts = generator.emission.facts; goes_on = generator.goes_on }
 
--- Items are added that are code of some kind, by the routines that are called.
+-- Items of a module are added that are code of some kind, by the routines that are called.
 pub record AddsCode
-    (IsCode : (called : List Bool) → List Item → Type 0) (before after : Generator) : Type 0 where
+    (tree : TreeModule) (IsCode : (called : List Bool) → List Item → Type 0) (before after : Generator) :
+    Type 0 where
   pub list : List Item
   pub writes : Writes before.emission.writer after.emission.writer list
   pub written : IsCode after.emission.is_called.items list
   pub called : HasAll before.emission.is_called.items after.emission.is_called.items
+  pub notes : NotesCalled tree before.emission.is_called.items after.emission.is_called.items list
 
 -- the code of a statement is added
 abbrev pub AddsStatement : Body → StatementNumber → (before after : Generator) → Type 0
 AddsStatement body number before after =
-    AddsCode
+    AddsCode body.tree.now
     (λ called list. IsCarriedOut body called before.emission.facts number list (here_of after)) before after
 
 -- that of a list
 abbrev pub AddsList : Body → Range → (before after : Generator) → Type 0
 AddsList body range before after =
-    AddsCode
+    AddsCode body.tree.now
     (λ called list. IsListCarriedOut body called before.emission.facts range list (here_of after)) before after
 
 -- that of planned steps
 abbrev pub AddsPlanned : Body → List Planned → (before after : Generator) → Type 0
 AddsPlanned body planned before after =
-    AddsCode
+    AddsCode body.tree.now
     (λ called list. AreCarriedOut body called (here_of before) None planned list (here_of after)) before after
 
 -- the code of a step that holds no statement is added, and what waits after it

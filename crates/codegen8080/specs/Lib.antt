@@ -4,4 +4,5 @@ pub mod Statements
 pub mod Generated
 pub mod Driven
 pub mod Modules
+pub mod Refusals
 pub mod internal

@@ -33,8 +33,8 @@ use Rattle.frames.specs.declared.frame_plan.FramePlan.{FramePlan}
 use Rattle.frames.specs.Frames.{HasFrame, HasNothing, IsPlanOf, LiesApart}
 use Rattle.steps8080.specs.Externals.{Extends, entry}
 use Rattle.steps8080.specs.Facts.{no_facts}
-use Rattle.steps8080.specs.Writer.{Written, address_items, numbered, place_of_label, stack_end_item}
-use Rattle.exprgen8080.specs.Emission.{has_routine, module_label_of_routine}
+use Rattle.steps8080.specs.Writer.{Written, address_items, numbered, place_of_label, stack_end_item, use_name}
+use Rattle.exprgen8080.specs.Emission.{call_routine, has_routine, module_label_of_routine}
 use Rattle.statements8080.specs.declared.body.Body.{Body}
 use Rattle.codegen8080.specs.declared.meeting.Here.{Here}
 use Rattle.codegen8080.specs.Generated.{AreCarriedOut, IsListCarriedOut}
@@ -175,7 +175,7 @@ AreRoutines tree called written (routine ∷ others) list =
     × (list ≡ first ++ more)
 
 -- Code as it was written: its items are those of the module, by the numbers that the code has for labels and names, and
--- the routines that are called.
+-- the routines that are called. Items of the module refer to each name that has a number, and call each of the routines.
 pub record IsCodeWritten (tree : TreeModule) (start : ℕ) (written : Written) : Type 0 where
   pub called : List Bool
   pub own : List Item
@@ -185,9 +185,12 @@ pub record IsCodeWritten (tree : TreeModule) (start : ℕ) (written : Written) :
   pub same : numbered written own ≡ Some made
   pub listed_are : AreRoutines tree called written all_routines listed
   pub items_are : written.code.items ≡ made ++ listed
+  pub names : (name number : ℕ) → entry written.externals name ≡ Some number → use_name name own ≡ true
+  pub calls : (routine : Routine) → has_routine called routine ≡ true → call_routine tree routine own ≡ true
 
--- What was written is a segment of an object module, with these targets of its fixes: its bytes, resolved, are the items
--- wherever they stand.
+-- What was written is a segment of an object module, with these targets of its fixes. Resolved, its bytes are the items
+-- where they stand from the address of the code segment on: code does wherever it is placed. Of data, which lie
+-- elsewhere, that says what the bytes are before they are resolved, and where the fixes are.
 pub record IsSegmentOf
     (written : Written) (bytes : Assembled) (to : Target → Target) (segment : Places) : Type 0 where
   pub assembles : Assembles written.code bytes
@@ -262,6 +265,10 @@ pub record IsGenerated (tree : TreeModule) (object : ObjectModule) : Type 0 wher
   pub grown : Extends code.externals variables.externals
   -- the external names are those that code or data refer to, in the order of the text
   pub externals : object.externals ≡ used_names variables.externals tree.externals.items
+  pub used :
+      (name number : ℕ)
+      → entry variables.externals name ≡ Some number
+      → use_name name (code_is.own ++ contents_items tree.variables.items) ≡ true
   pub to : Target → Target
   pub targets : AreTargets tree.externals.items variables.externals object.externals to
   -- the segments

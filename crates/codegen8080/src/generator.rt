@@ -32,7 +32,8 @@ fn item_below(
     index: u32,
     bound: u32,
 ) -> Result<StatementNumber, AllocError>
-    ensures found { IfOk result (λ number. slice_get tree.now.lists.items (list.first + index) ≡ Some number) }
+    ensures found { IfOk result
+        (λ number. slice_get tree.now.lists.items (list.first + index) ≡ Some number) }
     ensures below { IfOk result (λ number. number.index < bound) }
 {
     match tree.item(list, index) {
@@ -109,7 +110,8 @@ impl Generator {
         ensures plan { OnOk result (self.new.plan.list.items ≡ self.old.plan.list.items
             ++ statement_steps body.now (knowing (site_of body.now) self.old.emission.facts) statement
             (label_after self.old.emission.steps.labels 0)) }
-        ensures emission { self.new.emission ≡ record (self.old.emission) { steps = self.new.emission.steps } }
+        ensures emission { self.new.emission
+            ≡ record (self.old.emission) { steps = self.new.emission.steps } }
         ensures goes_on { self.new.goes_on ≡ self.old.goes_on }
     {
         let site = self.emission.site(&site_of(body));
@@ -171,7 +173,8 @@ impl Generator {
         start: usize,
         bound: u32,
     ) -> Result<(), AllocError>
-        ensures code { OnOk result (AddsPlanned body.now (drop start self.old.plan.list.items) self.old self.new) }
+        ensures code { OnOk result
+            (AddsPlanned body.now (drop start self.old.plan.list.items) self.old self.new) }
         ensures plan { OnOk result (self.new.plan.list.items ≡ take start self.old.plan.list.items) }
     {
         let end = self.plan.count();

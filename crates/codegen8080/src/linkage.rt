@@ -136,7 +136,8 @@ impl LinkageNames {
     pub(crate) fn with_public(self, public: OwnedPublic) -> Result<LinkageNames, AllocError>
         requires { IsTrue (may_have_publics public.segment) }
         ensures externals { IfOk result (λ names. names.externals ≡ self.externals) }
-        ensures publics { IfOk result (λ names. names.publics ≡ self.publics ++ owned_public_view public ∷ []) }
+        ensures publics { IfOk result
+            (λ names. names.publics ≡ self.publics ++ owned_public_view public ∷ []) }
     {
         let name = valid(public.name);
         if self.known.contains(name) {

@@ -1,12 +1,14 @@
 //! Modules of tree code as object modules.
 
 ghost use Rattle.std.specs.Prelude.{◌≡◌, ◌+◌, false, slice_index_or, Some, IfOk, OnOk};
+ghost use Rattle.failure.specs.Failure.{IfFault};
 ghost use Rattle.codegen8080.specs.Modules.{IsCodeWritten, IsGenerated, all_routines, content_items, contents_items, has_main};
+ghost use Rattle.codegen8080.specs.Refusals.{IsNoSegment, MayRefuse};
 ghost use Rattle.codegen8080.specs.internal.Bodies.{AddsCalled, AddsCodeOfMain, AddsOwnCode, AddsProcedures, AddsRoutines, first_routines, last_routines, next_routines};
 ghost use Rattle.codegen8080.specs.internal.Segments.{KeepsFixes};
 ghost use Rattle.codegen8080.specs.internal.Listing.{AreNamesOf, start_in};
 ghost use Rattle.steps8080.specs.Externals.{Extends};
-ghost use Rattle.steps8080.specs.Writer.{Finishes, Writes, numbered};
+ghost use Rattle.steps8080.specs.Writer.{Finishes, NumbersNames, Writes, numbered};
 
 use crate::bodies::{put_main, put_procedure};
 use crate::fault::Fault;
@@ -214,6 +216,8 @@ fn variables_of(
     ensures items { IfOk result (λ written. numbered written (contents_items tree.now.variables.items)
         ≡ Some written.code.items) }
     ensures externals { IfOk result (λ written. Extends externals written.externals) }
+    ensures names { IfOk result (λ written. NumbersNames externals written.externals
+        (contents_items tree.now.variables.items)) }
 {
     let mut writer = Writer::sharing(alloc, externals);
     put_contents(&mut writer, tree.variables.as_slice())?;
@@ -221,11 +225,12 @@ fn variables_of(
 }
 
 // Code as bytes, with the names that it refers to.
-#[tactic(auto, using(crate::proofs::KeptSegments::finished_keeps))]
+#[tactic(auto, using(crate::proofs::KeptSegments::finished_keeps, crate::proofs::Refused::too_long, crate::proofs::Refused::not_bound))]
 fn finish(writer: Writer) -> Result<(Finished, Externals), Failure<Fault>>
     ensures keeps { IfOk result (λ both. KeepsFixes both.0.bytes) }
     ensures finishes { IfOk result (λ both. Finishes writer both.0.bytes both.0.labels.items) }
     ensures externals { IfOk result (λ both. both.1 ≡ writer.externals) }
+    ensures refused { IfFault result (λ fault. IsNoSegment fault writer) }
 {
     match writer.finish() {
         Ok(both) => Ok(both),
@@ -264,9 +269,11 @@ fn names_of(
 }
 
 /// The object module of a module: its constants and its code in the code segment, its variables in the data segment, its
-/// PUBLIC names, and the EXTERNAL names that it refers to. Refuses a module whose code segment has more than 65535 bytes.
+/// PUBLIC names, and the EXTERNAL names that it refers to. Refuses a module only where its code or its data have more than
+/// 65535 bytes, or a label has no place.
 pub fn generate(alloc: Global, tree: &TreeModule) -> Result<ObjectModule, Failure<Fault>>
-    ensures { IfOk result (λ object. IsGenerated tree.now object) }
+    ensures made { IfOk result (λ object. IsGenerated tree.now object) }
+    ensures refused { IfFault result (λ fault. MayRefuse tree.now fault) }
 {
     let ModuleCode { writer, start } = code_of(alloc, tree)?;
     let (code, externals) = finish(writer)?;

@@ -91,7 +91,8 @@ fn with_used(
 ) -> Result<LinkageNames, AllocError>
     requires { names.publics ≡ [] }
     ensures publics { IfOk result (λ after. after.publics ≡ []) }
-    ensures externals { IfOk result (λ after. after.externals ≡ names.externals ++ used_name number external) }
+    ensures externals { IfOk result
+        (λ after. after.externals ≡ names.externals ++ used_name number external) }
 {
     match number {
         Some(_) => names.with_external(external.name),
@@ -189,7 +190,8 @@ fn with_all_publics(
 ) -> Result<LinkageNames, AllocError>
     requires { names.publics ≡ [] }
     ensures externals { IfOk result (λ after. after.externals ≡ names.externals) }
-    ensures publics { IfOk result (λ after. ArePublicsIn code.now.labels.items code.now.bytes publics.now after.publics) }
+    ensures publics { IfOk result
+        (λ after. ArePublicsIn code.now.labels.items code.now.bytes publics.now after.publics) }
 {
     let mut names = names;
     let mut left = publics;
@@ -209,8 +211,8 @@ pub(crate) fn with_publics(
     requires { listed.names.publics ≡ [] }
     ensures names { IfOk result (λ after. after.names.externals ≡ listed.names.externals) }
     ensures numbers { IfOk result (λ after. after.numbers ≡ listed.numbers) }
-    ensures publics { IfOk result (λ after. ArePublicsIn code.now.labels.items code.now.bytes tree.now.publics.items
-        after.names.publics) }
+    ensures publics { IfOk result
+        (λ after. ArePublicsIn code.now.labels.items code.now.bytes tree.now.publics.items after.names.publics) }
 {
     let (names, numbers) = listed.into_parts();
     let names = with_all_publics(names, tree.publics.as_slice(), code)?;

@@ -369,7 +369,8 @@ fn plan_frame_entry(plan: &mut Plan, parameters: &[Parameter], bytes: u16) -> Re
 /// How a procedure begins.
 #[tactic(auto, unfolding(crate::specs::Procedures::entry_steps_by, crate::specs::Procedures::entry_labels_by))]
 pub(crate) fn plan_entry(body: &Body<'_>, plan: &mut Plan) -> Result<(), AllocError>
-    ensures { OnOk result (PlanAddsWithLabels plan.old plan.new (entry_labels body.now) (entry_steps body.now)) }
+    ensures { OnOk result
+        (PlanAddsWithLabels plan.old plan.new (entry_labels body.now) (entry_steps body.now)) }
 {
     let parameters = body.procedure.parameters.as_slice();
     match body.procedure.kind {

@@ -8,7 +8,7 @@ use Rattle.answers.specs.Reading.{StopsAt}
 use Rattle.answers.proofs.FilesRead.{stays_on}
 use Rattle.object_commands.specs.Linking.{StopsWriting}
 use Rattle.object_commands.proofs.FilesWritten.{kept_then_written}
-use Rattle.tool.specs.Sources.{IsReadable}
+use Rattle.tool.specs.Made.{IsCompiledTo}
 use Rattle.commands.specs.Compiling.{CompilesFile, CompilesTo, StopsCompiling}
 
 -- the command stopped at its source, or at its object once that was read
@@ -18,8 +18,8 @@ stops_at_source files name out = record { before = []; rest = out ∷ []; texts 
 pub stops_at_object : (files : Option Directory) (name out text : List ℕ) → HasFile files name text → StopsAt files (name ∷ out ∷ []) out
 stops_at_object files name out text read = record { before = name ∷ []; rest = []; texts = text ∷ []; names_are = refl; read = (read, tt) }
 
-pub compiles_to : (text bytes : List ℕ) (object : ObjectModule) → IsReadable text → bytes ≡ text_of object → CompilesTo text bytes
-compiles_to text bytes object readable is = record { readable = readable; object = object; text_is = is }
+pub compiles_to : (text bytes : List ℕ) (object : ObjectModule) → IsCompiledTo text object → bytes ≡ text_of object → CompilesTo text bytes
+compiles_to text bytes object compiled is = record { object = object; compiled = compiled; text_is = is }
 
 -- a source that was read and compiled
 pub compiles : (old now new : Option Directory) (name out text bytes : List ℕ) → KeepsFiles old now → HasFile old name text → CompilesTo text bytes
@@ -27,8 +27,8 @@ pub compiles : (old now new : Option Directory) (name out text bytes : List ℕ)
 compiles old now new name out text bytes kept read m written = record {
   text = text;
   read = read;
-  readable = m.readable;
   object = m.object;
+  compiled = m.compiled;
   written = kept_then_written old now new out (text_of m.object) kept (subst (λ (l : List ℕ). ChangesFiles now new (with_file out l)) m.text_is written);
 }
 
@@ -43,7 +43,7 @@ stops_compiling old now new name out text bytes kept read m (inl stays) = inl (s
 stops_compiling old now new name out text bytes kept read m (inr (sent, is, written)) = inr (record {
   text = text;
   read = read;
-  readable = m.readable;
   object = m.object;
+  compiled = m.compiled;
   written = (sent, subst (λ (l : List ℕ). IsBeginning sent l) m.text_is is, kept_then_written old now new out sent kept written);
 })

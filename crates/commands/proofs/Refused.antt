@@ -37,7 +37,7 @@ use Rattle.locate.specs.declared.fault.LocateFault.TheVariants as locate_faults
 use Rattle.program_sources.specs.declared.fault.ProgramFault.TheVariants as program_faults
 use Rattle.tool.specs.Faults.{number_of}
 use Rattle.tool.specs.declared.fault.ToolFault.{ToolFault}
-use Rattle.tool.specs.declared.fault.ToolFault.TheVariants.{TooManySources, Source, CodeTooLong, Code, ConstantsMissing, Program, Link, Locate}
+use Rattle.tool.specs.declared.fault.ToolFault.TheVariants.{TooManySources, Source, Code, Program, Link, Locate}
 
 words_other : (fault : word_fault.Fault) → is_other (of_words.number_of fault) ≡ true
 words_other (word_faults.Character line) = refl
@@ -111,9 +111,7 @@ locating_other locate_faults.HighByteBroken = refl
 sources_other : (fault : ToolFault) → is_other (number_of fault) ≡ true
 sources_other TooManySources = refl
 sources_other (Source file fault) = source_other fault
-sources_other (CodeTooLong file) = refl
 sources_other (Code file fault) = code_other fault
-sources_other (ConstantsMissing file) = refl
 sources_other (Program (program_faults.Join fault)) = joining_other fault
 sources_other (Program (program_faults.Placement fault)) = placement_other fault
 sources_other (Link fault) = linking_other fault

@@ -1,20 +1,23 @@
 -- The code of steps as it is written step by step.
-use Rattle.std.proofs.Common.{◌≡◌, ℕ, ◌+◌, ◌≤◌, ◌<◌, zero, suc, Bool, true, false, set, slice_index_or, List, [], ◌∷◌, ◌++◌, length, Option, Some, None, slice_get, Result, Ok, Err, OnOk, drop, take, refl, sym, ap, subst, ◌∙◌, arith, append_assoc, append-nil}
+use Rattle.std.proofs.Common.{◌≡◌, ◌==◌, ◌||◌, ◌⊎◌, inl, inr, ℕ, ◌+◌, ◌≤◌, ◌<◌, zero, suc, Bool, true, false, set, slice_index_or, List, [], ◌∷◌, ◌++◌, length, Option, Some, None, slice_get, Result, Ok, Err, OnOk, drop, take, refl, sym, ap, subst, ◌∙◌, arith, append_assoc, append-nil}
+use Rattle.std.proofs.lemmas.List.Folds.{list_any-append}
 use Rattle.std.proofs.lemmas.List.{drop_at, drop_all, drop_more, take_at}
 use Rattle.std.proofs.lemmas.Option.{get_or_from_slice_get, slice_get_within}
 use Rattle.asm8080.specs.declared.item.Item.{Item}
+use Rattle.asm8080.specs.declared.item.WordForm.TheVariants.{CallTo}
 use Rattle.runtime8080.specs.declared.routine.Routine.{Routine}
+use Rattle.treecode.specs.declared.module.TreeModule.{TreeModule}
 use Rattle.steps8080.specs.declared.facts.Facts.{Facts}
 use Rattle.steps8080.specs.declared.step.Part.{Part}
 use Rattle.steps8080.specs.declared.step.Step.{Step}
 use Rattle.steps8080.specs.declared.step.Step.TheVariants as steps
 use Rattle.steps8080.specs.Step.{AddsWithLabels, label_after}
-use Rattle.steps8080.specs.Writer.{Writes}
-use Rattle.steps8080.proofs.Numbered.{writes_nothing, writes_then}
+use Rattle.steps8080.specs.Writer.{Writes, jump_item}
+use Rattle.steps8080.proofs.Numbered.{either_true, is_itself, writes_nothing, writes_then}
 use Rattle.sites8080.specs.declared.site.Site.{Site}
 use Rattle.exprgen8080.specs.declared.emission.Emission.{Emission}
-use Rattle.exprgen8080.specs.Emission.{AreWritten, IsWritten, NoneWritten, PlainWritten, WordWritten, JumpWritten, MarkWritten, RoutineWritten, CallWritten, TestWritten, HoldsWritten, ChangeWritten, PartWritten, Planned, call_items, index_of_routine, knowing, test_items}
-use Rattle.exprgen8080.specs.Emitted.{AddsItems, Emits, EmitsSteps, HasAll, IsAlone, after_step, step_items}
+use Rattle.exprgen8080.specs.Emission.{AreWritten, IsWritten, NoneWritten, PlainWritten, WordWritten, JumpWritten, MarkWritten, RoutineWritten, CallWritten, TestWritten, HoldsWritten, ChangeWritten, PartWritten, Planned, call_items, call_routine, calls_label, has_routine, module_label_of_routine, module_routine_label, index_of_routine, knowing, test_items}
+use Rattle.exprgen8080.specs.Emitted.{AddsItems, Emits, EmitsSteps, HasAll, IsAlone, NotesCalled, NotesOnly, after_step, step_items}
 use Rattle.exprgen8080.specs.Forms.{task_labels, task_steps}
 
 -- a table has all that it has
@@ -33,6 +36,64 @@ kept_at (first ∷ others) (suc index) (suc number) given = kept_at others index
 pub note_kept : (before after : List Bool) (index : ℕ) → after ≡ set before index true → HasAll before after
 note_kept before after index same = subst (λ to. HasAll before to) (sym same)
     (λ routine given. kept_at before index (index_of_routine routine) given)
+
+-- nothing is noted
+pub note_none : (called : List Bool) (index : ℕ) → NotesOnly index called called
+note_none called index = λ other given. inl given
+
+pub none_noted : (tree : TreeModule) (before after : Emission) (list : List Item)
+    → after.is_called ≡ before.is_called
+    → NotesCalled tree before.is_called.items after.is_called.items list
+none_noted tree before after list same = λ routine given.
+    inl (ap (λ flags. has_routine flags.items routine) (sym same) ∙ given)
+
+-- one routine is
+pub note_only : (before after : List Bool) (index : ℕ) → after ≡ set before index true → NotesOnly index before after
+note_only before after index same = subst (NotesOnly index before) (sym same) (only before index)
+  where
+    only : (flags : List Bool) (index : ℕ) → NotesOnly index flags (set flags index true)
+    only [] index other given = inl given
+    only (first ∷ others) zero zero given = inr refl
+    only (first ∷ others) zero (suc other) given = inl given
+    only (first ∷ others) (suc index) zero given = inl given
+    only (first ∷ others) (suc index) (suc other) given =
+        elim (only others index other given) [ inl kept ↦ inl kept | inr same ↦ inr (ap suc same) ]
+
+-- and it is called
+pub call_noted : (tree : TreeModule) (routine : Routine) (before after : List Bool)
+    → NotesOnly (index_of_routine routine) before after
+    → NotesCalled tree before after (jump_item CallTo (module_label_of_routine tree routine) ∷ [])
+call_noted tree routine before after only = λ other given.
+    elim (only (index_of_routine other) given) [
+      | inl kept ↦ inl kept
+      | inr same ↦ inr (
+          ap
+          (λ index. ((module_routine_label tree index).index == (module_label_of_routine tree routine).index) || false)
+          same
+          ∙ is_itself (module_label_of_routine tree routine).index
+          )
+    ]
+
+-- routines that are noted one after another
+pub notes_then : (tree : TreeModule) (before between after : List Bool) (list later : List Item)
+    → NotesCalled tree before between list
+    → NotesCalled tree between after later
+    → NotesCalled tree before after (list ++ later)
+notes_then tree before between after list later first second = λ routine given.
+    elim (second routine given) [
+      | inl noted ↦ elim (first routine noted) [
+        | inl old ↦ inl old
+        | inr called ↦ inr (either routine (inl called))
+      ]
+      | inr called ↦ inr (either routine (inr called))
+    ]
+  where
+    either : (routine : Routine)
+        → (call_routine tree routine list ≡ true) ⊎ (call_routine tree routine later ≡ true)
+        → call_routine tree routine (list ++ later) ≡ true
+    either routine found =
+        list_any-append (calls_label (module_label_of_routine tree routine).index) list later
+        ∙ either_true (call_routine tree routine list) (call_routine tree routine later) found
 
 module _ {site : Site} {called wider : List Bool} (more : HasAll called wider) where
   mutual
@@ -125,6 +186,7 @@ emits_nothing site emission = record {
   writes = writes_nothing emission.writer;
   written = NoneWritten;
   called = has_itself emission.is_called.items;
+  notes = λ routine given. inl given;
   steps = refl;
   labels = omega arith;
 }
@@ -138,6 +200,9 @@ emits_then site first second before between after here next = record {
   writes = writes_then before.writer between.writer after.writer here.list next.list here.writes next.writes;
   written = are_appended (are_kept next.called here.written) next.written;
   called = λ routine given. next.called routine (here.called routine given);
+  notes =
+      notes_then site.tree.now before.is_called.items between.is_called.items after.is_called.items here.list next.list
+      here.notes next.notes;
   steps = next.steps ∙ here.steps;
   labels = omega (arith, here.labels, next.labels);
 }
@@ -146,8 +211,10 @@ emits_then site first second before between after here next = record {
 pub emits_step : (site : Site) (step : Step) (before after : Emission)
     → AddsItems before after (step_items site.tree.now before.facts step) (after_step before.facts step)
     → IsAlone after.is_called.items step
+    → NotesCalled site.tree.now before.is_called.items after.is_called.items
+    (step_items site.tree.now before.facts step)
     → EmitsSteps site (step ∷ []) before after
-emits_step site step before after adds alone =
+emits_step site step before after adds alone notes =
     let called : List Bool = after.is_called.items in
     let list : List Item = step_items site.tree.now before.facts step in
     record {
@@ -158,6 +225,7 @@ emits_step site step before after adds alone =
           (append-nil list)
           (step_written site called before.facts (after_step before.facts step) step [] [] alone NoneWritten));
       called = adds.called;
+      notes = notes;
       steps = ap (λ at. at.list.items) adds.steps;
       labels = subst (λ to. label_after before.steps.labels 0 ≤ label_after to 0)
           (sym (ap (λ at. at.labels) adds.steps)) (omega arith);
@@ -174,6 +242,7 @@ emits_part site part before after emits = record {
       subst (λ all. AreWritten site after.is_called.items before.facts (steps.Part part ∷ []) all after.facts)
       (append-nil emits.list) (PartWritten emits.written NoneWritten);
   called = emits.called;
+  notes = emits.notes;
   steps = emits.steps;
   labels = emits.labels;
 }
@@ -186,6 +255,7 @@ pub record IsWriting (site : Site) (part : Part) (before now : Emission) (index 
       → AreWritten site called now.facts (drop index now.steps.list.items) more last
       → IsWritten site called before.facts part (list ++ more) last
   pub called : HasAll before.is_called.items now.is_called.items
+  pub notes : NotesCalled site.tree.now before.is_called.items now.is_called.items list
   pub begins : take (length before.steps.list.items) now.steps.list.items ≡ before.steps.list.items
   pub count : length now.steps.list.items ≡ end
   pub labels : label_after before.steps.labels 0 ≤ label_after now.steps.labels 0
@@ -221,6 +291,8 @@ module _ (site : Site) (part : Part) (before now : Emission) where
             (subst (λ left. AreWritten site called planned.facts left more last) is_left written));
         called = subst (λ (to : Emission). HasAll before.is_called.items to.is_called.items) (sym same)
             (has_itself before.is_called.items);
+        notes = subst (λ (to : Emission). NotesCalled site.tree.now before.is_called.items to.is_called.items [])
+            (sym same) (λ routine given. inl given);
         begins = ap (take (length first)) adds.added ∙ take_at first list (length first) refl;
         count = count;
         labels = subst (λ to. label_after label 0 ≤ to) (sym adds.labels) (omega arith);
@@ -248,6 +320,9 @@ module _ (site : Site) (part : Part) (before now : Emission) where
               (sym (left_is steps_now index step is))
               (are_appended (are_kept wider emits.written) others)));
           called = λ routine given. emits.called routine (so_far.called routine given);
+          notes =
+              notes_then site.tree.now before.is_called.items now.is_called.items next.is_called.items so_far.list list
+              so_far.notes emits.notes;
           begins = ap (take (length before.steps.list.items)) emits.steps ∙ so_far.begins;
           count = ap length emits.steps ∙ so_far.count;
           labels = omega (arith, so_far.labels, emits.labels);
@@ -277,6 +352,10 @@ module _ (site : Site) (part : Part) (before now : Emission) where
             (sym same) written;
         called = subst (λ (to : Emission). HasAll before.is_called.items to.is_called.items) (sym same)
             so_far.called;
+        notes =
+            subst
+            (λ (to : Emission). NotesCalled site.tree.now before.is_called.items to.is_called.items so_far.list)
+            (sym same) so_far.notes;
         steps = list ∙ so_far.begins;
         labels = subst (λ to. label_after before.steps.labels 0 ≤ label_after to 0) (sym labels) so_far.labels;
       }
@@ -309,6 +388,7 @@ none_passed site part before now index end so_far none = record {
       (subst (λ left. AreWritten site called now.facts left more last)
       (sym (none_is now.steps.list.items index none)) written);
   called = so_far.called;
+  notes = so_far.notes;
   begins = so_far.begins;
   count = so_far.count;
   labels = so_far.labels;

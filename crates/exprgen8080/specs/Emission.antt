@@ -1,5 +1,6 @@
 -- The code of steps: which items are written for them, and what is known of the registers after these.
-use Rattle.std.specs.Prelude.{◌≡◌, ℕ, Bool, true, false, if◌then◌else◌, List, [], ◌∷◌, ◌++◌, length, Option, Some, None, slice_get, slice_index_or}
+use Rattle.std.specs.Prelude.{◌≡◌, ◌==◌, ℕ, Bool, true, false, if◌then◌else◌, List, [], ◌∷◌, ◌++◌, length, Option, Some, None, slice_get, slice_index_or}
+use Rattle.std.specs.List.{list_any}
 use Rattle.isa8080.specs.declared.instr.Instr.{Instr}
 use Rattle.isa8080.specs.declared.instr.Instr.TheVariants.{Accumulate}
 use Rattle.isa8080.specs.declared.instr.Operand.TheVariants.{Of}
@@ -7,6 +8,7 @@ use Rattle.isa8080.specs.declared.instr.Operation.TheVariants.{Or}
 use Rattle.isa8080.specs.declared.instr.Register.TheVariants.{A}
 use Rattle.asm8080.specs.declared.item.Item.{Item}
 use Rattle.asm8080.specs.declared.item.Item.TheVariants as items
+use Rattle.asm8080.specs.declared.item.Reference.TheVariants.{AtLabel}
 use Rattle.asm8080.specs.declared.item.WordForm.{WordForm}
 use Rattle.asm8080.specs.declared.item.WordForm.TheVariants.{CallTo}
 use Rattle.runtime8080.specs.declared.routine.Routine.{Routine}
@@ -53,6 +55,14 @@ label_of_routine site routine = module_label_of_routine site.tree.now routine
 -- whether a table of routines has one
 abbrev pub has_routine : (called : List Bool) → Routine → Bool
 has_routine called routine = slice_index_or called (index_of_routine routine) false
+
+-- whether an item calls a label, and whether one of items calls a routine of a module
+abbrev pub calls_label : (label : ℕ) → Item → Bool
+calls_label label (items.WithWord CallTo (AtLabel other)) = label == other
+calls_label label item = false
+
+abbrev pub call_routine : TreeModule → Routine → List Item → Bool
+call_routine tree routine list = list_any (calls_label (module_label_of_routine tree routine).index) list
 
 -- the site where this is known of the registers
 abbrev pub knowing : Site → Facts → Site

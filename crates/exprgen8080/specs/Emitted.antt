@@ -1,5 +1,5 @@
 -- What is written when code is emitted.
-use Rattle.std.specs.Prelude.{◌≡◌, ℕ, ◌≤◌, Bool, true, false, List, [], ◌∷◌, Option, None, replicate, length, slice_get, Some}
+use Rattle.std.specs.Prelude.{◌≡◌, ◌⊎◌, ℕ, ◌≤◌, Bool, true, false, List, [], ◌∷◌, Option, None, replicate, length, slice_get, slice_index_or, Some}
 use Rattle.asm8080.specs.declared.item.Item.{Item}
 use Rattle.asm8080.specs.declared.item.Item.TheVariants as items
 use Rattle.asm8080.specs.declared.item.WordForm.TheVariants.{CallTo}
@@ -14,11 +14,25 @@ use Rattle.steps8080.specs.Step.{label_after}
 use Rattle.steps8080.specs.Writer.{Writes, jump_item, word_item}
 use Rattle.sites8080.specs.declared.site.Site.{Site}
 use Rattle.exprgen8080.specs.declared.emission.Emission.{Emission}
-use Rattle.exprgen8080.specs.Emission.{AreWritten, IsWritten, after_test, has_routine, module_call_items, module_label_of_routine, test_items}
+use Rattle.exprgen8080.specs.Emission.{AreWritten, IsWritten, after_test, call_routine, has_routine, module_call_items, module_label_of_routine, test_items}
 
 -- a table of routines that has all that another one has
 abbrev pub HasAll : (called wider : List Bool) → Type 0
 HasAll called wider = (routine : Routine) → has_routine called routine ≡ true → has_routine wider routine ≡ true
+
+-- no routine is noted that items do not call
+abbrev pub NotesCalled : TreeModule → (before after : List Bool) → List Item → Type 0
+NotesCalled tree before after list =
+    (routine : Routine)
+    → has_routine after routine ≡ true
+    → (has_routine before routine ≡ true) ⊎ (call_routine tree routine list ≡ true)
+
+-- no routine is noted but one, by its place among them
+abbrev pub NotesOnly : (index : ℕ) → (before after : List Bool) → Type 0
+NotesOnly index before after =
+    (other : ℕ)
+    → slice_index_or after other false ≡ true
+    → (slice_index_or before other false ≡ true) ⊎ (other ≡ index)
 
 -- the items of a step that is no part, where this is known of the registers
 abbrev pub step_items : TreeModule → Facts → Step → List Item
@@ -66,6 +80,7 @@ pub record EmitsSteps (site : Site) (planned : List Step) (before after : Emissi
   pub writes : Writes before.writer after.writer list
   pub written : AreWritten site after.is_called.items before.facts planned list after.facts
   pub called : HasAll before.is_called.items after.is_called.items
+  pub notes : NotesCalled site.tree.now before.is_called.items after.is_called.items list
   pub steps : after.steps.list.items ≡ before.steps.list.items
   pub labels : label_after before.steps.labels 0 ≤ label_after after.steps.labels 0
 
@@ -74,6 +89,7 @@ pub record Emits (site : Site) (part : Part) (before after : Emission) : Type 0 
   pub writes : Writes before.writer after.writer list
   pub written : IsWritten site after.is_called.items before.facts part list after.facts
   pub called : HasAll before.is_called.items after.is_called.items
+  pub notes : NotesCalled site.tree.now before.is_called.items after.is_called.items list
   pub steps : after.steps.list.items ≡ before.steps.list.items
   pub labels : label_after before.steps.labels 0 ≤ label_after after.steps.labels 0
 

@@ -6,7 +6,7 @@ ghost use Rattle.asm8080.specs.declared.item.WordForm.TheVariants.{CallTo};
 ghost use Rattle.steps8080.specs.Facts.{after, after_form, after_word, no_facts};
 ghost use Rattle.steps8080.specs.Writer.{jump_item, word_item};
 ghost use Rattle.exprgen8080.specs.Emission.{after_test, has_routine, index_of_routine, knowing, module_call_items, module_label_of_routine, module_routine_label, test_items};
-ghost use Rattle.exprgen8080.specs.Emitted.{AddsItems, Emits, EmitsSteps, HasAll, IsAlone, IsEmpty, after_step, step_items};
+ghost use Rattle.exprgen8080.specs.Emitted.{AddsItems, Emits, EmitsSteps, HasAll, IsAlone, IsEmpty, NotesCalled, NotesOnly, after_step, step_items};
 
 use crate::forms::plan_task;
 use asm8080::WordForm;
@@ -97,8 +97,9 @@ impl Emission {
 
     // Adds an instruction.
     fn plain(&mut self, instruction: Instr) -> Result<(), AllocError>
-        ensures { OnOk result (AddsItems self.old self.new
+        ensures items { OnOk result (AddsItems self.old self.new
             (Plain instruction ∷ []) (after self.old.facts instruction)) }
+        ensures called { self.new.is_called ≡ self.old.is_called }
     {
         self.facts = self.facts.after(instruction);
         self.writer.plain(instruction)
@@ -106,8 +107,9 @@ impl Emission {
 
     // Adds an instruction with a word.
     fn word(&mut self, form: WordForm, place: Place) -> Result<(), AllocError>
-        ensures { OnOk result (AddsItems self.old self.new
+        ensures items { OnOk result (AddsItems self.old self.new
             (word_item form place ∷ []) (after_word self.old.facts form place)) }
+        ensures called { self.new.is_called ≡ self.old.is_called }
     {
         self.facts = self.facts.after_word(form, place);
         self.writer.word(form, place)
@@ -115,8 +117,9 @@ impl Emission {
 
     // Adds a jump, or another instruction with the place of a label.
     fn jump(&mut self, form: WordForm, label: LabelNumber) -> Result<(), AllocError>
-        ensures { OnOk result (AddsItems self.old self.new
+        ensures items { OnOk result (AddsItems self.old self.new
             (jump_item form label ∷ []) (after_form self.old.facts form)) }
+        ensures called { self.new.is_called ≡ self.old.is_called }
     {
         self.facts = self.facts.after_form(form);
         self.writer.jump(form, label)
@@ -124,7 +127,8 @@ impl Emission {
 
     // Gives a label its place here, to which code may jump from anywhere.
     fn mark(&mut self, label: LabelNumber) -> Result<(), AllocError>
-        ensures { OnOk result (AddsItems self.old self.new (Mark label.index ∷ []) no_facts) }
+        ensures items { OnOk result (AddsItems self.old self.new (Mark label.index ∷ []) no_facts) }
+        ensures called { self.new.is_called ≡ self.old.is_called }
     {
         self.facts = Facts::none();
         self.writer.mark(label)
@@ -132,8 +136,9 @@ impl Emission {
 
     // Adds a test of A, where the zero flag does not show yet whether it is 0.
     fn test_a(&mut self) -> Result<(), AllocError>
-        ensures { OnOk result (AddsItems self.old self.new
+        ensures items { OnOk result (AddsItems self.old self.new
             (test_items self.old.facts) (after_test self.old.facts)) }
+        ensures called { self.new.is_called ≡ self.old.is_called }
     {
         if self.facts.zero_shows_a {
             return Ok(());
@@ -142,10 +147,11 @@ impl Emission {
     }
 
     // Notes that the code calls a routine, by its place among them.
-    #[tactic(auto, using(crate::proofs::Emitting::note_kept))]
+    #[tactic(auto, using(crate::proofs::Emitting::note_kept, crate::proofs::Emitting::note_only, crate::proofs::Emitting::note_none))]
     fn note(&mut self, index: usize) -> Result<(), AllocError>
         ensures noted { OnOk result (slice_index_or self.new.is_called.items index false ≡ true) }
         ensures kept { OnOk result (HasAll self.old.is_called.items self.new.is_called.items) }
+        ensures only { NotesOnly index self.old.is_called.items self.new.is_called.items }
         ensures called { self.new ≡ record self.old { is_called = self.new.is_called } }
     {
         if index >= self.is_called.len() {
@@ -156,10 +162,13 @@ impl Emission {
     }
 
     // Adds a call of a routine.
+    #[tactic(auto, using(crate::proofs::Emitting::call_noted))]
     fn call_routine(&mut self, tree: &TreeModule, routine: Routine) -> Result<(), AllocError>
         ensures items { OnOk result (AddsItems self.old self.new
             (jump_item CallTo (module_label_of_routine tree.now routine) ∷ []) no_facts) }
         ensures noted { OnOk result (has_routine self.new.is_called.items routine ≡ true) }
+        ensures notes { NotesCalled tree.now self.old.is_called.items self.new.is_called.items
+            (jump_item CallTo (module_label_of_routine tree.now routine) ∷ []) }
     {
         let index = routine_index(routine);
         self.note(index as usize)?;
@@ -170,8 +179,9 @@ impl Emission {
 
     // Adds a call of a procedure. Fails where there is none of that number: there is one in what `lower` gives.
     fn call_procedure(&mut self, tree: &TreeModule, procedure: u32) -> Result<(), AllocError>
-        ensures { OnOk result (AddsItems self.old self.new
+        ensures items { OnOk result (AddsItems self.old self.new
             (module_call_items tree.now procedure) no_facts) }
+        ensures called { self.new.is_called ≡ self.old.is_called }
     {
         self.facts = Facts::none();
         match tree.procedures.get(procedure as usize) {
@@ -186,10 +196,13 @@ impl Emission {
     }
 
     // Adds the code of a step that is no part. A part is refused.
+    #[tactic(auto, using(crate::proofs::Emitting::none_noted))]
     fn step(&mut self, tree: &TreeModule, step: Step) -> Result<(), AllocError>
         ensures items { OnOk result (AddsItems self.old self.new
             (step_items tree.now self.old.facts step) (after_step self.old.facts step)) }
         ensures alone { OnOk result (IsAlone self.new.is_called.items step) }
+        ensures notes { NotesCalled tree.now self.old.is_called.items self.new.is_called.items
+            (step_items tree.now self.old.facts step) }
     {
         match step {
             Step::Plain(instruction) => self.plain(instruction),

@@ -8,7 +8,7 @@ use Rattle.typed_trees.specs.TypedTrees.{InFrame, TypedObject, TypedProcedure, T
 use Rattle.typed_trees.specs.Sizes.{size_of_object}
 use Rattle.typed_trees.specs.Frames.{variable_bytes, FrameFits, HasParameters}
 use Rattle.treecode.specs.Homes.{frame_position}
-use Rattle.procedure_frames.specs.internal.Objects.{TakeBytes}
+use Rattle.sound_modules.specs.Sound.{TakeBytes}
 use Rattle.procedure_frames.proofs.Entries.{in_frame, home_is, lives_there, entries, position_of, stands_at}
 use Rattle.procedure_frames.proofs.Bytes.{bytes_there, IsListed, listed}
 

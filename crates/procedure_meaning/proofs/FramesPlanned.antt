@@ -16,7 +16,7 @@ use Rattle.treecode.specs.Lowered.{IsProcedure}
 use Rattle.treecode.specs.Nodes.{Nodes}
 use Rattle.frames.specs.declared.frame_plan.FramePlan.{FramePlan}
 use Rattle.frames.specs.Frames.{IsPlanOf, bytes_by_parameter, distance_by_parameter, distance_in, distance_of, parameter_distance, variable_bytes}
-use Rattle.procedure_frames.specs.internal.Objects.{TakeBytes}
+use Rattle.sound_modules.specs.Sound.{TakeBytes}
 use Rattle.procedure_frames.proofs.Bytes.{bytes_are, object_fits, scalar_size}
 use Rattle.procedure_frames.proofs.Entries.{entries}
 use Rattle.procedure_frames.proofs.Frames.{parameter_count}

@@ -31,3 +31,4 @@ pub mod StaticSlots
 pub mod CallsFitting
 pub mod StaticProcedures
 pub mod ListsDone
+pub mod OneModule

@@ -1,10 +1,10 @@
 -- The main program, from its start on.
-use Rattle.std.proofs.Common.{◌≡◌, ℕ, suc, ◌+◌, ◌-◌, ◌*◌, ◌≤◌, Bool, true, false, List, [], ◌∷◌, ◌++◌, length, slice_get, Some, refl, sym, ap, subst, arith}
+use Rattle.std.proofs.Common.{◌≡◌, ℕ, suc, ◌+◌, ◌-◌, ◌*◌, ◌≤◌, Bool, true, false, List, [], ◌∷◌, ◌++◌, length, refl, sym, ap, subst, arith}
 use Rattle.meaning.specs.Access.{frame_bytes}
 use Rattle.object_modules.specs.declared.segment.Segment.TheVariants.{Stack}
 use Rattle.object_modules.specs.declared.segment.Target.TheVariants.{InSegment}
 use Rattle.typed_trees.specs.Charge.{charge_of, height_of_list}
-use Rattle.typed_trees.specs.TypedTrees.{TypedModule, TypedProcedure}
+use Rattle.typed_trees.specs.TypedTrees.{TypedProcedure}
 use Rattle.typed_trees.specs.WellTyped.{WithinMain}
 use Rattle.meaning.specs.Meaning.{done_list, later_by}
 use Rattle.meaning.specs.Outcomes.{Ended, Flow, Gave, Jumped, More, Onward, Outcome, Outside, Returned, State as SourceState, Stopped, then_do}
@@ -40,7 +40,6 @@ use Rattle.procedure_meaning.specs.Modules.{MainStands, ModuleCode, ModuleLies, 
 use Rattle.procedure_meaning.proofs.Trees.{lies_anywhere}
 use Rattle.procedure_meaning.specs.Premises.{with_tree, CallsOfModuleFit, ListsAreDone}
 use Rattle.procedure_meaning.proofs.CallInstructions.{charged_does}
-use Rattle.procedure_meaning.proofs.KnownCalls.{ModuleIsThere, calls_known}
 use Rattle.procedure_meaning.proofs.Labels.{main_labels_differ}
 use Rattle.procedure_meaning.proofs.ProcedureCalls.{charge_is}
 use Rattle.procedure_meaning.proofs.Soundness.{body_sound, context_sound, main_planned, static_lies, there_in}
@@ -302,25 +301,3 @@ main_runs code entries start budget room s r memory lies known lists fit stands 
     (main_done budget code.typed (surroundings_in code room) s) IsHalted) is
     (main_does code entries start budget room s r memory lies known lists fit stands (omega (arith, is)) no_frame enough
     shares bytes))
-
--- And so it does where all modules of the program lie as they are to: for each budget the machine ends as the source does.
-pub program_runs :
-    (code : ModuleCode) (entries : Entries) (start budget room : ℕ) (s : SourceState) (r : Registers) (memory : List ℕ)
-    → ModuleLies code entries
-    → ListsAreDone
-    → ((number : ℕ) (typed : TypedModule) → slice_get code.program.modules number ≡ Some typed
-    → ModuleIsThere code.program code.image entries (suc budget) number)
-    → CallsOfModuleFit code (suc budget)
-    → MainStands code start
-    → s.budget ≡ budget
-    → s.frame ≡ []
-    → room ≤ code.program.placement.stack.len
-    → Shares code.program code.image s.memory memory
-    → HoldBytes r
-    → EndsAs code.program.script budget (at_place start r memory s.events)
-    (run_of (main_done budget code.typed (surroundings_in code room) s)).end
-    (run_of (main_done budget code.typed (surroundings_in code room) s)).events
-program_runs code entries start budget room s r memory lies lists modules fit stands is no_frame enough shares bytes =
-    main_runs code entries start budget room s r memory lies
-    (calls_known code.program code.image entries (suc budget) lists modules budget (omega arith)) lists fit stands is
-    no_frame enough shares bytes

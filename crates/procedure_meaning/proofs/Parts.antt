@@ -23,7 +23,7 @@ use Rattle.task_meaning.proofs.Stages.{then_does_where}
 use Rattle.statement_meaning.specs.Bodies.{BodyContext, ComesToReturn, GoesOn, Leaves, ReturnStands}
 use Rattle.statement_meaning.specs.Statements.{ListDoes}
 use Rattle.procedure_meaning.specs.Calls.{ComesBack, IsEntered, IsOfCall, ReturnLies}
-use Rattle.procedure_meaning.specs.Modules.{EndIs}
+use Rattle.codegen8080.specs.Modules.{IsEndCode}
 use Rattle.procedure_meaning.specs.Procedures.{BeginDoes, HasReturned, ReturnDoes}
 use Rattle.procedure_meaning.proofs.Ends.{end_does}
 use Rattle.procedure_meaning.proofs.Ways.{IsLeftBy, LeavesBy, Ways, no_jump}
@@ -118,7 +118,7 @@ pub entered_does :
     → ListStands found.body
     → ((s : SourceState) → IsLeftBy (record { reaches = reaches; returns = true; labels = [] })
     (done_list at.context.later at.context.activation.around found.body s))
-    → EndIs at.body at.context.called reaches last ends
+    → IsEndCode at.body at.context.called last reaches ends
     → IsThere at.context.activation ends end_place to
     → ReturnDoes at (at.context.activation.level + at.context.activation.whole)
     → (back : ℕ) (values : List ℕ) (s : SourceState) (r : Registers) (memory : List ℕ)
@@ -211,7 +211,7 @@ entered_does at number found range room entry middle end_place to top bound fact
 
     by_reaches : (reaches_end : Bool) (before : List ℕ) (u : SourceState) (state : State)
         → reaches_end ≡ true
-        → EndIs at.body at.context.called reaches_end last ends
+        → IsEndCode at.body at.context.called last reaches_end ends
         → Keeps (IsOfCall activation.around.program (top + 2 + bytes_pushed values)) memory before
         → ReturnLies (activation.level + activation.back) back before
         → GoesOn at before end_place last u state

@@ -4,3 +4,4 @@ pub mod Contexts
 pub mod Procedures
 pub mod Premises
 pub mod Main
+pub mod OneModule

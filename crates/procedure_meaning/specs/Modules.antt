@@ -1,5 +1,5 @@
 -- Where the code of a module of a program lies, and what is true of the module.
-use Rattle.std.specs.Prelude.{◌≡◌, ◌≢◌, ℕ, ◌<◌, ◌+◌, true, false, All, Bool, List, ◌++◌, [], ◌∷◌, Some, None, length, slice_get}
+use Rattle.std.specs.Prelude.{◌≡◌, ◌≢◌, ℕ, ◌<◌, ◌+◌, true, All, Bool, List, ◌++◌, [], ◌∷◌, Some, None, length, slice_get}
 use Rattle.std.specs.Borrow.{Bor}
 use Rattle.mem80.specs.declared.memory.TheConstants.{MEMORY_SIZE}
 use Rattle.object_modules.specs.declared.segment.Segment.TheVariants.{Stack}
@@ -9,8 +9,9 @@ use Rattle.typed_trees.specs.Frames.{FramesFit, ParametersFit}
 use Rattle.typed_trees.specs.Globals.{ListsGlobals}
 use Rattle.typed_trees.specs.Jumps.{JumpsAreSound}
 use Rattle.typed_trees.specs.Sizes.{size_of_object}
-use Rattle.typed_trees.specs.TypedTrees.{InData, InFrame, TypedModule, TypedObject, TypedProcedure}
+use Rattle.typed_trees.specs.TypedTrees.{InData, TypedModule, TypedObject}
 use Rattle.typed_trees.specs.WellTyped.{IsWellTyped}
+use Rattle.sound_modules.specs.Sound.{BasesStandBefore, FramesAreReentrant, TakeBytes}
 use Rattle.layout.specs.Joined.{InProgram, IsJoined}
 use Rattle.layout.specs.Storage.{Storage}
 use Rattle.meaning.specs.Access.{Surroundings}
@@ -34,7 +35,6 @@ use Rattle.treecode.specs.Lowered.{IsLowered}
 use Rattle.treecode.specs.Nodes.{home_at, nodes_of}
 use Rattle.treecode.specs.Resolved.{Resolves}
 use Rattle.frames.specs.Frames.{HasNothing, IsPlanOf}
-use Rattle.procedure_frames.specs.internal.Objects.{TakeBytes}
 use Rattle.code_meaning.specs.Activations.{Activation, IsThere, PlacementLies}
 use Rattle.code_facts.specs.Holding.{place_at}
 use Rattle.steps8080.specs.Facts.{no_facts}
@@ -42,8 +42,9 @@ use Rattle.exprgen8080.specs.Emission.{has_routine, module_label_of_routine}
 use Rattle.statements8080.specs.declared.body.Body.{Body}
 use Rattle.codegen8080.specs.declared.meeting.Here.{Here}
 use Rattle.codegen8080.specs.Generated.{AreCarriedOut, IsListCarriedOut}
-use Rattle.codegen8080.specs.Procedures.{end_steps, entry_steps}
-use Rattle.task_meaning.specs.Contexts.{BasesStandBefore, NumbersAreWords, RoutineIsAt}
+use Rattle.codegen8080.specs.Modules.{IsEndCode}
+use Rattle.codegen8080.specs.Procedures.{entry_steps}
+use Rattle.task_meaning.specs.Contexts.{NumbersAreWords, RoutineIsAt}
 use Rattle.procedure_meaning.specs.Calls.{Entries}
 
 -- A module of a program, by its number: as it is typed, with its storage, as tree code; the memory as it was loaded; where
@@ -79,11 +80,6 @@ bare code = record {
 abbrev pub at_start : Here
 at_start = record { facts = no_facts; goes_on = true }
 
--- items of the end of a procedure, where that can be reached
-abbrev pub EndIs : (body : Body) → (called : List Bool) → (reached : Bool) → Here → List Item → Type 0
-EndIs body called true here list = (last : Here) × AreCarriedOut body called here None (end_steps body) list last
-EndIs body called false here list = list ≡ []
-
 -- the code of a procedure stands at its entry: how it begins, its body, and its end
 pub record ProcedureStands (code : ModuleCode) (procedure : TreeProcedure) (entry : ℕ) : Type 0 where
   pub body : Body
@@ -98,7 +94,7 @@ pub record ProcedureStands (code : ModuleCode) (procedure : TreeProcedure) (entr
   pub last : Here
   pub list_written : IsListCarriedOut body code.called begun.facts procedure.body statements last
   pub ends : List Item
-  pub end_written : EndIs body code.called procedure.reaches_its_end last ends
+  pub end_written : IsEndCode body code.called last procedure.reaches_its_end ends
   pub to : ℕ
   pub there : IsThere (bare code) (begins ++ (statements ++ ends)) entry to
 
@@ -116,15 +112,6 @@ pub record MainStands (code : ModuleCode) (start : ℕ) : Type 0 where
   pub there :
       IsThere (bare code)
       (items.WithWord (LoadPair Sp) (AtTarget (InSegment Stack) 0) ∷ (statements ++ (items.Plain Hlt ∷ []))) start to
-
--- objects live in the frames of REENTRANT procedures alone
-abbrev pub FramesAreReentrant : TypedModule → Type 0
-FramesAreReentrant typed =
-    (object number : ℕ) (found : TypedObject) (heading : TypedProcedure)
-    → slice_get typed.objects object ≡ Some found
-    → slice_get typed.procedures number ≡ Some heading
-    → found.home ≡ InFrame number
-    → heading.is_reentrant ≡ true
 
 -- variables of the data segment without AT and INITIAL have no byte in common
 abbrev pub VariablesAreApart : ModuleCode → Type 0

@@ -1,13 +1,16 @@
 pub mod Agreeing
 pub mod Renumbered
 pub mod Homes
+pub mod ObjectsLie
 pub mod Resolving
 pub mod CodeLies
 pub mod ModuleStands
 pub mod Shared
 pub mod Marks
-pub mod Entering
+pub mod Labels
 pub mod VariablesApart
 pub mod ModuleLies
+pub mod OneModule
+pub mod Linked
 pub mod Programs
 pub mod MadePrograms

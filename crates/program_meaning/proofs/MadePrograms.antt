@@ -17,7 +17,6 @@ use Rattle.layout.specs.Placing.{Plan as PlacingPlan}
 use Rattle.meaning.specs.Run.{NeverOutside, source_run}
 use Rattle.isa8080.specs.State.{HoldBytes, Registers}
 use Rattle.isa8080.specs.Step.{running, state_after}
-use Rattle.codegen8080.specs.Modules.{IsGenerated}
 use Rattle.program_images.specs.internal.AtPlans.{plan_of}
 use Rattle.program_memory.specs.internal.InMemory.{IsInMemory, placement_of}
 use Rattle.program_memory.proofs.Modules.{is_linked}
@@ -26,7 +25,7 @@ use Rattle.generated_objects.proofs.Made.{is_in_memory}
 use Rattle.program_meaning.specs.Agreement.{Agrees}
 use Rattle.program_meaning.specs.Entering.{ModulesAre}
 use Rattle.program_meaning.specs.Linked.{ModuleIs}
-use Rattle.program_meaning.specs.Typed.{AreSoundlyMade, HasWords, IsSoundlyMade, IsSoundlyTyped}
+use Rattle.program_meaning.specs.Typed.{AreSoundlyMade, IsSoundlyMade}
 use Rattle.program_meaning.proofs.Programs.{program_does}
 
 -- without what is known of their types and words
@@ -74,16 +73,11 @@ module _
         let linked = is_linked plan modules objects merged image before after is number typed found in
         record {
           typed = typed;
-          storage = sound.sound.made.storage;
-          tree = sound.sound.made.tree;
           found = found;
           at = linked;
-          laid = sound.sound.made.laid;
-          lowered = sound.sound.made.lowered;
-          generated =
-              subst (IsGenerated sound.sound.made.tree)
-              (same_Some sound.object linked.linked.object (sym sound.found ∙ linked.object_found))
-              sound.sound.made.generated;
+          sound =
+              subst (IsSoundlyMade typed)
+              (same_Some sound.object linked.linked.object (sym sound.found ∙ linked.object_found)) sound.sound;
         }
 
     found_at : (number : ℕ) (found : Option TypedModule) → slice_get modules number ≡ found → Option (At number)
@@ -103,28 +97,6 @@ module _
       all = λ number typed found. all_at number typed (slice_get modules number) refl found;
     }
 
-    facts_at : (number : ℕ) (typed : TypedModule) (there : slice_get modules number ≡ Some typed)
-        → IsSoundlyTyped (module_at number typed there).typed × HasWords (module_at number typed there).tree
-    unfolding module_at
-    facts_at number typed there =
-        let sound = sound_at modules objects number typed made there in
-        (sound.sound.facts, sound.sound.words)
-
-    sound_so : (number : ℕ) (module_is : At number) (found : Option TypedModule) (there : slice_get modules number ≡ found)
-        → found_at number found there ≡ Some module_is
-        → IsSoundlyTyped module_is.typed × HasWords module_is.tree
-    unfolding found_at
-    sound_so number module_is None there same = absurd (none-some module_is same)
-    sound_so number module_is (Some typed) there same =
-        subst (λ (one : At number). IsSoundlyTyped one.typed × HasWords one.tree)
-        (same_Some (module_at number typed there) module_is same) (facts_at number typed there)
-
-    sound_module : (number : ℕ) (module_is : At number)
-        → modules_are.at number ≡ Some module_is
-        → IsSoundlyTyped module_is.typed × HasWords module_is.tree
-    unfolding modules_are
-    sound_module number module_is at_is = sound_so number module_is (slice_get modules number) refl at_is
-
     in_memory_does :
         (script : List (List ℕ)) (events : List Event) (r : Registers)
         → IsScript script
@@ -140,8 +112,7 @@ module _
         budget)
         (λ (steps : ℕ). state_after script steps (running (record r { pc = image.start }) after events))
     in_memory_does script events r bytes is_memory registers never =
-        program_does plan modules objects merged image before after is script bytes is_memory modules_are sound_module events r
-        registers never
+        program_does plan modules objects merged image before after is script bytes is_memory modules_are events r registers never
 
 -- The machine performs exactly the port reads and writes of the source, in order and with the same values, and halts
 -- exactly if the source ends, for every starting memory and every script.

@@ -1,14 +1,12 @@
 -- The main program, the procedures and the routines of a module stand where its labels lie.
-use Rattle.std.proofs.Common.{◌≡◌, ◌≢◌, ℕ, zero, suc, ◌+◌, ◌≤◌, Bool, true, false, List, [], ◌∷◌, ◌++◌, length, Some, refl, sym, ◌∙◌, subst, arith}
+use Rattle.std.proofs.Common.{◌≡◌, ◌≢◌, ℕ, zero, suc, ◌+◌, ◌≤◌, Bool, true, List, [], ◌∷◌, ◌++◌, length, Some, refl, sym, ◌∙◌, subst, arith}
 use Rattle.std.specs.Prelude.{slice_get}
 use Rattle.std.proofs.lemmas.Option.{none-some, same_Some}
 use Rattle.object_modules.specs.declared.segment.Segment.TheVariants as segments
-use Rattle.object_modules.specs.Displacements.{Linked}
-use Rattle.object_modules.specs.Image.{Image}
+use Rattle.object_modules.specs.declared.segment.Target.{Target}
+use Rattle.object_modules.specs.declared.segment.Target.TheVariants.{InSegment}
 use Rattle.object_modules.specs.Module.{ObjectModule}
-use Rattle.object_images.specs.internal.InMemory.{piece_base}
 use Rattle.typed_trees.specs.TypedTrees.{TypedModule}
-use Rattle.layout.specs.Placing.{Plan as PlacingPlan, placement_by}
 use Rattle.meaning.specs.Outcomes.{Program}
 use Rattle.isa8080.specs.declared.instr.Instr.TheVariants.{Hlt}
 use Rattle.isa8080.specs.declared.instr.Pair.TheVariants.{Sp}
@@ -23,19 +21,16 @@ use Rattle.treecode.specs.declared.procedure.ProcedureKind.{ProcedureKind}
 use Rattle.treecode.specs.declared.procedure.ProcedureKind.TheVariants as kinds
 use Rattle.treecode.specs.declared.procedure.TreeProcedure.{TreeProcedure}
 use Rattle.frames.specs.Frames.{HasFrame}
-use Rattle.statements8080.specs.declared.body.Body.{Body}
-use Rattle.codegen8080.specs.declared.meeting.Here.{Here}
-use Rattle.program_images.specs.internal.AtPlans.{plan_of}
-use Rattle.program_memory.specs.internal.InMemory.{IsInMemory, placement_of}
 use Rattle.code_meaning.specs.Activations.{Activation, IsThere}
 use Rattle.code_meaning.proofs.Sequences.{both_there}
 use Rattle.steps8080.specs.Writer.{Written, stack_end_item}
 use Rattle.runtime8080.specs.Routines.{size_of_routine}
 use Rattle.exprgen8080.specs.Emission.{has_routine, index_of_routine, module_label_of_routine}
-use Rattle.codegen8080.specs.Modules.{AreCodeOf, AreRoutines, IsCodeOf, IsCodeOfMain, IsCodeOfRoutine, IsEndCode, IsMainCode, IsProcedureCode, IsRoutineCode, all_routines, contents_items, has_main}
+use Rattle.codegen8080.specs.Modules.{AreCodeOf, AreRoutines, IsCodeOf, IsCodeOfMain, IsCodeOfRoutine, IsMainCode, IsProcedureCode, IsRoutineCode, all_routines, contents_items, has_main}
 use Rattle.task_meaning.specs.Contexts.{RoutineIsAt}
-use Rattle.procedure_meaning.specs.Modules.{EndIs, MainStands, ModuleCode, ProcedureStands, bare}
-use Rattle.program_meaning.specs.Linked.{ModuleIs, module_layout, written_layout}
+use Rattle.procedure_meaning.specs.Modules.{MainStands, ModuleCode, ProcedureStands, bare}
+use Rattle.program_meaning.specs.OneModule.{LiesInMemory, module_layout, written_layout}
+use Rattle.program_meaning.specs.Typed.{IsSoundlyMade}
 use Rattle.program_meaning.proofs.CodeLies.{all_stand, lays_out, lies_within}
 use Rattle.program_meaning.proofs.Renumbered.{LaysOut, stands_so}
 
@@ -53,13 +48,6 @@ from_zero number = omega arith
 -- it is not EXTERNAL
 abbrev pub IsOwn : ProcedureKind → Type 0
 IsOwn kind = (name : ℕ) → kind ≢ kinds.External name
-
--- its end, where that is reached
-end_is :
-    (body : Body) (called : List Bool) (here : Here) (reached : Bool) (list : List Item)
-    → IsEndCode body called here reached list → EndIs body called reached here list
-end_is body called here true list is = is
-end_is body called here false list is = is
 
 module _ (code : ModuleCode) where
   -- a procedure stands at its label
@@ -85,7 +73,7 @@ module _ (code : ModuleCode) where
         last = is.last;
         list_written = is.written;
         ends = is.ending;
-        end_written = end_is is.body code.called is.last procedure.reaches_its_end is.ending is.ends;
+        end_written = is.ends;
         to = to;
         there = subst (λ at. IsThere (bare code) (is.beginning ++ (is.statements ++ is.ending)) at to) (sym parts.0) parts.1;
       }
@@ -233,71 +221,66 @@ pub record PartsStand (code : ModuleCode) (start : ℕ) : Type 0 where
       → RoutineIsAt (bare code) routine (code.layout.place_of (module_label_of_routine code.tree.now routine).index)
 
 module _
-    (plan : PlacingPlan) (modules : List TypedModule) (objects : List ObjectModule) (merged : ObjectModule)
-    (image : Image) (before after : List ℕ) (is : IsInMemory plan modules objects merged image before after)
-    (number : ℕ) (module_is : ModuleIs plan modules objects merged before after number)
-    (script : List (List ℕ))
+    (program : Program) (number : ℕ) (typed : TypedModule) (object : ObjectModule)
+    (address_of : Target → ℕ) (address_of_name : (name : List ℕ) → ℕ) (memory : List ℕ)
+    (sound : IsSoundlyMade typed object)
+    (lies : LiesInMemory program number typed object address_of address_of_name memory)
   where
-    abbrev linked : Linked
-    linked = module_is.at.linked
-
     abbrev written : Written
-    written = module_is.generated.code
+    written = sound.made.generated.code
 
     abbrev of_code : Layout
-    of_code = written_layout plan merged linked module_is.generated.to written
-
-    abbrev pub program_of : Program
-    program_of = record { modules = modules; placement = placement_of plan modules objects; script = script }
+    of_code = written_layout address_of sound.made.generated.to written
 
     -- the module, and where its code lies
     abbrev pub code_of : ModuleCode
     code_of = record {
-      program = program_of;
-      image = after;
+      program = program;
+      image = memory;
       number = number;
-      typed = module_is.typed;
-      storage = module_is.storage;
-      tree = record { ref_ptr = (0, 0); now = module_is.tree };
-      called = module_is.generated.code_is.called;
-      layout = module_layout plan merged linked module_is.generated.to written module_is.tree.externals.items;
+      typed = typed;
+      storage = sound.made.storage;
+      tree = record { ref_ptr = (0, 0); now = sound.made.tree };
+      called = sound.made.generated.code_is.called;
+      layout =
+          module_layout address_of address_of_name sound.made.generated.to written
+          sound.made.tree.externals.items;
     }
 
     lays : LaysOut written code_of.layout of_code
-    lays = lays_out plan modules objects merged image before after is number module_is
+    lays = lays_out program number typed object address_of address_of_name memory sound lies
 
-    pub parts_stand : PartsStand code_of module_is.generated.start_label
-    unfolding placement_by
+    pub parts_stand : PartsStand code_of sound.made.generated.start_label
     parts_stand =
-        let base : ℕ = piece_base (plan_of plan) linked.start segments.Code in
-        let size : ℕ = length module_is.generated.code_bytes.bytes in
-        let of = module_is.generated.code_is in
+        let base : ℕ = address_of (InSegment segments.Code) in
+        let size : ℕ = length sound.made.generated.code_bytes.bytes in
+        let of = sound.made.generated.code_is in
         let own = of.own_is in
-        let within = lies_within plan modules objects merged image before after is number module_is in
+        let within = lies_within program number typed object address_of address_of_name memory sound lies in
         let all : InCode code_of written of_code lays (of.made ++ of.listed) base (base + size) = record {
           stands =
-              subst (λ list. Stands of_code after list base (base + size)) of.items_are
-              (all_stand plan modules objects merged image before after is number module_is);
+              subst (λ list. Stands of_code memory list base (base + size)) of.items_are
+              (all_stand program number typed object address_of address_of_name memory sound lies);
           low = within.0;
           high = within.1;
         } in
         let halves = both_there of.made of.listed all in
         let named : IsThere (bare code_of) of.own base halves.middle = record {
-          stands = stands_so written code_of.layout of_code lays after of.own of.made base halves.middle of.same halves.first.stands;
+          stands = stands_so written code_of.layout of_code lays memory of.own of.made base halves.middle of.same halves.first.stands;
           low = halves.first.low;
           high = halves.first.high;
         } in
-        let contents = both_there (contents_items module_is.tree.constants.items) (own.main ++ own.procedures)
+        let contents = both_there (contents_items sound.made.tree.constants.items) (own.main ++ own.procedures)
         (subst (λ list. IsThere (bare code_of) list base halves.middle) own.list_is named) in
         let parts = both_there own.main own.procedures contents.second in
         record {
           main = λ has.
-              main_stands code_of module_is.generated.start_label own.main contents.middle parts.middle
-              (subst (λ (there : Bool). IsCodeOfMain module_is.tree of.called module_is.generated.start_label there own.main) has own.main_is)
+              main_stands code_of sound.made.generated.start_label own.main contents.middle parts.middle
+              (subst (λ (there : Bool). IsCodeOfMain sound.made.tree of.called sound.made.generated.start_label there own.main) has own.main_is)
               parts.first;
           procedures = λ procedure_number procedure found framed is_own.
               subst (λ at. ProcedureStands code_of procedure (code_of.layout.place_of at)) (from_zero procedure_number)
-              (procedures_stand code_of 0 procedure_number module_is.tree.procedures.items procedure own.procedures
+              (procedures_stand code_of 0 procedure_number sound.made.tree.procedures.items procedure own.procedures
               parts.middle halves.middle own.procedures_are parts.second found framed is_own);
           routines = λ routine called.
               routines_stand code_of written of_code lays all_routines (index_of_routine routine) routine of.listed

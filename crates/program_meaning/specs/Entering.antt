@@ -4,18 +4,8 @@ use Rattle.std.specs.Option.{option_map_or}
 use Rattle.object_modules.specs.Module.{ObjectModule}
 use Rattle.typed_trees.specs.TypedTrees.{TypedModule}
 use Rattle.layout.specs.Placing.{Plan as PlacingPlan}
-use Rattle.asm8080.specs.Items.{Layout}
 use Rattle.procedure_meaning.specs.Calls.{Entries}
-use Rattle.program_meaning.specs.Linked.{ModuleIs, module_layout}
-
--- where labels lie by the numbers of a module, and its targets
-abbrev pub layout_of :
-    {plan : PlacingPlan} {modules : List TypedModule} {objects : List ObjectModule} {merged : ObjectModule}
-    {before after : List ℕ} {number : ℕ}
-    → ModuleIs plan modules objects merged before after number → Layout
-layout_of {plan = plan} {merged = merged} module_is =
-    module_layout plan merged module_is.at.linked module_is.generated.to module_is.generated.code
-    module_is.tree.externals.items
+use Rattle.program_meaning.specs.Linked.{ModuleIs, layout_of}
 
 -- each module of a program, by its number
 pub record ModulesAre

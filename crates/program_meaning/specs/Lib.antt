@@ -2,3 +2,4 @@ pub mod Agreement
 pub mod Linked
 pub mod Entering
 pub mod Typed
+pub mod OneModule

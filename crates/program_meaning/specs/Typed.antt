@@ -2,28 +2,13 @@
 use Rattle.std.specs.Prelude.{◌≡◌, ℕ, ◌<◌, List, [], ◌∷◌}
 use Rattle.mem80.specs.declared.memory.TheConstants.{MEMORY_SIZE}
 use Rattle.object_modules.specs.Module.{ObjectModule}
-use Rattle.typed_trees.specs.Frames.{FramesFit, ParametersFit}
-use Rattle.typed_trees.specs.Jumps.{JumpsAreSound}
 use Rattle.typed_trees.specs.TypedTrees.{TypedModule}
-use Rattle.typed_trees.specs.WellTyped.{IsWellTyped}
+use Rattle.sound_modules.specs.Sound.{IsSoundlyTyped}
 use Rattle.treecode.specs.declared.module.TreeModule.{TreeModule}
 use Rattle.treecode.specs.declared.place.Home.TheVariants.{Static}
 use Rattle.treecode.specs.declared.place.Place.TheVariants.{Number}
 use Rattle.treecode.specs.Nodes.{NumbersAreWords, home_at, nodes_of}
-use Rattle.procedure_frames.specs.internal.Objects.{TakeBytes}
 use Rattle.generated_objects.specs.Made.{IsMadeOf}
-use Rattle.task_meaning.specs.Contexts.{BasesStandBefore}
-use Rattle.procedure_meaning.specs.Modules.{FramesAreReentrant}
-
--- a module of a program
-pub record IsSoundlyTyped (typed : TypedModule) : Type 0 where
-  pub types : IsWellTyped typed
-  pub jumps : JumpsAreSound typed
-  pub frames : FramesFit typed
-  pub parameters : ParametersFit typed
-  pub reentrant : FramesAreReentrant typed
-  pub sized : TakeBytes typed
-  pub bases : BasesStandBefore typed
 
 -- tree code whose numbers are those of an 8080: words
 pub record HasWords (tree : TreeModule) : Type 0 where

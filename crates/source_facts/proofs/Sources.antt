@@ -5,7 +5,7 @@ use Rattle.typed_trees.specs.Globals.{ListsGlobals}
 use Rattle.typed_trees.specs.TypedTrees.{TypedModule}
 use Rattle.frontend.specs.Reading.{IsSourceOf}
 use Rattle.program_sources.specs.Programs.{AreSourcesOf}
-use Rattle.typed_facts.specs.Facts.{IsSoundlyTyped}
+use Rattle.sound_modules.specs.Sound.{IsSoundlyTyped}
 use Rattle.typed_facts.proofs.Formed.{derived_is_soundly_typed}
 
 pub source_is_soundly_typed : (text : List ℕ) (typed : TypedModule) → IsSourceOf text typed → IsSoundlyTyped typed

@@ -33,7 +33,7 @@ use Rattle.codegen8080.specs.Generated.{site_of}
 use Rattle.codegen8080.specs.Statements.{statement_steps}
 use Rattle.task_meaning.specs.Contexts.{nodes_in}
 use Rattle.task_meaning.proofs.Effects.{then_again}
-use Rattle.task_meaning.proofs.KnownOperands.{number_is}
+use Rattle.task_meaning.proofs.SiteNodes.{number_means}
 use Rattle.task_meaning.proofs.Nodes.{node_of}
 use Rattle.task_meaning.proofs.Stages.{does_same, script_of}
 use Rattle.task_meaning.proofs.StoredValues.{without_more}
@@ -147,7 +147,7 @@ module _
         (λ _ u. stored_in_each at.context.later at.context.activation.around others n u) (λ _ u. Gave Onward u))
         (does_same _
         (sym (ap (λ (given : Outcome ℕ). then_do given (λ m u. then_do (stored at.context.later at.context.activation.around one m u) go))
-        (number_is facts n sound.sound is types (ap (λ (s : Site). number (knowing s facts) of) sound.site ∙ known) t)))
+        (number_means facts n sound.sound is types (ap (λ (s : Site). number (knowing s facts) of) sound.site ∙ known) t)))
         (without_more
         (single_does at sound facts need base of tree is types fits go (Leaves at base to last before)
         (steps_from (each_at at.body site targets of) (suc index) left) last to _ target one from here t r memory
@@ -186,7 +186,7 @@ module _
             does_same _
             (ap (λ (given : Outcome ℕ). then_do given
             (λ m t. then_do (stored_in_each at.context.later at.context.activation.around trees m t) (λ _ u. Gave Onward u)))
-            (number_is facts n sound.sound is types (ap (λ (one : Site). number (knowing one facts) of) sound.site ∙ known) s))
+            (number_means facts n sound.sound is types (ap (λ (one : Site). number (knowing one facts) of) sound.site ∙ known) s))
             (each_number n known are 0 (going true facts) from s r memory (omega arith) (omega arith) target_types all_fit refl stand stage)
         by None known stand =
             together (scalar site of) from s r memory

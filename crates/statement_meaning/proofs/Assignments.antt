@@ -32,7 +32,8 @@ use Rattle.statements8080.specs.Plans.{part, plain}
 use Rattle.codegen8080.specs.declared.meeting.Here.{Here}
 use Rattle.codegen8080.specs.Generated.{site_of}
 use Rattle.task_meaning.specs.Contexts.{nodes_in}
-use Rattle.task_meaning.proofs.KnownOperands.{number_is, number_small}
+use Rattle.task_meaning.proofs.KnownOperands.{number_small}
+use Rattle.task_meaning.proofs.SiteNodes.{number_means}
 use Rattle.statement_meaning.specs.Bodies.{BodyContext, IsSoundBody}
 use Rattle.statement_meaning.proofs.Firsts.{address_first_does}
 use Rattle.statement_meaning.proofs.FirstSteps.{Stand}
@@ -86,7 +87,7 @@ module _
     value_is : (n : ℕ) → number site of ≡ Some n
         → (s : SourceState) → value at.context.later at.context.activation.around tree s ≡ Gave n s
     value_is n known s =
-        number_is facts n sound.sound is types (ap (λ (one : Site). number (knowing one facts) of) sound.site ∙ known) s
+        number_means facts n sound.sound is types (ap (λ (one : Site). number (knowing one facts) of) sound.site ∙ known) s
 
     number_fits : (n : ℕ) → number site of ≡ Some n → n < 65536
     number_fits n known =

@@ -5,7 +5,6 @@ use Rattle.std.proofs.lemmas.Option.{same_Some}
 use Rattle.meaning.specs.Outcomes.{State as SourceState, Gave, Onward}
 use Rattle.isa8080.specs.State.{Registers}
 use Rattle.asm8080.specs.declared.item.Reference.TheVariants.{AtLabel}
-use Rattle.asm8080.specs.declared.item.WordForm.{WordForm}
 use Rattle.asm8080.specs.declared.item.WordForm.TheVariants.{Jump}
 use Rattle.treecode.specs.declared.lists.Range.{Range}
 use Rattle.treecode.specs.declared.statement.StatementNumber.{StatementNumber}
@@ -24,32 +23,14 @@ use Rattle.statements8080.specs.declared.plan.Planned.TheVariants as planned
 use Rattle.statements8080.specs.Cases.{cases_end_steps, entry_of, statement_at}
 use Rattle.statements8080.specs.Plans.{jump, label_at, mark, steps_from}
 use Rattle.codegen8080.specs.declared.meeting.Here.{Here}
-use Rattle.codegen8080.specs.Generated.{carried_steps, here_after, jump_on_steps, waiting_after}
-use Rattle.task_meaning.specs.Steps.{NoneThere, JumpThere, MarkThere}
+use Rattle.codegen8080.specs.Generated.{jump_on_steps}
+use Rattle.task_meaning.specs.Steps.{JumpThere}
 use Rattle.task_meaning.specs.Tasks.{Know}
 use Rattle.task_meaning.proofs.Stages.{Stage, script_of}
 use Rattle.statement_meaning.specs.Bodies.{BodyContext, IsSoundBody, Leaves}
-use Rattle.statement_meaning.specs.Statements.{StatementDoes, StepPlanned}
+use Rattle.statement_meaning.specs.Statements.{StatementDoes}
 use Rattle.statement_meaning.proofs.LoopCode.{Steps}
-use Rattle.statement_meaning.proofs.PlannedParts.{Stand, jump_on_parted, over, reaches_parted, statement_parted, with_known}
-
--- the place of a label, and then others
-pub mark_parted :
-    {at : BodyContext} {here last : Here} {waiting : Option Facts} {from to : ℕ} {label : LabelNumber} {others : List Planned}
-    → Stand at here waiting from (mark label ∷ others) last to
-    → (at.context.activation.layout.place_of label.index ≡ from) × Stand at (with_known here no_facts) waiting from others last to
-unfolding carried_steps here_after waiting_after
-mark_parted (StepPlanned holds (MarkThere there NoneThere) rest) = (there, rest)
-
--- a jump, and then others
-pub jump_parted :
-    {at : BodyContext} {here last : Here} {waiting : Option Facts} {from to : ℕ} {form : WordForm} {label : LabelNumber}
-    {others : List Planned}
-    → Stand at here waiting from (jump form label ∷ others) last to
-    → IsThere at.context.activation (jump_item form label ∷ []) from (from + 3)
-    × Stand at (with_known here (after_form here.facts form)) waiting (from + 3) others last to
-unfolding carried_steps here_after waiting_after
-jump_parted (StepPlanned holds (JumpThere there NoneThere) rest) = (there, rest)
+use Rattle.statement_meaning.proofs.FirstSteps.{Stand, ended, going, jump_first, jump_on_first, mark_first, reaches_first, statement_first}
 
 -- jumps one after another
 pub record TableStands
@@ -58,7 +39,7 @@ pub record TableStands
   pub jumps : (k : ℕ) → k < left
       → IsThere at.context.activation (jump_item Jump (entry (index + k)) ∷ []) (from + 3 * k) (from + 3 * k + 3)
   pub known : Facts
-  pub rest : Stand at (with_known here known) waiting (from + 3 * left) others last to
+  pub rest : Stand at (going here.goes_on known) waiting (from + 3 * left) others last to
 
 no_more : (from : ℕ) → from ≡ from + 3 * 0
 no_more from = omega arith
@@ -77,12 +58,12 @@ table_parted {at = at} {last = last} {waiting = waiting} {to = to} {others = oth
   rest = subst (λ (place : ℕ). Stand at here waiting place others last to) (no_more from) stand;
 }
 table_parted {at = at} {last = last} {waiting = waiting} {to = to} {others = others} entry here from index (suc left) stand =
-    let parts = jump_parted stand in
-    let more = table_parted entry (with_known here (after_form here.facts Jump)) (from + 3) (suc index) left parts.1 in
+    let parts = jump_first stand in
+    let more = table_parted entry (going here.goes_on (after_form here.facts Jump)) (from + 3) (suc index) left parts.rest in
     record {
-      jumps = λ k less. nth k less parts.0 more.jumps;
+      jumps = λ k less. nth k less parts.there more.jumps;
       known = more.known;
-      rest = subst (λ (place : ℕ). Stand at (with_known here more.known) waiting place others last to) (one_more from left) more.rest;
+      rest = subst (λ (place : ℕ). Stand at (going here.goes_on more.known) waiting place others last to) (one_more from left) more.rest;
     }
   where
     nth : (k : ℕ) → k < suc left
@@ -203,12 +184,12 @@ pub behind_parted :
     → EntriesStand at list own end from index left after to
 unfolding cases_end_steps
 behind_parted {at = at} {after = after} {to = to} list own end zero index here from sound count stand =
-    let marked = mark_parted stand in
-    let ends = over (reaches_parted marked.1) in
+    let marked = mark_first stand in
+    let ends = ended (reaches_first marked.rest) in
     record {
-      end_is = marked.0 ∙ ends.to_is;
-      after_is = ends.here_is;
-      over = λ none. ends.to_is;
+      end_is = marked.lies ∙ (sym ends.place);
+      after_is = (sym ends.same);
+      over = λ none. (sym ends.place);
       entries = λ k found less. absurd (omega (arith, less));
     }
 behind_parted {at = at} {waiting = waiting} {after = after} {to = to} list own end (suc left) index here from sound count stand =
@@ -230,8 +211,8 @@ behind_parted {at = at} {waiting = waiting} {after = after} {to = to} list own e
         → Stand at next waiting middle ((if jumps then planned.JumpOn end ∷ [] else []) ++ others) after to
         → EntriesStand at list own end from index (suc left) after to
     after_it more found next place middle is_at does is true less stand =
-        let parts = jump_on_parted stand in
-        let rest = more (with_known next parts.known) parts.middle parts.rest in
+        let parts = jump_on_first stand in
+        let rest = more (going next.goes_on parts.known) parts.middle parts.rest in
         joined list own end from parts.middle index left rest
         (λ other other_is own_is. record {
           place = place;
@@ -241,7 +222,7 @@ behind_parted {at = at} {waiting = waiting} {after = after} {to = to} list own e
           does = subst (λ (one : StatementNumber). StatementDoes at no_facts one place next middle)
               (same_Some found other (sym is ∙ other_is)) does;
           ends = λ base need budget u now memory_now goes_on stage.
-              jumps_to_end rest.end_is rest.after_is u now memory_now goes_on parts.stand stage;
+              jumps_to_end rest.end_is rest.after_is u now memory_now goes_on parts.first stage;
         })
       where
         jumps_to_end : {base : List ℕ} {need budget over_there : ℕ} {known : Facts}
@@ -297,13 +278,13 @@ behind_parted {at = at} {waiting = waiting} {after = after} {to = to} list own e
     by_entry more found is false own_is jumps less stand =
         joined list own end from from index left (more here from stand) (λ other other_is holds. not_both own_is holds)
     by_entry more found is true own_is true less stand =
-        let marked = mark_parted stand in
-        let parts = statement_parted marked.1 in
-        after_it more found parts.after from parts.middle marked.0 parts.does is true less parts.rest
+        let marked = mark_first stand in
+        let parts = statement_first marked.rest in
+        after_it more found parts.after from parts.middle marked.lies parts.does is true less parts.rest
     by_entry more found is true own_is false less stand =
-        let marked = mark_parted stand in
-        let parts = statement_parted marked.1 in
-        after_it more found parts.after from parts.middle marked.0 parts.does is false less parts.rest
+        let marked = mark_first stand in
+        let parts = statement_first marked.rest in
+        after_it more found parts.after from parts.middle marked.lies parts.does is false less parts.rest
 
     by_item : More → (found : Option StatementNumber) → item at.body.tree.now list index ≡ found
         → Stand at here waiting from

@@ -41,7 +41,8 @@ use Rattle.statement_meaning.proofs.CaseChoices.{IsNth, enters, from_none, nth_i
 use Rattle.code_meaning.specs.Activations.{IsThere}
 use Rattle.steps8080.specs.Writer.{jump_item}
 use Rattle.statement_meaning.proofs.CaseTables.{EntriesStand, TableStands, behind_parted, behind_table, reaches_end, table_parted}
-use Rattle.statement_meaning.proofs.PlannedParts.{Stand, code_parted}
+use Rattle.statement_meaning.proofs.FirstSteps.{Stand}
+use Rattle.statement_meaning.proofs.PlannedParts.{code_parted}
 use Rattle.statement_meaning.proofs.LoopCode.{Steps, jump_then, knowing_nothing, steps_over}
 
 -- three times a number after an address
@@ -214,10 +215,10 @@ choice_parted {at = at} list table own end before code from sound stand =
     record {
       known = first.known;
       middle = first.middle;
-      code_stands = first.stand;
+      code_stands = first.first;
       into_known = second.known;
       into_end = second.middle;
-      into = second.stand;
+      into = second.first;
       stands = jumps;
       entries =
           behind_parted list own end list.count 0 (record { facts = jumps.known; goes_on = true }) (second.middle + 3 * list.count) sound

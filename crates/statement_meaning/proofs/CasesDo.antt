@@ -57,7 +57,8 @@ use Rattle.statement_meaning.proofs.CaseChoices.{IsNth, leaves_whole, nth_is, pa
 use Rattle.statement_meaning.proofs.CaseForms.{Choice, byte_bounded, byte_bring, byte_compare, byte_part, byte_unbounded, case_of, high_bounded, high_compare, word_bounded, word_compare, word_part, word_unbounded}
 use Rattle.statement_meaning.proofs.Cases.{bounded, choice_parted}
 use Rattle.statement_meaning.proofs.LoopCode.{steps_over}
-use Rattle.statement_meaning.proofs.PlannedParts.{Stand, code_parted, over, statement_parted}
+use Rattle.statement_meaning.proofs.FirstSteps.{Stand, ended, statement_first}
+use Rattle.statement_meaning.proofs.PlannedParts.{code_parted}
 
 -- the code after that of the number
 abbrev pub behind_number : BodyContext → Range → (table own end : LabelNumber) → List Planned
@@ -142,16 +143,16 @@ goes_on_there :
     → Stage at.context at.context.activation.level 0 need base u here.facts now memory_now
     → Does (script_of at.context) u.budget 0 (at_place place now memory_now u.events) (Gave Onward u) (Leaves at base to after budget)
 goes_on_there {at = at} {base = base} {need = need} {budget = budget} {place = place} {to = to} {after = after} u now memory_now here goes stand stage =
-    let ends = over stand in
-    subst (λ (n : ℕ). Does (script_of at.context) u.budget 0 (at_place n now memory_now u.events) (Gave Onward u) (Leaves at base to after budget)) (sym ends.to_is)
+    let ends = ended stand in
+    subst (λ (n : ℕ). Does (script_of at.context) u.budget 0 (at_place n now memory_now u.events) (Gave Onward u) (Leaves at base to after budget)) (ends.place)
     (gives (record {
-      goes_on = ap (λ (here : Here). here.goes_on) (sym ends.here_is) ∙ goes;
+      goes_on = ap (λ (here : Here). here.goes_on) (ends.same) ∙ goes;
       comes = record {
         r = now;
         memory = memory_now;
         is_at = refl;
         ready = stage.ready;
-        holds = subst (λ (here : Here). Know at.context here.facts now memory_now) ends.here_is stage.known;
+        holds = subst (λ (here : Here). Know at.context here.facts now memory_now) (sym ends.same) stage.known;
       };
     }))
 
@@ -191,7 +192,7 @@ known_goes {at = at} {base = base} {need = need} {bound = bound} {tree = tree} {
         let its : IsNth at list.first known bound trees = nth_is at bound list.first list.count trees known asks.parts.are asks.parts.types asks.parts.lists less in
         let there : slice_get at.body.tree.now.lists.items (list.first + known) ≡ Some its.found =
         subst (λ (nodes : Nodes). slice_get nodes.lists (list.first + known) ≡ Some its.found) nodes its.is_there in
-        let parts = statement_parted (subst (λ (found : Option StatementNumber). Stand at (record { facts = before; goes_on = true }) None from (planned_by found) after to)
+        let parts = statement_first (subst (λ (found : Option StatementNumber). Stand at (record { facts = before; goes_on = true }) None from (planned_by found) after to)
         (item_by true inside ∙ there) stand) in
         let enough = stage.room.enough in
         let height = its.height in
@@ -219,7 +220,7 @@ effects_go :
     → Does (script_of at.context) s.budget 0 (at_place from r memory s.events) (case_of at tree trees s) (Leaves at base to after s.budget)
 effects_go {at = at} {base = base} {need = need} {bound = bound} {tree = tree} {trees = trees} {before = before} {from = from} {to = to} {after = after} list choice s r memory asks none stand stage =
     let parts = code_parted (steps.Part (record { task = tasks.Effects choice; pushed = 0 }) ∷ []) [] (record { facts = before; goes_on = true }) from stand in
-    by parts.stand parts.rest
+    by parts.first parts.rest
   where
     by : {known : Facts} {middle : ℕ}
         → Rattle.statement_meaning.proofs.LoopCode.Steps at.context before from (steps.Part (record { task = tasks.Effects choice; pushed = 0 }) ∷ []) known middle

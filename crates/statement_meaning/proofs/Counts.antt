@@ -24,7 +24,7 @@ use Rattle.statements8080.specs.SamePlaces.{are_same}
 use Rattle.task_meaning.specs.Contexts.{Context, IsSound, nodes_in}
 use Rattle.treecode.specs.Lowered.{IsNumber, IsLocation, IsConstantList, IsConversion, IsEmbedded, IsUnary, IsCallOf, IsFunction, IsShift, IsInput}
 use Rattle.task_meaning.proofs.Effects.{then_again}
-use Rattle.task_meaning.proofs.KnownOperands.{number_is}
+use Rattle.task_meaning.proofs.SiteNodes.{number_means}
 use Rattle.statement_meaning.proofs.Firsts.{then_each}
 use Rattle.task_meaning.proofs.Nodes.{node_of}
 
@@ -91,7 +91,7 @@ module _ (context : Context) (sound : IsSound context) (facts : Facts) (referenc
             then_each (read_scalar context.activation.around.program Byte place t) _ _
             (λ n u.
             ap (λ (given : Outcome ℕ). then_do given (λ m v. computed (result_of Byte operator n m) v))
-            (number_is facts 1 sound second_is (types.2).0 known u)));
+            (number_means facts 1 sound second_is (types.2).0 known u)));
       }
   counted_pair operator left right second counts IsNumber same second_is one types = let never : ⊥ = cc in absurd never
   counted_pair operator left right second counts (IsLocation part) same second_is one types = let never : ⊥ = cc in absurd never

@@ -21,8 +21,7 @@ use Rattle.statement_meaning.proofs.FirstValues.{written_is}
 use Rattle.statement_meaning.proofs.LoopMeaning.{IsSteadyScalar, scalar_at, tested}
 use Rattle.statement_meaning.proofs.LoopTurns.{Loop, Out, Runs, StageAt, at_turn, from_list, from_test, then_spends}
 use Rattle.statement_meaning.proofs.FirstStored.{FirstThere, first_stored}
-use Rattle.statement_meaning.proofs.FirstSteps.{going}
-use Rattle.statement_meaning.proofs.PlannedParts.{Stand}
+use Rattle.statement_meaning.proofs.FirstSteps.{Stand, going}
 
 -- the whole loop
 abbrev pub whole_loop : {at : BodyContext} → Loop at → SourceState → Outcome Flow

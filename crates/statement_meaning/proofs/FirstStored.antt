@@ -33,10 +33,9 @@ use Rattle.statement_meaning.proofs.Assignments.{single_does}
 use Rattle.statement_meaning.proofs.Counted.{counted_does}
 use Rattle.statement_meaning.proofs.CountedVariables.{whole_is, whole_tree, whole_types}
 use Rattle.statement_meaning.proofs.Firsts.{then_each}
-use Rattle.statement_meaning.proofs.FirstSteps.{going}
 use Rattle.statement_meaning.proofs.LoopEnds.{Iterates}
 use Rattle.statement_meaning.proofs.LoopTurns.{Loop, StageAt}
-use Rattle.statement_meaning.proofs.PlannedParts.{Stand}
+use Rattle.statement_meaning.proofs.FirstSteps.{Stand, going}
 
 -- the first value is stored
 abbrev pub first_stored : {at : BodyContext} → Loop at → SourceState → Outcome (Unit {0})

@@ -19,7 +19,6 @@ use Rattle.task_meaning.proofs.Stages.{script_of}
 use Rattle.statement_meaning.specs.Bodies.{BodyContext, IsSoundBody}
 use Rattle.statement_meaning.specs.Statements.{StatementStands}
 use Rattle.statement_meaning.proofs.EnteredLoops.{enters_surely, enters_then, whole_loop}
-use Rattle.statement_meaning.proofs.FirstSteps.{going}
 use Rattle.statement_meaning.proofs.FirstStored.{FirstThere, first_stored}
 use Rattle.statement_meaning.proofs.GeneralLoops.{FormsDo, GeneralEntry, general_stands}
 use Rattle.statement_meaning.proofs.GeneralSteps.{step_does, step_is_code}
@@ -32,7 +31,7 @@ use Rattle.statement_meaning.proofs.LoopTests.{HasLast}
 use Rattle.statement_meaning.proofs.LoopTurns.{Loop, Out}
 use Rattle.statement_meaning.proofs.Simple.{FormDoes}
 use Rattle.statement_meaning.proofs.PlaceTests.{place_tests_do}
-use Rattle.statement_meaning.proofs.PlannedParts.{Stand}
+use Rattle.statement_meaning.proofs.FirstSteps.{Stand, going}
 
 -- the counter of a loop
 abbrev own_counter : {at : BodyContext} (loop : Loop at) (head : Iteration) (list : Range) → Iterates at loop head list → Counter

@@ -26,8 +26,9 @@ use Rattle.statement_meaning.proofs.LoopEnds.{EndsKnown, Iterates, ends_known, g
 use Rattle.statement_meaning.proofs.LoopRules.{Checks}
 use Rattle.statement_meaning.proofs.LoopTests.{Enters}
 use Rattle.statement_meaning.proofs.LoopTurns.{Loop, Runs, from_list, turns_do, list_goes}
-use Rattle.statement_meaning.proofs.MetFacts.{first_meets, second_meets}
-use Rattle.statement_meaning.proofs.PlannedParts.{ListParted, Stand, again_parted, code_parted, jumped_parted, list_parted, with_known}
+use Rattle.statement_meaning.proofs.Meetings.{first_meets, second_meets}
+use Rattle.statement_meaning.proofs.FirstSteps.{ListFirst, Stand, again_first, going, jumped_first, list_first}
+use Rattle.statement_meaning.proofs.PlannedParts.{code_parted}
 use Rattle.statement_meaning.proofs.CountedBytes.{Goes}
 
 -- what the steps of a loop are, by what its code is: those of the step and of the test are code, and do what they mean
@@ -90,14 +91,14 @@ general_turns {at = at} loop head list site counter first waiting is_tested turn
         (if is_counted then planned.Code (steps.Mark (nth_label first 1)) ∷ []
         else if is_tested then planned.Meet (nth_label first 1) ∷ [] else []) ++ after_label
 
-    listed : ListParted at (record { facts = turn_facts; goes_on = true }) waiting from list
+    listed : ListFirst at (record { facts = turn_facts; goes_on = true }) waiting from list
         (step_steps site counter head.step (loop_labels first) ++ after_step_code) loop.after loop.to
-    listed = list_parted stand
+    listed = list_first stand
 
     stepped : RunParted at listed.after waiting listed.middle (step_steps site counter head.step (loop_labels first)) after_step_code loop.after loop.to
     stepped = run_parted (step_steps site counter head.step (loop_labels first)) after_step_code listed.after listed.middle forms.step_is_code listed.rest
 
-    label : LabelParted at (with_known listed.after stepped.known) waiting stepped.middle is_counted is_tested (nth_label first 1) after_label
+    label : LabelParted at (going listed.after.goes_on stepped.known) waiting stepped.middle is_counted is_tested (nth_label first 1) after_label
         loop.after loop.to
     label = label_parted is_counted is_tested (nth_label first 1) after_label stepped.rest
 
@@ -105,7 +106,7 @@ general_turns {at = at} loop head list site counter first waiting is_tested turn
     tested = run_parted (test_steps counter test (label_of first)) after_test label.found stepped.middle forms.test_is_code label.rest
 
     ends : EndsKnown loop true (nth_label first 2) tested.known tested.middle
-    ends = ends_known loop true (nth_label first 2) (with_known label.found tested.known) tested.middle tested.rest
+    ends = ends_known loop true (nth_label first 2) (going label.found.goes_on tested.known) tested.middle tested.rest
 
     ends_there : (limit : ℕ) → Goes loop limit no_facts
         (at.context.activation.layout.place_of (nth_label first 2).index)
@@ -150,7 +151,7 @@ pub general_stands :
 unfolding general_steps general_begin_steps general_end_steps test_label_steps
 general_stands {at = at} loop head list site counter true first facts from iterates forms stand =
     let test : Test = test_of site counter head.last in
-    let waits = jumped_parted stand in
+    let waits = jumped_first stand in
     let jumped = code_parted (steps.Jump Jump (nth_label first 1) ∷ [])
     (planned.Again (label_of first) (facts_of_test counter test) false
     ∷ planned.List list ∷ (step_steps site counter head.step (loop_labels first)
@@ -158,12 +159,12 @@ general_stands {at = at} loop head list site counter true first facts from itera
     else planned.Meet (nth_label first 1) ∷ [])
     ++ (test_steps counter test (label_of first) ++ (planned.Code (steps.Mark (nth_label first 2)) ∷ planned.Reaches true ∷ [])))))
     (record { facts = facts; goes_on = true }) from waits in
-    let again = again_parted jumped.rest in
+    let again = again_first jumped.rest in
     let turns = general_turns loop head list site counter first (Some facts) true (facts_of_test counter test) jumped.middle iterates forms
-    again.is_at (λ r memory there. there) again.rest in
+    again.lies (λ r memory there. there) again.rest in
     record {
       tested = λ is u now memory_now fewer stage.
-          let jumps = jump_always (iterates.sound).sound jumped.stand stage in
+          let jumps = jump_always (iterates.sound).sound jumped.first stage in
           after_step jumps.0 (turns.entered refl facts refl u now memory_now fewer stage);
       turn_facts = facts;
       runs = λ is. absurd cc;
@@ -171,9 +172,9 @@ general_stands {at = at} loop head list site counter true first facts from itera
     }
 general_stands {at = at} loop head list site counter false first facts from iterates forms stand =
     let test : Test = test_of site counter head.last in
-    let again = again_parted stand in
+    let again = again_first stand in
     let turns = general_turns loop head list site counter first None false (common facts (facts_of_test counter test)) from iterates forms
-    again.is_at (λ r memory there. second_meets at.context r memory facts (facts_of_test counter test) there) again.rest in
+    again.lies (λ r memory there. second_meets at.context r memory facts (facts_of_test counter test) there) again.rest in
     record {
       tested = λ is. absurd cc;
       turn_facts = common facts (facts_of_test counter test);

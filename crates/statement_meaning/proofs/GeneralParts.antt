@@ -23,8 +23,9 @@ use Rattle.statement_meaning.proofs.LoopCode.{Steps, mark_then, steps_over}
 use Rattle.statement_meaning.proofs.LoopRules.{Checks}
 use Rattle.statement_meaning.proofs.LoopTests.{Enters}
 use Rattle.statement_meaning.proofs.LoopTurns.{Loop, Out, Runs, StageAt, after_list, from_list}
-use Rattle.statement_meaning.proofs.MetFacts.{first_meets, second_meets}
-use Rattle.statement_meaning.proofs.PlannedParts.{Stand, code_parted, meet_parted, over, with_known}
+use Rattle.statement_meaning.proofs.Meetings.{first_meets, second_meets}
+use Rattle.statement_meaning.proofs.FirstSteps.{Stand, ended, going, meet_first}
+use Rattle.statement_meaning.proofs.PlannedParts.{code_parted}
 
 -- a planned step that is code, with no label and no way that ends
 abbrev pub IsCode : Planned → Type 0
@@ -47,8 +48,8 @@ pub record RunParted
     Type 0 where
   pub known : Facts
   pub middle : ℕ
-  pub first : Stand at here waiting from run (with_known here known) middle
-  pub rest : Stand at (with_known here known) waiting middle others last to
+  pub first : Stand at here waiting from run (going here.goes_on known) middle
+  pub rest : Stand at (going here.goes_on known) waiting middle others last to
 
 pub run_parted :
     {at : BodyContext} {waiting : Option Facts} {last : Here} {to : ℕ} (run others : List Planned) (here : Here) (from : ℕ)
@@ -58,13 +59,13 @@ pub run_parted :
 unfolding carried_steps here_after waiting_after
 run_parted [] others here from are stand = record { known = here.facts; middle = from; first = NonePlanned; rest = stand }
 run_parted (planned.Code step ∷ run) others here from are (StepPlanned {known = known} {middle = middle} holds code rest) =
-    let parts = run_parted run others (with_known here known) middle are.1 rest in
+    let parts = run_parted run others (going here.goes_on known) middle are.1 rest in
     record { known = parts.known; middle = parts.middle; first = StepPlanned holds code parts.first; rest = parts.rest }
 run_parted (planned.LoadByte reference ∷ run) others here from are (StepPlanned {known = known} {middle = middle} holds code rest) =
-    let parts = run_parted run others (with_known here known) middle are.1 rest in
+    let parts = run_parted run others (going here.goes_on known) middle are.1 rest in
     record { known = parts.known; middle = parts.middle; first = StepPlanned holds code parts.first; rest = parts.rest }
 run_parted (planned.LoadWord reference ∷ run) others here from are (StepPlanned {known = known} {middle = middle} holds code rest) =
-    let parts = run_parted run others (with_known here known) middle are.1 rest in
+    let parts = run_parted run others (going here.goes_on known) middle are.1 rest in
     record { known = parts.known; middle = parts.middle; first = StepPlanned holds code parts.first; rest = parts.rest }
 run_parted (other ∷ run) others here from are stand = absurd are.0
 
@@ -75,9 +76,9 @@ pub all_code :
     → Steps at.context here.facts from code last.facts to
 all_code {at = at} {here = here} {from = from} {to = to} code stand =
     let parts = code_parted code [] here from stand in
-    let ends = over parts.rest in
-    subst (λ (one : Here). Steps at.context here.facts from code one.facts to) ends.here_is
-    (subst (λ (n : ℕ). Steps at.context here.facts from code parts.known n) ends.to_is parts.stand)
+    let ends = ended parts.rest in
+    subst (λ (one : Here). Steps at.context here.facts from code one.facts to) (sym ends.same)
+    (subst (λ (n : ℕ). Steps at.context here.facts from code parts.known n) (sym ends.place) parts.first)
 
 -- the place of the test of a loop, where there is a label
 pub record LabelParted
@@ -125,22 +126,22 @@ pub label_parted :
     → LabelParted at here waiting from is_counted is_tested test others last to
 label_parted {at = at} {here = here} {last = last} {waiting = waiting} {from = from} {to = to} true is_tested test others stand =
     let parts = code_parted (steps.Mark test ∷ []) others here from stand in
-    let marked = mark_then parts.stand in
+    let marked = mark_then parts.first in
     let after = steps_over marked.1 in
     record {
-      found = with_known here parts.known;
-      rest = subst (λ (n : ℕ). Stand at (with_known here parts.known) waiting n others last to) (sym after.1) parts.rest;
+      found = going here.goes_on parts.known;
+      rest = subst (λ (n : ℕ). Stand at (going here.goes_on parts.known) waiting n others last to) (sym after.1) parts.rest;
       falls = λ goes. known_nothing at here.facts parts.known after.0;
       entered = λ tested. (marked.0, λ facts waits. known_nothing at facts parts.known after.0);
       counted = λ counts. (marked.0, known_nothing at no_facts parts.known after.0);
     }
 label_parted {at = at} {here = here} {waiting = waiting} false true test others stand =
-    let parts = meet_parted stand in
+    let parts = meet_first stand in
     record {
       found = arriving (met (known_here here) waiting);
       rest = parts.rest;
       falls = λ goes. falls_met at here waiting goes;
-      entered = λ tested. (parts.is_at, λ facts waits. waits_met at here waiting facts waits);
+      entered = λ tested. (parts.lies, λ facts waits. waits_met at here waiting facts waits);
       counted = λ counts. absurd cc;
     }
 label_parted {here = here} false false test others stand = record {

@@ -61,7 +61,8 @@ use Rattle.statement_meaning.proofs.LoopSums.{HasAdded, add_byte, add_word_to_by
 use Rattle.statement_meaning.proofs.LoopTests.{byte_step, word_step}
 use Rattle.statement_meaning.proofs.LoopTurns.{Loop, after_list}
 use Rattle.statement_meaning.proofs.LoopWordSums.{add_de_in_memory, comes_to_de, to_de}
-use Rattle.statement_meaning.proofs.PlannedParts.{Stand, word_parted}
+use Rattle.statement_meaning.proofs.FirstSteps.{Stand}
+use Rattle.statement_meaning.proofs.PlannedParts.{word_parted}
 
 -- how the value of a step comes into DE
 abbrev in_de : Option Place → (step : ExpressionNumber) → List Planned
@@ -250,7 +251,7 @@ module _
             (λ n u now memory_now de spent there.
             add_de_in_memory loop limit n (nth_label first 2) place u now memory_now
             (record { sound = sound; scalar_is = same; counted = counted; enough = enough; less = less; ends = ends }) lies de
-            (at_site (λ one. load_word_steps one (whole (loop.head).variable)) sound loaded.stand)
+            (at_site (λ one. load_word_steps one (whole (loop.head).variable)) sound loaded.first)
             (all_code (steps.Plain (Dad De) ∷ steps.Word StoreHl place ∷ steps.Jump (JumpWhere Carry) (nth_label first 2) ∷ []) loaded.rest)
             (omega (arith, spent, fewer)) there checks))
         by (locations.Frame variable offset) lies stand limit less ends at_test checks t r memory fewer stage =

@@ -43,7 +43,8 @@ use Rattle.statement_meaning.proofs.LoopCode.{Steps, address_step}
 use Rattle.statement_meaning.proofs.LoopRules.{HasTurns}
 use Rattle.statement_meaning.proofs.LoopTests.{HasLast, always_tests, byte_below_tests, byte_step, byte_tests, byte_with_word_tests, frame_word_tests, word_below_tests, word_step, word_tests}
 use Rattle.statement_meaning.proofs.LoopTurns.{Loop, Runs, from_list}
-use Rattle.statement_meaning.proofs.PlannedParts.{Stand, byte_parted, code_parted, word_parted}
+use Rattle.statement_meaning.proofs.FirstSteps.{Stand}
+use Rattle.statement_meaning.proofs.PlannedParts.{byte_parted, code_parted, word_parted}
 use Rattle.statement_meaning.proofs.TestedLoops.{word_test as word_compare}
 use Rattle.statements8080.specs.Plans.{all, jump}
 use Rattle.statements8080.specs.declared.plan.Planned.TheVariants.{LoadWord}
@@ -150,7 +151,7 @@ test_does {at = at} loop scalar last facts turn {here = here} {after = after} {w
             let loaded = byte_parted stand in
             byte_below_tests loop limit known turn turn_facts t r memory (turns_there Byte same counted limit turn_facts runs) (is t)
             (leb-false 255 known great)
-            (at_site (λ one. load_byte_steps one (whole (loop.head).variable)) sound loaded.stand)
+            (at_site (λ one. load_byte_steps one (whole (loop.head).variable)) sound loaded.first)
             (all_code (steps.Plain (AccumulateImmediate Compare (low (known + 1))) ∷ steps.Jump (JumpWhere Carry) turn ∷ []) loaded.rest)
             enters fewer stage goes
     by_known Address same counted known is = by (nat_le 65535 known) refl
@@ -167,7 +168,7 @@ test_does {at = at} loop scalar last facts turn {here = here} {after = after} {w
             word_below_tests loop limit known turn turn_facts (nat_eq ((known + 1) % 256) 0) t r memory
             (turns_there Address same counted limit turn_facts runs) (is t)
             (omega (arith, less)) (λ none. eqb-true ((known + 1) % 256) 0 none)
-            (at_site (λ one. load_word_steps one (whole (loop.head).variable)) sound loaded.stand)
+            (at_site (λ one. load_word_steps one (whole (loop.head).variable)) sound loaded.first)
             (below_code known turn (nat_eq ((known + 1) % 256) 0) loaded.rest)
             enters fewer stage goes
 
@@ -198,8 +199,8 @@ test_does {at = at} loop scalar last facts turn {here = here} {after = after} {w
             ++ (jump (JumpWhere NoCarry) turn ∷ []))) here from stand in
             let loaded = word_parted first.rest in
             word_tests loop limit last turn turn_facts t r memory (turns_there Address same counted limit turn_facts runs) has
-            first.stand
-            (at_site (λ one. load_word_steps one (whole (loop.head).variable)) sound loaded.stand)
+            first.first
+            (at_site (λ one. load_word_steps one (whole (loop.head).variable)) sound loaded.first)
             (all_code (plain (copy A E ∷ with_register Subtract L ∷ copy A D ∷ with_register SubtractWithBorrow H ∷ [])
             ++ (steps.Jump (JumpWhere NoCarry) turn ∷ [])) loaded.rest)
             enters fewer stage goes

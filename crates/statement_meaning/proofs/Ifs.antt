@@ -42,7 +42,7 @@ use Rattle.task_meaning.specs.Contexts.{nodes_in}
 use Rattle.task_meaning.specs.Conditions.{jumps_once}
 use Rattle.task_meaning.specs.Steps.{StepsStand, JumpThere, MarkThere, NoneThere}
 use Rattle.task_meaning.specs.Tasks.{BranchDoes, Goes, Know, PartDoes, Parts, Passes}
-use Rattle.task_meaning.proofs.KnownOperands.{number_is}
+use Rattle.task_meaning.proofs.SiteNodes.{number_means}
 use Rattle.task_meaning.proofs.Stages.{does_same, gives_then, has_less_room, script_of}
 use Rattle.statement_meaning.specs.Bodies.{BodyContext, IsSoundBody, Leaves}
 use Rattle.statement_meaning.specs.Statements.{StatementDoes, StatementStands}
@@ -483,7 +483,7 @@ module _
     known_if from n r memory known else_is stand ready knows =
         does_same (chosen (is_true n) s)
         (ap (λ (given : Outcome ℕ). then_do given (λ m t. chosen (is_true m) t))
-        (number_is facts n sound.sound is types (ap (λ (site : Site). number (knowing site facts) condition) sound.site ∙ known) s))
+        (number_means facts n sound.sound is types (ap (λ (site : Site). number (knowing site facts) condition) sound.site ∙ known) s))
         (by (n % 2 == 1) stand)
       where
         by : (holds : Bool)

@@ -29,7 +29,8 @@ use Rattle.statements8080.specs.Counters.{converted, counter_of, counts_by_one, 
 use Rattle.codegen8080.specs.declared.meeting.Here.{Here}
 use Rattle.codegen8080.specs.Generated.{site_of}
 use Rattle.task_meaning.specs.Contexts.{nodes_in}
-use Rattle.task_meaning.proofs.KnownOperands.{number_is, number_small}
+use Rattle.task_meaning.proofs.KnownOperands.{number_small}
+use Rattle.task_meaning.proofs.SiteNodes.{number_means}
 use Rattle.statement_meaning.specs.Bodies.{BodyContext, IsSoundBody}
 use Rattle.statement_meaning.proofs.CountedVariables.{is_counted, variable_address}
 use Rattle.statement_meaning.proofs.EnteredLoops.{first_value_is}
@@ -116,7 +117,7 @@ one_step at facts sound (IsSomeValue {number = of} {tree = tree} is) types one s
         → (elim known as (λ (given : Option ℕ). Bool) [ Some n ↦ nat_eq n 1 | None ↦ false ]) ≡ true
         → value at.context.later at.context.activation.around tree s ≡ Gave 1 s
     by (Some n) known same =
-        number_is facts n sound.sound is types (ap (λ (one : Site). number (knowing one facts) of) sound.site ∙ known) s
+        number_means facts n sound.sound is types (ap (λ (one : Site). number (knowing one facts) of) sound.site ∙ known) s
         ∙ ap (λ (n : ℕ). Gave n s) (eqb-true n 1 same)
     by None known same = let never : ⊥ = cc in absurd never
 
@@ -134,7 +135,7 @@ pub number_of_head :
     → ((s : SourceState) → value at.context.later at.context.activation.around tree s ≡ Gave n s) × (n < 65536)
 number_of_head {of = of} {tree = tree} facts n sound is types known =
     let there = ap (λ (one : Site). number (knowing one facts) of) sound.site ∙ known in (
-      number_is facts n sound.sound is types there,
+      number_means facts n sound.sound is types there,
       no_greater (type_of tree) n (number_small facts n sound.sound is types there),
     )
 

@@ -27,11 +27,10 @@ use Rattle.statement_meaning.specs.Bodies.{BodyContext, IsSoundBody}
 use Rattle.statement_meaning.specs.Statements.{StatementStands}
 use Rattle.statement_meaning.proofs.EnteredLoops.{enters_never, whole_loop}
 use Rattle.statement_meaning.proofs.FirstStored.{FirstThere, first_stored, first_stores}
-use Rattle.statement_meaning.proofs.FirstSteps.{going}
 use Rattle.statement_meaning.proofs.IterateHeads.{KnownEntry, entry_value, iterates_so, known_entry, loop_of, number_of_head}
 use Rattle.statement_meaning.proofs.LoopEnds.{Iterates, goes_at_end}
 use Rattle.statement_meaning.proofs.LoopTurns.{Loop, Out, StageAt, from_test}
-use Rattle.statement_meaning.proofs.PlannedParts.{Stand, over}
+use Rattle.statement_meaning.proofs.FirstSteps.{Stand, ended, going}
 use Rattle.statement_meaning.proofs.Simple.{FormDoes}
 use Rattle.statement_meaning.proofs.ToKnownLoops.{to_known_enters}
 
@@ -132,8 +131,8 @@ module _
         enters_never loop (loop.head).scalar entry.last from facts [] s r memory iterates.sound refl last_is.0 iterates.counted
         (stores [] stand) budget_is stage
         (λ known place u now memory_now ends there.
-        let is_over = over ends in
-        goes_at_end loop u.budget known place is_over.here_is is_over.to_is u now memory_now (omega arith) there)
+        let is_over = ended ends in
+        goes_at_end loop u.budget known place (sym is_over.same) (sym is_over.place) u now memory_now (omega arith) there)
         (λ u now memory_now is ready_now steady.
         leb-false _ _ (entry_value loop head list facts false s u iterates entry is stage.ready ready_now steady))
 

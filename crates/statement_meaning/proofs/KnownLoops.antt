@@ -24,7 +24,7 @@ use Rattle.statements8080.specs.declared.plan.Planned.TheVariants as planned
 use Rattle.statements8080.specs.Bodies.{whole}
 use Rattle.statements8080.specs.Counters.{address_fact, word_fact}
 use Rattle.statements8080.specs.Iterations.{asked_mark, next_byte_steps}
-use Rattle.codegen8080.specs.Generated.{common, load_word_steps, site_of}
+use Rattle.codegen8080.specs.Generated.{arriving, common, known_here, load_word_steps, met, site_of}
 use Rattle.sites8080.specs.declared.site.Site.{Site}
 use Rattle.code_meaning.specs.Landing.{Does, at_place}
 use Rattle.task_meaning.proofs.Stages.{script_of}
@@ -40,8 +40,9 @@ use Rattle.statement_meaning.proofs.LoopCode.{Steps, address_known, address_step
 use Rattle.statement_meaning.proofs.LoopEnds.{Iterates, ends_known}
 use Rattle.statement_meaning.proofs.LoopMeaning.{stepped_with, stepped_with_is}
 use Rattle.statement_meaning.proofs.LoopTurns.{Loop, Out, Runs, StageAt, after_list, from_list, list_then, turns_do}
-use Rattle.statement_meaning.proofs.MetFacts.{second_meets}
-use Rattle.statement_meaning.proofs.PlannedParts.{Stand, again_parted, code_parted, list_parted, with_known, word_parted}
+use Rattle.statement_meaning.proofs.Meetings.{second_meets}
+use Rattle.statement_meaning.proofs.FirstSteps.{ListFirst, MarkFirst, Stand, again_first, going, list_first}
+use Rattle.statement_meaning.proofs.PlannedParts.{code_parted, word_parted}
 
 -- a variable as code of loops has it
 abbrev pub counter_for : BodyContext → (variable : ℕ) → ScalarType → Option Location → Counter
@@ -92,15 +93,15 @@ byte_turns {at = at} loop head list last is_tested end turn facts from iterates 
     turn_facts : Facts
     turn_facts = common facts (address_fact counter)
 
-    again : Rattle.statement_meaning.proofs.PlannedParts.AgainParted at (record { facts = facts; goes_on = true }) None from turn
-        (address_fact counter) true
+    again : MarkFirst at
+        (arriving (met (known_here (record { facts = facts; goes_on = true })) (Some (address_fact counter)))) None from turn
         (planned.List list ∷ (next_byte_steps counter last turn ++ (asked_mark is_tested end ++ (planned.Reaches true ∷ []))))
         loop.after loop.to
-    again = again_parted stand
+    again = again_first stand
 
-    listed : Rattle.statement_meaning.proofs.PlannedParts.ListParted at (record { facts = turn_facts; goes_on = true }) None from list
+    listed : ListFirst at (record { facts = turn_facts; goes_on = true }) None from list
         (next_byte_steps counter last turn ++ (asked_mark is_tested end ++ (planned.Reaches true ∷ []))) loop.after loop.to
-    listed = list_parted again.rest
+    listed = list_first again.rest
 
     counted : IsCounted at.context (loop.head).variable Byte
     counted = counted_as loop head list Byte iterates to_known.scalar_is
@@ -114,7 +115,7 @@ byte_turns {at = at} loop head list last is_tested end turn facts from iterates 
       enough = (let enough = iterates.enough in omega (arith, enough));
       last_is = to_known.last_is;
       step_is = to_known.step_is;
-      turns = subst (λ (place : ℕ). Runs loop limit place turn_facts (from_list loop)) (sym again.is_at) claim;
+      turns = subst (λ (place : ℕ). Runs loop limit place turn_facts (from_list loop)) (sym again.lies) claim;
       less = less;
       enters = λ r memory hl.
           second_meets at.context r memory facts (address_fact counter)
@@ -149,11 +150,11 @@ byte_turns {at = at} loop head list last is_tested end turn facts from iterates 
     by_last true great stand =
         let parts = code_parted (address_step (loop.head).variable ∷ count_to_top turn)
         (asked_mark is_tested end ++ (planned.Reaches true ∷ [])) listed.after listed.middle stand in
-        let ends = ends_known loop is_tested end (with_known listed.after parts.known) parts.middle parts.rest in
+        let ends = ends_known loop is_tested end (going listed.after.goes_on parts.known) parts.middle parts.rest in
         record {
-          is_at = again.is_at;
+          is_at = again.lies;
           turns = all (λ limit counts u now memory_now less there.
-              counts_to_top loop last limit turn turn_facts u now memory_now counts (leb-true 255 last great) parts.stand less there
+              counts_to_top loop last limit turn turn_facts u now memory_now counts (leb-true 255 last great) parts.first less there
               (ends.goes limit));
           label = ends.label;
           after = ends.after;
@@ -161,11 +162,11 @@ byte_turns {at = at} loop head list last is_tested end turn facts from iterates 
     by_last false great stand =
         let parts = code_parted (address_step (loop.head).variable ∷ count_to last turn)
         (asked_mark is_tested end ++ (planned.Reaches true ∷ [])) listed.after listed.middle stand in
-        let ends = ends_known loop is_tested end (with_known listed.after parts.known) parts.middle parts.rest in
+        let ends = ends_known loop is_tested end (going listed.after.goes_on parts.known) parts.middle parts.rest in
         record {
-          is_at = again.is_at;
+          is_at = again.lies;
           turns = all (λ limit counts u now memory_now less there.
-              counts_to loop last limit turn turn_facts u now memory_now counts (leb-false 255 last great) parts.stand less there
+              counts_to loop last limit turn turn_facts u now memory_now counts (leb-false 255 last great) parts.first less there
               (ends.goes limit));
           label = ends.label;
           after = ends.after;
@@ -202,10 +203,10 @@ pub word_turns :
 word_turns {at = at} loop head list last is_tested end turn facts from place iterates to_known is stand =
     let loaded = word_parted listed.rest in
     let parts = code_parted (plain (compared_and_counted last) ++ stored_and_on place turn)
-    (asked_mark is_tested end ++ (planned.Reaches true ∷ [])) (with_known listed.after loaded.known) loaded.middle loaded.rest in
-    let ends = ends_known loop is_tested end (with_known listed.after parts.known) parts.middle parts.rest in
+    (asked_mark is_tested end ++ (planned.Reaches true ∷ [])) (going listed.after.goes_on loaded.known) loaded.middle loaded.rest in
+    let ends = ends_known loop is_tested end (going listed.after.goes_on parts.known) parts.middle parts.rest in
     record {
-      is_at = again.is_at;
+      is_at = again.lies;
       turns =
           turns_do loop from turn_facts
           (λ limit less claim t r memory below stage.
@@ -213,8 +214,8 @@ word_turns {at = at} loop head list last is_tested end turn facts from place ite
           iterates.list_types iterates.list_stands iterates.list_fits (omega (arith, below, less)) stage
           (λ u now memory_now spent there.
           next limit (counts limit less claim) u now memory_now (omega (arith, spent, below)) there
-          (at_site (λ site. load_word_steps site (whole (loop.head).variable)) iterates.sound loaded.stand)
-          parts.stand (ends.goes limit)));
+          (at_site (λ site. load_word_steps site (whole (loop.head).variable)) iterates.sound loaded.first)
+          parts.first (ends.goes limit)));
       label = ends.label;
       after = ends.after;
     }
@@ -235,15 +236,15 @@ word_turns {at = at} loop head list last is_tested end turn facts from place ite
         ∷ Rattle.statements8080.specs.Plans.jump (Rattle.asm8080.specs.declared.item.WordForm.TheVariants.JumpWhere Rattle.isa8080.specs.declared.instr.Condition.TheVariants.Carry) turn
         ∷ [])
 
-    again : Rattle.statement_meaning.proofs.PlannedParts.AgainParted at (record { facts = facts; goes_on = true }) None from turn
-        (word_fact counter) true
+    again : MarkFirst at
+        (arriving (met (known_here (record { facts = facts; goes_on = true })) (Some (word_fact counter)))) None from turn
         (planned.List list ∷ ((planned.LoadWord (whole (loop.head).variable) ∷ rest_of_code) ++ (asked_mark is_tested end ++ (planned.Reaches true ∷ []))))
         loop.after loop.to
-    again = again_parted stand
+    again = again_first stand
 
-    listed : Rattle.statement_meaning.proofs.PlannedParts.ListParted at (record { facts = turn_facts; goes_on = true }) None from list
+    listed : ListFirst at (record { facts = turn_facts; goes_on = true }) None from list
         ((planned.LoadWord (whole (loop.head).variable) ∷ rest_of_code) ++ (asked_mark is_tested end ++ (planned.Reaches true ∷ []))) loop.after loop.to
-    listed = list_parted again.rest
+    listed = list_first again.rest
 
     counted : IsCounted at.context (loop.head).variable Address
     counted = counted_as loop head list Address iterates to_known.scalar_is
@@ -266,7 +267,7 @@ word_turns {at = at} loop head list last is_tested end turn facts from place ite
       last_is = to_known.last_is;
       last_small = to_known.last_small;
       step_is = to_known.step_is;
-      turns = subst (λ (place : ℕ). Runs loop limit place turn_facts (from_list loop)) (sym again.is_at) claim;
+      turns = subst (λ (place : ℕ). Runs loop limit place turn_facts (from_list loop)) (sym again.lies) claim;
       less = less;
       enters = λ r memory low high steady steady_too.
           second_meets at.context r memory facts (word_fact counter)

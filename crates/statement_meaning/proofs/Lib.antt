@@ -23,7 +23,6 @@ pub mod LoopTurns
 pub mod LoopCode
 pub mod LoopMeaning
 pub mod CountedBytes
-pub mod MetFacts
 pub mod LoadedVariables
 pub mod WordCode
 pub mod CountedWords

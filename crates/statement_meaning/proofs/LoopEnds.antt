@@ -23,7 +23,8 @@ use Rattle.statement_meaning.proofs.CountedBytes.{Goes}
 use Rattle.statement_meaning.proofs.CountedVariables.{IsCounted}
 use Rattle.statement_meaning.proofs.LoopCode.{knowing_nothing, mark_then, steps_over}
 use Rattle.statement_meaning.proofs.LoopTurns.{Loop, Out, StageAt, loop_ends}
-use Rattle.statement_meaning.proofs.PlannedParts.{Stand, code_parted, over, reaches_parted}
+use Rattle.statement_meaning.proofs.FirstSteps.{Stand, ended, reaches_first}
+use Rattle.statement_meaning.proofs.PlannedParts.{code_parted}
 
 -- what is true of an iterative DO of a body: its variable, its values and its list
 pub record Iterates (at : BodyContext) (loop : Loop at) (head : Iteration) (list : Range) : Type 0 where
@@ -66,12 +67,12 @@ pub ends_known :
     → EndsKnown loop is_tested end here.facts place
 ends_known {at = at} loop true end here place stand =
     let parts = code_parted (steps.Mark end ∷ []) (planned.Reaches true ∷ []) here place stand in
-    let marked = mark_then parts.stand in
+    let marked = mark_then parts.first in
     let after_mark = steps_over marked.1 in
-    let ends = over (reaches_parted parts.rest) in
+    let ends = ended (reaches_first parts.rest) in
     let is_after : record { facts = no_facts; goes_on = true } ≡ loop.after =
-    ap (λ (facts : Facts). record { facts = facts; goes_on = true }) after_mark.0 ∙ ends.here_is in
-    let is_to : place ≡ loop.to = after_mark.1 ∙ ends.to_is in
+    ap (λ (facts : Facts). record { facts = facts; goes_on = true }) after_mark.0 ∙ (sym ends.same) in
+    let is_to : place ≡ loop.to = after_mark.1 ∙ (sym ends.place) in
     record {
       goes = λ limit u now memory_now less stage.
           goes_at_end loop limit no_facts place is_after is_to u now memory_now less (knowing_nothing stage);
@@ -79,9 +80,9 @@ ends_known {at = at} loop true end here place stand =
       after = λ tested. is_after;
     }
 ends_known loop false end here place stand =
-    let ends = over (reaches_parted stand) in
+    let ends = ended (reaches_first stand) in
     record {
-      goes = λ limit. goes_at_end loop limit here.facts place ends.here_is ends.to_is;
+      goes = λ limit. goes_at_end loop limit here.facts place (sym ends.same) (sym ends.place);
       label = λ tested. absurd cc;
       after = λ tested. absurd cc;
     }

@@ -21,7 +21,7 @@ use Rattle.statements8080.specs.Branches.{has_one_jump_within, inner_of_form, is
 use Rattle.codegen8080.specs.declared.meeting.Here.{Here}
 use Rattle.codegen8080.specs.Generated.{arriving, common, common_location, known_here, met}
 use Rattle.task_meaning.specs.Conditions.{is_plain, jumps_once}
-use Rattle.task_meaning.specs.Contexts.{Context, IsSound, nodes_in}
+use Rattle.task_meaning.specs.Contexts.{Context, IsSound, distances_in, nodes_in}
 use Rattle.task_meaning.specs.Tasks.{Know}
 use Rattle.task_meaning.proofs.Nodes.{node_of}
 
@@ -71,7 +71,7 @@ module _ (activation : Activation) (distance : Distances) where
   zero_by false other zero_flag a holds = tt
 
   -- what is known by both of two facts holds where the first do
-  pub common_first :
+  common_first :
       {a h l : ℕ} {zero_flag : Bool} {memory : List ℕ} (one other : Facts)
       → AllHold activation distance one a h l zero_flag memory
       → AllHold activation distance (common one other) a h l zero_flag memory
@@ -89,7 +89,7 @@ module _ (activation : Activation) (distance : Distances) where
   }
 
   -- and where the second do
-  pub common_second :
+  common_second :
       {a h l : ℕ} {zero_flag : Bool} {memory : List ℕ} (one other : Facts)
       → AllHold activation distance other a h l zero_flag memory
       → AllHold activation distance (common one other) a h l zero_flag memory
@@ -108,6 +108,20 @@ module _ (activation : Activation) (distance : Distances) where
     zero_holds = zero_by one.zero_shows_a other.zero_shows_a zero_flag a holds.zero_holds;
   }
 
+-- facts of the first way hold where both meet
+pub first_meets :
+    (context : Context) (r : Registers) (memory : List ℕ) (one other : Facts)
+    → Know context one r memory
+    → Know context (common one other) r memory
+first_meets context r memory one other known = common_first context.activation (distances_in context) one other known
+
+-- and so do those of the second
+pub second_meets :
+    (context : Context) (r : Registers) (memory : List ℕ) (one other : Facts)
+    → Know context other r memory
+    → Know context (common one other) r memory
+second_meets context r memory one other known = common_second context.activation (distances_in context) one other known
+
 -- code comes to a place where ways meet, and what is known there holds
 pub record Meets (context : Context) (there : Here) (r : Registers) (memory : List ℕ) : Type 0 where
   pub goes_on : there.goes_on ≡ true
@@ -124,7 +138,7 @@ meets_here context r memory here waiting goes_on known =
     (by waiting)
   where
     by : (waiting : Option Facts) → Meets context (arriving (met (Some here.facts) waiting)) r memory
-    by (Some other) = record { goes_on = refl; known = common_first context.activation _ here.facts other known }
+    by (Some other) = record { goes_on = refl; known = first_meets context r memory here.facts other known }
     by None = record { goes_on = refl; known = known }
 
 -- from the one that waits
@@ -133,7 +147,7 @@ pub meets_waiting :
     → Know context waiting r memory
     → Meets context (arriving (met here (Some waiting))) r memory
 meets_waiting context r memory (Some one) waiting known =
-    record { goes_on = refl; known = common_second context.activation _ one waiting known }
+    record { goes_on = refl; known = second_meets context r memory one waiting known }
 meets_waiting context r memory None waiting known = record { goes_on = refl; known = known }
 
 -- code that goes on waits with what is known

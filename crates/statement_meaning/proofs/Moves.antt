@@ -50,7 +50,8 @@ use Rattle.statement_meaning.specs.Bodies.{BodyContext, IsSoundBody, Leaves}
 use Rattle.statement_meaning.specs.Statements.{StatementDoes, StatementStands}
 use Rattle.statement_meaning.proofs.LoopCode.{Steps}
 use Rattle.statement_meaning.proofs.MoveCalls.{move_then}
-use Rattle.statement_meaning.proofs.PlannedParts.{Stand, code_parted, over}
+use Rattle.statement_meaning.proofs.FirstSteps.{Stand, ended}
+use Rattle.statement_meaning.proofs.PlannedParts.{code_parted}
 
 -- the word of a part comes into HL
 abbrev pub word_part : ExpressionNumber → (pushed : ℕ) → Step
@@ -343,16 +344,16 @@ move_ends :
     → Stage at.context at.context.activation.level 0 need base u facts now memory_now
     → Does (script_of at.context) u.budget 0 (at_place place now memory_now u.events) (Gave Onward u) (Leaves at base to after before)
 move_ends {at = at} {base = base} {to = to} {need = need} {after = after} {before = before} {place = place} u now memory_now stand stage =
-    let ends = over stand in
-    subst (λ (n : ℕ). Does (script_of at.context) u.budget 0 (at_place n now memory_now u.events) (Gave Onward u) (Leaves at base to after before)) (sym ends.to_is)
+    let ends = ended stand in
+    subst (λ (n : ℕ). Does (script_of at.context) u.budget 0 (at_place n now memory_now u.events) (Gave Onward u) (Leaves at base to after before)) (ends.place)
     (gives (record {
-      goes_on = ap (λ (here : Here). here.goes_on) (sym ends.here_is);
+      goes_on = ap (λ (here : Here). here.goes_on) (ends.same);
       comes = record {
         r = now;
         memory = memory_now;
         is_at = refl;
         ready = stage.ready;
-        holds = subst (λ (here : Here). Rattle.task_meaning.specs.Tasks.Know at.context here.facts now memory_now) ends.here_is stage.known;
+        holds = subst (λ (here : Here). Rattle.task_meaning.specs.Tasks.Know at.context here.facts now memory_now) (sym ends.same) stage.known;
       };
     }))
 
@@ -427,10 +428,10 @@ move_by {at = at} {base = base} {to = to} {need = need} {after = after} {before 
         (ap (λ (one : Outcome ℕ). then_do one (λ n t. then_do (value_in at.context from_tree t) (λ a u. then_do (value_in at.context to_tree u) (λ b v. copies at n a b v))))
         (known_means before here sound parts.count_is parts.count_types.0 is s))
         (ends_then the_source keeps_de source destination (λ a b v. copies at number a b v) sound source_known kept parts.source_is parts.source_types
-        parts.destination_is parts.destination_types refl (omega (arith, source_fits)) (omega (arith, destination_fits)) ends.stand stage
+        parts.destination_is parts.destination_types refl (omega (arith, source_fits)) (omega (arith, destination_fits)) ends.first stage
         (λ a b v now memory_now in_de in_hl there.
         bc_loaded here sound
-        (is_word bytes number parts.count_types.1 (known_small before here sound parts.count_is parts.count_types.0 is)) call.stand there
+        (is_word bytes number parts.count_types.1 (known_small before here sound parts.count_is parts.count_types.0 is)) call.first there
         (λ last_one known same rest loaded.
         move_then number a b (λ _ w. Gave Onward w) sound (omega (arith, destination_fits))
         (back number last_one.b last_one.c (ap (λ (r : Registers). r.b) same) (ap (λ (r : Registers). r.c) same))
@@ -452,7 +453,7 @@ move_by {at = at} {base = base} {to = to} {need = need} {after = after} {before 
         let call = code_parted (steps.Plain (Pop StackBc) ∷ steps.CallRoutine Move ∷ []) []
         (record { facts = ends.known; goes_on = true }) ends.middle ends.rest in
         address_in_hl {need = need} count (λ n t. then_do (value_in at.context from_tree t) (λ a u. then_do (value_in at.context to_tree u) (λ b v. copies at n a b v)))
-        parts.count_is parts.count_types (omega (arith, count_fits)) first.stand stage
+        parts.count_is parts.count_types (omega (arith, count_fits)) first.first stage
         (λ n t now memory_now known middle small in_hl keeps_them rest there.
         push_hl n sound in_hl (omega (arith, count_fits)) rest there
         (λ rest_two pushed_stage.
@@ -461,10 +462,10 @@ move_by {at = at} {base = base} {to = to} {need = need} {after = after} {before 
         parts.destination_is parts.destination_types refl (omega (arith, source_fits)) (omega (arith, destination_fits))
         (subst (λ (place : ℕ). Steps at.context known place (ends_by the_source keeps_de source destination 2) ends.known ends.middle) (sym over_push.1)
         (subst (λ (facts : Facts). Steps at.context facts first.middle (ends_by the_source keeps_de source destination 2) ends.known ends.middle) (sym over_push.0)
-        ends.stand))
+        ends.first))
         pushed_stage
         (λ a b v last_one memory_last in_de in_hl_too there_last.
-        pop_bc n sound small (omega (arith, count_fits)) there call.stand there_last
+        pop_bc n sound small (omega (arith, count_fits)) there call.first there_last
         (λ found rest_last done.
         let now_last : Registers = record (with_popped StackBc n last_one) { sp = wrap at.context.activation.level } in
         move_then n a b (λ _ w. Gave Onward w) sound (omega (arith, count_fits))

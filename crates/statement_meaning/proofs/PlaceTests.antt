@@ -201,6 +201,6 @@ place_tests_do {at = at} loop last facts turn sound enough has counted own other
     (record { sound = sound; scalar_is = same; counted = counted; enough = enough; turns = runs }) has
     (ap (λ (one : Site). direct_word (knowing one facts) last) sound.site
     ∙ direct_word_is (knowing (site_of at.body) facts) last other there)
-    (at_site (λ site. load_word_steps site (whole (loop.head).variable)) sound loaded.stand)
+    (at_site (λ site. load_word_steps site (whole (loop.head).variable)) sound loaded.first)
     (all_code (place_compare other turn) loaded.rest)
     enters fewer stage goes

@@ -26,7 +26,7 @@ use Rattle.statements8080.specs.SamePlaces.{are_same, are_same_leaf, are_same_sc
 use Rattle.task_meaning.specs.Contexts.{Context, IsSound, nodes_in}
 use Rattle.task_meaning.specs.Tasks.{address_on_machine}
 use Rattle.task_meaning.proofs.Fitting.{refers_is_referred}
-use Rattle.task_meaning.proofs.KnownOperands.{number_is}
+use Rattle.task_meaning.proofs.SiteNodes.{number_means}
 use Rattle.task_meaning.proofs.Loads.{lies_there}
 use Rattle.task_meaning.proofs.Nodes.{node_of}
 use Rattle.statement_meaning.proofs.SameParts.{either_true, same_bases, same_displacements}
@@ -56,7 +56,7 @@ module _ (context : Context) (sound : IsSound context) (facts : Facts) where
       → number (knowing context.site facts) of ≡ Some n
       → IsQuiet (of_tree tree)
   quiet_number of tree n is types known =
-      record { answer = λ memory frame. Found n; gives = λ s. number_is facts n sound is types known s }
+      record { answer = λ memory frame. Found n; gives = λ s. number_means facts n sound is types known s }
 
   quiet_value_there :
       {bound : ℕ} (kind given : ScalarType) (reference : Reference) (part : TypedReference) (pair : Location × ScalarType)

@@ -33,7 +33,7 @@ use Rattle.statements8080.specs.SamePlaces.{are_same_leaf, are_same_placed, are_
 use Rattle.task_meaning.specs.Contexts.{Context, IsSound, distances_in, nodes_in}
 use Rattle.task_meaning.specs.Tasks.{address_on_machine}
 use Rattle.task_meaning.proofs.Fitting.{located_fits, refers_is_referred}
-use Rattle.task_meaning.proofs.KnownOperands.{number_is}
+use Rattle.task_meaning.proofs.SiteNodes.{number_means}
 use Rattle.task_meaning.proofs.Loads.{lies_there}
 use Rattle.task_meaning.proofs.Nodes.{node_of}
 use Rattle.task_meaning.proofs.Reading.{FitsIn, frame_is, of_frame}
@@ -287,8 +287,8 @@ module _
             ] ≡ true
             → a ≡ b
         by (Some x) (Some y) one_known other_known same =
-            (given_same a x t s (sym first ∙ number_is facts x sound one_is one_types one_known s)).0
+            (given_same a x t s (sym first ∙ number_means facts x sound one_is one_types one_known s)).0
             ∙ eqb-true x y same
-            ∙ sym (given_same b y u s (sym second ∙ number_is facts y sound other_is other_types other_known s)).0
+            ∙ sym (given_same b y u s (sym second ∙ number_means facts y sound other_is other_types other_known s)).0
         by (Some x) None one_known other_known same = scalars same
         by None m one_known other_known same = scalars same

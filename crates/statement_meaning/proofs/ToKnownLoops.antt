@@ -37,15 +37,15 @@ use Rattle.statement_meaning.specs.Bodies.{BodyContext}
 use Rattle.statement_meaning.proofs.CountedVariables.{variable_address}
 use Rattle.statement_meaning.proofs.EnteredLoops.{enters_surely, enters_then, whole_loop}
 use Rattle.statement_meaning.proofs.FirstStored.{FirstThere, first_stored}
-use Rattle.statement_meaning.proofs.FirstSteps.{going}
 use Rattle.statement_meaning.proofs.IterateHeads.{KnownEntry, counter_is, entry_value, to_known_is}
 use Rattle.statement_meaning.proofs.KnownLoops.{ToKnown, TurnsStand, at_site, byte_turns, counted_as, counter_for, word_turns}
 use Rattle.statement_meaning.proofs.LoopCode.{Steps}
 use Rattle.statement_meaning.proofs.LoopEnds.{Iterates, goes_at_end}
 use Rattle.statement_meaning.proofs.LoopMeaning.{IsSteadyScalar, scalar_at, scalar_small}
 use Rattle.statement_meaning.proofs.LoopTurns.{Loop, Out, StageAt, from_test}
-use Rattle.statement_meaning.proofs.MetFacts.{first_meets}
-use Rattle.statement_meaning.proofs.PlannedParts.{Stand, byte_parted, code_parted, with_known, word_parted}
+use Rattle.statement_meaning.proofs.Meetings.{first_meets}
+use Rattle.statement_meaning.proofs.FirstSteps.{Stand, going}
+use Rattle.statement_meaning.proofs.PlannedParts.{byte_parted, code_parted, word_parted}
 use Rattle.statement_meaning.proofs.TestedLoops.{byte_tested, first_test, word_test, word_tested}
 
 -- turns that stand from a place on, where this is known
@@ -223,11 +223,11 @@ module _
         (test ++ turns_planned (counter Byte) last is_tested list turn end) loop.after loop.to) is
         (planned_so Byte known place same stand)) in
         let test = code_parted (first_test last end) (turns_planned (counter Byte) last is_tested list turn end)
-        (with_known (going true known) loaded.known) loaded.middle loaded.rest in
+        (going (going true known).goes_on loaded.known) loaded.middle loaded.rest in
         let found = turns_so Byte test.known test.middle same test.rest in
         byte_tested loop last test.middle end found.facts u now memory_now iterates.sound (to_known Byte same)
         (counted_as loop head list Byte iterates same) (let enough = iterates.enough in omega (arith, enough)) (omega (arith, little))
-        (at_site (λ site. load_byte_steps site (whole (loop.head).variable)) iterates.sound loaded.stand) test.stand less there
+        (at_site (λ site. load_byte_steps site (whole (loop.head).variable)) iterates.sound loaded.first) test.first less there
         ((found.there).turns loop.budget (omega arith)) found.meets ((found.there).label tested)
         (end_is loop end turn found.facts test.middle u found.there tested less))
     tested_first Address same tested is little =
@@ -237,7 +237,7 @@ module _
         (subst (λ (test : List Planned). Stand at (going true known) None place
         (test ++ turns_planned (counter Address) last is_tested list turn end) loop.after loop.to) is
         (planned_so Address known place same stand)) in
-        by (nat_eq ((last + 1) % 256) 0) refl known place u now memory_now less there loaded.known loaded.middle loaded.stand loaded.rest)
+        by (nat_eq ((last + 1) % 256) 0) refl known place u now memory_now less there loaded.known loaded.middle loaded.first loaded.rest)
       where
         by : (none : Bool) → nat_eq ((last + 1) % 256) 0 ≡ none
             → (known : Facts) (place : ℕ) (u : SourceState) (now : Registers) (memory_now : List ℕ)
@@ -246,29 +246,29 @@ module _
             → (found : Facts) (middle : ℕ)
             → Steps at.context known place
             (load_word_steps (knowing (site_of at.body) known) (whole (loop.head).variable)) found middle
-            → Stand at (with_known (going true known) found) None middle
+            → Stand at (going (going true known).goes_on found) None middle
             (((if none then all (word_test last true)
             else all (word_test last false)) ++ (jump (JumpWhere NoCarry) end ∷ []))
             ++ turns_planned (counter Address) last is_tested list turn end) loop.after loop.to
             → Does (script_of at.context) u.budget 0 (at_place place now memory_now u.events) (from_test loop u) (Out loop)
         by true none known place u now memory_now less there loaded middle loads rest =
             let test = code_parted (plain (word_test last true) ++ (steps.Jump (JumpWhere NoCarry) end ∷ []))
-            (turns_planned (counter Address) last is_tested list turn end) (with_known (going true known) loaded) middle rest in
+            (turns_planned (counter Address) last is_tested list turn end) (going (going true known).goes_on loaded) middle rest in
             let found = turns_so Address test.known test.middle same test.rest in
             word_tested loop last test.middle end found.facts true u now memory_now iterates.sound (to_known Address same)
             (counted_as loop head list Address iterates same) (let enough = iterates.enough in omega (arith, enough)) little
             (λ _. eqb-true ((last + 1) % 256) 0 none)
-            (at_site (λ site. load_word_steps site (whole (loop.head).variable)) iterates.sound loads) test.stand less there
+            (at_site (λ site. load_word_steps site (whole (loop.head).variable)) iterates.sound loads) test.first less there
             ((found.there).turns loop.budget (omega arith)) found.meets ((found.there).label tested)
             (end_is loop end turn found.facts test.middle u found.there tested less)
         by false none known place u now memory_now less there loaded middle loads rest =
             let test = code_parted (plain (word_test last false) ++ (steps.Jump (JumpWhere NoCarry) end ∷ []))
-            (turns_planned (counter Address) last is_tested list turn end) (with_known (going true known) loaded) middle rest in
+            (turns_planned (counter Address) last is_tested list turn end) (going (going true known).goes_on loaded) middle rest in
             let found = turns_so Address test.known test.middle same test.rest in
             word_tested loop last test.middle end found.facts false u now memory_now iterates.sound (to_known Address same)
             (counted_as loop head list Address iterates same) (let enough = iterates.enough in omega (arith, enough)) little
             (λ is. let never : ⊥ = cc in absurd never)
-            (at_site (λ site. load_word_steps site (whole (loop.head).variable)) iterates.sound loads) test.stand less there
+            (at_site (λ site. load_word_steps site (whole (loop.head).variable)) iterates.sound loads) test.first less there
             ((found.there).turns loop.budget (omega arith)) found.meets ((found.there).label tested)
             (end_is loop end turn found.facts test.middle u found.there tested less)
 

@@ -39,7 +39,7 @@ use Rattle.codegen8080.specs.Statements.{statement_steps}
 use Rattle.task_meaning.specs.Contexts.{nodes_in}
 use Rattle.task_meaning.specs.Steps.{StepsStand, JumpThere, NoneThere}
 use Rattle.task_meaning.specs.Tasks.{BranchDoes, Goes, Know, PartDoes, Parts, Passes}
-use Rattle.task_meaning.proofs.KnownOperands.{number_is}
+use Rattle.task_meaning.proofs.SiteNodes.{number_means}
 use Rattle.task_meaning.proofs.Stages.{does_same, has_less_room, script_of}
 use Rattle.statement_meaning.specs.Bodies.{Behaves, BodyContext, IsSoundBody, Leaves}
 use Rattle.statement_meaning.specs.Statements.{ListDoes, StatementStands}
@@ -358,7 +358,7 @@ while_does at before condition list label from after to sound stands bound _ (Is
 
     given : (n : ℕ) → number (knowing (site_of at.body) before) condition ≡ Some n
         → (t : SourceState) → value at.context.later at.context.activation.around test t ≡ Gave n t
-    given n same t = number_is before n sound.sound is types.0 (at_site (Some n) same) t
+    given n same t = number_means before n sound.sound is types.0 (at_site (Some n) same) t
 
     by_number : (n : ℕ) (holds : Bool)
         → number (knowing (site_of at.body) before) condition ≡ Some n

@@ -175,7 +175,7 @@ if_labels body site condition then_part else_part = elim (number site condition)
   | None ↦ tested_if_labels body then_part else_part
 ]
 
--- a list that is carried out again and again, behind an instruction that the first turn is counted by
+-- a list that is carried out again and again, after an instruction that the first turn is counted by
 abbrev pub forever_steps : Range → (first : ℕ) → List Planned
 forever_steps list first =
     plain Nop ∷ mark (label_of first) ∷ ListOf list ∷ JumpOn (label_of first) ∷ Reaches false ∷ []

@@ -1,14 +1,16 @@
 -- Items by the numbers that code has for labels and names: numbers that were given stay.
-use Rattle.std.proofs.Common.{◌≡◌, ℕ, List, [], ◌∷◌, ◌++◌, refl, ap, sym, subst, ◌∙◌, append_assoc, append-nil}
+use Rattle.std.proofs.Common.{◌≡◌, ℕ, zero, suc, ◌==◌, ◌⊎◌, inl, inr, Bool, true, false, ◌||◌, List, [], ◌∷◌, ◌++◌, set, refl, ap, sym, subst, ◌∙◌, append_assoc, append-nil}
 use Rattle.std.specs.Prelude.{Option, Some, None, option_map, unwrap_or}
+use Rattle.std.proofs.lemmas.Bool.{eq-eqb}
+use Rattle.std.proofs.lemmas.List.Folds.{list_any-append}
 use Rattle.object_modules.specs.declared.segment.Target.TheVariants.{InSegment, External}
 use Rattle.asm8080.specs.declared.item.Item.{Item}
 use Rattle.asm8080.specs.declared.item.Item.TheVariants.{Plain, WithWord, Byte, Address, Gap, Mark}
 use Rattle.asm8080.specs.declared.item.Reference.{Reference}
 use Rattle.asm8080.specs.declared.item.Reference.TheVariants.{AtLabel, AtTarget}
 use Rattle.asm8080.specs.Items.{Assembly}
-use Rattle.steps8080.specs.Externals.{Extends, entry}
-use Rattle.steps8080.specs.Writer.{Written, Writes, in_front, numbered, numbered_item, numbered_reference}
+use Rattle.steps8080.specs.Externals.{AddsOnly, Extends, entry}
+use Rattle.steps8080.specs.Writer.{NumbersNames, Written, Writes, in_front, numbered, numbered_item, numbered_reference, use_name, uses_name}
 
 -- what is found stays found
 map_stays :
@@ -130,6 +132,70 @@ items_followed written (item ∷ others) later made more given followed =
     given
     (λ found is. items_followed written others later found more is followed)
 
+-- no name has got a number
+pub same_names : (name : ℕ) (table : List (Option ℕ)) → AddsOnly name table table
+same_names name table = λ other found given. inl given
+
+-- one name has, which had none
+pub one_name_more :
+    (name number : ℕ) (before after : List (Option ℕ))
+    → after ≡ set before name (Some number)
+    → AddsOnly name before after
+one_name_more name number before after same = subst (AddsOnly name before) (sym same) (added before name)
+  where
+    added : (table : List (Option ℕ)) (name : ℕ) → AddsOnly name table (set table name (Some number))
+    added [] name other found given = inl given
+    added (first ∷ others) zero zero found given = inr refl
+    added (first ∷ others) zero (suc other) found given = inl given
+    added (first ∷ others) (suc name) zero found given = inl given
+    added (first ∷ others) (suc name) (suc other) found given =
+        elim (added others name other found given) [ inl kept ↦ inl kept | inr same ↦ inr (ap suc same) ]
+
+pub either_true : (one other : Bool) → (one ≡ true) ⊎ (other ≡ true) → (one || other) ≡ true
+either_true true other found = refl
+either_true false other (inl bad) = let no : false ≡ true = bad in cc
+either_true false other (inr found) = found
+
+-- a name is itself
+pub is_itself : (name : ℕ) → ((name == name) || false) ≡ true
+is_itself name = either_true (name == name) false (inl (eq-eqb name name refl))
+
+-- items of which one refers to a name do so with others
+pub use_either : (name : ℕ) (items later : List Item)
+    → (use_name name items ≡ true) ⊎ (use_name name later ≡ true)
+    → use_name name (items ++ later) ≡ true
+use_either name items later found =
+    list_any-append (uses_name name) items later ∙ either_true (use_name name items) (use_name name later) found
+
+-- names that are numbered for items one after another
+pub names_then : (before between after : List (Option ℕ)) (items later : List Item)
+    → NumbersNames before between items
+    → NumbersNames between after later
+    → NumbersNames before after (items ++ later)
+names_then before between after items later first second = λ name number given.
+    elim (second name number given) [
+      | inl known ↦ elim (first name number known) [
+        | inl old ↦ inl old
+        | inr used ↦ inr (use_either name items later (inl used))
+      ]
+      | inr used ↦ inr (use_either name items later (inr used))
+    ]
+
+-- names whose numbers are the same
+names_same : (before after : List (Option ℕ)) (items : List Item) → after ≡ before → NumbersNames before after items
+names_same before after items same = λ name number given. inl (sym (ap (λ table. entry table name) same) ∙ given)
+
+-- a name that an item refers to
+name_used : (added : ℕ) (before after : List (Option ℕ)) (items : List Item)
+    → AddsOnly added before after
+    → use_name added items ≡ true
+    → NumbersNames before after items
+name_used added before after items only used = λ name number given.
+    elim (only name number given) [
+      | inl old ↦ inl old
+      | inr same ↦ inr (ap (λ (one : ℕ). use_name one items) same ∙ used)
+    ]
+
 -- nothing is added
 pub writes_nothing : (written : Written) → Writes written written []
 writes_nothing written = record {
@@ -138,6 +204,7 @@ writes_nothing written = record {
   same = refl;
   labels = λ number found given. given;
   externals = λ number found given. given;
+  names = λ name number given. inl given;
 }
 
 -- items are added one after another
@@ -158,6 +225,8 @@ writes_then before between after items later first second = record {
       second.same;
   labels = λ number found given. second.labels number found (first.labels number found given);
   externals = λ number found given. second.externals number found (first.externals number found given);
+  names =
+      names_then before.externals between.externals after.externals items later first.names second.names;
 }
 
 -- one item is added, where the numbers of labels and names may have changed
@@ -167,15 +236,17 @@ pub writes_one :
     → after.code.items ≡ inside.code.items ++ made ∷ []
     → Extends inside.labels after.labels
     → Extends inside.externals after.externals
+    → NumbersNames inside.externals after.externals (item ∷ [])
     → numbered_item after item ≡ Some made
     → Writes before after (item ∷ [])
-writes_one inside before after item made same added labels externals named =
+writes_one inside before after item made same added labels externals names named =
     subst (λ old. Writes old after (item ∷ [])) same (record {
       made = made ∷ [];
       added = added;
       same = ap (λ front. in_front front (Some [])) named;
       labels = labels;
       externals = externals;
+      names = names;
     })
 
 -- and where they have not
@@ -192,20 +263,24 @@ writes_known inside before after item made same added labels externals named =
     (ap (λ (code : Assembly). code.items) added)
     (λ number found given. ap (λ table. entry table number) labels ∙ given)
     (λ number found given. ap (λ table. entry table number) externals ∙ given)
+    (names_same inside.externals after.externals (item ∷ []) externals)
     named
 
--- and where names have got numbers
+-- and where a name has got a number
 pub writes_named :
-    (inside before after : Written) (item made : Item)
+    (inside before after : Written) (item made : Item) (name : ℕ)
     → inside ≡ before
     → after.code ≡ record (inside.code) { items = inside.code.items ++ made ∷ [] }
     → after.labels ≡ inside.labels
     → Extends inside.externals after.externals
+    → AddsOnly name inside.externals after.externals
+    → use_name name (item ∷ []) ≡ true
     → numbered_item after item ≡ Some made
     → Writes before after (item ∷ [])
-writes_named inside before after item made same added labels externals named =
+writes_named inside before after item made name same added labels externals only used named =
     writes_one inside before after item made same
     (ap (λ (code : Assembly). code.items) added)
     (λ number found given. ap (λ table. entry table number) labels ∙ given)
     externals
+    (name_used name inside.externals after.externals (item ∷ []) only used)
     named

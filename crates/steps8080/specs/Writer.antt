@@ -1,6 +1,7 @@
 -- Code as it is written. Its items speak of labels and of names of other modules by their numbers in the
 -- module; the code itself numbers both in the order of their first use.
-use Rattle.std.specs.Prelude.{◌≡◌, ℕ, if◌then◌else◌, nat_lt, List, [], ◌∷◌, ◌++◌, map, Option, Some, None, option_map}
+use Rattle.std.specs.Prelude.{◌≡◌, ◌==◌, ◌⊎◌, ℕ, Bool, true, false, if◌then◌else◌, nat_lt, List, [], ◌∷◌, ◌++◌, map, Option, Some, None, option_map}
+use Rattle.std.specs.List.{list_any}
 use Rattle.object_modules.specs.declared.segment.Segment.TheVariants as segments
 use Rattle.object_modules.specs.declared.segment.Target.TheVariants.{InSegment, External}
 use Rattle.asm8080.specs.declared.item.Item.{Item}
@@ -49,6 +50,26 @@ abbrev pub numbered : Written → List Item → Option (List Item)
 numbered written [] = Some []
 numbered written (item ∷ others) = in_front (numbered_item written item) (numbered written others)
 
+-- whether a reference, an item, one of items refers to the name of another module that has this number
+abbrev pub is_to_name : (name : ℕ) → Reference → Bool
+is_to_name name (AtTarget (External other) offset) = name == other
+is_to_name name reference = false
+
+abbrev pub uses_name : (name : ℕ) → Item → Bool
+uses_name name (WithWord form reference) = is_to_name name reference
+uses_name name (Address reference) = is_to_name name reference
+uses_name name item = false
+
+abbrev pub use_name : (name : ℕ) → List Item → Bool
+use_name name items = list_any (uses_name name) items
+
+-- no name gets a number to which items do not refer
+abbrev pub NumbersNames : (before after : List (Option ℕ)) → List Item → Type 0
+NumbersNames before after items =
+    (name number : ℕ)
+    → entry after name ≡ Some number
+    → (entry before name ≡ Some number) ⊎ (use_name name items ≡ true)
+
 -- Items are added to code. Numbers that were given stay.
 pub record Writes (before after : Written) (items : List Item) : Type 0 where
   pub made : List Item
@@ -56,6 +77,7 @@ pub record Writes (before after : Written) (items : List Item) : Type 0 where
   pub same : numbered after items ≡ Some made
   pub labels : Extends before.labels after.labels
   pub externals : Extends before.externals after.externals
+  pub names : NumbersNames before.externals after.externals items
 
 -- A routine is added to code, with a label of the module at its start. Its own labels are known to nobody
 -- else.

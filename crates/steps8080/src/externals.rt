@@ -1,7 +1,7 @@
 //! The names of other modules that code refers to.
 
 ghost use Rattle.std.specs.Prelude.{◌≡◌, None, Some, replicate, IfOk};
-ghost use Rattle.steps8080.specs.Externals.{Extends, entry};
+ghost use Rattle.steps8080.specs.Externals.{AddsOnly, Extends, entry};
 
 use std::alloc::{AllocError, Global};
 use std::marker::Model;
@@ -34,9 +34,11 @@ impl Externals {
 
     /// The number of a name by its index, which is used from now on. Fails where there is none of that index. There are
     /// at most as many uses as a segment has places for them, which is less than 65536.
+    #[tactic(auto, using(crate::proofs::Numbered::same_names, crate::proofs::Numbered::one_name_more))]
     pub fn number(&mut self, name: u32) -> Result<u16, AllocError>
         ensures found { IfOk result (λ number. entry self.new name ≡ Some number) }
         ensures kept { Extends self.old self.new }
+        ensures only { AddsOnly name self.old self.new }
     {
         let index = name as usize;
         if index >= self.numbers.len() {

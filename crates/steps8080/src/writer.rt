@@ -1,10 +1,12 @@
 //! Code with numbered labels and the names of other modules.
 
-ghost use Rattle.std.specs.Prelude.{◌≡◌, [], ◌∷◌, ◌++◌, None, Some, map, replicate, IfOk, IsTrue, OnErr, OnOk};
+ghost use Rattle.std.specs.Prelude.{◌≡◌, [], ◌∷◌, ◌++◌, None, Some, map, replicate, IfOk, IsTrue, OnErr, OnOk, Err};
+ghost use Rattle.failure.specs.Failure.{IfFault};
 ghost use Rattle.asm8080.specs.declared.item.Item.TheVariants.{Plain, WithWord, Byte, Address, Gap, Mark};
 ghost use Rattle.asm8080.specs.declared.item.Reference.TheVariants.{AtTarget};
 ghost use Rattle.object_modules.specs.declared.segment.Target.TheVariants.{External, InSegment};
 ghost use Rattle.object_modules.specs.Module.{is_movable};
+ghost use Rattle.asm8080.specs.Assembled.{IsFinished};
 ghost use Rattle.asm8080.specs.Items.{IsAssembly};
 ghost use Rattle.runtime8080.specs.Routines.{AddsRoutine};
 ghost use Rattle.steps8080.specs.Externals.{Extends, entry};
@@ -290,6 +292,7 @@ impl Writer {
     pub fn finish(self) -> Result<(Finished, Externals), Failure<Fault>>
         ensures code { IfOk result (λ both. Finishes self both.0.bytes both.0.labels.items) }
         ensures externals { IfOk result (λ both. both.1 ≡ self.externals) }
+        ensures fault { IfFault result (λ fault. IsFinished self.code (Err fault)) }
     {
         let Writer {
             code,
@@ -298,8 +301,11 @@ impl Writer {
             externals,
         } = self;
         let labels = known_labels(&code, numbers)?;
-        let bytes = code.finish()?;
-        Ok((Finished { bytes, labels }, externals))
+        match code.finish() {
+            Ok(bytes) => Ok((Finished { bytes, labels }, externals)),
+            Err(Failure::Fault(fault)) => Err(Failure::Fault(fault)),
+            Err(Failure::Memory) => Err(Failure::Memory),
+        }
     }
 }
 

@@ -13,14 +13,13 @@
 //! a record's length or sum, as a plain walk over the records finds it, and how many have which of these faults.
 //! Each program that a command line runs is also compiled to object files, which are merged and printed as Intel HEX: it is
 //! counted how often these are other bytes than those of the image that is built of the sources.
-//! Then it prints what the machine, its parts and the interpreter do, as the manuals say it; whether programs of outputs of
-//! numbers have the images of their object modules; what merges of object files
-//! are, made of modules and of files; objects that are read, placed and loaded, texts of Intel HEX that are read, and how
+//! Then it prints what the machine, its parts and the interpreter do, as the manuals say it; what merges of object files are,
+//! made of modules and of files; objects that are read, placed and loaded, texts of Intel HEX that are read, and how
 //! commands end whose output fails part way; what long code and code with many labels is; and at last whether the document
 //! of the routines, the file `runtime.md` where the program runs, is as it is made here, or else that document.
 //! With the word `code` it reads no standard input, and prints what code is alone, for who refuses its allocations.
 //!
-//! What is said was written by hand from the rules of the language in `docs/language.md`, of object files in
+//! What is said was written by hand from the rules of the language in `docs/definition.md`, of object files in
 //! `docs/object-format.md` and of the commands in `docs/commands.md`, or computed from them by other programs that share
 //! nothing with this one.
 #![tactic(auto)]
@@ -34,7 +33,6 @@ mod codes;
 mod damage;
 mod events;
 mod faulty;
-mod images;
 mod interpreting;
 mod linked;
 mod memory_files;
@@ -56,7 +54,6 @@ use block::{Answer, Block};
 use codes::print_codes;
 use damage::print_damage;
 use files::HostFiles;
-use images::print_images;
 use interpreting::print_programs;
 use linked::{Linked, linked_image};
 use merging::print_merges;
@@ -187,7 +184,6 @@ fn print_parts(page: &mut Page) {
     print_runs(page);
     print_scripts(page);
     print_programs(page);
-    print_images(page);
     print_merges(page);
     print_adjusting(page);
     print_objects(page);

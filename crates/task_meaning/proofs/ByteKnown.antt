@@ -34,10 +34,10 @@ use Rattle.task_meaning.specs.Tasks.{PartDoes}
 use Rattle.task_meaning.proofs.ByteCode.{ByteCarried, at_last_instructions, changes_on}
 use Rattle.task_meaning.proofs.ByteForms.{byte_given}
 use Rattle.task_meaning.proofs.HighHalves.{byte_number_code}
-use Rattle.task_meaning.proofs.KnownOperands.{KnownFits, bytes_differ, known_fits, known_same, known_small, word_fits}
+use Rattle.task_meaning.proofs.KnownOperands.{KnownFits, bytes_differ, known_fits, known_small, word_fits}
 use Rattle.task_meaning.proofs.Nodes.{NodeOf, node_of}
 use Rattle.task_meaning.proofs.Rules.{ready_with_registers, word_goes}
-use Rattle.task_meaning.proofs.SiteNodes.{free_is, known_means}
+use Rattle.task_meaning.proofs.SiteNodes.{free_is, known_is, known_means}
 use Rattle.task_meaning.proofs.Stages.{does_same}
 
 -- what is known at a site is what the form says
@@ -76,7 +76,7 @@ fits_place :
 fits_place {context = context} {number = number} {tree = tree} facts place sound is types here =
     subst (λ (one : Option Place). KnownFits one (type_of tree))
     (sym (known_kept (nodes_in context) context.storage sound.lowered.traits is) ∙ sym
-    (known_same context facts number) ∙ here)
+    (known_is (knowing context.site facts) number) ∙ here)
     (known_fits context sound.numbers is types)
 
 -- a BYTE that is known is a number, and free

@@ -9,8 +9,11 @@ use Rattle.steps8080.specs.declared.step.Task.{Task}
 use Rattle.steps8080.specs.declared.step.Task.TheVariants as tasks
 use Rattle.relations8080.specs.Branches.{branch_steps}
 use Rattle.code_meaning.specs.Activations.{IsThere}
+use Rattle.exprgen8080.specs.declared.emission.Emission.{Emission}
 use Rattle.exprgen8080.specs.Emission.{IsWritten, knowing}
+use Rattle.exprgen8080.specs.Emitted.{Emits, HasAll}
 use Rattle.exprgen8080.specs.Forms.{steps_of, task_steps}
+use Rattle.exprgen8080.proofs.Emitting.{is_kept}
 use Rattle.task_meaning.specs.Contexts.{Context, IsSound}
 use Rattle.task_meaning.specs.Steps.{StepsStand}
 use Rattle.task_meaning.specs.Tasks.{BranchDoes, PartDoes, TaskDoes}
@@ -60,3 +63,14 @@ pub written_does :
     → PartDoes context facts part from last to
 written_does context from to sound written there =
     part_stands context context.site context.called refl refl (carry_out context sound) from to written there
+
+-- And so does all that `emit_expression` adds, in a module whose code calls the routines that it calls.
+pub emitted_does :
+    (context : Context) {part : Part} {before after : Emission} (from to : ℕ)
+    → IsSound context
+    → (emits : Emits context.site part before after)
+    → HasAll after.is_called.items context.called
+    → IsThere context.activation emits.list from to
+    → PartDoes context before.facts part from after.facts to
+emitted_does context from to sound emits called there =
+    written_does context from to sound (is_kept called emits.written) there

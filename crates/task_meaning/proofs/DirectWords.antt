@@ -33,12 +33,11 @@ use Rattle.task_meaning.specs.Contexts.{Context, IsSound}
 use Rattle.task_meaning.specs.Steps.{StepsStand, PartThere, WordThere}
 use Rattle.task_meaning.specs.Tasks.{PartDoes, WordIsGiven}
 use Rattle.task_meaning.proofs.BytesAsked.{WordAtPlace, WordsAtPlaces}
-use Rattle.task_meaning.proofs.KnownOperands.{alike_does, operands_may}
 use Rattle.task_meaning.proofs.PairedWords.{Makes, byte_instructions, difference_makes, kept_none}
 use Rattle.task_meaning.proofs.PlaceComparisons.{read_then}
 use Rattle.task_meaning.proofs.RegisterCode.{effect}
 use Rattle.task_meaning.proofs.Ranges.{ready_fits, value_fits}
-use Rattle.task_meaning.proofs.SiteNodes.{value_in}
+use Rattle.task_meaning.proofs.SiteNodes.{does_exchanged, value_in}
 use Rattle.task_meaning.proofs.Stages.{Stage, at_end, at_instructions, at_load_a, script_of}
 use Rattle.task_meaning.proofs.Values.{HasWord, word_given, word_then}
 use Rattle.task_meaning.proofs.WordBinaries.{LeftWordDoes}
@@ -121,8 +120,8 @@ word_of n scalar same small = subst (λ (of : ScalarType). n < values_of of) sam
 pub left_words_do : (context : Context) → IsSound context → WordsAtPlaces context → LeftWordDoes context
 left_words_do context sound places facts last operands number place pushed top need from to base s r memory first second words is none less room height (PartThere part rest) going =
     let left = left_word_is (knowing context.site facts) operands place is in
-    alike_does
-    (operands_may facts sound words.one.is words.two.is words.one.types left.1 (λ x y u. Gave ((x + (65536 - y)) % 65536) u) s)
+    does_exchanged facts (λ x y u. Gave ((x + (65536 - y)) % 65536) u) s sound words.one.is words.two.is words.one.types
+    left.1
     (word_then from s r memory part words.two.is words.two.types less room
     (less_high (height_of first) (height_of second) need height) going
     (λ y t now ended same fewer going_on given.

@@ -46,161 +46,16 @@ use Rattle.sites8080.specs.Site.{expression}
 use Rattle.exprgen8080.specs.Emission.{knowing}
 use Rattle.runtime8080.proofs.Bits.{equal_below}
 use Rattle.task_meaning.specs.Contexts.{Context, IsSound, NumbersAreWords, nodes_in}
-
--- expressions whose types hold have the operands that their operators ask for
-mutual
-  pub have_operands : (typed : TypedModule) (within : Within) (tree : TypedExpression)
-      → TypesHold typed within tree → HaveOperands (length typed.constants.lists) tree
-  have_operands typed within (NumberNode scalar of origin) types = tt
-  have_operands typed within (ValueNode scalar reference) types = part_has_operands typed within reference types.1
-  have_operands typed within (LocationNode reference) types = part_has_operands typed within reference types.1
-  have_operands typed within (ListNode list) types = types
-  have_operands typed within (ConversionNode scalar inner) types = have_operands typed within inner types
-  have_operands typed within (AssignmentNode target inner) types = have_operands typed within inner types.0
-  have_operands typed within (UnaryNode scalar operator operand) types = have_operands typed within operand types.0
-  have_operands typed within (BinaryNode operands operator left right) types =
-      ((types.1).1, (types.2).1, have_operands typed within left (types.1).0, have_operands typed within right (types.2).0)
-  have_operands typed within (CallNode procedure scalar given) types = tt
-  have_operands typed within (FunctionNode function operand) types = have_operands typed within operand types
-  have_operands typed within (ShiftNode scalar function moved count) types =
-      (have_operands typed within moved (types.1).0, have_operands typed within count (types.2).0)
-  have_operands typed within (InputNode port) types = tt
-
-  part_has_operands : (typed : TypedModule) (within : Within) (part : TypedReference)
-      → TypesHoldInReference typed within part → PartHasOperands (length typed.constants.lists) part
-  part_has_operands typed within (PartOf object subscript member offset member_subscript) types =
-      (index_has_operands typed within subscript types.0, index_has_operands typed within member_subscript types.1)
-
-  index_has_operands : (typed : TypedModule) (within : Within) (subscript : Subscript)
-      → TypesHoldInSubscript typed within subscript → SubscriptHasOperands (length typed.constants.lists) subscript
-  index_has_operands typed within NoSubscript types = tt
-  index_has_operands typed within (At stride count index) types = have_operands typed within index types.0
-
--- what is known at a site is what is kept with the node
-pub known_same :
-    (context : Context) (facts : Facts) (of : ExpressionNumber)
-    → known (knowing context.site facts) of ≡ known_at (nodes_in context) of
-unfolding known expression
-known_same context facts of = by (slice_get (nodes_in context).expressions of.index)
-  where
-    by : (found : Option Expression)
-        → elim found [
-          | Some node ↦ node.traits.known
-          | None ↦ None
-        ]
-        ≡ (option_map_or (λ (node : Expression). node.traits) found no_traits).known
-    by (Some node) = refl
-    by None = refl
-
--- a known value is what the expression means, and changes nothing
-pub known_is :
-    {context : Context} {bound : ℕ} {of : ExpressionNumber} {tree : TypedExpression} (facts : Facts) (place : Place)
-    → IsSound context
-    → IsExpression (nodes_in context) context.storage bound of.index tree
-    → TypesHold context.typed context.within tree
-    → known (knowing context.site facts) of ≡ Some place
-    → (s : State)
-    → value context.later context.activation.around tree s ≡ Gave (place_at context.activation.layout place) s
-known_is {context = context} {of = of} {tree = tree} facts place sound is types here s =
-    known_gives context.activation.around (nodes_in context) context.storage (place_at context.activation.layout)
-    sound.resolves context.later tree place (subst (λ (lists : ℕ). HaveOperands lists tree) (sym sound.lists) (have_operands context.typed context.within tree types))
-    (sym (known_kept (nodes_in context) context.storage sound.lowered.traits is) ∙ sym (known_same context facts of) ∙ here)
-    s
-
-number_place : (place : Option Place) (n : ℕ)
-    → elim place [
-      | Some found ↦ number_of_place found
-      | None ↦ None
-    ] ≡ Some n
-    → place ≡ Some (Number n)
-number_place (Some (Number m)) n here = ap (λ (found : Option ℕ). option_map Number found) here
-number_place (Some (Code m)) n here = let bad : None ≡ Some n = here in cc
-number_place (Some (Data m)) n here = let bad : None ≡ Some n = here in cc
-number_place (Some (External m name)) n here = let bad : None ≡ Some n = here in cc
-number_place None n here = let bad : None ≡ Some n = here in cc
+use Rattle.task_meaning.proofs.SiteNodes.{have_operands, known_is, number_is, place_of_number}
 
 -- a known number is a known place
 pub number_known :
     (context : Context) (facts : Facts) (of : ExpressionNumber) (n : ℕ)
     → number (knowing context.site facts) of ≡ Some n
     → known (knowing context.site facts) of ≡ Some (Number n)
-unfolding number
-number_known context facts of n here = number_place (known (knowing context.site facts) of) n here
-
-pub number_is :
-    {context : Context} {bound : ℕ} {of : ExpressionNumber} {tree : TypedExpression} (facts : Facts) (n : ℕ)
-    → IsSound context
-    → IsExpression (nodes_in context) context.storage bound of.index tree
-    → TypesHold context.typed context.within tree
-    → number (knowing context.site facts) of ≡ Some n
-    → (s : State)
-    → value context.later context.activation.around tree s ≡ Gave n s
-number_is {context = context} {of = of} facts n sound is types here s =
-    known_is facts (Number n) sound is types (number_known context facts of n here) s
-
--- where two operands may be exchanged, nobody can tell their order
-pub may_same :
-    (context : Context) (facts : Facts) (left right : ExpressionNumber)
-    → may_exchange (knowing context.site facts) left right ≡ may_exchange_at (nodes_in context) left right
-unfolding may_exchange is_quiet stores_nothing known expression
-may_same context facts left right =
-    by (slice_get (nodes_in context).expressions left.index) (slice_get (nodes_in context).expressions right.index)
-  where
-    by : (one two : Option Expression)
-        → (is_some (elim one [
-          | Some node ↦ node.traits.known
-          | None ↦ None
-        ])
-        || (elim one [
-          | Some node ↦ node.traits.is_quiet
-          | None ↦ false
-        ]
-        && elim two [
-          | Some node ↦ node.traits.stores_nothing
-          | None ↦ false
-        ]))
-        ≡ (is_some ((option_map_or (λ (node : Expression). node.traits) one no_traits).known)
-        || ((option_map_or (λ (node : Expression). node.traits) one no_traits).is_quiet
-        && (option_map_or (λ (node : Expression). node.traits) two no_traits).stores_nothing))
-    by (Some one) (Some two) = refl
-    by (Some one) None = refl
-    by None (Some two) = refl
-    by None None = refl
-
-pub operands_may :
-    {context : Context} {left_bound right_bound : ℕ} {left right : ExpressionNumber} {first second : TypedExpression}
-    {A : Type 0} (facts : Facts)
-    → IsSound context
-    → IsExpression (nodes_in context) context.storage left_bound left.index first
-    → IsExpression (nodes_in context) context.storage right_bound right.index second
-    → TypesHold context.typed context.within first
-    → may_exchange (knowing context.site facts) left right ≡ true
-    → (go : ℕ → ℕ → State → Outcome A) (s : State)
-    → AreAlike
-    (in_order (λ (t : State). value context.later context.activation.around first t) (λ (t : State). value context.later context.activation.around second t) go s)
-    (exchanged (λ (t : State). value context.later context.activation.around first t) (λ (t : State). value context.later context.activation.around second t) go s)
-operands_may {context = context} {left = left} {right = right} {first = first} facts sound one two types may go s =
-    operands_exchanged (nodes_in context) context.storage sound.lowered.traits context.activation.around
-    (place_at context.activation.layout) sound.resolves context.later one two (subst (λ (lists : ℕ). HaveOperands lists first) (sym sound.lists) (have_operands context.typed context.within first types))
-    (sym (may_same context facts left right) ∙ may) go s
-
--- what does one of two outcomes that are alike does the other
-pub alike_does :
-    {A : Type 0} {script : List (List ℕ)} {budget more : ℕ} {from : Machine} {one other : Outcome A}
-    {Good : A → State → Machine → Type 0}
-    → AreAlike one other
-    → Does script budget more from other Good
-    → Does script budget more from one Good
-alike_does {script = script} {budget = budget} {more = more} {from = from} {Good = Good} (AreSame same) does =
-    subst (λ outcome. Does script budget more from outcome Good) (sym same) does
-alike_does {script = script} {budget = budget} {more = more} {from = from} {one = one} {Good = Good} (BothOutside outside beside) does =
-    outside_does one outside
-  where
-    outside_does : (outcome : Outcome _) → GoesOutside outcome → Does script budget more from outcome Good
-    outside_does (Gave found t) is = absurd is
-    outside_does (Stopped (Outside reason) t) is = record { told = tt }
-    outside_does (Stopped Ended t) is = absurd is
-    outside_does (Stopped More t) is = absurd is
+number_known context facts of n here =
+    known_is (knowing context.site facts) of
+    ∙ place_of_number (known_at (nodes_in context) of) n (sym (number_is (knowing context.site facts) of) ∙ here)
 
 -- where something lies is an ADDRESS, and a known number is one of its type
 abbrev pub KnownFits : Option Place → ScalarType → Type 0
@@ -445,7 +300,7 @@ pub known_small :
 known_small {context = context} {of = of} {tree = tree} facts place sound is types here =
     place_small context place (type_of tree) sound
     (subst (λ (one : Option Place). KnownFits one (type_of tree))
-    (sym (known_kept (nodes_in context) context.storage sound.lowered.traits is) ∙ sym (known_same context facts of) ∙ here)
+    (sym (known_kept (nodes_in context) context.storage sound.lowered.traits is) ∙ sym (known_is (knowing context.site facts) of) ∙ here)
     (known_fits context sound.numbers is types))
 
 pub number_small :

@@ -41,9 +41,10 @@ use Rattle.task_meaning.specs.Steps.{StepsStand, PlainThere, WordThere, PartTher
 use Rattle.task_meaning.specs.Tasks.{PartDoes}
 use Rattle.task_meaning.proofs.Rules.{GoesOn, more_pushed, pop_goes, push_goes, word_goes}
 use Rattle.task_meaning.proofs.RegisterCode.{effect, registers_then}
-use Rattle.task_meaning.proofs.KnownOperands.{alike_does, known_is, known_small, operands_may, word_fits}
+use Rattle.task_meaning.proofs.KnownOperands.{known_small, word_fits}
 use Rattle.task_meaning.proofs.Ranges.{fits_means, ready_fits}
 use Rattle.task_meaning.proofs.Values.{byte_then, part_first, word_then}
+use Rattle.task_meaning.proofs.SiteNodes.{does_exchanged, known_means}
 
 -- one value is in HL, and another one in DE
 pub record HasBoth (first second : ℕ) (r : Registers) : Type 0 where
@@ -429,13 +430,13 @@ module _ (context : Context) (sound : IsSound context) where
   form_then {more = more} {facts = facts} {go = go} {Good = Good} {first = first} {second = second} (RightKnown place) others from s r memory one two allowed less room high higher stand going continue =
       subst (λ outcome. Does context.activation.around.program.script s.budget more (at_place from r memory s.events) outcome Good)
       (sym (same_rest (meant first s) (λ x t. then_do (meant second t) (λ y u. go x y u)) (λ x t. go x (place_at context.activation.layout place) t)
-      (λ x t. ap (λ outcome. then_do outcome (λ y u. go x y u)) (known_is facts place sound two.is two.types allowed t))))
+      (λ x t. ap (λ outcome. then_do outcome (λ y u. go x y u)) (known_means facts place sound two.is two.types allowed t))))
       (known_then others place from s r memory one
       (word_fits (place_at context.activation.layout place) (type_of second) (known_small facts place sound two.is two.types allowed))
       less room high stand going continue)
   form_then {more = more} {facts = facts} {go = go} {Good = Good} {first = first} {second = second} (LeftKnown place) others from s r memory one two allowed less room high higher stand going continue =
       subst (λ outcome. Does context.activation.around.program.script s.budget more (at_place from r memory s.events) outcome Good)
-      (sym (ap (λ outcome. then_do outcome (λ x t. then_do (meant second t) (λ y u. go x y u))) (known_is facts place sound one.is one.types allowed s)))
+      (sym (ap (λ outcome. then_do outcome (λ x t. then_do (meant second t) (λ y u. go x y u))) (known_means facts place sound one.is one.types allowed s)))
       (known_then {go = λ y x u. go x y u} others place from s r memory two
       (word_fits (place_at context.activation.layout place) (type_of first) (known_small facts place sound one.is one.types allowed))
       less room (omega (arith, higher)) stand going
@@ -443,7 +444,7 @@ module _ (context : Context) (sound : IsSound context) where
   form_then {facts = facts} {right = right} RightKeeps others from s r memory one two allowed less room high higher stand going continue =
       exchange_then others from s r memory one two (kept_de facts right allowed) less room high (omega (arith, higher)) stand going continue
   form_then {facts = facts} {go = go} {left = left} {first = first} {second = second} LeftKeeps others from s r memory one two allowed less room high higher stand going continue =
-      alike_does (operands_may facts sound one.is two.is one.types allowed.0 go s)
+      does_exchanged facts go s sound one.is two.is one.types allowed.0
       (exchange_then {go = λ y x u. go x y u} others from s r memory two one (kept_de facts left allowed.1) less room (omega (arith, higher)) high stand going
       (λ y x t now ended middle found. continue x y t now ended middle found))
   form_then {facts = facts} {right = right} RightFree others from s r memory one two allowed less room high higher stand going continue =
@@ -451,7 +452,7 @@ module _ (context : Context) (sound : IsSound context) where
       byte_beside_then others from s r memory one two (sym (free_same facts right) ∙ is.1) is.0 less room high (omega (arith, higher)) stand going continue
   form_then {facts = facts} {go = go} {left = left} {first = first} {second = second} LeftFree others from s r memory one two allowed less room high higher stand going continue =
       let is = and_parts (fits_byte (knowing context.site facts) left) (is_free (knowing context.site facts) left) allowed.1 in
-      alike_does (operands_may facts sound one.is two.is one.types allowed.0 go s)
+      does_exchanged facts go s sound one.is two.is one.types allowed.0
       (byte_beside_then {go = λ y x u. go x y u} others from s r memory two one (sym (free_same facts left) ∙ is.1) is.0 less room (omega (arith, higher)) high stand going
       (λ y x t now ended middle found. continue x y t now ended middle found))
   form_then Pushed others from s r memory one two allowed less room high higher stand going continue =

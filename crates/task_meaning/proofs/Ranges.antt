@@ -33,10 +33,11 @@ use Rattle.sites8080.specs.Widths.{fits_byte, fits_byte_by, shift_by_fits_byte, 
 use Rattle.exprgen8080.specs.Emission.{knowing}
 use Rattle.task_meaning.proofs.Nodes.{NodeOf, node_of}
 use Rattle.task_meaning.specs.Contexts.{Context, IsSound, SourceFits, nodes_in}
-use Rattle.task_meaning.proofs.KnownOperands.{number_is, quotient_less}
+use Rattle.task_meaning.proofs.KnownOperands.{quotient_less}
 use Rattle.task_meaning.proofs.NumbersOfTrees.{in_node}
 use Rattle.task_meaning.proofs.RangesOfBytes.{Gives, IsGiven, IsStopped, given_by, gives_from, gives_then, of_type}
 use Rattle.task_meaning.proofs.RangesOfTrees.{CallsGive, tree_fits}
+use Rattle.task_meaning.proofs.SiteNodes.{number_means}
 
 module _ (context : Context) (sound : IsSound context) where
   abbrev Fits : State → Type 0
@@ -142,7 +143,7 @@ module _ (context : Context) (sound : IsSound context) (facts : Facts) where
       → number_of (knowing context.site facts) of ≡ Some number
       → Gives (λ n t. n ≡ number) (meant tree s)
   is_number number s is types here =
-      subst (λ (outcome : Outcome ℕ). Gives (λ n t. n ≡ number) outcome) (sym (number_is facts number sound is types here s))
+      subst (λ (outcome : Outcome ℕ). Gives (λ n t. n ≡ number) outcome) (sym (number_means facts number sound is types here s))
       (IsGiven refl)
 
   any_value : {bound : ℕ} {of : ExpressionNumber} {tree : TypedExpression} (s : State)
@@ -311,7 +312,7 @@ module _ (context : Context) (sound : IsSound context) (facts : Facts) where
       by_number node true here address fits =
           let known = below_number (number_of (knowing context.site facts) of) 256 here in
           subst (λ (outcome : Outcome ℕ). Gives (λ n t. n < 256) outcome)
-          (sym (number_is facts known.0 sound is types known.1 s)) (IsGiven known.2)
+          (sym (number_means facts known.0 sound is types known.1 s)) (IsGiven known.2)
       by_number node false here address fits = form_below s node.form address types fits source
 
       by_type : (node : NodeOf context of tree) (scalar : ScalarType) → type_of tree ≡ scalar

@@ -31,7 +31,6 @@ use Rattle.task_meaning.specs.Steps.{StepsStand, PartThere}
 use Rattle.task_meaning.specs.Tasks.{PartDoes, WordIsGiven}
 use Rattle.task_meaning.proofs.BytesAsked.{WordAtPlace, WordsAtPlaces}
 use Rattle.task_meaning.proofs.DirectWords.{with_word_then}
-use Rattle.task_meaning.proofs.KnownOperands.{alike_does, operands_may}
 use Rattle.task_meaning.proofs.LogicNumbers.{IsLogic, bits, bits_high, bits_low, bits_small, or_none, xor_none}
 use Rattle.task_meaning.proofs.LogicPairs.{IsEither, LogicGiven, bits_turned, either_logic, logic_makes}
 use Rattle.task_meaning.proofs.PairedWords.{kept_none}
@@ -40,7 +39,7 @@ use Rattle.task_meaning.proofs.PlaceComparisons.{read_then}
 use Rattle.task_meaning.proofs.Ranges.{fits_means, ready_fits, value_fits}
 use Rattle.task_meaning.proofs.RegisterCode.{effect, registers_then}
 use Rattle.task_meaning.proofs.Rules.{GoesOn}
-use Rattle.task_meaning.proofs.SiteNodes.{value_in}
+use Rattle.task_meaning.proofs.SiteNodes.{does_exchanged, value_in}
 use Rattle.task_meaning.proofs.Values.{HasWord, byte_then, word_ends, word_then}
 use Rattle.task_meaning.proofs.WordSums.{TwoWords, less_high, one_high}
 
@@ -239,8 +238,7 @@ with_simple_does {context = context} {pushed = pushed} {top = top} {need = need}
         none less room (one_high (height_of first) (height_of second) need height)
         (less_high (height_of first) (height_of second) need height) stand going
     by (LeftIsSimple may simple_is) stand =
-        alike_does
-        (operands_may facts sound words.one.is words.two.is words.one.types may (λ x y u. Gave (bits operation x y) u) s)
+        does_exchanged facts (λ x y u. Gave (bits operation x y) u) s sound words.one.is words.two.is words.one.types may
         (subst (λ outcome. Does context.activation.around.program.script s.budget 0 (at_place from r memory s.events) outcome
         (Arrives context.activation top base to (WordIsGiven context last number Address r memory)))
         (same_rest (value_in context second s)

@@ -35,7 +35,8 @@ use Rattle.sites8080.specs.Site.{expression}
 use Rattle.exprgen8080.specs.Emission.{knowing}
 use Rattle.task_meaning.specs.Contexts.{Context, IsSound, nodes_in}
 use Rattle.task_meaning.proofs.Nodes.{NodeOf, node_of}
-use Rattle.task_meaning.proofs.KnownOperands.{number_is, number_small}
+use Rattle.task_meaning.proofs.KnownOperands.{number_small}
+use Rattle.task_meaning.proofs.SiteNodes.{number_means}
 
 -- what is kept by one is kept by another
 pub record KeepsLess (one other : Keeps) : Type 0 where
@@ -351,7 +352,7 @@ sum_split context facts number left right stride count bound k first second soun
     IsComputed (keeps_at (nodes_in context) number) bound first (λ n. displaced stride count ((n + k) % 65536)) one types address
     (left_high (height_of first) (height_of second))
     (λ s. sum_means context stride count k operators.Add first second (λ n. (n + k) % 65536) s
-    (number_is facts k sound two types_too known_is) (λ n. refl))
+    (number_means facts k sound two types_too known_is) (λ n. refl))
     (λ n. sum_bytes stride n k)
     (ap (λ (found : Option ℕ). keeps_of_index (nodes_in context) number found)
     (sym (number_same context facts number) ∙ unknown))
@@ -386,7 +387,7 @@ difference_split context facts number left right stride count bound k first seco
     IsComputed (keeps_at (nodes_in context) number) bound first (λ n. displaced stride count ((n + (65536 - k)) % 65536)) one types address
     (left_high (height_of first) (height_of second))
     (λ s. sum_means context stride count k operators.Subtract first second (λ n. (n + (65536 - k)) % 65536) s
-    (number_is facts k sound two types_too known_is) (λ n. refl))
+    (number_means facts k sound two types_too known_is) (λ n. refl))
     (λ n. difference_bytes stride n k small)
     (ap (λ (found : Option ℕ). keeps_of_index (nodes_in context) number found)
     (sym (number_same context facts number) ∙ unknown))
@@ -509,7 +510,7 @@ is_split {context = context} facts sound (IsIndex {stride = stride} {count = cou
         (split (knowing context.site facts) (Some (record { index = of; stride = stride % 65536 }))).offset) (sym apart.0)
         (subst (λ (offset : ℕ). IsSplit context (Some (record { index = of; stride = stride % 65536 })) (At stride count tree) None offset) (sym apart.1)
         (AllKnown (displaced stride count n)
-        (λ s. ap (λ (outcome : Outcome ℕ). then_do outcome (λ n t. Gave (displaced stride count n) t)) (number_is facts n sound is types.0 known_is s))
+        (λ s. ap (λ (outcome : Outcome ℕ). then_do outcome (λ n t. Gave (displaced stride count n) t)) (number_means facts n sound is types.0 known_is s))
         (known_bytes stride n)
         (ap (λ (found : Option ℕ). keeps_of_index (nodes_in context) of found) (sym (number_same context facts of) ∙ known_is))))
     by_number None unknown =

@@ -41,7 +41,7 @@ use Rattle.task_meaning.specs.Contexts.{Context, IsSound, nodes_in}
 use Rattle.task_meaning.specs.Steps.{StepsStand}
 use Rattle.task_meaning.specs.Tasks.{PartDoes, WordIsGiven}
 use Rattle.task_meaning.proofs.Rules.{GoesOn}
-use Rattle.task_meaning.proofs.KnownOperands.{known_same, number_known, number_small}
+use Rattle.task_meaning.proofs.KnownOperands.{number_known, number_small}
 use Rattle.task_meaning.proofs.Values.{word_given}
 use Rattle.task_meaning.proofs.Pairs.{IsOperand, same_rest}
 use Rattle.task_meaning.proofs.PairedWords.{byte_instructions, difference_makes, paired_does}
@@ -50,6 +50,7 @@ use Rattle.task_meaning.proofs.WordForms.{difference_small, taken_does}
 use Rattle.task_meaning.proofs.WordRoutines.{multiply_does, product_small, word_given_by}
 use Rattle.task_meaning.proofs.Products.{product_then}
 use Rattle.task_meaning.proofs.Multiples.{products_do}
+use Rattle.task_meaning.proofs.SiteNodes.{known_is}
 
 -- what a number at a site is to its node
 pub number_same :
@@ -57,7 +58,7 @@ pub number_same :
     → number_of (knowing context.site facts) of ≡ number_at (nodes_in context) of
 unfolding number_of
 number_same context facts of =
-    by (known (knowing context.site facts) of) ∙ ap known_number (known_same context facts of)
+    by (known (knowing context.site facts) of) ∙ ap known_number (known_is (knowing context.site facts) of)
   where
     by : (found : Option Place)
         → elim found [

@@ -32,11 +32,12 @@ use Rattle.task_meaning.specs.Steps.{StepsStand, PartThere}
 use Rattle.task_meaning.specs.Tasks.{PartDoes, WordIsGiven}
 use Rattle.task_meaning.proofs.Addresses.{addition_goes}
 use Rattle.task_meaning.proofs.Rules.{GoesOn}
-use Rattle.task_meaning.proofs.KnownOperands.{known_is, known_same, known_small, word_fits}
+use Rattle.task_meaning.proofs.KnownOperands.{known_small, word_fits}
 use Rattle.task_meaning.proofs.Values.{KeepsThem, word_given, word_then}
 use Rattle.task_meaning.proofs.Pairs.{IsOperand, same_rest}
 use Rattle.task_meaning.proofs.PairedWords.{paired_does, sum_instructions, sum_makes}
 use Rattle.task_meaning.proofs.WordArithmetic.{has_word, word_is}
+use Rattle.task_meaning.proofs.SiteNodes.{known_is, known_means}
 
 -- what a node keeps is what the site says
 pub keeps_at_site : (context : Context) (of : ExpressionNumber) → keeps context.site of ≡ keeps_at (nodes_in context) of
@@ -118,7 +119,7 @@ added_does {context = context} {other = other} place number from s r memory soun
 is_known : (context : Context) (facts : Facts) (of : ExpressionNumber) (found : Option Place)
     → known (knowing context.site facts) of ≡ found
     → known_at (nodes_in context) of ≡ found
-is_known context facts of found same = sym (known_same context facts of) ∙ same
+is_known context facts of found same = sym (known_is (knowing context.site facts) of) ∙ same
 
 -- the second is known
 pub second_known :
@@ -135,7 +136,7 @@ second_known {context = context} {second = second} first facts place go s sound 
     same_rest (value context.later context.activation.around first s)
     (λ x t. then_do (value context.later context.activation.around second t) (λ y u. go x y u))
     (λ x t. go x (place_at context.activation.layout place) t)
-    (λ x t. ap (λ outcome. then_do outcome (λ y u. go x y u)) (known_is facts place sound two.is two.types here t))
+    (λ x t. ap (λ outcome. then_do outcome (λ y u. go x y u)) (known_means facts place sound two.is two.types here t))
 
 -- the first is known
 pub first_known :
@@ -150,7 +151,7 @@ pub first_known :
     (λ y u. go (place_at context.activation.layout place) y u)
 first_known {context = context} second facts place go s sound one here =
     ap (λ outcome. then_do outcome (λ x t. then_do (value context.later context.activation.around second t) (λ y u. go x y u)))
-    (known_is facts place sound one.is one.types here s)
+    (known_means facts place sound one.is one.types here s)
 
 keeps_right : (nodes : Rattle.treecode.specs.Nodes.Nodes) (left right : ExpressionNumber) (place : Place)
     → known_at nodes right ≡ Some place

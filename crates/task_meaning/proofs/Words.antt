@@ -55,7 +55,7 @@ use Rattle.task_meaning.specs.Tasks.{PartDoes, WordDoes, WordIsGiven}
 use Rattle.task_meaning.proofs.Addresses.{location_address_goes}
 use Rattle.task_meaning.proofs.BytesInMemory.{memory_same}
 use Rattle.task_meaning.proofs.Nodes.{NodeOf, node_of}
-use Rattle.task_meaning.proofs.KnownOperands.{bytes_differ, known_is, known_small, number_known, word_fits}
+use Rattle.task_meaning.proofs.KnownOperands.{bytes_differ, known_small, number_known, word_fits}
 use Rattle.task_meaning.proofs.Ranges.{wide}
 use Rattle.task_meaning.proofs.Values.{word_ends, word_given, word_then}
 use Rattle.task_meaning.proofs.Pairs.{IsOperand}
@@ -90,6 +90,7 @@ use Rattle.task_meaning.proofs.RightShifts.{right_does}
 use Rattle.task_meaning.proofs.SimpleLogic.{with_simple_does}
 use Rattle.task_meaning.proofs.WordBinaries.{number_below}
 use Rattle.task_meaning.proofs.WordValues.{call_carried, embedded_carried, location_carried, value_carried}
+use Rattle.task_meaning.proofs.SiteNodes.{known_means}
 
 without_rest :
     (context : Context) {from : State} {budget : ℕ} {Good : ℕ → SourceState → State → Type 0} (outcome : Outcome ℕ)
@@ -630,7 +631,7 @@ module _ (context : Context) (sound : IsSound context) (asked : BytesAsked conte
           let word_value : ℕ = place_at context.activation.layout place in
           subst (λ outcome. Does context.activation.around.program.script s.budget 0 (at_place from r memory s.events) outcome
           (Arrives context.activation top base to (WordIsGiven context last number (type_of tree) r memory)))
-          (sym (known_is facts place sound is types here s))
+          (sym (known_means facts place sound is types here s))
           (location_address_goes facts (Static place) r sound room (word_fits word_value (type_of tree) small) known_before given
           (record { ready = ready; known = known_before })
           (λ now beside going_on.

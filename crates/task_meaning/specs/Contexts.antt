@@ -7,8 +7,9 @@ use Rattle.mem80.specs.Memory.{byte_at}
 use Rattle.trees.specs.declared.declaration.ScalarType.{ScalarType}
 use Rattle.trees.specs.declared.declaration.ScalarType.TheVariants.{Byte, Address}
 use Rattle.typed_trees.specs.Sizes.{size_of_object}
-use Rattle.typed_trees.specs.TypedTrees.{BasedOn, InFrame, TypedModule, TypedObject, TypedProcedure}
+use Rattle.typed_trees.specs.TypedTrees.{InFrame, TypedModule, TypedObject, TypedProcedure}
 use Rattle.typed_trees.specs.WellTyped.{IsWellTyped, Within, WithinProcedure}
+use Rattle.sound_modules.specs.Sound.{BasesStandBefore}
 use Rattle.layout.specs.Storage.{Storage}
 use Rattle.ports.specs.Input.{IsScript}
 use Rattle.meaning.specs.Access.{Surroundings, is_declared}
@@ -158,12 +159,6 @@ FrameIsPlanned context =
     → (context.activation.distance object
     ≡ distances_in context (frame_number context.typed procedure object))
     × (context.activation.size object ≡ size_of_object found)
-
--- what an object is BASED on stands before it in the table
-abbrev pub BasesStandBefore : TypedModule → Type 0
-BasesStandBefore typed =
-    (object base : ℕ) (found : TypedObject)
-    → slice_get typed.objects object ≡ Some found → found.home ≡ BasedOn base → base < object
 
 -- What is true of where the code of a body stands.
 pub record IsSound (context : Context) : Type 0 where

@@ -1,75 +1,138 @@
 -- Sources that are compiled, one by one.
-use Rattle.std.proofs.Common.{◌≡◌, Err, Ok, ℕ, ◌+◌, ◌<◌, ◌≤◌, List, [], ◌∷◌, ◌++◌, length, drop, get_or, is_some, arith, sym, ap, ◌∙◌, subst, add-one, append-nil, append_assoc, ⊎_elim}
+use Rattle.std.proofs.Common.{◌≡◌, Err, Ok, ℕ, ◌+◌, ◌<◌, ◌≤◌, List, [], ◌∷◌, ◌++◌, length, drop, get_or, arith, refl, sym, ap, ◌∙◌, subst, add-one, append-nil, append_assoc, ⊎_elim}
 use Rattle.std.proofs.Math.ListN.{drop_of_length-le}
 use Rattle.std.proofs.Math.Seq.{drop-cons}
 use Rattle.std.proofs.lemmas.Bool.{cases_lt}
 use Rattle.std.proofs.lemmas.List.{get_or-map, length-map}
-use Rattle.typed_trees.specs.TypedTrees.{TypedModule}
-use Rattle.typed_trees.specs.Storable.{IsStorable}
-use Rattle.typed_trees.specs.Frames.{FramesFit}
-use Rattle.typed_trees.specs.Globals.{ListsGlobals}
-use Rattle.typed_trees.specs.Jumps.{JumpsAreSound}
-use Rattle.typed_trees.specs.WellTyped.{IsWellTyped}
-use Rattle.object_modules.specs.Module.{length_of}
-use Rattle.object_modules.specs.declared.segment.Segment.TheVariants as segments
-use Rattle.layout.specs.Storage.{Storage, storage_with}
-use Rattle.layout.specs.Views.{layout_view}
-use Rattle.plans.specs.declared.Plan.{Plan}
-use Rattle.source_meaning.specs.Outputs.{outputs_of}
-use Rattle.frontend.specs.Causes.{HasReadCause}
-use Rattle.frontend.specs.Reading.{IsSourceOf}
-use Rattle.tool.specs.declared.code.TheConstants.{MOST_CODE}
 use Rattle.std.specs.Prelude.{IsErrAnd, Result}
 use Rattle.failure.specs.Failure.{IfFault}
 use Rattle.failure.specs.declared.Failure.{Failure}
 use Rattle.failure.specs.declared.Failure.TheVariants.{Fault, Memory}
-use Rattle.tool.specs.declared.compiled.Compiled.{Compiled}
-use Rattle.tool.specs.declared.fault.ToolFault.{ToolFault}
-use Rattle.tool.specs.declared.fault.ToolFault.TheVariants.{TooManySources, Source, CodeTooLong, Code, ConstantsMissing, Program, Link, Locate}
+use Rattle.typed_trees.specs.TypedTrees.{TypedModule}
+use Rattle.object_modules.specs.Module.{IsObjectModule, ObjectModule}
+use Rattle.layout.specs.Storage.{Storage, storage_with}
+use Rattle.plans.specs.declared.Plan.{Plan}
+use Rattle.frontend.specs.Causes.{HasReadCause}
+use Rattle.frontend.specs.Reading.{IsSourceOf}
+use Rattle.treecode.specs.declared.module.TreeModule.{TreeModule}
+use Rattle.treecode.specs.Lowered.{IsLowered}
+use Rattle.treecode.specs.Nodes.{NumbersAreWords, nodes_of}
+use Rattle.home_words.specs.HomeWords.{HomesAreWords}
+use Rattle.codegen8080.specs.declared.fault.Fault as code_fault
+use Rattle.codegen8080.specs.Modules.{IsGenerated}
+use Rattle.codegen8080.specs.Refusals.{MayRefuse}
+use Rattle.module_segments.proofs.Slots.{stored}
+use Rattle.code_bounds.specs.Fits.{IsSound}
+use Rattle.code_bounds.proofs.Bounds.{code_is_within_its_bound}
+use Rattle.program_meaning.specs.Typed.{IsSoundlyMade}
+use Rattle.sound_modules.specs.Sound.{IsSoundlyTyped}
+use Rattle.source_facts.proofs.Sources.{source_is_soundly_typed}
 use Rattle.program_sources.specs.declared.sources.Source as declared_source
 use Rattle.program_sources.specs.Programs.{text_of, texts_of}
-use Rattle.tool.specs.Code.{module_code}
-use Rattle.tool.specs.Made.{IsMadeOf}
-use Rattle.tool.specs.Sources.{AreWithoutFault, HasCause, HasLongCode, IsInOrder, IsReadable, IsWithoutFault}
-use Rattle.tool.specs.internal.Compiling.{AreCompiled, HasCompileCause, HasGenerationCause, HasSourceCause, IsCompiled, module_in}
+use Rattle.tool.specs.declared.compiled.Compiled.{Compiled}
+use Rattle.tool.specs.declared.fault.ToolFault.{ToolFault}
+use Rattle.tool.specs.declared.fault.ToolFault.TheVariants.{TooManySources, Source, Code, Program, Link, Locate}
+use Rattle.tool.specs.Made.{IsCompiledTo, IsNotMade}
+use Rattle.tool.specs.Sources.{AreWithoutFault, HasCause, IsInOrder, HasNoObject, IsRefusedAlone, IsWithoutFault}
+use Rattle.tool.specs.internal.Compiling.{AreCompiled, HasCompileCause, HasGenerationCause, HasSource, HasSourceCause, IsCompiled, failure_of_code, module_in}
 
-pub is_compiled : (plan : Plan) (text : List ℕ) (one : Compiled) → IsSourceOf text (module_in one) → layout_view one.source.storage ≡ storage_with (module_in one) → IsStorable (module_in one) → JumpsAreSound (module_in one)
-    → IsWellTyped (module_in one) → ListsGlobals (module_in one) → FramesFit (module_in one)
-    → IsMadeOf (module_in one) one.object → (layout_view one.source.storage).constant_size ≤ length_of one.object segments.Code → one.is_served ≡ is_some (outputs_of (module_in one))
-    → one.code.items ≡ module_code plan (module_in one) → length one.code.items ≤ MOST_CODE → IsCompiled plan text one
-is_compiled plan text one source storage storable jumps types globals frames made holds served code fits = record {
-  source = source;
-  storage = storage;
-  storable = storable;
-  jumps = jumps;
-  types = (types, globals, frames);
-  made = made;
-  constants = subst (λ (s : Storage). s.constant_size ≤ length_of one.object segments.Code) storage holds;
-  served = served;
-  code = code;
-  fits = fits;
+pub has_source : (text : List ℕ) (typed : TypedModule) → IsSourceOf text typed → HasSource typed
+has_source text typed source = record { text = text; source = source }
+
+-- an object module that is generated from the tree code of a module that has a source is soundly made
+pub is_soundly_made :
+    (typed : TypedModule) (storage : Storage) (tree : TreeModule) (object : ObjectModule)
+    → HasSource typed
+    → storage ≡ storage_with typed
+    → IsLowered typed storage tree
+    → NumbersAreWords (nodes_of tree)
+    → HomesAreWords tree.homes.items
+    → IsGenerated tree object
+    → IsObjectModule object
+    → IsSoundlyMade typed object
+is_soundly_made typed storage tree object has is lowered words homes generated valid =
+    let sound : IsSoundlyTyped typed = source_is_soundly_typed has.text typed has.source in
+    record {
+      made = record {
+        storage = storage_with typed;
+        tree = tree;
+        laid = record {
+          storable = sound.storable;
+          globals = sound.globals;
+          stored = stored typed (storage_with typed) has.source.storage;
+        };
+        lowered = subst (λ (s : Storage). IsLowered typed s tree) is lowered;
+        generated = generated;
+        valid = valid;
+      };
+      facts = sound;
+      words = record { numbers = words; homes = homes };
+    }
+
+-- what the size of code depends on
+pub sound_for_bounds : (typed : TypedModule) → IsSoundlyTyped typed → IsSound typed
+sound_for_bounds typed sound = record {
+  types = sound.types;
+  jumps = sound.jumps;
+  frames = sound.frames;
+  parameters = sound.parameters;
+  storable = sound.storable;
 }
 
-pub has_long_code : (text : List ℕ) (plan : Plan) (typed : TypedModule) → IsSourceOf text typed → MOST_CODE < length (module_code plan typed) → HasLongCode text plan
-has_long_code text plan typed source long = record { typed = typed; source = source; long = long }
+-- no object module is made of a module whose tree code is refused
+pub not_made : (fault : code_fault.Fault) (typed : TypedModule) (storage : Storage) (tree : TreeModule)
+    → HasSource typed
+    → storage ≡ storage_with typed
+    → IsLowered typed storage tree
+    → MayRefuse tree fault
+    → IsNotMade fault typed
+not_made fault typed storage tree has is lowered refused =
+    let sound : IsSoundlyTyped typed = source_is_soundly_typed has.text typed has.source in
+    let whole : IsLowered typed (storage_with typed) tree = subst (λ (s : Storage). IsLowered typed s tree) is lowered in
+    record {
+      tree = tree;
+      lowered = whole;
+      refused = refused;
+      bound = λ start code written. code_is_within_its_bound typed (storage_with typed) tree start code (sound_for_bounds typed sound) whole written;
+    }
+
+-- so a failure of its code has its cause
+pub generation_refused : (file : ℕ) (typed : TypedModule) (storage : Storage) (tree : TreeModule) (failure : Failure code_fault.Fault)
+    → HasSource typed
+    → storage ≡ storage_with typed
+    → IsLowered typed storage tree
+    → IfFault {A = ObjectModule} (Err failure) (MayRefuse tree)
+    → IfFault {A = ObjectModule} (Err (failure_of_code file failure)) (HasGenerationCause file typed)
+generation_refused file typed storage tree (Fault fault) has is lowered refused = (refl, not_made fault typed storage tree has is lowered refused)
+generation_refused file typed storage tree Memory has is lowered refused = tt
+
+-- what one text is compiled to
+compiled_to : (text : List ℕ) (one : Compiled) → IsCompiled text one → IsCompiledTo text one.object
+compiled_to text one is = record { typed = module_in one; source = is.source; made = is.made }
+
+pub compiled_alone : (text : List ℕ) (one : Compiled) (object : ObjectModule) → object ≡ one.object → IsCompiled text one
+    → IsCompiledTo text object
+compiled_alone text one object same is = subst (IsCompiledTo text) (sym same) (compiled_to text one is)
 
 -- texts without a fault
-pub none_without_fault : (texts : List (List ℕ)) (plan : Plan) → AreWithoutFault 0 texts plan
-none_without_fault texts plan = record { each = λ file below. absurd (omega (arith, below)) }
+pub none_without_fault : (texts : List (List ℕ)) → AreWithoutFault 0 texts
+none_without_fault texts = record { each = λ file below. absurd (omega (arith, below)) }
 
-one_more : (texts : List (List ℕ)) (plan : Plan) (count : ℕ) → AreWithoutFault count texts plan → IsWithoutFault (text_of texts count) plan → (file : ℕ) → file < count + 1 → IsWithoutFault (text_of texts file) plan
-one_more texts plan count before last file below =
+one_more : (texts : List (List ℕ)) (count : ℕ) → AreWithoutFault count texts → IsWithoutFault (text_of texts count)
+    → (file : ℕ) → file < count + 1 → IsWithoutFault (text_of texts file)
+one_more texts count before last file below =
     ⊎_elim
     (λ (lt : file < count). before.each file lt)
-    (λ (le : count ≤ file). let same : count ≡ file = omega (arith, below, le) in subst (λ k. IsWithoutFault (text_of texts k) plan) same last)
+    (λ (le : count ≤ file). let same : count ≡ file = omega (arith, below, le) in subst (λ k. IsWithoutFault (text_of texts k)) same last)
     (cases_lt file count)
 
-without_fault : (text : List ℕ) (plan : Plan) (one : Compiled) → IsCompiled plan text one → IsWithoutFault text plan
-without_fault text plan one is = record { typed = module_in one; source = is.source; fits = subst (λ c. length c ≤ MOST_CODE) is.code is.fits }
+without_fault : (text : List ℕ) (one : Compiled) → IsCompiled text one → IsWithoutFault text
+without_fault text one is = record { object = one.object; compiled = compiled_to text one is }
 
-pub one_more_without_fault : (texts : List (List ℕ)) (plan : Plan) (count : ℕ) (text : List ℕ) (one : Compiled) → AreWithoutFault count texts plan → text ≡ text_of texts count → IsCompiled plan text one → AreWithoutFault (count + 1) texts plan
-one_more_without_fault texts plan count text one before at is =
-    record { each = one_more texts plan count before (subst (λ t. IsWithoutFault t plan) at (without_fault text plan one is)) }
+pub one_more_without_fault : (texts : List (List ℕ)) (count : ℕ) (text : List ℕ) (one : Compiled) → AreWithoutFault count texts
+    → text ≡ text_of texts count → IsCompiled text one → AreWithoutFault (count + 1) texts
+one_more_without_fault texts count text one before at is =
+    record { each = one_more texts count before (subst IsWithoutFault at (without_fault text one is)) }
 
 pub text_at : (sources : List declared_source.Source) (file : ℕ) (d : declared_source.Source) → file < length sources → (get_or sources file d).text.now ≡ text_of (texts_of sources) file
 text_at sources file d below = sym (get_or-map (λ (source : declared_source.Source). source.text.now) sources file d [] below)
@@ -81,90 +144,92 @@ pub past_texts : (sources : List declared_source.Source) (file : ℕ) → length
 past_texts sources file past = simp length-map past
 
 -- what is compiled of the texts that are left stands after what was compiled
-abbrev pub GoesOn : Plan → List (List ℕ) → (file : ℕ) → List Compiled → Type 0
-GoesOn plan texts file made = (rest : List Compiled) → AreCompiled plan (drop file texts) rest → AreCompiled plan texts (made ++ rest)
+abbrev pub GoesOn : List (List ℕ) → (file : ℕ) → List Compiled → Type 0
+GoesOn texts file made = (rest : List Compiled) → AreCompiled (drop file texts) rest → AreCompiled texts (made ++ rest)
 
-pub goes_on : (plan : Plan) (texts : List (List ℕ)) (file : ℕ) (text : List ℕ) (made : List Compiled) (one : Compiled) → GoesOn plan texts file made → file < length texts → text ≡ text_of texts file → IsCompiled plan text one
-    → GoesOn plan texts (file + 1) (made ++ one ∷ [])
-goes_on plan texts file text made one before below at is rest are =
+pub goes_on : (texts : List (List ℕ)) (file : ℕ) (text : List ℕ) (made : List Compiled) (one : Compiled) → GoesOn texts file made
+    → file < length texts → text ≡ text_of texts file → IsCompiled text one → GoesOn texts (file + 1) (made ++ one ∷ [])
+goes_on texts file text made one before below at is rest are =
     let split : drop file texts ≡ text_of texts file ∷ drop (file + 1) texts = drop-cons texts file [] below ∙ ap (λ n. text_of texts file ∷ drop n texts) (sym (add-one file)) in
-    let here : AreCompiled plan (text_of texts file ∷ drop (file + 1) texts) (one ∷ rest) = (subst (λ t. IsCompiled plan t one) at is, are) in
-    let all : AreCompiled plan texts (made ++ (one ∷ rest)) = before (one ∷ rest) (subst (λ ts. AreCompiled plan ts (one ∷ rest)) (sym split) here) in
-    subst (AreCompiled plan texts) (sym (append_assoc made (one ∷ []) rest)) all
+    let here : AreCompiled (text_of texts file ∷ drop (file + 1) texts) (one ∷ rest) = (subst (λ t. IsCompiled t one) at is, are) in
+    let all : AreCompiled texts (made ++ (one ∷ rest)) = before (one ∷ rest) (subst (λ ts. AreCompiled ts (one ∷ rest)) (sym split) here) in
+    subst (AreCompiled texts) (sym (append_assoc made (one ∷ []) rest)) all
 
-pub all_compiled : (plan : Plan) (texts : List (List ℕ)) (file : ℕ) (made : List Compiled) → GoesOn plan texts file made → length texts ≤ file → AreCompiled plan texts made
-all_compiled plan texts file made before past =
-    subst (AreCompiled plan texts) (append-nil made)
-    (before [] (subst (λ ts. AreCompiled plan ts []) (sym (drop_of_length-le texts past)) tt))
+pub all_compiled : (texts : List (List ℕ)) (file : ℕ) (made : List Compiled) → GoesOn texts file made → length texts ≤ file → AreCompiled texts made
+all_compiled texts file made before past =
+    subst (AreCompiled texts) (append-nil made)
+    (before [] (subst (λ ts. AreCompiled ts []) (sym (drop_of_length-le texts past)) tt))
 
 -- the causes of one source
-pub source_cause : (fault : ToolFault) (place : ℕ) (text : List ℕ) (plan : Plan) → HasSourceCause place text fault → HasCompileCause fault place text plan
-source_cause (Source file fault) place text plan cause = cause
-source_cause TooManySources place text plan cause = absurd cause
-source_cause (CodeTooLong file) place text plan cause = absurd cause
-source_cause (Code file fault) place text plan cause = absurd cause
-source_cause (ConstantsMissing file) place text plan cause = absurd cause
-source_cause (Program fault) place text plan cause = absurd cause
-source_cause (Link fault) place text plan cause = absurd cause
-source_cause (Locate fault) place text plan cause = absurd cause
+pub source_cause : (fault : ToolFault) (place : ℕ) (text : List ℕ) → HasSourceCause place text fault → HasCompileCause fault place text
+source_cause (Source file fault) place text cause = cause
+source_cause TooManySources place text cause = absurd cause
+source_cause (Code file fault) place text cause = absurd cause
+source_cause (Program fault) place text cause = absurd cause
+source_cause (Link fault) place text cause = absurd cause
+source_cause (Locate fault) place text cause = absurd cause
 
-pub readable : (text : List ℕ) (typed : TypedModule) → IsSourceOf text typed → IsReadable text
-readable text typed source = record { typed = typed; source = source }
+pub generation_cause : (fault : ToolFault) (place : ℕ) (text : List ℕ) (typed : TypedModule) → IsSourceOf text typed → HasGenerationCause place typed fault → HasCompileCause fault place text
+generation_cause (Code file fault) place text typed is cause = (cause.0, record { typed = typed; source = is; none = cause.1 })
+generation_cause (Source file fault) place text typed is cause = absurd cause
+generation_cause TooManySources place text typed is cause = absurd cause
+generation_cause (Program fault) place text typed is cause = absurd cause
+generation_cause (Link fault) place text typed is cause = absurd cause
+generation_cause (Locate fault) place text typed is cause = absurd cause
 
-pub generation_cause : (fault : ToolFault) (place : ℕ) (text : List ℕ) (plan : Plan) → IsReadable text → HasGenerationCause place fault → HasCompileCause fault place text plan
-generation_cause (Code file fault) place text plan is cause = (cause, is)
-generation_cause (ConstantsMissing file) place text plan is cause = (cause, is)
-generation_cause (Source file fault) place text plan is cause = absurd cause
-generation_cause TooManySources place text plan is cause = absurd cause
-generation_cause (CodeTooLong file) place text plan is cause = absurd cause
-generation_cause (Program fault) place text plan is cause = absurd cause
-generation_cause (Link fault) place text plan is cause = absurd cause
-generation_cause (Locate fault) place text plan is cause = absurd cause
+-- the fault of source 0 is that of a text alone
+pub cause_alone : (fault : ToolFault) (text : List ℕ) → HasCompileCause fault 0 text → IsRefusedAlone text fault
+cause_alone (Source file fault) text cause = cause
+cause_alone (Code file fault) text cause = cause
+cause_alone TooManySources text cause = absurd cause
+cause_alone (Program fault) text cause = absurd cause
+cause_alone (Link fault) text cause = absurd cause
+cause_alone (Locate fault) text cause = absurd cause
 
 -- the fault of a source alone is one of the sources
-pub cause_of_one : (fault : ToolFault) (file : ℕ) (texts : List (List ℕ)) (plan : Plan) → file < length texts → HasCompileCause fault file (text_of texts file) plan → HasCause fault texts plan
+pub cause_of_one : (fault : ToolFault) (file : ℕ) (texts : List (List ℕ)) (plan : Plan) → file < length texts → HasCompileCause fault file (text_of texts file) → HasCause fault texts plan
 cause_of_one TooManySources file texts plan below cause = absurd cause
 cause_of_one (Source place fault) file texts plan below cause =
     subst (λ k. (k < length texts) × HasReadCause fault (text_of texts k)) (sym cause.0) (below, cause.1)
-cause_of_one (CodeTooLong place) file texts plan below cause =
-    subst (λ k. (k < length texts) × HasLongCode (text_of texts k) plan) (sym cause.0) (below, cause.1)
 cause_of_one (Code place fault) file texts plan below cause =
-    subst (λ k. (k < length texts) × IsReadable (text_of texts k)) (sym cause.0) (below, cause.1)
-cause_of_one (ConstantsMissing place) file texts plan below cause =
-    subst (λ k. (k < length texts) × IsReadable (text_of texts k)) (sym cause.0) (below, cause.1)
+    subst (λ k. (k < length texts) × HasNoObject fault (text_of texts k)) (sym cause.0) (below, cause.1)
 cause_of_one (Program fault) file texts plan below cause = absurd cause
 cause_of_one (Link fault) file texts plan below cause = absurd cause
 cause_of_one (Locate fault) file texts plan below cause = absurd cause
 
 -- and those before it have none
-pub order_of_one : (fault : ToolFault) (file : ℕ) (text : List ℕ) (texts : List (List ℕ)) (plan : Plan) → HasCompileCause fault file text plan → AreWithoutFault file texts plan → IsInOrder fault texts plan
-order_of_one TooManySources file text texts plan cause before = absurd cause
-order_of_one (Source place fault) file text texts plan cause before = subst (λ k. AreWithoutFault k texts plan) (sym cause.0) before
-order_of_one (CodeTooLong place) file text texts plan cause before = subst (λ k. AreWithoutFault k texts plan) (sym cause.0) before
-order_of_one (Code place fault) file text texts plan cause before = subst (λ k. AreWithoutFault k texts plan) (sym cause.0) before
-order_of_one (ConstantsMissing place) file text texts plan cause before = subst (λ k. AreWithoutFault k texts plan) (sym cause.0) before
-order_of_one (Program fault) file text texts plan cause before = absurd cause
-order_of_one (Link fault) file text texts plan cause before = absurd cause
-order_of_one (Locate fault) file text texts plan cause before = absurd cause
+pub order_of_one : (fault : ToolFault) (file : ℕ) (text : List ℕ) (texts : List (List ℕ)) → HasCompileCause fault file text → AreWithoutFault file texts → IsInOrder fault texts
+order_of_one TooManySources file text texts cause before = absurd cause
+order_of_one (Source place fault) file text texts cause before = subst (λ k. AreWithoutFault k texts) (sym cause.0) before
+order_of_one (Code place fault) file text texts cause before = subst (λ k. AreWithoutFault k texts) (sym cause.0) before
+order_of_one (Program fault) file text texts cause before = absurd cause
+order_of_one (Link fault) file text texts cause before = absurd cause
+order_of_one (Locate fault) file text texts cause before = absurd cause
 
 -- a failure that is handed on
 pub passed : {A F : Type 0} (result : Result A F) (failure : F) → IsErrAnd result (λ given. given ≡ failure) → result ≡ Err failure
 passed (Ok value) failure is = absurd is
 passed (Err given) failure is = ap Err is
 
+-- what is said of the fault of a failure that is handed on
+pub handed_on : {B : Type 0} (P : ToolFault → Type 0) (failure : Failure ToolFault) (result : Result B (Failure ToolFault)) → result ≡ Err failure
+    → IfFault {A = Compiled} (Err failure) P → IfFault result P
+handed_on {B} P (Fault fault) result is given = subst (λ (r : Result B (Failure ToolFault)). IfFault r P) (sym is) given
+handed_on {B} P Memory result is given = subst (λ (r : Result B (Failure ToolFault)). IfFault r P) (sym is) tt
+
 -- the failure of one source is that of all
 pub cause_of_all : {A : Type 0} (texts : List (List ℕ)) (plan : Plan) (file : ℕ) (text : List ℕ) (result : Result A (Failure ToolFault)) (failure : Failure ToolFault) → result ≡ Err failure → file < length texts
-    → text ≡ text_of texts file → IfFault {A = Compiled} (Err failure) (λ fault. HasCompileCause fault file text plan) → IfFault result (λ fault. HasCause fault texts plan)
+    → text ≡ text_of texts file → IfFault {A = Compiled} (Err failure) (λ fault. HasCompileCause fault file text) → IfFault result (λ fault. HasCause fault texts plan)
 cause_of_all {A} texts plan file text result (Fault fault) is below at has =
     subst (λ (r : Result A (Failure ToolFault)). IfFault r (λ other. HasCause other texts plan)) (sym is)
-    (cause_of_one fault file texts plan below (subst (λ given. HasCompileCause fault file given plan) at has))
+    (cause_of_one fault file texts plan below (subst (λ given. HasCompileCause fault file given) at has))
 cause_of_all {A} texts plan file text result Memory is below at has =
     subst (λ (r : Result A (Failure ToolFault)). IfFault r (λ other. HasCause other texts plan)) (sym is) tt
 
 -- and in order where those before it have none
-pub order_of_all : {A : Type 0} (texts : List (List ℕ)) (plan : Plan) (file : ℕ) (text : List ℕ) (result : Result A (Failure ToolFault)) (failure : Failure ToolFault) → result ≡ Err failure
-    → IfFault {A = Compiled} (Err failure) (λ fault. HasCompileCause fault file text plan) → AreWithoutFault file texts plan → IfFault result (λ fault. IsInOrder fault texts plan)
-order_of_all {A} texts plan file text result (Fault fault) is has before =
-    subst (λ (r : Result A (Failure ToolFault)). IfFault r (λ other. IsInOrder other texts plan)) (sym is) (order_of_one fault file text texts plan has before)
-order_of_all {A} texts plan file text result Memory is has before =
-    subst (λ (r : Result A (Failure ToolFault)). IfFault r (λ other. IsInOrder other texts plan)) (sym is) tt
+pub order_of_all : {A : Type 0} (texts : List (List ℕ)) (file : ℕ) (text : List ℕ) (result : Result A (Failure ToolFault)) (failure : Failure ToolFault) → result ≡ Err failure
+    → IfFault {A = Compiled} (Err failure) (λ fault. HasCompileCause fault file text) → AreWithoutFault file texts → IfFault result (λ fault. IsInOrder fault texts)
+order_of_all {A} texts file text result (Fault fault) is has before =
+    subst (λ (r : Result A (Failure ToolFault)). IfFault r (λ other. IsInOrder other texts)) (sym is) (order_of_one fault file text texts has before)
+order_of_all {A} texts file text result Memory is has before =
+    subst (λ (r : Result A (Failure ToolFault)). IfFault r (λ other. IsInOrder other texts)) (sym is) tt

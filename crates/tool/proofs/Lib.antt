@@ -1,10 +1,6 @@
-pub mod CodeLemmas
-pub mod Standing
-pub mod ServedLemmas
-pub mod RunLemmas
-pub mod PlacedLemmas
-pub mod BuiltLemmas
+pub mod ImageBytes
+pub mod Headline
+pub mod LinkedLemmas
 pub mod ExecutionLemmas
-pub mod MadeLemmas
 pub mod CompiledLemmas
 pub mod SourcesLemmas

@@ -1,5 +1,5 @@
 -- What a contract sees of a built program, and what holds of it.
-use Rattle.std.specs.Prelude.{◌≡◌, ℕ, List, All, None, length, map}
+use Rattle.std.specs.Prelude.{◌≡◌, List, All, None, length}
 use Rattle.typed_trees.specs.Frames.{FramesFit}
 use Rattle.typed_trees.specs.Globals.{ListsGlobals}
 use Rattle.typed_trees.specs.Jumps.{JumpsAreSound}
@@ -15,13 +15,12 @@ use Rattle.placing.specs.declared.placement.ByteKind.{ByteKind}
 use Rattle.plans.specs.declared.Plan.{Plan}
 use Rattle.placing.specs.Tables.{IsTableOf}
 use Rattle.placing.specs.Views.{plan_view}
-use Rattle.object_modules.specs.Module.{ObjectModule, length_of}
-use Rattle.object_modules.specs.declared.segment.Segment.TheVariants.{Code}
+use Rattle.object_modules.specs.Module.{ObjectModule}
 use Rattle.locate.specs.Locating.{Absolute}
+use Rattle.program_meaning.specs.Typed.{AreSoundlyMade}
 use Rattle.program_sources.specs.Programs.{program_modules}
 use Rattle.tool.specs.Headline.{DoesWhatItSays}
-use Rattle.tool.specs.Made.{AreMadeOf, IsImageOfObjects}
-use Rattle.tool.specs.Sources.{IsServed}
+use Rattle.tool.specs.Made.{AreWithinBounds, IsImageOfObjects, code_lengths}
 
 -- the joined program, the plan, the placement with what each byte of memory is by its table, the object modules of
 -- the modules, and the image
@@ -33,30 +32,23 @@ pub record Construction : Type 0 where
   pub objects : List ObjectModule
   pub image : Absolute
 
--- how long the code segments of object modules are
-abbrev pub code_lengths : List ObjectModule → List ℕ
-code_lengths objects = map (λ (object : ObjectModule). length_of object Code) objects
-
 -- a module that is well typed, lists what it shares with other modules, and whose frames have the bytes of their variables
 abbrev pub IsTyped : TypedModule → Type 0
 IsTyped typed = IsWellTyped typed × ListsGlobals typed × FramesFit typed
 
--- where all modules are served, the image does what the program says, with the stack of the plan, and else it is the merge
--- of the object modules, placed by the plan; the modules make a program, which is well typed, whose jumps go to labels that
--- are known, whose storage fits, whose plan is not refused for the code segments of the object modules, of which there is
--- one made of each module, and which lies lawfully where the plan puts it; the table is of its bytes there
+-- the image does what the program says, with the stack of the plan; it is the merge of the object modules, placed by the
+-- plan; the modules make a program, which is well typed, whose jumps go to labels that are known, whose storage fits, whose
+-- plan is not refused for the code segments of the object modules, of which there is one made of each module, within
+-- its code bound, and which lies lawfully where the plan puts it; the table is of its bytes there
 pub record IsConstruction (built : Construction) : Type 0 where
-  pub headline :
-      All IsServed (program_modules built.program)
-      → DoesWhatItSays (program_modules built.program) built.placement built.plan.stack_size built.image
-  pub linked :
-      (All IsServed (program_modules built.program) → ⊥)
-      → IsImageOfObjects built.plan built.objects built.image
+  pub headline : DoesWhatItSays (program_modules built.program) built.placement built.plan.stack_size built.image
+  pub linked : IsImageOfObjects built.plan built.objects built.image
   pub joined : IsJoined (program_modules built.program)
   pub jumps : All JumpsAreSound (program_modules built.program)
   pub types : All IsTyped (program_modules built.program)
   pub storable : All IsStorable (program_modules built.program)
-  pub made : AreMadeOf (program_modules built.program) built.objects
+  pub made : AreSoundlyMade (program_modules built.program) built.objects
+  pub bounds : AreWithinBounds (program_modules built.program) built.objects
   pub objects : length built.objects ≡ length (program_modules built.program)
   pub may_lie :
       placing_refusal (plan_view built.plan) (program_modules built.program) (code_lengths built.objects) ≡ None

@@ -10,15 +10,13 @@ use Rattle.link_laws.specs.declared.fault.LinkFault.TheVariants as link_faults
 use Rattle.locate.specs.Locating as of_locating
 use Rattle.program_sources.specs.Faults as of_program
 use Rattle.tool.specs.declared.fault.ToolFault.{ToolFault}
-use Rattle.tool.specs.declared.fault.ToolFault.TheVariants.{TooManySources, Source, CodeTooLong, Code, ConstantsMissing, Program, Link, Locate}
+use Rattle.tool.specs.declared.fault.ToolFault.TheVariants.{TooManySources, Source, Code, Program, Link, Locate}
 
 -- its number
 abbrev pub number_of : ToolFault → List ℕ
 number_of TooManySources = codes "U1"
 number_of (Source file fault) = of_source.number_of fault
-number_of (CodeTooLong file) = codes "G1"
 number_of (Code file fault) = of_code.number_of fault
-number_of (ConstantsMissing file) = codes "G1"
 number_of (Program fault) = of_program.number_of fault
 number_of (Link fault) = link_number (of_linking.refusal_of fault)
 number_of (Locate fault) = placement_number (of_locating.refusal_of fault)
@@ -27,9 +25,7 @@ number_of (Locate fault) = placement_number (of_locating.refusal_of fault)
 abbrev pub file_of : ToolFault → Option ℕ
 file_of TooManySources = None
 file_of (Source file fault) = Some file
-file_of (CodeTooLong file) = Some file
 file_of (Code file fault) = Some file
-file_of (ConstantsMissing file) = Some file
 file_of (Program fault) = None
 file_of (Link fault) = None
 file_of (Locate fault) = None

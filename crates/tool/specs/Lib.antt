@@ -6,7 +6,6 @@ pub use Rattle.frontend.specs.Reading
 pub use Rattle.frontend.specs.Causes
 pub use Rattle.program_sources.specs.Programs
 pub use Rattle.printed_runs.specs.Printing
-pub mod Code
 pub mod Image
 pub mod Headline
 pub mod Made

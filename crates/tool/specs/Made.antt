@@ -1,31 +1,49 @@
--- What the object modules of a program are made of, and what an image is that LINK and LOCATE make of them.
-use Rattle.std.specs.Prelude.{◌≡◌, List, [], ◌∷◌, Ok}
+-- What a text is compiled to, and what an image is that LINK and LOCATE make of object modules.
+use Rattle.std.specs.Prelude.{◌≡◌, ℕ, ◌≤◌, List, [], ◌∷◌, map, Ok}
 use Rattle.typed_trees.specs.TypedTrees.{TypedModule}
-use Rattle.layout.specs.Storage.{storage_with}
-use Rattle.treecode.specs.declared.module.TreeModule.{TreeModule}
-use Rattle.treecode.specs.Lowered.{IsLowered}
-use Rattle.treecode.specs.Nodes.{NumbersAreWords, nodes_of}
-use Rattle.home_words.specs.HomeWords.{HomesAreWords}
-use Rattle.codegen8080.specs.Modules.{IsGenerated}
+use Rattle.typed_trees.specs.Weight.{code_bound}
+use Rattle.asm8080.specs.Items.{size_of_items}
+use Rattle.steps8080.specs.Writer.{Written}
+use Rattle.codegen8080.specs.Modules.{IsCodeWritten}
+use Rattle.frontend.specs.Reading.{IsSourceOf}
 use Rattle.object_modules.specs.Merge.{merge_of}
-use Rattle.object_modules.specs.Module.{ObjectModule}
+use Rattle.object_modules.specs.Module.{ObjectModule, length_of}
+use Rattle.object_modules.specs.declared.segment.Segment.TheVariants.{Code}
 use Rattle.locate.specs.Locating.{Absolute, IsPlaced, plan_view}
 use Rattle.plans.specs.declared.Plan.{Plan}
+use Rattle.program_meaning.specs.Typed.{IsSoundlyMade}
+use Rattle.treecode.specs.declared.module.TreeModule.{TreeModule}
+use Rattle.treecode.specs.Lowered.{IsLowered}
+use Rattle.layout.specs.Storage.{storage_with}
+use Rattle.codegen8080.specs.declared.fault.Fault as code_fault
+use Rattle.codegen8080.specs.Refusals.{MayRefuse}
 
--- an object module is made of a module: it is generated from the tree code of the module, whose numbers are words, as
--- are those where its objects begin
-pub record IsMadeOf (typed : TypedModule) (object : ObjectModule) : Type 0 where
+-- a text is compiled to an object module: this is made of the module that the text is the source of
+pub record IsCompiledTo (text : List ℕ) (object : ObjectModule) : Type 0 where
+  pub typed : TypedModule
+  pub source : IsSourceOf text typed
+  pub made : IsSoundlyMade typed object
+
+-- no object module is made of a module: its code or its data are no segment, for this fault; its code is within its bound
+pub record IsNotMade (fault : code_fault.Fault) (typed : TypedModule) : Type 0 where
   pub tree : TreeModule
   pub lowered : IsLowered typed (storage_with typed) tree
-  pub words : NumbersAreWords (nodes_of tree)
-  pub homes : HomesAreWords tree.homes.items
-  pub generated : IsGenerated tree object
+  pub refused : MayRefuse tree fault
+  pub bound :
+      (start : ℕ) (code : Written)
+      → IsCodeWritten tree start code
+      → size_of_items code.code.items ≤ code_bound typed
 
--- object modules are made of modules, one by one
-abbrev pub AreMadeOf : List TypedModule → List ObjectModule → Type 0
-AreMadeOf [] [] = Unit {0}
-AreMadeOf (typed ∷ modules) (object ∷ objects) = IsMadeOf typed object × AreMadeOf modules objects
-AreMadeOf modules objects = ⊥
+-- how long the code segments of object modules are
+abbrev pub code_lengths : List ObjectModule → List ℕ
+code_lengths objects = map (λ (object : ObjectModule). length_of object Code) objects
+
+-- the code segments of object modules are within the code bounds of their modules, one by one
+abbrev pub AreWithinBounds : List TypedModule → List ObjectModule → Type 0
+AreWithinBounds [] [] = Unit {0}
+AreWithinBounds (typed ∷ modules) (object ∷ objects) =
+    (length_of object Code ≤ code_bound typed) × AreWithinBounds modules objects
+AreWithinBounds modules objects = ⊥
 
 -- an image is the merge of object modules, placed by a plan
 pub record IsImageOfObjects (plan : Plan) (objects : List ObjectModule) (image : Absolute) : Type 0 where

@@ -4,16 +4,14 @@ use Rattle.failure.specs.declared.Failure.{Failure}
 use Rattle.failure.specs.declared.Failure.TheVariants.{Fault, Memory}
 use Rattle.frontend.specs.declared.read.ReadFault.TheVariants.{TooLong}
 use Rattle.tool.specs.declared.fault.ToolFault.{ToolFault}
-use Rattle.tool.specs.declared.fault.ToolFault.TheVariants.{TooManySources, Source, CodeTooLong, Code, ConstantsMissing, Program, Link, Locate}
+use Rattle.tool.specs.declared.fault.ToolFault.TheVariants.{TooManySources, Source, Code, Program, Link, Locate}
 use Rattle.tool.specs.Construction.{Construction}
 
 -- a fault is that this source is too long, that a source before it has a fault, or that there are too many
 abbrev pub IsRefusal : ℕ → ToolFault → Type 0
 IsRefusal file TooManySources = Unit {0}
 IsRefusal file (Source other fault) = (other < file) ⊎ ((other ≡ file) × (fault ≡ TooLong))
-IsRefusal file (CodeTooLong other) = other < file
 IsRefusal file (Code other fault) = other < file
-IsRefusal file (ConstantsMissing other) = other < file
 IsRefusal file (Program fault) = ⊥
 IsRefusal file (Link fault) = ⊥
 IsRefusal file (Locate fault) = ⊥

@@ -1,15 +1,13 @@
 //! Runs of built programs.
 
-ghost use Rattle.std.specs.Prelude.{◌≡◌, All, IfOk, OnErr};
+ghost use Rattle.std.specs.Prelude.{◌≡◌, IfOk, OnErr};
 ghost use Rattle.meaning.specs.Run.{NeverOutside};
 ghost use Rattle.cpu8080.specs.Runs.{IsRun};
 ghost use Rattle.printed_runs.specs.Printing.{BeginsRun, PrintsRun};
-ghost use Rattle.program_sources.specs.Programs.{program_modules};
+ghost use Rattle.program_meaning.specs.Agreement.{Agrees};
 ghost use Rattle.tool.specs.Execution.{IsFaithful, source_of, started};
-ghost use Rattle.tool.specs.Headline.{Agrees};
 ghost use Rattle.tool.specs.Image.{machine_run};
 ghost use Rattle.tool.specs.Printed.{PrintsEnded};
-ghost use Rattle.tool.specs.Sources.{IsServed};
 
 use crate::built::Built;
 use cpu8080::{End, Machine};
@@ -25,7 +23,7 @@ pub(crate) fn machine_of<P: Ports>(built: &Built, memory: Memory, ports: P) -> M
     ensures started { result ≡
         started built.now.image memory (P.script ports) (P.events ports) (P.failures ports) }
     ensures agrees { let source = source_of built.now memory (P.script ports) (P.events ports) in
-        All IsServed (program_modules built.now.program) → NeverOutside source
+        NeverOutside source
         → Agrees source (machine_run built.now.image memory (P.script ports) (P.events ports)) }
 {
     let image = built.image();
@@ -39,16 +37,15 @@ pub(crate) fn machine_of<P: Ports>(built: &Built, memory: Memory, ports: P) -> M
 }
 
 /// Loads the image of a program into a memory, and runs it on an 8080 with these ports for at most so many steps. Where
-/// all modules are outputs of numbers and the program never goes outside, the events are a beginning of those of its
-/// source, and a machine that halted has them all.
+/// the program never goes outside, the events are a beginning of those of its source, and a machine that halted has them
+/// all.
 pub fn execute<P: Ports>(built: &Built, memory: Memory, ports: P, limit: u64) -> (End, Machine<P>)
     ensures run { IsRun limit
         (started built.now.image memory (P.script ports) (P.events ports) (P.failures ports))
         result.0 result.1 }
     ensures script { result.1.script ≡ P.script ports }
     ensures faithful { let source = source_of built.now memory (P.script ports) (P.events ports) in
-        All IsServed (program_modules built.now.program)
-        → NeverOutside source → IsFaithful source result.0 result.1 }
+        NeverOutside source → IsFaithful source result.0 result.1 }
 {
     let mut machine = machine_of(built, memory, ports);
     let end = machine.run(limit);
@@ -57,8 +54,8 @@ pub fn execute<P: Ports>(built: &Built, memory: Memory, ports: P, limit: u64) ->
 
 /// Loads the image of a program into a memory, and runs it on an 8080 with this script for at most so many steps. It
 /// writes a line for each event, those of some steps at a time while it runs, and then the word that the run ends with.
-/// After a failure the writer has a beginning of that text. Where all modules are outputs of numbers and the program never
-/// goes outside, what is written of a machine that halted is just what a source that ended does.
+/// After a failure the writer has a beginning of that text. Where the program never goes outside, what is
+/// written of a machine that halted is just what a source that ended does.
 pub fn print_run<W: Write>(
     built: &Built,
     memory: Memory,
@@ -73,7 +70,7 @@ pub fn print_run<W: Write>(
         (started built.now.image memory script.script script.events script.failures)
         (W.contents out.old) (W.contents out.new)) }
     ensures faithful { let source = source_of built.now memory script.script script.events in
-        All IsServed (program_modules built.now.program) → NeverOutside source
+        NeverOutside source
         → IfOk result (λ end. end ≡ End.Halted
         → PrintsEnded source (W.contents out.old) (W.contents out.new)) }
 {

@@ -1,6 +1,5 @@
 //! Why sources are refused.
 
-use crate::code::MOST_CODE;
 use frontend::ReadFault;
 use link_laws::LinkFault;
 use locate::LocateFault;
@@ -20,30 +19,19 @@ pub enum ToolFault {
         file: usize,
         fault: ReadFault,
     },
-    /// The code of a source whose statements are outputs of numbers is too long.
-    #[error("source {file}: code of more than {most} bytes", most = MOST_CODE)]
-    CodeTooLong {
-        file: usize,
-    },
     /// There is no object module of a source.
     #[error("source {file}: {fault}")]
     Code {
         file: usize,
         fault: codegen8080::Fault,
     },
-    /// The code segment of an object module is shorter than the constants of its source. No source is known for which that
-    /// comes.
-    #[error("source {file}: a code segment that is shorter than its constants")]
-    ConstantsMissing {
-        file: usize,
-    },
     /// The modules make no program, or it can't lie as planned.
     #[error("{0}")]
     Program(ProgramFault),
-    /// The object modules of a program that can lie as planned can't be merged. No source is known for which that comes.
+    /// The object modules of a program that can lie as planned can't be merged. That never comes: `build` says so.
     #[error("{0}")]
     Link(LinkFault),
-    /// Their merge can't be placed. No source is known for which that comes.
+    /// Their merge can't be placed. That never comes: `build` says so.
     #[error("{0}")]
     Locate(LocateFault),
 }
@@ -59,7 +47,6 @@ impl ToolFault {
         match self {
             ToolFault::TooManySources => "U1",
             ToolFault::Source { fault, .. } => fault.number(),
-            ToolFault::CodeTooLong { .. } | ToolFault::ConstantsMissing { .. } => "G1",
             ToolFault::Code { fault, .. } => fault.number(),
             ToolFault::Program(fault) => fault.number(),
             ToolFault::Link(fault) => fault.number(),
@@ -72,10 +59,7 @@ impl ToolFault {
         ensures { result ≡ file_of self.now }
     {
         match self {
-            ToolFault::Source { file, .. }
-            | ToolFault::CodeTooLong { file }
-            | ToolFault::Code { file, .. }
-            | ToolFault::ConstantsMissing { file } => Some(*file),
+            ToolFault::Source { file, .. } | ToolFault::Code { file, .. } => Some(*file),
             _ => None,
         }
     }

@@ -2,7 +2,6 @@
 #![tactic(auto)]
 
 mod built;
-mod code;
 mod compiled;
 mod execution;
 mod fault;

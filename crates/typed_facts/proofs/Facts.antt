@@ -14,7 +14,8 @@ use Rattle.typing.proofs.JumpsLaw.{jumps_are_sound}
 use Rattle.typing.proofs.StorableStatements.{is_storable}
 use Rattle.typing.proofs.TypesOfStatements.{is_well_typed, globals_are_listed, frames_are_summed}
 use Rattle.typed_parameters.proofs.Walks.{parameters_fit}
-use Rattle.typed_facts.specs.Facts.{AddsWord, AtAddsWord, BasesStandBefore, FramesAreReentrant, IsSoundlyTyped, ModuleIsFormed}
+use Rattle.sound_modules.specs.Sound.{AddsWord, AtAddsWord, BasesStandBefore, FramesAreReentrant, IsSoundlyTyped}
+use Rattle.typed_facts.specs.Facts.{ModuleIsFormed}
 use Rattle.typed_facts.proofs.Items.{HomeStands}
 use Rattle.typed_facts.proofs.Walks.{ObjectsStand, StandsAt, declarations_go, flags_of, list_goes, stands_after, statements_go}
 

@@ -6,7 +6,8 @@ use Rattle.grammar.specs.Derivation.{Derives, DerivesModule, whole_module, Deriv
 use Rattle.grammar.specs.Symbols.{Symbol}
 use Rattle.typed_trees.specs.TypedTrees.{TypedModule}
 use Rattle.typing.specs.Typing.{typing_of}
-use Rattle.typed_facts.specs.Facts.{AreFormed, IsFormed, IsSoundlyTyped, KindIsFormed, ModuleIsFormed, StatementIsFormed, StatementsAreFormed}
+use Rattle.sound_modules.specs.Sound.{IsSoundlyTyped}
+use Rattle.typed_facts.specs.Facts.{AreFormed, IsFormed, KindIsFormed, ModuleIsFormed, StatementIsFormed, StatementsAreFormed}
 use Rattle.typed_facts.proofs.Facts.{is_soundly_typed}
 
 mutual

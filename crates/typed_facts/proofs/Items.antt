@@ -33,7 +33,7 @@ use Rattle.typing.specs.Blocks.{Owner, TheModule, OfProcedure, Block, is_externa
 use Rattle.typing.specs.Filling.{Reach, ThisModule, OtherModulesToo, static_object, RestrictedValue, ANumber, FromObject, restricted_value, address_of, at_address, Filled, fill_scalar, fill_characters, fill_string, line_of_origin, fill_value, fill, Extents, NoArray, Elements, AsListed, Contents, enough_elements, elements_for, contents}
 use Rattle.typing.specs.Items.{TypedItem, base_of, is_base, is_group, line_of_item, names_parameter, object_bound, typed_base, extents_of, member_dimension, typed_members, typed_type, check_linkage, is_plain, typed_at, place_of_storage, typed_contents, is_data, home_in, home_with_values, home_of, typed_item, size_of_item}
 use Rattle.typing.proofs.Kept.{Gives, gives_ok, gives_fault, gives_after, in_turn, required, is_found}
-use Rattle.typed_facts.specs.Facts.{AddsWord}
+use Rattle.sound_modules.specs.Sound.{AddsWord}
 
 -- Where the object of a number lives: based on one before it, or in the frame of a procedure that is REENTRANT. What is
 -- added to where another lies is a word. The flags are those of the procedures so far.

@@ -18,7 +18,7 @@ use Rattle.codegen8080.specs.Procedures.{entry_steps}
 -- code of the beginning of a procedure, with labels from any number on
 abbrev pub AddsEntry : Body → (before after : Generator) → Type 0
 AddsEntry body before after =
-    AddsCode
+    AddsCode body.tree.now
     (λ called list.
     (first : ℕ)
     × AreCarriedOut body called (here_of before) None (entry_steps body first) list (here_of after))
@@ -27,37 +27,37 @@ AddsEntry body before after =
 -- and of its end, where that is reached
 abbrev pub AddsEnd : Body → (before after : Generator) → Type 0
 AddsEnd body before after =
-    AddsCode
+    AddsCode body.tree.now
     (λ called list. IsEndCode body called (here_of before) body.procedure.now.reaches_its_end list) before after
 
 -- of a whole procedure, which is not EXTERNAL, or of any
 abbrev pub AddsOwn : TreeModule → (number : ℕ) → TreeProcedure → (before after : Generator) → Type 0
 AddsOwn tree number procedure before after =
-    AddsCode (λ called list. IsProcedureCode tree called number procedure list) before after
+    AddsCode tree (λ called list. IsProcedureCode tree called number procedure list) before after
 
 abbrev pub AddsProcedure : TreeModule → (number : ℕ) → TreeProcedure → (before after : Generator) → Type 0
 AddsProcedure tree number procedure before after =
-    AddsCode (λ called list. IsCodeOf tree called number procedure procedure.kind list) before after
+    AddsCode tree (λ called list. IsCodeOf tree called number procedure procedure.kind list) before after
 
 -- of procedures one after another
 abbrev pub AddsProcedures : TreeModule → (number : ℕ) → List TreeProcedure → (before after : Generator) → Type 0
 AddsProcedures tree number procedures before after =
-    AddsCode (λ called list. AreCodeOf tree called number procedures list) before after
+    AddsCode tree (λ called list. AreCodeOf tree called number procedures list) before after
 
 -- and of a main program
 abbrev pub AddsMain : TreeModule → (start : ℕ) → (before after : Generator) → Type 0
 AddsMain tree start before after =
-    AddsCode (λ called list. IsMainCode tree called start list) before after
+    AddsCode tree (λ called list. IsMainCode tree called start list) before after
 
 -- where there is one
 abbrev pub AddsCodeOfMain : TreeModule → (start : ℕ) → (before after : Generator) → Type 0
 AddsCodeOfMain tree start before after =
-    AddsCode (λ called list. IsCodeOfMain tree called start (has_main tree) list) before after
+    AddsCode tree (λ called list. IsCodeOfMain tree called start (has_main tree) list) before after
 
 -- of all of a module but the routines
 abbrev pub AddsOwnCode : TreeModule → (start : ℕ) → (before after : Generator) → Type 0
 AddsOwnCode tree start before after =
-    AddsCode (λ called list. IsOwnCode tree called start list) before after
+    AddsCode tree (λ called list. IsOwnCode tree called start list) before after
 
 -- a routine is added where the table says so
 abbrev pub AddsRoutineIf :
@@ -79,6 +79,7 @@ pub record AddsRoutines
   pub are : AreRoutines tree called after routines list
   pub labels : Extends before.labels after.labels
   pub externals : Extends before.externals after.externals
+  pub no_names : Extends after.externals before.externals
 
 -- the routines in three parts
 abbrev pub first_routines : List Routine

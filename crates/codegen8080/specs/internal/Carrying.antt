@@ -3,7 +3,7 @@ use Rattle.std.specs.Prelude.{◌≡◌, Bool, List, ◌∷◌, ◌++◌, Option
 use Rattle.asm8080.specs.declared.item.Item.{Item}
 use Rattle.steps8080.specs.declared.facts.Facts.{Facts}
 use Rattle.steps8080.specs.Writer.{Writes}
-use Rattle.exprgen8080.specs.Emitted.{HasAll}
+use Rattle.exprgen8080.specs.Emitted.{HasAll, NotesCalled}
 use Rattle.statements8080.specs.declared.body.Body.{Body}
 use Rattle.statements8080.specs.declared.plan.Planned.{Planned}
 use Rattle.codegen8080.specs.declared.generator.Generator.{Generator}
@@ -23,4 +23,5 @@ pub record CarriesOut
       → AreCarriedOut body called (here_of after) waits others more last
       → AreCarriedOut body called (here_of before) waiting (step ∷ others) (list ++ more) last
   pub called : HasAll before.emission.is_called.items after.emission.is_called.items
+  pub notes : NotesCalled body.tree.now before.emission.is_called.items after.emission.is_called.items list
   pub plan : after.plan.list.items ≡ before.plan.list.items

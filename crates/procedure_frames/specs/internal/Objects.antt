@@ -1,6 +1,6 @@
 -- What a procedure of a typed module takes of the stack, and where the objects in its frame lie there, in the
 -- words of the typed module. Distances are bytes upwards from the stack pointer, where nothing is pushed.
-use Rattle.std.specs.Prelude.{◌≡◌, ℕ, ◌+◌, ◌*◌, ◌<◌, ◌≤◌, All, length, min, IsSomeAnd, slice_get}
+use Rattle.std.specs.Prelude.{◌≡◌, ℕ, ◌+◌, ◌*◌, ◌<◌, ◌≤◌, length, min, IsSomeAnd, slice_get}
 use Rattle.mem80.specs.declared.memory.TheConstants.{MEMORY_SIZE}
 use Rattle.mem80.specs.Range.{IsIn}
 use Rattle.typed_trees.specs.Charge.{charge_of}
@@ -11,10 +11,6 @@ use Rattle.treecode.specs.Homes.{frame_number}
 use Rattle.frames.specs.declared.frame_plan.FramePlan.{FramePlan}
 use Rattle.frames.specs.Charges.{charge_in, IsChargedAs}
 use Rattle.frames.specs.Frames.{distance_of, return_of, HasFrame, IsPlanOf}
-
--- each object of a module takes a byte or more
-abbrev pub TakeBytes : TypedModule → Type 0
-TakeBytes typed = All (λ (object : TypedObject). 0 < size_of_object object) typed.objects
 
 -- an object in the frame of a procedure has a byte of this number
 abbrev pub HasByte : TypedModule → (procedure object offset : ℕ) → Type 0

@@ -1,11 +1,14 @@
-use Rattle.std.proofs.Common.{ap, subst, ◌∙◌}
+use Rattle.std.proofs.Common.{ap, rules, subst, ◌∙◌}
 use Rattle.steps8080.specs.Externals.{Extends}
+use Rattle.steps8080.specs.Writer.{NumbersNames}
+use Rattle.codegen8080.specs.Modules.{contents_items}
 use Rattle.codegen8080.specs.internal.Listing.{AreListed}
 use Rattle.codegen8080.proofs.ObjectParts.{generated, made_of_same}
+use Rattle.codegen8080.proofs.Refused.{code_refused, data_refused}
 use Rattle.codegen8080.proofs.module.generate.Goals as goal
 
-pub returns : goal.returns
-returns c =
+pub returns-clause-made : goal.returns-clause-made
+returns-clause-made c =
     generated c.args.tree.now c.in_ok-writer.field-0.start.index c.in_ok-writer.field-0.writer
     c.in_ok-variables_of.field-0
     c.in_ok-code.code.bytes c.in_ok-variables.variables.bytes c.in_ok-code.code.labels.items
@@ -16,6 +19,10 @@ returns c =
     c.in_ok-variables_of.ensures.items
     (subst (λ table. Extends table c.in_ok-variables_of.field-0.externals) c.in_ok-code.ensures.externals
     c.in_ok-variables_of.ensures.externals)
+    (subst
+    (λ table. NumbersNames table c.in_ok-variables_of.field-0.externals
+    (contents_items c.args.tree.now.variables.items))
+    c.in_ok-code.ensures.externals c.in_ok-variables_of.ensures.names)
     c.in_ok-variables.ensures.finishes
     (subst
     (λ table. AreListed c.args.tree.now.externals.items table c.in_ok-listed.listed.numbers.items
@@ -30,3 +37,19 @@ returns c =
     c.into_bytes.ensures c.into_bytes-2.ensures c.into_parts-names.ensures.names
     (c.as_slice.ensures.value ∙ ap (λ table. table.items) c.into_parts-names.ensures.numbers)
     c.in_ok-object.ensures)
+
+pub returns-in_err-code-clause-refused : goal.returns-in_err-code-clause-refused
+returns-in_err-code-clause-refused c =
+    code_refused c.args.tree.now c.in_ok-writer.field-0.start.index c.in_ok-writer.field-0.writer _ _ c.finish.result
+    c.from_residual-in_err-code.result c.in_err-code.field-0.0 (search rules) (search rules) c.in_ok-writer.ensures
+    c.finish.ensures.refused
+
+pub returns-in_err-variables-clause-refused : goal.returns-in_err-variables-clause-refused
+returns-in_err-variables-clause-refused c =
+    data_refused c.args.tree.now c.in_ok-writer.field-0.start.index c.in_ok-writer.field-0.writer
+    c.in_ok-variables_of.field-0 _ _ c.finish-2.result c.from_residual-in_err-variables.result
+    c.in_err-variables.field-0.0 (search rules) (search rules) c.in_ok-writer.ensures
+    c.in_ok-variables_of.ensures.items
+    (subst (λ table. Extends table c.in_ok-variables_of.field-0.externals) c.in_ok-code.ensures.externals
+    c.in_ok-variables_of.ensures.externals)
+    c.finish-2.ensures.refused

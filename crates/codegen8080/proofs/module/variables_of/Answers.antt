@@ -1,9 +1,17 @@
-use Rattle.std.proofs.Common.{ap, ◌∙◌}
+use Rattle.std.proofs.Common.{ap, subst, ◌∙◌}
 use Rattle.steps8080.specs.Externals.{entry}
-use Rattle.steps8080.specs.Writer.{Written}
+use Rattle.steps8080.specs.Writer.{NumbersNames, Written}
+use Rattle.codegen8080.specs.Modules.{contents_items}
 use Rattle.codegen8080.proofs.module.variables_of.Goals as goal
 
 pub returns-clause-externals : goal.returns-clause-externals
 returns-clause-externals c = λ number found given.
     c.in_ok-put_contents.ensures.externals number found
     (ap (λ (written : Written). entry written.externals number) c.sharing-writer.ensures ∙ given)
+
+pub returns-clause-names : goal.returns-clause-names
+returns-clause-names c =
+    subst (λ contents. NumbersNames c.args.externals c.put_contents.new.writer.externals (contents_items contents))
+    c.as_slice.ensures.value
+    (subst (λ (written : Written). NumbersNames written.externals c.put_contents.new.writer.externals
+    (contents_items c.as_slice.result.now)) c.sharing-writer.ensures c.in_ok-put_contents.ensures.names)

@@ -1,4 +1,4 @@
-use Rattle.std.proofs.Common.{◌≡◌, flat_map, map}
+use Rattle.std.proofs.Common.{◌≡◌, map}
 use Rattle.object_modules.specs.Module.{length_of}
 use Rattle.object_modules.specs.declared.segment.Segment.TheVariants as segments
 use Rattle.tool.specs.declared.compiled.Compiled.{Compiled}
@@ -11,5 +11,4 @@ invariant-loop-one l = record {
   storages : l.parts.storages.items ≡ map (λ (one : Compiled). one.source.storage) l.yielded;
   objects : l.parts.objects.items ≡ map (λ (one : Compiled). one.object) l.yielded;
   lengths : l.parts.lengths.items ≡ map (λ (one : Compiled). length_of one.object segments.Code) l.yielded;
-  code : l.parts.code.items ≡ flat_map (λ (one : Compiled). one.code.items) l.yielded;
 }

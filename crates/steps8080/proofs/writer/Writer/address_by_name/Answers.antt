@@ -3,7 +3,7 @@ use Rattle.std.specs.Prelude.{ℕ, option_map}
 use Rattle.asm8080.specs.declared.item.Item.TheVariants.{Address}
 use Rattle.asm8080.specs.declared.item.Reference.TheVariants.{AtTarget}
 use Rattle.object_modules.specs.declared.segment.Target.TheVariants.{External}
-use Rattle.steps8080.proofs.Numbered.{writes_named}
+use Rattle.steps8080.proofs.Numbered.{is_itself, writes_named}
 use Rattle.steps8080.proofs.writer.Writer.address_by_name.Goals as goal
 
 pub returns : goal.returns
@@ -11,7 +11,8 @@ returns c =
     writes_named _ _ _
     (Address (AtTarget (External c.args.name) c.args.offset))
     (Address (AtTarget (External c.in_ok-number.number) c.args.offset))
-    c.self.view_is c.in_ok-emit_address.ensures.ok refl c.number.ensures.kept
+    c.args.name c.self.view_is c.in_ok-emit_address.ensures.ok refl c.number.ensures.kept c.number.ensures.only
+    (is_itself c.args.name)
     (ap
     (λ found. option_map Address
     (option_map (λ (number : ℕ). AtTarget (External number) c.args.offset) found))

@@ -1,0 +1,3 @@
+pub use Rattle.tool.specs.Headline
+pub use Rattle.stack_need.specs.StackNeed
+pub mod NeededRoom

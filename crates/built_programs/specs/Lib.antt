@@ -1,1 +1,0 @@
-pub use Rattle.tool.specs.Headline

@@ -1,0 +1,199 @@
+-- The constants of a module take as many bytes as its objects with DATA and its constant lists.
+use Rattle.std.proofs.Common.{◌≡◌, ℕ, zero, suc, ◌+◌, ◌-◌, ◌≤◌, ◌==◌, Bool, true, false, ◌&&◌, min, if◌then◌else◌, nat_le, nat_lt, List, [], ◌∷◌, ◌++◌, length, map, slice_get, sum_by, Option, Some, None, refl, subst, arith}
+use Rattle.std.specs.Prelude.{All}
+use Rattle.std.specs.Option.{option_map_or}
+use Rattle.std.proofs.lemmas.Bool.{eqb-true}
+use Rattle.std.proofs.lemmas.List.Sums.{sum_by-cons}
+use Rattle.typed_trees.specs.declared.parts.ConstantItem.{ConstantItem}
+use Rattle.typed_trees.specs.declared.parts.ConstantItem.TheVariants.{ConstantObject, ConstantList}
+use Rattle.typed_trees.specs.declared.parts.InitialValue.{InitialValue}
+use Rattle.typed_trees.specs.declared.parts.InitialValue.TheVariants.{ByteValue, WordValue, LocationValue}
+use Rattle.typed_trees.specs.Sizes.{size_of_object}
+use Rattle.typed_trees.specs.Storable.{IsStorable, bytes_filled, size_of_value}
+use Rattle.typed_trees.specs.TypedTrees.{Home as TypedHome, InData, InConstants, Placed, BasedOn, Elsewhere, Nowhere, InFrame, TypedObject, TypedModule}
+use Rattle.typed_trees.specs.Weight.{constant_bytes, size_of_constant}
+use Rattle.asm8080.specs.Items.{size_of_items}
+use Rattle.treecode.specs.declared.module.Content.{Content}
+use Rattle.treecode.specs.declared.module.Content.TheVariants.{Byte, Word, Gap}
+use Rattle.treecode.specs.declared.place.Home.{Home}
+use Rattle.treecode.specs.declared.place.Place.TheVariants as places
+use Rattle.treecode.specs.Contents.{constant_object, constants_from, constants_of, content_of, size_of_value as bytes_of_value, with_constant, with_gap, with_gap_if_any, with_object}
+use Rattle.codegen8080.specs.Modules.{contents_items}
+
+-- what holds of all items holds of one
+pub holds_at :
+    {A : Type 0} (P : A → Type 0) (list : List A) (index : ℕ) (one : A)
+    → All P list → slice_get list index ≡ Some one → P one
+holds_at P [] index one all there = let bad : ⊥ = cc in absurd bad
+holds_at P (first ∷ others) zero one all there =
+    let same : first ≡ one = cc in
+    subst P same (all 0 first (omega arith))
+holds_at P (first ∷ others) (suc index) one all there =
+    holds_at P others index one (λ i d below. all (suc i) d (omega (arith, below))) there
+
+-- how many bytes contents take
+abbrev bytes_of_content : Content → ℕ
+bytes_of_content (Byte value) = 1
+bytes_of_content (Word place) = 2
+bytes_of_content (Gap count) = count
+
+abbrev bytes_of_contents : List Content → ℕ
+bytes_of_contents [] = 0
+bytes_of_contents (first ∷ others) = bytes_of_content first + bytes_of_contents others
+
+contents_take : (list : List Content) → size_of_items (contents_items list) ≡ bytes_of_contents list
+contents_take [] = refl
+contents_take (Byte value ∷ others) = omega (arith, contents_take others)
+contents_take (Word (places.Number number) ∷ others) = omega (arith, contents_take others)
+contents_take (Word (places.Code offset) ∷ others) = omega (arith, contents_take others)
+contents_take (Word (places.Data offset) ∷ others) = omega (arith, contents_take others)
+contents_take (Word (places.External offset name) ∷ others) = omega (arith, contents_take others)
+contents_take (Gap count ∷ others) = omega (arith, contents_take others)
+
+both_take : (one other : List Content) → bytes_of_contents (one ++ other) ≡ bytes_of_contents one + bytes_of_contents other
+both_take [] other = omega arith
+both_take (first ∷ one) other = omega (arith, both_take one other)
+
+-- a gap after contents
+joined_takes :
+    (gap count : ℕ) (joined : Bool)
+    → bytes_of_contents (if joined then Gap (gap + count) ∷ [] else Gap gap ∷ Gap count ∷ []) ≡ gap + count
+joined_takes gap count true = omega arith
+joined_takes gap count false = omega arith
+
+gap_takes : (before : List Content) (count : ℕ) → bytes_of_contents (with_gap before count) ≡ bytes_of_contents before + count
+gap_takes [] count = omega arith
+gap_takes (Gap gap ∷ []) count =
+    let takes = joined_takes gap count (nat_lt 0 gap && nat_le (gap + count) 65535) in omega (arith, takes)
+gap_takes (Byte byte ∷ others) count = omega (arith, gap_takes others count)
+gap_takes (Word place ∷ others) count = omega (arith, gap_takes others count)
+gap_takes (Gap gap ∷ next ∷ others) count = omega (arith, gap_takes (next ∷ others) count)
+
+gap_if_any_takes :
+    (before : List Content) (count : ℕ)
+    → bytes_of_contents (with_gap_if_any before count) ≡ bytes_of_contents before + count
+gap_if_any_takes before count = by (count == 0) refl
+  where
+    by :
+        (none : Bool) → (count == 0) ≡ none
+        → bytes_of_contents (if none then before else with_gap before count) ≡ bytes_of_contents before + count
+    by true is = let zero_is = eqb-true count 0 is in omega (arith, zero_is)
+    by false is = gap_takes before count
+
+-- the values of DATA
+value_takes : (starts : List Home) (value : InitialValue) → bytes_of_content (content_of starts value) ≡ size_of_value value
+value_takes starts (ByteValue byte) = refl
+value_takes starts (WordValue word) = refl
+value_takes starts (LocationValue object offset) = refl
+
+values_take :
+    (starts : List Home) (values : List InitialValue)
+    → bytes_of_contents (map (content_of starts) values) ≡ sum_by size_of_value values
+values_take starts [] = refl
+values_take starts (value ∷ values) =
+    omega (arith, value_takes starts value, values_take starts values, sum_by-cons size_of_value value values)
+
+same_size : (value : InitialValue) → bytes_of_value value ≡ size_of_value value
+same_size (ByteValue byte) = refl
+same_size (WordValue word) = refl
+same_size (LocationValue object offset) = refl
+
+same_sizes : (values : List InitialValue) → sum_by bytes_of_value values ≡ sum_by size_of_value values
+same_sizes [] = refl
+same_sizes (value ∷ values) =
+    omega (
+      arith,
+      same_size value,
+      same_sizes values,
+      sum_by-cons bytes_of_value value values,
+      sum_by-cons size_of_value value values,
+    )
+
+-- an object with DATA, whose values fill no more bytes than it has
+object_takes :
+    (starts : List Home) (object : TypedObject) (values : List InitialValue) (before : List Content)
+    → sum_by size_of_value values ≤ size_of_object object
+    → bytes_of_contents (with_object starts object values before) ≤ bytes_of_contents before + size_of_object object
+object_takes starts object values before filled =
+    let filler = min (min (size_of_object object) 4294967295 - sum_by bytes_of_value values) 65535 in
+    let gap = gap_if_any_takes (before ++ map (content_of starts) values) filler in
+    let both = both_take before (map (content_of starts) values) in
+    let take = values_take starts values in
+    let same = same_sizes values in
+    let small = filler_fits (size_of_object object) (sum_by bytes_of_value values) (omega (arith, same, filled)) in
+    omega (arith, gap, both, take, same, small)
+  where
+    filler_fits :
+        (size filled_bytes : ℕ) → filled_bytes ≤ size
+        → filled_bytes + min (min size 4294967295 - filled_bytes) 65535 ≤ size
+    filler_fits size filled_bytes less = omega (arith, less)
+
+constant_object_takes :
+    (starts : List Home) (object : TypedObject) (home : TypedHome) (before : List Content)
+    → bytes_filled home ≤ size_of_object object
+    → bytes_of_contents (constant_object starts object home before) ≤ bytes_of_contents before + size_of_object object
+constant_object_takes starts object (InConstants values) before filled = object_takes starts object values before filled
+constant_object_takes starts object (InData values) before filled = omega arith
+constant_object_takes starts object (Placed address) before filled = omega arith
+constant_object_takes starts object (BasedOn base) before filled = omega arith
+constant_object_takes starts object Elsewhere before filled = omega arith
+constant_object_takes starts object Nowhere before filled = omega arith
+constant_object_takes starts object (InFrame procedure) before filled = omega arith
+
+-- a constant list
+bytes_take : (bytes : List ℕ) → bytes_of_contents (map Byte bytes) ≡ length bytes
+bytes_take [] = refl
+bytes_take (byte ∷ others) = omega (arith, bytes_take others)
+
+-- one of the constants
+constant_takes :
+    (typed : TypedModule) (starts : List Home) (item : ConstantItem) (before : List Content)
+    → IsStorable typed
+    → bytes_of_contents (with_constant typed starts item before)
+    ≤ bytes_of_contents before + size_of_constant typed item
+constant_takes typed starts (ConstantObject number) before storable = by (slice_get typed.objects number) refl
+  where
+    by :
+        (found : Option TypedObject) → slice_get typed.objects number ≡ found
+        → bytes_of_contents
+        (option_map_or (λ (object : TypedObject). constant_object starts object object.home before) found before)
+        ≤ bytes_of_contents before + option_map_or size_of_object found 0
+    by None is = omega arith
+    by (Some object) is =
+        constant_object_takes starts object object.home before
+        (holds_at (λ (one : TypedObject). bytes_filled one.home ≤ size_of_object one) typed.objects number object
+        storable.filled is)
+constant_takes typed starts (ConstantList number) before storable = by (slice_get typed.constants.lists number)
+  where
+    by :
+        (found : Option (List ℕ))
+        → bytes_of_contents (option_map_or (λ (bytes : List ℕ). before ++ map Byte bytes) found before)
+        ≤ bytes_of_contents before + option_map_or length found 0
+    by None = omega arith
+    by (Some bytes) = omega (arith, both_take before (map Byte bytes), bytes_take bytes)
+
+constants_from_take :
+    (typed : TypedModule) (starts : List Home) (list : List ConstantItem) (before : List Content)
+    → IsStorable typed
+    → bytes_of_contents (constants_from typed starts before list)
+    ≤ bytes_of_contents before + sum_by (size_of_constant typed) list
+constants_from_take typed starts [] before storable = omega arith
+constants_from_take typed starts (item ∷ others) before storable =
+    omega (
+      arith,
+      constant_takes typed starts item before storable,
+      constants_from_take typed starts others (with_constant typed starts item before) storable,
+      sum_by-cons (size_of_constant typed) item others,
+    )
+
+pub constants_fit :
+    (typed : TypedModule) (starts : List Home)
+    → IsStorable typed
+    → size_of_items (contents_items (constants_of typed starts)) ≤ constant_bytes typed
+unfolding constants_of
+constants_fit typed starts storable =
+    omega (
+      arith,
+      contents_take (constants_from typed starts [] typed.constants.items),
+      constants_from_take typed starts typed.constants.items [] storable,
+    )

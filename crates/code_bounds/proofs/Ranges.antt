@@ -1,0 +1,18 @@
+-- Items of ranges of tables.
+use Rattle.std.proofs.Common.{◌≡◌, ℕ, ◌+◌, ◌<◌, Bool, if◌then◌else◌, List, slice_get, Some, None, sym, ap, ◌∙◌}
+use Rattle.std.specs.Option.{option_and_then}
+use Rattle.std.proofs.lemmas.Bool.{lt-ltb}
+use Rattle.treecode.specs.declared.lists.Range.{Range}
+use Rattle.treecode.specs.Nodes.{item_of}
+
+-- the item of an index is what stands there
+pub item_there :
+    {A : Type 0} (table : List A) (range : Range) (index place : ℕ) (found : A)
+    → place ≡ range.first + index
+    → index < range.count
+    → slice_get table place ≡ Some found
+    → item_of table range index ≡ Some found
+item_there {A = A} table range index place found same less is =
+    ap (λ (there : Bool). option_and_then (slice_get table) (if there then Some (range.first + index) else None))
+    (lt-ltb index range.count less)
+    ∙ ap (λ (n : ℕ). slice_get table n) (sym same) ∙ is

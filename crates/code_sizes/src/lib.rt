@@ -1,0 +1,2 @@
+//! Laws of how many bytes code takes. Nothing here runs.
+#![tactic(auto)]

@@ -1,0 +1,46 @@
+-- Code that is added for one expression or location does what that means.
+use Rattle.std.proofs.Common.{◌≡◌, ℕ, IfOk, Result, Ok, Err, sym, subst}
+use Rattle.code_meaning.specs.Activations.{IsThere}
+use Rattle.steps8080.specs.declared.step.Part.{Part}
+use Rattle.sites8080.specs.declared.site.Site.{Site}
+use Rattle.exprgen8080.specs.declared.emission.Emission.{Emission}
+use Rattle.exprgen8080.specs.Emission.{IsWritten}
+use Rattle.exprgen8080.specs.Emitted.{Emits, NotesCalled}
+use Rattle.task_meaning.proofs.CarriedOut.{emitted_does}
+use Rattle.expression_code.specs.Doing.{CodeDoes}
+
+-- in each body with the site of the code
+pub code_does :
+    (site : Site) (part : Part) (before after : Emission)
+    → Emits site part before after
+    → CodeDoes site part before after
+code_does site part before after emits = record {
+  list = emits.list;
+  writes = emits.writes;
+  does = λ context from to same sound called there.
+      emitted_does context {part = part} {before = before} {after = after} from to sound
+      (record {
+        list = emits.list;
+        writes = emits.writes;
+        written =
+            subst (λ (one : Site). IsWritten one after.is_called.items before.facts part emits.list after.facts)
+            (sym same) emits.written;
+        called = emits.called;
+        notes =
+            subst
+            (λ (one : Site).
+            NotesCalled one.tree.now before.is_called.items after.is_called.items emits.list)
+            (sym same) emits.notes;
+        steps = emits.steps;
+        labels = emits.labels;
+      })
+      called there;
+}
+
+-- where it was not refused
+pub code_does_if :
+    {F : Type 0} (site : Site) (part : Part) (before : Emission) (result : Result Emission F)
+    → IfOk result (Emits site part before)
+    → IfOk result (CodeDoes site part before)
+code_does_if site part before (Ok after) emits = code_does site part before after emits
+code_does_if site part before (Err failure) emits = tt

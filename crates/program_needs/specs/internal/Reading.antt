@@ -1,0 +1,27 @@
+-- The faults of single steps.
+use Rattle.std.specs.Prelude.{◌≡◌, ℕ, List, Some}
+use Rattle.typed_trees.specs.TypedTrees.{TypedModule}
+use Rattle.layout.specs.Joined.{join_refusal}
+use Rattle.join.specs.Views.{refusal_of}
+use Rattle.frontend.specs.Causes.{HasReadCause}
+use Rattle.program_needs.specs.declared.fault.NeedFault.{NeedFault}
+use Rattle.program_needs.specs.declared.fault.NeedFault.TheVariants.{TooManySources, Source, Join}
+use Rattle.program_needs.specs.Needs.{IsFirstUnread}
+
+-- the fault of the source of this number, which is this text
+abbrev pub IsOfSource : (place : ℕ) → (text : List ℕ) → NeedFault → Type 0
+IsOfSource place text TooManySources = ⊥
+IsOfSource place text (Source file fault) = (file ≡ place) × HasReadCause fault text
+IsOfSource place text (Join fault) = ⊥
+
+-- the first fault of sources
+abbrev pub IsFirstFault : (texts : List (List ℕ)) → NeedFault → Type 0
+IsFirstFault texts TooManySources = ⊥
+IsFirstFault texts (Source file fault) = IsFirstUnread texts file fault
+IsFirstFault texts (Join fault) = ⊥
+
+-- a fault of modules that make no program
+abbrev pub IsOfJoining : List TypedModule → NeedFault → Type 0
+IsOfJoining modules TooManySources = ⊥
+IsOfJoining modules (Source file fault) = ⊥
+IsOfJoining modules (Join fault) = join_refusal modules ≡ Some (refusal_of fault)

@@ -1,2 +1,0 @@
-pub mod OutputLemmas
-pub mod RunLemmas

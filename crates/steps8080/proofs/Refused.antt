@@ -1,0 +1,20 @@
+-- Why code is not finished.
+use Rattle.std.proofs.Common.{◌≡◌, Result, Err, subst}
+use Rattle.failure.specs.declared.Failure.{Failure}
+use Rattle.failure.specs.declared.Failure.TheVariants as failures
+use Rattle.failure.specs.Failure.{IfFault}
+use Rattle.asm8080.specs.declared.fault.Fault.{Fault}
+use Rattle.asm8080.specs.Assembled.{IsFinished}
+use Rattle.steps8080.specs.Writer.{Written}
+
+-- a fault of code is one of what was written
+pub refused_for :
+    (inside written : Written) (A : Type 0) (result : Result A (Failure Fault)) (fault : Fault)
+    → inside ≡ written
+    → result ≡ Err (failures.Fault fault)
+    → IfFault result (λ (found : Fault). IsFinished inside.code (Err found))
+    → IsFinished written.code (Err fault)
+refused_for inside written A result fault same is given =
+    subst (λ (to : Written). IsFinished to.code (Err fault)) same
+    (subst (λ (to : Result A (Failure Fault)). IfFault to (λ (found : Fault). IsFinished inside.code (Err found))) is
+    given)

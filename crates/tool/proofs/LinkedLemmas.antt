@@ -1,0 +1,40 @@
+-- Object modules that have a merge and an image are linked and placed.
+use Rattle.std.proofs.Common.{◌≡◌, List, Result, Ok, Err, All, sym, ap, subst, ◌∙◌}
+use Rattle.mem80.specs.declared.range.Piece.{Piece}
+use Rattle.mem80.specs.Pieces.{AreWritable, EndsInMemory}
+use Rattle.object_modules.specs.Image.{Image, PlacementRefusal, image_of}
+use Rattle.object_modules.specs.Merge.{LinkRefusal, merge_of}
+use Rattle.object_modules.specs.Module.{ObjectModule}
+use Rattle.placing.specs.Views as of_placement
+use Rattle.plans.specs.declared.Plan.{Plan}
+use Rattle.locate.specs.Locating.{Absolute, IsPlaced, plan_view}
+use Rattle.program_merges.specs.internal.Names.{HaveImage}
+use Rattle.tool.specs.Made.{IsImageOfObjects}
+
+pub is_linked : (plan : Plan) (objects : List ObjectModule) (merged : ObjectModule) (image : Absolute)
+    → merge_of objects ≡ Ok merged → IsPlaced (plan_view plan) merged image → IsImageOfObjects plan objects image
+is_linked plan objects merged image merge placed = record { merged = merged; merge = merge; placed = placed }
+
+same_value : {A E : Type 0} (value other : A) → ◌≡◌ {A = Result A E} (Ok value) (Ok other) → value ≡ other
+same_value {A} {E} value other same = ap given same
+  where
+    given : Result A E → A
+    given (Ok found) = found
+    given (Err failure) = value
+
+module _ (plan : Plan) (objects : List ObjectModule) (have : HaveImage (of_placement.plan_view plan) objects) where
+  -- none of them is refused
+  pub not_refused_to_link : (refusal : LinkRefusal) → merge_of objects ≡ Err refusal → ⊥
+  not_refused_to_link refusal is =
+      let bad : ◌≡◌ {A = Result ObjectModule LinkRefusal} (Ok have.merged) (Err refusal) = sym have.merge ∙ is in cc
+
+  pub not_refused_to_locate : (merged : ObjectModule) (refusal : PlacementRefusal) → merge_of objects ≡ Ok merged
+      → image_of (plan_view plan) merged ≡ Err refusal → ⊥
+  not_refused_to_locate merged refusal merge is =
+      let same : have.merged ≡ merged = same_value have.merged merged (sym have.merge ∙ merge) in
+      let bad : ◌≡◌ {A = Result Image PlacementRefusal} (Ok have.image) (Err refusal) =
+      sym have.placed ∙ subst (λ (object : ObjectModule). image_of (plan_view plan) object ≡ Err refusal) (sym same) is in cc
+
+-- the pieces of a placed module lie in memory
+pub lies : (image : Absolute) (pieces : List Piece) → pieces ≡ image.pieces → AreWritable pieces → All EndsInMemory image.pieces
+lies image pieces same writable = subst (All EndsInMemory) same writable.in_memory
