@@ -1,18 +1,19 @@
--- What a plan places follows the storage of each module.
-use Rattle.std.proofs.Common.{◌≡◌, ℕ, ◌+◌, ◌≤◌, List, [], ◌∷◌, ◌++◌, length, map, Option, None, Some, Bool, true, false, if◌then◌else◌, sym, subst, refl, ◌∙◌, append-nil, arith}
+-- What a plan places follows the storage of each module, at the bases that the plan has for it.
+use Rattle.std.proofs.Common.{◌≡◌, ℕ, suc, ◌+◌, ◌≤◌, List, [], ◌∷◌, ◌++◌, length, map, Option, None, Some, Bool, true, false, if◌then◌else◌, sym, subst, refl, ap, ◌∙◌, append-nil, length-append, arith}
 use Rattle.std.specs.Prelude.{All, zip, sum, sum_by, ◌||◌}
+use Rattle.std.specs.List.{enumerate_from}
 use Rattle.std.specs.Option.{option_or}
 use Rattle.std.proofs.lemmas.Bool.{ltb-false}
 use Rattle.std.proofs.lemmas.Option.{none-some}
-use Rattle.std.proofs.lemmas.List.{append_assoc}
+use Rattle.std.proofs.lemmas.List.{append_assoc, length-map}
 use Rattle.std.proofs.lemmas.List.Sums.{sum_by-cons}
 use Rattle.std.proofs.lemmas.List.Elements.{All-nil, All-cons}
 use Rattle.mem80.specs.declared.range.Range.{Range}
 use Rattle.typed_trees.specs.TypedTrees.{Home, TypedObject, TypedModule}
 use Rattle.typed_trees.specs.Weight.{constant_bytes}
 use Rattle.layout.specs.declared.slot.Slot.{Slot}
-use Rattle.layout.specs.Storage.{data_bytes, storage_with}
-use Rattle.layout.specs.Placement.{ModulePlacement, EndsInMemory}
+use Rattle.layout.specs.Storage.{data_bytes, slot_of_list, slot_of_object, storage_with}
+use Rattle.layout.specs.Lawful.{HasAddresses}
 use Rattle.layout.specs.Following.{Bases, LiesInSlot, address_of_slot, FollowsBases, FollowsStorage}
 use Rattle.layout.specs.Placing.{Plan, code_range, data_range, stack_range, PassesMemory, passes_memory, segment_too_large, past_memory, overlapping, first_misplaced, placing_refusal, bases_from, address_by_home, addresses_after, module_placement_by, placement_by}
 
@@ -68,7 +69,7 @@ objects_follow bases before (object ∷ objects) (slot ∷ slots) =
     (objects_follow bases (before ++ address_by_home bases before slot object.home ∷ []) objects slots)
 
 -- a module whose segments end within memory
-module_follows :
+pub module_follows :
     (bases : Bases) (typed : TypedModule)
     → bases.code_base + constant_bytes typed ≤ 65536
     → bases.data_base + data_bytes typed.objects ≤ 65536
@@ -92,64 +93,68 @@ HoldConstants (typed ∷ others) (length ∷ lengths) =
     (constant_bytes typed ≤ length) × HoldConstants others lengths
 HoldConstants modules lengths = Unit {0}
 
-Follows : TypedModule × ModulePlacement → Type 0
-Follows placed = (bases : Bases) × FollowsBases bases (storage_with placed.0) placed.1
+-- there are as many addresses as objects, and as lists
+count_addresses :
+    (bases : Bases) (before : List ℕ) (objects : List (TypedObject × Option Slot))
+    → length (addresses_after bases before objects) ≡ length before + length objects
+count_addresses bases before [] = omega arith
+count_addresses bases before (object ∷ others) =
+    let rest =
+    count_addresses bases (before ++ address_by_home bases before object.1 (object.0).home ∷ []) others in
+    let more = length-append before (address_by_home bases before object.1 (object.0).home ∷ []) in
+    omega (arith, rest, more)
 
-based : TypedModule × Bases → ModulePlacement
-based placed = module_placement_by placed.1 placed.0 (storage_with placed.0)
+count_numbered : {A : Type 0} (first : ℕ) (items : List A) → length (enumerate_from first items) ≡ length items
+count_numbered first [] = refl
+count_numbered first (item ∷ items) = ap (λ (n : ℕ). suc n) (count_numbered (first + 1) items)
 
-first_within : (base one first others : ℕ) → one ≤ first → base + (first + others) ≤ 65536 → base + one ≤ 65536
-first_within base one first others short all = omega arith
+count_both : {A B : Type 0} (one : List A) (other : List B) → length other ≡ length one → length (zip one other) ≡ length one
+count_both [] other same = refl
+count_both (x ∷ one) [] same = absurd (omega (arith, same))
+count_both (x ∷ one) (y ∷ other) same = ap (λ (n : ℕ). suc n) (count_both one other (omega (arith, same)))
 
-others_within : (base first others : ℕ) → base + (first + others) ≤ 65536 → base + first + others ≤ 65536
-others_within base first others all = omega arith
+has_addresses : (bases : Bases) (typed : TypedModule)
+    → HasAddresses (typed, module_placement_by bases typed (storage_with typed))
+has_addresses bases typed =
+    let slots : length (storage_with typed).objects ≡ length typed.objects =
+    length-map (enumerate_from 0 typed.objects)
+    (λ (numbered : ℕ × TypedObject). slot_of_object typed numbered.0 numbered.1 (numbered.1).home)
+    ∙ count_numbered 0 typed.objects in
+    let all = count_addresses bases [] (zip typed.objects (storage_with typed).objects) in
+    let both = count_both typed.objects (storage_with typed).objects slots in
+    record {
+      objects = omega (arith, all, both);
+      lists = length-map (storage_with typed).lists (address_of_slot bases)
+          ∙ length-map (enumerate_from 0 typed.constants.lists)
+          (λ (numbered : ℕ × List ℕ). slot_of_list typed numbered.0 numbered.1)
+          ∙ count_numbered 0 typed.constants.lists;
+    }
 
-code_split :
-    (base length : ℕ) (lengths : List ℕ)
-    → base + sum (length ∷ lengths) ≤ 65536
-    → base + (length + sum lengths) ≤ 65536
-code_split base length lengths all =
-    subst (λ n. base + n ≤ 65536) (sum_by-cons (λ (n : ℕ). n) length lengths) all
-
-data_split :
-    (base : ℕ) (typed : TypedModule) (others : List TypedModule)
-    → base + sum_by (λ (typed : TypedModule). data_bytes typed.objects) (typed ∷ others) ≤ 65536
-    → base + (data_bytes typed.objects + sum_by (λ (typed : TypedModule). data_bytes typed.objects) others) ≤ 65536
-data_split base typed others all =
-    subst (λ n. base + n ≤ 65536)
-    (sum_by-cons (λ (typed : TypedModule). data_bytes typed.objects) typed others) all
-
-same_size : (n : ℕ) → n ≤ n
-same_size n = omega arith
-
+-- the modules from one on
 modules_follow :
     (code_base data_base : ℕ) (modules : List TypedModule) (lengths : List ℕ)
+    → length lengths ≡ length modules
     → HoldConstants modules lengths
     → code_base + sum lengths ≤ 65536
     → data_base + sum_by (λ (typed : TypedModule). data_bytes typed.objects) modules ≤ 65536
-    → All Follows (zip modules (map based (zip modules (bases_from code_base data_base modules lengths))))
-unfolding Follows based
-modules_follow code_base data_base [] lengths hold code variables = All-nil Follows
-modules_follow code_base data_base (typed ∷ others) [] hold code variables = All-nil Follows
-modules_follow code_base data_base (typed ∷ others) (length ∷ lengths) hold code variables =
-    let bases : Bases = record { code_base = code_base; data_base = data_base } in
-    All-cons Follows (typed, based (typed, bases))
-    (zip others
-    (map based
-    (zip others (bases_from (code_base + length) (data_base + data_bytes typed.objects) others lengths)))) (
-      bases,
-      module_follows bases typed
-          (first_within code_base (constant_bytes typed) length (sum lengths) hold.0
-          (code_split code_base length lengths code))
-          (first_within data_base (data_bytes typed.objects) (data_bytes typed.objects)
-          (sum_by (λ (typed : TypedModule). data_bytes typed.objects) others) (same_size (data_bytes typed.objects))
-          (data_split data_base typed others variables)),
+    → FollowsStorage (bases_from code_base data_base modules lengths) modules
+    (map (λ (based : TypedModule × Bases). module_placement_by based.1 based.0 (storage_with based.0))
+    (zip modules (bases_from code_base data_base modules lengths)))
+modules_follow code_base data_base [] [] count hold code variables = tt
+modules_follow code_base data_base [] (length ∷ lengths) count hold code variables = absurd (omega (arith, count))
+modules_follow code_base data_base (typed ∷ modules) [] count hold code variables = absurd (omega (arith, count))
+modules_follow code_base data_base (typed ∷ modules) (first ∷ lengths) count hold code variables =
+    let codes = sum_by-cons (λ (n : ℕ). n) first lengths in
+    let data_all = sum_by-cons (λ (typed : TypedModule). data_bytes typed.objects) typed modules in
+    let held : constant_bytes typed ≤ first = hold.0 in (
+      record {
+        addresses = has_addresses (record { code_base = code_base; data_base = data_base }) typed;
+        follows = module_follows (record { code_base = code_base; data_base = data_base }) typed
+            (omega (arith, codes, code, held)) (omega (arith, data_all, variables));
+      },
+      modules_follow (code_base + first) (data_base + data_bytes typed.objects) modules lengths
+          (omega (arith, count)) hold.1 (omega (arith, codes, code)) (omega (arith, data_all, variables)),
     )
-    (modules_follow (code_base + length) (data_base + data_bytes typed.objects) others lengths hold.1
-    (others_within code_base length (sum lengths) (code_split code_base length lengths code))
-    (others_within data_base (data_bytes typed.objects)
-    (sum_by (λ (typed : TypedModule). data_bytes typed.objects) others)
-    (data_split data_base typed others variables)))
 
 -- what is not refused ends in memory
 both_none : {A : Type 0} (first second : Option A) → option_or first second ≡ None → (first ≡ None) × (second ≡ None)
@@ -164,29 +169,29 @@ not_past false false stack none = (refl, refl)
 not_past true variables stack none = absurd (none-some PassesMemory (sym none))
 not_past false true stack none = absurd (none-some PassesMemory (sym none))
 
-ends_in_memory : (range : Range) → passes_memory range ≡ false → EndsInMemory range
+ends_in_memory : (range : Range) → passes_memory range ≡ false → range.start + range.len ≤ 65536
 ends_in_memory range passes = ltb-false 65536 (range.start + range.len) passes
 
+-- a plan that is not refused puts each module at the bases that it has for it
 pub placing_follows :
     (plan : Plan) (modules : List TypedModule) (code_lengths : List ℕ)
+    → length code_lengths ≡ length modules
     → HoldConstants modules code_lengths
     → placing_refusal plan modules code_lengths ≡ None
-    → FollowsStorage modules (placement_by plan modules code_lengths)
-unfolding placing_refusal placement_by Follows based
-placing_follows plan modules code_lengths hold none =
-    let memory : (passes_memory (code_range plan code_lengths) ≡ false)
-    × (passes_memory (data_range plan modules) ≡ false) =
-    not_past (passes_memory (code_range plan code_lengths)) (passes_memory (data_range plan modules))
-    (passes_memory (stack_range plan))
-    (both_none
-    (past_memory (code_range plan code_lengths) (data_range plan modules) (stack_range plan))
-    (option_or (overlapping (code_range plan code_lengths) (data_range plan modules) (stack_range plan))
-    (first_misplaced modules (placement_by plan modules code_lengths)))
-    (both_none (segment_too_large (code_range plan code_lengths) (data_range plan modules))
-    (option_or
-    (past_memory (code_range plan code_lengths) (data_range plan modules) (stack_range plan))
-    (option_or (overlapping (code_range plan code_lengths) (data_range plan modules) (stack_range plan))
-    (first_misplaced modules (placement_by plan modules code_lengths)))) none).1).0 in
-    modules_follow plan.code_base plan.data_base modules code_lengths hold
-    (ends_in_memory (code_range plan code_lengths) memory.0)
-    (ends_in_memory (data_range plan modules) memory.1)
+    → FollowsStorage (bases_from plan.code_base plan.data_base modules code_lengths) modules
+    (placement_by plan modules code_lengths).modules
+unfolding placing_refusal placement_by
+placing_follows plan modules code_lengths count hold none =
+    let code = code_range plan code_lengths in
+    let variables = data_range plan modules in
+    let stack = stack_range plan in
+    let first = both_none (segment_too_large code variables)
+    (option_or (past_memory code variables stack)
+    (option_or (overlapping code variables stack)
+    (first_misplaced modules (placement_by plan modules code_lengths)))) none in
+    let second = both_none (past_memory code variables stack)
+    (option_or (overlapping code variables stack)
+    (first_misplaced modules (placement_by plan modules code_lengths))) first.1 in
+    let within = not_past (passes_memory code) (passes_memory variables) (passes_memory stack) second.0 in
+    modules_follow plan.code_base plan.data_base modules code_lengths count hold
+    (ends_in_memory code within.0) (ends_in_memory variables within.1)

@@ -1,12 +1,13 @@
--- Placements in which the objects and the constant lists of a module lie as its segments have them.
-use Rattle.std.specs.Prelude.{◌≡◌, ℕ, ◌+◌, ◌%◌, List, zip, All, Option, Some, None}
+-- Placements in which the objects and the constant lists of modules lie as their segments have them.
+use Rattle.std.specs.Prelude.{◌≡◌, ℕ, ◌+◌, ◌%◌, List, [], ◌∷◌, zip, All, Option, Some, None}
 use Rattle.mem80.specs.declared.memory.TheConstants.{MEMORY_SIZE}
 use Rattle.typed_trees.specs.TypedTrees.{TypedModule}
 use Rattle.layout.specs.declared.slot.Segment.{Segment}
 use Rattle.layout.specs.declared.slot.Segment.TheVariants.{Code, Data}
 use Rattle.layout.specs.declared.slot.Slot.{Slot}
+use Rattle.layout.specs.Lawful.{HasAddresses}
 use Rattle.layout.specs.Storage.{Storage, storage_with}
-use Rattle.layout.specs.Placement.{ModulePlacement, Placement, range_of, EndsInMemory}
+use Rattle.layout.specs.Placement.{ModulePlacement, range_of, EndsInMemory}
 
 -- where the segments of a module begin
 pub record Bases : Type 0 where
@@ -37,10 +38,15 @@ pub record FollowsBases (bases : Bases) (storage : Storage) (placed : ModulePlac
   pub constants_in_memory : EndsInMemory (range_of bases.code_base storage.constant_size)
   pub data_in_memory : EndsInMemory (range_of bases.data_base storage.data_size)
 
--- the segments of each module begin somewhere, and what it has lies there by its storage
-abbrev pub FollowsStorage : List TypedModule → Placement → Type 0
-FollowsStorage modules placement =
-    All
-    (λ (placed : TypedModule × ModulePlacement).
-    (bases : Bases) × FollowsBases bases (storage_with placed.0) placed.1)
-    (zip modules placement.modules)
+-- a module whose segments begin there: it has an address for each object and each constant list, and what
+-- has a place in its segments lies there by its storage
+pub record LiesAtBases (bases : Bases) (typed : TypedModule) (placed : ModulePlacement) : Type 0 where
+  pub addresses : HasAddresses (typed, placed)
+  pub follows : FollowsBases bases (storage_with typed) placed
+
+-- the modules of a program, each with bases of its own and a placement of its own
+abbrev pub FollowsStorage : List Bases → List TypedModule → List ModulePlacement → Type 0
+FollowsStorage [] [] [] = Unit {0}
+FollowsStorage (bases ∷ others) (typed ∷ modules) (placed ∷ placements) =
+    LiesAtBases bases typed placed × FollowsStorage others modules placements
+FollowsStorage bases modules placements = ⊥

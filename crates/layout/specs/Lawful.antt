@@ -1,4 +1,5 @@
--- Lawful placements of a joined program.
+-- Lawful placements of a joined program. That the elements of an array and the members of a structure follow
+-- each other is not said here: an object is one piece, and `typed_trees` says where its parts begin in it.
 use Rattle.std.specs.Prelude.{◌≡◌, ℕ, List, length, zip, All, AllPairs}
 use Rattle.mem80.specs.declared.range.Range.{Range}
 use Rattle.mem80.specs.Range.{IsIn, Meets}

@@ -37,8 +37,8 @@ bases_from code_base data_base (typed ∷ others) (length ∷ lengths) =
     ∷ bases_from (code_base + length) (data_base + data_bytes typed.objects) others lengths
 bases_from code_base data_base modules code_lengths = []
 
--- The address of an object: by its slot, or where AT says, which looks at objects before it. For any other it
--- says nothing and is 0.
+-- The address of an object: by its slot, or where AT says, which looks at objects before it. An object with
+-- neither has no address, and 0 stands for it.
 abbrev pub address_by_home : Bases → (before : List ℕ) → Option Slot → Home → ℕ
 address_by_home bases before (Some slot) home = address_of_slot bases slot
 address_by_home bases before None (Placed at) = address_at before at

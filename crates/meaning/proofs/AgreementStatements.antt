@@ -8,7 +8,7 @@ use Rattle.layout.specs.Joined.{InProgram}
 use Rattle.meaning.specs.declared.reason.Reason.TheVariants.{Stack}
 use Rattle.meaning.specs.Values.{as_type, is_true, values_of}
 use Rattle.meaning.specs.Access.{Surroundings, place_of}
-use Rattle.meaning.specs.Meaning.{Later, Turn, WhileTurn, IterateTurn, after_turn, called, called_for, callee_in, caught_in, charged, done, done_all, done_case, done_else, done_list, entered, frame_of, going_on, iterated, landed, later_by, moved, next_turn, nothing_later, parameters_set, procedure_at, read_variable, rest_from, rest_of, returned, step_value, stepped, stored_in_each, turn_of, value, value_of_flow, values, write_variable}
+use Rattle.meaning.specs.Meaning.{IsMeantBelow, Later, Turn, WhileTurn, IterateTurn, after_turn, called, called_for, callee_in, caught_in, charged, done, done_all, done_case, done_else, done_list, entered, frame_of, going_on, iterated, landed, later_by, moved, next_turn, nothing_later, parameters_set, procedure_at, read_variable, rest_from, rest_of, returned, step_value, stepped, stored_in_each, turn_of, value, value_of_flow, values, write_variable}
 use Rattle.meaning.specs.Outcomes.{Program, State, Stop, More, Outside, Outcome, Gave, Stopped, then_do, taking_one, Flow, Onward, Returned, Jumped}
 use Rattle.meaning.specs.internal.Kept.{Agrees, Follows, Continues, nothing_else, jump_took, Keeps, LaterKeeps}
 use Rattle.meaning.proofs.Kept.{changes_scalar, continues_itself, reads_scalar}
@@ -228,3 +228,10 @@ again_is number turn around s below = (agrees_next number).again turn around s b
 
 pub onto_is : (number : ℕ) (list : TypedList) (rest : TypedStatements) (around : Surroundings) (s : State) → suc s.budget < number → (later_by number).onto list rest around s ≡ rest_of (later_by number) list rest around s
 onto_is number list rest around s below = (agrees_next number).onto list rest around s below
+
+pub later_is_meant : (number : ℕ) → IsMeantBelow number (later_by number)
+later_is_meant number = record {
+  call = λ at arguments around s below. call_is number at arguments around s below;
+  again = λ turn around s below. again_is number turn around s below;
+  onto = λ list rest around s below. onto_is number list rest around s below;
+}

@@ -18,7 +18,7 @@ use Rattle.meaning.specs.internal.Kept.{Follows, Continues, IsSpent, Extra, noth
 
 module _ (program : Program) where
   pub follows_itself : (s : State) → Follows program s s
-  follows_itself s = record { budget = omega arith; events = ([], sym (append-nil s.events)); size = refl; constants = λ address is. refl }
+  follows_itself s = record { budget = omega arith; events = ([], sym (append-nil s.events)); size = refl; constants = λ address is. refl; undeclared = λ address is. refl }
 
   pub continues_itself : (s : State) → Continues program s s
   continues_itself s = record { follows = follows_itself s; frame = refl }
@@ -33,6 +33,7 @@ module _ (program : Program) where
     events = beginning_of_beginning s.events t.events u.events first.events second.events;
     size = second.size ∙ first.size;
     constants = λ address is. second.constants address is ∙ first.constants address is;
+    undeclared = λ address is. second.undeclared address is ∙ first.undeclared address is;
   }
 
   pub continues_then : (s t u : State) → Continues program s t → Continues program t u → Continues program s u
@@ -70,30 +71,36 @@ module _ (program : Program) where
   -- one more event
   pub adds_event : (s : State) (event : Event) → Continues program s (record s { events = s.events ++ event ∷ [] })
   adds_event s event = record {
-    follows = record { budget = omega arith; events = (event ∷ [], refl); size = refl; constants = λ address is. refl };
+    follows = record { budget = omega arith; events = (event ∷ [], refl); size = refl; constants = λ address is. refl; undeclared = λ address is. refl };
     frame = refl;
   }
 
-  -- a byte that is no constant is written
+  -- a declared byte that is no constant is written
   other_address : (address written : ℕ) → is_constant program written ≡ false → is_constant program address ≡ true → address ≢ written
   other_address address written off on same =
       let both : is_constant program written ≡ true = subst (λ a. is_constant program a ≡ true) same on in
       let bad : true ≡ false = sym both ∙ off in cc
 
-  pub writes_byte : (s : State) (written byte : ℕ) → is_constant program written ≡ false → Continues program s (record s { memory = slice_set s.memory written byte })
-  writes_byte s written byte off = record {
+  undeclared_address : (address written : ℕ) → is_declared program written ≡ true → is_declared program address ≡ false → address ≢ written
+  undeclared_address address written on off same =
+      let both : is_declared program written ≡ false = subst (λ a. is_declared program a ≡ false) same off in
+      let bad : true ≡ false = sym on ∙ both in cc
+
+  pub writes_byte : (s : State) (written byte : ℕ) → is_declared program written ≡ true → is_constant program written ≡ false → Continues program s (record s { memory = slice_set s.memory written byte })
+  writes_byte s written byte declared off = record {
     follows = record {
       budget = omega arith;
       events = ([], sym (append-nil s.events));
       size = length-set s.memory written byte;
       constants = λ address on. get_or-set_other s.memory written address byte 0 (other_address address written off on);
+      undeclared = λ address is. get_or-set_other s.memory written address byte 0 (undeclared_address address written declared is);
     };
     frame = refl;
   }
 
   pub writes_in_frame : (s : State) (object offset byte : ℕ) → Continues program s (record s { frame = slice_set s.frame object (slice_set (frame_bytes s.frame object) offset byte) })
   writes_in_frame s object offset byte = record {
-    follows = record { budget = omega arith; events = ([], sym (append-nil s.events)); size = refl; constants = λ address is. refl };
+    follows = record { budget = omega arith; events = ([], sym (append-nil s.events)); size = refl; constants = λ address is. refl; undeclared = λ address is. refl };
     frame = map-set_same length s.frame object (slice_set (frame_bytes s.frame object) offset byte) [] (length-set (frame_bytes s.frame object) offset byte);
   }
 
@@ -104,7 +111,7 @@ module _ (program : Program) where
   pub changes_byte : (place : Place) (byte : ℕ) (s : State) → Keeps program nothing_else s (write_byte program place byte s)
   changes_byte (InMemory address) byte s =
       keeps_if nothing_else s (is_declared program address) _ _
-      (λ on. keeps_if nothing_else s (is_constant program address) _ _ (λ is. (follows_itself s, tt)) (λ no. (writes_byte s address byte no, tt)))
+      (λ on. keeps_if nothing_else s (is_constant program address) _ _ (λ is. (follows_itself s, tt)) (λ no. (writes_byte s address byte on no, tt)))
       (λ off. (follows_itself s, tt))
   changes_byte (InTheFrame object offset is_inside) byte s =
       keeps_if nothing_else s is_inside _ _ (λ on. (writes_in_frame s object offset byte, tt)) (λ off. (follows_itself s, tt))

@@ -16,11 +16,11 @@ use Rattle.meaning.proofs.KeptStatements.{list_keeps, rest_keeps, takes_one, tur
 
 -- what a frame holds does not matter to what follows
 same_but_frame : (program : Program) (s t : State) (frame : List (List ℕ)) → Follows program (record s { frame = frame }) t → Follows program s t
-same_but_frame program s t frame first = record { budget = first.budget; events = first.events; size = first.size; constants = first.constants }
+same_but_frame program s t frame first = record { budget = first.budget; events = first.events; size = first.size; constants = first.constants; undeclared = first.undeclared }
 
 frame_back : (program : Program) (s t : State) → Follows program s t → Continues program s (record t { frame = s.frame })
 frame_back program s t first = record {
-  follows = record { budget = first.budget; events = first.events; size = first.size; constants = first.constants };
+  follows = record { budget = first.budget; events = first.events; size = first.size; constants = first.constants; undeclared = first.undeclared };
   frame = refl;
 }
 

@@ -33,7 +33,7 @@ then_flow program s outcome go kept rest = keeps_then program nothing_else jump_
 -- one is taken of the budget
 pub less_budget : (program : Program) (s : State) → Continues program s (record s { budget = s.budget - 1 })
 less_budget program s = record {
-  follows = record { budget = omega arith; events = (follows_itself program s).events; size = refl; constants = λ address is. refl };
+  follows = record { budget = omega arith; events = (follows_itself program s).events; size = refl; constants = λ address is. refl; undeclared = λ address is. refl };
   frame = refl;
 }
 

@@ -8,3 +8,4 @@ pub mod Added
 pub mod Lasting
 pub mod LastingStatements
 pub mod Runs
+pub mod Staying

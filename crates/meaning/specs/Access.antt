@@ -67,13 +67,14 @@ write_scalar program Address place number s =
     then_do (write_byte program place (number % 256) s)
     (λ _ t. write_byte program (next_place place) (number / 256) t)
 
--- what a part of a program is carried out in: its program, its module, and the room that is left on the stack
+-- What a part of a program is carried out in: its program, its module, and the room that is left on the
+-- stack. In a body that is what is left after the charge of its own call.
 pub record Surroundings : Type 0 where
   pub program : Program
   pub number_of_module : ℕ
   pub room : ℕ
 
--- what an object of a module is to be found by
+-- where an object of a module lives
 abbrev pub home_in : TypedModule → (object : ℕ) → Home
 home_in typed object =
     option_map_or (λ (found : TypedObject). found.home) (slice_get typed.objects object) Nowhere

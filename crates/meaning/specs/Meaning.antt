@@ -1,6 +1,12 @@
 -- The meaning of expressions and statements (PL/M-80 Programming Manual). What calls, further turns of loops
--- and jumps mean is given from outside, and is tied in a knot by a number.
-use Rattle.std.specs.Prelude.{ℕ, zero, suc, ◌+◌, ◌-◌, ◌*◌, ◌%◌, ◌==◌, Bool, true, false, ◌&&◌, nat_le, nat_lt, List, [], ◌∷◌, ◌++◌, replicate, map, slice_get, slice_index, Option, Some, None, option_map, if◌then◌else◌}
+-- and jumps mean is given from outside. `later_by` gives it for a budget below a number, by what calls, turns
+-- and jumps are defined as here: `IsMeantBelow` says so.
+--
+-- All trees have a meaning here, also those that no source has: where an object, a list, a callee or a
+-- parameter is not there, or a body is left by a jump, a number is 0 and nothing is done. In a program that
+-- is joined of soundly typed modules and lies lawfully no such case is taken: so say the laws of
+-- `meant_programs`.
+use Rattle.std.specs.Prelude.{◌≡◌, ℕ, zero, suc, ◌+◌, ◌<◌, ◌-◌, ◌*◌, ◌%◌, ◌==◌, Bool, true, false, ◌&&◌, nat_le, nat_lt, List, [], ◌∷◌, ◌++◌, replicate, map, slice_get, slice_index, Option, Some, None, option_map, if◌then◌else◌}
 use Rattle.std.specs.Option.{option_map_or, option_and_then}
 use Rattle.mem80.specs.declared.memory.TheConstants.{MEMORY_SIZE}
 use Rattle.ports.specs.Events.{read_event, write_event}
@@ -386,3 +392,13 @@ later_by (suc count) = record {
   again = λ turn around s. turn_of (later_by count) turn around s;
   onto = λ list rest around s. rest_of (later_by count) list rest around s;
 }
+
+-- Where the budget is below a number, a call is `called`, a further turn of a loop `turn_of`, and what
+-- follows a jump `rest_of`, of the same meaning. So it is of `later_by` of that number.
+pub record IsMeantBelow (number : ℕ) (later : Later) : Type 0 where
+  pub call : (at : InProgram) (arguments : List ℕ) (around : Surroundings) (s : State) → s.budget < number
+      → later.call at arguments around s ≡ called later at arguments around s
+  pub again : (turn : Turn) (around : Surroundings) (s : State) → suc s.budget < number
+      → later.again turn around s ≡ turn_of later turn around s
+  pub onto : (list : TypedList) (rest : TypedStatements) (around : Surroundings) (s : State)
+      → suc s.budget < number → later.onto list rest around s ≡ rest_of later list rest around s

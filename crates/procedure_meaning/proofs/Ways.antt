@@ -9,6 +9,7 @@ use Rattle.meaning.specs.Values.{as_type, is_true, values_of}
 use Rattle.meaning.specs.Access.{Surroundings}
 use Rattle.meaning.specs.Meaning.{Later, Turn, WhileTurn, IterateTurn, after_turn, called_for, callee_in, caught_in, done, done_all, done_case, done_else, done_list, dropped, going_on, iterated, landed, later_by, moved, read_variable, rest_from, rest_of, returned, step_value, stepped, stored_in_each, turn_of, value, values, write_variable}
 use Rattle.meaning.specs.Outcomes.{State, Outcome, Gave, Stopped, then_do, taking_one, Flow, Onward, Returned, Jumped}
+use Rattle.meaning.specs.internal.Kept.{body_of_turn}
 use Rattle.treecode.specs.declared.place.Home.{Home}
 use Rattle.treecode.specs.declared.place.Place.{Place}
 use Rattle.treecode.specs.declared.place.Place.TheVariants.{Number}
@@ -45,10 +46,6 @@ IsLeftBy ways (Stopped why t) = Unit {0}
 abbrev pub reaches_after : List Home → Storage → Turn → Bool
 reaches_after starts storage (WhileTurn condition body) = reaches_end starts storage (WhileStatement condition body)
 reaches_after starts storage (IterateTurn head body) = true
-
-abbrev pub body_of_turn : Turn → TypedList
-body_of_turn (WhileTurn condition body) = body
-body_of_turn (IterateTurn head body) = body
 
 abbrev ConditionHolds : TypedModule → Within → Turn → Type 0
 ConditionHolds typed within (WhileTurn condition body) = TypesHold typed within condition

@@ -1,91 +1,20 @@
 -- In the placement that a plan gives each object of a module, but for EXTERNAL ones, lies at the address of its
--- location. That module_follows is a copy of what layout has for its own use alone.
-use Rattle.std.proofs.Common.{◌≡◌, ℕ, zero, suc, ◌+◌, ◌≤◌, List, [], ◌∷◌, ◌++◌, length, map, Option, Some, None, refl, ap, sym, subst, ◌∙◌, append-nil, append_assoc, length-append, arith}
-use Rattle.std.specs.Prelude.{All, slice_get, slice_index, unwrap_or, zip}
-use Rattle.std.proofs.lemmas.List.Elements.{All-nil, All-cons}
+-- location.
+use Rattle.std.proofs.Common.{◌≡◌, ℕ, zero, suc, ◌+◌, List, [], ◌∷◌, ◌++◌, length, Option, Some, None, refl, ap, sym, subst, ◌∙◌, length-append, arith}
+use Rattle.std.specs.Prelude.{slice_get, slice_index, unwrap_or, zip}
 use Rattle.std.proofs.lemmas.Option.{none-some, get_or_from_slice_get}
 use Rattle.typed_trees.specs.Storable.{HasPlace, IsStorable}
 use Rattle.typed_trees.specs.TypedTrees.{Home, InData, InConstants, Placed, BasedOn, Elsewhere, Nowhere, InFrame, TypedObject, TypedModule}
-use Rattle.typed_trees.specs.Weight.{constant_bytes}
 use Rattle.layout.specs.declared.slot.Slot.{Slot}
-use Rattle.layout.specs.Following.{Bases, FollowsBases, LiesInSlot, address_of_slot}
+use Rattle.layout.specs.Following.{Bases, FollowsBases}
 use Rattle.layout.specs.Lawful.{HasAddresses, LiesWhereAtSays}
 use Rattle.layout.specs.Placement.{ModulePlacement}
 use Rattle.layout.specs.Placing.{address_by_home, addresses_after, module_placement_by}
 use Rattle.layout.specs.Segments.{Target, Location, Absolute, address_of_location, location_by_home, location_of, locations_after}
-use Rattle.layout.specs.Storage.{data_bytes, slot_of_object, storage_with}
+use Rattle.layout.specs.Storage.{slot_of_object, storage_with}
 use Rattle.layout.proofs.Locations.{location_is}
 use Rattle.layout.proofs.PlacedLocations.{AreBases, lies_at_location}
 use Rattle.program_memory.proofs.Lists.{got_both, got_numbered, in_back, in_front}
-
--- the constant lists
-lists_follow :
-    (bases : Bases) (slots : List Slot)
-    → All (λ (list : Slot × ℕ). list.1 ≡ address_of_slot bases list.0)
-    (zip slots (map (address_of_slot bases) slots))
-lists_follow bases [] = All-nil (λ (list : Slot × ℕ). list.1 ≡ address_of_slot bases list.0)
-lists_follow bases (slot ∷ others) =
-    All-cons (λ (list : Slot × ℕ). list.1 ≡ address_of_slot bases list.0) (slot, address_of_slot bases slot)
-    (zip others (map (address_of_slot bases) others)) refl (lists_follow bases others)
-
--- the addresses of objects that are still to come
-addresses_of : (bases : Bases) (before : List ℕ) → List (TypedObject × Option Slot) → List ℕ
-addresses_of bases before [] = []
-addresses_of bases before (object ∷ others) =
-    address_by_home bases before object.1 (object.0).home
-    ∷ addresses_of bases (before ++ address_by_home bases before object.1 (object.0).home ∷ []) others
-
-split_addresses :
-    (bases : Bases) (before : List ℕ) (objects : List (TypedObject × Option Slot))
-    → addresses_after bases before objects ≡ before ++ addresses_of bases before objects
-unfolding addresses_of
-split_addresses bases before [] = sym (append-nil before)
-split_addresses bases before (object ∷ others) =
-    split_addresses bases (before ++ address_by_home bases before object.1 (object.0).home ∷ []) others
-    ∙ append_assoc before (address_by_home bases before object.1 (object.0).home ∷ [])
-    (addresses_of bases (before ++ address_by_home bases before object.1 (object.0).home ∷ []) others)
-
-lies_by_home :
-    (bases : Bases) (before : List ℕ) (slot : Option Slot) (home : Home)
-    → LiesInSlot bases (address_by_home bases before slot home) slot
-lies_by_home bases before None home = tt
-lies_by_home bases before (Some slot) home = refl
-
-objects_follow :
-    (bases : Bases) (before : List ℕ) (objects : List TypedObject) (slots : List (Option Slot))
-    → All (λ (object : Option Slot × ℕ). LiesInSlot bases object.1 object.0)
-    (zip slots (addresses_of bases before (zip objects slots)))
-unfolding addresses_of
-objects_follow bases before [] [] = All-nil (λ (object : Option Slot × ℕ). LiesInSlot bases object.1 object.0)
-objects_follow bases before [] (slot ∷ slots) =
-    All-nil (λ (object : Option Slot × ℕ). LiesInSlot bases object.1 object.0)
-objects_follow bases before (object ∷ objects) [] =
-    All-nil (λ (object : Option Slot × ℕ). LiesInSlot bases object.1 object.0)
-objects_follow bases before (object ∷ objects) (slot ∷ slots) =
-    All-cons (λ (object : Option Slot × ℕ). LiesInSlot bases object.1 object.0)
-    (slot, address_by_home bases before slot object.home)
-    (zip slots (addresses_of bases (before ++ address_by_home bases before slot object.home ∷ []) (zip objects slots)))
-    (lies_by_home bases before slot object.home)
-    (objects_follow bases (before ++ address_by_home bases before slot object.home ∷ []) objects slots)
-
--- a module whose segments end within memory
-pub module_follows :
-    (bases : Bases) (typed : TypedModule)
-    → bases.code_base + constant_bytes typed ≤ 65536
-    → bases.data_base + data_bytes typed.objects ≤ 65536
-    → FollowsBases bases (storage_with typed) (module_placement_by bases typed (storage_with typed))
-module_follows bases typed constants variables = record {
-  objects =
-      subst
-      (λ addresses.
-      All (λ (object : Option Slot × ℕ). LiesInSlot bases object.1 object.0)
-      (zip (storage_with typed).objects addresses))
-      (sym (split_addresses bases [] (zip typed.objects (storage_with typed).objects)))
-      (objects_follow bases [] typed.objects (storage_with typed).objects);
-  lists = lists_follow bases (storage_with typed).lists;
-  constants_in_memory = constants;
-  data_in_memory = variables;
-}
 
 -- an object without a place of its own, and in no other module: its address says nothing and is 0
 abbrev HasNone : Home → Type 0

@@ -1,7 +1,6 @@
 pub mod Lists
 pub mod Bytes
 pub mod Addresses
-pub mod Following
 pub mod Modules
 pub mod Meanings
 pub mod Among

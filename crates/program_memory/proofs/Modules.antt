@@ -17,6 +17,7 @@ use Rattle.layout.specs.Placement.{ModulePlacement}
 use Rattle.layout.specs.Placing.{Plan as PlacingPlan, bases_from, module_placement_by, placement_by}
 use Rattle.layout.specs.Segments.{Target as ModuleTarget, SegmentStart, ExternalName, Places, address_of_location, constant_places, data_places, location_of, places_in, resolved}
 use Rattle.layout.specs.Storage.{slot_of_object, storage_with}
+use Rattle.layout.proofs.Placements.{module_follows}
 use Rattle.layout.proofs.Resolving.{resolved_length}
 use Rattle.layout.proofs.Segments.{constants_length, data_length, of_all}
 use Rattle.object_modules.specs.declared.segment.Target.{Target}
@@ -30,7 +31,7 @@ use Rattle.program_images.proofs.Bases.{bases_agree}
 use Rattle.program_images.proofs.Standing.{program_stands}
 use Rattle.program_memory.specs.internal.InMemory.{IsInMemory, placement_of}
 use Rattle.program_memory.specs.internal.Segments.{BeginWith, HasSegments, HaveSegments, IsTarget}
-use Rattle.program_memory.proofs.Addresses.{IsHere, lies_here, module_follows}
+use Rattle.program_memory.proofs.Addresses.{IsHere, lies_here}
 use Rattle.program_memory.proofs.Bytes.{bytes_alike}
 use Rattle.program_memory.proofs.Lists.{got_both, got_numbered}
 

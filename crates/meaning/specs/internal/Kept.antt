@@ -1,19 +1,22 @@
 -- What holds along each run: of a state and one that comes after it.
-use Rattle.std.specs.Prelude.{◌≡◌, ℕ, suc, ◌+◌, ◌<◌, ◌≤◌, Bool, true, List, length, map}
+use Rattle.std.specs.Prelude.{◌≡◌, ℕ, suc, ◌+◌, ◌<◌, ◌≤◌, Bool, true, false, List, length, map}
 use Rattle.mem80.specs.Memory.{byte_at}
 use Rattle.ports.specs.Events.{IsBeginning}
 use Rattle.layout.specs.Joined.{InProgram}
 use Rattle.typed_trees.specs.TypedTrees.{TypedStatements, TypedList}
 use Rattle.meaning.specs.Outcomes.{Program, State, Stop, Ended, More, Outside, Outcome, Gave, Stopped, Flow, Onward, Returned, Jumped}
-use Rattle.meaning.specs.Access.{Surroundings, is_constant}
-use Rattle.meaning.specs.Meaning.{Later, Turn}
+use Rattle.meaning.specs.Access.{Surroundings, is_constant, is_declared}
+use Rattle.meaning.specs.Meaning.{Later, Turn, WhileTurn, IterateTurn}
 
--- the budget does not grow, events are only added, the memory keeps its size, and no byte of a constant changes
+-- The budget does not grow, events are only added, the memory keeps its size, and only bytes that may be written
+-- change: no byte of a constant does, and none that is not declared.
 pub record Follows (program : Program) (s t : State) : Type 0 where
   pub budget : t.budget ≤ s.budget
   pub events : IsBeginning s.events t.events
   pub size : length t.memory ≡ length s.memory
   pub constants : (address : ℕ) → is_constant program address ≡ true
+      → byte_at t.memory address ≡ byte_at s.memory address
+  pub undeclared : (address : ℕ) → is_declared program address ≡ false
       → byte_at t.memory address ≡ byte_at s.memory address
 
 -- within one call the objects of the frame keep their sizes
@@ -43,6 +46,11 @@ jump_took before (Jumped label) after = after < before
 abbrev pub Keeps : {A : Type 0} → Program → Extra A → State → Outcome A → Type 0
 Keeps program extra s (Gave found t) = Continues program s t × extra s.budget found t.budget
 Keeps program extra s (Stopped why t) = Follows program s t × IsSpent why t
+
+-- what a loop repeats
+abbrev pub body_of_turn : Turn → TypedList
+body_of_turn (WhileTurn condition body) = body
+body_of_turn (IterateTurn head body) = body
 
 -- what is given from outside keeps this where the budget is below a number; a turn and what follows a jump come
 -- after one was taken
