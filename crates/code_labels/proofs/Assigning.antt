@@ -1,5 +1,5 @@
 -- Assignments, CALL MOVE, returns and the tests of loops: which labels they go to.
-use Rattle.std.proofs.Common.{◌≡◌, ℕ, zero, suc, ◌+◌, ◌-◌, ◌%◌, ◌/◌, min, nat_eq, nat_le, nat_lt, Bool, true, false, ◌&&◌, ◌||◌, not, if◌then◌else◌, List, [], ◌∷◌, ◌++◌, Option, Some, None, is_some, replicate}
+use Rattle.std.proofs.Common.{ℕ, ◌+◌, ◌-◌, ◌%◌, ◌/◌, min, nat_eq, nat_le, Bool, true, false, if◌then◌else◌, [], ◌∷◌, Option, Some, None, is_some}
 use Rattle.isa8080.specs.declared.instr.Instr.{Instr}
 use Rattle.isa8080.specs.declared.instr.Instr.TheVariants.{Dad, Inx, Lxi, Pop, Sphl}
 use Rattle.isa8080.specs.declared.instr.Pair.TheVariants.{Hl, Sp}
@@ -20,17 +20,12 @@ use Rattle.sites8080.specs.declared.site.Site.{Site}
 use Rattle.sites8080.specs.Site.{scalar}
 use Rattle.sites8080.specs.Queries.{keeps, known, location_of, number}
 use Rattle.statements8080.specs.declared.body.Body.{Body}
-use Rattle.statements8080.specs.declared.plan.Planned.{Planned}
-use Rattle.statements8080.specs.declared.plan.Planned.TheVariants as planned
-use Rattle.statements8080.specs.declared.assignment.TargetTypes.{TargetTypes}
-use Rattle.statements8080.specs.declared.assignment.TargetTypes.TheVariants.{Bytes, Words, Mixed}
 use Rattle.statements8080.specs.declared.bound.Test.{Test}
 use Rattle.statements8080.specs.declared.bound.Test.TheVariants as tests
 use Rattle.statements8080.specs.declared.iteration.Counter.{Counter}
-use Rattle.statements8080.specs.Assignments.{assignment_steps, byte_steps, count_of, each_at, each_steps, from_byte_steps, is_address_first, number_steps, other_byte_steps, other_word_steps, several_by, single_steps, store_at, stores_steps, together_steps, types_of, value_steps, word_steps}
+use Rattle.statements8080.specs.Assignments.{assignment_steps, byte_steps, count_of, each_at, each_steps, is_address_first, other_byte_steps, other_word_steps, several_by, single_steps, store_at, takes_byte, takes_word, any_target, types_by, together_steps, value_steps, word_steps}
 use Rattle.statements8080.specs.Bodies.{is_near}
-use Rattle.statements8080.specs.Moves.{computed_ends_steps, ends_steps, known_move_steps, move_steps}
-use Rattle.statements8080.specs.Plans.{all, plain}
+use Rattle.statements8080.specs.Moves.{ends_steps, move_steps}
 use Rattle.statements8080.specs.Tests.{less_steps, test_steps}
 use Rattle.codegen8080.specs.Procedures.{drop_steps, end_steps, kept_steps, pops_steps, return_of_frame_steps, return_over_any_steps, return_over_steps, return_steps, return_steps_by, zero_result_steps}
 use Rattle.codegen8080.specs.Statements.{return_of_steps, returned_value_steps}
@@ -103,11 +98,12 @@ module _ {ok : ℕ → Type 0} {statement : StatementNumber → Type 0} {list : 
       (each_go (store_at body targets from) 0 targets.count (store_at_go body targets from))
 
   several_go :
-      (types : TargetTypes) (body : Body) (site : Site) (targets : Range) (value : ExpressionNumber)
-      → PlanGo ok statement list (several_by types body site targets value)
-  several_go Bytes body site targets value = together_go body targets value Byte
-  several_go Words body site targets value = together_go body targets value Address
-  several_go Mixed body site targets value =
+      (bytes words : Bool) (body : Body) (site : Site) (targets : Range) (value : ExpressionNumber)
+      → PlanGo ok statement list (several_by (types_by bytes words) body site targets value)
+  several_go true false body site targets value = together_go body targets value Byte
+  several_go false false body site targets value = together_go body targets value Byte
+  several_go false true body site targets value = together_go body targets value Address
+  several_go true true body site targets value =
       either_go (is_some (number site value)) (each_target_go body site targets value)
       (together_go body targets value (scalar site value))
 
@@ -116,7 +112,8 @@ module _ {ok : ℕ → Type 0} {statement : StatementNumber → Type 0} {list : 
       → PlanGo ok statement list (assignment_steps body site targets value)
   assignment_go body site targets value =
       either_go (nat_eq targets.count 1) (each_target_go body site targets value)
-      (several_go (types_of body targets) body site targets value)
+      (several_go (any_target takes_byte body targets 0 targets.count) (any_target takes_word body targets 0 targets.count)
+      body site targets value)
 
   -- CALL MOVE
   ends_go :

@@ -1,5 +1,5 @@
 -- Jumps by conditions go to their label, or to labels that they bind.
-use Rattle.std.proofs.Common.{◌≡◌, ◌⊎◌, inl, inr, refl, ℕ, Bool, true, false, if◌then◌else◌, List, [], ◌∷◌, ◌++◌, Option, Some, None}
+use Rattle.std.proofs.Common.{inl, refl, ℕ, Bool, true, false, if◌then◌else◌, [], ◌∷◌, ◌++◌, Option, Some, None}
 use Rattle.isa8080.specs.declared.instr.Condition.TheVariants.{NotZero, Zero}
 use Rattle.asm8080.specs.declared.item.WordForm.TheVariants as forms
 use Rattle.treecode.specs.declared.expression.ExpressionNumber.{ExpressionNumber}
@@ -17,7 +17,7 @@ use Rattle.relations8080.specs.declared.branches.Shape.TheVariants.{Known, SameA
 use Rattle.relations8080.specs.declared.relations.Outcome.{Outcome}
 use Rattle.relations8080.specs.declared.relations.Outcome.TheVariants as outcomes
 use Rattle.relations8080.specs.declared.word_relations.Words.{Words}
-use Rattle.relations8080.specs.Branches.{branch_part, branch_setting, branch_steps, by_bit_steps, equality_steps, joined_steps, known_branch_steps, other_steps, outcome_branch_steps, relation_branch_steps, shape_of, shape_steps}
+use Rattle.relations8080.specs.Branches.{branch_part, branch_setting, branch_steps, by_bit_steps, equality_steps, known_branch_steps, outcome_branch_steps, relation_branch_steps, shape_of, shape_steps}
 use Rattle.relations8080.specs.Relations.{relation_outcome, relation_steps}
 use Rattle.relations8080.specs.WordRelations.{equality_of_words, high_difference_steps, low_difference_steps, words_of, words_steps}
 use Rattle.code_labels.specs.Steps.{StepsBind}

@@ -1,5 +1,5 @@
 -- The low bytes of values of operators and shifts have no labels.
-use Rattle.std.proofs.Common.{ℕ, zero, suc, ◌+◌, ◌-◌, ◌%◌, ◌/◌, ◌==◌, nat_le, Bool, true, false, ◌&&◌, ◌||◌, List, [], ◌∷◌, ◌++◌, Option, Some, None, is_some, if◌then◌else◌}
+use Rattle.std.proofs.Common.{ℕ, ◌+◌, ◌-◌, ◌%◌, ◌==◌, nat_le, true, ◌&&◌, ◌||◌, [], ◌∷◌, ◌++◌, is_some}
 use Rattle.isa8080.specs.declared.instr.Instr.TheVariants.{Dad, Rlc, Rrc}
 use Rattle.isa8080.specs.declared.instr.Operation.{Operation}
 use Rattle.isa8080.specs.declared.instr.Operation.TheVariants.{Add, Subtract, And, ExclusiveOr, Or}

@@ -1,15 +1,11 @@
 -- What is written for planned steps goes to labels of some kind alone, where the steps do.
-use Rattle.std.proofs.Common.{◌≡◌, ◌⊎◌, inl, inr, refl, ℕ, Bool, true, false, if◌then◌else◌, List, [], ◌∷◌, ◌++◌, Option, Some, None}
+use Rattle.std.proofs.Common.{◌≡◌, inl, inr, ℕ, Bool, true, false, List, [], ◌∷◌, ◌++◌, Option}
 use Rattle.asm8080.specs.declared.item.Item.{Item}
-use Rattle.asm8080.specs.declared.item.WordForm.TheVariants.{Jump, LoadA, LoadHl}
-use Rattle.treecode.specs.declared.lists.Range.{Range}
 use Rattle.treecode.specs.declared.place.Location.{Location}
 use Rattle.treecode.specs.declared.place.Location.TheVariants.{Static, Frame}
 use Rattle.treecode.specs.declared.reference.Reference.{Reference}
-use Rattle.treecode.specs.declared.statement.StatementNumber.{StatementNumber}
 use Rattle.steps8080.specs.declared.facts.Facts.{Facts}
 use Rattle.steps8080.specs.declared.step.LabelNumber.{LabelNumber}
-use Rattle.steps8080.specs.declared.step.Step.{Step}
 use Rattle.steps8080.specs.declared.step.Step.TheVariants as steps
 use Rattle.steps8080.specs.declared.step.Task.{Task}
 use Rattle.steps8080.specs.declared.step.Task.TheVariants as tasks
@@ -21,12 +17,12 @@ use Rattle.statements8080.specs.declared.body.Body.{Body}
 use Rattle.statements8080.specs.declared.plan.Planned.{Planned}
 use Rattle.statements8080.specs.declared.plan.Planned.TheVariants as planned
 use Rattle.codegen8080.specs.declared.meeting.Here.{Here}
-use Rattle.codegen8080.specs.Generated.{AreCarriedOut, HoldsNoStatement, ListCarriedOut, NoneCarriedOut, StatementCarriedOut, StepCarriedOut, byte_at_steps, byte_in_a, carried_steps, jump_on_steps, load_byte_steps, load_word_steps, site_of, word_at_steps, word_in_hl}
+use Rattle.codegen8080.specs.Generated.{AreCarriedOut, HoldsNoStatement, ListCarriedOut, NoneCarriedOut, StatementCarriedOut, StepCarriedOut, byte_at_steps, carried_steps, jump_on_steps, load_byte_steps, load_word_steps, site_of, word_at_steps}
 use Rattle.code_labels.specs.Items.{ItemsBind, ItemsGo}
 use Rattle.code_labels.specs.Plans.{ListGoes, PlanBinds, PlanGoes, PlannedBinds, StatementGoes, TaskThen}
 use Rattle.code_labels.specs.Steps.{StepsBind, StepsGo, TaskGoes}
 use Rattle.code_labels.proofs.Joining.{AreFree, by_finding, by_test, free, joined}
-use Rattle.code_labels.proofs.Going.{bound_later, free_go}
+use Rattle.code_labels.proofs.Going.{free_go}
 use Rattle.code_labels.proofs.Written.{Knows, bound_after, bound_first, items_both, steps_bound, steps_written}
 
 -- a value that comes to its register

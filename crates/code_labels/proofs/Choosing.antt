@@ -1,15 +1,9 @@
 -- IF, DO WHILE and DO CASE: they go to labels that they bind, or that a GOTO in them goes to.
-use Rattle.std.proofs.Common.{◌≡◌, ◌⊎◌, inl, inr, refl, sym, ap, ◌∙◌, subst, ℕ, zero, suc, ◌+◌, ◌-◌, ◌%◌, ◌<◌, ◌≤◌, nat_eq, nat_lt, Bool, true, false, if◌then◌else◌, List, [], ◌∷◌, ◌++◌, Option, Some, None, arith}
+use Rattle.std.proofs.Common.{◌≡◌, inl, inr, refl, sym, ap, ◌∙◌, subst, ℕ, ◌-◌, ◌%◌, ◌<◌, nat_eq, nat_lt, Bool, true, false, if◌then◌else◌, List, [], ◌∷◌, Option, Some, None, arith}
 use Rattle.std.specs.Option.{option_and_then}
-use Rattle.std.specs.Prelude.{slice_get}
-use Rattle.std.proofs.lemmas.Bool.{eqb-refl, ltb-true}
+use Rattle.std.proofs.lemmas.Bool.{eq-eqb, ltb-true}
 use Rattle.std.proofs.lemmas.Option.{none-some}
-use Rattle.isa8080.specs.declared.instr.Condition.TheVariants.{NoCarry}
-use Rattle.isa8080.specs.declared.instr.Instr.TheVariants.{AccumulateImmediate, Dad, Nop, Pchl, Xchg}
-use Rattle.isa8080.specs.declared.instr.Operation.TheVariants.{Compare}
-use Rattle.isa8080.specs.declared.instr.Pair.TheVariants.{De, Hl}
-use Rattle.isa8080.specs.declared.instr.Register.TheVariants.{A, D, E}
-use Rattle.asm8080.specs.declared.item.WordForm.TheVariants.{Jump, JumpWhere, LoadPair}
+use Rattle.asm8080.specs.declared.item.WordForm.TheVariants.{Jump}
 use Rattle.trees.specs.declared.declaration.ScalarType.{ScalarType}
 use Rattle.trees.specs.declared.declaration.ScalarType.TheVariants.{Byte, Address}
 use Rattle.treecode.specs.declared.expression.ExpressionNumber.{ExpressionNumber}
@@ -20,19 +14,17 @@ use Rattle.treecode.specs.declared.statement.StatementNumber.{StatementNumber}
 use Rattle.treecode.specs.Queries.{item, statement}
 use Rattle.steps8080.specs.declared.step.LabelNumber.{LabelNumber}
 use Rattle.steps8080.specs.declared.step.Task.TheVariants as tasks
-use Rattle.steps8080.specs.Instructions.{copy, set}
 use Rattle.steps8080.specs.Step.{label_of}
 use Rattle.sites8080.specs.declared.site.Site.{Site}
 use Rattle.sites8080.specs.Site.{scalar}
 use Rattle.sites8080.specs.Queries.{number}
 use Rattle.statements8080.specs.declared.body.Body.{Body}
 use Rattle.statements8080.specs.declared.plan.Planned.{Planned}
-use Rattle.statements8080.specs.declared.plan.Planned.TheVariants.{Jumped, JumpOn, List as ListOf, Meet, Reaches, Statement, Turn}
+use Rattle.statements8080.specs.declared.plan.Planned.TheVariants.{JumpOn, Statement}
 use Rattle.statements8080.specs.Bodies.{body_label}
-use Rattle.statements8080.specs.Branches.{both_steps, branch, computed_if_steps, forever_steps, goto_label, goto_label_of, has_one_jump, if_steps, statement_if_any, tested_if_steps, tested_while_steps, then_steps, while_steps}
+use Rattle.statements8080.specs.Branches.{both_steps, branch, computed_if_steps, forever_steps, goto_label, goto_label_of, if_steps, statement_if_any, tested_if_steps, tested_while_steps, then_steps, while_steps}
 use Rattle.statements8080.specs.Cases.{byte_bound_steps, case_steps, cases_end_steps, choice_at_steps, choice_steps, computed_case_steps, entry_of, entry_of_statement, into_table_steps, known_case_steps, number_in_de_steps, statement_at, statements_steps, table_at, table_steps, word_bound_steps}
-use Rattle.statements8080.specs.Plans.{all, jump, label_at, mark, nth_label, part, plain, steps_from}
-use Rattle.statements8080.specs.Tests.{less_steps}
+use Rattle.statements8080.specs.Plans.{jump, label_at, mark, nth_label, part}
 use Rattle.code_labels.specs.Plans.{ListGoes, PlanBinds, StatementGoes}
 use Rattle.code_labels.proofs.Planning.{PlanGo, after_byte, after_word, each_go, either_go, plan_at, plan_first, plan_later, planned_go, plans_then}
 use Rattle.code_labels.proofs.Assigning.{less_go}
@@ -244,7 +236,7 @@ module _
             (at_bound index one
             (nat_eq (entry_of body list index (label_at first index) end).index (label_at first index).index)
             (ap (λ (given : LabelNumber). nat_eq given.index (label_at first index).index) entry
-            ∙ eqb-refl (label_at first index).index))
+            ∙ eq-eqb (label_at first index).index (label_at first index).index refl))
 
         own_ok :
             (index : ℕ) (one : StatementNumber) (found : TreeStatement)

@@ -1,11 +1,9 @@
 -- How procedures begin: they go to labels that they bind.
-use Rattle.std.proofs.Common.{◌≡◌, ◌⊎◌, inl, inr, refl, ℕ, zero, suc, ◌+◌, ◌-◌, ◌%◌, ◌/◌, nat_eq, nat_le, Bool, true, false, if◌then◌else◌, List, [], ◌∷◌, ◌++◌, length, Option, Some, None, replicate, take}
+use Rattle.std.proofs.Common.{inl, inr, refl, ℕ, zero, suc, ◌-◌, ◌%◌, ◌/◌, nat_eq, nat_le, Bool, true, false, if◌then◌else◌, List, [], ◌∷◌, ◌++◌, length, replicate, take}
 use Rattle.std.specs.Prelude.{slice_get}
-use Rattle.isa8080.specs.declared.instr.Instr.TheVariants.{Dcr, Inx, Lxi, Mvi, Pop, Push, Xthl}
-use Rattle.isa8080.specs.declared.instr.Operand.TheVariants.{Of}
-use Rattle.isa8080.specs.declared.instr.Pair.TheVariants.{De, Sp}
-use Rattle.isa8080.specs.declared.instr.Register.TheVariants.{B}
-use Rattle.isa8080.specs.declared.instr.StackPair.TheVariants.{StackDe, StackHl}
+use Rattle.isa8080.specs.declared.instr.Instr.TheVariants.{Lxi, Push}
+use Rattle.isa8080.specs.declared.instr.Pair.TheVariants.{De}
+use Rattle.isa8080.specs.declared.instr.StackPair.TheVariants.{StackDe}
 use Rattle.trees.specs.declared.declaration.ScalarType.{ScalarType}
 use Rattle.trees.specs.declared.declaration.ScalarType.TheVariants.{Byte, Address}
 use Rattle.treecode.specs.declared.lists.Range.{Range}
@@ -17,11 +15,15 @@ use Rattle.treecode.specs.declared.statement.StatementNumber.{StatementNumber}
 use Rattle.steps8080.specs.declared.step.LabelNumber.{LabelNumber}
 use Rattle.steps8080.specs.Step.{label_of}
 use Rattle.statements8080.specs.declared.body.Body.{Body}
-use Rattle.statements8080.specs.declared.plan.Planned.{Planned}
 use Rattle.statements8080.specs.Plans.{holds, plain}
-use Rattle.codegen8080.specs.Procedures.{argument_step, below_return_steps, entry_steps, entry_steps_by, exchanged_steps, frame_entry_steps, is_address, last_argument_facts, last_argument_steps, odd_byte_steps, popped_argument_steps, popped_at, popped_from, push_loop_steps, pushed_arguments_steps, pushes_steps, static_entry_steps, store_argument, stores_steps, zeros_steps}
+use Rattle.codegen8080.specs.Procedures.{argument_step, below_return_steps, entry_steps, entry_steps_by, exchanged_steps, frame_entry_steps, is_address, last_argument_facts, last_argument_steps, odd_byte_steps, popped_at, popped_from, push_loop_steps, pushed_arguments_steps, pushes_steps, static_entry_steps, store_argument, stores_steps, zeros_steps}
 use Rattle.code_labels.specs.Plans.{PlanBinds}
 use Rattle.code_labels.proofs.Planning.{PlanGo, after_plain, either_go, finding_go, plan_first, plan_later, planned_go, plans_then, repeated_go}
+
+-- the loop that pushes zeros
+loop_bound : (turns : ℕ) (again : LabelNumber) → PlanBinds again.index (push_loop_steps turns again)
+unfolding push_loop_steps
+loop_bound turns again = inr (inl refl)
 
 module _ {ok : ℕ → Type 0} {statement : StatementNumber → Type 0} {list : Range → Type 0} where
   -- arguments go to their parameters
@@ -76,10 +78,6 @@ module _ {ok : ℕ → Type 0} {statement : StatementNumber → Type 0} {list : 
   loop_go : (turns : ℕ) (again : LabelNumber) → ok again.index → PlanGo ok statement list (push_loop_steps turns again)
   unfolding push_loop_steps
   loop_go turns again to = planned_go (to, tt)
-
-  loop_bound : (turns : ℕ) (again : LabelNumber) → PlanBinds again.index (push_loop_steps turns again)
-  unfolding push_loop_steps
-  loop_bound turns again = inr (inl refl)
 
   pushes_by :
       (words first : ℕ) (few : Bool)

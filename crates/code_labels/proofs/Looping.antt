@@ -1,7 +1,5 @@
 -- Iterative DO: it goes to labels that it binds.
-use Rattle.std.proofs.Common.{◌≡◌, ◌⊎◌, inl, inr, refl, ℕ, ◌+◌, nat_le, nat_lt, nat_eq, Bool, true, false, ◌&&◌, ◌||◌, not, if◌then◌else◌, List, [], ◌∷◌, ◌++◌, Option, Some, None, is_some}
-use Rattle.asm8080.specs.declared.item.WordForm.TheVariants.{Jump, JumpWhere}
-use Rattle.isa8080.specs.declared.instr.Condition.TheVariants.{NoCarry}
+use Rattle.std.proofs.Common.{◌≡◌, ◌⊎◌, inl, inr, refl, ℕ, ◌+◌, nat_le, Bool, true, false, ◌&&◌, not, if◌then◌else◌, List, [], ◌∷◌, ◌++◌, Option, Some, None}
 use Rattle.trees.specs.declared.declaration.ScalarType.{ScalarType}
 use Rattle.trees.specs.declared.declaration.ScalarType.TheVariants.{Byte, Address}
 use Rattle.treecode.specs.declared.expression.ExpressionNumber.{ExpressionNumber}
@@ -18,13 +16,12 @@ use Rattle.sites8080.specs.Queries.{known, number}
 use Rattle.statements8080.specs.declared.body.Body.{Body}
 use Rattle.statements8080.specs.declared.iteration.Counter.{Counter}
 use Rattle.statements8080.specs.declared.bound.Test.{Test}
-use Rattle.statements8080.specs.declared.iteration.LoopLabels.{LoopLabels}
 use Rattle.statements8080.specs.declared.plan.Planned.{Planned}
-use Rattle.statements8080.specs.declared.plan.Planned.TheVariants.{Again, Jumped, List as ListOf, Meet, Reaches}
+use Rattle.statements8080.specs.declared.plan.Planned.TheVariants.{Again, List as ListOf, Meet, Reaches}
 use Rattle.statements8080.specs.Counters.{counter_of, counter_place, counts_by_one, has_a_turn}
-use Rattle.statements8080.specs.Iterations.{add_byte_steps, add_de_in_frame_steps, add_de_steps, add_steps, add_word_steps, add_word_to_byte_steps, asked_jump, asked_mark, asked_test_steps, below_steps, count_at_hl_steps, count_steps, counts_in_place, facts_of_turn, first_steps, first_test_steps, general_begin_steps, general_end_steps, general_steps, is_byte, is_byte_type, iteration_steps, loop_labels, next_byte_steps, next_steps, next_turn_steps, next_word_steps, step_in_de_steps, step_steps, sum_of_byte_steps, sum_of_word_steps, test_label_steps, to_known_steps, turns_if_any, turns_steps}
-use Rattle.statements8080.specs.Plans.{jump, mark, nth_label}
-use Rattle.statements8080.specs.Tests.{facts_of_test, test_of, test_steps}
+use Rattle.statements8080.specs.Iterations.{add_de_steps, add_steps, add_word_to_byte_steps, asked_jump, asked_mark, asked_test_steps, below_steps, count_at_hl_steps, count_steps, counts_in_place, facts_of_turn, first_steps, first_test_steps, general_begin_steps, general_end_steps, general_steps, is_byte, is_byte_type, iteration_steps, loop_labels, next_byte_steps, next_steps, next_turn_steps, step_in_de_steps, step_steps, sum_of_byte_steps, sum_of_word_steps, test_label_steps, to_known_steps, turns_if_any}
+use Rattle.statements8080.specs.Plans.{mark, nth_label}
+use Rattle.statements8080.specs.Tests.{test_of, test_steps}
 use Rattle.code_labels.specs.Plans.{PlanBinds}
 use Rattle.code_labels.proofs.Planning.{PlanGo, after_address, after_load, asking_go, either_go, finding_go, plan_first, plan_later, planned_go, plans_then}
 use Rattle.code_labels.proofs.Assigning.{less_go, single_go, test_go}
@@ -49,6 +46,20 @@ label_bound :
     → PlanBinds test.index (test_label_steps counter one entered test)
 unfolding test_label_steps
 label_bound counter one entered test is = label_bound_by one entered counter.scalar test is
+
+-- the end of a loop to a known bound is bound where it is asked for
+end_asked :
+    (counter : Counter) (last : ℕ) (is_tested : Bool) (range : Range) (turn end : LabelNumber)
+    → is_tested ≡ true
+    → PlanBinds end.index
+    (asked_test_steps counter last is_tested end
+    ++ (Again turn (facts_of_turn counter) true
+    ∷ ListOf range
+    ∷ (next_turn_steps counter last turn ++ (asked_mark is_tested end ++ (Reaches true ∷ [])))))
+end_asked counter last true range turn end is =
+    plan_later end.index (asked_test_steps counter last true end) _
+    (inr (inr (plan_later end.index (next_turn_steps counter last turn) _ (inl refl))))
+end_asked counter last false range turn end is = let never : ⊥ = cc in absurd never
 
 module _ {ok : ℕ → Type 0} {statement : StatementNumber → Type 0} {list : Range → Type 0} where
   first_go :
@@ -105,26 +116,13 @@ module _ {ok : ℕ → Type 0} {statement : StatementNumber → Type 0} {list : 
   asked_mark_go false label = planned_go tt
 
   after_again :
-      {turn : LabelNumber} {counter : Counter} {range : Range} {others : List Planned}
+      {turn : LabelNumber} {range : Range} {others : List Planned} (counter : Counter)
       → list range
       → PlanGo ok statement list others
       → PlanGo ok statement list (Again turn (facts_of_turn counter) true ∷ ListOf range ∷ others)
-  after_again is after = planned_go (is, after.goes)
+  after_again counter is after = planned_go (is, after.goes)
 
   -- counting by 1 to a known bound
-  end_asked :
-      (counter : Counter) (last : ℕ) (is_tested : Bool) (range : Range) (turn end : LabelNumber)
-      → is_tested ≡ true
-      → PlanBinds end.index
-      (asked_test_steps counter last is_tested end
-      ++ (Again turn (facts_of_turn counter) true
-      ∷ ListOf range
-      ∷ (next_turn_steps counter last turn ++ (asked_mark is_tested end ++ (Reaches true ∷ [])))))
-  end_asked counter last true range turn end is =
-      plan_later end.index (asked_test_steps counter last true end) _
-      (inr (inr (plan_later end.index (next_turn_steps counter last turn) _ (inl refl))))
-  end_asked counter last false range turn end is = let never : ⊥ = cc in absurd never
-
   to_known_go :
       (counter : Counter) (last : ℕ) (is_tested : Bool) (range : Range) (first : ℕ)
       → list range
@@ -136,7 +134,7 @@ module _ {ok : ℕ → Type 0} {statement : StatementNumber → Type 0} {list : 
       (asked_test_go counter last is_tested (nth_label first 1)
       (λ tested. own (nth_label first 1).index
       (end_asked counter last is_tested range (label_of first) (nth_label first 1) tested)))
-      (after_again is
+      (after_again counter is
       (plans_then
       (next_turn_go counter last (label_of first)
       (own first (plan_later first (asked_test_steps counter last is_tested (nth_label first 1)) _ (inl refl))))
@@ -144,19 +142,19 @@ module _ {ok : ℕ → Type 0} {statement : StatementNumber → Type 0} {list : 
 
   -- the step
   count_at_hl_go :
-      (variable : ScalarType) (labels : LoopLabels)
-      → ok labels.end.index
-      → (variable ≡ Address → ok labels.test.index)
-      → PlanGo ok statement list (count_at_hl_steps variable labels)
-  count_at_hl_go Byte labels end test = planned_go (end, tt)
-  count_at_hl_go Address labels end test = planned_go (test refl, (end, tt))
+      (variable : ScalarType) (first : ℕ)
+      → ok (nth_label first 2).index
+      → (variable ≡ Address → ok (nth_label first 1).index)
+      → PlanGo ok statement list (count_at_hl_steps variable (loop_labels first))
+  count_at_hl_go Byte first end test = planned_go (end, tt)
+  count_at_hl_go Address first end test = planned_go (test refl, (end, tt))
 
   count_go :
-      (counter : Counter) (labels : LoopLabels)
-      → ok labels.end.index
-      → (counter.scalar ≡ Address → ok labels.test.index)
-      → PlanGo ok statement list (count_steps counter labels)
-  count_go counter labels end test = after_address (count_at_hl_go counter.scalar labels end test)
+      (counter : Counter) (first : ℕ)
+      → ok (nth_label first 2).index
+      → (counter.scalar ≡ Address → ok (nth_label first 1).index)
+      → PlanGo ok statement list (count_steps counter (loop_labels first))
+  count_go counter first end test = after_address (count_at_hl_go counter.scalar first end test)
 
   add_word_to_byte_go :
       (counter : Counter) (step : ExpressionNumber) (end : LabelNumber)
@@ -183,15 +181,15 @@ module _ {ok : ℕ → Type 0} {statement : StatementNumber → Type 0} {list : 
       plans_then (step_in_de_go site step) (add_de_go (counter_place counter) counter end to)
 
   step_go :
-      (site : Site) (counter : Counter) (step : Option ExpressionNumber) (labels : LoopLabels)
-      → ok labels.end.index
-      → (counts_by_one site step ≡ true → counter.scalar ≡ Address → ok labels.test.index)
-      → PlanGo ok statement list (step_steps site counter step labels)
+      (site : Site) (counter : Counter) (step : Option ExpressionNumber) (first : ℕ)
+      → ok (nth_label first 2).index
+      → (counts_by_one site step ≡ true → counter.scalar ≡ Address → ok (nth_label first 1).index)
+      → PlanGo ok statement list (step_steps site counter step (loop_labels first))
   unfolding step_steps
-  step_go site counter (Some step) labels end test =
-      asking_go (counts_by_one site (Some step)) (λ one. count_go counter labels end (test one))
-      (λ other. add_go counter.scalar site counter step labels.end end)
-  step_go site counter None labels end test = count_go counter labels end (test refl)
+  step_go site counter (Some step) first end test =
+      asking_go (counts_by_one site (Some step)) (λ one. count_go counter first end (test one))
+      (λ other. add_go counter.scalar site counter step (nth_label first 2) end)
+  step_go site counter None first end test = count_go counter first end (test refl)
 
   test_label_go :
       (counter : Counter) (one entered : Bool) (test : LabelNumber)
@@ -209,53 +207,53 @@ module _ {ok : ℕ → Type 0} {statement : StatementNumber → Type 0} {list : 
 
   -- counting in general
   begin_go :
-      (counter : Counter) (test : Test) (is_tested : Bool) (range : Range) (labels : LoopLabels)
+      (counter : Counter) (test : Test) (is_tested : Bool) (range : Range) (first : ℕ)
       → list range
-      → (is_tested ≡ true → ok labels.test.index)
-      → PlanGo ok statement list (general_begin_steps counter test is_tested range labels)
+      → (is_tested ≡ true → ok (nth_label first 1).index)
+      → PlanGo ok statement list (general_begin_steps counter test is_tested range (loop_labels first))
   unfolding general_begin_steps
-  begin_go counter test is_tested range labels is to =
-      plans_then (asked_jump_go is_tested labels.test to) (planned_go (is, tt))
+  begin_go counter test is_tested range first is to =
+      plans_then (asked_jump_go is_tested (nth_label first 1) to) (planned_go (is, tt))
 
   end_go :
-      (site : Site) (counter : Counter) (head : Iteration) (test : Test) (is_tested : Bool) (labels : LoopLabels)
-      → ok labels.turn.index
-      → ok labels.end.index
-      → (counts_by_one site head.step ≡ true → counter.scalar ≡ Address → ok labels.test.index)
-      → PlanGo ok statement list (general_end_steps site counter head test is_tested labels)
+      (site : Site) (counter : Counter) (head : Iteration) (test : Test) (is_tested : Bool) (first : ℕ)
+      → ok first
+      → ok (nth_label first 2).index
+      → (counts_by_one site head.step ≡ true → counter.scalar ≡ Address → ok (nth_label first 1).index)
+      → PlanGo ok statement list (general_end_steps site counter head test is_tested (loop_labels first))
   unfolding general_end_steps
-  end_go site counter head test is_tested labels turn end to =
-      plans_then (step_go site counter head.step labels end to)
-      (plans_then (test_label_go counter (counts_by_one site head.step) is_tested labels.test)
-      (plans_then (test_go counter test labels.turn turn) (planned_go tt)))
+  end_go site counter head test is_tested first turn end to =
+      plans_then (step_go site counter head.step first end to)
+      (plans_then (test_label_go counter (counts_by_one site head.step) is_tested (nth_label first 1))
+      (plans_then (test_go counter test (label_of first) turn) (planned_go tt)))
 
 turn_bound :
-    (counter : Counter) (test : Test) (is_tested : Bool) (range : Range) (labels : LoopLabels)
-    → PlanBinds labels.turn.index (general_begin_steps counter test is_tested range labels)
+    (counter : Counter) (test : Test) (is_tested : Bool) (range : Range) (first : ℕ)
+    → PlanBinds first (general_begin_steps counter test is_tested range (loop_labels first))
 unfolding general_begin_steps
-turn_bound counter test is_tested range labels =
-    plan_later labels.turn.index (asked_jump is_tested labels.test) _ (inl refl)
+turn_bound counter test is_tested range first =
+    plan_later first (asked_jump is_tested (nth_label first 1)) _ (inl refl)
 
 end_bound :
-    (site : Site) (counter : Counter) (head : Iteration) (test : Test) (is_tested : Bool) (labels : LoopLabels)
-    → PlanBinds labels.end.index (general_end_steps site counter head test is_tested labels)
+    (site : Site) (counter : Counter) (head : Iteration) (test : Test) (is_tested : Bool) (first : ℕ)
+    → PlanBinds (nth_label first 2).index (general_end_steps site counter head test is_tested (loop_labels first))
 unfolding general_end_steps
-end_bound site counter head test is_tested labels =
-    plan_later labels.end.index (step_steps site counter head.step labels) _
-    (plan_later labels.end.index
-    (test_label_steps counter (counts_by_one site head.step) is_tested labels.test) _
-    (plan_later labels.end.index (test_steps counter test labels.turn) _ (inl refl)))
+end_bound site counter head test is_tested first =
+    plan_later (nth_label first 2).index (step_steps site counter head.step (loop_labels first)) _
+    (plan_later (nth_label first 2).index
+    (test_label_steps counter (counts_by_one site head.step) is_tested (nth_label first 1)) _
+    (plan_later (nth_label first 2).index (test_steps counter test (label_of first)) _ (inl refl)))
 
 test_bound :
-    (site : Site) (counter : Counter) (head : Iteration) (test : Test) (is_tested : Bool) (labels : LoopLabels)
+    (site : Site) (counter : Counter) (head : Iteration) (test : Test) (is_tested : Bool) (first : ℕ)
     → ((counts_by_one site head.step ≡ true) × (counter.scalar ≡ Address)) ⊎ (is_tested ≡ true)
-    → PlanBinds labels.test.index (general_end_steps site counter head test is_tested labels)
+    → PlanBinds (nth_label first 1).index (general_end_steps site counter head test is_tested (loop_labels first))
 unfolding general_end_steps
-test_bound site counter head test is_tested labels is =
-    plan_later labels.test.index (step_steps site counter head.step labels) _
-    (plan_first labels.test.index
-    (test_label_steps counter (counts_by_one site head.step) is_tested labels.test) _
-    (label_bound counter (counts_by_one site head.step) is_tested labels.test is))
+test_bound site counter head test is_tested first is =
+    plan_later (nth_label first 1).index (step_steps site counter head.step (loop_labels first)) _
+    (plan_first (nth_label first 1).index
+    (test_label_steps counter (counts_by_one site head.step) is_tested (nth_label first 1)) _
+    (label_bound counter (counts_by_one site head.step) is_tested (nth_label first 1) is))
 
 module _ {ok : ℕ → Type 0} {statement : StatementNumber → Type 0} {list : Range → Type 0} where
   general_go :
@@ -265,21 +263,19 @@ module _ {ok : ℕ → Type 0} {statement : StatementNumber → Type 0} {list : 
       → PlanGo ok statement list (general_steps site counter head is_tested range first)
   unfolding general_steps
   general_go site counter head is_tested range first is own =
-      let labels = loop_labels first in
       let test = test_of site counter head.last in
-      let beginning = general_begin_steps counter test is_tested range labels in
-      let ending = general_end_steps site counter head test is_tested labels in
+      let beginning = general_begin_steps counter test is_tested range (loop_labels first) in
+      let ending = general_end_steps site counter head test is_tested (loop_labels first) in
       let in_end : (label : ℕ) → PlanBinds label ending → ok label =
       λ label bound. own label (plan_later label beginning ending bound) in
       plans_then
-      (begin_go counter test is_tested range labels is
-      (λ tested. in_end labels.test.index (test_bound site counter head test is_tested labels (inr tested))))
-      (end_go site counter head test is_tested labels
-      (own labels.turn.index
-      (plan_first labels.turn.index beginning ending (turn_bound counter test is_tested range labels)))
-      (in_end labels.end.index (end_bound site counter head test is_tested labels))
-      (λ one address. in_end labels.test.index
-      (test_bound site counter head test is_tested labels (inl (one, address)))))
+      (begin_go counter test is_tested range first is
+      (λ tested. in_end (nth_label first 1).index (test_bound site counter head test is_tested first (inr tested))))
+      (end_go site counter head test is_tested first
+      (own first (plan_first first beginning ending (turn_bound counter test is_tested range first)))
+      (in_end (nth_label first 2).index (end_bound site counter head test is_tested first))
+      (λ one address. in_end (nth_label first 1).index
+      (test_bound site counter head test is_tested first (inl (one, address)))))
 
   in_place_by :
       (site : Site) (counter : Counter) (head : Iteration) (is_tested : Bool) (range : Range) (first last : ℕ)

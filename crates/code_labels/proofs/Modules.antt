@@ -1,16 +1,13 @@
 -- The code of a module goes to labels that it binds, and to those of routines that are called.
-use Rattle.std.proofs.Common.{◌≡◌, ◌⊎◌, inl, inr, refl, sym, ap, ◌∙◌, subst, ℕ, zero, suc, ◌+◌, ◌<◌, ◌≤◌, Bool, true, false, List, [], ◌∷◌, ◌++◌, length, Option, Some, None, Any, arith}
+use Rattle.std.proofs.Common.{◌≡◌, inl, inr, refl, sym, ap, subst, ℕ, zero, suc, ◌+◌, Bool, true, false, List, [], ◌∷◌, ◌++◌, length, Option, Some, None, arith}
 use Rattle.std.specs.Prelude.{All, slice_get}
 use Rattle.std.proofs.lemmas.Option.{none-some, same_Some}
-use Rattle.typed_trees.specs.Jumps.{BodyIsSound, JumpsAreSound, LabelsOf}
-use Rattle.typed_trees.specs.TypedTrees.{TypedList, TypedModule, TypedProcedure}
+use Rattle.typed_trees.specs.Jumps.{BodyIsSound, JumpsAreSound}
+use Rattle.typed_trees.specs.TypedTrees.{TypedModule, TypedProcedure}
 use Rattle.layout.specs.Storage.{Storage}
 use Rattle.isa8080.specs.declared.instr.Instr.TheVariants.{Hlt}
-use Rattle.isa8080.specs.declared.instr.Pair.TheVariants.{Sp}
 use Rattle.asm8080.specs.declared.item.Item.{Item}
 use Rattle.asm8080.specs.declared.item.Item.TheVariants as items
-use Rattle.asm8080.specs.declared.item.WordForm.TheVariants.{LoadPair}
-use Rattle.runtime8080.specs.declared.routine.Routine.{Routine}
 use Rattle.treecode.specs.declared.module.Content.{Content}
 use Rattle.treecode.specs.declared.module.Content.TheVariants as contents
 use Rattle.treecode.specs.declared.module.TreeModule.{TreeModule}
@@ -19,15 +16,14 @@ use Rattle.treecode.specs.declared.place.Place.TheVariants as places
 use Rattle.treecode.specs.declared.procedure.ProcedureKind.{ProcedureKind}
 use Rattle.treecode.specs.declared.procedure.ProcedureKind.TheVariants as kinds
 use Rattle.treecode.specs.declared.procedure.TreeProcedure.{TreeProcedure}
-use Rattle.treecode.specs.Lowered.{HasBody, IsList, IsLowered, IsProcedure, labels_numbered_in_list}
+use Rattle.treecode.specs.Lowered.{HasBody, IsList, IsLowered, labels_numbered_in_list}
 use Rattle.treecode.specs.Nodes.{nodes_of}
-use Rattle.steps8080.specs.Facts.{no_facts}
-use Rattle.steps8080.specs.Writer.{address_items, stack_end_item}
-use Rattle.exprgen8080.specs.Emission.{call_items, has_routine, items_of_call, module_call_items, module_label_of_routine}
+use Rattle.steps8080.specs.Writer.{address_items}
+use Rattle.exprgen8080.specs.Emission.{items_of_call, module_call_items, module_label_of_routine}
 use Rattle.statements8080.specs.declared.body.Body.{Body}
 use Rattle.codegen8080.specs.declared.meeting.Here.{Here}
 use Rattle.codegen8080.specs.Generated.{site_of}
-use Rattle.codegen8080.specs.Modules.{AreCodeOf, IsCodeOf, IsCodeOfMain, IsEndCode, IsMainCode, IsOwnCode, IsProcedureCode, content_items, contents_items, has_main}
+use Rattle.codegen8080.specs.Modules.{AreCodeOf, IsCodeOf, IsCodeOfMain, IsEndCode, IsOwnCode, IsProcedureCode, content_items, contents_items, has_main}
 use Rattle.code_labels.specs.Items.{ItemsBind, ItemsGo}
 use Rattle.code_labels.specs.Modules.{HasItsPlace}
 use Rattle.code_labels.specs.Plans.{ListGoes}
@@ -58,7 +54,7 @@ content_goes ok (contents.Byte value) = (tt, tt)
 content_goes ok (contents.Word place) = address_goes ok place
 content_goes ok (contents.Gap count) = (tt, tt)
 
-contents_go : (ok : ℕ → Type 0) (list : List Content) → ItemsGo ok (contents_items list)
+pub contents_go : (ok : ℕ → Type 0) (list : List Content) → ItemsGo ok (contents_items list)
 contents_go ok [] = tt
 contents_go ok (content ∷ others) =
     items_both ok (content_items content) (contents_items others) (content_goes ok content) (contents_go ok others)
@@ -143,6 +139,17 @@ module _
         (bound_after label (contents_items tree.constants.items) (is.main ++ is.procedures)
         (bound_after label is.main is.procedures bound))
 
+    entry_bound :
+        (procedure : ℕ) (found : TreeProcedure)
+        → slice_get tree.procedures.items procedure ≡ Some found
+        → IsNotExternal found.kind
+        → ItemsBind procedure is.procedures
+    entry_bound procedure found there not_external =
+        let none : 0 + procedure ≡ procedure = omega arith in
+        subst (λ n. ItemsBind n is.procedures) none
+        (procedures_bind tree called 0 tree.procedures.items is.procedures procedure found is.procedures_are there
+        not_external)
+
     -- what calls go to
     kind_goes :
         (procedure : ℕ) (found : TreeProcedure) (kind : ProcedureKind)
@@ -152,15 +159,11 @@ module _
     unfolding IsNotExternal
     kind_goes procedure found (kinds.External name) same there = (tt, tt)
     kind_goes procedure found kinds.Static same there = (
-      in_procedures procedure
-          (procedures_bind tree called 0 tree.procedures.items is.procedures procedure found is.procedures_are there
-          (subst (λ given. IsNotExternal given) (sym same) tt)),
+      in_procedures procedure (entry_bound procedure found there (subst (λ given. IsNotExternal given) (sym same) tt)),
       tt,
     )
     kind_goes procedure found kinds.Reentrant same there = (
-      in_procedures procedure
-          (procedures_bind tree called 0 tree.procedures.items is.procedures procedure found is.procedures_are there
-          (subst (λ given. IsNotExternal given) (sym same) tt)),
+      in_procedures procedure (entry_bound procedure found there (subst (λ given. IsNotExternal given) (sym same) tt)),
       tt,
     )
 
@@ -176,7 +179,7 @@ module _
 
     knows : (body : Body) → body.tree.now ≡ tree → Knows ok (site_of body) called
     knows body tree_is = record {
-      routines = λ routine has. inr (routine, has, ap (λ given. (module_label_of_routine given routine).index) tree_is);
+      routines = λ routine has. inr (routine, has, ap (λ given. (module_label_of_routine given routine).index) (sym tree_is));
       calls = λ procedure.
           subst (λ given. ItemsGo ok (module_call_items given procedure)) (sym tree_is)
           (call_by procedure (slice_get tree.procedures.items procedure) refl);

@@ -1,5 +1,5 @@
 -- Addresses, values in memory, products with numbers, pairs of words and stores have no labels.
-use Rattle.std.proofs.Common.{ℕ, zero, suc, ◌+◌, ◌*◌, ◌%◌, ◌/◌, ◌==◌, nat_le, Bool, true, false, ◌&&◌, ◌||◌, not, if◌then◌else◌, List, [], ◌∷◌, ◌++◌, Option, Some, None}
+use Rattle.std.proofs.Common.{ℕ, zero, suc, ◌+◌, ◌%◌, ◌/◌, ◌==◌, nat_le, Bool, true, false, ◌&&◌, ◌||◌, not, [], ◌∷◌, ◌++◌, Option, Some, None}
 use Rattle.isa8080.specs.declared.instr.Instr.{Instr}
 use Rattle.isa8080.specs.declared.instr.Instr.TheVariants.{Dad, Dcx, Inx, MovToMemory, Mvi}
 use Rattle.isa8080.specs.declared.instr.Operand.TheVariants.{M}
@@ -20,20 +20,17 @@ use Rattle.treecode.specs.declared.reference.Target.{Target}
 use Rattle.treecode.specs.declared.reference.Target.TheVariants.{Stored, Sent}
 use Rattle.treecode.specs.Homes.{location_after}
 use Rattle.treecode.specs.Queries.{place_number}
-use Rattle.steps8080.specs.declared.step.Step.{Step}
 use Rattle.steps8080.specs.declared.step.Step.TheVariants as steps
-use Rattle.steps8080.specs.declared.step.Task.TheVariants as tasks
 use Rattle.steps8080.specs.Facts.{before, byte_for_l, byte_from_hl, is_at}
 use Rattle.steps8080.specs.Instructions.{copy, with_register}
-use Rattle.steps8080.specs.Step.{extension_steps, part, plain}
+use Rattle.steps8080.specs.Step.{extension_steps, plain}
 use Rattle.sites8080.specs.declared.queries.Base.{Base}
 use Rattle.sites8080.specs.declared.queries.Base.TheVariants as bases
-use Rattle.sites8080.specs.declared.queries.Located.{Located}
 use Rattle.sites8080.specs.declared.site.Site.{Site}
 use Rattle.sites8080.specs.Site.{distance}
 use Rattle.sites8080.specs.Queries.{keeps, located, location_of}
 use Rattle.sites8080.specs.Widths.{power_of_two, unknown}
-use Rattle.operands8080.specs.Addresses.{addition_steps, address_steps, base_added_steps, base_steps, frame_word_steps, location_address_steps, location_word_steps, located_steps, negated, new_address_steps, number_added_steps, second_steps}
+use Rattle.operands8080.specs.Addresses.{addition_steps, address_steps, base_added_steps, base_steps, frame_word_steps, location_address_steps, location_word_steps, negated, new_address_steps, number_added_steps, second_steps}
 use Rattle.operands8080.specs.Loads.{byte_in_memory_steps, byte_to_l_steps, extended_byte_in_memory_steps, frame_byte_steps, frame_byte_to_l_steps, location_byte_steps, word_in_memory_steps}
 use Rattle.operands8080.specs.Pairs.{form_steps, order_of, pair_form, pair_in_order_steps, pair_steps, wish_for_left, wished_steps}
 use Rattle.operands8080.specs.Products.{bit_steps, byte_multiple_steps, byte_product_steps, chain_from, has_bit, multiple_steps, product_steps, small_multiple_steps}

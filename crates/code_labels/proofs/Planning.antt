@@ -1,8 +1,7 @@
 -- Planned steps one after another, and planned steps that depend on what is found.
-use Rattle.std.proofs.Common.{◌≡◌, ◌⊎◌, inl, inr, refl, ℕ, zero, suc, ◌+◌, ◌<◌, ◌≤◌, Bool, true, false, if◌then◌else◌, List, [], ◌∷◌, ◌++◌, Option, Some, None, replicate, arith, subst}
+use Rattle.std.proofs.Common.{◌≡◌, inl, inr, refl, ℕ, zero, suc, ◌+◌, ◌<◌, ◌≤◌, Bool, true, false, if◌then◌else◌, List, [], ◌∷◌, ◌++◌, Option, Some, None, replicate, arith, subst}
 use Rattle.std.proofs.lemmas.Bool.{cases_lt}
 use Rattle.isa8080.specs.declared.instr.Instr.{Instr}
-use Rattle.asm8080.specs.declared.item.WordForm.{WordForm}
 use Rattle.treecode.specs.declared.expression.ExpressionNumber.{ExpressionNumber}
 use Rattle.treecode.specs.declared.lists.Range.{Range}
 use Rattle.treecode.specs.declared.reference.Reference.{Reference}
@@ -13,59 +12,60 @@ use Rattle.steps8080.specs.declared.step.Task.{Task}
 use Rattle.steps8080.specs.declared.step.Task.TheVariants as tasks
 use Rattle.statements8080.specs.declared.plan.Planned.{Planned}
 use Rattle.statements8080.specs.declared.plan.Planned.TheVariants as planned
-use Rattle.statements8080.specs.Plans.{jump, mark, part, plain, steps_from}
-use Rattle.code_labels.specs.Plans.{PlanBinds, PlanGoes, PlannedBinds, TaskThen}
+use Rattle.statements8080.specs.Plans.{mark, part, plain, steps_from}
+use Rattle.code_labels.specs.Plans.{PlanBinds, PlanGoes, TaskThen}
 
 pub record PlanGo
     (ok : ℕ → Type 0) (statement : StatementNumber → Type 0) (list : Range → Type 0) (plan : List Planned) :
     Type 0 where
   pub goes : PlanGoes ok statement list plan
 
+task_and :
+    (ok : ℕ → Type 0) (task : Task) (one other : Type 0) → (one → other) → TaskThen ok task one → TaskThen ok task other
+task_and ok (tasks.Branch condition label sense) one other more is = (is.0, more is.1)
+task_and ok (tasks.Byte number) one other more is = more is
+task_and ok (tasks.Word number) one other more is = more is
+task_and ok (tasks.Effects number) one other more is = more is
+task_and ok (tasks.Address reference) one other more is = more is
+task_and ok (tasks.Store target is_wanted) one other more is = more is
+task_and ok (tasks.Call procedure arguments) one other more is = more is
+
+both_go :
+    (ok : ℕ → Type 0) (statement : StatementNumber → Type 0) (list : Range → Type 0) (first others : List Planned)
+    → PlanGoes ok statement list first → PlanGoes ok statement list others → PlanGoes ok statement list (first ++ others)
+both_go ok statement list [] others one two = two
+both_go ok statement list (planned.Code (steps.Part task) ∷ first) others one two =
+    task_and ok task.task (PlanGoes ok statement list first) (PlanGoes ok statement list (first ++ others))
+    (λ is. both_go ok statement list first others is two) one
+both_go ok statement list (planned.Code (steps.Jump form label) ∷ first) others one two = (one.0, both_go ok statement list first others one.1 two)
+both_go ok statement list (planned.Code (steps.Mark label) ∷ first) others one two = both_go ok statement list first others one two
+both_go ok statement list (planned.Code (steps.Plain i) ∷ first) others one two = both_go ok statement list first others one two
+both_go ok statement list (planned.Code (steps.Word form place) ∷ first) others one two = both_go ok statement list first others one two
+both_go ok statement list (planned.Code (steps.CallRoutine routine) ∷ first) others one two = both_go ok statement list first others one two
+both_go ok statement list (planned.Code (steps.CallProcedure procedure) ∷ first) others one two = both_go ok statement list first others one two
+both_go ok statement list (planned.Code steps.TestA ∷ first) others one two = both_go ok statement list first others one two
+both_go ok statement list (planned.Code (steps.Holds held) ∷ first) others one two = both_go ok statement list first others one two
+both_go ok statement list (planned.Code steps.MemoryChanged ∷ first) others one two = both_go ok statement list first others one two
+both_go ok statement list (planned.Statement number ∷ first) others one two = (one.0, both_go ok statement list first others one.1 two)
+both_go ok statement list (planned.List range ∷ first) others one two = (one.0, both_go ok statement list first others one.1 two)
+both_go ok statement list (planned.LoadByte reference ∷ first) others one two = both_go ok statement list first others one two
+both_go ok statement list (planned.LoadWord reference ∷ first) others one two = both_go ok statement list first others one two
+both_go ok statement list (planned.Jumped alone ∷ first) others one two = both_go ok statement list first others one two
+both_go ok statement list (planned.JumpOn label ∷ first) others one two = (one.0, both_go ok statement list first others one.1 two)
+both_go ok statement list (planned.Turn other end ∷ first) others one two = (one.0, both_go ok statement list first others one.1 two)
+both_go ok statement list (planned.Meet label ∷ first) others one two = both_go ok statement list first others one two
+both_go ok statement list (planned.Again label facts is_entered ∷ first) others one two = both_go ok statement list first others one two
+both_go ok statement list (planned.Reaches goes_on ∷ first) others one two = both_go ok statement list first others one two
+
 module _ {ok : ℕ → Type 0} {statement : StatementNumber → Type 0} {list : Range → Type 0} where
   pub planned_go : {plan : List Planned} → PlanGoes ok statement list plan → PlanGo ok statement list plan
   planned_go goes = record { goes = goes }
-
-  task_and : (task : Task) (one other : Type 0) → (one → other) → TaskThen ok task one → TaskThen ok task other
-  task_and (tasks.Branch condition label sense) one other more is = (is.0, more is.1)
-  task_and (tasks.Byte number) one other more is = more is
-  task_and (tasks.Word number) one other more is = more is
-  task_and (tasks.Effects number) one other more is = more is
-  task_and (tasks.Address reference) one other more is = more is
-  task_and (tasks.Store target is_wanted) one other more is = more is
-  task_and (tasks.Call procedure arguments) one other more is = more is
-
-  both_go :
-      (first others : List Planned)
-      → PlanGoes ok statement list first → PlanGoes ok statement list others → PlanGoes ok statement list (first ++ others)
-  both_go [] others one two = two
-  both_go (planned.Code (steps.Part task) ∷ first) others one two =
-      task_and task.task (PlanGoes ok statement list first) (PlanGoes ok statement list (first ++ others))
-      (λ is. both_go first others is two) one
-  both_go (planned.Code (steps.Jump form label) ∷ first) others one two = (one.0, both_go first others one.1 two)
-  both_go (planned.Code (steps.Mark label) ∷ first) others one two = both_go first others one two
-  both_go (planned.Code (steps.Plain i) ∷ first) others one two = both_go first others one two
-  both_go (planned.Code (steps.Word form place) ∷ first) others one two = both_go first others one two
-  both_go (planned.Code (steps.CallRoutine routine) ∷ first) others one two = both_go first others one two
-  both_go (planned.Code (steps.CallProcedure procedure) ∷ first) others one two = both_go first others one two
-  both_go (planned.Code steps.TestA ∷ first) others one two = both_go first others one two
-  both_go (planned.Code (steps.Holds held) ∷ first) others one two = both_go first others one two
-  both_go (planned.Code steps.MemoryChanged ∷ first) others one two = both_go first others one two
-  both_go (planned.Statement number ∷ first) others one two = (one.0, both_go first others one.1 two)
-  both_go (planned.List range ∷ first) others one two = (one.0, both_go first others one.1 two)
-  both_go (planned.LoadByte reference ∷ first) others one two = both_go first others one two
-  both_go (planned.LoadWord reference ∷ first) others one two = both_go first others one two
-  both_go (planned.Jumped alone ∷ first) others one two = both_go first others one two
-  both_go (planned.JumpOn label ∷ first) others one two = (one.0, both_go first others one.1 two)
-  both_go (planned.Turn other end ∷ first) others one two = (one.0, both_go first others one.1 two)
-  both_go (planned.Meet label ∷ first) others one two = both_go first others one two
-  both_go (planned.Again label facts is_entered ∷ first) others one two = both_go first others one two
-  both_go (planned.Reaches goes_on ∷ first) others one two = both_go first others one two
 
   -- planned steps after others
   pub plans_then :
       {first others : List Planned}
       → PlanGo ok statement list first → PlanGo ok statement list others → PlanGo ok statement list (first ++ others)
-  plans_then {first = first} {others = others} one two = record { goes = both_go first others one.goes two.goes }
+  plans_then {first = first} {others = others} one two = record { goes = both_go ok statement list first others one.goes two.goes }
 
   -- planned steps after one
   pub after_plain :

@@ -1,17 +1,15 @@
 -- Relations as flags and as values have no labels.
-use Rattle.std.proofs.Common.{ℕ, ◌+◌, ◌%◌, ◌/◌, ◌==◌, nat_lt, Bool, true, false, ◌&&◌, ◌||◌, if◌then◌else◌, List, [], ◌∷◌, ◌++◌, Option, Some, None}
+use Rattle.std.proofs.Common.{ℕ, ◌%◌, ◌/◌, ◌==◌, nat_lt, true, false, ◌&&◌, ◌||◌, if◌then◌else◌, [], ◌∷◌, Some, None}
 use Rattle.isa8080.specs.declared.instr.Condition.{Condition}
 use Rattle.isa8080.specs.declared.instr.Condition.TheVariants as conditions
-use Rattle.isa8080.specs.declared.instr.Instr.TheVariants.{AccumulateImmediate, Dcr, Inr, Inx, Push}
+use Rattle.isa8080.specs.declared.instr.Instr.TheVariants.{AccumulateImmediate, Dcr, Inr, Inx}
 use Rattle.isa8080.specs.declared.instr.Operand.TheVariants.{Of}
-use Rattle.isa8080.specs.declared.instr.Operation.{Operation}
 use Rattle.isa8080.specs.declared.instr.Operation.TheVariants.{Compare, Subtract}
 use Rattle.isa8080.specs.declared.instr.Pair.TheVariants.{Hl}
 use Rattle.isa8080.specs.declared.instr.Register.TheVariants.{A}
 use Rattle.trees.specs.declared.declaration.ScalarType.{ScalarType}
 use Rattle.trees.specs.declared.declaration.ScalarType.TheVariants as scalars
 use Rattle.treecode.specs.declared.expression.ExpressionNumber.{ExpressionNumber}
-use Rattle.treecode.specs.declared.place.Place.{Place}
 use Rattle.treecode.specs.declared.reference.Reference.{Reference}
 use Rattle.steps8080.specs.declared.step.Step.TheVariants as steps
 use Rattle.steps8080.specs.declared.step.Task.TheVariants as tasks
@@ -42,9 +40,8 @@ use Rattle.relations8080.specs.declared.word_relations.Apart.{Apart}
 use Rattle.relations8080.specs.declared.word_relations.Word.{Word as WordRegisters}
 use Rattle.relations8080.specs.declared.word_relations.Words.{Words}
 use Rattle.relations8080.specs.declared.word_relations.Words.TheVariants.{PlaceAndHl, DeAndHl}
-use Rattle.relations8080.specs.Answers.{known_steps}
 use Rattle.relations8080.specs.ByteRelations.{byte_is_steps, byte_number_steps, byte_relation_steps, comparing, form_of, is_zero_steps, known_answer, left_back_steps, number_in_a_steps, pushed_steps, with_e_steps, with_memory_steps}
-use Rattle.relations8080.specs.Relations.{carry_steps, comparison_steps, inquiry_steps, number_steps, outcome_value_steps, relation_outcome, relation_steps, relation_value_steps, value_setting}
+use Rattle.relations8080.specs.Relations.{carry_steps, inquiry_steps, outcome_value_steps, relation_outcome, relation_steps, relation_value_steps, value_setting}
 use Rattle.relations8080.specs.WordRelations.{difference_steps, high_byte_steps, high_difference_steps, high_steps, in_hl, load_a_steps, low_difference_steps, low_steps, masked, masked_steps, operand_apart, other_word, taken_steps, with_pair_steps, with_place_steps, word_below_steps, word_is_steps, word_is_zero_steps, word_number_steps, word_question_steps, word_relation_steps, word_taken_from, words_steps, zero_by_hl_steps}
 use Rattle.code_labels.proofs.Joining.{AreFree, after_byte, after_plain, after_word, by_finding, by_test, free, joined, repeated}
 use Rattle.code_labels.proofs.Operands.{pair_free}

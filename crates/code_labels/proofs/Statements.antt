@@ -4,8 +4,8 @@ use Rattle.std.specs.Prelude.{slice_get, nat_lt, if◌then◌else◌}
 use Rattle.std.specs.Option.{option_and_then}
 use Rattle.std.proofs.lemmas.Bool.{ltb-true}
 use Rattle.std.proofs.lemmas.Option.{none-some, same_Some}
-use Rattle.typed_trees.specs.Jumps.{IsAmongLabels, IsNoLabel, JumpsStay, JumpsStayInElse, JumpsStayInList, JumpsStayInStatements, LabelsOf, LabelsStand, ListStands, ListsStand, ListsStandInCases, ListsStandInElse, ListsStandInStatements, labels_of_list}
-use Rattle.typed_trees.specs.TypedTrees.{LabelStatement, ListOf, MoreStatements, NoStatements, TypedElse, TypedList, TypedStatement, TypedStatements}
+use Rattle.typed_trees.specs.Jumps.{IsAmongLabels, JumpsStay, JumpsStayInElse, JumpsStayInList, JumpsStayInStatements, LabelsOf, LabelsStand, ListStands, ListsStand, ListsStandInCases, ListsStandInElse, ListsStandInStatements, labels_of_list}
+use Rattle.typed_trees.specs.TypedTrees.{LabelStatement, MoreStatements, NoStatements, TypedElse, TypedList, TypedStatement, TypedStatements}
 use Rattle.layout.specs.Storage.{Storage}
 use Rattle.asm8080.specs.declared.item.Item.{Item}
 use Rattle.treecode.specs.declared.lists.Range.{Range}
@@ -14,7 +14,7 @@ use Rattle.treecode.specs.declared.statement.Statement.TheVariants as statements
 use Rattle.treecode.specs.declared.statement.StatementNumber.{StatementNumber}
 use Rattle.treecode.specs.Lowered.{AreMoreStatements, AreNoStatements, AreStatements, IsAssignment, IsCall, IsCase, IsDo, IsElse, IsGoto, IsHalt, IsIf, IsIterate, IsLabel, IsList, IsListOf, IsMove, IsNoElse, IsNull, IsReturn, IsSomeElse, IsStatement, IsStatementForm, IsStatementNode, IsWhile}
 use Rattle.treecode.specs.Nodes.{item_of, nodes_of}
-use Rattle.treecode.specs.Queries.{item, statement}
+use Rattle.treecode.specs.Queries.{statement}
 use Rattle.treecode.proofs.LabelNumbers.{first_or_later}
 use Rattle.steps8080.specs.declared.facts.Facts.{Facts}
 use Rattle.steps8080.specs.declared.step.LabelNumber.{LabelNumber}
@@ -198,7 +198,48 @@ module _
     goto_ok (statements.Iterate head range) around label form stay outer is = absurd (none-some label is)
     goto_ok (statements.Case choice range) around label form stay outer is = absurd (none-some label is)
 
+    -- the code of a statement whose planned steps do so
+    carried :
+        (number : StatementNumber) (found : Statement) {facts : Facts} {last : Here} {list : List Item}
+        → statement body.tree.now number ≡ Some found
+        → ((known : Facts) (first : ℕ)
+        → ((label : ℕ) → PlanBinds label (statement_steps body (knowing (site_of body) known) found first) → ok label)
+        → BodyGo ok body called (statement_steps body (knowing (site_of body) known) found first))
+        → ((one : ℕ) → ItemsBind one list → ok one)
+        → IsCarriedOut body called facts number list last
+        → ItemsGo ok list
+    carried number found {facts = facts} {last = last} {list = list} there planned_go own (StatementPlanned {statement = one} first here planned) =
+        let same : one ≡ found = same_Some one found (sym here ∙ there) in
+        let now : AreCarriedOut body called (record { facts = facts; goes_on = true }) None
+        (statement_steps body (knowing (site_of body) facts) found first) list last =
+        subst (λ (given : Statement). AreCarriedOut body called (record { facts = facts; goes_on = true }) None
+        (statement_steps body (knowing (site_of body) facts) given first) list last) same planned in
+        plan_carried ok body called knows
+        (planned_go facts first (λ label bound. own label (plan_bound ok body called label now bound))).goes
+        own now
+
+    -- and that of a list whose statements do so where its labels are among those that may be gone to
+    list_carried :
+        {bound : ℕ} {trees : TypedStatements} {facts : Facts} {last : Here} {list : List Item} (range : Range)
+        (around : List LabelsOf) (label : ℕ) (places : List ℕ)
+        → AreStatements (nodes_of body.tree.now) storage labels bound range.first range.count trees
+        → LabelsStand label 0 places trees
+        → AroundGo ok body labels around
+        → ((here after : Here) (items : List Item)
+        → AroundGo ok body labels (labels_of_list label places ∷ around)
+        → ((one : ℕ) → ItemsBind one items → ok one)
+        → AreAllCarriedOut body called here range.first range.count items after
+        → ItemsGo ok items)
+        → ((one : ℕ) → ItemsBind one list → ok one)
+        → IsListCarriedOut body called facts range list last
+        → ItemsGo ok list
+    list_carried {facts = facts} {last = last} {list = list} range around label places are stand outer all_go own (ListPlanned done) =
+        all_go (record { facts = facts; goes_on = true }) last list
+        (around_list around label places are stand done own outer) own done
+
     mutual
+      unfolding statement_steps
+
       pub statement_goes :
           {bound : ℕ} {tree : TypedStatement} (number : StatementNumber) (around : List LabelsOf)
           → IsStatement (nodes_of body.tree.now) storage labels bound number.index tree
@@ -207,31 +248,11 @@ module _
           → AroundGo ok body labels around
           → StatementGoes ok body called number
       statement_goes number around (IsStatementNode {statement = found} below there form) stand stay outer = record {
-        goes = λ done own. carried number around found there form stand stay outer own done;
+        goes = λ done own.
+            carried number found there
+            (λ facts first bound. form_go around form stand stay outer facts first bound) own done;
         goto = λ label is. goto_ok found around label form stay outer (goto_is body number found label there is);
       }
-
-      carried :
-          {bound : ℕ} {tree : TypedStatement} (number : StatementNumber) (around : List LabelsOf) (found : Statement)
-          {facts : Facts} {last : Here} {list : List Item}
-          → statement body.tree.now number ≡ Some found
-          → IsStatementForm (nodes_of body.tree.now) storage labels bound found tree
-          → ListsStand tree
-          → JumpsStay around tree
-          → AroundGo ok body labels around
-          → ((one : ℕ) → ItemsBind one list → ok one)
-          → IsCarriedOut body called facts number list last
-          → ItemsGo ok list
-      carried number around found {facts = facts} {last = last} {list = list} there form stand stay outer own (StatementPlanned {statement = one} first here planned) =
-          let same : one ≡ found = same_Some one found (sym here ∙ there) in
-          let now : AreCarriedOut body called (record { facts = facts; goes_on = true }) None
-          (statement_steps body (knowing (site_of body) facts) found first) list last =
-          subst (λ (given : Statement). AreCarriedOut body called (record { facts = facts; goes_on = true }) None
-          (statement_steps body (knowing (site_of body) facts) given first) list last) same planned in
-          plan_carried ok body called knows
-          (form_go around form stand stay outer facts first
-          (λ label bound. own label (plan_bound ok body called label now bound))).goes
-          own now
 
       form_go :
           {bound : ℕ} {found : Statement} {tree : TypedStatement} (around : List LabelsOf)
@@ -242,7 +263,6 @@ module _
           → (facts : Facts) (first : ℕ)
           → ((label : ℕ) → PlanBinds label (statement_steps body (knowing (site_of body) facts) found first) → ok label)
           → BodyGo ok body called (statement_steps body (knowing (site_of body) facts) found first)
-      unfolding statement_steps
       form_go around (IsLabel is) stand stay outer facts first own = planned_go tt
       form_go around IsNull stand stay outer facts first own = planned_go tt
       form_go around (IsAssignment {range = targets} {value = value} are is) stand stay outer facts first own =
@@ -338,19 +358,9 @@ module _
           → AroundGo ok body labels around
           → ListGoes ok body called range
       list_goes range around (IsListOf {first_label = label} {places = places} are) stand stay outer = record {
-        goes = λ done own. list_carried range around label places are stand stay outer own done;
+        goes = λ done own.
+            list_carried range around label places are stand.0 outer
+            (λ here last list inner bound all.
+            all_go (labels_of_list label places ∷ around) are stand.1 stay inner bound all)
+            own done;
       }
-
-      list_carried :
-          {bound : ℕ} {trees : TypedStatements} {facts : Facts} {last : Here} {list : List Item} (range : Range)
-          (around : List LabelsOf) (label : ℕ) (places : List ℕ)
-          → AreStatements (nodes_of body.tree.now) storage labels bound range.first range.count trees
-          → ListStands (ListOf label places trees)
-          → JumpsStayInList around (ListOf label places trees)
-          → AroundGo ok body labels around
-          → ((one : ℕ) → ItemsBind one list → ok one)
-          → IsListCarriedOut body called facts range list last
-          → ItemsGo ok list
-      list_carried range around label places are stand stay outer own (ListPlanned done) =
-          all_go (labels_of_list label places ∷ around) are stand.1 stay
-          (around_list around label places are stand.0 done own outer) own done

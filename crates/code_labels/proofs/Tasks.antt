@@ -1,5 +1,5 @@
 -- No task but a jump by a condition has labels.
-use Rattle.std.proofs.Common.{ℕ, zero, suc, ◌+◌, ◌-◌, ◌%◌, Bool, true, false, List, [], ◌∷◌, ◌++◌, Option, Some, None, if◌then◌else◌}
+use Rattle.std.proofs.Common.{ℕ, zero, suc, ◌+◌, ◌-◌, ◌%◌, Bool, true, false, [], ◌∷◌, Option, Some, None}
 use Rattle.trees.specs.declared.declaration.ScalarType.{ScalarType}
 use Rattle.trees.specs.declared.declaration.ScalarType.TheVariants as scalars
 use Rattle.trees.specs.declared.expression.UnaryOperator.TheVariants.{Not, Negate}
@@ -15,16 +15,13 @@ use Rattle.treecode.specs.declared.reference.Reference.{Reference}
 use Rattle.treecode.specs.declared.reference.Subscript.{Subscript}
 use Rattle.treecode.specs.declared.reference.Target.{Target}
 use Rattle.treecode.specs.Queries.{argument, place_number, source}
-use Rattle.steps8080.specs.declared.step.Step.{Step}
-use Rattle.steps8080.specs.declared.step.Step.TheVariants as steps
-use Rattle.steps8080.specs.declared.step.Task.TheVariants as tasks
 use Rattle.steps8080.specs.Instructions.{low}
 use Rattle.steps8080.specs.Step.{part}
 use Rattle.sites8080.specs.declared.site.Site.{Site}
 use Rattle.sites8080.specs.Site.{expression, scalar}
 use Rattle.sites8080.specs.Queries.{known, memory}
 use Rattle.exprgen8080.specs.Bytes.{byte_form_steps, byte_function_steps, byte_of_two_steps, byte_steps, byte_unary_steps, called_byte_steps, embedded_steps, known_byte_steps, low_of_value_steps}
-use Rattle.exprgen8080.specs.Calls.{argument_steps, arguments_steps, call_steps, last_argument_steps, push_of, pushed_argument_steps, value_task}
+use Rattle.exprgen8080.specs.Calls.{argument_steps, arguments_steps, call_steps, last_argument_steps, pushed_argument_steps, value_task}
 use Rattle.exprgen8080.specs.Effects.{both_effects_steps, effects_steps, form_effects_steps, reference_effects_steps, subscript_effects_steps}
 use Rattle.exprgen8080.specs.Words.{computed_word_steps, extended_byte_steps, word_form_steps, word_function_steps, word_of_two_steps, word_steps}
 use Rattle.code_labels.proofs.Joining.{AreFree, after_word, by_finding, by_test, free, joined}

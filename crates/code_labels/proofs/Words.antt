@@ -1,8 +1,8 @@
 -- Shifts of words, and operators whose value comes into HL, have no labels.
-use Rattle.std.proofs.Common.{ℕ, ◌+◌, ◌-◌, ◌%◌, ◌/◌, ◌==◌, nat_le, nat_lt, Bool, true, false, ◌&&◌, ◌||◌, List, [], ◌∷◌, ◌++◌, Option, Some, None, if◌then◌else◌}
+use Rattle.std.proofs.Common.{ℕ, ◌+◌, ◌-◌, ◌%◌, ◌==◌, nat_le, nat_lt, Bool, true, false, [], ◌∷◌, if◌then◌else◌}
 use Rattle.isa8080.specs.declared.instr.Instr.TheVariants.{Dad}
 use Rattle.isa8080.specs.declared.instr.Operation.{Operation}
-use Rattle.isa8080.specs.declared.instr.Operation.TheVariants.{Add, Subtract, SubtractWithBorrow, And, ExclusiveOr, Or}
+use Rattle.isa8080.specs.declared.instr.Operation.TheVariants.{Subtract, SubtractWithBorrow, And, ExclusiveOr, Or}
 use Rattle.isa8080.specs.declared.instr.Pair.TheVariants.{Hl}
 use Rattle.isa8080.specs.declared.instr.Register.{Register}
 use Rattle.isa8080.specs.declared.instr.Register.TheVariants.{A, H, L}

@@ -1,5 +1,5 @@
 -- What is written for steps goes to labels of some kind alone, where the steps do.
-use Rattle.std.proofs.Common.{◌≡◌, ◌⊎◌, inl, inr, refl, ℕ, Bool, true, false, if◌then◌else◌, List, [], ◌∷◌, ◌++◌}
+use Rattle.std.proofs.Common.{◌≡◌, inl, inr, ℕ, Bool, true, false, if◌then◌else◌, List, [], ◌∷◌, ◌++◌}
 use Rattle.asm8080.specs.declared.item.Item.{Item}
 use Rattle.asm8080.specs.declared.item.Item.TheVariants as items
 use Rattle.asm8080.specs.declared.item.WordForm.{WordForm}
@@ -15,8 +15,7 @@ use Rattle.steps8080.specs.Writer.{word_item}
 use Rattle.sites8080.specs.declared.site.Site.{Site}
 use Rattle.exprgen8080.specs.Emission.{AreWritten, CallWritten, ChangeWritten, HoldsWritten, IsWritten, JumpWritten, MarkWritten, NoneWritten, PartWritten, PlainWritten, Planned, RoutineWritten, TestWritten, WordWritten, call_items, has_routine, knowing, label_of_routine, test_items, test_of_a}
 use Rattle.exprgen8080.specs.Forms.{steps_of, task_steps}
-use Rattle.operands8080.specs.Stores.{store_steps}
-use Rattle.code_labels.specs.Items.{Binds, ItemGoes, ItemsBind, ItemsGo}
+use Rattle.code_labels.specs.Items.{ItemGoes, ItemsBind, ItemsGo}
 use Rattle.code_labels.specs.Steps.{StepsBind, StepsGo, TaskGoes}
 use Rattle.code_labels.proofs.Going.{free_go}
 use Rattle.code_labels.proofs.Branches.{branch_go}
