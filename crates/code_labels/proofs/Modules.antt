@@ -25,7 +25,7 @@ use Rattle.codegen8080.specs.declared.meeting.Here.{Here}
 use Rattle.codegen8080.specs.Generated.{site_of}
 use Rattle.codegen8080.specs.Modules.{AreCodeOf, IsCodeOf, IsCodeOfMain, IsEndCode, IsOwnCode, IsProcedureCode, content_items, contents_items, has_main}
 use Rattle.code_labels.specs.Items.{ItemsBind, ItemsGo}
-use Rattle.code_labels.specs.Modules.{HasItsPlace}
+use Rattle.code_labels.specs.Modules.{HasItsPlace, LabelsHavePlaces}
 use Rattle.code_labels.specs.Plans.{ListGoes}
 use Rattle.code_labels.proofs.Assigning.{end_go}
 use Rattle.code_labels.proofs.Carried.{plan_bound, plan_carried}
@@ -317,7 +317,7 @@ module _
         subst (λ given. ItemsGo ok given) (sym are.4) (items_both ok are.0 are.1 one rest)
 
     -- the constants, the main program and the procedures
-    pub own_code_goes : ItemsGo (HasItsPlace tree called own) own
+    pub own_code_goes : LabelsHavePlaces tree called own
     own_code_goes =
         let procedures =
         procedures_go 0 tree.procedures.items typed.procedures is.procedures lowered.procedure_count
