@@ -258,9 +258,11 @@ module _
         let statements =
         (statements_go code.body procedure heading list code.tree_is has sound differs).goes code.written in_statements in
         let ending = ending_goes code.body code.last procedure.reaches_its_end code.ending code.tree_is code.ends in_ending in
-        subst (λ given. ItemsGo ok given) (sym code.list_is)
-        (tt, items_both ok code.beginning (code.statements ++ code.ending) beginning
-        (items_both ok code.statements code.ending statements ending))
+        subst (λ given. ItemsGo ok given) (sym code.list_is) (
+          tt,
+          items_both ok code.beginning (code.statements ++ code.ending) beginning
+              (items_both ok code.statements code.ending statements ending),
+        )
 
     code_goes :
         (number : ℕ) (procedure : TreeProcedure) (heading : TypedProcedure) (kind : ProcedureKind) (list : List Item)

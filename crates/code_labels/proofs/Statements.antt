@@ -139,8 +139,7 @@ module _
               let one : other ≡ entry = same_Some other entry (sym found ∙ named) in
               let has = label_binds entry is
               (subst (λ (n : StatementNumber). IsCarriedOut body called here.facts n list middle) one done) in
-              let label_is : number ≡ wanted = stand.0 ∙ same in
-              (
+              let label_is : number ≡ wanted = stand.0 ∙ same in (
                 has.0,
                 subst (λ (l : ℕ). slice_get labels has.0 ≡ Some l) label_is has.1,
                 bound_first (body_label body has.0).index list more has.2,

@@ -18,7 +18,7 @@ within_bound tree object is typed code =
 
 past_bound : (tree : TreeModule) (fault : Fault) → MayRefuse tree fault → IsPastBound tree fault
 past_bound tree TooLong refused typed code =
-    too_long_is_past_its_bound typed code.storage tree code.sound code.data code.lowered refused
+    too_long_is_past_its_bound typed code.storage tree code.sound code.few code.lowered refused
 past_bound tree UnboundLabel refused = tt
 
 pub result_within_bound :

@@ -18,7 +18,7 @@ pub record IsTreeCodeOf (typed : TypedModule) (tree : TreeModule) : Type 0 where
   pub storage : Storage
   pub lowered : IsLowered typed storage tree
   pub sound : IsSound typed
-  pub data : data_bytes typed.objects ≤ SEGMENT_LIMIT
+  pub few : data_bytes typed.objects ≤ SEGMENT_LIMIT
 
 -- the code segment of an object module takes no more bytes than the code bound of the module that the tree code is
 abbrev pub IsWithinBound : TreeModule → ObjectModule → Type 0
