@@ -1,4 +1,5 @@
--- The constants of a module take as many bytes as its objects with DATA and its constant lists.
+-- The constants of a module take as many bytes as its objects with DATA and its constant lists, and its data as many as
+-- its objects without AT and DATA.
 use Rattle.std.proofs.Common.{◌≡◌, ℕ, zero, suc, ◌+◌, ◌-◌, ◌≤◌, ◌==◌, Bool, true, false, ◌&&◌, min, if◌then◌else◌, nat_le, nat_lt, List, [], ◌∷◌, ◌++◌, length, map, slice_get, sum_by, Option, Some, None, refl, subst, arith}
 use Rattle.std.specs.Prelude.{All}
 use Rattle.std.specs.Option.{option_map_or}
@@ -12,12 +13,13 @@ use Rattle.typed_trees.specs.Sizes.{size_of_object}
 use Rattle.typed_trees.specs.Storable.{IsStorable, bytes_filled, size_of_value}
 use Rattle.typed_trees.specs.TypedTrees.{Home as TypedHome, InData, InConstants, Placed, BasedOn, Elsewhere, Nowhere, InFrame, TypedObject, TypedModule}
 use Rattle.typed_trees.specs.Weight.{constant_bytes, size_of_constant}
+use Rattle.layout.specs.Storage.{bytes_in_data, data_bytes}
 use Rattle.asm8080.specs.Items.{size_of_items}
 use Rattle.treecode.specs.declared.module.Content.{Content}
 use Rattle.treecode.specs.declared.module.Content.TheVariants.{Byte, Word, Gap}
 use Rattle.treecode.specs.declared.place.Home.{Home}
 use Rattle.treecode.specs.declared.place.Place.TheVariants as places
-use Rattle.treecode.specs.Contents.{constant_object, constants_from, constants_of, content_of, size_of_value as bytes_of_value, with_constant, with_gap, with_gap_if_any, with_object}
+use Rattle.treecode.specs.Contents.{constant_object, constants_from, constants_of, content_of, size_of_value as bytes_of_value, with_constant, with_gap, with_gap_if_any, with_object, static_object, variables_from, variables_of}
 use Rattle.codegen8080.specs.Modules.{contents_items}
 
 -- what holds of all items holds of one
@@ -196,4 +198,43 @@ constants_fit typed starts storable =
       arith,
       contents_take (constants_from typed starts [] typed.constants.items),
       constants_from_take typed starts typed.constants.items [] storable,
+    )
+
+-- an object without AT and DATA
+static_object_takes :
+    (starts : List Home) (object : TypedObject) (home : TypedHome) (before : List Content)
+    → bytes_filled home ≤ size_of_object object
+    → bytes_of_contents (static_object starts object home before) ≤ bytes_of_contents before + bytes_in_data home object
+static_object_takes starts object (InData values) before filled = object_takes starts object values before filled
+static_object_takes starts object (InConstants values) before filled = omega arith
+static_object_takes starts object (Placed address) before filled = omega arith
+static_object_takes starts object (BasedOn base) before filled = omega arith
+static_object_takes starts object Elsewhere before filled = omega arith
+static_object_takes starts object Nowhere before filled = omega arith
+static_object_takes starts object (InFrame procedure) before filled = omega arith
+
+variables_from_take :
+    (starts : List Home) (objects : List TypedObject) (before : List Content)
+    → All (λ (one : TypedObject). bytes_filled one.home ≤ size_of_object one) objects
+    → bytes_of_contents (variables_from starts before objects) ≤ bytes_of_contents before + data_bytes objects
+variables_from_take starts [] before filled = omega arith
+variables_from_take starts (object ∷ others) before filled =
+    omega (
+      arith,
+      static_object_takes starts object object.home before (filled 0 object (omega arith)),
+      variables_from_take starts others (static_object starts object object.home before)
+          (λ i d below. filled (suc i) d (omega (arith, below))),
+      sum_by-cons (λ (one : TypedObject). bytes_in_data one.home one) object others,
+    )
+
+pub variables_fit :
+    (typed : TypedModule) (starts : List Home)
+    → IsStorable typed
+    → size_of_items (contents_items (variables_of typed starts)) ≤ data_bytes typed.objects
+unfolding variables_of
+variables_fit typed starts storable =
+    omega (
+      arith,
+      contents_take (variables_from starts [] typed.objects),
+      variables_from_take starts typed.objects [] storable.filled,
     )

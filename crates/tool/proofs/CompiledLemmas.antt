@@ -19,11 +19,12 @@ use Rattle.treecode.specs.Lowered.{IsLowered}
 use Rattle.treecode.specs.Nodes.{NumbersAreWords, nodes_of}
 use Rattle.home_words.specs.HomeWords.{HomesAreWords}
 use Rattle.codegen8080.specs.declared.fault.Fault as code_fault
+use Rattle.codegen8080.specs.declared.fault.Fault.TheVariants.{TooLong, UnboundLabel}
 use Rattle.codegen8080.specs.Modules.{IsGenerated}
 use Rattle.codegen8080.specs.Refusals.{MayRefuse}
 use Rattle.module_segments.proofs.Slots.{stored}
 use Rattle.code_bounds.specs.Fits.{IsSound}
-use Rattle.code_bounds.proofs.Bounds.{code_is_within_its_bound}
+use Rattle.code_bounds.proofs.Bounds.{code_is_within_its_bound, too_long_is_past_its_bound}
 use Rattle.program_meaning.specs.Typed.{IsSoundlyMade}
 use Rattle.sound_modules.specs.Sound.{IsSoundlyTyped}
 use Rattle.source_facts.proofs.Sources.{source_is_soundly_typed}
@@ -32,7 +33,7 @@ use Rattle.program_sources.specs.Programs.{text_of, texts_of}
 use Rattle.tool.specs.declared.compiled.Compiled.{Compiled}
 use Rattle.tool.specs.declared.fault.ToolFault.{ToolFault}
 use Rattle.tool.specs.declared.fault.ToolFault.TheVariants.{TooManySources, Source, Code, Program, Link, Locate}
-use Rattle.tool.specs.Made.{IsCompiledTo, IsNotMade}
+use Rattle.tool.specs.Made.{IsCompiledTo, IsNotMade, PassesBound}
 use Rattle.tool.specs.Sources.{AreWithoutFault, HasCause, IsInOrder, HasNoObject, IsRefusedAlone, IsWithoutFault}
 use Rattle.tool.specs.internal.Compiling.{AreCompiled, HasCompileCause, HasGenerationCause, HasSource, HasSourceCause, IsCompiled, failure_of_code, module_in}
 
@@ -79,6 +80,18 @@ sound_for_bounds typed sound = record {
   storable = sound.storable;
 }
 
+-- a refusal for a length
+passes_bound : (fault : code_fault.Fault) (typed : TypedModule) (tree : TreeModule)
+    → HasSource typed
+    → IsSoundlyTyped typed
+    → IsLowered typed (storage_with typed) tree
+    → MayRefuse tree fault
+    → PassesBound fault typed
+passes_bound TooLong typed tree has sound lowered refused =
+    let is = stored typed (storage_with typed) has.source.storage in
+    too_long_is_past_its_bound typed (storage_with typed) tree (sound_for_bounds typed sound) is.data_fits lowered refused
+passes_bound UnboundLabel typed tree has sound lowered refused = tt
+
 -- no object module is made of a module whose tree code is refused
 pub not_made : (fault : code_fault.Fault) (typed : TypedModule) (storage : Storage) (tree : TreeModule)
     → HasSource typed
@@ -94,6 +107,7 @@ not_made fault typed storage tree has is lowered refused =
       lowered = whole;
       refused = refused;
       bound = λ start code written. code_is_within_its_bound typed (storage_with typed) tree start code (sound_for_bounds typed sound) whole written;
+      passes = passes_bound fault typed tree has sound whole refused;
     }
 
 -- so a failure of its code has its cause

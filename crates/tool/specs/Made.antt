@@ -1,5 +1,5 @@
 -- What a text is compiled to, and what an image is that LINK and LOCATE make of object modules.
-use Rattle.std.specs.Prelude.{◌≡◌, ℕ, ◌≤◌, List, [], ◌∷◌, map, Ok}
+use Rattle.std.specs.Prelude.{◌≡◌, ℕ, ◌+◌, ◌≤◌, List, [], ◌∷◌, map, Ok}
 use Rattle.typed_trees.specs.TypedTrees.{TypedModule}
 use Rattle.typed_trees.specs.Weight.{code_bound}
 use Rattle.asm8080.specs.Items.{size_of_items}
@@ -9,6 +9,7 @@ use Rattle.frontend.specs.Reading.{IsSourceOf}
 use Rattle.object_modules.specs.Merge.{merge_of}
 use Rattle.object_modules.specs.Module.{ObjectModule, length_of}
 use Rattle.object_modules.specs.declared.segment.Segment.TheVariants.{Code}
+use Rattle.object_modules.specs.declared.segment.TheConstants.{SEGMENT_LIMIT}
 use Rattle.locate.specs.Locating.{Absolute, IsPlaced, plan_view}
 use Rattle.plans.specs.declared.Plan.{Plan}
 use Rattle.program_meaning.specs.Typed.{IsSoundlyMade}
@@ -16,6 +17,7 @@ use Rattle.treecode.specs.declared.module.TreeModule.{TreeModule}
 use Rattle.treecode.specs.Lowered.{IsLowered}
 use Rattle.layout.specs.Storage.{storage_with}
 use Rattle.codegen8080.specs.declared.fault.Fault as code_fault
+use Rattle.codegen8080.specs.declared.fault.Fault.TheVariants.{TooLong, UnboundLabel}
 use Rattle.codegen8080.specs.Refusals.{MayRefuse}
 
 -- a text is compiled to an object module: this is made of the module that the text is the source of
@@ -23,6 +25,11 @@ pub record IsCompiledTo (text : List ℕ) (object : ObjectModule) : Type 0 where
   pub typed : TypedModule
   pub source : IsSourceOf text typed
   pub made : IsSoundlyMade typed object
+
+-- a fault that is a length comes only where the code bound of the module passes what a segment may have
+abbrev pub PassesBound : code_fault.Fault → TypedModule → Type 0
+PassesBound TooLong typed = SEGMENT_LIMIT + 1 ≤ code_bound typed
+PassesBound UnboundLabel typed = Unit {0}
 
 -- no object module is made of a module: its code or its data are no segment, for this fault; its code is within its bound
 pub record IsNotMade (fault : code_fault.Fault) (typed : TypedModule) : Type 0 where
@@ -33,6 +40,7 @@ pub record IsNotMade (fault : code_fault.Fault) (typed : TypedModule) : Type 0 w
       (start : ℕ) (code : Written)
       → IsCodeWritten tree start code
       → size_of_items code.code.items ≤ code_bound typed
+  pub passes : PassesBound fault typed
 
 -- how long the code segments of object modules are
 abbrev pub code_lengths : List ObjectModule → List ℕ

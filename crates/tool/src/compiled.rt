@@ -16,11 +16,11 @@ ghost use Rattle.tool.specs.Sources.{AreWithoutFault, HasCause, IsInOrder, IsRef
 ghost use Rattle.tool.specs.internal.Compiling.{AreCompiled, HasCompileCause, HasGenerationCause, HasSource, HasSourceCause, IsCompiled, failure_of_code};
 
 use crate::fault::ToolFault;
-use codegen8080::generate;
 use failure::Failure;
 use frontend::{SourceModule, read_source};
 use home_words::hold_homes;
 use layout::Layout;
+use module_code::generate;
 use object_modules::{ObjectModule, Segment};
 use plans::Plan;
 use program_sources::Source;

@@ -1,0 +1,17 @@
+pub mod Joining
+pub mod Operands
+pub mod Relations
+pub mod Bytes
+pub mod Words
+pub mod Tasks
+pub mod Going
+pub mod Branches
+pub mod Written
+pub mod Planning
+pub mod Carried
+pub mod Assigning
+pub mod Looping
+pub mod Choosing
+pub mod Statements
+pub mod Entering
+pub mod Modules

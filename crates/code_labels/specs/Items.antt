@@ -1,0 +1,37 @@
+-- The labels of items: those that they go to, and those that they bind.
+use Rattle.std.specs.Prelude.{◌≡◌, ◌⊎◌, ℕ, List, [], ◌∷◌}
+use Rattle.asm8080.specs.declared.item.Item.{Item}
+use Rattle.asm8080.specs.declared.item.Item.TheVariants as items
+use Rattle.asm8080.specs.declared.item.Reference.{Reference}
+use Rattle.asm8080.specs.declared.item.Reference.TheVariants.{AtLabel, AtTarget}
+
+-- a reference is to a label of these, or to none
+abbrev pub ReferenceGoes : (ok : ℕ → Type 0) → Reference → Type 0
+ReferenceGoes ok (AtLabel label) = ok label
+ReferenceGoes ok (AtTarget target offset) = Unit {0}
+
+abbrev pub ItemGoes : (ok : ℕ → Type 0) → Item → Type 0
+ItemGoes ok (items.WithWord form reference) = ReferenceGoes ok reference
+ItemGoes ok (items.Address reference) = ReferenceGoes ok reference
+ItemGoes ok (items.Plain instruction) = Unit {0}
+ItemGoes ok (items.Byte value) = Unit {0}
+ItemGoes ok (items.Gap count) = Unit {0}
+ItemGoes ok (items.Mark label) = Unit {0}
+
+-- items refer to labels of these alone
+abbrev pub ItemsGo : (ok : ℕ → Type 0) → List Item → Type 0
+ItemsGo ok [] = Unit {0}
+ItemsGo ok (item ∷ others) = ItemGoes ok item × ItemsGo ok others
+
+-- a label is bound by an item, by one of items
+abbrev pub Binds : (label : ℕ) → Item → Type 0
+Binds label (items.Mark other) = label ≡ other
+Binds label (items.WithWord form reference) = ⊥
+Binds label (items.Address reference) = ⊥
+Binds label (items.Plain instruction) = ⊥
+Binds label (items.Byte value) = ⊥
+Binds label (items.Gap count) = ⊥
+
+abbrev pub ItemsBind : (label : ℕ) → List Item → Type 0
+ItemsBind label [] = ⊥
+ItemsBind label (item ∷ others) = Binds label item ⊎ ItemsBind label others

@@ -1,0 +1,4 @@
+pub mod Steps
+pub mod Items
+pub mod Plans
+pub mod Modules

@@ -1,0 +1,37 @@
+-- Object modules and refusals by the code bound.
+use Rattle.std.specs.Prelude.{IfOk, Result, Ok, Err}
+use Rattle.failure.specs.declared.Failure.{Failure}
+use Rattle.failure.specs.declared.Failure.TheVariants as failures
+use Rattle.failure.specs.Failure.{IfFault}
+use Rattle.object_modules.specs.Module.{ObjectModule}
+use Rattle.treecode.specs.declared.module.TreeModule.{TreeModule}
+use Rattle.codegen8080.specs.declared.fault.Fault.{Fault}
+use Rattle.codegen8080.specs.declared.fault.Fault.TheVariants.{TooLong, UnboundLabel}
+use Rattle.codegen8080.specs.Modules.{IsGenerated}
+use Rattle.codegen8080.specs.Refusals.{MayRefuse}
+use Rattle.code_bounds.proofs.Bounds.{segment_is_within_its_bound, too_long_is_past_its_bound}
+use Rattle.module_code.specs.Bounded.{IsPastBound, IsWithinBound}
+
+within_bound : (tree : TreeModule) (object : ObjectModule) → IsGenerated tree object → IsWithinBound tree object
+within_bound tree object is typed code =
+    segment_is_within_its_bound typed code.storage tree object code.sound code.lowered is
+
+past_bound : (tree : TreeModule) (fault : Fault) → MayRefuse tree fault → IsPastBound tree fault
+past_bound tree TooLong refused typed code =
+    too_long_is_past_its_bound typed code.storage tree code.sound code.few code.lowered refused
+past_bound tree UnboundLabel refused = tt
+
+pub result_within_bound :
+    (tree : TreeModule) (result : Result ObjectModule (Failure Fault))
+    → IfOk result (λ object. IsGenerated tree object)
+    → IfOk result (λ object. IsWithinBound tree object)
+result_within_bound tree (Ok object) is = within_bound tree object is
+result_within_bound tree (Err failure) is = tt
+
+pub refusal_past_bound :
+    (tree : TreeModule) (result : Result ObjectModule (Failure Fault))
+    → IfFault result (λ fault. MayRefuse tree fault)
+    → IfFault result (λ fault. IsPastBound tree fault)
+refusal_past_bound tree (Ok object) is = tt
+refusal_past_bound tree (Err (failures.Fault fault)) is = past_bound tree fault is
+refusal_past_bound tree (Err failures.Memory) is = tt

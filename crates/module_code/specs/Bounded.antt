@@ -1,0 +1,31 @@
+-- How long the code segment of an object module is, and when a module is refused for a length.
+use Rattle.std.specs.Prelude.{ℕ, ◌+◌, ◌≤◌}
+use Rattle.object_modules.specs.declared.segment.Segment.TheVariants.{Code}
+use Rattle.object_modules.specs.declared.segment.TheConstants.{SEGMENT_LIMIT}
+use Rattle.object_modules.specs.Module.{ObjectModule, length_of}
+use Rattle.typed_trees.specs.TypedTrees.{TypedModule}
+use Rattle.typed_trees.specs.Weight.{code_bound}
+use Rattle.layout.specs.Storage.{Storage, data_bytes}
+use Rattle.treecode.specs.declared.module.TreeModule.{TreeModule}
+use Rattle.treecode.specs.Lowered.{IsLowered}
+use Rattle.codegen8080.specs.declared.fault.Fault.{Fault}
+use Rattle.codegen8080.specs.declared.fault.Fault.TheVariants.{TooLong, UnboundLabel}
+use Rattle.code_bounds.specs.Fits.{IsSound}
+
+-- Tree code is a module that is typed as typing makes sure of, with a storage, and the data segment of the module has no more
+-- bytes than a segment may have.
+pub record IsTreeCodeOf (typed : TypedModule) (tree : TreeModule) : Type 0 where
+  pub storage : Storage
+  pub lowered : IsLowered typed storage tree
+  pub sound : IsSound typed
+  pub few : data_bytes typed.objects ≤ SEGMENT_LIMIT
+
+-- the code segment of an object module takes no more bytes than the code bound of the module that the tree code is
+abbrev pub IsWithinBound : TreeModule → ObjectModule → Type 0
+IsWithinBound tree object =
+    (typed : TypedModule) → IsTreeCodeOf typed tree → length_of object Code ≤ code_bound typed
+
+-- a refusal for a length comes only where that bound passes what a segment may have
+abbrev pub IsPastBound : TreeModule → Fault → Type 0
+IsPastBound tree TooLong = (typed : TypedModule) → IsTreeCodeOf typed tree → SEGMENT_LIMIT + 1 ≤ code_bound typed
+IsPastBound tree UnboundLabel = Unit {0}
