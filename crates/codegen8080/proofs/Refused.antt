@@ -14,7 +14,7 @@ use Rattle.codegen8080.specs.declared.fault.Fault.TheVariants as faults
 use Rattle.codegen8080.specs.Modules.{IsCodeWritten, contents_items}
 use Rattle.codegen8080.specs.Refusals.{CodeIsNone, DataAreNone, IsNoSegment, MayRefuse}
 
--- code is not finished, since it is too long or a label is not bound
+-- code is not finished, since it is too long
 pub too_long :
     (written : Written) (A : Type 0) (result : Result A (Failure CodeFault))
     → result ≡ Err (failures.Fault code_faults.TooLong)
@@ -24,16 +24,6 @@ too_long written A result same given =
     (subst
     (λ (to : Result A (Failure CodeFault)). IfFault to (λ (fault : CodeFault). IsFinished written.code (Err fault)))
     same given).1
-
-pub not_bound :
-    (written : Written) (A : Type 0) (result : Result A (Failure CodeFault))
-    → result ≡ Err (failures.Fault code_faults.UnboundLabel)
-    → IfFault result (λ (fault : CodeFault). IsFinished written.code (Err fault))
-    → IsNoSegment faults.UnboundLabel written
-not_bound written A result same given =
-    subst
-    (λ (to : Result A (Failure CodeFault)). IfFault to (λ (fault : CodeFault). IsFinished written.code (Err fault)))
-    same given
 
 -- what is said of the fault of a result is said of that of another which hands it on
 handed_on :

@@ -1,9 +1,8 @@
 -- The numbers of the faults of code.
 use Rattle.std.specs.Prelude.{ℕ, List, codes}
 use Rattle.codegen8080.specs.declared.fault.Fault.{Fault}
-use Rattle.codegen8080.specs.declared.fault.Fault.TheVariants.{TooLong, UnboundLabel}
+use Rattle.codegen8080.specs.declared.fault.Fault.TheVariants.{TooLong}
 
 -- the number by which a fault is known
 abbrev pub number_of : Fault → List ℕ
 number_of TooLong = codes "G1"
-number_of UnboundLabel = codes "A1"

@@ -1,19 +1,17 @@
 -- Why a module has no object module.
 use Rattle.std.specs.Prelude.{◌≡◌, ◌≤◌, ◌+◌, ℕ, Some}
 use Rattle.object_modules.specs.declared.segment.TheConstants.{SEGMENT_LIMIT}
-use Rattle.asm8080.specs.Assembled.{AllBound}
 use Rattle.asm8080.specs.Items.{size_of_items}
 use Rattle.treecode.specs.declared.module.TreeModule.{TreeModule}
 use Rattle.steps8080.specs.Externals.{Extends}
 use Rattle.steps8080.specs.Writer.{Written, numbered}
 use Rattle.codegen8080.specs.declared.fault.Fault.{Fault}
-use Rattle.codegen8080.specs.declared.fault.Fault.TheVariants.{TooLong, UnboundLabel}
+use Rattle.codegen8080.specs.declared.fault.Fault.TheVariants.{TooLong}
 use Rattle.codegen8080.specs.Modules.{IsCodeWritten, contents_items}
 
--- items that were written are no segment: they take more bytes than one may have, or a label has no place among them
+-- items that were written are no segment: they take more bytes than one may have
 abbrev pub IsNoSegment : Fault → Written → Type 0
 IsNoSegment TooLong written = SEGMENT_LIMIT + 1 ≤ size_of_items written.code.items
-IsNoSegment UnboundLabel written = AllBound written.code → ⊥
 
 -- A module is refused only where its code as it is written is no segment, or its data after it are none.
 pub data MayRefuse (tree : TreeModule) (fault : Fault) : Type 0 where

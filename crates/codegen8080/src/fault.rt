@@ -8,9 +8,6 @@ pub enum Fault {
     /// G1: its code segment would have more than 65535 bytes.
     #[error("a code segment of more than 65535 bytes")]
     TooLong,
-    /// A1: a label is not bound.
-    #[error("a label that is not bound")]
-    UnboundLabel,
 }
 
 impl Fault {
@@ -23,7 +20,6 @@ impl Fault {
     {
         match self {
             Fault::TooLong => "G1",
-            Fault::UnboundLabel => "A1",
         }
     }
 }

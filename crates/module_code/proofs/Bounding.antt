@@ -6,7 +6,7 @@ use Rattle.failure.specs.Failure.{IfFault}
 use Rattle.object_modules.specs.Module.{ObjectModule}
 use Rattle.treecode.specs.declared.module.TreeModule.{TreeModule}
 use Rattle.codegen8080.specs.declared.fault.Fault.{Fault}
-use Rattle.codegen8080.specs.declared.fault.Fault.TheVariants.{TooLong, UnboundLabel}
+use Rattle.codegen8080.specs.declared.fault.Fault.TheVariants.{TooLong}
 use Rattle.codegen8080.specs.Modules.{IsGenerated}
 use Rattle.codegen8080.specs.Refusals.{MayRefuse}
 use Rattle.code_bounds.proofs.Bounds.{segment_is_within_its_bound, too_long_is_past_its_bound}
@@ -19,7 +19,6 @@ within_bound tree object is typed code =
 past_bound : (tree : TreeModule) (fault : Fault) → MayRefuse tree fault → IsPastBound tree fault
 past_bound tree TooLong refused typed code =
     too_long_is_past_its_bound typed code.storage tree code.sound code.few code.lowered refused
-past_bound tree UnboundLabel refused = tt
 
 pub result_within_bound :
     (tree : TreeModule) (result : Result ObjectModule (Failure Fault))

@@ -9,7 +9,7 @@ use Rattle.layout.specs.Storage.{Storage, data_bytes}
 use Rattle.treecode.specs.declared.module.TreeModule.{TreeModule}
 use Rattle.treecode.specs.Lowered.{IsLowered}
 use Rattle.codegen8080.specs.declared.fault.Fault.{Fault}
-use Rattle.codegen8080.specs.declared.fault.Fault.TheVariants.{TooLong, UnboundLabel}
+use Rattle.codegen8080.specs.declared.fault.Fault.TheVariants.{TooLong}
 use Rattle.code_bounds.specs.Fits.{IsSound}
 
 -- Tree code is a module that is typed as typing makes sure of, with a storage, and the data segment of the module has no more
@@ -28,4 +28,3 @@ IsWithinBound tree object =
 -- a refusal for a length comes only where that bound passes what a segment may have
 abbrev pub IsPastBound : TreeModule → Fault → Type 0
 IsPastBound tree TooLong = (typed : TypedModule) → IsTreeCodeOf typed tree → SEGMENT_LIMIT + 1 ≤ code_bound typed
-IsPastBound tree UnboundLabel = Unit {0}

@@ -19,7 +19,7 @@ use Rattle.treecode.specs.Lowered.{IsLowered}
 use Rattle.treecode.specs.Nodes.{NumbersAreWords, nodes_of}
 use Rattle.home_words.specs.HomeWords.{HomesAreWords}
 use Rattle.codegen8080.specs.declared.fault.Fault as code_fault
-use Rattle.codegen8080.specs.declared.fault.Fault.TheVariants.{TooLong, UnboundLabel}
+use Rattle.codegen8080.specs.declared.fault.Fault.TheVariants.{TooLong}
 use Rattle.codegen8080.specs.Modules.{IsGenerated}
 use Rattle.codegen8080.specs.Refusals.{MayRefuse}
 use Rattle.module_segments.proofs.Slots.{stored}
@@ -90,7 +90,6 @@ passes_bound : (fault : code_fault.Fault) (typed : TypedModule) (tree : TreeModu
 passes_bound TooLong typed tree has sound lowered refused =
     let is = stored typed (storage_with typed) has.source.storage in
     too_long_is_past_its_bound typed (storage_with typed) tree (sound_for_bounds typed sound) is.data_fits lowered refused
-passes_bound UnboundLabel typed tree has sound lowered refused = tt
 
 -- no object module is made of a module whose tree code is refused
 pub not_made : (fault : code_fault.Fault) (typed : TypedModule) (storage : Storage) (tree : TreeModule)

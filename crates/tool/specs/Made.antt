@@ -17,7 +17,7 @@ use Rattle.treecode.specs.declared.module.TreeModule.{TreeModule}
 use Rattle.treecode.specs.Lowered.{IsLowered}
 use Rattle.layout.specs.Storage.{storage_with}
 use Rattle.codegen8080.specs.declared.fault.Fault as code_fault
-use Rattle.codegen8080.specs.declared.fault.Fault.TheVariants.{TooLong, UnboundLabel}
+use Rattle.codegen8080.specs.declared.fault.Fault.TheVariants.{TooLong}
 use Rattle.codegen8080.specs.Refusals.{MayRefuse}
 
 -- a text is compiled to an object module: this is made of the module that the text is the source of
@@ -29,7 +29,6 @@ pub record IsCompiledTo (text : List ℕ) (object : ObjectModule) : Type 0 where
 -- a fault that is a length comes only where the code bound of the module passes what a segment may have
 abbrev pub PassesBound : code_fault.Fault → TypedModule → Type 0
 PassesBound TooLong typed = SEGMENT_LIMIT + 1 ≤ code_bound typed
-PassesBound UnboundLabel typed = Unit {0}
 
 -- no object module is made of a module: its code or its data are no segment, for this fault; its code is within its bound
 pub record IsNotMade (fault : code_fault.Fault) (typed : TypedModule) : Type 0 where
