@@ -1,0 +1,3 @@
+pub mod Heights
+pub mod Plain
+pub mod Charges

@@ -1,0 +1,6 @@
+pub mod Names
+pub mod Calls
+pub mod Mains
+pub mod Leaving
+pub mod Frames
+pub mod Changes
