@@ -2,7 +2,8 @@
 use Rattle.std.proofs.Common.{◌≡◌, ℕ, ◌<◌, List, [], ◌∷◌, All, refl, sym, subst, arith}
 use Rattle.std.proofs.lemmas.List.Elements.{All-from_recursion}
 use Rattle.std.specs.List.{AllByRecursion}
-use Rattle.mem80.specs.Pieces.{EndsInMemory}
+use Rattle.mem80.specs.Memory.{IsMemory}
+use Rattle.mem80.specs.Pieces.{EndsInMemory, IsLoaded}
 use Rattle.object_modules.specs.Module.{IsObjectModule, ObjectModule}
 use Rattle.object_images.proofs.Loaded.{runs_are_loaded}
 use Rattle.object_merges.proofs.MergeValid.{merge_is_object}
@@ -19,10 +20,12 @@ use Rattle.locate.specs.Locating.{Absolute, loaded}
 use Rattle.locate.proofs.Loads.{is_loaded}
 use Rattle.program_meaning.specs.Agreement.{Agrees}
 use Rattle.program_meaning.specs.Typed.{AreSoundlyMade}
-use Rattle.program_meaning.proofs.MadePrograms.{made_program_does}
+use Rattle.program_meaning.proofs.MadePrograms.{are_made, made_program_does}
+use Rattle.generated_objects.proofs.Made.{is_in_memory}
+use Rattle.program_memory.proofs.Starting.{starts_as_its_source}
 use Rattle.tool.specs.Headline.{DoesWhatItSays}
 use Rattle.tool.specs.Image.{machine_run}
-use Rattle.tool.specs.Made.{IsImageOfObjects, code_lengths}
+use Rattle.tool.specs.Made.{IsImageOfObjects, StartsAsItsSource, code_lengths}
 use Rattle.tool.proofs.ImageBytes.{loading_keeps_a_memory}
 
 each_valid : (modules : List TypedModule) (objects : List ObjectModule) → AreSoundlyMade modules objects
@@ -31,6 +34,18 @@ each_valid [] [] made = tt
 each_valid [] (object ∷ objects) made = absurd made
 each_valid (typed ∷ modules) [] made = absurd made
 each_valid (typed ∷ modules) (object ∷ objects) made = (made.0.made.valid, each_valid modules objects made.1)
+
+-- what a memory holds into which an image of object modules is loaded
+image_is_loaded :
+    (plan : Plan) (objects : List ObjectModule) (image : Absolute) (linked : IsImageOfObjects plan objects image)
+    → All EndsInMemory image.pieces
+    → (memory : List ℕ)
+    → IsMemory memory
+    → IsLoaded linked.placed.image.byte_at memory (loaded image.pieces memory)
+image_is_loaded plan objects image linked ends memory is_memory =
+    let placed = linked.placed in
+    runs_are_loaded image.pieces placed.image.byte_at memory (loaded image.pieces memory) placed.pieces
+    (is_loaded image.pieces memory (loaded image.pieces memory) placed.pieces.runs ends refl is_memory.size)
 
 -- For every program whose object modules are made of its modules, every memory, every script and all events before it, if
 -- the source never goes outside with the stack of the plan, the image performs exactly the port reads and writes of the
@@ -54,11 +69,27 @@ does_what_it_says plan modules objects image joined made lawful linked ends memo
     (sym placed.start)
     (made_program_does (plan_view plan) modules objects linked.merged placed.image memory (loaded image.pieces memory)
     joined made lawful linked.merge placed.found
-    (runs_are_loaded image.pieces placed.image.byte_at memory (loaded image.pieces memory) placed.pieces
-    (is_loaded image.pieces memory (loaded image.pieces memory) placed.pieces.runs ends refl is_memory.size))
+    (image_is_loaded plan objects image linked ends memory is_memory)
     is_memory.size
     (loading_keeps_a_memory (of_locating.plan_view plan) linked.merged placed.image image.pieces valid placed.found placed.pieces
     ends memory is_memory)
     script events (initial_registers placed.image.start) is_script
     (record { a = omega arith; b = omega arith; c = omega arith; d = omega arith; e = omega arith; h = omega arith; l = omega arith })
     never)
+
+-- and in every memory into which the image is loaded each declared byte begins as its source has it
+pub declared_bytes_start :
+    (plan : Plan) (modules : List TypedModule) (objects : List ObjectModule) (image : Absolute)
+    → IsJoined modules
+    → AreSoundlyMade modules objects
+    → IsLawful modules (placement_by (plan_view plan) modules (code_lengths objects))
+    → IsImageOfObjects plan objects image
+    → All EndsInMemory image.pieces
+    → StartsAsItsSource modules (placement_by (plan_view plan) modules (code_lengths objects)) image
+unfolding placement_by
+declared_bytes_start plan modules objects image joined made lawful linked ends memory is_memory =
+    let placed = linked.placed in
+    starts_as_its_source (plan_view plan) modules objects linked.merged placed.image memory (loaded image.pieces memory)
+    (is_in_memory (plan_view plan) modules objects linked.merged placed.image memory (loaded image.pieces memory)
+    joined (are_made modules objects made) lawful linked.merge placed.found
+    (image_is_loaded plan objects image linked ends memory is_memory) is_memory.size)

@@ -37,14 +37,14 @@ use Rattle.tool.specs.declared.fault.ToolFault.{ToolFault}
 use Rattle.tool.specs.declared.fault.ToolFault.TheVariants.{TooManySources, Source, Code, Program, Link, Locate}
 use Rattle.tool.specs.Construction.{Construction, IsConstruction, IsTyped}
 use Rattle.tool.specs.Headline.{DoesWhatItSays}
-use Rattle.tool.specs.Made.{AreWithinBounds, IsImageOfObjects, code_lengths}
+use Rattle.tool.specs.Made.{AreWithinBounds, IsImageOfObjects, StartsAsItsSource, code_lengths}
 use Rattle.code_bounds.proofs.Bounds.{segment_is_within_its_bound}
 use Rattle.tool.proofs.CompiledLemmas.{sound_for_bounds}
 use Rattle.tool.specs.Refusals.{IsRefusal}
 use Rattle.tool.specs.Sources.{AreWithoutFault, HasCause, IsInOrder, IsWithoutFault, sources_before}
 use Rattle.tool.specs.internal.Compiling.{AreCompiled, HasBuildCause, IsBuiltFrom, module_in}
 use Rattle.tool.specs.internal.Inside.{construction_with}
-use Rattle.tool.proofs.Headline.{does_what_it_says}
+use Rattle.tool.proofs.Headline.{declared_bytes_start, does_what_it_says}
 
 length_mapped : {A B : Type 0} (f : A → B) (items : List A) → length (map f items) ≡ length items
 length_mapped f [] = refl
@@ -189,10 +189,15 @@ pub is_construction : (plan : Plan) (modules : List TypedModule) (lengths : List
 is_construction plan modules lengths placed objects image is its made linked ends =
     let as_planned : of_placement.placement_view placed.placement ≡ placement_by (of_placement.plan_view plan) modules (code_lengths objects) =
     is.as_planned ∙ ap (λ (given : List ℕ). placement_by (of_placement.plan_view plan) modules given) its in
+    let lies = subst (λ (placement : Placement). IsLawful modules placement) as_planned is.lawful in
     let does : DoesWhatItSays modules (of_placement.placement_view placed.placement) plan.stack_size image =
     subst (λ (placement : Placement). DoesWhatItSays modules placement plan.stack_size image) (sym as_planned)
-    (does_what_it_says plan modules objects image is.joined made (subst (λ (placement : Placement). IsLawful modules placement) as_planned is.lawful) linked ends) in
+    (does_what_it_says plan modules objects image is.joined made lies linked ends) in
+    let starts : StartsAsItsSource modules (of_placement.placement_view placed.placement) image =
+    subst (λ (placement : Placement). StartsAsItsSource modules placement image) (sym as_planned)
+    (declared_bytes_start plan modules objects image is.joined made lies linked ends) in
     record {
+      starts = subst (λ ms. StartsAsItsSource ms (of_placement.placement_view placed.placement) image) (sym is.program) starts;
       headline = subst (λ ms. DoesWhatItSays ms (of_placement.placement_view placed.placement) plan.stack_size image) (sym is.program) does;
       linked = linked;
       joined = subst IsJoined (sym is.program) is.joined;

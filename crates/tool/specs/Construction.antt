@@ -20,7 +20,7 @@ use Rattle.locate.specs.Locating.{Absolute}
 use Rattle.program_meaning.specs.Typed.{AreSoundlyMade}
 use Rattle.program_sources.specs.Programs.{program_modules}
 use Rattle.tool.specs.Headline.{DoesWhatItSays}
-use Rattle.tool.specs.Made.{AreWithinBounds, IsImageOfObjects, code_lengths}
+use Rattle.tool.specs.Made.{AreWithinBounds, IsImageOfObjects, StartsAsItsSource, code_lengths}
 
 -- the joined program, the plan, the placement with what each byte of memory is by its table, the object modules of
 -- the modules, and the image
@@ -36,12 +36,13 @@ pub record Construction : Type 0 where
 abbrev pub IsTyped : TypedModule → Type 0
 IsTyped typed = IsWellTyped typed × ListsGlobals typed × FramesFit typed
 
--- the image does what the program says, with the stack of the plan; it is the merge of the object modules, placed by the
--- plan; the modules make a program, which is well typed, whose jumps go to labels that are known, whose storage fits, whose
+-- the image does what the program says, with the stack of the plan; where it is loaded each declared byte begins as the
+-- program has it; it is the merge of the object modules, placed by the plan; the modules make a program, which is well typed, whose jumps go to labels that are known, whose storage fits, whose
 -- plan is not refused for the code segments of the object modules, of which there is one made of each module, within
 -- its code bound, and which lies lawfully where the plan puts it; the table is of its bytes there
 pub record IsConstruction (built : Construction) : Type 0 where
   pub headline : DoesWhatItSays (program_modules built.program) built.placement built.plan.stack_size built.image
+  pub starts : StartsAsItsSource (program_modules built.program) built.placement built.image
   pub linked : IsImageOfObjects built.plan built.objects built.image
   pub joined : IsJoined (program_modules built.program)
   pub jumps : All JumpsAreSound (program_modules built.program)

@@ -1,5 +1,6 @@
 -- What a text is compiled to, and what an image is that LINK and LOCATE make of object modules.
 use Rattle.std.specs.Prelude.{◌≡◌, ℕ, ◌+◌, ◌≤◌, List, [], ◌∷◌, map, Ok}
+use Rattle.mem80.specs.Memory.{IsMemory}
 use Rattle.typed_trees.specs.TypedTrees.{TypedModule}
 use Rattle.typed_trees.specs.Weight.{code_bound}
 use Rattle.asm8080.specs.Items.{size_of_items}
@@ -10,11 +11,13 @@ use Rattle.object_modules.specs.Merge.{merge_of}
 use Rattle.object_modules.specs.Module.{ObjectModule, length_of}
 use Rattle.object_modules.specs.declared.segment.Segment.TheVariants.{Code}
 use Rattle.object_modules.specs.declared.segment.TheConstants.{SEGMENT_LIMIT}
-use Rattle.locate.specs.Locating.{Absolute, IsPlaced, plan_view}
+use Rattle.locate.specs.Locating.{Absolute, IsPlaced, loaded, plan_view}
 use Rattle.plans.specs.declared.Plan.{Plan}
 use Rattle.program_meaning.specs.Typed.{IsSoundlyMade}
 use Rattle.treecode.specs.declared.module.TreeModule.{TreeModule}
 use Rattle.treecode.specs.Lowered.{IsLowered}
+use Rattle.layout.specs.Placement.{AgreesOnDeclared, Placement}
+use Rattle.layout.specs.StartingMemory.{starting_memory}
 use Rattle.layout.specs.Storage.{storage_with}
 use Rattle.codegen8080.specs.declared.fault.Fault as code_fault
 use Rattle.codegen8080.specs.declared.fault.Fault.TheVariants.{TooLong}
@@ -57,3 +60,11 @@ pub record IsImageOfObjects (plan : Plan) (objects : List ObjectModule) (image :
   pub merged : ObjectModule
   pub merge : merge_of objects ≡ Ok merged
   pub placed : IsPlaced (plan_view plan) merged image
+
+-- in every memory into which an image is loaded each declared byte begins as a run of the source has it: those of DATA, of
+-- INITIAL and of constant lists with their values, and any other as it was
+abbrev pub StartsAsItsSource : List TypedModule → Placement → Absolute → Type 0
+StartsAsItsSource modules placement image =
+    (memory : List ℕ)
+    → IsMemory memory
+    → AgreesOnDeclared modules placement (starting_memory modules placement memory) (loaded image.pieces memory)
