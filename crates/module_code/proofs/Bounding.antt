@@ -17,7 +17,7 @@ within_bound tree object is typed code =
     segment_is_within_its_bound typed code.storage tree object code.sound code.lowered is
 
 past_bound : (tree : TreeModule) (fault : Fault) → MayRefuse tree fault → IsPastBound tree fault
-past_bound tree TooLong refused typed code =
+past_bound tree TooLong refused = λ typed code.
     too_long_is_past_its_bound typed code.storage tree code.sound code.few code.lowered refused
 
 pub result_within_bound :

@@ -1,0 +1,57 @@
+-- The labels that the code of a module goes to have their places.
+use Rattle.std.specs.Prelude.{◌≡◌, ℕ, Bool, List, IfOk, Result, Ok, Err, Some, slice_get}
+use Rattle.failure.specs.declared.Failure.{Failure}
+use Rattle.object_modules.specs.Module.{ObjectModule}
+use Rattle.typed_trees.specs.Jumps.{BodyIsSound}
+use Rattle.typed_trees.specs.TypedTrees.{TypedModule, TypedProcedure}
+use Rattle.layout.specs.Storage.{Storage}
+use Rattle.asm8080.specs.declared.item.Item.{Item}
+use Rattle.treecode.specs.declared.module.TreeModule.{TreeModule}
+use Rattle.treecode.specs.Lowered.{IsLowered, labels_numbered_in_list}
+use Rattle.codegen8080.specs.declared.fault.Fault.{Fault}
+use Rattle.codegen8080.specs.Modules.{IsGenerated, IsOwnCode}
+use Rattle.statement_meaning.proofs.Lists.{same_number}
+use Rattle.procedure_meaning.proofs.Labels.{main_labels_differ, procedure_labels_differ}
+use Rattle.code_bounds.specs.Fits.{IsSound}
+use Rattle.code_bounds.proofs.Constants.{holds_at}
+use Rattle.code_labels.specs.Modules.{LabelsHavePlaces}
+use Rattle.code_labels.proofs.Modules.{own_code_goes}
+use Rattle.code_labels.proofs.Statements.{LabelsDiffer}
+use Rattle.module_code.specs.Places.{HasPlaces}
+
+-- no label of a body has two numbers
+body_differs :
+    (typed : TypedModule) (procedure : TypedProcedure) (index : ℕ)
+    → IsSound typed
+    → slice_get typed.procedures index ≡ Some procedure
+    → LabelsDiffer (labels_numbered_in_list procedure.body)
+body_differs typed procedure index sound there one other label first second =
+    same_number (labels_numbered_in_list procedure.body) one other label
+    (procedure_labels_differ typed index procedure sound.jumps
+    (holds_at (λ (given : TypedProcedure). BodyIsSound given.body) typed.procedures index procedure
+    sound.jumps.procedures there).stands there)
+    first second
+
+main_differs : (typed : TypedModule) → IsSound typed → LabelsDiffer (labels_numbered_in_list typed.main.body)
+main_differs typed sound one other label first second =
+    same_number (labels_numbered_in_list typed.main.body) one other label (main_labels_differ typed sound.jumps) first
+    second
+
+pub labels_have_places :
+    (typed : TypedModule) (storage : Storage) (tree : TreeModule) (called : List Bool) (start : ℕ) (own : List Item)
+    → IsSound typed
+    → IsLowered typed storage tree
+    → IsOwnCode tree called start own
+    → LabelsHavePlaces tree called own
+labels_have_places typed storage tree called start own sound lowered is =
+    own_code_goes typed storage tree called start own lowered sound.jumps is
+    (λ procedure index there. body_differs typed procedure index sound there) (main_differs typed sound)
+
+pub result_has_places :
+    (tree : TreeModule) (result : Result ObjectModule (Failure Fault))
+    → IfOk result (λ object. IsGenerated tree object)
+    → IfOk result (λ object. HasPlaces tree object)
+result_has_places tree (Ok object) made = λ typed code is.
+    labels_have_places typed code.storage tree is.code_is.called is.start_label is.code_is.own code.sound code.lowered
+    is.code_is.own_is
+result_has_places tree (Err failure) made = tt
