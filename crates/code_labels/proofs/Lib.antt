@@ -15,3 +15,4 @@ pub mod Choosing
 pub mod Statements
 pub mod Entering
 pub mod Modules
+pub mod Placing

@@ -235,7 +235,7 @@ fn finish(writer: Writer) -> Result<(Finished, Externals), Failure<Fault>>
     match writer.finish() {
         Ok(both) => Ok(both),
         Err(Failure::Fault(asm8080::Fault::TooLong)) => Err(Failure::Fault(Fault::TooLong)),
-        // That never comes: each label that code of a module goes to has its place in it.
+        // That is not expected: each label that the code of a module goes to has its place in it.
         Err(Failure::Fault(asm8080::Fault::UnboundLabel)) => Err(Failure::Memory),
         Err(Failure::Memory) => Err(Failure::Memory),
     }

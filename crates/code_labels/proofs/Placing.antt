@@ -1,15 +1,12 @@
--- The labels that the code of a module goes to have their places.
-use Rattle.std.specs.Prelude.{◌≡◌, ℕ, Bool, List, IfOk, Result, Ok, Err, Some, slice_get}
-use Rattle.failure.specs.declared.Failure.{Failure}
-use Rattle.object_modules.specs.Module.{ObjectModule}
+-- The labels that the code of a soundly typed module goes to have their places.
+use Rattle.std.specs.Prelude.{◌≡◌, ℕ, Bool, List, Some, slice_get}
 use Rattle.typed_trees.specs.Jumps.{BodyIsSound}
 use Rattle.typed_trees.specs.TypedTrees.{TypedModule, TypedProcedure}
 use Rattle.layout.specs.Storage.{Storage}
 use Rattle.asm8080.specs.declared.item.Item.{Item}
 use Rattle.treecode.specs.declared.module.TreeModule.{TreeModule}
 use Rattle.treecode.specs.Lowered.{IsLowered, labels_numbered_in_list}
-use Rattle.codegen8080.specs.declared.fault.Fault.{Fault}
-use Rattle.codegen8080.specs.Modules.{IsGenerated, IsOwnCode}
+use Rattle.codegen8080.specs.Modules.{IsOwnCode}
 use Rattle.statement_meaning.proofs.Lists.{same_number}
 use Rattle.procedure_meaning.proofs.Labels.{main_labels_differ, procedure_labels_differ}
 use Rattle.code_bounds.specs.Fits.{IsSound}
@@ -17,7 +14,6 @@ use Rattle.code_bounds.proofs.Constants.{holds_at}
 use Rattle.code_labels.specs.Modules.{LabelsHavePlaces}
 use Rattle.code_labels.proofs.Modules.{own_code_goes}
 use Rattle.code_labels.proofs.Statements.{LabelsDiffer}
-use Rattle.module_code.specs.Places.{HasPlaces}
 
 -- no label of a body has two numbers
 body_differs :
@@ -37,6 +33,7 @@ main_differs typed sound one other label first second =
     same_number (labels_numbered_in_list typed.main.body) one other label (main_labels_differ typed sound.jumps) first
     second
 
+-- each label that its own code goes to is bound there, or is that of a routine that it calls
 pub labels_have_places :
     (typed : TypedModule) (storage : Storage) (tree : TreeModule) (called : List Bool) (start : ℕ) (own : List Item)
     → IsSound typed
@@ -46,12 +43,3 @@ pub labels_have_places :
 labels_have_places typed storage tree called start own sound lowered is =
     own_code_goes typed storage tree called start own lowered sound.jumps is
     (λ procedure index there. body_differs typed procedure index sound there) (main_differs typed sound)
-
-pub result_has_places :
-    (tree : TreeModule) (result : Result ObjectModule (Failure Fault))
-    → IfOk result (λ object. IsGenerated tree object)
-    → IfOk result (λ object. HasPlaces tree object)
-result_has_places tree (Ok object) made = λ typed code is.
-    labels_have_places typed code.storage tree is.code_is.called is.start_label is.code_is.own code.sound code.lowered
-    is.code_is.own_is
-result_has_places tree (Err failure) made = tt
