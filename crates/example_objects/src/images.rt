@@ -6,10 +6,10 @@ ghost use Rattle.std.specs.List.{AllZip};
 ghost use Rattle.failure.specs.Failure.{IfFault};
 ghost use Rattle.locate.specs.Locating.{plan_view};
 ghost use Rattle.object_modules.specs.Spelling.{Spells};
-ghost use Rattle.example_objects.specs.Images.{HasNoImage, HasNoMerge, IsFaulty, IsImageOf, Merges, SomeIsFaulty};
+ghost use Rattle.example_objects.specs.Images.{FirstIsFaulty, HasNoImage, IsImageOf};
 
 use failure::Failure;
-use link::{LinkFault, Merged, link};
+use link::{LinkFault, link};
 use locate::{Absolute, LocateFault, Plan, locate};
 use objmod::{Fault, ObjectModule, read};
 use std::alloc::Global;
@@ -29,45 +29,24 @@ pub enum ImageFault {
     Place(LocateFault),
 }
 
-// The module that a file spells.
-fn module_in(alloc: Global, file: &[u8]) -> Result<ObjectModule, Failure<ImageFault>>
-    ensures spelled { IfOk result (λ object. Spells file.now object) }
-    ensures fault { IfFault result (IsFaulty file.now) }
-{
-    match read(alloc, file) {
-        Ok(object) => Ok(object),
-        Err(Failure::Fault(fault)) => Err(Failure::Fault(ImageFault::Object(fault))),
-        Err(Failure::Memory) => Err(Failure::Memory),
-    }
-}
-
 // The modules that files spell, in their order.
-fn modules_in(alloc: Global, files: &[&[u8]]) -> Result<Vec<ObjectModule>, Failure<ImageFault>>
-    ensures spelled { IfOk result (λ objects. AllZip Spells (map (λ file. file.now) files.now) objects.items) }
-    ensures fault { IfFault result (SomeIsFaulty (map (λ file. file.now) files.now)) }
+#[tactic(auto, using(crate::proofs::FilesRead::first_faulty))]
+fn modules_in(alloc: Global, files: &[&[u8]]) -> Result<Vec<ObjectModule>, Failure<Fault>>
+    ensures spelled { IfOk result (λ objects.
+        AllZip Spells (map (λ file. file.now) files.now) objects.items) }
+    ensures fault { IfFault result (λ fault.
+        FirstIsFaulty (map (λ file. file.now) files.now) fault) }
 {
     let mut objects = Vec::new(alloc);
     for file in files {
-        let object = module_in(alloc, file)?;
+        let object = read(alloc, file)?;
         objects.push(object)?;
     }
     Ok(objects)
 }
 
-// The merge of the modules that files spell.
-fn merge_files(alloc: Global, files: &[&[u8]]) -> Result<Merged, Failure<ImageFault>>
-    ensures merged { IfOk result (λ merged. Merges (map (λ file. file.now) files.now) merged.object) }
-    ensures fault { IfFault result (HasNoMerge (map (λ file. file.now) files.now)) }
-{
-    let objects = modules_in(alloc, files)?;
-    match link(alloc, objects.as_slice()) {
-        Ok(merged) => Ok(merged),
-        Err(Failure::Fault(fault)) => Err(Failure::Fault(ImageFault::Link(fault))),
-        Err(Failure::Memory) => Err(Failure::Memory),
-    }
-}
-
-/// The image of object files that are linked in this order and placed by a plan.
+/// The image of object files that are linked in this order and placed by a plan, or why they have none, the first
+/// reason of reading, of linking and of placing.
 pub fn place_files(
     alloc: Global,
     files: &[&[u8]],
@@ -75,10 +54,19 @@ pub fn place_files(
 ) -> Result<Absolute, Failure<ImageFault>>
     ensures image { IfOk result (λ absolute.
         IsImageOf (map (λ file. file.now) files.now) (plan_view plan.now) absolute) }
-    ensures fault { IfFault result
-        (HasNoImage (map (λ file. file.now) files.now) (plan_view plan.now)) }
+    ensures fault { IfFault result (λ fault.
+        HasNoImage (map (λ file. file.now) files.now) (plan_view plan.now) fault) }
 {
-    let merged = merge_files(alloc, files)?;
+    let objects = match modules_in(alloc, files) {
+        Ok(objects) => objects,
+        Err(Failure::Fault(fault)) => return Err(Failure::Fault(ImageFault::Object(fault))),
+        Err(Failure::Memory) => return Err(Failure::Memory),
+    };
+    let merged = match link(alloc, objects.as_slice()) {
+        Ok(merged) => merged,
+        Err(Failure::Fault(fault)) => return Err(Failure::Fault(ImageFault::Link(fault))),
+        Err(Failure::Memory) => return Err(Failure::Memory),
+    };
     match locate(alloc, merged.module(), plan) {
         Ok(absolute) => Ok(absolute),
         Err(Failure::Fault(fault)) => Err(Failure::Fault(ImageFault::Place(fault))),

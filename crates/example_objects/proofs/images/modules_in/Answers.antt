@@ -2,7 +2,7 @@ use Rattle.std.proofs.Common.{◌+◌, take, sym, subst, arith}
 use Rattle.std.specs.List.{AllZip}
 use Rattle.object_modules.specs.Spelling.{Spells}
 use Rattle.example_objects.proofs.FilesRead.{bytes_of, one_more}
-use Rattle.example_objects.proofs.modules_in.Goals as goal
+use Rattle.example_objects.proofs.images.modules_in.Goals as goal
 
 pub loop-file-preserved : goal.loop-file-preserved
 loop-file-preserved c =
