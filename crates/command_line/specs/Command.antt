@@ -10,7 +10,7 @@ use Rattle.clap.specs.Walk.{texts}
 use Rattle.clap.specs.Words.{App, IsAmong, Kinds, Row, Rule, Text, all_of, first_of, kind_of, new_app}
 use Rattle.clap.specs.Words.{new_rule, subcommand_of, with_rule, with_subcommand}
 use Rattle.clap.specs.declared.builder.action.ArgAction.TheVariants.{Append, SetTrue}
-use Rattle.clap.specs.declared.error.ErrorKind.TheVariants.{DisplayHelp}
+use Rattle.clap.specs.declared.error.ErrorKind.TheVariants.{DisplayHelp, DisplayVersion}
 use Rattle.failure.specs.declared.Failure.{Failure}
 use Rattle.failure.specs.declared.Failure.TheVariants.{Memory}
 use Rattle.command_line.specs.declared.orders.Action.{Action}
@@ -25,7 +25,7 @@ use Rattle.command_line.specs.declared.orders.PlaceOrder.{PlaceOrder}
 use Rattle.command_line.specs.declared.orders.PlanTexts.{PlanTexts}
 use Rattle.command_line.specs.declared.orders.ProgramOrder.{ProgramOrder}
 use Rattle.command_line.specs.declared.reading.LineFault.{LineFault}
-use Rattle.command_line.specs.declared.reading.LineFault.TheVariants.{Help, Wrong}
+use Rattle.command_line.specs.declared.reading.LineFault.TheVariants.{Help, Version, Wrong}
 
 -- the option `--name VALUE`
 abbrev pub option_rule : Text → Rule
@@ -85,9 +85,12 @@ link_app name = with_rule (with_rule (new_app name) out_rule) files_rule
 abbrev pub place_app : Text → App
 place_app name = with_rule (with_plan (new_app name)) files_rule
 
--- the program, which has to have a command
+-- the program, which has to have a command, and which knows its version
 abbrev pub bare_app : App
-bare_app = record { top = record (new_app (codes "plm")).top { subcommand_required = true }; subs = [] }
+bare_app = record {
+  top = record (new_app (codes "plm")).top { subcommand_required = true; has_version = true };
+  subs = [];
+}
 
 -- the program with the commands that take sources
 abbrev pub programs_app : App
@@ -380,7 +383,10 @@ OrdersPlaceText words answer =
       plan = with_plan_text option text usual_plan;
     })) answer
 
--- a fault has one of the kinds that `clap` finds in the words, where Help stands for that of help alone
+-- a fault has one of the kinds that `clap` finds in the words, where Help stands for that of help alone, and Version for
+-- that of the version
 abbrev pub IsFaultOf : Kinds → LineFault → Type 0
 IsFaultOf kinds (Help error) = (kind_of error ≡ DisplayHelp) × IsAmong DisplayHelp kinds
-IsFaultOf kinds (Wrong error) = (kind_of error ≢ DisplayHelp) × IsAmong (kind_of error) kinds
+IsFaultOf kinds (Version error) = (kind_of error ≡ DisplayVersion) × IsAmong DisplayVersion kinds
+IsFaultOf kinds (Wrong error) =
+    (kind_of error ≢ DisplayHelp) × (kind_of error ≢ DisplayVersion) × IsAmong (kind_of error) kinds
