@@ -31,7 +31,6 @@ macro_rules! text_of {
   C19     a label that cannot stand here
   C20     a GOTO to a label that is not known here
   G1      a code segment of more than 65535 bytes
-  A1      a label that is not bound
 "] $($rest)*)
     };
     // of the modules of a program together

@@ -144,12 +144,8 @@ impl Help {
         ] {
             self.seek(fault.number(), fault);
         }
-        for fault in &[
-            codegen8080::Fault::TooLong,
-            codegen8080::Fault::UnboundLabel,
-        ] {
-            self.seek(fault.number(), fault);
-        }
+        let fault = codegen8080::Fault::TooLong;
+        self.seek(fault.number(), &fault);
         self.seek(ReadFault::TooLong.number(), &ReadFault::TooLong);
     }
 
