@@ -27,7 +27,7 @@ memory_line = refusal_line (codes "MEMORY") (codes "-") 0
 -- the numbers of the faults that commands print, with the word for memory that ran out
 abbrev pub fault_numbers : List (List ℕ)
 fault_numbers =
-    codes "A1" ∷ codes "C1" ∷ codes "C2" ∷ codes "C3" ∷ codes "C4" ∷ codes "C5" ∷ codes "C6" ∷ codes "C7"
+    codes "C1" ∷ codes "C2" ∷ codes "C3" ∷ codes "C4" ∷ codes "C5" ∷ codes "C6" ∷ codes "C7"
     ∷ codes "C8" ∷ codes "C9" ∷ codes "C11" ∷ codes "C12" ∷ codes "C13" ∷ codes "C14" ∷ codes "C15" ∷ codes "C16"
     ∷ codes "C17" ∷ codes "C18" ∷ codes "C19" ∷ codes "C20" ∷ codes "G1" ∷ codes "J1" ∷ codes "J2" ∷ codes "J3"
     ∷ codes "J4" ∷ codes "J5" ∷ codes "L1" ∷ codes "L2" ∷ codes "L3" ∷ codes "L4" ∷ codes "L5" ∷ codes "O1"

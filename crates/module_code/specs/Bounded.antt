@@ -12,8 +12,8 @@ use Rattle.codegen8080.specs.declared.fault.Fault.{Fault}
 use Rattle.codegen8080.specs.declared.fault.Fault.TheVariants.{TooLong}
 use Rattle.code_bounds.specs.Fits.{IsSound}
 
--- Tree code is a module that is typed as typing makes sure of, with a storage, and the data segment of the module has no more
--- bytes than a segment may have.
+-- Tree code that was lowered from a module which is typed as `check` promises, and whose data segment has no
+-- more bytes than a segment may have.
 pub record IsTreeCodeOf (typed : TypedModule) (tree : TreeModule) : Type 0 where
   pub storage : Storage
   pub lowered : IsLowered typed storage tree

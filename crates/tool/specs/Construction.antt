@@ -36,10 +36,11 @@ pub record Construction : Type 0 where
 abbrev pub IsTyped : TypedModule → Type 0
 IsTyped typed = IsWellTyped typed × ListsGlobals typed × FramesFit typed
 
--- the image does what the program says, with the stack of the plan; where it is loaded each declared byte begins as the
--- program has it; it is the merge of the object modules, placed by the plan; the modules make a program, which is well typed, whose jumps go to labels that are known, whose storage fits, whose
--- plan is not refused for the code segments of the object modules, of which there is one made of each module, within
--- its code bound, and which lies lawfully where the plan puts it; the table is of its bytes there
+-- The image does what the program says, with the stack of the plan; where it is loaded each declared byte
+-- begins as the program has it; it is the merge of the object modules, placed by the plan. The modules make a
+-- program, which is well typed, whose jumps go to labels that are known, and whose storage fits; there is an
+-- object module made of each, within its code bound. The plan is not refused for their code segments, the
+-- program lies lawfully where it puts it, and the table is of its bytes there.
 pub record IsConstruction (built : Construction) : Type 0 where
   pub headline : DoesWhatItSays (program_modules built.program) built.placement built.plan.stack_size built.image
   pub starts : StartsAsItsSource (program_modules built.program) built.placement built.image

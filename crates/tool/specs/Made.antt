@@ -33,7 +33,8 @@ pub record IsCompiledTo (text : List ℕ) (object : ObjectModule) : Type 0 where
 abbrev pub PassesBound : code_fault.Fault → TypedModule → Type 0
 PassesBound TooLong typed = SEGMENT_LIMIT + 1 ≤ code_bound typed
 
--- no object module is made of a module: its code or its data are no segment, for this fault; its code is within its bound
+-- No object module is made of a module: its code or its data are no segment, for this fault; its code is within
+-- its bound, which passes what a segment may have.
 pub record IsNotMade (fault : code_fault.Fault) (typed : TypedModule) : Type 0 where
   pub tree : TreeModule
   pub lowered : IsLowered typed (storage_with typed) tree
@@ -61,8 +62,8 @@ pub record IsImageOfObjects (plan : Plan) (objects : List ObjectModule) (image :
   pub merge : merge_of objects ≡ Ok merged
   pub placed : IsPlaced (plan_view plan) merged image
 
--- in every memory into which an image is loaded each declared byte begins as a run of the source has it: those of DATA, of
--- INITIAL and of constant lists with their values, and any other as it was
+-- In every memory into which an image is loaded each declared byte begins as a run of the source has it: those
+-- of DATA, of INITIAL and of constant lists with their values, and any other as it was.
 abbrev pub StartsAsItsSource : List TypedModule → Placement → Absolute → Type 0
 StartsAsItsSource modules placement image =
     (memory : List ℕ)
