@@ -235,8 +235,7 @@ fn finish(writer: Writer) -> Result<(Finished, Externals), Failure<Fault>>
     match writer.finish() {
         Ok(both) => Ok(both),
         Err(Failure::Fault(asm8080::Fault::TooLong)) => Err(Failure::Fault(Fault::TooLong)),
-        // No label that code of a source goes to lacks its place (a law of `code_labels`). Of a label that nothing
-        // names, and of tree code made by hand, that is not said: both are answered so.
+        // That is not expected: each label that the code of a module goes to has its place in it.
         Err(Failure::Fault(asm8080::Fault::UnboundLabel)) => Err(Failure::Memory),
         Err(Failure::Memory) => Err(Failure::Memory),
     }
