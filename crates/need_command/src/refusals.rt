@@ -4,8 +4,7 @@ ghost use Rattle.std.specs.Prelude.{◌≡◌, map};
 ghost use Rattle.answers.specs.Refusals.{Tells, TellsOther, refusal_line};
 ghost use Rattle.frontend.specs.Faults as of_source;
 ghost use Rattle.join.specs.Views as of_joining;
-ghost use Rattle.program_sources.specs.Faults.{name_of_joining};
-ghost use Rattle.need_command.specs.Faults.{fault_line, name_at, name_or_dash};
+ghost use Rattle.need_command.specs.Faults.{fault_line, joining_line, name_at};
 
 use answers::{Ending, refuse, refuse_name};
 use frontend::ReadFault;
@@ -49,8 +48,7 @@ fn refuse_source<E: Write>(fault: &ReadFault, name: &str, err: &mut E) -> Ending
 // Prints why modules make no program, with the name that the fault is about, or a dash.
 fn refuse_joining<E: Write>(fault: &join::Fault, err: &mut E) -> Ending
     ensures ending { result ≡ Ending.Refused }
-    ensures line { Tells (refusal_line (of_joining.number_of fault.now) (name_or_dash (name_of_joining fault.now)) 0)
-        (E.contents err.old) (E.contents err.new) }
+    ensures line { Tells (joining_line fault.now) (E.contents err.old) (E.contents err.new) }
     ensures told { TellsOther (E.contents err.old) (E.contents err.new) }
 {
     match fault {

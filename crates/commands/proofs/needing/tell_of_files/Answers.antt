@@ -20,7 +20,7 @@ returns-in-Ok-sources_of-clause-told g c = λ refused. tells_no_file _ _ _ _ _ _
 pub returns-in-Ok-sources_of-clause-printed : goal.returns-in-Ok-sources_of-clause-printed
 returns-in-Ok-sources_of-clause-printed g c = λ done. prints_by _ _ _ _ _ c.as_slice-names.ensures.value
     (prints_need_of _ _ _ _ _ _ c.in-Ok.ensures.texts
-    (ap texts_of c.as_slice-2.ensures.value ∙ (rw c.as_slice.ensures.value at c.in-Ok-sources_of.ensures)) (c.tell_of_sources.ensures.printed done))
+    (ap texts_of c.as_slice-in-Ok-sources_of.ensures.value ∙ (rw c.as_slice.ensures.value at c.in-Ok-sources_of.ensures)) (c.tell_of_sources.ensures.printed done))
 
 pub returns-clause-told : goal.returns-clause-told
 returns-clause-told g c = λ refused. tells_no_file _ _ _ _ _ _ c.in-Ok.ensures.count c.refuse_memory-in-Err.ensures.told
