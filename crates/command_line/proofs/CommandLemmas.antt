@@ -10,11 +10,11 @@ use Rattle.clap.specs.declared.ArgMatches.{ArgMatches}
 use Rattle.clap.specs.Kinds.{HasKind}
 use Rattle.clap.specs.declared.error.Error.{Error}
 use Rattle.clap.specs.declared.error.ErrorKind.{ErrorKind}
-use Rattle.clap.specs.declared.error.ErrorKind.TheVariants.{DisplayHelp, OutOfMemory}
+use Rattle.clap.specs.declared.error.ErrorKind.TheVariants.{DisplayHelp, DisplayVersion, OutOfMemory}
 use Rattle.failure.specs.declared.Failure.{Failure}
 use Rattle.failure.specs.declared.Failure.TheVariants.{Fault, Memory}
 use Rattle.command_line.specs.declared.reading.LineFault.{LineFault}
-use Rattle.command_line.specs.declared.reading.LineFault.TheVariants.{Help, Wrong}
+use Rattle.command_line.specs.declared.reading.LineFault.TheVariants.{Help, Version, Wrong}
 use Rattle.failure.specs.Failure.{IfFault}
 use Rattle.command_line.specs.Command.{IsFaultOf, IsOrderOf, Wanted}
 use Rattle.command_line.specs.declared.orders.Order.{Order}
@@ -59,7 +59,8 @@ same_text_of xs ys e = decided (bytes_eq xs ys) (xs ≡ ys) (bytes_eq-Decides xs
 -- where the words have no fault, a call fails only for memory
 pub only_memory : (error : Error) (failure : Failure LineFault) (kinds : Kinds) → kinds ≡ [] → HasKind kinds error → IsFailureFor error failure → failure ≡ Memory
 only_memory error (Fault (Help held)) kinds e (inl out) (same, is_help) = let bad : OutOfMemory ≡ DisplayHelp = sym out ∙ is_help in cc
-only_memory error (Fault (Wrong held)) kinds e (inl out) (same, no_help, no_want) = absurd (no_want out)
+only_memory error (Fault (Version held)) kinds e (inl out) (same, is_version) = let bad : OutOfMemory ≡ DisplayVersion = sym out ∙ is_version in cc
+only_memory error (Fault (Wrong held)) kinds e (inl out) (same, no_help, no_version, no_want) = absurd (no_want out)
 only_memory error Memory kinds e (inl out) is = refl
 only_memory error failure [] e (inr among) is = absurd among
 only_memory error failure (k ∷ ks) e (inr among) is = absurd (never k ks e)
@@ -69,9 +70,12 @@ pub fault_among : (A : Type 0) (error : Error) (failure : Failure LineFault) (ki
     → IfFault {A = A} (Err failure) (IsFaultOf kinds)
 fault_among A error (Fault (Help held)) kinds (inl out) (same, is_help) = let bad : OutOfMemory ≡ DisplayHelp = sym out ∙ is_help in cc
 fault_among A error (Fault (Help held)) kinds (inr among) (same, is_help) = (ap kind_of same ∙ is_help, subst (λ (k : ErrorKind). IsAmong k kinds) is_help among)
-fault_among A error (Fault (Wrong held)) kinds (inl out) (same, no_help, no_want) = absurd (no_want out)
-fault_among A error (Fault (Wrong held)) kinds (inr among) (same, no_help, no_want) =
-    (λ e. no_help (sym (ap kind_of same) ∙ e), subst (λ (k : ErrorKind). IsAmong k kinds) (sym (ap kind_of same)) among)
+fault_among A error (Fault (Version held)) kinds (inl out) (same, is_version) = let bad : OutOfMemory ≡ DisplayVersion = sym out ∙ is_version in cc
+fault_among A error (Fault (Version held)) kinds (inr among) (same, is_version) =
+    (ap kind_of same ∙ is_version, subst (λ (k : ErrorKind). IsAmong k kinds) is_version among)
+fault_among A error (Fault (Wrong held)) kinds (inl out) (same, no_help, no_version, no_want) = absurd (no_want out)
+fault_among A error (Fault (Wrong held)) kinds (inr among) (same, no_help, no_version, no_want) =
+    (λ e. no_help (sym (ap kind_of same) ∙ e), λ e. no_version (sym (ap kind_of same) ∙ e), subst (λ (k : ErrorKind). IsAmong k kinds) (sym (ap kind_of same)) among)
 fault_among A error Memory kinds has is = tt
 
 -- an answer that only memory failed gives any order that is wanted, for it gives none, and tells no fault

@@ -8,7 +8,7 @@ use Rattle.clap.specs.Words.{App, Kinds, Row, Rule, Shape, Text, fault_of, is_si
 use Rattle.clap.specs.Walk.{Names, rows_after, settled, Waiting, option, positional, waits, done, refused, next, subcommand, plain_word, bundle, long_met, subcommand_or_other, subcommand_met, to_positional, arg_by_index, walked_from, walk, walk_from, nothing_held, answers_to, Held, Walk, Step, Outcome, plain, idle, value, trailing, walked, after_step, word_met, after_flag, short_or_plain, long_or_other, arg_by_long, finished}
 use Rattle.clap.specs.Lexer.{long_of, short_of}
 use Rattle.clap.proofs.OnLiterals.{clap_on_literals}
-use Rattle.clap.specs.Simple.{built, entered, filled, label_of, names_of, rows_at, built_leaf, help_rule, help_shape, new_shape}
+use Rattle.clap.specs.Simple.{built, entered, filled, label_of, names_of, rows_at, built_leaf, help_rule, help_shape, new_shape, version_rule}
 use Rattle.clap.specs.Faults.{level_fault, entered_fault, other_fault, is_simple_and_free, step_fault, turn_fault, walk_fault, word_fault, check_fault, defaults_fault, settle_fault}
 use Rattle.clap.specs.Kinds.{or_else}
 use Rattle.clap.specs.declared.error.ErrorKind.{ErrorKind}
@@ -109,7 +109,13 @@ plm_walk s names (word ∷ rest) w e before fine =
     plm_walk s names rest (walked s.rules names w word) e (stopped_next s names w word e before both.0) both.1
 
 abbrev top_built : Shape
-top_built = record (new_shape (codes "plm")) { rules = filled help_rule ∷ []; is_leaf = false; subcommand_required = true; is_built = true }
+top_built = record (new_shape (codes "plm")) {
+  rules = filled help_rule ∷ filled version_rule ∷ [];
+  is_leaf = false;
+  subcommand_required = true;
+  has_version = true;
+  is_built = true;
+}
 
 abbrev help_built : Shape
 help_built = built_leaf help_shape

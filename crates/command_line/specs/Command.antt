@@ -10,7 +10,7 @@ use Rattle.clap.specs.Walk.{texts}
 use Rattle.clap.specs.Words.{App, IsAmong, Kinds, Row, Rule, Text, all_of, first_of, kind_of, new_app}
 use Rattle.clap.specs.Words.{new_rule, subcommand_of, with_rule, with_subcommand}
 use Rattle.clap.specs.declared.builder.action.ArgAction.TheVariants.{Append, SetTrue}
-use Rattle.clap.specs.declared.error.ErrorKind.TheVariants.{DisplayHelp}
+use Rattle.clap.specs.declared.error.ErrorKind.TheVariants.{DisplayHelp, DisplayVersion}
 use Rattle.failure.specs.declared.Failure.{Failure}
 use Rattle.failure.specs.declared.Failure.TheVariants.{Memory}
 use Rattle.command_line.specs.declared.orders.Action.{Action}
@@ -26,7 +26,7 @@ use Rattle.command_line.specs.declared.orders.PlaceOrder.{PlaceOrder}
 use Rattle.command_line.specs.declared.orders.PlanTexts.{PlanTexts}
 use Rattle.command_line.specs.declared.orders.ProgramOrder.{ProgramOrder}
 use Rattle.command_line.specs.declared.reading.LineFault.{LineFault}
-use Rattle.command_line.specs.declared.reading.LineFault.TheVariants.{Help, Wrong}
+use Rattle.command_line.specs.declared.reading.LineFault.TheVariants.{Help, Version, Wrong}
 
 -- the option `--name VALUE`
 abbrev pub option_rule : Text → Rule
@@ -90,9 +90,12 @@ place_app name = with_rule (with_plan (new_app name)) files_rule
 abbrev pub locate_app : Text → App
 locate_app name = with_rule (with_rule (with_plan (new_app name)) (flag_rule (codes "need"))) files_rule
 
--- the program, which has to have a command
+-- the program, which has to have a command, and which knows its version
 abbrev pub bare_app : App
-bare_app = record { top = record (new_app (codes "plm")).top { subcommand_required = true }; subs = [] }
+bare_app = record {
+  top = record (new_app (codes "plm")).top { subcommand_required = true; has_version = true };
+  subs = [];
+}
 
 -- the program with the commands that take sources
 abbrev pub programs_app : App
@@ -410,7 +413,10 @@ OrdersNeed words answer = (name : Text) (files : List Text)
     → Gives words name (codes "locate") (codes "--need" ∷ []) files
     → IsOrderOf (wants_need (record { files = files; plan = usual_plan })) answer
 
--- a fault has one of the kinds that `clap` finds in the words, where Help stands for that of help alone
+-- a fault has one of the kinds that `clap` finds in the words, where Help stands for that of help alone, and Version for
+-- that of the version
 abbrev pub IsFaultOf : Kinds → LineFault → Type 0
 IsFaultOf kinds (Help error) = (kind_of error ≡ DisplayHelp) × IsAmong DisplayHelp kinds
-IsFaultOf kinds (Wrong error) = (kind_of error ≢ DisplayHelp) × IsAmong (kind_of error) kinds
+IsFaultOf kinds (Version error) = (kind_of error ≡ DisplayVersion) × IsAmong DisplayVersion kinds
+IsFaultOf kinds (Wrong error) =
+    (kind_of error ≢ DisplayHelp) × (kind_of error ≢ DisplayVersion) × IsAmong (kind_of error) kinds

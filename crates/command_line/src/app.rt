@@ -8,8 +8,8 @@ ghost use Rattle.command_line.specs.Command.{locate_app, option_rule, out_rule, 
 ghost use Rattle.command_line.specs.Command.{programs_app, with_plan, with_run};
 
 use crate::help::{
-    ABOUT, COMPILE, EXAMPLE, HEX, INTERPRET, INTERPRET_LIMIT, LINK, LOCATE, RUN, RUN_LIMIT,
-    Teaching,
+    ABOUT, COMPILE, GUIDE, HEX, INTERPRET, INTERPRET_LIMIT, LINK, LOCATE, RUN, RUN_LIMIT, Teaching,
+    VERSION,
 };
 use clap::{Arg, ArgAction, Command};
 use std::alloc::{AllocError, Global};
@@ -281,7 +281,8 @@ fn bare_command<'a>(alloc: Global) -> Built<'a>
 {
     Command::new(alloc, "plm")
         .about(ABOUT)
-        .after_help(EXAMPLE)
+        .version(VERSION)
+        .after_help(GUIDE)
         .subcommand_required(true)
         .bin_name("plm")
 }

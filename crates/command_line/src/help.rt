@@ -1,5 +1,113 @@
 //! What `plm --help` prints, beside the lines that `clap` makes of the arguments.
 
+// A text of which the words in capitals stand for the lines of faults: the numbers, and what each means, as the fault says it
+// itself (`tables` compares the two). X is the name, or the text, that is printed with the number. What was joined so far stands
+// in the brackets.
+macro_rules! text_of {
+    ([$($done:literal)*]) => { concat!($($done),*) };
+    // of the text of a source, and of the code of a module
+    ([$($done:literal)*] TEXTS $($rest:tt)*) => {
+        text_of!([$($done)* "  C1      a character that is not valid here
+  C2      a string or a comment that is not closed
+  C3      a number over 65535, or a digit that its base does not have
+  C4      a name of more than 31 characters
+  C5      LITERALLY definitions within one another more than 16 deep
+  C5      more than 2097152 words with those of LITERALLY definitions
+  C6      a quote in the text of a LITERALLY definition
+  C6      a name that LITERALLY defines already
+  C7      a word that cannot stand here
+  C8      nested more than 64 levels deep
+  C9      a name after END that is not the name of what ends
+  C11     a name that is not declared here
+  C12     a name that is declared twice
+  C13     a use that does not go with what is named
+  C14     an attribute or a declaration that cannot stand here
+  C15     a constant or a list of constants that is not allowed here
+  C16     a write to an object with DATA
+  C17     the location of a procedure, or of a variable of a REENTRANT procedure
+  C18     too many bytes
+  C18     a data segment of over 65535 bytes
+  C18     constants of over 65535 bytes
+  C19     a label that cannot stand here
+  C20     a GOTO to a label that is not known here
+  G1      a code segment of more than 65535 bytes
+  A1      a label that is not bound
+"] $($rest)*)
+    };
+    // of the modules of a program together
+    ([$($done:literal)*] MODULES $($rest:tt)*) => {
+        text_of!([$($done)* "  J1      X is EXTERNAL, and no module has it as PUBLIC
+  J2      X is PUBLIC twice
+  J3      X is declared otherwise where it is PUBLIC
+  J4      not just one module is a main module
+  J5      X lies in the code or in the stack, or passes the end of memory
+  L3      code or data of more than 65535 bytes
+"] $($rest)*)
+    };
+    // of a merge of objects
+    ([$($done:literal)*] MERGES $($rest:tt)*) => {
+        text_of!([$($done)* "  L1      the public name X stands in the modules twice
+  L2      no module has the public name X
+  L3      a merged segment of more than 65535 bytes
+  L4      no module is a main module, or several are
+  L5      a high byte is fixed to what moves by no multiple of 256
+"] $($rest)*)
+    };
+    // of an object file
+    ([$($done:literal)*] OBJECTS $($rest:tt)*) => {
+        text_of!([$($done)* "  O1      the file ends within a record, or without an end-of-file record
+  O2      a record whose bytes don't add up to 0
+  O3      a record with a length of 0 or of more than 1028
+  O4      a type that no record of this profile has
+  O5      a record where it may not stand, or bytes after the end of the file
+  O6      a record with a body that it may not have
+  O7      a content that passes its segment, overlaps another, or doesn't ascend
+  O8      a fix outside its content, or one that shares a byte with another
+  O9      an alignment that is not served
+"] $($rest)*)
+    };
+    // of a plan
+    ([$($done:literal)*] PLACES $($rest:tt)*) => {
+        text_of!([$($done)* "  P1      two of the code, the data and the stack overlap
+  P2      the code, the data or the stack passes the end of memory
+"] $($rest)*)
+    };
+    // of an object that is placed
+    ([$($done:literal)*] IMAGES $($rest:tt)*) => {
+        text_of!([$($done)* "  P3      an external name is left
+  P4      the module has no start
+  P5      a high byte is fixed to what would begin at no multiple of 256
+  P6      a page-aligned segment would begin at no multiple of 256
+"] $($rest)*)
+    };
+    // of the number of sources
+    ([$($done:literal)*] COUNTS $($rest:tt)*) => {
+        text_of!([$($done)* "  U1      more than 64 sources
+"] $($rest)*)
+    };
+    // of the length of a source
+    ([$($done:literal)*] LENGTHS $($rest:tt)*) => {
+        text_of!([$($done)* "  U2      a source of more than 1048576 bytes
+"] $($rest)*)
+    };
+    // of files
+    ([$($done:literal)*] FILES $($rest:tt)*) => {
+        text_of!([$($done)* "  U3      a file can't be read or written
+"] $($rest)*)
+    };
+    // of options
+    ([$($done:literal)*] VALUES $($rest:tt)*) => {
+        text_of!([$($done)* "  U4      `X` is not a value of its option
+"] $($rest)*)
+    };
+    // of memory
+    ([$($done:literal)*] MEMORY $($rest:tt)*) => {
+        text_of!([$($done)* "  MEMORY  out of memory
+"] $($rest)*)
+    };
+    ([$($done:literal)*] $next:literal $($rest:tt)*) => { text_of!([$($done)* $next] $($rest)*) };
+}
+
 /// What help says of a command: what it does, and what it prints and answers.
 #[derive(Clone, Copy)]
 pub(crate) struct Teaching {
@@ -7,16 +115,27 @@ pub(crate) struct Teaching {
     pub(crate) printed: &'static str,
 }
 
+/// What `plm --version` prints after the name of the program.
+pub(crate) const VERSION: &str = "1.0";
+
 pub(crate) const ABOUT: &str = "\
 Compiles PL/M-80 sources, and runs their image on a simulated 8080 or interprets them;
 links object files, and places them in memory";
 
-pub(crate) const EXAMPLE: &str = "\
+pub(crate) const GUIDE: &str = text_of!([] "\
 A source is a module, as in this file of one line:
   M: DO; OUTPUT(1) = 42; END M;
 Both `plm run FILE` and `plm interpret FILE` print
   OUT 01 2A
-  HALT";
+  HALT
+
+Numbers, where X is the name or the text that is printed with one:
+" TEXTS MODULES MERGES OBJECTS PLACES IMAGES COUNTS LENGTHS FILES VALUES MEMORY "\n\
+Read more in the folder docs:
+  language.md     a manual of the language; definition.md has its exact rules
+  old-sources.md  from a listing of the time to a run
+  faults.md       each number in plain words, with an example and its cure
+  commands.md     the commands, their options and what they print");
 
 pub(crate) const COMPILE: Teaching = Teaching {
     about: "Compiles a source to an object file",
@@ -53,7 +172,7 @@ pub(crate) const RUN_LIMIT: &str = "The most instructions that are run, to 10000
 pub(crate) const INTERPRET_LIMIT: &str =
     "The budget: the most calls, GOTOs and turns of loops, to 1000000000000";
 
-const PRINTED_BY_COMPILE: &str = "\
+const PRINTED_BY_COMPILE: &str = text_of!([] "\
 The source is one module. Names that it declares EXTERNAL are found by `plm link`.
 
 Prints nothing. The file is written once the source was compiled; until then it stays as it was.
@@ -70,9 +189,13 @@ Example: compile two modules, link them, and print the bytes of the program
   plm compile main.plm main.obj
   plm compile show.plm show.obj
   plm link --out program.obj main.obj show.obj
-  plm hex program.obj";
+  plm hex program.obj
 
-const PRINTED_BY_RUN: &str = "\
+Numbers, where X is the name or the text that is printed with one:
+" TEXTS LENGTHS FILES MEMORY "\n\
+Read more in the folder docs: faults.md (each number with an example and its cure), commands.md");
+
+const PRINTED_BY_RUN: &str = text_of!([] "\
 The sources are the modules of one program, with one main module.
 
 Prints a line for each byte at a port, and then how the run ended:
@@ -102,9 +225,13 @@ Example: a file with the line
   M: DO; OUTPUT(1) = 42; END M;
 prints
   OUT 01 2A
-  HALT";
+  HALT
 
-const PRINTED_BY_INTERPRET: &str = "\
+Numbers, where X is the name or the text that is printed with one:
+" TEXTS MODULES PLACES COUNTS LENGTHS FILES VALUES MEMORY "\n\
+Read more in the folder docs: faults.md (each number with an example and its cure), commands.md");
+
+const PRINTED_BY_INTERPRET: &str = text_of!([] "\
 The sources are the modules of one program, with one main module.
 
 Prints a line for each byte at a port, and then how the program ended:
@@ -139,9 +266,13 @@ Example: a file with the line
   M: DO; OUTPUT(1) = 42; END M;
 prints
   OUT 01 2A
-  HALT";
+  HALT
 
-const PRINTED_BY_LINK: &str = "\
+Numbers, where X is the name or the text that is printed with one:
+" TEXTS MODULES PLACES COUNTS LENGTHS FILES VALUES MEMORY "\n\
+Read more in the folder docs: faults.md (each number with an example and its cure), commands.md");
+
+const PRINTED_BY_LINK: &str = text_of!([] "\
 One of the objects is a main module, and each external name of an object is a public name of
 another. Their order is the order of their code and data in the merged object.
 
@@ -159,9 +290,13 @@ of a public that is there twice (L1) or of an external that none has (L2), or `-
 
 Example: link two objects, and print the bytes of the program
   plm link --out program.obj main.obj show.obj
-  plm hex program.obj";
+  plm hex program.obj
 
-const PRINTED_BY_LOCATE: &str = "\
+Numbers, where X is the name or the text that is printed with one:
+" MERGES OBJECTS FILES MEMORY "\n\
+Read more in the folder docs: faults.md (each number with an example and its cure), commands.md");
+
+const PRINTED_BY_LOCATE: &str = text_of!([] "\
 The object is a main module without external names, such as `plm link` writes.
 
 Prints addresses as four hexadecimal digits, and numbers of bytes in decimal ones:
@@ -189,9 +324,13 @@ Example: an object with nine bytes of code and a public name S at offset 4 print
   DATA 4000 0
   STACK F000 1024
   START 0100
-  PUBLIC S 0104";
+  PUBLIC S 0104
 
-const PRINTED_BY_HEX: &str = "\
+Numbers, where X is the name or the text that is printed with one:
+" OBJECTS PLACES IMAGES FILES VALUES MEMORY "\n\
+Read more in the folder docs: faults.md (each number with an example and its cure), commands.md");
+
+const PRINTED_BY_HEX: &str = text_of!([] "\
 The object is a main module without external names, such as `plm link` writes.
 
 Prints a line for each 16 bytes, by rising addresses, and an end line:
@@ -209,4 +348,8 @@ refused value or a second file `U4 text 0`.
 Example: an object with the code cd 04 00 76 3e 08 d3 04 c9, whose bytes 04 00 are an address in
 the code, prints
   :09010000CD0401763E08D304C9C8
-  :00000001FF";
+  :00000001FF
+
+Numbers, where X is the name or the text that is printed with one:
+" OBJECTS PLACES IMAGES FILES VALUES MEMORY "\n\
+Read more in the folder docs: faults.md (each number with an example and its cure), commands.md");

@@ -30,6 +30,9 @@ pub enum LineFault {
     /// Help was asked for: its text goes to standard output, with status 0.
     #[error("{0}")]
     Help(clap::Error),
+    /// The version was asked for: its text goes to standard output, with status 0.
+    #[error("{0}")]
+    Version(clap::Error),
     /// The words are wrong: the text goes to standard error, with status 2.
     #[error("{0}")]
     Wrong(clap::Error),
@@ -42,6 +45,7 @@ fn failure_of(error: clap::Error) -> Failure<LineFault>
     match error.kind() {
         ErrorKind::OutOfMemory => Failure::Memory,
         ErrorKind::DisplayHelp => Failure::Fault(LineFault::Help(error)),
+        ErrorKind::DisplayVersion => Failure::Fault(LineFault::Version(error)),
         _ => Failure::Fault(LineFault::Wrong(error)),
     }
 }

@@ -1,6 +1,7 @@
 -- Texts of the command line that are refused.
 use Rattle.std.proofs.Common.{◌≡◌, ◌⊎◌, ℕ, List, Err, Ok, Option, Some, codes, inl, inr, refl, subst, arith}
 use Rattle.clap.specs.Words.{Kinds, kind_of}
+use Rattle.clap.specs.declared.error.ErrorKind.TheVariants.{DisplayHelp, DisplayVersion}
 use Rattle.answers.specs.Endings.{status_of}
 use Rattle.answers.specs.Refusals.{Tells, refusal_line}
 use Rattle.answers.specs.declared.endings.Ending.{Ending}
@@ -8,7 +9,7 @@ use Rattle.answers.specs.declared.endings.Ending.TheVariants.{Done, Refused, Wro
 use Rattle.command_line.specs.Command.{IsFaultOf, PlaceWanted, Wanted, wants_place}
 use Rattle.command_line.specs.Settings.{Read, ◌>>=◌, only_file, plan_read}
 use Rattle.command_line.specs.declared.reading.LineFault.{LineFault}
-use Rattle.command_line.specs.declared.reading.LineFault.TheVariants.{Help, Wrong}
+use Rattle.command_line.specs.declared.reading.LineFault.TheVariants.{Help, Version, Wrong}
 use Rattle.plans.specs.declared.Plan.{Plan}
 use Rattle.commands.specs.Orders.{AsksHelpAtMost, RefusesNoText, TellsText, TellsTextByWords}
 use Rattle.commands.specs.internal.LineFaults.{IsWrong}
@@ -22,10 +23,15 @@ none_told found wanted old new e none told =
     let none_here : RefusesNoText (Some wanted) = subst RefusesNoText e none in
     none_here told.text told.refused
 
--- words that ask for help at most have no other fault
+-- words that ask for help or the version at most have no other fault
 pub help_at_most : (kinds : Kinds) (fault : LineFault) → AsksHelpAtMost kinds → IsFaultOf kinds fault → IsWrong fault → ⊥
 help_at_most kinds (Help error) help is wrong = wrong
-help_at_most kinds (Wrong error) help is wrong = is.0 (help (kind_of error) is.1)
+help_at_most kinds (Version error) help is wrong = wrong
+help_at_most kinds (Wrong error) help is wrong = neither (help (kind_of error) is.2)
+  where
+    neither : (kind_of error ≡ DisplayHelp) ⊎ (kind_of error ≡ DisplayVersion) → ⊥
+    neither (inl asked) = is.0 asked
+    neither (inr asked) = is.1 asked
 
 pub done_or_refused : (ending : Ending) → (ending ≡ Done) ⊎ (ending ≡ Refused) → ending ≡ WrongLine → ⊥
 done_or_refused ending (inl done) wrong = cc

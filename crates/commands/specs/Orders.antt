@@ -1,8 +1,8 @@
 -- What orders make of files, and what they print of them.
-use Rattle.std.specs.Prelude.{◌≡◌, ℕ, List, [], ◌∷◌, ◌++◌, Err, Ok, Option, None, Some, codes}
+use Rattle.std.specs.Prelude.{◌≡◌, ◌⊎◌, ℕ, List, [], ◌∷◌, ◌++◌, Err, Ok, Option, None, Some, codes}
 use Rattle.clap.specs.Words.{IsAmong, Kinds, Text}
 use Rattle.clap.specs.declared.error.ErrorKind.{ErrorKind}
-use Rattle.clap.specs.declared.error.ErrorKind.TheVariants.{DisplayHelp}
+use Rattle.clap.specs.declared.error.ErrorKind.TheVariants.{DisplayHelp, DisplayVersion}
 use Rattle.files.specs.Files.{Directory, KeepsFiles}
 use Rattle.answers.specs.Refusals.{Tells, refusal_line}
 use Rattle.command_line.specs.Command.{PlaceWanted, Wanted, wants_compile, wants_link, wants_need, wants_place}
@@ -124,6 +124,7 @@ abbrev pub RefusesNoText : Option Wanted → Type 0
 RefusesNoText None = Unit {0}
 RefusesNoText (Some wanted) = (text : List ℕ) → RefusesText wanted text → ⊥
 
--- `clap` finds no fault in the words, or only that they ask for help
+-- `clap` finds no fault in the words, or only that they ask for help or for the version
 abbrev pub AsksHelpAtMost : Kinds → Type 0
-AsksHelpAtMost kinds = (kind : ErrorKind) → IsAmong kind kinds → kind ≡ DisplayHelp
+AsksHelpAtMost kinds =
+    (kind : ErrorKind) → IsAmong kind kinds → (kind ≡ DisplayHelp) ⊎ (kind ≡ DisplayVersion)

@@ -30,7 +30,7 @@ use tool::Source;
 /// it prints goes to `out`, and faults go to `err`, which has nothing more where the status is neither 1 nor 2; a failure of
 /// `err` changes no status. It changes no file but that of `link --out`, which has the merge of the objects where the
 /// status is 0, and that of `compile`, which has an object module then; both may have a beginning of it otherwise. None changes
-/// where the words have a fault or ask for help. That a
+/// where the words have a fault or ask for help or the version. That a
 /// file can't be read or written is told, with status 1, just where a failure of the files was counted, but for a count that
 /// is at its greatest value.
 #[tactic(auto, using(crate::proofs::OrdersKept::status_bound, crate::proofs::OrdersKept::done_is, crate::proofs::OrdersKept::not_done, crate::proofs::OrdersKept::not_refused, crate::proofs::OrdersKept::not_wrong, crate::proofs::OrdersKept::refused_is, crate::proofs::TextsTold::wrong_is))]
@@ -102,7 +102,7 @@ fn end_words<F: Files, O: Write, E: Write>(
     }
 }
 
-// Prints why the command line gives no order, or the help that it asks for.
+// Prints why the command line gives no order, or the help or the version that it asks for.
 fn end_line<O: Write, E: Write>(fault: &LineFault, out: &mut O, err: &mut E) -> Ending
     ensures not_wrong { result ≡ Ending.WrongLine → IsWrong fault.now }
     ensures told { result ≡ Ending.Refused → TellsOther (E.contents err.old) (E.contents err.new) }
@@ -110,7 +110,7 @@ fn end_line<O: Write, E: Write>(fault: &LineFault, out: &mut O, err: &mut E) -> 
         E.contents err.new ≡ E.contents err.old }
 {
     match fault {
-        LineFault::Help(_) => match write!(out, "{fault}") {
+        LineFault::Help(_) | LineFault::Version(_) => match write!(out, "{fault}") {
             Ok(()) => Ending::Done,
             Err(error) => refuse_write(&error, err),
         },

@@ -15,8 +15,9 @@
 //! counted how often these are other bytes than those of the image that is built of the sources.
 //! Then it prints what the machine, its parts and the interpreter do, as the manuals say it; what merges of object files are,
 //! made of modules and of files; objects that are read, placed and loaded, texts of Intel HEX that are read, and how
-//! commands end whose output fails part way; what long code and code with many labels is; and at last whether the document
-//! of the routines, the file `runtime.md` where the program runs, is as it is made here, or else that document.
+//! commands end whose output fails part way; whether help has each number with the words of its fault; what long code and code
+//! with many labels is; and at last whether the document of the routines, the file `runtime.md` where the program runs, is as
+//! it is made here, or else that document.
 //! With the word `code` it reads no standard input, and prints what code is alone, for who refuses its allocations.
 //!
 //! What is said was written by hand from the rules of the language in `docs/definition.md`, of object files in
@@ -44,6 +45,7 @@ mod readers;
 mod routines;
 mod runs;
 mod scripts;
+mod sentences;
 mod shorter;
 mod texts;
 
@@ -63,6 +65,7 @@ use page::Page;
 use routines::print_routines;
 use runs::print_runs;
 use scripts::print_scripts;
+use sentences::print_sentences;
 use shorter::print_shorter;
 use std::env;
 use std::io::read_to_string;
@@ -188,6 +191,7 @@ fn print_parts(page: &mut Page) {
     print_adjusting(page);
     print_objects(page);
     print_shorter(page);
+    print_sentences(page);
     print_assemblies(page);
 }
 
