@@ -1,4 +1,4 @@
--- What may come before the files: nothing, an option with its text, or the flag for a map.
+-- What may come before the files: nothing, an option with its text, or a flag.
 use Rattle.std.proofs.Common.{◌≡◌, ◌∙◌, List, [], ◌∷◌, ◌++◌, Some, None, false, refl, ap, codes}
 use Rattle.std.specs.Prelude.{fold}
 use Rattle.std.specs.List.{AllByRecursion}
@@ -9,9 +9,11 @@ use Rattle.clap.specs.Simple.{filled}
 use Rattle.clap.specs.Faults.{settle_fault, turn_fault, walk_fault}
 use Rattle.clap.specs.Kinds.{or_else}
 use Rattle.clap.specs.declared.parser.matches.ValueSource.TheVariants.{CommandLine}
-use Rattle.command_line.specs.Command.{Code, DataBase, Input, IsBare, Limit, OfPlan, PlanOption, Stack, StackSize, ValueOption, map_rule, option_name, option_words, plan_option_name}
+use Rattle.command_line.specs.declared.orders.PlaceAction.{PlaceAction}
+use Rattle.command_line.specs.declared.orders.PlaceAction.TheVariants.{Locate, Hex}
+use Rattle.command_line.specs.Command.{Code, DataBase, Input, IsBare, Limit, OfPlan, PlanOption, Stack, StackSize, ValueOption, flag_rule, option_name, option_words, plan_option_name}
 use Rattle.command_line.proofs.Files.{all_done, bare_fault, bare_word, done_of, files_fault, files_filled, files_row, files_rows, files_walk, last_of, rows_more, state}
-use Rattle.command_line.proofs.Verbs.{Form, Objects, Placed, Sources, leaf, rules}
+use Rattle.command_line.proofs.Verbs.{Form, Located, Objects, Placed, Sources, form_of, leaf, rules}
 
 then_walk : (form : Form) (w v : Walk) (word : Text) (rest : List Text) → walked (rules form) [] w word ≡ v
     → fold (walked (rules form) []) w (word ∷ rest) ≡ fold (walked (rules form) []) v rest
@@ -50,6 +52,7 @@ unfolding walked
 found_step Sources rows file bare = rw (bare_word (rules Sources) idle 1 file (found_walk rows).held bare) (rw (nothing_after rows) refl)
 found_step Objects rows file bare = rw (bare_word (rules Objects) idle 1 file (found_walk rows).held bare) (rw (nothing_after rows) refl)
 found_step Placed rows file bare = rw (bare_word (rules Placed) idle 1 file (found_walk rows).held bare) (rw (nothing_after rows) refl)
+found_step Located rows file bare = rw (bare_word (rules Located) idle 1 file (found_walk rows).held bare) (rw (nothing_after rows) refl)
 
 found_turn : (form : Form) (name : Text) (rows : List Row) (file : Text) → IsBare file → turn_fault (leaf form name) [] (found_walk rows) file ≡ []
 found_turn Sources name rows file bare =
@@ -58,6 +61,8 @@ found_turn Objects name rows file bare =
     rw (bare_word (rules Objects) idle 1 file (found_walk rows).held bare, bare_fault (leaf Objects name) idle file (found_walk rows).held bare) refl
 found_turn Placed name rows file bare =
     rw (bare_word (rules Placed) idle 1 file (found_walk rows).held bare, bare_fault (leaf Placed name) idle file (found_walk rows).held bare) refl
+found_turn Located name rows file bare =
+    rw (bare_word (rules Located) idle 1 file (found_walk rows).held bare, bare_fault (leaf Located name) idle file (found_walk rows).held bare) refl
 
 pub plain_begins : (form : Form) (name : Text) → Begins form name [] []
 plain_begins form name = record {
@@ -66,41 +71,67 @@ plain_begins form name = record {
   goes_well = λ file bare rest. then_fault form name (found_walk []) (state [] [] file) file rest (found_turn form name [] file bare) (found_step form [] file bare);
 }
 
-abbrev pub map_row : Row
-map_row = record { id = codes "map"; values = codes "true" ∷ []; count = None; source = Some CommandLine; reading = reading_by (filled map_rule) }
+abbrev pub flag_row : Text → Row
+flag_row name = record { id = name; values = codes "true" ∷ []; count = None; source = Some CommandLine; reading = reading_by (filled (flag_rule name)) }
 
-map_step : walked (rules Sources) [] (found_walk []) (codes "--map") ≡ found_walk (map_row ∷ [])
+-- the flags of commands
+pub data Flag : Type 0 where
+  map_flag : Flag
+  need_flag : Flag
+
+abbrev pub flag_name : Flag → Text
+flag_name map_flag = codes "map"
+flag_name need_flag = codes "need"
+
+abbrev pub flag_form : Flag → Form
+flag_form map_flag = Sources
+flag_form need_flag = Located
+
+-- the word of a flag
+abbrev pub flag_word : Flag → Text
+flag_word f = 45 ∷ 45 ∷ flag_name f
+
+abbrev pub rows_of_flag : Flag → List Row
+rows_of_flag f = flag_row (flag_name f) ∷ []
+
+flag_step : (f : Flag) → walked (rules (flag_form f)) [] (found_walk []) (flag_word f) ≡ found_walk (rows_of_flag f)
 unfolding clap_on_literals
-map_step = refl
+flag_step map_flag = refl
+flag_step need_flag = refl
 
-map_turn : (name : Text) → turn_fault (leaf Sources name) [] (found_walk []) (codes "--map") ≡ []
+flag_turn : (name : Text) (f : Flag) → turn_fault (leaf (flag_form f) name) [] (found_walk []) (flag_word f) ≡ []
 unfolding clap_on_literals
-map_turn name = refl
+flag_turn name map_flag = refl
+flag_turn name need_flag = refl
 
-pub map_begins : (name : Text) → Begins Sources name (codes "--map" ∷ []) (map_row ∷ [])
-map_begins name = record {
-  no_file = refl;
-  goes_to = λ file bare rest. then_walk Sources (found_walk []) (found_walk (map_row ∷ [])) (codes "--map") (file ∷ rest) map_step
-      ∙ then_walk Sources (found_walk (map_row ∷ [])) (state (map_row ∷ []) [] file) file rest (found_step Sources (map_row ∷ []) file bare);
-  goes_well = λ file bare rest. then_fault Sources name (found_walk []) (found_walk (map_row ∷ [])) (codes "--map") (file ∷ rest) (map_turn name) map_step
-      ∙ then_fault Sources name (found_walk (map_row ∷ [])) (state (map_row ∷ []) [] file) file rest (found_turn Sources name (map_row ∷ []) file bare)
-      (found_step Sources (map_row ∷ []) file bare);
+no_file_of : (f : Flag) → has_row (codes "FILES") (rows_of_flag f) ≡ false
+no_file_of map_flag = refl
+no_file_of need_flag = refl
+
+pub flag_begins : (name : Text) (f : Flag) → Begins (flag_form f) name (flag_word f ∷ []) (rows_of_flag f)
+flag_begins name f = record {
+  no_file = no_file_of f;
+  goes_to = λ file bare rest. then_walk (flag_form f) (found_walk []) (found_walk (rows_of_flag f)) (flag_word f) (file ∷ rest) (flag_step f)
+      ∙ then_walk (flag_form f) (found_walk (rows_of_flag f)) (state (rows_of_flag f) [] file) file rest (found_step (flag_form f) (rows_of_flag f) file bare);
+  goes_well = λ file bare rest. then_fault (flag_form f) name (found_walk []) (found_walk (rows_of_flag f)) (flag_word f) (file ∷ rest) (flag_turn name f) (flag_step f)
+      ∙ then_fault (flag_form f) name (found_walk (rows_of_flag f)) (state (rows_of_flag f) [] file) file rest (found_turn (flag_form f) name (rows_of_flag f) file bare)
+      (found_step (flag_form f) (rows_of_flag f) file bare);
 }
 
 -- an option of a command
 pub data Choice : Type 0 where
   of_program : ValueOption → Choice
-  of_place : PlanOption → Choice
+  of_place : PlaceAction → PlanOption → Choice
   out : Choice
 
 abbrev pub form_at : Choice → Form
 form_at (of_program o) = Sources
-form_at (of_place o) = Placed
+form_at (of_place action o) = form_of action
 form_at out = Objects
 
 abbrev pub name_at : Choice → Text
 name_at (of_program o) = option_name o
-name_at (of_place o) = plan_option_name o
+name_at (of_place action o) = plan_option_name o
 name_at out = codes "out"
 
 abbrev pub option_row : Choice → Text → Row
@@ -132,10 +163,14 @@ option_step (of_program (OfPlan Stack)) = refl
 option_step (of_program (OfPlan StackSize)) = refl
 option_step (of_program Limit) = refl
 option_step (of_program Input) = refl
-option_step (of_place Code) = refl
-option_step (of_place DataBase) = refl
-option_step (of_place Stack) = refl
-option_step (of_place StackSize) = refl
+option_step (of_place Locate Code) = refl
+option_step (of_place Hex Code) = refl
+option_step (of_place Locate DataBase) = refl
+option_step (of_place Hex DataBase) = refl
+option_step (of_place Locate Stack) = refl
+option_step (of_place Hex Stack) = refl
+option_step (of_place Locate StackSize) = refl
+option_step (of_place Hex StackSize) = refl
 option_step out = refl
 
 option_turn : (name : Text) (o : Choice) → turn_fault (leaf (form_at o) name) [] (found_walk []) (45 ∷ 45 ∷ name_at o) ≡ []
@@ -146,10 +181,14 @@ option_turn name (of_program (OfPlan Stack)) = refl
 option_turn name (of_program (OfPlan StackSize)) = refl
 option_turn name (of_program Limit) = refl
 option_turn name (of_program Input) = refl
-option_turn name (of_place Code) = refl
-option_turn name (of_place DataBase) = refl
-option_turn name (of_place Stack) = refl
-option_turn name (of_place StackSize) = refl
+option_turn name (of_place Locate Code) = refl
+option_turn name (of_place Hex Code) = refl
+option_turn name (of_place Locate DataBase) = refl
+option_turn name (of_place Hex DataBase) = refl
+option_turn name (of_place Locate Stack) = refl
+option_turn name (of_place Hex Stack) = refl
+option_turn name (of_place Locate StackSize) = refl
+option_turn name (of_place Hex StackSize) = refl
 option_turn name out = refl
 
 text_step : (o : Choice) (text : Text) → IsBare text → walked (rules (form_at o)) [] (waiting_walk o) text ≡ pending_walk o text
@@ -160,10 +199,14 @@ text_step (of_program (OfPlan Stack)) text bare = rw (bare_word (rules Sources) 
 text_step (of_program (OfPlan StackSize)) text bare = rw (bare_word (rules Sources) (waiting_walk (of_program (OfPlan StackSize))).waiting 1 text (waiting_walk (of_program (OfPlan StackSize))).held bare) refl
 text_step (of_program Limit) text bare = rw (bare_word (rules Sources) (waiting_walk (of_program Limit)).waiting 1 text (waiting_walk (of_program Limit)).held bare) refl
 text_step (of_program Input) text bare = rw (bare_word (rules Sources) (waiting_walk (of_program Input)).waiting 1 text (waiting_walk (of_program Input)).held bare) refl
-text_step (of_place Code) text bare = rw (bare_word (rules Placed) (waiting_walk (of_place Code)).waiting 1 text (waiting_walk (of_place Code)).held bare) refl
-text_step (of_place DataBase) text bare = rw (bare_word (rules Placed) (waiting_walk (of_place DataBase)).waiting 1 text (waiting_walk (of_place DataBase)).held bare) refl
-text_step (of_place Stack) text bare = rw (bare_word (rules Placed) (waiting_walk (of_place Stack)).waiting 1 text (waiting_walk (of_place Stack)).held bare) refl
-text_step (of_place StackSize) text bare = rw (bare_word (rules Placed) (waiting_walk (of_place StackSize)).waiting 1 text (waiting_walk (of_place StackSize)).held bare) refl
+text_step (of_place Locate Code) text bare = rw (bare_word (rules Located) (waiting_walk (of_place Locate Code)).waiting 1 text (waiting_walk (of_place Locate Code)).held bare) refl
+text_step (of_place Hex Code) text bare = rw (bare_word (rules Placed) (waiting_walk (of_place Hex Code)).waiting 1 text (waiting_walk (of_place Hex Code)).held bare) refl
+text_step (of_place Locate DataBase) text bare = rw (bare_word (rules Located) (waiting_walk (of_place Locate DataBase)).waiting 1 text (waiting_walk (of_place Locate DataBase)).held bare) refl
+text_step (of_place Hex DataBase) text bare = rw (bare_word (rules Placed) (waiting_walk (of_place Hex DataBase)).waiting 1 text (waiting_walk (of_place Hex DataBase)).held bare) refl
+text_step (of_place Locate Stack) text bare = rw (bare_word (rules Located) (waiting_walk (of_place Locate Stack)).waiting 1 text (waiting_walk (of_place Locate Stack)).held bare) refl
+text_step (of_place Hex Stack) text bare = rw (bare_word (rules Placed) (waiting_walk (of_place Hex Stack)).waiting 1 text (waiting_walk (of_place Hex Stack)).held bare) refl
+text_step (of_place Locate StackSize) text bare = rw (bare_word (rules Located) (waiting_walk (of_place Locate StackSize)).waiting 1 text (waiting_walk (of_place Locate StackSize)).held bare) refl
+text_step (of_place Hex StackSize) text bare = rw (bare_word (rules Placed) (waiting_walk (of_place Hex StackSize)).waiting 1 text (waiting_walk (of_place Hex StackSize)).held bare) refl
 text_step out text bare = rw (bare_word (rules Objects) (waiting_walk out).waiting 1 text (waiting_walk out).held bare) refl
 
 text_turn : (name : Text) (o : Choice) (text : Text) → IsBare text → turn_fault (leaf (form_at o) name) [] (waiting_walk o) text ≡ []
@@ -179,14 +222,22 @@ text_turn name (of_program Limit) text bare =
     rw (bare_word (rules Sources) (waiting_walk (of_program Limit)).waiting 1 text (waiting_walk (of_program Limit)).held bare, bare_fault (leaf Sources name) (waiting_walk (of_program Limit)).waiting text (waiting_walk (of_program Limit)).held bare) refl
 text_turn name (of_program Input) text bare =
     rw (bare_word (rules Sources) (waiting_walk (of_program Input)).waiting 1 text (waiting_walk (of_program Input)).held bare, bare_fault (leaf Sources name) (waiting_walk (of_program Input)).waiting text (waiting_walk (of_program Input)).held bare) refl
-text_turn name (of_place Code) text bare =
-    rw (bare_word (rules Placed) (waiting_walk (of_place Code)).waiting 1 text (waiting_walk (of_place Code)).held bare, bare_fault (leaf Placed name) (waiting_walk (of_place Code)).waiting text (waiting_walk (of_place Code)).held bare) refl
-text_turn name (of_place DataBase) text bare =
-    rw (bare_word (rules Placed) (waiting_walk (of_place DataBase)).waiting 1 text (waiting_walk (of_place DataBase)).held bare, bare_fault (leaf Placed name) (waiting_walk (of_place DataBase)).waiting text (waiting_walk (of_place DataBase)).held bare) refl
-text_turn name (of_place Stack) text bare =
-    rw (bare_word (rules Placed) (waiting_walk (of_place Stack)).waiting 1 text (waiting_walk (of_place Stack)).held bare, bare_fault (leaf Placed name) (waiting_walk (of_place Stack)).waiting text (waiting_walk (of_place Stack)).held bare) refl
-text_turn name (of_place StackSize) text bare =
-    rw (bare_word (rules Placed) (waiting_walk (of_place StackSize)).waiting 1 text (waiting_walk (of_place StackSize)).held bare, bare_fault (leaf Placed name) (waiting_walk (of_place StackSize)).waiting text (waiting_walk (of_place StackSize)).held bare) refl
+text_turn name (of_place Locate Code) text bare =
+    rw (bare_word (rules Located) (waiting_walk (of_place Locate Code)).waiting 1 text (waiting_walk (of_place Locate Code)).held bare, bare_fault (leaf Located name) (waiting_walk (of_place Locate Code)).waiting text (waiting_walk (of_place Locate Code)).held bare) refl
+text_turn name (of_place Hex Code) text bare =
+    rw (bare_word (rules Placed) (waiting_walk (of_place Hex Code)).waiting 1 text (waiting_walk (of_place Hex Code)).held bare, bare_fault (leaf Placed name) (waiting_walk (of_place Hex Code)).waiting text (waiting_walk (of_place Hex Code)).held bare) refl
+text_turn name (of_place Locate DataBase) text bare =
+    rw (bare_word (rules Located) (waiting_walk (of_place Locate DataBase)).waiting 1 text (waiting_walk (of_place Locate DataBase)).held bare, bare_fault (leaf Located name) (waiting_walk (of_place Locate DataBase)).waiting text (waiting_walk (of_place Locate DataBase)).held bare) refl
+text_turn name (of_place Hex DataBase) text bare =
+    rw (bare_word (rules Placed) (waiting_walk (of_place Hex DataBase)).waiting 1 text (waiting_walk (of_place Hex DataBase)).held bare, bare_fault (leaf Placed name) (waiting_walk (of_place Hex DataBase)).waiting text (waiting_walk (of_place Hex DataBase)).held bare) refl
+text_turn name (of_place Locate Stack) text bare =
+    rw (bare_word (rules Located) (waiting_walk (of_place Locate Stack)).waiting 1 text (waiting_walk (of_place Locate Stack)).held bare, bare_fault (leaf Located name) (waiting_walk (of_place Locate Stack)).waiting text (waiting_walk (of_place Locate Stack)).held bare) refl
+text_turn name (of_place Hex Stack) text bare =
+    rw (bare_word (rules Placed) (waiting_walk (of_place Hex Stack)).waiting 1 text (waiting_walk (of_place Hex Stack)).held bare, bare_fault (leaf Placed name) (waiting_walk (of_place Hex Stack)).waiting text (waiting_walk (of_place Hex Stack)).held bare) refl
+text_turn name (of_place Locate StackSize) text bare =
+    rw (bare_word (rules Located) (waiting_walk (of_place Locate StackSize)).waiting 1 text (waiting_walk (of_place Locate StackSize)).held bare, bare_fault (leaf Located name) (waiting_walk (of_place Locate StackSize)).waiting text (waiting_walk (of_place Locate StackSize)).held bare) refl
+text_turn name (of_place Hex StackSize) text bare =
+    rw (bare_word (rules Placed) (waiting_walk (of_place Hex StackSize)).waiting 1 text (waiting_walk (of_place Hex StackSize)).held bare, bare_fault (leaf Placed name) (waiting_walk (of_place Hex StackSize)).waiting text (waiting_walk (of_place Hex StackSize)).held bare) refl
 text_turn name out text bare =
     rw (bare_word (rules Objects) (waiting_walk out).waiting 1 text (waiting_walk out).held bare, bare_fault (leaf Objects name) (waiting_walk out).waiting text (waiting_walk out).held bare) refl
 
@@ -198,10 +249,14 @@ value_step (of_program (OfPlan Stack)) text file bare = rw (bare_word (rules Sou
 value_step (of_program (OfPlan StackSize)) text file bare = rw (bare_word (rules Sources) idle 1 file (pending_walk (of_program (OfPlan StackSize)) text).held bare) refl
 value_step (of_program Limit) text file bare = rw (bare_word (rules Sources) idle 1 file (pending_walk (of_program Limit) text).held bare) refl
 value_step (of_program Input) text file bare = rw (bare_word (rules Sources) idle 1 file (pending_walk (of_program Input) text).held bare) refl
-value_step (of_place Code) text file bare = rw (bare_word (rules Placed) idle 1 file (pending_walk (of_place Code) text).held bare) refl
-value_step (of_place DataBase) text file bare = rw (bare_word (rules Placed) idle 1 file (pending_walk (of_place DataBase) text).held bare) refl
-value_step (of_place Stack) text file bare = rw (bare_word (rules Placed) idle 1 file (pending_walk (of_place Stack) text).held bare) refl
-value_step (of_place StackSize) text file bare = rw (bare_word (rules Placed) idle 1 file (pending_walk (of_place StackSize) text).held bare) refl
+value_step (of_place Locate Code) text file bare = rw (bare_word (rules Located) idle 1 file (pending_walk (of_place Locate Code) text).held bare) refl
+value_step (of_place Hex Code) text file bare = rw (bare_word (rules Placed) idle 1 file (pending_walk (of_place Hex Code) text).held bare) refl
+value_step (of_place Locate DataBase) text file bare = rw (bare_word (rules Located) idle 1 file (pending_walk (of_place Locate DataBase) text).held bare) refl
+value_step (of_place Hex DataBase) text file bare = rw (bare_word (rules Placed) idle 1 file (pending_walk (of_place Hex DataBase) text).held bare) refl
+value_step (of_place Locate Stack) text file bare = rw (bare_word (rules Located) idle 1 file (pending_walk (of_place Locate Stack) text).held bare) refl
+value_step (of_place Hex Stack) text file bare = rw (bare_word (rules Placed) idle 1 file (pending_walk (of_place Hex Stack) text).held bare) refl
+value_step (of_place Locate StackSize) text file bare = rw (bare_word (rules Located) idle 1 file (pending_walk (of_place Locate StackSize) text).held bare) refl
+value_step (of_place Hex StackSize) text file bare = rw (bare_word (rules Placed) idle 1 file (pending_walk (of_place Hex StackSize) text).held bare) refl
 value_step out text file bare = rw (bare_word (rules Objects) idle 1 file (pending_walk out text).held bare) refl
 
 value_turn : (name : Text) (o : Choice) (text file : Text) → IsBare file → turn_fault (leaf (form_at o) name) [] (pending_walk o text) file ≡ []
@@ -217,14 +272,22 @@ value_turn name (of_program Limit) text file bare =
     rw (bare_word (rules Sources) idle 1 file (pending_walk (of_program Limit) text).held bare, bare_fault (leaf Sources name) idle file (pending_walk (of_program Limit) text).held bare) refl
 value_turn name (of_program Input) text file bare =
     rw (bare_word (rules Sources) idle 1 file (pending_walk (of_program Input) text).held bare, bare_fault (leaf Sources name) idle file (pending_walk (of_program Input) text).held bare) refl
-value_turn name (of_place Code) text file bare =
-    rw (bare_word (rules Placed) idle 1 file (pending_walk (of_place Code) text).held bare, bare_fault (leaf Placed name) idle file (pending_walk (of_place Code) text).held bare) refl
-value_turn name (of_place DataBase) text file bare =
-    rw (bare_word (rules Placed) idle 1 file (pending_walk (of_place DataBase) text).held bare, bare_fault (leaf Placed name) idle file (pending_walk (of_place DataBase) text).held bare) refl
-value_turn name (of_place Stack) text file bare =
-    rw (bare_word (rules Placed) idle 1 file (pending_walk (of_place Stack) text).held bare, bare_fault (leaf Placed name) idle file (pending_walk (of_place Stack) text).held bare) refl
-value_turn name (of_place StackSize) text file bare =
-    rw (bare_word (rules Placed) idle 1 file (pending_walk (of_place StackSize) text).held bare, bare_fault (leaf Placed name) idle file (pending_walk (of_place StackSize) text).held bare) refl
+value_turn name (of_place Locate Code) text file bare =
+    rw (bare_word (rules Located) idle 1 file (pending_walk (of_place Locate Code) text).held bare, bare_fault (leaf Located name) idle file (pending_walk (of_place Locate Code) text).held bare) refl
+value_turn name (of_place Hex Code) text file bare =
+    rw (bare_word (rules Placed) idle 1 file (pending_walk (of_place Hex Code) text).held bare, bare_fault (leaf Placed name) idle file (pending_walk (of_place Hex Code) text).held bare) refl
+value_turn name (of_place Locate DataBase) text file bare =
+    rw (bare_word (rules Located) idle 1 file (pending_walk (of_place Locate DataBase) text).held bare, bare_fault (leaf Located name) idle file (pending_walk (of_place Locate DataBase) text).held bare) refl
+value_turn name (of_place Hex DataBase) text file bare =
+    rw (bare_word (rules Placed) idle 1 file (pending_walk (of_place Hex DataBase) text).held bare, bare_fault (leaf Placed name) idle file (pending_walk (of_place Hex DataBase) text).held bare) refl
+value_turn name (of_place Locate Stack) text file bare =
+    rw (bare_word (rules Located) idle 1 file (pending_walk (of_place Locate Stack) text).held bare, bare_fault (leaf Located name) idle file (pending_walk (of_place Locate Stack) text).held bare) refl
+value_turn name (of_place Hex Stack) text file bare =
+    rw (bare_word (rules Placed) idle 1 file (pending_walk (of_place Hex Stack) text).held bare, bare_fault (leaf Placed name) idle file (pending_walk (of_place Hex Stack) text).held bare) refl
+value_turn name (of_place Locate StackSize) text file bare =
+    rw (bare_word (rules Located) idle 1 file (pending_walk (of_place Locate StackSize) text).held bare, bare_fault (leaf Located name) idle file (pending_walk (of_place Locate StackSize) text).held bare) refl
+value_turn name (of_place Hex StackSize) text file bare =
+    rw (bare_word (rules Placed) idle 1 file (pending_walk (of_place Hex StackSize) text).held bare, bare_fault (leaf Placed name) idle file (pending_walk (of_place Hex StackSize) text).held bare) refl
 value_turn name out text file bare =
     rw (bare_word (rules Objects) idle 1 file (pending_walk out text).held bare, bare_fault (leaf Objects name) idle file (pending_walk out text).held bare) refl
 
@@ -235,10 +298,14 @@ no_file_in (of_program (OfPlan Stack)) text = refl
 no_file_in (of_program (OfPlan StackSize)) text = refl
 no_file_in (of_program Limit) text = refl
 no_file_in (of_program Input) text = refl
-no_file_in (of_place Code) text = refl
-no_file_in (of_place DataBase) text = refl
-no_file_in (of_place Stack) text = refl
-no_file_in (of_place StackSize) text = refl
+no_file_in (of_place Locate Code) text = refl
+no_file_in (of_place Hex Code) text = refl
+no_file_in (of_place Locate DataBase) text = refl
+no_file_in (of_place Hex DataBase) text = refl
+no_file_in (of_place Locate Stack) text = refl
+no_file_in (of_place Hex Stack) text = refl
+no_file_in (of_place Locate StackSize) text = refl
+no_file_in (of_place Hex StackSize) text = refl
 no_file_in out text = refl
 
 pub option_begins : (name : Text) (o : Choice) (text : Text) → IsBare text → Begins (form_at o) name (option_words (name_at o) text) (option_row o text ∷ [])
@@ -264,12 +331,14 @@ settle_by : (form : Form) (before : List Row) (done : List Text) (last : Text) �
 settle_by Sources before done last = refl
 settle_by Objects before done last = refl
 settle_by Placed before done last = refl
+settle_by Located before done last = refl
 
 settles_by : (form : Form) (before : List Row) (done : List Text) (last : Text) → has_row (codes "FILES") before ≡ false
     → (settled (rules form) (state before done last).held).rows ≡ before ++ files_rows (done ++ last ∷ [])
 settles_by Sources before done last none = rows_more before done last none
 settles_by Objects before done last none = rows_more before done last none
 settles_by Placed before done last none = rows_more before done last none
+settles_by Located before done last none = rows_more before done last none
 
 pub ends_by : (form : Form) (name : Text) (first : List Text) (before : List Row) → Begins form name first before → (file : Text) (files : List Text) → IsBare file
     → AllByRecursion IsBare files → Ends (leaf form name) (first ++ file ∷ files) (before ++ files_row (file ∷ files) ∷ [])

@@ -11,7 +11,7 @@ use Rattle.clap.specs.Faults.{check_fault, defaults_fault, level_fault, settle_f
 use Rattle.clap.specs.Kinds.{or_else}
 use Rattle.clap.specs.declared.parser.matches.ValueSource.TheVariants.{CommandLine}
 use Rattle.command_line.specs.Command.{IsBare, files_rule}
-use Rattle.command_line.proofs.Verbs.{Form, Objects, Placed, Sources, leaf, rules}
+use Rattle.command_line.proofs.Verbs.{Form, Located, Objects, Placed, Sources, leaf, rules}
 
 abbrev pub files_filled : Rule
 files_filled = with_index 1 (filled files_rule)
@@ -72,6 +72,8 @@ file_step Objects before done last file none bare =
     rw (bare_word (rules Objects) positional 1 file (state before done last).held bare) (rw (rows_more before done last none) refl)
 file_step Placed before done last file none bare =
     rw (bare_word (rules Placed) positional 1 file (state before done last).held bare) (rw (rows_more before done last none) refl)
+file_step Located before done last file none bare =
+    rw (bare_word (rules Located) positional 1 file (state before done last).held bare) (rw (rows_more before done last none) refl)
 
 pub file_turn : (form : Form) (name : Text) (before : List Row) (done : List Text) (last file : Text) → IsBare file
     → turn_fault (leaf form name) [] (state before done last) file ≡ []
@@ -81,6 +83,8 @@ file_turn Objects name before done last file bare =
     rw (bare_word (rules Objects) positional 1 file (state before done last).held bare, bare_fault (leaf Objects name) positional file (state before done last).held bare) refl
 file_turn Placed name before done last file bare =
     rw (bare_word (rules Placed) positional 1 file (state before done last).held bare, bare_fault (leaf Placed name) positional file (state before done last).held bare) refl
+file_turn Located name before done last file bare =
+    rw (bare_word (rules Located) positional 1 file (state before done last).held bare, bare_fault (leaf Located name) positional file (state before done last).held bare) refl
 
 abbrev pub last_of : Text → List Text → Text
 last_of last [] = last

@@ -14,7 +14,7 @@ use Rattle.clap.specs.Kinds.{or_else}
 use Rattle.clap.specs.declared.builder.action.ArgAction.TheVariants.{Set, Append, SetTrue, Help}
 use Rattle.clap.specs.declared.builder.value_parser.Reading.{Reading}
 use Rattle.clap.specs.declared.parser.matches.ValueSource.{ValueSource}
-use Rattle.command_line.proofs.Verbs.{Form, Objects, Placed, Sources, leaf, rules}
+use Rattle.command_line.proofs.Verbs.{Form, Located, Objects, Placed, Sources, leaf, rules}
 use Rattle.command_line.specs.Command.{files_of}
 use Rattle.command_line.proofs.Levels.{level_passes_by, never, none_of_both}
 
@@ -272,6 +272,7 @@ rules_take : (form : Form) → AllTake (rules form)
 rules_take Sources = (set_takes _ refl refl, (set_takes _ refl refl, (set_takes _ refl refl, (set_takes _ refl refl, (set_takes _ refl refl, (set_takes _ refl refl, (flag_takes _ refl refl, (append_takes _ refl refl, (help_takes _ refl, tt)))))))))
 rules_take Objects = (set_takes _ refl refl, (append_takes _ refl refl, (help_takes _ refl, tt)))
 rules_take Placed = (set_takes _ refl refl, (set_takes _ refl refl, (set_takes _ refl refl, (set_takes _ refl refl, (append_takes _ refl refl, (help_takes _ refl, tt))))))
+rules_take Located = (set_takes _ refl refl, (set_takes _ refl refl, (set_takes _ refl refl, (set_takes _ refl refl, (flag_takes _ refl refl, (append_takes _ refl refl, (help_takes _ refl, tt)))))))
 
 abbrev IfFull : Option Row → Type 0
 IfFull None = Unit {0}
@@ -302,6 +303,11 @@ files_given Objects name rows fine = go (is_given (codes "FILES") rows) (is_give
     go false false e f = absurd (never _ _ (rw (e, f) at fine))
     go false true e f = absurd (never _ _ (rw (e, f) at fine))
 files_given Placed name rows fine = go (is_given (codes "FILES") rows) refl
+  where
+    go : (t : Bool) → is_given (codes "FILES") rows ≡ t → is_given (codes "FILES") rows ≡ true
+    go true e = e
+    go false e = absurd (never _ _ (rw e at fine))
+files_given Located name rows fine = go (is_given (codes "FILES") rows) refl
   where
     go : (t : Bool) → is_given (codes "FILES") rows ≡ t → is_given (codes "FILES") rows ≡ true
     go true e = e

@@ -7,12 +7,13 @@ use Rattle.failure.specs.declared.Failure.{Failure}
 use Rattle.command_line.specs.declared.orders.Action.{Action}
 use Rattle.command_line.specs.declared.orders.Order.{Order}
 use Rattle.command_line.specs.declared.orders.PlaceAction.{PlaceAction}
+use Rattle.command_line.specs.declared.orders.PlaceAction.TheVariants.{Locate}
 use Rattle.command_line.specs.declared.reading.LineFault.{LineFault}
 use Rattle.command_line.specs.internal.Errors.{IsFailureFor}
-use Rattle.command_line.specs.Command.{Gives, IsBare, Orders, OrdersCompile, OrdersFiles, OrdersLink, OrdersMap, OrdersPlace, OrdersPlaceText, OrdersText, PlanOption, ValueOption, Wanted, name_of_action, name_of_place_action, option_name, option_words, plan_option_name, plm_app, usual, usual_place, usual_plan, wanted_by, wanted_in, wants_compile, wants_link, wants_place, wants_program, with_plan_text, with_text}
-use Rattle.command_line.proofs.Begins.{ends_by, map_begins, map_row, of_place, of_program, option_begins, option_row, out, plain_begins}
-use Rattle.command_line.proofs.Lines.{Line, link_line, map_line, option_line, place_line, place_option_line, plain_line}
-use Rattle.command_line.proofs.Verbs.{Objects, Placed, Sources, Verb, compile, link, name_of, place, program}
+use Rattle.command_line.specs.Command.{Gives, IsBare, Orders, OrdersCompile, OrdersFiles, OrdersLink, OrdersMap, OrdersNeed, OrdersPlace, OrdersPlaceText, OrdersText, PlanOption, ValueOption, Wanted, name_of_action, name_of_place_action, option_name, option_words, plan_option_name, plm_app, usual, usual_place, usual_plan, wanted_by, wanted_in, wants_compile, wants_link, wants_need, wants_place, wants_program, with_plan_text, with_text}
+use Rattle.command_line.proofs.Begins.{ends_by, flag_begins, map_flag, need_flag, of_place, of_program, option_begins, option_row, out, plain_begins, rows_of_flag}
+use Rattle.command_line.proofs.Lines.{Line, link_line, map_line, need_line, option_line, place_line, place_option_line, plain_line}
+use Rattle.command_line.proofs.Verbs.{Located, Objects, Sources, Verb, compile, form_of, link, name_of, place, program}
 use Rattle.command_line.proofs.Compiles.{compile_line}
 use Rattle.command_line.proofs.CommandLemmas.{only_memory}
 use Rattle.command_line.proofs.PlmWords.{line_fine, line_wanted}
@@ -39,7 +40,7 @@ map_wanted words name action [] g = absurd (let none = g.some in omega arith)
 map_wanted words name action (file ∷ files) g =
     wants_by words (codes "--map" ∷ file ∷ files) name (program action) (wants_program (record (usual action (file ∷ files)) { map = true })) g.words_are
     (map_line action file files
-    (ends_by Sources (name_of (program action)) (codes "--map" ∷ []) (map_row ∷ []) (map_begins (name_of (program action))) file files g.bare.0 g.bare.1))
+    (ends_by Sources (name_of (program action)) (codes "--map" ∷ []) (rows_of_flag map_flag) (flag_begins (name_of (program action)) map_flag) file files g.bare.0 g.bare.1))
 
 text_wanted : (words : List Text) (name : Text) (action : Action) (files : List Text) (option : ValueOption) (text : Text) → IsBare text
     → Gives words name (name_of_action action) (option_words (option_name option) text) files → Wants words (wants_program (with_text option text (usual action files)))
@@ -68,7 +69,7 @@ place_wanted words name action [] g = absurd (let none = g.some in omega arith)
 place_wanted words name action (file ∷ files) g =
     wants_by words (file ∷ files) name (place action) (wants_place (usual_place action (file ∷ files))) g.words_are
     (place_line action file files
-    (ends_by Placed (name_of (place action)) [] [] (plain_begins Placed (name_of (place action))) file files g.bare.0 g.bare.1))
+    (ends_by (form_of action) (name_of (place action)) [] [] (plain_begins (form_of action) (name_of (place action))) file files g.bare.0 g.bare.1))
 
 place_text_wanted : (words : List Text) (name : Text) (action : PlaceAction) (files : List Text) (option : PlanOption) (text : Text) → IsBare text
     → Gives words name (name_of_place_action action) (option_words (plan_option_name option) text) files → Wants words (wants_place (record (usual_place action files) { plan = with_plan_text option text usual_plan }))
@@ -76,7 +77,15 @@ place_text_wanted words name action [] option text bare g = absurd (let none = g
 place_text_wanted words name action (file ∷ files) option text bare g =
     wants_by words (option_words (plan_option_name option) text ++ file ∷ files) name (place action) (wants_place (record (usual_place action (file ∷ files)) { plan = with_plan_text option text usual_plan })) g.words_are
     (place_option_line action option text file files
-    (ends_by Placed (name_of (place action)) (option_words (plan_option_name option) text) (option_row (of_place option) text ∷ []) (option_begins (name_of (place action)) (of_place option) text bare) file files g.bare.0 g.bare.1))
+    (ends_by (form_of action) (name_of (place action)) (option_words (plan_option_name option) text) (option_row (of_place action option) text ∷ []) (option_begins (name_of (place action)) (of_place action option) text bare) file files g.bare.0 g.bare.1))
+
+need_wanted : (words : List Text) (name : Text) (files : List Text)
+    → Gives words name (codes "locate") (codes "--need" ∷ []) files → Wants words (wants_need (record { files = files; plan = usual_plan }))
+need_wanted words name [] g = absurd (let none = g.some in omega arith)
+need_wanted words name (file ∷ files) g =
+    wants_by words (codes "--need" ∷ file ∷ files) name (place Locate) (wants_need (record { files = file ∷ files; plan = usual_plan })) g.words_are
+    (need_line file files
+    (ends_by Located (codes "locate") (codes "--need" ∷ []) (rows_of_flag need_flag) (flag_begins (codes "locate") need_flag) file files g.bare.0 g.bare.1))
 
 order_is : (words : List Text) (order : Order) (wanted : Wanted) → Orders words order → Wants words wanted → wanted_in order ≡ wanted
 order_is words order wanted found wants = let same : Some (wanted_in order) ≡ Some wanted = sym found ∙ wants.gives in cc
@@ -102,6 +111,9 @@ place_ordered words order found = λ name action files g. order_is words order (
 
 pub place_text_ordered : (words : List Text) (order : Order) → Orders words order → OrdersPlaceText words (Ok order)
 place_text_ordered words order found = λ name action files option text bare g. order_is words order (wants_place (record (usual_place action files) { plan = with_plan_text option text usual_plan })) found (place_text_wanted words name action files option text bare g)
+
+pub need_ordered : (words : List Text) (order : Order) → Orders words order → OrdersNeed words (Ok order)
+need_ordered words order found = λ name files g. order_is words order (wants_need (record { files = files; plan = usual_plan })) found (need_wanted words name files g)
 
 -- where they have none, only memory can fail
 pub files_failed : (words : List Text) (error : Error) (failure : Failure LineFault) → HasKind (fault_of plm_app words) error → IsFailureFor error failure
@@ -131,3 +143,7 @@ place_failed words error failure has is = λ name action files g. only_memory er
 pub place_text_failed : (words : List Text) (error : Error) (failure : Failure LineFault) → HasKind (fault_of plm_app words) error → IsFailureFor error failure
     → OrdersPlaceText words (Err failure)
 place_text_failed words error failure has is = λ name action files option text bare g. only_memory error failure (fault_of plm_app words) (place_text_wanted words name action files option text bare g).fine has is
+
+pub need_failed : (words : List Text) (error : Error) (failure : Failure LineFault) → HasKind (fault_of plm_app words) error → IsFailureFor error failure
+    → OrdersNeed words (Err failure)
+need_failed words error failure has is = λ name files g. only_memory error failure (fault_of plm_app words) (need_wanted words name files g).fine has is

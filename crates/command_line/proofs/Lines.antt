@@ -6,10 +6,11 @@ use Rattle.clap.specs.Walk.{nothing_held, rows_after, with_default}
 use Rattle.clap.specs.Faults.{check_fault, defaults_fault, level_fault}
 use Rattle.command_line.specs.declared.orders.Action.{Action}
 use Rattle.command_line.specs.declared.orders.PlaceAction.{PlaceAction}
-use Rattle.command_line.specs.Command.{Code, DataBase, Input, Limit, OfPlan, PlanOption, Stack, StackSize, ValueOption, Wanted, option_words, plan_option_name, option_name, usual, usual_place, usual_plan, wants_link, wants_place, wants_program, with_plan_text, with_text}
+use Rattle.command_line.specs.declared.orders.PlaceAction.TheVariants.{Locate, Hex}
+use Rattle.command_line.specs.Command.{Code, DataBase, Input, Limit, OfPlan, PlanOption, Stack, StackSize, ValueOption, Wanted, option_words, plan_option_name, option_name, usual, usual_place, usual_plan, wants_link, wants_need, wants_place, wants_program, with_plan_text, with_text}
 use Rattle.command_line.proofs.Files.{files_row, level_of, rows_of_level}
-use Rattle.command_line.proofs.Begins.{Ends, map_row, of_place, of_program, option_row, out}
-use Rattle.command_line.proofs.Verbs.{Objects, Placed, Sources, Verb, leaf, leaf_of, link, name_of, place, program, rules_of, wanted_of}
+use Rattle.command_line.proofs.Begins.{Ends, map_flag, need_flag, of_place, of_program, option_row, out, rows_of_flag}
+use Rattle.command_line.proofs.Verbs.{Located, Objects, Sources, Verb, form_of, leaf, leaf_of, link, name_of, place, program, rules_of, wanted_of}
 
 -- such words have no fault, and give what is wanted
 pub record Line (verb : Verb) (words : List Text) (wanted : Wanted) : Type 0 where
@@ -29,11 +30,11 @@ pub plain_line : (action : Action) (file : Text) (files : List Text) → Ends (l
 unfolding defaults_fault
 plain_line action file files e = line_of (program action) (file ∷ files) (files_row (file ∷ files) ∷ []) (wants_program (usual action (file ∷ files))) e refl refl refl
 
-pub map_line : (action : Action) (file : Text) (files : List Text) → Ends (leaf Sources (name_of (program action))) (codes "--map" ∷ file ∷ files) (map_row ∷ files_row (file ∷ files) ∷ [])
+pub map_line : (action : Action) (file : Text) (files : List Text) → Ends (leaf Sources (name_of (program action))) (codes "--map" ∷ file ∷ files) (rows_of_flag map_flag ++ files_row (file ∷ files) ∷ [])
     → Line (program action) (codes "--map" ∷ file ∷ files) (wants_program (record (usual action (file ∷ files)) { map = true }))
 unfolding defaults_fault
 map_line action file files e =
-    line_of (program action) (codes "--map" ∷ file ∷ files) (map_row ∷ files_row (file ∷ files) ∷ []) (wants_program (record (usual action (file ∷ files)) { map = true })) e refl refl refl
+    line_of (program action) (codes "--map" ∷ file ∷ files) (rows_of_flag map_flag ++ files_row (file ∷ files) ∷ []) (wants_program (record (usual action (file ∷ files)) { map = true })) e refl refl refl
 
 pub option_line : (action : Action) (o : ValueOption) (text file : Text) (files : List Text)
     → Ends (leaf Sources (name_of (program action))) (option_words (option_name o) text ++ file ∷ files) (option_row (of_program o) text ∷ files_row (file ∷ files) ∷ [])
@@ -64,25 +65,45 @@ unfolding defaults_fault
 link_line name file files e =
     line_of link (option_words (codes "out") name ++ file ∷ files) (option_row out name ∷ files_row (file ∷ files) ∷ []) (wants_link (record { out = name; objects = file ∷ files })) e refl refl refl
 
-pub place_line : (action : PlaceAction) (file : Text) (files : List Text) → Ends (leaf Placed (name_of (place action))) (file ∷ files) (files_row (file ∷ files) ∷ [])
+pub need_line : (file : Text) (files : List Text)
+    → Ends (leaf Located (codes "locate")) (codes "--need" ∷ file ∷ files) (rows_of_flag need_flag ++ files_row (file ∷ files) ∷ [])
+    → Line (place Locate) (codes "--need" ∷ file ∷ files) (wants_need (record { files = file ∷ files; plan = usual_plan }))
+unfolding defaults_fault
+need_line file files e =
+    line_of (place Locate) (codes "--need" ∷ file ∷ files) (rows_of_flag need_flag ++ files_row (file ∷ files) ∷ []) (wants_need (record { files = file ∷ files; plan = usual_plan })) e refl refl refl
+
+pub place_line : (action : PlaceAction) (file : Text) (files : List Text) → Ends (leaf (form_of action) (name_of (place action))) (file ∷ files) (files_row (file ∷ files) ∷ [])
     → Line (place action) (file ∷ files) (wants_place (usual_place action (file ∷ files)))
 unfolding defaults_fault
-place_line action file files e = line_of (place action) (file ∷ files) (files_row (file ∷ files) ∷ []) (wants_place (usual_place action (file ∷ files))) e refl refl refl
+place_line Locate file files e = line_of (place Locate) (file ∷ files) (files_row (file ∷ files) ∷ []) (wants_place (usual_place Locate (file ∷ files))) e refl refl refl
+place_line Hex file files e = line_of (place Hex) (file ∷ files) (files_row (file ∷ files) ∷ []) (wants_place (usual_place Hex (file ∷ files))) e refl refl refl
 
 pub place_option_line : (action : PlaceAction) (o : PlanOption) (text file : Text) (files : List Text)
-    → Ends (leaf Placed (name_of (place action))) (option_words (plan_option_name o) text ++ file ∷ files) (option_row (of_place o) text ∷ files_row (file ∷ files) ∷ [])
+    → Ends (leaf (form_of action) (name_of (place action))) (option_words (plan_option_name o) text ++ file ∷ files) (option_row (of_place action o) text ∷ files_row (file ∷ files) ∷ [])
     → Line (place action) (option_words (plan_option_name o) text ++ file ∷ files)
     (wants_place (record (usual_place action (file ∷ files)) { plan = with_plan_text o text usual_plan }))
 unfolding defaults_fault
-place_option_line action Code text file files e =
-    line_of (place action) (option_words (plan_option_name Code) text ++ file ∷ files) (option_row (of_place Code) text ∷ files_row (file ∷ files) ∷ [])
-    (wants_place (record (usual_place action (file ∷ files)) { plan = with_plan_text Code text usual_plan })) e refl refl refl
-place_option_line action DataBase text file files e =
-    line_of (place action) (option_words (plan_option_name DataBase) text ++ file ∷ files) (option_row (of_place DataBase) text ∷ files_row (file ∷ files) ∷ [])
-    (wants_place (record (usual_place action (file ∷ files)) { plan = with_plan_text DataBase text usual_plan })) e refl refl refl
-place_option_line action Stack text file files e =
-    line_of (place action) (option_words (plan_option_name Stack) text ++ file ∷ files) (option_row (of_place Stack) text ∷ files_row (file ∷ files) ∷ [])
-    (wants_place (record (usual_place action (file ∷ files)) { plan = with_plan_text Stack text usual_plan })) e refl refl refl
-place_option_line action StackSize text file files e =
-    line_of (place action) (option_words (plan_option_name StackSize) text ++ file ∷ files) (option_row (of_place StackSize) text ∷ files_row (file ∷ files) ∷ [])
-    (wants_place (record (usual_place action (file ∷ files)) { plan = with_plan_text StackSize text usual_plan })) e refl refl refl
+place_option_line Locate Code text file files e =
+    line_of (place Locate) (option_words (plan_option_name Code) text ++ file ∷ files) (option_row (of_place Locate Code) text ∷ files_row (file ∷ files) ∷ [])
+    (wants_place (record (usual_place Locate (file ∷ files)) { plan = with_plan_text Code text usual_plan })) e refl refl refl
+place_option_line Hex Code text file files e =
+    line_of (place Hex) (option_words (plan_option_name Code) text ++ file ∷ files) (option_row (of_place Hex Code) text ∷ files_row (file ∷ files) ∷ [])
+    (wants_place (record (usual_place Hex (file ∷ files)) { plan = with_plan_text Code text usual_plan })) e refl refl refl
+place_option_line Locate DataBase text file files e =
+    line_of (place Locate) (option_words (plan_option_name DataBase) text ++ file ∷ files) (option_row (of_place Locate DataBase) text ∷ files_row (file ∷ files) ∷ [])
+    (wants_place (record (usual_place Locate (file ∷ files)) { plan = with_plan_text DataBase text usual_plan })) e refl refl refl
+place_option_line Hex DataBase text file files e =
+    line_of (place Hex) (option_words (plan_option_name DataBase) text ++ file ∷ files) (option_row (of_place Hex DataBase) text ∷ files_row (file ∷ files) ∷ [])
+    (wants_place (record (usual_place Hex (file ∷ files)) { plan = with_plan_text DataBase text usual_plan })) e refl refl refl
+place_option_line Locate Stack text file files e =
+    line_of (place Locate) (option_words (plan_option_name Stack) text ++ file ∷ files) (option_row (of_place Locate Stack) text ∷ files_row (file ∷ files) ∷ [])
+    (wants_place (record (usual_place Locate (file ∷ files)) { plan = with_plan_text Stack text usual_plan })) e refl refl refl
+place_option_line Hex Stack text file files e =
+    line_of (place Hex) (option_words (plan_option_name Stack) text ++ file ∷ files) (option_row (of_place Hex Stack) text ∷ files_row (file ∷ files) ∷ [])
+    (wants_place (record (usual_place Hex (file ∷ files)) { plan = with_plan_text Stack text usual_plan })) e refl refl refl
+place_option_line Locate StackSize text file files e =
+    line_of (place Locate) (option_words (plan_option_name StackSize) text ++ file ∷ files) (option_row (of_place Locate StackSize) text ∷ files_row (file ∷ files) ∷ [])
+    (wants_place (record (usual_place Locate (file ∷ files)) { plan = with_plan_text StackSize text usual_plan })) e refl refl refl
+place_option_line Hex StackSize text file files e =
+    line_of (place Hex) (option_words (plan_option_name StackSize) text ++ file ∷ files) (option_row (of_place Hex StackSize) text ∷ files_row (file ∷ files) ∷ [])
+    (wants_place (record (usual_place Hex (file ∷ files)) { plan = with_plan_text StackSize text usual_plan })) e refl refl refl

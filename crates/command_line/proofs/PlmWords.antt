@@ -12,14 +12,14 @@ use Rattle.clap.specs.Simple.{built, entered, filled, label_of, names_of, rows_a
 use Rattle.clap.specs.Faults.{level_fault, entered_fault, other_fault, is_simple_and_free, step_fault, turn_fault, walk_fault, word_fault, check_fault, defaults_fault, settle_fault}
 use Rattle.clap.specs.Kinds.{or_else}
 use Rattle.clap.specs.declared.error.ErrorKind.{ErrorKind}
-use Rattle.command_line.specs.Command.{Wanted, files_in, files_of, plm_app, wanted_by, wanted_of_match}
+use Rattle.command_line.specs.Command.{Wanted, files_in, files_of, is_set, located_of, need_of, place_of, plm_app, wanted_by, wanted_of_match, wants_need, wants_place}
 use Rattle.clap.proofs.FaultLemmas.{stopped_fault}
 use Rattle.std.proofs.lemmas.List.{append-nil}
 use Rattle.command_line.specs.declared.orders.Action.TheVariants.{Run, Interpret}
 use Rattle.command_line.specs.declared.orders.PlaceAction.TheVariants.{Locate, Hex}
 use Rattle.command_line.proofs.CommandLemmas.{same_text_of}
 use Rattle.command_line.proofs.Full.{some_file}
-use Rattle.command_line.proofs.Verbs.{Objects, Placed, Sources, Verb, compile, leaf, leaf_of, link, name_of, place, program, rules_of, wanted_of}
+use Rattle.command_line.proofs.Verbs.{Located, Objects, Placed, Sources, Verb, compile, leaf, leaf_of, link, name_of, place, program, rules, rules_of, wanted_of}
 use Rattle.command_line.proofs.Levels.{level_passes_by, never, none_of_both}
 
 pub plm_is_simple : is_simple plm_app ≡ true
@@ -123,7 +123,7 @@ help_built = built_leaf help_shape
 abbrev plm_built : App
 plm_built = record {
   top = top_built;
-  subs = leaf_of compile ∷ leaf Sources (codes "run") ∷ leaf Sources (codes "interpret") ∷ leaf Objects (codes "link") ∷ leaf Placed (codes "locate") ∷ leaf Placed (codes "hex") ∷ help_built ∷ [];
+  subs = leaf_of compile ∷ leaf Sources (codes "run") ∷ leaf Sources (codes "interpret") ∷ leaf Objects (codes "link") ∷ leaf Located (codes "locate") ∷ leaf Placed (codes "hex") ∷ help_built ∷ [];
 }
 
 built_is : built plm_app ≡ plm_built
@@ -288,6 +288,14 @@ same_wanted x y e = cc
 verb_wants : (verb : Verb) (rest : List Text) (wanted : Wanted) → wanted_of_match (rows_at (leaf_of verb) rest) ≡ Some wanted → wanted_of verb (rows_after (rules_of verb) [] rest) ≡ wanted
 verb_wants verb rest wanted found = same_wanted (wanted_of verb (rows_after (rules_of verb) [] rest)) wanted (sym (wanted_named verb rest) ∙ found)
 
+-- what `locate` wants has the files of its words
+files_located : (rows : List Row) → files_in (located_of rows) ≡ files_of rows
+files_located rows = go (is_set (codes "need") rows)
+  where
+    go : (t : Bool) → files_in (if t then wants_need (need_of rows) else wants_place (place_of Locate rows)) ≡ files_of rows
+    go true = refl
+    go false = refl
+
 verb_has_file : (verb : Verb) → HasFile (leaf_of verb)
 verb_has_file verb rest wanted fine found = subst (λ (w : Wanted). 0 < length (files_in w)) (verb_wants verb rest wanted found) (has_file verb fine)
   where
@@ -295,7 +303,8 @@ verb_has_file verb rest wanted fine found = subst (λ (w : Wanted). 0 < length (
     has_file compile fine = omega arith
     has_file (program action) fine = some_file Sources (name_of (program action)) rest fine
     has_file link fine = some_file Objects (name_of link) rest fine
-    has_file (place action) fine = some_file Placed (name_of (place action)) rest fine
+    has_file (place Locate) fine = rw (files_located (rows_after (rules Located) [] rest)) (some_file Located (codes "locate") rest fine)
+    has_file (place Hex) fine = some_file Placed (codes "hex") rest fine
 
 all_have_files : (name : Text) → bytes_eq name (codes "help") ≡ false → AllByRecursion (λ s. answers_to name (label_of s) ≡ true → HasFile s) plm_built.subs
 all_have_files name other = (

@@ -4,19 +4,27 @@ use Rattle.clap.specs.Words.{Row, Rule, Shape, Text}
 use Rattle.clap.specs.Simple.{built_leaf, new_shape}
 use Rattle.command_line.specs.declared.orders.Action.{Action}
 use Rattle.command_line.specs.declared.orders.PlaceAction.{PlaceAction}
-use Rattle.command_line.specs.Command.{Wanted, compile_app, compile_of, link_app, link_of, name_of_action, name_of_place_action, place_app, place_of, program_app, program_of, wants_compile, wants_link, wants_place, wants_program}
+use Rattle.command_line.specs.declared.orders.PlaceAction.TheVariants.{Locate, Hex}
+use Rattle.command_line.specs.Command.{Wanted, compile_app, compile_of, link_app, link_of, locate_app, located_of, name_of_action, name_of_place_action, place_app, place_of, program_app, program_of, wants_compile, wants_link, wants_place, wants_program}
 
 -- what the files of a command are
 pub data Form : Type 0 where
   Sources : Form
   Objects : Form
   Placed : Form
+  Located : Form
 
 -- the arguments of a command
 abbrev pub rules : Form → List Rule
 rules Sources = (built_leaf (program_app []).top).rules
 rules Objects = (built_leaf (link_app []).top).rules
 rules Placed = (built_leaf (place_app []).top).rules
+rules Located = (built_leaf (locate_app []).top).rules
+
+-- that of a command on an object
+abbrev pub form_of : PlaceAction → Form
+form_of Locate = Located
+form_of Hex = Placed
 
 -- a command that was built
 abbrev pub leaf : Form → Text → Shape
@@ -42,7 +50,7 @@ abbrev pub rules_of : Verb → List Rule
 rules_of compile = compile_rules
 rules_of (program action) = rules Sources
 rules_of link = rules Objects
-rules_of (place action) = rules Placed
+rules_of (place action) = rules (form_of action)
 
 -- the command that was built
 abbrev pub leaf_of : Verb → Shape
@@ -53,4 +61,5 @@ abbrev pub wanted_of : Verb → List Row → Wanted
 wanted_of compile rows = wants_compile (compile_of rows)
 wanted_of (program action) rows = wants_program (program_of action rows)
 wanted_of link rows = wants_link (link_of rows)
-wanted_of (place action) rows = wants_place (place_of action rows)
+wanted_of (place Locate) rows = located_of rows
+wanted_of (place Hex) rows = wants_place (place_of Hex rows)

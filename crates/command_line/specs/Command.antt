@@ -19,8 +19,9 @@ use Rattle.command_line.specs.declared.orders.PlaceAction.{PlaceAction}
 use Rattle.command_line.specs.declared.orders.PlaceAction.TheVariants.{Locate, Hex}
 use Rattle.command_line.specs.declared.orders.CompileOrder.{CompileOrder}
 use Rattle.command_line.specs.declared.orders.LinkOrder.{LinkOrder}
+use Rattle.command_line.specs.declared.orders.NeedOrder.{NeedOrder}
 use Rattle.command_line.specs.declared.orders.Order.{Order}
-use Rattle.command_line.specs.declared.orders.Order.TheVariants.{Compile, Link, Place, Program}
+use Rattle.command_line.specs.declared.orders.Order.TheVariants.{Compile, Link, Need, Place, Program}
 use Rattle.command_line.specs.declared.orders.PlaceOrder.{PlaceOrder}
 use Rattle.command_line.specs.declared.orders.PlanTexts.{PlanTexts}
 use Rattle.command_line.specs.declared.orders.ProgramOrder.{ProgramOrder}
@@ -35,9 +36,9 @@ option_rule name = record (new_rule name) { long = Some name; value_names = 1 }
 abbrev pub default_rule : Text → Text → Rule
 default_rule name text = record (option_rule name) { defaults = text ∷ [] }
 
--- the flag `--map`
-abbrev pub map_rule : Rule
-map_rule = record (new_rule (codes "map")) { long = Some (codes "map"); action = Some SetTrue }
+-- the flag `--name`
+abbrev pub flag_rule : Text → Rule
+flag_rule name = record (new_rule name) { long = Some name; action = Some SetTrue }
 
 -- the option `--out FILE`, which has to be there
 abbrev pub out_rule : Rule
@@ -66,7 +67,7 @@ with_run app =
     with_rule (with_rule (with_rule app
     (default_rule (codes "limit") (codes "10000000")))
     (option_rule (codes "input")))
-    map_rule
+    (flag_rule (codes "map"))
 
 -- the command `name [plan] [--limit N] [--input T] [--map] SOURCE...`
 abbrev pub program_app : Text → App
@@ -84,6 +85,10 @@ link_app name = with_rule (with_rule (new_app name) out_rule) files_rule
 -- the command `name [plan] FILE...`, which asks for one file when it is carried out
 abbrev pub place_app : Text → App
 place_app name = with_rule (with_plan (new_app name)) files_rule
+
+-- the command `name [plan] [--need] FILE...`, which asks for one file when it is carried out without the flag
+abbrev pub locate_app : Text → App
+locate_app name = with_rule (with_rule (with_plan (new_app name)) (flag_rule (codes "need"))) files_rule
 
 -- the program, which has to have a command, and which knows its version
 abbrev pub bare_app : App
@@ -104,7 +109,7 @@ abbrev pub plm_app : App
 plm_app =
     with_subcommand (with_subcommand (with_subcommand programs_app
     (link_app (codes "link")).top)
-    (place_app (codes "locate")).top)
+    (locate_app (codes "locate")).top)
     (place_app (codes "hex")).top
 
 -- the texts of the options of a plan
@@ -139,12 +144,18 @@ pub record PlaceWanted : Type 0 where
   pub files : List Text
   pub plan : PlanWanted
 
+-- what is wanted of sources whose need is told
+pub record NeedWanted : Type 0 where
+  pub files : List Text
+  pub plan : PlanWanted
+
 -- what the words want, as texts
 pub data Wanted : Type 0 where
   wants_compile : CompileWanted → Wanted
   wants_program : ProgramWanted → Wanted
   wants_link : LinkWanted → Wanted
   wants_place : PlaceWanted → Wanted
+  wants_need : NeedWanted → Wanted
 
 -- the files that are read
 abbrev pub files_in : Wanted → List Text
@@ -152,6 +163,7 @@ files_in (wants_compile wanted) = wanted.source ∷ []
 files_in (wants_program wanted) = wanted.files
 files_in (wants_link wanted) = wanted.objects
 files_in (wants_place wanted) = wanted.files
+files_in (wants_need wanted) = wanted.files
 
 -- the text of an option that has a default
 abbrev pub text_of : Text → List Row → Text
@@ -194,6 +206,14 @@ link_of rows = record { out = text_of (codes "out") rows; objects = files_of row
 abbrev pub place_of : PlaceAction → List Row → PlaceWanted
 place_of action rows = record { action = action; files = files_of rows; plan = plan_of rows }
 
+abbrev pub need_of : List Row → NeedWanted
+need_of rows = record { files = files_of rows; plan = plan_of rows }
+
+-- what `locate` wants: the places of an object or, with its flag, the need of sources
+abbrev pub located_of : List Row → Wanted
+located_of rows =
+    if is_set (codes "need") rows then wants_need (need_of rows) else wants_place (place_of Locate rows)
+
 -- the same of a command's name and matches
 abbrev pub wanted_of_match : Text × List Row → Option Wanted
 wanted_of_match (name, rows) =
@@ -201,7 +221,7 @@ wanted_of_match (name, rows) =
     else (if bytes_eq name (codes "run") then Some (wants_program (program_of Run rows))
     else (if bytes_eq name (codes "interpret") then Some (wants_program (program_of Interpret rows))
     else (if bytes_eq name (codes "link") then Some (wants_link (link_of rows))
-    else (if bytes_eq name (codes "locate") then Some (wants_place (place_of Locate rows))
+    else (if bytes_eq name (codes "locate") then Some (located_of rows)
     else (if bytes_eq name (codes "hex") then Some (wants_place (place_of Hex rows)) else None)))))
 
 -- what the words, with the program's name in front, want
@@ -237,11 +257,15 @@ abbrev pub place_in : PlaceOrder → PlaceWanted
 place_in order =
     record { action = order.action; files = texts order.files.items; plan = plan_in order.plan }
 
+abbrev pub need_in : NeedOrder → NeedWanted
+need_in order = record { files = texts order.files.items; plan = plan_in order.plan }
+
 abbrev pub wanted_in : Order → Wanted
 wanted_in (Compile order) = wants_compile (compile_in order)
 wanted_in (Program order) = wants_program (program_in order)
 wanted_in (Link order) = wants_link (link_in order)
 wanted_in (Place order) = wants_place (place_in order)
+wanted_in (Need order) = wants_need (need_in order)
 
 -- the words give this order
 abbrev pub Orders : List Text → Order → Type 0
@@ -382,6 +406,12 @@ OrdersPlaceText words answer =
     → IsOrderOf (wants_place (record (usual_place action files) {
       plan = with_plan_text option text usual_plan;
     })) answer
+
+-- `locate --need` with bare files wants the need of these sources
+abbrev pub OrdersNeed : List Text → Result Order (Failure LineFault) → Type 0
+OrdersNeed words answer = (name : Text) (files : List Text)
+    → Gives words name (codes "locate") (codes "--need" ∷ []) files
+    → IsOrderOf (wants_need (record { files = files; plan = usual_plan })) answer
 
 -- a fault has one of the kinds that `clap` finds in the words, where Help stands for that of help alone, and Version for
 -- that of the version

@@ -3,8 +3,8 @@
 ghost use Rattle.std.specs.Prelude.{◌≡◌, codes, false};
 ghost use Rattle.clap.specs.Words.{App, Rule, new_app, rule_of, with_rule, with_subcommand};
 ghost use Rattle.command_line.specs.internal.Building.{Builds, IsBuilt};
-ghost use Rattle.command_line.specs.Command.{bare_app, compile_app, default_rule, file_rule, files_rule, link_app, map_rule};
-ghost use Rattle.command_line.specs.Command.{option_rule, out_rule, place_app, plm_app, program_app};
+ghost use Rattle.command_line.specs.Command.{bare_app, compile_app, default_rule, file_rule, files_rule, flag_rule, link_app};
+ghost use Rattle.command_line.specs.Command.{locate_app, option_rule, out_rule, place_app, plm_app, program_app};
 ghost use Rattle.command_line.specs.Command.{programs_app, with_plan, with_run};
 
 use crate::help::{
@@ -151,18 +151,23 @@ fn add_run<'a>(alloc: Global, command: Built<'a>, limit_help: &'a str) -> Built<
         "What the ports give, as 01:0904/02:FF",
     );
     let with_input = add(with_limit, input);
-    add(with_input, map(alloc))
+    let map = flag(
+        alloc,
+        "map",
+        "Print where each object lies, before all else",
+    );
+    add(with_input, map)
 }
 
-// The flag `--map`.
-fn map<'a>(alloc: Global) -> Arg<'a>
-    ensures rule { rule_of result ≡ map_rule }
+// The flag `--name`, by its line in help.
+fn flag<'a>(alloc: Global, name: &'a str, help: &'a str) -> Arg<'a>
+    ensures rule { rule_of result ≡ flag_rule name.entry.now }
     ensures local { result.global ≡ false }
 {
-    Arg::new(alloc, "map")
-        .long("map")
+    Arg::new(alloc, name)
+        .long(name)
         .action(ArgAction::SetTrue)
-        .help("Print where each object lies, before all else")
+        .help(help)
 }
 
 // An argument that is a file and has to be there, by its name and its line in help.
@@ -249,6 +254,27 @@ fn place<'a>(alloc: Global, name: &'a str, teaching: Teaching) -> Built<'a>
     add(planned, files(alloc, "FILE", "The object file"))
 }
 
+// The command that tells where an object lies or, with its flag, how much of the stack sources need.
+fn locate<'a>(alloc: Global) -> Built<'a>
+    ensures { Builds (locate_app (codes "locate")) result }
+{
+    let planned = add_plan(alloc, named(alloc, "locate", LOCATE));
+    let need = flag(
+        alloc,
+        "need",
+        "Print how much stack the program of the sources needs",
+    );
+    let with_need = add(planned, need);
+    add(
+        with_need,
+        files(
+            alloc,
+            "FILE",
+            "The object file, or with --need the files with the sources",
+        ),
+    )
+}
+
 // The program `plm`, which has to have a command.
 fn bare_command<'a>(alloc: Global) -> Built<'a>
     ensures { Builds bare_app result }
@@ -277,6 +303,6 @@ pub(crate) fn plm_command<'a>(alloc: Global) -> Result<Command<'a>, AllocError>
     ensures { Builds plm_app result }
 {
     let with_link = add_leaf(with_programs(alloc), link(alloc));
-    let with_locate = add_leaf(with_link, place(alloc, "locate", LOCATE));
+    let with_locate = add_leaf(with_link, locate(alloc));
     add_leaf(with_locate, place(alloc, "hex", HEX))
 }

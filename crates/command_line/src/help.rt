@@ -157,7 +157,7 @@ pub(crate) const LINK: Teaching = Teaching {
 };
 
 pub(crate) const LOCATE: Teaching = Teaching {
-    about: "Places an object file in memory, and prints where its parts lie",
+    about: "Prints where the parts of an object file lie in memory, or how much stack sources need",
     printed: PRINTED_BY_LOCATE,
 };
 
@@ -305,9 +305,14 @@ Prints addresses as four hexadecimal digits, and numbers of bytes in decimal one
   START aaaa        where the program starts
   PUBLIC name aaaa  a public name, in the order of the object
 
+With --need the files are the sources of a program, and it prints one line:
+  NEED n     with n bytes of stack, in decimal, the program never comes to OUTSIDE STACK
+  NEED NONE  its procedures may call each other in a circle, so no number is known to do
+The plan changes nothing then, and nothing is built.
+
 Exit status:
   0  all was printed, or help was asked for
-  1  the object or its place was refused, memory ran out, or a file can't be read
+  1  the object or its place or a source was refused, memory ran out, or a file can't be read
   2  the command line is wrong, or a value in it
 
 A refused object prints `number file 0` to standard error, a refused place `number - 0`, and a

@@ -8,7 +8,8 @@ mod reading;
 mod values;
 
 pub use orders::{
-    Action, CompileOrder, LinkOrder, Order, PlaceAction, PlaceOrder, PlanTexts, ProgramOrder,
+    Action, CompileOrder, LinkOrder, NeedOrder, Order, PlaceAction, PlaceOrder, PlanTexts,
+    ProgramOrder,
 };
 pub use plans::Plan;
 pub use reading::{LineFault, command};

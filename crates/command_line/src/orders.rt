@@ -77,6 +77,15 @@ pub struct PlaceOrder<'a> {
     pub plan: PlanTexts<'a>,
 }
 
+/// An order to tell how much of the stack the program of sources needs. Its plan has to be one, and changes nothing.
+#[derive(Drop)]
+pub struct NeedOrder<'a> {
+    /// The files of the sources, in their order.
+    pub files: Vec<&'a str>,
+    /// Where the parts of a program are to lie.
+    pub plan: PlanTexts<'a>,
+}
+
 /// What the command line asks for.
 #[derive(Drop)]
 pub enum Order<'a> {
@@ -88,4 +97,6 @@ pub enum Order<'a> {
     Link(LinkOrder<'a>),
     /// Place an object file in memory.
     Place(PlaceOrder<'a>),
+    /// Tell how much of the stack the program of sources needs.
+    Need(NeedOrder<'a>),
 }

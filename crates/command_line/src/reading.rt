@@ -6,16 +6,17 @@ ghost use Rattle.clap.specs.Walk.{texts};
 ghost use Rattle.clap.specs.Words.{all_of, fault_of, first_of, found_of, rows_of, subcommand_rows_of};
 ghost use Rattle.failure.specs.Failure.{IfFault};
 ghost use Rattle.command_line.specs.Command.{IsFaultOf, Orders, OrdersCompile, OrdersFiles, OrdersLink, OrdersMap};
-ghost use Rattle.command_line.specs.Command.{OrdersPlace, OrdersPlaceText, OrdersText};
-ghost use Rattle.command_line.specs.Command.{files_in, is_set, link_of, place_of, plan_in, plan_of};
+ghost use Rattle.command_line.specs.Command.{OrdersNeed, OrdersPlace, OrdersPlaceText, OrdersText};
+ghost use Rattle.command_line.specs.Command.{files_in, is_set, link_of, located_of, need_of, place_of, plan_in, plan_of};
 ghost use Rattle.command_line.specs.Command.{plm_app, program_of, text_of};
 ghost use Rattle.command_line.specs.Command.{wanted_in, wanted_of_match};
-ghost use Rattle.command_line.specs.Command.{compile_of, wants_compile, wants_link, wants_place, wants_program};
+ghost use Rattle.command_line.specs.Command.{compile_of, wants_compile, wants_link, wants_need, wants_place, wants_program};
 ghost use Rattle.command_line.specs.internal.Errors.{IsFailureFor};
 
 use crate::app::plm_command;
 use crate::orders::{
-    Action, CompileOrder, LinkOrder, Order, PlaceAction, PlaceOrder, PlanTexts, ProgramOrder,
+    Action, CompileOrder, LinkOrder, NeedOrder, Order, PlaceAction, PlaceOrder, PlanTexts,
+    ProgramOrder,
 };
 use clap::ArgMatches;
 use clap::error::ErrorKind;
@@ -160,6 +161,30 @@ fn place<'a>(
     })))
 }
 
+// The order to tell the need of sources, from the matches of its arguments.
+fn need<'a>(alloc: Global, matches: &ArgMatches<'a>) -> Result<Option<Order<'a>>, AllocError>
+    ensures { IfOk result (λ order. option_map wanted_in order
+        ≡ Some (wants_need (need_of (rows_of (found_of matches.now))))) }
+{
+    let files = files(alloc, matches)?;
+    Ok(Some(Order::Need(NeedOrder {
+        files,
+        plan: plan(matches),
+    })))
+}
+
+// The order for the command that tells where an object lies or, with its flag, the need of sources.
+fn locate<'a>(alloc: Global, matches: &ArgMatches<'a>) -> Result<Option<Order<'a>>, AllocError>
+    ensures { IfOk result (λ order. option_map wanted_in order
+        ≡ Some (located_of (rows_of (found_of matches.now)))) }
+{
+    if flag(matches, "need") {
+        need(alloc, matches)
+    } else {
+        place(alloc, PlaceAction::Locate, matches)
+    }
+}
+
 // The order for the command of a name, from the matches of its arguments.
 fn order_named<'a>(
     alloc: Global,
@@ -174,7 +199,7 @@ fn order_named<'a>(
         "run" => program(alloc, Action::Run, matches),
         "interpret" => program(alloc, Action::Interpret, matches),
         "link" => link(alloc, matches),
-        "locate" => place(alloc, PlaceAction::Locate, matches),
+        "locate" => locate(alloc, matches),
         "hex" => place(alloc, PlaceAction::Hex, matches),
         _ => Ok(None),
     }
@@ -212,6 +237,7 @@ pub fn command<'a>(alloc: Global, words: &'a [&'a str]) -> Result<Order<'a>, Fai
     ensures link { OrdersLink (texts words.entry.now) result }
     ensures place { OrdersPlace (texts words.entry.now) result }
     ensures place_option { OrdersPlaceText (texts words.entry.now) result }
+    ensures need { OrdersNeed (texts words.entry.now) result }
     ensures order { IfOk result (λ order. Orders (texts words.entry.now) order) }
     ensures some { IfOk result (λ order. 0 < length (files_in (wanted_in order))) }
     ensures ok { OnOk result (fault_of plm_app (texts words.entry.now) ≡ []) }

@@ -14,7 +14,7 @@ ghost use Rattle.command_line.specs.Settings.{plan_read};
 ghost use Rattle.command_line.specs.Settings.{values_read};
 ghost use Rattle.command_line.specs.internal.Reads.{Reads, ReadsFile, if_read, in_front};
 
-use crate::orders::{PlaceOrder, PlanTexts, ProgramOrder};
+use crate::orders::{NeedOrder, PlaceOrder, PlanTexts, ProgramOrder};
 use failure::Failure;
 use plans::Plan;
 use std::alloc::{AllocError, Global};
@@ -243,6 +243,16 @@ impl<'a> PlaceOrder<'a> {
             [_, second, ..] => Err(ValueFault { text: *second }),
             [] => Err(ValueFault { text: "" }),
         }
+    }
+}
+
+impl<'a> NeedOrder<'a> {
+    /// The plan, of which nothing is made. It answers U4 only where a text is none of its option's values, with the
+    /// first such text, in the order code, data, stack, stack size.
+    pub fn plan(&self) -> Result<Plan, ValueFault<'a>>
+        ensures { Reads (plan_read (plan_in self.now.plan)) result }
+    {
+        plan_of(&self.plan)
     }
 }
 

@@ -1,4 +1,5 @@
 pub mod OrdersKept
+pub mod NeedTold
 pub mod TextsTold
 pub mod Refused
 pub mod Compiled

@@ -7,7 +7,7 @@ use Rattle.answers.specs.Reading.{StopsAt}
 use Rattle.answers.specs.Refusals.{TellsRefusal}
 use Rattle.answers.specs.declared.endings.Ending.{Ending}
 use Rattle.answers.specs.declared.endings.Ending.TheVariants.{Done, Refused, WrongLine, Limit, Stopped, Outside}
-use Rattle.command_line.specs.Command.{Wanted, wants_compile, wants_link, wants_place, wants_program}
+use Rattle.command_line.specs.Command.{Wanted, wants_compile, wants_link, wants_need, wants_place, wants_program}
 use Rattle.command_line.specs.Settings.{only_file}
 use Rattle.object_commands.proofs.FilesWritten.{kept_others}
 use Rattle.commands.specs.Orders.{ChangesAsWanted, ChangesByWords, WritesAsWanted, WritesByWords, PrintsAsWanted, PrintsByWords, StopsAsWanted, StopsByWords, names_by_words, names_of}
@@ -18,6 +18,7 @@ kept_as_wanted (wants_compile compile) old new kept = kept_others old new compil
 kept_as_wanted (wants_program program) old new kept = kept
 kept_as_wanted (wants_link link) old new kept = kept_others old new link.out kept
 kept_as_wanted (wants_place place) old new kept = kept
+kept_as_wanted (wants_need need) old new kept = kept
 
 pub kept_by_words : (found : Option Wanted) (old new : Option Directory) → KeepsFiles old new → ChangesByWords found old new
 kept_by_words None old new kept = kept
@@ -36,6 +37,7 @@ stops_as_wanted (wants_compile compile) old new kept = inl kept
 stops_as_wanted (wants_program program) old new kept = kept
 stops_as_wanted (wants_link link) old new kept = inl kept
 stops_as_wanted (wants_place place) old new kept = kept
+stops_as_wanted (wants_need need) old new kept = kept
 
 pub kept_stops : (found : Option Wanted) (old new : Option Directory) → KeepsFiles old new → StopsByWords found old new
 kept_stops None old new kept = kept

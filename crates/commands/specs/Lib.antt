@@ -3,6 +3,8 @@ pub use Rattle.command_line.specs.Command
 pub use Rattle.command_line.specs.Settings
 pub use Rattle.object_commands.specs.Linking
 pub use Rattle.object_commands.specs.Placing
+pub use Rattle.need_command.specs.Printing
 pub mod Compiling
+pub mod Needing
 pub mod Orders
 pub mod internal

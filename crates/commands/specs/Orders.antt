@@ -5,13 +5,15 @@ use Rattle.clap.specs.declared.error.ErrorKind.{ErrorKind}
 use Rattle.clap.specs.declared.error.ErrorKind.TheVariants.{DisplayHelp, DisplayVersion}
 use Rattle.files.specs.Files.{Directory, KeepsFiles}
 use Rattle.answers.specs.Refusals.{Tells, refusal_line}
-use Rattle.command_line.specs.Command.{PlaceWanted, Wanted, wants_compile, wants_link, wants_place, wants_program}
+use Rattle.command_line.specs.Command.{PlaceWanted, Wanted, wants_compile, wants_link, wants_need, wants_place}
+use Rattle.command_line.specs.Command.{wants_program}
 use Rattle.command_line.specs.Settings.{Read, ◌>>=◌, only_file, plan_read, values_read}
 use Rattle.command_line.specs.declared.orders.PlaceAction.{PlaceAction}
 use Rattle.command_line.specs.declared.orders.PlaceAction.TheVariants.{Locate, Hex}
 use Rattle.object_commands.specs.Linking.{KeepsOthers, LinksFiles, StopsLinking}
 use Rattle.object_commands.specs.Placing.{PrintsHex, PrintsPlaces}
 use Rattle.commands.specs.Compiling.{CompilesFile, StopsCompiling}
+use Rattle.commands.specs.Needing.{PrintsNeedOf}
 use Rattle.plans.specs.declared.Plan.{Plan}
 
 -- an order to compile or to link changes no file but the one that it names, and others change none
@@ -20,6 +22,7 @@ ChangesAsWanted (wants_compile compile) old new = KeepsOthers old new compile.ob
 ChangesAsWanted (wants_link link) old new = KeepsOthers old new link.out
 ChangesAsWanted (wants_program program) old new = KeepsFiles old new
 ChangesAsWanted (wants_place place) old new = KeepsFiles old new
+ChangesAsWanted (wants_need need) old new = KeepsFiles old new
 
 -- the objects that an order to link names are merged in its file, and the source of an order to compile is compiled to its
 -- object
@@ -28,6 +31,7 @@ WritesAsWanted (wants_compile compile) old new = CompilesFile old new compile.so
 WritesAsWanted (wants_link link) old new = LinksFiles old new link.objects link.out
 WritesAsWanted (wants_program program) old new = Unit {0}
 WritesAsWanted (wants_place place) old new = Unit {0}
+WritesAsWanted (wants_need need) old new = Unit {0}
 
 -- where an order is not carried out, no file changes, but that of an order to compile or to link may have a beginning of
 -- its object
@@ -36,6 +40,7 @@ StopsAsWanted (wants_compile compile) old new = StopsCompiling old new compile.s
 StopsAsWanted (wants_link link) old new = StopsLinking old new link.objects link.out
 StopsAsWanted (wants_program program) old new = KeepsFiles old new
 StopsAsWanted (wants_place place) old new = KeepsFiles old new
+StopsAsWanted (wants_need need) old new = KeepsFiles old new
 
 -- what a command on an object file prints of the file of this name, placed by this plan
 abbrev pub PrintsPlaced :
@@ -52,9 +57,10 @@ pub record PrintsWanted (place : PlaceWanted) (files : Option Directory)
   pub planned : plan_read place.plan ≡ Ok plan
   pub printed : PrintsPlaced place.action files name plan old new
 
--- what an order on an object file prints; of other orders nothing is said
+-- what an order on an object file prints, and one that tells a need; of other orders nothing is said
 abbrev pub PrintsAsWanted : Wanted → Option Directory → (old new : Option (List ℕ)) → Type 0
 PrintsAsWanted (wants_place place) files old new = PrintsWanted place files old new
+PrintsAsWanted (wants_need need) files old new = PrintsNeedOf files need.files old new
 PrintsAsWanted (wants_compile compile) files old new = Unit {0}
 PrintsAsWanted (wants_link link) files old new = Unit {0}
 PrintsAsWanted (wants_program program) files old new = Unit {0}
@@ -65,6 +71,7 @@ names_of (wants_compile compile) = compile.source ∷ compile.object ∷ []
 names_of (wants_program program) = program.files
 names_of (wants_link link) = link.objects ++ link.out ∷ []
 names_of (wants_place place) = place.files
+names_of (wants_need need) = need.files
 
 -- the same of what words want; those that give no order change no file
 abbrev pub ChangesByWords : Option Wanted → Option Directory → Option Directory → Type 0
@@ -97,6 +104,7 @@ file_read place = plan_read place.plan >>= (λ plan. only_file place.files)
 abbrev pub RefusesText : Wanted → (text : List ℕ) → Type 0
 RefusesText (wants_program program) text = values_read program ≡ Err text
 RefusesText (wants_place place) text = file_read place ≡ Err text
+RefusesText (wants_need need) text = plan_read need.plan ≡ Err text
 RefusesText (wants_compile compile) text = ⊥
 RefusesText (wants_link link) text = ⊥
 

@@ -12,6 +12,7 @@ ghost use Rattle.commands.specs.internal.LineFaults.{IsWrong};
 use crate::compiling::compile_file;
 use crate::interpreting::interpret_sources;
 use crate::loading::sources_of;
+use crate::needing::tell_need;
 use crate::refusals::refuse_value;
 use crate::running::run_sources;
 use answers::{Ending, read_files, refuse_file, refuse_memory, refuse_write};
@@ -150,6 +151,7 @@ fn carry_out<F: Files, O: Write, E: Write>(
         Order::Program(program) => carry_out_program(alloc, program, files, out, err),
         Order::Link(link) => link_files(alloc, link.objects.as_slice(), link.out, files, err),
         Order::Place(place) => carry_out_place(alloc, place, files, out, err),
+        Order::Need(need) => tell_need(alloc, need, files, out, err),
     }
 }
 

@@ -6,6 +6,7 @@ mod console;
 mod interpreting;
 mod loading;
 mod map;
+mod needing;
 mod refusals;
 mod running;
 

@@ -1,20 +1,35 @@
 //! Sources and inputs of a command.
 
+ghost use Rattle.std.specs.Prelude.{◌≡◌, IfOk, map};
+ghost use Rattle.program_sources.specs.Programs.{texts_of};
+
 use command_line::InputByte;
 use ports::{PortFault, Script};
-use std::alloc::Global;
+use std::alloc::{AllocError, Global};
 use tool::Source;
+
+/// The name of the file of this number, or a dash.
+pub(crate) fn name_at<'a>(names: &[&'a str], number: usize) -> &'a str {
+    match names.get(number) {
+        Some(name) => *name,
+        None => "-",
+    }
+}
 
 /// Texts with the names of their files.
 pub(crate) fn sources_of<'a>(
     alloc: Global,
     names: &[&'a str],
     texts: &'a [Vec<u8>],
-) -> Result<Vec<Source<'a>>, std::alloc::AllocError> {
+) -> Result<Vec<Source<'a>>, AllocError>
+    ensures { IfOk result (λ sources.
+        texts_of sources.items ≡ map (λ text. text.items) texts.now) }
+{
     let mut sources = Vec::new(alloc);
-    for (name, text) in names.iter().zip(texts) {
+    for text in texts {
+        let name = name_at(names, sources.len());
         sources.push(Source {
-            name: *name,
+            name,
             text: text.as_slice(),
         })?;
     }

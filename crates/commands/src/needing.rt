@@ -1,0 +1,93 @@
+//! How much of the stack sources need.
+
+ghost use Rattle.std.specs.Prelude.{◌≡◌, ◌⊎◌};
+ghost use Rattle.answers.specs.Refusals.{TellsOther, TellsRefusal};
+ghost use Rattle.files.specs.Files.{KeepsFiles};
+ghost use Rattle.program_sources.specs.Programs.{texts_of};
+ghost use Rattle.command_line.specs.Command.{need_in, wants_need};
+ghost use Rattle.need_command.specs.Printing.{PrintsNeed};
+ghost use Rattle.commands.specs.Needing.{PrintsNeedOf};
+ghost use Rattle.commands.specs.Orders.{TellsText};
+
+use crate::loading::sources_of;
+use crate::refusals::refuse_value;
+use answers::{Ending, read_files, refuse_file, refuse_memory};
+use command_line::NeedOrder;
+use failure::Failure;
+use files::Files;
+use need_command::print_need;
+use std::alloc::Global;
+use std::io::Write;
+use tool::Source;
+
+/// Prints how much of the stack the program of the sources of an order needs, once the plan beside them is one.
+#[tactic(auto, using(answers::proofs::FilesRead::stays, crate::proofs::NeedTold::done_or_refused, crate::proofs::NeedTold::tells_plan))]
+pub(crate) fn tell_need<F: Files, O: Write, E: Write>(
+    alloc: Global,
+    order: &NeedOrder,
+    files: &mut F,
+    out: &mut O,
+    err: &mut E,
+) -> Ending
+    ensures unchanged { KeepsFiles (F.files files.old) (F.files files.new) }
+    ensures printed { result ≡ Ending.Done → PrintsNeedOf (F.files files.old) (need_in order.now).files
+        (O.contents out.old) (O.contents out.new) }
+    ensures refused_text { result ≡ Ending.WrongLine → TellsText (wants_need (need_in order.now))
+        (E.contents err.old) (E.contents err.new) }
+    ensures told { result ≡ Ending.Refused → TellsRefusal (F.files files.old) (need_in order.now).files
+        (F.failures files.old) (F.failures files.new) (E.contents err.old) (E.contents err.new) }
+    ensures count { (result ≡ Ending.Refused → ⊥) → F.failures files.new ≡ F.failures files.old }
+    ensures quiet { (result ≡ Ending.Refused → ⊥) → (result ≡ Ending.WrongLine → ⊥) →
+        E.contents err.new ≡ E.contents err.old }
+{
+    match order.plan() {
+        Ok(_) => tell_of_files(alloc, order, files, out, err),
+        Err(fault) => refuse_value(&fault, err),
+    }
+}
+
+// Reads the files of an order, and prints the need of the program of their sources.
+fn tell_of_files<F: Files, O: Write, E: Write>(
+    alloc: Global,
+    order: &NeedOrder,
+    files: &mut F,
+    out: &mut O,
+    err: &mut E,
+) -> Ending
+    ensures unchanged { KeepsFiles (F.files files.old) (F.files files.new) }
+    ensures printed { result ≡ Ending.Done → PrintsNeedOf (F.files files.old) (need_in order.now).files
+        (O.contents out.old) (O.contents out.new) }
+    ensures ending { (result ≡ Ending.Done) ⊎ (result ≡ Ending.Refused) }
+    ensures told { result ≡ Ending.Refused → TellsRefusal (F.files files.old) (need_in order.now).files
+        (F.failures files.old) (F.failures files.new) (E.contents err.old) (E.contents err.new) }
+    ensures count { (result ≡ Ending.Refused → ⊥) → F.failures files.new ≡ F.failures files.old }
+    ensures quiet { (result ≡ Ending.Refused → ⊥) → E.contents err.new ≡ E.contents err.old }
+{
+    let names = order.files.as_slice();
+    let texts = match read_files(alloc, names, files) {
+        Ok(texts) => texts,
+        Err(Failure::Fault((fault, name))) => return refuse_file(fault, name, err),
+        Err(Failure::Memory) => return refuse_memory(err),
+    };
+    match sources_of(alloc, names, texts.as_slice()) {
+        Ok(sources) => tell_of_sources(alloc, order, sources.as_slice(), out, err),
+        Err(_) => refuse_memory(err),
+    }
+}
+
+// Prints the need of the program of the sources of an order.
+fn tell_of_sources<O: Write, E: Write>(
+    alloc: Global,
+    order: &NeedOrder,
+    sources: &[Source],
+    out: &mut O,
+    err: &mut E,
+) -> Ending
+    ensures printed { result ≡ Ending.Done → PrintsNeed (texts_of sources.now)
+        (O.contents out.old) (O.contents out.new) }
+    ensures ending { (result ≡ Ending.Done) ⊎ (result ≡ Ending.Refused) }
+    ensures told { result ≡ Ending.Refused → TellsOther (E.contents err.old) (E.contents err.new) }
+    ensures quiet { (result ≡ Ending.Refused → ⊥) → E.contents err.new ≡ E.contents err.old }
+{
+    print_need(alloc, order.files.as_slice(), sources, out, err)
+}

@@ -1,0 +1,2 @@
+pub mod NeedsPrinted
+pub mod Refused
