@@ -149,6 +149,12 @@ module _ (limit : ℕ) (start : Machine) where
       subst (λ (s : State). IsBeginning (state_after start.script k start.state).events s.events) (sym same)
       (run_adds start.script (limit - k) (state_after start.script k start.state))
 
+  -- each machine has a run of at most so many steps
+  pub some_run : (why : End) × ((machine : Machine) × IsRun limit start why machine)
+  some_run =
+      let last = runs_to_end (state_after start.script limit start.state).status refl in
+      (last.0, (machine_at_end, last.1))
+
   -- the lines of the events of the first steps were begun
   pub begins_at : (a b : Option (List ℕ)) (k : ℕ) (here : Machine) → k ≤ limit → here.state ≡ state_after start.script k start.state → AppendsBeginning a b (flat_map line_of here.state.events)
       → BeginsRun limit start a b

@@ -15,9 +15,10 @@ end_word Illegal = codes "ILLEGAL"
 end_word PortFault = codes "PORT"
 end_word Limit = codes "LIMIT"
 
--- a run of at most so many steps ended so, and the lines of its events and the word of its end were printed
-pub record PrintsRun (limit : ℕ) (start : Machine) (end : End) (old new : Option (List ℕ)) : Type 0 where
-  pub machine : Machine
+-- a run of at most so many steps ended so at this machine, and the lines of its events and the word of its end
+-- were printed
+pub record PrintsRun (limit : ℕ) (start : Machine) (end : End) (machine : Machine) (old new : Option (List ℕ)) :
+    Type 0 where
   pub run : IsRun limit start end machine
   pub printed : Appends old new (report_of machine.state.events (end_word end))
 

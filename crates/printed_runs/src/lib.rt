@@ -98,7 +98,7 @@ pub fn print_machine<W: Write>(
     out: &mut W,
 ) -> Result<End, Failure<WriteFault>>
     ensures ok { IfOk result (λ end.
-        PrintsRun limit machine.old end (W.contents out.old) (W.contents out.new)) }
+        PrintsRun limit machine.old end machine.new (W.contents out.old) (W.contents out.new)) }
     ensures err { OnErr result
         (BeginsRun limit machine.old (W.contents out.old) (W.contents out.new)) }
 {

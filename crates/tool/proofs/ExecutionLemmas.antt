@@ -1,7 +1,7 @@
 -- What a run of the machine says of its source.
 use Rattle.std.proofs.Common.{◌≡◌, ℕ, ◌+◌, ◌-◌, ◌≤◌, List, sym, ap, ◌∙◌, subst, arith, ⊎_elim}
 use Rattle.std.proofs.lemmas.Bool.{cases_lt}
-use Rattle.std.proofs.Common.{Option, Result, Ok, Err, IfOk}
+use Rattle.std.proofs.Common.{Option}
 use Rattle.std.specs.Io.KnownBytes.{Appends}
 use Rattle.report.specs.Report.{report_of}
 use Rattle.printed_runs.specs.Printing.{PrintsRun, end_word}
@@ -69,9 +69,10 @@ module _ (image : Absolute) (memory : List ℕ) (script : List (List ℕ)) (even
 -- what is printed of a run that halted is what the source does
 pub prints_ended : (image : Absolute) (memory : List ℕ) (script : List (List ℕ)) (events : List Event) (failures : ℕ) (source : ℕ → Run)
     → Agrees source (machine_run image memory script events)
-    → (limit : ℕ) (why : End) (old new : Option (List ℕ)) → why ≡ end.Halted → PrintsRun limit (started image memory script events failures) why old new → PrintsEnded source old new
-prints_ended image memory script events failures source agrees limit why old new halted prints =
-    let faithful = is_faithful image memory script events failures source agrees limit why prints.machine prints.run in
+    → (limit : ℕ) (why : End) (machine : Machine) (old new : Option (List ℕ)) → why ≡ end.Halted
+    → PrintsRun limit (started image memory script events failures) why machine old new → PrintsEnded source old new
+prints_ended image memory script events failures source agrees limit why machine old new halted prints =
+    let faithful = is_faithful image memory script events failures source agrees limit why machine prints.run in
     let found = faithful.ended halted in
     record {
       budget = found.0;
@@ -79,11 +80,3 @@ prints_ended image memory script events failures source agrees limit why old new
       printed = subst (λ word. Appends old new (report_of (source found.0).events word)) (ap end_word halted)
           (subst (λ es. Appends old new (report_of es (end_word why))) (sym found.2) prints.printed);
     }
-
-pub prints_ended_if : (image : Absolute) (memory : List ℕ) (script : List (List ℕ)) (events : List Event) (failures : ℕ) (source : ℕ → Run)
-    → Agrees source (machine_run image memory script events)
-    → (limit : ℕ) (old new : Option (List ℕ)) {E : Type 0} (result : Result End E) → IfOk result (λ why. PrintsRun limit (started image memory script events failures) why old new)
-    → IfOk result (λ why. why ≡ end.Halted → PrintsEnded source old new)
-prints_ended_if image memory script events failures source agrees limit old new (Ok why) prints =
-    λ halted. prints_ended image memory script events failures source agrees limit why old new halted prints
-prints_ended_if image memory script events failures source agrees limit old new (Err fault) prints = tt

@@ -54,6 +54,7 @@ pub fn execute<P: Ports>(built: &Built, memory: Memory, ports: P, limit: u64) ->
 
 /// Loads the image of a program into a memory, and runs it on an 8080 with this script for at most so many steps. It
 /// writes a line for each event, those of some steps at a time while it runs, and then the word that the run ends with.
+/// The answer is how the run ended, and the machine at its end: a port failed just where that machine has counted it.
 /// After a failure the writer has a beginning of that text. Where the program never goes outside, what is
 /// written of a machine that halted is just what a source that ended does.
 pub fn print_run<W: Write>(
@@ -62,18 +63,19 @@ pub fn print_run<W: Write>(
     script: Script,
     limit: u64,
     out: &mut W,
-) -> Result<End, Failure<WriteFault>>
-    ensures ok { IfOk result (λ end. PrintsRun limit
+) -> Result<(End, Machine<Script>), Failure<WriteFault>>
+    ensures ok { IfOk result (λ ran. PrintsRun limit
         (started built.now.image memory script.script script.events script.failures)
-        end (W.contents out.old) (W.contents out.new)) }
+        ran.0 ran.1 (W.contents out.old) (W.contents out.new)) }
     ensures err { OnErr result (BeginsRun limit
         (started built.now.image memory script.script script.events script.failures)
         (W.contents out.old) (W.contents out.new)) }
     ensures faithful { let source = source_of built.now memory script.script script.events in
         NeverOutside source
-        → IfOk result (λ end. end ≡ End.Halted
+        → IfOk result (λ ran. ran.0 ≡ End.Halted
         → PrintsEnded source (W.contents out.old) (W.contents out.new)) }
 {
     let mut machine = machine_of(built, memory, script);
-    print_machine(&mut machine, limit, out)
+    let end = print_machine(&mut machine, limit, out)?;
+    Ok((end, machine))
 }
