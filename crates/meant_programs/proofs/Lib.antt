@@ -4,3 +4,5 @@ pub mod Mains
 pub mod Leaving
 pub mod Frames
 pub mod Changes
+pub mod References
+pub mod Bytes
