@@ -1,6 +1,6 @@
 -- The bytes that parts of a program read and change are there: in memory, and in the frames of calls.
-use Rattle.std.proofs.Common.{◌≡◌, ◌≢◌, ℕ, zero, suc, ◌+◌, ◌*◌, ◌%◌, ◌<◌, ◌≤◌, ◌==◌, ◌&&◌, Bool, true, false, List, [], ◌∷◌, length, map, replicate, cond, slice_get, slice_index, nat_lt, Option, Some, None, IsSomeAnd, if◌then◌else◌, refl, sym, ap, subst, ◌∙◌, arith, one-mul}
-use Rattle.std.specs.Prelude.{All, option_map}
+use Rattle.std.proofs.Common.{◌≡◌, ◌≢◌, ℕ, zero, suc, ◌+◌, ◌*◌, ◌%◌, ◌<◌, ◌≤◌, ◌&&◌, Bool, true, false, List, [], ◌∷◌, length, map, replicate, cond, slice_get, slice_index, Option, Some, None, IsSomeAnd, if◌then◌else◌, refl, sym, ap, subst, ◌∙◌, arith, one-mul}
+use Rattle.std.specs.Prelude.{option_map}
 use Rattle.std.proofs.lemmas.Bool.{eq-eqb, ltb-true}
 use Rattle.std.proofs.lemmas.List.{length-replicate}
 use Rattle.std.proofs.lemmas.List.Elements.{All-weaker}
@@ -10,7 +10,7 @@ use Rattle.trees.specs.declared.declaration.ScalarType.{ScalarType}
 use Rattle.trees.specs.declared.declaration.ScalarType.TheVariants.{Address}
 use Rattle.typed_trees.specs.declared.parts.Visibility.{Visibility}
 use Rattle.typed_trees.specs.declared.parts.Visibility.TheVariants as visibilities
-use Rattle.typed_trees.specs.Frames.{AreParameters, IsParameter, home_of_parameters}
+use Rattle.typed_trees.specs.Frames.{AreParameters, home_of_parameters}
 use Rattle.typed_trees.specs.ObjectParts.{IsScalar, IsScalarOf}
 use Rattle.typed_trees.specs.Sizes.{count_of, size_of_element, size_of_object, size_of_scalar}
 use Rattle.typed_trees.specs.Storable.{IsStorable}
@@ -20,7 +20,7 @@ use Rattle.typed_trees.proofs.Inside.{LiesAt, scalar_lies_within}
 use Rattle.sound_modules.specs.Sound.{IsSoundlyTyped}
 use Rattle.layout.specs.StartingMemory.{starting_memory}
 use Rattle.layout.proofs.StartingBytes.{starts_as}
-use Rattle.meaning.specs.Access.{Place, InMemory, InTheFrame, Surroundings, address_of, frame_bytes, home_of, place_in, place_of, read_scalar}
+use Rattle.meaning.specs.Access.{Place, InMemory, Surroundings, address_of, frame_bytes, home_of, place_in, place_of, read_scalar}
 use Rattle.meaning.specs.Meaning.{Displacement, Later, based_place, displaced, displacement, done, done_list, frame_of, is_frame_of, later_by, located, parameters_set, stored, value, values}
 use Rattle.meaning.specs.Outcomes.{Program, State, Outcome, Gave, Stopped, then_do}
 use Rattle.meaning.specs.internal.Kept.{Continues, Extra, Keeps, jump_took, nothing_else}

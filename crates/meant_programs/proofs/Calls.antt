@@ -20,7 +20,7 @@ use Rattle.layout.proofs.Meant.{MeansProcedure, external_procedure_meant, proced
 use Rattle.meaning.specs.Access.{Place, InMemory, Surroundings, home_of, place_of, read_scalar}
 use Rattle.meaning.specs.Meaning.{Later, based_place, callee_in, displacement, located, procedure_at, value, values}
 use Rattle.meaning.specs.Outcomes.{Program, State, Outcome, Gave, Stopped, then_do}
-use Rattle.meant_programs.specs.Meant.{CalleeIsMeant, CallIsMeant, GivesInMemory, GivesSoMany, IsCallee, IsInMemory, IsWhole}
+use Rattle.meant_programs.specs.Meant.{CalleeIsMeant, CallIsMeant, GivesInMemory, GivesSoMany, IsCallee, IsWhole}
 use Rattle.meant_programs.proofs.Names.{globals_listed, home_there, of_module}
 
 -- the parameters of a procedure of a module

@@ -6,3 +6,4 @@ pub mod Frames
 pub mod Changes
 pub mod References
 pub mod Bytes
+pub mod Named

@@ -1,5 +1,5 @@
--- What there is for the names and the places of a program, of which the meaning has cases where they are not
--- there: modules, objects, bases, constant lists, callees, parameters, and bytes of memory and of frames. And how
+-- What there is for the names and the places of a program, for which the meaning has cases where they are not
+-- there: modules, objects, bases, constant lists, callees, parameters, and bytes of memory and of frames. How
 -- bodies are left, and which bytes change.
 use Rattle.std.specs.Prelude.{◌≡◌, ◌≢◌, ℕ, ◌+◌, ◌<◌, ◌≤◌, true, List, [], ◌∷◌, length, All, Some, IsSomeAnd, find, slice_get}
 use Rattle.mem80.specs.declared.memory.TheConstants.{MEMORY_SIZE}
@@ -55,8 +55,10 @@ ListIsPlaced program number_of_module list =
 abbrev pub LiesThere : Program → (number_of_module : ℕ) → TypedModule → Within → (object : ℕ) → Home → Type 0
 LiesThere program number_of_module typed within object (BasedOn base) = ⊥
 LiesThere program number_of_module typed within object Nowhere = ⊥
-LiesThere program number_of_module typed within object (InFrame procedure) = LiesFor within (InFrame procedure)
-LiesThere program number_of_module typed within object home = ObjectIsMeant program number_of_module typed object
+LiesThere program number_of_module typed within object (InFrame procedure) =
+    LiesFor within (InFrame procedure)
+LiesThere program number_of_module typed within object home =
+    ObjectIsMeant program number_of_module typed object
 
 -- an object of a number is there, and lies so
 abbrev pub VariableIsMeant : Program → (number_of_module : ℕ) → TypedModule → Within → (object : ℕ) → Type 0
@@ -72,16 +74,17 @@ IsNamed program number_of_module typed within object home =
     LiesThere program number_of_module typed within object home
 
 -- the object of a reference is there, and it or its base lies so
-abbrev pub ReferenceIsMeant : Program → (number_of_module : ℕ) → TypedModule → Within → TypedReference → Type 0
-ReferenceIsMeant program number_of_module typed within (PartOf object subscript member offset member_subscript) =
+abbrev pub ReferenceIsMeant :
+    Program → (number_of_module : ℕ) → TypedModule → Within → TypedReference → Type 0
+ReferenceIsMeant program number typed within (PartOf object subscript member offset member_subscript) =
     IsSomeAnd (slice_get typed.objects object)
-    (λ (found : TypedObject). IsNamed program number_of_module typed within object found.home)
+    (λ (found : TypedObject). IsNamed program number typed within object found.home)
 
--- What is called by a heading: a procedure of the module and the number that are said, which has its body there and
--- the same result and types of parameters, and an object for each parameter: a scalar of its type, in the frame or
--- among the variables of the module.
-pub record IsCallee (modules : List TypedModule) (heading : TypedProcedure) (at : InProgram) (typed : TypedModule)
-    (procedure : TypedProcedure) : Type 0 where
+-- What is called by a heading: a procedure of the module and the number that are said, which is not EXTERNAL,
+-- has the same result and types of parameters, and an object for each parameter: a scalar of its type, in the
+-- frame or among the variables of the module.
+pub record IsCallee (modules : List TypedModule) (heading : TypedProcedure) (at : InProgram)
+    (typed : TypedModule) (procedure : TypedProcedure) : Type 0 where
   pub its_module : slice_get modules at.number_of_module ≡ Some typed
   pub its_procedure : slice_get typed.procedures at.number ≡ Some procedure
   pub own : procedure.visibility ≢ External
@@ -118,7 +121,8 @@ abbrev pub GivesInMemory : Outcome Place → Type 0
 GivesInMemory (Gave place t) = IsInMemory place
 GivesInMemory (Stopped why t) = Unit {0}
 
--- A state that has each byte of memory, and in its frame all bytes of each object that a part of a module has there.
+-- A state that has each byte of memory, and in its frame all bytes of each object that a part of a module has
+-- there.
 pub record HasBytes (typed : TypedModule) (within : Within) (s : State) : Type 0 where
   pub memory : length s.memory ≡ MEMORY_SIZE
   pub frame : (object procedure : ℕ) (found : TypedObject) → slice_get typed.objects object ≡ Some found
@@ -140,7 +144,8 @@ IsThere size (InTheFrame object offset is_inside) s =
 -- each parameter has its bytes there
 abbrev pub ParametersAreThere : Surroundings → List ScalarType → (parameters : List ℕ) → State → Type 0
 ParametersAreThere around (scalar ∷ scalars) (parameter ∷ parameters) s =
-    IsThere (size_of_scalar scalar) (place_of around parameter) s × ParametersAreThere around scalars parameters s
+    IsThere (size_of_scalar scalar) (place_of around parameter) s
+    × ParametersAreThere around scalars parameters s
 ParametersAreThere around [] [] s = Unit {0}
 ParametersAreThere around scalars parameters s = ⊥
 
@@ -154,7 +159,8 @@ abbrev pub LeavesFrame : List (List ℕ) → Outcome ℕ → Type 0
 LeavesFrame frame (Gave found t) = t.frame ≡ frame
 LeavesFrame frame (Stopped why t) = Unit {0}
 
--- how a procedure is left, and how the main program is: neither by a jump, and the main program only at its end
+-- how a procedure is left, and how the main program is: neither by a jump, and the main program only at its
+-- end
 abbrev pub LeavesProcedure : Flow → Type 0
 LeavesProcedure (Jumped label) = ⊥
 LeavesProcedure flow = Unit {0}
