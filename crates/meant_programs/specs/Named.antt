@@ -1,7 +1,7 @@
 -- What the statements and expressions of a module name is there in a program: each object of a reference, and
 -- the object that it is BASED on, each variable of an iterative DO, each constant list, and what each call
 -- stands for.
-use Rattle.std.specs.Prelude.{ℕ, List, [], ◌∷◌, Option, IfSome, All}
+use Rattle.std.specs.Prelude.{ℕ, List, [], ◌∷◌, IfSome, All}
 use Rattle.std.specs.List.{enumerate_from}
 use Rattle.typed_trees.specs.TypedTrees.{TypedExpression, NumberNode, ValueNode, LocationNode, ListNode, ConversionNode, AssignmentNode, UnaryNode, BinaryNode, CallNode, FunctionNode, ShiftNode, InputNode, TypedReference, PartOf, Subscript, NoSubscript, At, TypedTarget, StoredIn, SentTo, TypedArguments, NoArguments, MoreArguments, TypedIteration, TypedStatement, LabelStatement, NullStatement, AssignmentStatement, CallStatement, MoveStatement, ReturnStatement, HaltStatement, GotoStatement, IfStatement, DoStatement, WhileStatement, IterateStatement, CaseStatement, TypedElse, NoElse, ElseStatement, TypedStatements, NoStatements, MoreStatements, TypedList, ListOf, TypedProcedure, TypedModule}
 use Rattle.typed_trees.specs.WellTyped.{Within, WithinProcedure, WithinMain}
