@@ -14,10 +14,11 @@ use Rattle.typed_trees.specs.Frames.{AreParameters, home_of_parameters}
 use Rattle.typed_trees.specs.ObjectParts.{IsScalar, IsScalarOf}
 use Rattle.typed_trees.specs.Sizes.{count_of, size_of_element, size_of_object, size_of_scalar}
 use Rattle.typed_trees.specs.Storable.{IsStorable}
-use Rattle.typed_trees.specs.TypedTrees.{TypedExpression, TypedArguments, TypedReference, PartOf, Subscript, NoSubscript, At, TypedTarget, TypedIteration, TypedStatement, TypedList, Home, InData, InConstants, Placed, BasedOn, Elsewhere, Nowhere, InFrame, ObjectType, TypedObject, TypedModule}
+use Rattle.typed_trees.specs.TypedTrees.{TypedExpression, TypedArguments, TypedReference, PartOf, Subscript, NoSubscript, At, TypedTarget, TypedIteration, TypedStatement, TypedList, Home, InData, InConstants, Placed, BasedOn, Elsewhere, Nowhere, InFrame, ObjectType, TypedObject, TypedProcedure, TypedModule}
 use Rattle.typed_trees.specs.WellTyped.{Within, WithinProcedure, WithinMain, LiesFor, IsSeen, RefersToScalar, Counts}
 use Rattle.typed_trees.proofs.Inside.{LiesAt, scalar_lies_within}
 use Rattle.sound_modules.specs.Sound.{IsSoundlyTyped}
+use Rattle.layout.specs.Joined.{InProgram}
 use Rattle.layout.specs.StartingMemory.{starting_memory}
 use Rattle.layout.proofs.StartingBytes.{starts_as}
 use Rattle.meaning.specs.Access.{Place, InMemory, Surroundings, address_of, frame_bytes, home_of, place_in, place_of, read_scalar}
@@ -28,7 +29,7 @@ use Rattle.meaning.proofs.Kept.{reads_scalar}
 use Rattle.meaning.proofs.KeptCalls.{later_keeps, sets_parameters}
 use Rattle.meaning.proofs.KeptParts.{displacement_keeps, located_keeps, stored_keeps, value_keeps, values_keep}
 use Rattle.meaning.proofs.KeptStatements.{list_keeps, statement_keeps}
-use Rattle.meant_programs.specs.Meant.{GivesBytes, HasBytes, IsThere, IsWhole, LeavesBytes, ParametersAreThere}
+use Rattle.meant_programs.specs.Meant.{GivesBytes, HasBytes, IsCallee, IsThere, IsWhole, LeavesBytes, ParametersAreThere}
 use Rattle.meant_programs.proofs.Names.{home_there}
 
 -- A call begins with a frame that has all bytes of each object that its procedure has in its frames.
@@ -229,6 +230,24 @@ parameters_are_there around typed number result is_reentrant visibility (scalar 
         variable_is_there around typed (WithinProcedure number result) here scalar parameter found s is its.0
         (subst (λ (home : Home). LiesFor (WithinProcedure number result) home) (sym its.1)
         (lies is_reentrant visibility own)) has
+
+-- What is called begins with all bytes of its frame, those of its parameters among them.
+pub callee_has_bytes : (around : Surroundings) (heading : TypedProcedure) (at : InProgram) (typed : TypedModule)
+    (procedure : TypedProcedure) (s : State)
+    → IsCallee around.program.modules heading at typed procedure
+    → around.number_of_module ≡ at.number_of_module
+    → length s.memory ≡ MEMORY_SIZE
+    → HasBytes typed (WithinProcedure at.number procedure.result) (record s { frame = frame_of at.number typed })
+    × ParametersAreThere around procedure.parameter_types procedure.parameters
+    (record s { frame = frame_of at.number typed })
+callee_has_bytes around heading at typed procedure s callee is_module size =
+    let has = new_frame_has_bytes typed at.number procedure.result s size in
+    let here : slice_get around.program.modules around.number_of_module ≡ Some typed =
+    ap (λ (number : ℕ). slice_get around.program.modules number) is_module ∙ callee.its_module in
+    (has,
+    parameters_are_there around typed at.number procedure.result procedure.is_reentrant procedure.visibility
+    procedure.parameter_types procedure.parameters (record s { frame = frame_of at.number typed }) here callee.own
+    callee.parameters has)
 
 -- where its subscript is below the dimension, a displacement is that of an element
 abbrev LiesInside : Subscript → Displacement → Type 0

@@ -198,16 +198,19 @@ pub call_is_meant : (around : Surroundings) → IsWhole around.program
     → (typed : TypedModule) (procedure : ℕ) (result : Option ScalarType) (arguments : TypedArguments)
     → slice_get around.program.modules around.number_of_module ≡ Some typed
     → Takes typed procedure result arguments
-    → CallIsMeant around typed procedure
+    → CallIsMeant around typed procedure result arguments
 call_is_meant around whole typed procedure result arguments here takes =
     by (slice_get typed.procedures procedure) refl takes
   where
     by : (entry : Option TypedProcedure) → slice_get typed.procedures procedure ≡ entry
         → IsSomeAnd entry
         (λ (found : TypedProcedure). (found.result ≡ result) × (found.parameter_types ≡ types_of arguments))
-        → IsSomeAnd entry (CalleeIsMeant around procedure)
+        → IsSomeAnd entry
+        (λ (heading : TypedProcedure). (heading.result ≡ result) × (heading.parameter_types ≡ types_of arguments)
+        × CalleeIsMeant around procedure heading)
     by None is takes = absurd takes
-    by (Some heading) is takes = callee_is_meant around whole typed procedure heading here is
+    by (Some heading) is takes =
+        (takes.0, takes.1, callee_is_meant around whole typed procedure heading here is)
 
 many_then : {A : Type 0} (count : ℕ) (outcome : Outcome A) (go : A → State → Outcome (List ℕ))
     → ((found : A) (t : State) → GivesSoMany count (go found t)) → GivesSoMany count (then_do outcome go)

@@ -1,15 +1,15 @@
 -- What there is for the names and the places of a program, for which the meaning has cases where they are not
 -- there: modules, objects, bases, constant lists, callees, parameters, and bytes of memory and of frames. How
 -- bodies are left, and which bytes change.
-use Rattle.std.specs.Prelude.{◌≡◌, ◌≢◌, ℕ, ◌+◌, ◌<◌, ◌≤◌, true, List, [], ◌∷◌, length, All, Some, IsSomeAnd, find, slice_get}
+use Rattle.std.specs.Prelude.{◌≡◌, ◌≢◌, ℕ, ◌+◌, ◌<◌, ◌≤◌, true, List, [], ◌∷◌, length, All, Option, Some, IsSomeAnd, find, slice_get}
 use Rattle.mem80.specs.declared.memory.TheConstants.{MEMORY_SIZE}
 use Rattle.mem80.specs.Memory.{byte_at}
 use Rattle.trees.specs.declared.declaration.ScalarType.{ScalarType}
 use Rattle.typed_trees.specs.declared.parts.Visibility.TheVariants.{External}
 use Rattle.typed_trees.specs.Frames.{AreParameters, home_of_parameters}
 use Rattle.typed_trees.specs.Sizes.{size_of_object, size_of_scalar}
-use Rattle.typed_trees.specs.TypedTrees.{TypedReference, PartOf, Home, BasedOn, Nowhere, InFrame, TypedObject, TypedProcedure, TypedModule}
-use Rattle.typed_trees.specs.WellTyped.{Within, LiesFor}
+use Rattle.typed_trees.specs.TypedTrees.{TypedArguments, TypedReference, PartOf, Home, BasedOn, Nowhere, InFrame, TypedObject, TypedProcedure, TypedModule}
+use Rattle.typed_trees.specs.WellTyped.{Within, LiesFor, types_of}
 use Rattle.sound_modules.specs.Sound.{IsSoundlyTyped}
 use Rattle.layout.specs.Joined.{InProgram, IsJoined, is_main}
 use Rattle.layout.specs.Lawful.{IsLawful}
@@ -50,7 +50,7 @@ ListIsPlaced program number_of_module list =
     IsSomeAnd (slice_get program.placement.modules number_of_module)
     (λ (placed : ModulePlacement). list < length placed.lists)
 
--- an object with this home that a part of a module reads and changes where it lies: it stands for one that is
+-- an object with this home that a part of a module reads or changes where it lies: it stands for one that is
 -- placed, or it is in the frame of the procedure that the part stands in
 abbrev pub LiesThere : Program → (number_of_module : ℕ) → TypedModule → Within → (object : ℕ) → Home → Type 0
 LiesThere program number_of_module typed within object (BasedOn base) = ⊥
@@ -101,10 +101,14 @@ CalleeIsMeant around procedure heading =
     (λ (at : InProgram). IsSomeAnd (procedure_at around.program.modules at)
     (λ (found : TypedModule × TypedProcedure). IsCallee around.program.modules heading at found.0 found.1))
 
--- the heading of a procedure that a module calls is there, and what it stands for
-abbrev pub CallIsMeant : Surroundings → TypedModule → (procedure : ℕ) → Type 0
-CallIsMeant around typed procedure =
-    IsSomeAnd (slice_get typed.procedures procedure) (CalleeIsMeant around procedure)
+-- what a part of a module calls for a result with arguments is there: a heading with this result and parameters
+-- of the types of the arguments, and what it stands for
+abbrev pub CallIsMeant :
+    Surroundings → TypedModule → (procedure : ℕ) → Option ScalarType → TypedArguments → Type 0
+CallIsMeant around typed procedure result arguments =
+    IsSomeAnd (slice_get typed.procedures procedure)
+    (λ (heading : TypedProcedure). (heading.result ≡ result) × (heading.parameter_types ≡ types_of arguments)
+    × CalleeIsMeant around procedure heading)
 
 -- as many values are given
 abbrev pub GivesSoMany : ℕ → Outcome (List ℕ) → Type 0
@@ -134,7 +138,7 @@ abbrev pub LeavesBytes : {A : Type 0} → TypedModule → Within → Outcome A �
 LeavesBytes typed within (Gave found t) = HasBytes typed within t
 LeavesBytes typed within (Stopped why t) = Unit {0}
 
--- So many bytes from a place on are there in a state: in memory each address is, and in a frame, where each
+-- So many bytes from a place on are there in a state: in memory all addresses are, and in a frame, where each
 -- subscript is below its dimension, so many bytes of the object are.
 abbrev pub IsThere : (size : ℕ) → Place → State → Type 0
 IsThere size (InMemory address) s = (address < MEMORY_SIZE) × (length s.memory ≡ MEMORY_SIZE)

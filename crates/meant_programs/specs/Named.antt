@@ -1,7 +1,7 @@
 -- What the statements and expressions of a module name is there in a program: each object of a reference, and
 -- the object that it is BASED on, each variable of an iterative DO, each constant list, and what each call
 -- stands for.
-use Rattle.std.specs.Prelude.{ℕ, List, [], ◌∷◌, IfSome, All}
+use Rattle.std.specs.Prelude.{ℕ, List, [], ◌∷◌, IfSome, All, Some, None}
 use Rattle.std.specs.List.{enumerate_from}
 use Rattle.typed_trees.specs.TypedTrees.{TypedExpression, NumberNode, ValueNode, LocationNode, ListNode, ConversionNode, AssignmentNode, UnaryNode, BinaryNode, CallNode, FunctionNode, ShiftNode, InputNode, TypedReference, PartOf, Subscript, NoSubscript, At, TypedTarget, StoredIn, SentTo, TypedArguments, NoArguments, MoreArguments, TypedIteration, TypedStatement, LabelStatement, NullStatement, AssignmentStatement, CallStatement, MoveStatement, ReturnStatement, HaltStatement, GotoStatement, IfStatement, DoStatement, WhileStatement, IterateStatement, CaseStatement, TypedElse, NoElse, ElseStatement, TypedStatements, NoStatements, MoreStatements, TypedList, ListOf, TypedProcedure, TypedModule}
 use Rattle.typed_trees.specs.WellTyped.{Within, WithinProcedure, WithinMain}
@@ -23,7 +23,7 @@ abbrev mutual
   AreNamed around typed within (BinaryNode operands operator left right) =
       AreNamed around typed within left × AreNamed around typed within right
   AreNamed around typed within (CallNode procedure scalar values) =
-      CallIsMeant around typed procedure × AreNamedInArguments around typed within values
+      CallIsMeant around typed procedure (Some scalar) values × AreNamedInArguments around typed within values
   AreNamed around typed within (FunctionNode function operand) = AreNamed around typed within operand
   AreNamed around typed within (ShiftNode scalar function value count) =
       AreNamed around typed within value × AreNamed around typed within count
@@ -69,7 +69,7 @@ abbrev mutual
   AreNamedIn around typed within (AssignmentStatement targets value) =
       AreNamed around typed within value × AreNamedInTargets around typed within targets
   AreNamedIn around typed within (CallStatement procedure values) =
-      CallIsMeant around typed procedure × AreNamedInArguments around typed within values
+      CallIsMeant around typed procedure None values × AreNamedInArguments around typed within values
   AreNamedIn around typed within (MoveStatement count source destination) =
       AreNamed around typed within count × AreNamed around typed within source
       × AreNamed around typed within destination
