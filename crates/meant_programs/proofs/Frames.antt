@@ -12,11 +12,7 @@ use Rattle.meaning.specs.declared.reason.Reason.TheVariants.{Stack}
 use Rattle.meaning.specs.Access.{Surroundings}
 use Rattle.meaning.specs.Meaning.{Later, called, charged, done_list, entered, frame_of, is_frame_of, parameters_set, procedure_at}
 use Rattle.meaning.specs.Outcomes.{State, Outside, Outcome, Gave, Stopped, then_do}
-
--- what was given left this frame
-abbrev pub LeavesFrame : List (List ℕ) → Outcome ℕ → Type 0
-LeavesFrame frame (Gave found t) = t.frame ≡ frame
-LeavesFrame frame (Stopped why t) = Unit {0}
+use Rattle.meant_programs.specs.Meant.{LeavesFrame}
 
 frame_then : {A : Type 0} (frame : List (List ℕ)) (outcome : Outcome A) (go : A → State → Outcome ℕ)
     → ((found : A) (t : State) → LeavesFrame frame (go found t)) → LeavesFrame frame (then_do outcome go)

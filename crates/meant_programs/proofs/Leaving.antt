@@ -10,13 +10,8 @@ use Rattle.meaning.specs.Meaning.{Later, Turn, WhileTurn, IterateTurn, after_tur
 use Rattle.meaning.specs.Outcomes.{State, Outcome, Gave, Stopped, then_do, taking_one, Flow, Onward, Returned, Jumped}
 use Rattle.meaning.specs.internal.Kept.{body_of_turn}
 use Rattle.meaning.proofs.Staying.{Stays, body_stays, no_jump, rest_is_dropped}
-use Rattle.meant_programs.specs.Meant.{LeavesMain, LeavesProcedure}
+use Rattle.meant_programs.specs.Meant.{Leaves, LeavesMain, LeavesProcedure}
 use Rattle.meant_programs.proofs.Names.{of_module}
-
--- how an outcome leaves what it is of
-abbrev pub Leaves : (Flow → Type 0) → Outcome Flow → Type 0
-Leaves by (Gave flow t) = by flow
-Leaves by (Stopped why t) = Unit {0}
 
 not_jumped : (outcome : Outcome Flow) → Stays [] outcome → Leaves LeavesProcedure outcome
 not_jumped (Gave Onward t) stays = tt

@@ -4,3 +4,6 @@ pub mod Mains
 pub mod Leaving
 pub mod Frames
 pub mod Changes
+pub mod References
+pub mod Bytes
+pub mod Named

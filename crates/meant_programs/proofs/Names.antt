@@ -1,8 +1,8 @@
 -- The objects and the constant lists of a program have addresses.
-use Rattle.std.proofs.Common.{◌≡◌, ℕ, zero, suc, ◌<◌, true, List, [], ◌∷◌, length, Option, Some, None, IsSomeAnd, slice_get, refl, sym, ap, subst, arith}
+use Rattle.std.proofs.Common.{◌≡◌, ℕ, zero, suc, ◌<◌, true, List, [], ◌∷◌, length, Option, Some, None, IsSomeAnd, slice_get, refl, sym, ap, subst, ◌∙◌, arith}
 use Rattle.std.specs.Prelude.{All, zip}
 use Rattle.std.specs.List.{AllByRecursion}
-use Rattle.std.specs.Option.{option_and_then}
+use Rattle.std.specs.Option.{option_and_then, option_map_or}
 use Rattle.std.proofs.lemmas.List.Elements.{All-weaker, recursion_from_All}
 use Rattle.std.proofs.lemmas.Option.{none-some, slice_get_within}
 use Rattle.typed_trees.specs.Globals.{ListsGlobals}
@@ -13,6 +13,7 @@ use Rattle.layout.specs.Lawful.{HasAddresses}
 use Rattle.layout.specs.Placement.{ModulePlacement}
 use Rattle.layout.specs.StartingMemory.{meant_in}
 use Rattle.layout.proofs.Meant.{MeansObject, external_object_meant}
+use Rattle.meaning.specs.Access.{Surroundings, home_in, home_of}
 use Rattle.meaning.specs.Outcomes.{Program}
 use Rattle.meant_programs.specs.Meant.{HasAddress, IsPlaced, IsWhole, ListIsPlaced, ObjectIsMeant}
 
@@ -27,6 +28,15 @@ pub of_module : {X : Type 0} (P : X → Type 0) (all : List X) (number : ℕ) (o
 of_module P [] number one holds is = absurd (none-some one is)
 of_module P (first ∷ others) zero one holds is = let same : first ≡ one = cc in subst P same holds.0
 of_module P (first ∷ others) (suc number) one holds is = of_module P others number one holds.1 is
+
+-- where the meaning has an object of a module
+pub home_there : (around : Surroundings) (typed : TypedModule) (object : ℕ) (found : TypedObject)
+    → slice_get around.program.modules around.number_of_module ≡ Some typed
+    → slice_get typed.objects object ≡ Some found
+    → home_of around object ≡ found.home
+home_there around typed object found here is =
+    ap (λ (entry : Option TypedModule). option_map_or (λ (one : TypedModule). home_in one object) entry Nowhere) here
+    ∙ ap (λ (entry : Option TypedObject). option_map_or (λ (one : TypedObject). one.home) entry Nowhere) is
 
 -- the module of a number has a placement, with an address for each object and list
 placed_at : (modules : List TypedModule) (placements : List ModulePlacement) (number : ℕ) (typed : TypedModule)

@@ -1,1 +1,2 @@
 pub mod Meant
+pub mod Named

@@ -1,2 +1,2 @@
-//! All names of a program stand for something, and its procedures are left as they are to be. Nothing here runs.
+//! What bodies of a program name is there, and they are left as they are to be. Nothing here runs.
 #![tactic(auto)]
