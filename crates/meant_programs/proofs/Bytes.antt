@@ -208,9 +208,10 @@ parameters_are_there around typed number result is_reentrant visibility (scalar 
 parameters_are_there around typed number result is_reentrant visibility [] (parameter ∷ parameters) s here own are has =
     absurd are
 parameters_are_there around typed number result is_reentrant visibility (scalar ∷ scalars) (parameter ∷ parameters) s
-    here own are has =
-    (by (slice_get typed.objects parameter) refl are.0,
-    parameters_are_there around typed number result is_reentrant visibility scalars parameters s here own are.1 has)
+    here own are has = (
+      by (slice_get typed.objects parameter) refl are.0,
+      parameters_are_there around typed number result is_reentrant visibility scalars parameters s here own are.1 has,
+    )
   where
     lies : (reentrant : Bool) (its : Visibility) → its ≢ visibilities.External
         → LiesFor (WithinProcedure number result) (home_of_parameters number reentrant its)
@@ -243,11 +244,12 @@ pub callee_has_bytes : (around : Surroundings) (heading : TypedProcedure) (at : 
 callee_has_bytes around heading at typed procedure s callee is_module size =
     let has = new_frame_has_bytes typed at.number procedure.result s size in
     let here : slice_get around.program.modules around.number_of_module ≡ Some typed =
-    ap (λ (number : ℕ). slice_get around.program.modules number) is_module ∙ callee.its_module in
-    (has,
-    parameters_are_there around typed at.number procedure.result procedure.is_reentrant procedure.visibility
-    procedure.parameter_types procedure.parameters (record s { frame = frame_of at.number typed }) here callee.own
-    callee.parameters has)
+    ap (λ (number : ℕ). slice_get around.program.modules number) is_module ∙ callee.its_module in (
+      has,
+      parameters_are_there around typed at.number procedure.result procedure.is_reentrant procedure.visibility
+          procedure.parameter_types procedure.parameters (record s { frame = frame_of at.number typed }) here callee.own
+          callee.parameters has,
+    )
 
 -- where its subscript is below the dimension, a displacement is that of an element
 abbrev LiesInside : Subscript → Displacement → Type 0

@@ -76,9 +76,12 @@ module _ (around : Surroundings) (whole : IsWhole around.program) (typed : Typed
   in_some (Some expression) fits = in_expression expression fits
 
   in_head : (head : TypedIteration) → TypesHoldInHead typed within head → AreNamedInHead around typed within head
-  in_head head (counts, first, last, step) =
-      (counter_is_meant around.program whole around.number_of_module typed within here head counts,
-      in_expression head.first first, in_expression head.last last, in_some head.step step)
+  in_head head (counts, first, last, step) = (
+    counter_is_meant around.program whole around.number_of_module typed within here head counts,
+    in_expression head.first first,
+    in_expression head.last last,
+    in_some head.step step,
+  )
 
 module _ (around : Surroundings) (whole : IsWhole around.program) (typed : TypedModule)
     (here : slice_get around.program.modules around.number_of_module ≡ Some typed) where
@@ -96,22 +99,27 @@ module _ (around : Surroundings) (whole : IsWhole around.program) (typed : Typed
           → AreNamedIn around typed within statement
       in_statement (LabelStatement label) fits = tt
       in_statement NullStatement fits = tt
-      in_statement (AssignmentStatement targets expression) (fits, into) =
-          (in_expression around whole typed within here expression fits,
-          in_targets around whole typed within here (type_of expression) targets into)
-      in_statement (CallStatement procedure arguments) (takes, fits) =
-          (call_is_meant around whole typed procedure None arguments here takes,
-          in_arguments around whole typed within here arguments fits)
-      in_statement (MoveStatement count source destination) ((first, one), (second, two), (third, three)) =
-          (in_expression around whole typed within here count first,
-          in_expression around whole typed within here source second,
-          in_expression around whole typed within here destination third)
+      in_statement (AssignmentStatement targets expression) (fits, into) = (
+        in_expression around whole typed within here expression fits,
+        in_targets around whole typed within here (type_of expression) targets into,
+      )
+      in_statement (CallStatement procedure arguments) (takes, fits) = (
+        call_is_meant around whole typed procedure None arguments here takes,
+        in_arguments around whole typed within here arguments fits,
+      )
+      in_statement (MoveStatement count source destination) ((first, one), (second, two), (third, three)) = (
+        in_expression around whole typed within here count first,
+        in_expression around whole typed within here source second,
+        in_expression around whole typed within here destination third,
+      )
       in_statement (ReturnStatement expression) fits = in_returned within expression fits
       in_statement HaltStatement fits = tt
       in_statement (GotoStatement label) fits = tt
-      in_statement (IfStatement condition body otherwise) (fits, first, second) =
-          (in_expression around whole typed within here condition fits, in_statement body first,
-          in_else otherwise second)
+      in_statement (IfStatement condition body otherwise) (fits, first, second) = (
+        in_expression around whole typed within here condition fits,
+        in_statement body first,
+        in_else otherwise second,
+      )
       in_statement (DoStatement body) fits = in_list body fits
       in_statement (WhileStatement condition body) (fits, rest) =
           (in_expression around whole typed within here condition fits, in_list body rest)
