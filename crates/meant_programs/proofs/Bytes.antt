@@ -257,7 +257,7 @@ LiesInside subscript found = found.is_inside ≡ true → LiesAt subscript found
 
 abbrev GivesInside : Subscript → Outcome Displacement → Type 0
 GivesInside subscript (Gave found t) = LiesInside subscript found
-GivesInside subscript (Stopped why t) = Unit {0}
+GivesInside _ (Stopped why t) = Unit {0}
 
 displacement_inside : (later : Later) (around : Surroundings) (subscript : Subscript) (s : State)
     → GivesInside subscript (displacement later around subscript s)

@@ -76,7 +76,7 @@ IsNamed program number_of_module typed within object home =
 -- the object of a reference is there, and it or its base lies so
 abbrev pub ReferenceIsMeant :
     Program → (number_of_module : ℕ) → TypedModule → Within → TypedReference → Type 0
-ReferenceIsMeant program number typed within (PartOf object subscript member offset member_subscript) =
+ReferenceIsMeant program number typed within (PartOf object _ member offset _) =
     IsSomeAnd (slice_get typed.objects object)
     (λ (found : TypedObject). IsNamed program number typed within object found.home)
 
