@@ -362,4 +362,6 @@ pub record IsLowered (typed : TypedModule) (storage : Storage) (tree : TreeModul
   pub main : HasBody (nodes_of tree) storage tree.main typed.main
   pub main_kind : tree.main.kind ≡ kinds.Static
   pub main_frame : tree.main.frame.items ≡ []
+  pub main_frame_bytes : tree.main.frame_bytes ≡ 0
+  pub main_result : tree.main.result ≡ None
   pub traits : KeepTraits (nodes_of tree)

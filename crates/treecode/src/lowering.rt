@@ -1,6 +1,6 @@
 //! Typed modules as tree code.
 
-ghost use Rattle.std.specs.Prelude.{◌≡◌, suc, ◌+◌, ◌%◌, min, [], IfOk, OnOk};
+ghost use Rattle.std.specs.Prelude.{None, ◌≡◌, suc, ◌+◌, ◌%◌, min, [], IfOk, OnOk};
 ghost use Rattle.typed_trees.specs.Jumps.{JumpsAreSound};
 ghost use Rattle.typed_trees.specs.Views.{module_view};
 ghost use Rattle.layout.specs.Views.{layout_view};
@@ -43,6 +43,8 @@ fn empty_module(alloc: Global, typed: &Typed) -> TreeModule
     ensures name { result.name ≡ typed.now.name }
     ensures main_kind { result.main.kind ≡ Static }
     ensures main_frame { result.main.frame.items ≡ [] }
+    ensures main_frame_bytes { result.main.frame_bytes ≡ 0 }
+    ensures main_result { result.main.result ≡ None }
     ensures homes { result.homes.items ≡ [] }
     ensures procedures { result.procedures.items ≡ [] }
 {
@@ -221,6 +223,8 @@ fn with_declarations(
     ensures name { IfOk result (λ tree. tree.name ≡ typed.now.name) }
     ensures main_kind { IfOk result (λ tree. tree.main.kind ≡ Static) }
     ensures main_frame { IfOk result (λ tree. tree.main.frame.items ≡ []) }
+    ensures main_frame_bytes { IfOk result (λ tree. tree.main.frame_bytes ≡ 0) }
+    ensures main_result { IfOk result (λ tree. tree.main.result ≡ None) }
     ensures externals { IfOk result (λ tree. tree.externals.items ≡ externals_of (module_view typed.now)) }
     ensures homes { IfOk result (λ tree. tree.homes.items
         ≡ homes_of (module_view typed.now) (layout_view storage.now)) }

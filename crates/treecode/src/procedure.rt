@@ -60,6 +60,7 @@ impl TreeProcedure {
         ensures kind { result.kind ≡ kind }
         ensures scalar { result.result ≡ scalar }
         ensures frame { result.frame.items ≡ [] }
+        ensures frame_bytes { result.frame_bytes ≡ 0 }
     {
         TreeProcedure {
             kind,

@@ -71,3 +71,6 @@ pub enum Statement {
         body: Range,
     },
 }
+
+// A module has many statements, so each is small.
+const _: () = prove!(size_of::<Statement>() <= 40);
