@@ -1,0 +1,3 @@
+pub mod Statements
+pub mod Constants
+pub mod Bounds
