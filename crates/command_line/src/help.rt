@@ -5,7 +5,7 @@
 // in the brackets.
 macro_rules! text_of {
     ([$($done:literal)*]) => { concat!($($done),*) };
-    // of the text of a source, and of the code of a module
+    // of the text of a source
     ([$($done:literal)*] TEXTS $($rest:tt)*) => {
         text_of!([$($done)* "  C1      a character that is not valid here
   C2      a string or a comment that is not closed
@@ -30,7 +30,11 @@ macro_rules! text_of {
   C18     constants of over 65535 bytes
   C19     a label that cannot stand here
   C20     a GOTO to a label that is not known here
-  G1      a code segment of more than 65535 bytes
+"] $($rest)*)
+    };
+    // of the code of a module
+    ([$($done:literal)*] CODE $($rest:tt)*) => {
+        text_of!([$($done)* "  G1      a code segment of more than 65535 bytes
 "] $($rest)*)
     };
     // of the modules of a program together
@@ -39,7 +43,11 @@ macro_rules! text_of {
   J2      X is PUBLIC twice
   J3      X is declared otherwise where it is PUBLIC
   J4      not just one module is a main module
-  J5      X lies in the code or in the stack, or passes the end of memory
+"] $($rest)*)
+    };
+    // of where the modules of a program lie
+    ([$($done:literal)*] SEGMENTS $($rest:tt)*) => {
+        text_of!([$($done)* "  J5      X lies in the code or in the stack, or passes the end of memory
   L3      code or data of more than 65535 bytes
 "] $($rest)*)
     };
@@ -129,7 +137,7 @@ Both `plm run FILE` and `plm interpret FILE` print
   HALT
 
 Numbers, where X is the name or the text that is printed with one:
-" TEXTS MODULES MERGES OBJECTS PLACES IMAGES COUNTS LENGTHS FILES VALUES MEMORY "\n\
+" TEXTS CODE MODULES SEGMENTS MERGES OBJECTS PLACES IMAGES COUNTS LENGTHS FILES VALUES MEMORY "\n\
 Read more in the folder docs:
   language.md     a manual of the language; definition.md has its exact rules
   old-sources.md  from a listing of the time to a run
@@ -191,7 +199,7 @@ Example: compile two modules, link them, and print the bytes of the program
   plm hex program.obj
 
 Numbers, where X is the name or the text that is printed with one:
-" TEXTS LENGTHS FILES MEMORY "\n\
+" TEXTS CODE LENGTHS FILES MEMORY "\n\
 Read more in the folder docs: faults.md (each number with an example and its cure), commands.md");
 
 const PRINTED_BY_RUN: &str = text_of!([] "\
@@ -227,7 +235,7 @@ prints
   HALT
 
 Numbers, where X is the name or the text that is printed with one:
-" TEXTS MODULES PLACES COUNTS LENGTHS FILES VALUES MEMORY "\n\
+" TEXTS CODE MODULES SEGMENTS PLACES COUNTS LENGTHS FILES VALUES MEMORY "\n\
 Read more in the folder docs: faults.md (each number with an example and its cure), commands.md");
 
 const PRINTED_BY_INTERPRET: &str = text_of!([] "\
@@ -268,7 +276,7 @@ prints
   HALT
 
 Numbers, where X is the name or the text that is printed with one:
-" TEXTS MODULES PLACES COUNTS LENGTHS FILES VALUES MEMORY "\n\
+" TEXTS CODE MODULES SEGMENTS PLACES COUNTS LENGTHS FILES VALUES MEMORY "\n\
 Read more in the folder docs: faults.md (each number with an example and its cure), commands.md");
 
 const PRINTED_BY_LINK: &str = text_of!([] "\
@@ -315,8 +323,8 @@ Exit status:
   1  the object or its place or a source was refused, memory ran out, or a file can't be read
   2  the command line is wrong, or a value in it
 
-A refused object prints `number file 0` to standard error, a refused place `number - 0`, and a
-refused value or a second file `U4 text 0`.
+A refused object prints `number file 0` to standard error, a refused place `number - 0`, a
+refused source `number file line`, and a refused value or a second file `U4 text 0`.
 
 Example: an object with nine bytes of code and a public name S at offset 4 prints
   CODE 0100 9
@@ -326,7 +334,7 @@ Example: an object with nine bytes of code and a public name S at offset 4 print
   PUBLIC S 0104
 
 Numbers, where X is the name or the text that is printed with one:
-" OBJECTS PLACES IMAGES FILES VALUES MEMORY "\n\
+" TEXTS MODULES OBJECTS PLACES IMAGES COUNTS LENGTHS FILES VALUES MEMORY "\n\
 Read more in the folder docs: faults.md (each number with an example and its cure), commands.md");
 
 const PRINTED_BY_HEX: &str = text_of!([] "\

@@ -136,28 +136,33 @@ impl Help {
         }
     }
 
-    // The faults of a module's storage and of its code, and that its source is too long.
-    fn seek_code(&mut self) {
+    // The faults of a module's storage, and that its source is too long.
+    fn seek_storage(&mut self) {
         for fault in &[
             layout::Fault::DataTooLarge,
             layout::Fault::ConstantsTooLarge,
         ] {
             self.seek(fault.number(), fault);
         }
-        let fault = codegen8080::Fault::TooLong;
-        self.seek(fault.number(), &fault);
         self.seek(ReadFault::TooLong.number(), &ReadFault::TooLong);
     }
 
-    // The faults of a source.
-    fn seek_source(&mut self) {
+    // The faults of the text of a source.
+    fn seek_text(&mut self) {
         self.seek_words();
         self.seek_trees();
-        self.seek_code();
+        self.seek_storage();
     }
 
-    // The faults of modules together.
-    fn seek_modules(&mut self, name: Name) {
+    // The faults of a source, and of its code.
+    fn seek_source(&mut self) {
+        self.seek_text();
+        let fault = codegen8080::Fault::TooLong;
+        self.seek(fault.number(), &fault);
+    }
+
+    // The faults of modules together, wherever they lie.
+    fn seek_joins(&mut self, name: Name) {
         let joins = [
             join::Fault::NoPublic { name },
             join::Fault::PublicTwice { name },
@@ -167,6 +172,15 @@ impl Help {
         for fault in &joins {
             self.seek(fault.number(), fault);
         }
+        self.seek(
+            ToolFault::TooManySources.number(),
+            &ToolFault::TooManySources,
+        );
+    }
+
+    // The faults of modules together.
+    fn seek_modules(&mut self, name: Name) {
+        self.seek_joins(name);
         let places = [
             placing::Fault::SegmentTooLarge,
             placing::Fault::PassesMemory,
@@ -176,10 +190,6 @@ impl Help {
         for fault in &places {
             self.seek(fault.number(), fault);
         }
-        self.seek(
-            ToolFault::TooManySources.number(),
-            &ToolFault::TooManySources,
-        );
     }
 
     // The faults of objects and of their merge.
@@ -281,13 +291,24 @@ fn print_link(page: &mut Page, name: Name) {
     help.print(page, "link");
 }
 
-// The help of a command that places an object.
-fn print_place(page: &mut Page, command: &str) {
-    let mut help = Help::of(page.alloc(), &["plm", command, "--help"]);
+// The help of the command that prints where an object lies, or what sources need.
+fn print_locate(page: &mut Page, name: Name) {
+    let mut help = Help::of(page.alloc(), &["plm", "locate", "--help"]);
+    help.seek_text();
+    help.seek_joins(name);
     help.seek_places();
     help.seek_files();
     help.seek_value();
-    help.print(page, command);
+    help.print(page, "locate");
+}
+
+// The help of the command that prints an object as HEX.
+fn print_hex(page: &mut Page) {
+    let mut help = Help::of(page.alloc(), &["plm", "hex", "--help"]);
+    help.seek_places();
+    help.seek_files();
+    help.seek_value();
+    help.print(page, "hex");
 }
 
 /// Prints for the help of each command how many lines of faults it is to have, and how many of them it lacks.
@@ -301,6 +322,6 @@ pub fn print_sentences(page: &mut Page) {
     print_program(page, "run", name);
     print_program(page, "interpret", name);
     print_link(page, name);
-    print_place(page, "locate");
-    print_place(page, "hex");
+    print_locate(page, name);
+    print_hex(page);
 }
