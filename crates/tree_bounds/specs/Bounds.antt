@@ -44,8 +44,9 @@ weight_of_targets nodes first (suc count) =
 -- the variable of an iterative DO is a target of the first value
 abbrev pub weight_of_iteration : Nodes → Iteration → ℕ
 weight_of_iteration nodes head =
-    1 + weight_of_storing (traits_at nodes head.first).scalar head.scalar + weight_of_expression nodes head.first
-    + weight_of_expression nodes head.last + weight_if_any nodes head.step
+    1 + weight_of_storing (traits_at nodes head.first).scalar head.scalar
+    + weight_of_expression nodes head.first + weight_of_expression nodes head.last
+    + weight_if_any nodes head.step
 
 -- so many statements in a row, from one on, where this is what those of numbers weigh
 abbrev pub weight_of_row : (weight : ℕ → ℕ) → List StatementNumber → (first count : ℕ) → ℕ
@@ -67,9 +68,11 @@ weight_of_statement weight nodes (statements.Label label) = 0
 weight_of_statement weight nodes statements.Null = 1
 weight_of_statement weight nodes (statements.Assignment targets value) =
     1 + weight_of_targets nodes targets.first targets.count + weight_of_expression nodes value
-weight_of_statement weight nodes (statements.Call procedure arguments) = 1 + weight_of_arguments nodes arguments
+weight_of_statement weight nodes (statements.Call procedure arguments) =
+    1 + weight_of_arguments nodes arguments
 weight_of_statement weight nodes (statements.Move count source destination) =
-    1 + weight_of_expression nodes count + weight_of_expression nodes source + weight_of_expression nodes destination
+    1 + weight_of_expression nodes count + weight_of_expression nodes source
+    + weight_of_expression nodes destination
 weight_of_statement weight nodes (statements.Return value) = 1 + weight_if_any nodes value
 weight_of_statement weight nodes statements.Halt = 1
 weight_of_statement weight nodes (statements.Goto label) = 1
@@ -87,7 +90,8 @@ weight_of_statement weight nodes (statements.Case choice body) =
 abbrev pub weight_within : Nodes → (levels number : ℕ) → ℕ
 weight_within nodes zero number = 0
 weight_within nodes (suc levels) number =
-    option_map_or (weight_of_statement (weight_within nodes levels) nodes) (slice_get nodes.statements number) 0
+    option_map_or (weight_of_statement (weight_within nodes levels) nodes)
+    (slice_get nodes.statements number) 0
 
 -- The statements of a body: there are no more levels than statements.
 abbrev pub weight_of_body : Nodes → Range → ℕ

@@ -1,0 +1,4 @@
+pub mod Items
+pub mod Walks
+pub mod Declared
+pub mod Publics
