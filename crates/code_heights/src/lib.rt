@@ -1,0 +1,2 @@
+//! Laws of how many bytes code pushes. Nothing here runs.
+#![tactic(auto)]
