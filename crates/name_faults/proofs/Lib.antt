@@ -1,0 +1,7 @@
+pub mod Meeting
+pub mod Others
+pub mod Bound
+pub mod Expressions
+pub mod Items
+pub mod Statements
+pub mod Modules
