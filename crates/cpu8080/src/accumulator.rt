@@ -3,9 +3,9 @@
 ghost use Rattle.std.specs.Prelude.{◌≡◌, ◌+◌, not, slice_index, slice_set};
 ghost use Rattle.isa8080.specs.declared.instr.Pair.TheVariants.{Bc, De, Hl};
 ghost use Rattle.isa8080.specs.declared.instr.Operation.TheVariants.{Add, AddWithCarry, Subtract, SubtractWithBorrow, And, ExclusiveOr, Or, Compare};
-ghost use Rattle.isa8080.specs.State.{pair_of, with_pair, wrap};
+ghost use Rattle.isa8080.specs.State.{high_byte, low_byte, wrap};
 ghost use Rattle.isa8080.specs.Arithmetic.{increment_of, decrement_of};
-ghost use Rattle.cpu8080.specs.internal.Finish.{accumulated, double_added};
+ghost use Rattle.cpu8080.specs.internal.Finish.{accumulated, double_added, pair_in};
 
 use crate::flags::{LazyFlags, MachineRegisters};
 use crate::pairs::{bc, de, hl, set_bc, set_de, set_hl};
@@ -103,11 +103,11 @@ pub fn complement_carry(flags: &mut LazyFlags)
 #[inline(always)]
 pub fn increment_memory(registers: &mut MachineRegisters, memory: &mut Memory)
     ensures registers { registers.new
-        ≡ (let byte = slice_index memory.old (pair_of Hl registers.old) in
+        ≡ (let byte = slice_index memory.old (pair_in Hl registers.old) in
         record registers.old { flags = (increment_of byte registers.old.flags).flags }) }
     ensures memory { memory.new
-        ≡ (let byte = slice_index memory.old (pair_of Hl registers.old) in
-        slice_set memory.old (pair_of Hl registers.old) (increment_of byte registers.old.flags).value) }
+        ≡ (let byte = slice_index memory.old (pair_in Hl registers.old) in
+        slice_set memory.old (pair_in Hl registers.old) (increment_of byte registers.old.flags).value) }
 {
     let address = hl(registers);
     let value = alu8080::increment(memory.get(address), &mut registers.flags);
@@ -118,11 +118,11 @@ pub fn increment_memory(registers: &mut MachineRegisters, memory: &mut Memory)
 #[inline(always)]
 pub fn decrement_memory(registers: &mut MachineRegisters, memory: &mut Memory)
     ensures registers { registers.new
-        ≡ (let byte = slice_index memory.old (pair_of Hl registers.old) in
+        ≡ (let byte = slice_index memory.old (pair_in Hl registers.old) in
         record registers.old { flags = (decrement_of byte registers.old.flags).flags }) }
     ensures memory { memory.new
-        ≡ (let byte = slice_index memory.old (pair_of Hl registers.old) in
-        slice_set memory.old (pair_of Hl registers.old) (decrement_of byte registers.old.flags).value) }
+        ≡ (let byte = slice_index memory.old (pair_in Hl registers.old) in
+        slice_set memory.old (pair_in Hl registers.old) (decrement_of byte registers.old.flags).value) }
 {
     let address = hl(registers);
     let value = alu8080::decrement(memory.get(address), &mut registers.flags);
@@ -132,7 +132,9 @@ pub fn decrement_memory(registers: &mut MachineRegisters, memory: &mut Memory)
 /// INX B and DCX B: adds a 16-bit value to the one in B and C, and sets no flag.
 #[inline(always)]
 pub fn add_to_bc(word: u16, registers: &mut MachineRegisters)
-    ensures { registers.new ≡ with_pair Bc (wrap (pair_of Bc registers.old + word)) registers.old }
+    ensures { registers.new
+        ≡ (let sum = wrap (pair_in Bc registers.old + word) in
+        record registers.old { b = high_byte sum; c = low_byte sum }) }
 {
     let sum = bc(registers).wrapping_add(word);
     set_bc(sum, registers);
@@ -141,7 +143,9 @@ pub fn add_to_bc(word: u16, registers: &mut MachineRegisters)
 /// INX D and DCX D: adds a 16-bit value to the one in D and E, and sets no flag.
 #[inline(always)]
 pub fn add_to_de(word: u16, registers: &mut MachineRegisters)
-    ensures { registers.new ≡ with_pair De (wrap (pair_of De registers.old + word)) registers.old }
+    ensures { registers.new
+        ≡ (let sum = wrap (pair_in De registers.old + word) in
+        record registers.old { d = high_byte sum; e = low_byte sum }) }
 {
     let sum = de(registers).wrapping_add(word);
     set_de(sum, registers);
@@ -150,7 +154,9 @@ pub fn add_to_de(word: u16, registers: &mut MachineRegisters)
 /// INX H and DCX H: adds a 16-bit value to the one in H and L, and sets no flag.
 #[inline(always)]
 pub fn add_to_hl(word: u16, registers: &mut MachineRegisters)
-    ensures { registers.new ≡ with_pair Hl (wrap (pair_of Hl registers.old + word)) registers.old }
+    ensures { registers.new
+        ≡ (let sum = wrap (pair_in Hl registers.old + word) in
+        record registers.old { h = high_byte sum; l = low_byte sum }) }
 {
     let sum = hl(registers).wrapping_add(word);
     set_hl(sum, registers);

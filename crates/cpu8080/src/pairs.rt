@@ -3,8 +3,9 @@
 ghost use Rattle.std.specs.Prelude.{◌≡◌, ◌+◌, slice_set};
 ghost use Rattle.mem80.specs.Memory.{byte_at, word_at};
 ghost use Rattle.isa8080.specs.declared.instr.Pair.TheVariants.{Bc, De, Hl};
-ghost use Rattle.isa8080.specs.declared.instr.StackPair.TheVariants.{Psw};
-ghost use Rattle.isa8080.specs.State.{word as word_of, high_byte, low_byte, pair_of, with_pair, pushed_of, with_popped, wrap};
+ghost use Rattle.isa8080.specs.Flags.{flag_byte, flags_in};
+ghost use Rattle.isa8080.specs.State.{word as word_of, high_byte, low_byte, wrap};
+ghost use Rattle.cpu8080.specs.internal.Finish.{pair_in};
 
 use crate::flags::{LazyFlags, MachineRegisters};
 use isa8080::Flags;
@@ -21,7 +22,7 @@ fn word(high: u8, low: u8) -> u16
 /// The 16-bit value in B and C.
 #[inline(always)]
 pub fn bc(registers: &MachineRegisters) -> u16
-    ensures { result ≡ pair_of Bc registers.now }
+    ensures { result ≡ pair_in Bc registers.now }
 {
     word(registers.b, registers.c)
 }
@@ -29,7 +30,7 @@ pub fn bc(registers: &MachineRegisters) -> u16
 /// The 16-bit value in D and E.
 #[inline(always)]
 pub fn de(registers: &MachineRegisters) -> u16
-    ensures { result ≡ pair_of De registers.now }
+    ensures { result ≡ pair_in De registers.now }
 {
     word(registers.d, registers.e)
 }
@@ -37,7 +38,7 @@ pub fn de(registers: &MachineRegisters) -> u16
 /// The 16-bit value in H and L.
 #[inline(always)]
 pub fn hl(registers: &MachineRegisters) -> u16
-    ensures { result ≡ pair_of Hl registers.now }
+    ensures { result ≡ pair_in Hl registers.now }
 {
     word(registers.h, registers.l)
 }
@@ -45,7 +46,7 @@ pub fn hl(registers: &MachineRegisters) -> u16
 /// The 16-bit value of the accumulator and the flag byte.
 #[inline(always)]
 pub fn psw(registers: &MachineRegisters) -> u16
-    ensures { result ≡ pushed_of Psw registers.now }
+    ensures { result ≡ word_of registers.now.a (flag_byte registers.now.flags) }
 {
     word(registers.a, registers.flags.flags().byte())
 }
@@ -53,7 +54,7 @@ pub fn psw(registers: &MachineRegisters) -> u16
 /// Puts a 16-bit value in B and C.
 #[inline(always)]
 pub fn set_bc(word: u16, registers: &mut MachineRegisters)
-    ensures { registers.new ≡ with_pair Bc word registers.old }
+    ensures { registers.new ≡ record registers.old { b = high_byte word; c = low_byte word } }
 {
     registers.b = (word / 256) as u8;
     registers.c = (word % 256) as u8;
@@ -62,7 +63,7 @@ pub fn set_bc(word: u16, registers: &mut MachineRegisters)
 /// Puts a 16-bit value in D and E.
 #[inline(always)]
 pub fn set_de(word: u16, registers: &mut MachineRegisters)
-    ensures { registers.new ≡ with_pair De word registers.old }
+    ensures { registers.new ≡ record registers.old { d = high_byte word; e = low_byte word } }
 {
     registers.d = (word / 256) as u8;
     registers.e = (word % 256) as u8;
@@ -71,7 +72,7 @@ pub fn set_de(word: u16, registers: &mut MachineRegisters)
 /// Puts a 16-bit value in H and L.
 #[inline(always)]
 pub fn set_hl(word: u16, registers: &mut MachineRegisters)
-    ensures { registers.new ≡ with_pair Hl word registers.old }
+    ensures { registers.new ≡ record registers.old { h = high_byte word; l = low_byte word } }
 {
     registers.h = (word / 256) as u8;
     registers.l = (word % 256) as u8;
@@ -80,7 +81,7 @@ pub fn set_hl(word: u16, registers: &mut MachineRegisters)
 /// Puts a 16-bit value in the accumulator and the flags.
 #[inline(always)]
 pub fn set_psw(word: u16, registers: &mut MachineRegisters)
-    ensures { registers.new ≡ with_popped Psw word registers.old }
+    ensures { registers.new ≡ record registers.old { a = high_byte word; flags = flags_in (low_byte word) } }
 {
     registers.a = (word / 256) as u8;
     registers.flags = LazyFlags::from_flags(Flags::from_byte((word % 256) as u8));
@@ -106,22 +107,22 @@ pub fn put_word(address: u16, word: u16, memory: &mut Memory)
 
 /// The byte at the program counter, which goes on by one.
 #[inline(always)]
-pub fn fetch(registers: &mut MachineRegisters, memory: &Memory) -> u8
-    ensures byte { result ≡ byte_at memory.now registers.old.pc }
-    ensures after { registers.new ≡ record registers.old { pc = wrap (registers.old.pc + 1) } }
+pub fn fetch(pc: &mut u16, memory: &Memory) -> u8
+    ensures byte { result ≡ byte_at memory.now pc.old }
+    ensures after { pc.new ≡ wrap (pc.old + 1) }
 {
-    let byte = memory.get(registers.pc);
-    registers.pc = registers.pc.wrapping_add(1);
+    let byte = memory.get(*pc);
+    *pc = pc.wrapping_add(1);
     byte
 }
 
 /// The 16-bit value at the program counter, which goes on by two.
 #[inline(always)]
-pub fn fetch_word(registers: &mut MachineRegisters, memory: &Memory) -> u16
-    ensures word { result ≡ word_at memory.now registers.old.pc }
-    ensures after { registers.new ≡ record registers.old { pc = wrap (registers.old.pc + 2) } }
+pub fn fetch_word(pc: &mut u16, memory: &Memory) -> u16
+    ensures word { result ≡ word_at memory.now pc.old }
+    ensures after { pc.new ≡ wrap (pc.old + 2) }
 {
-    let word = word_in(registers.pc, memory);
-    registers.pc = registers.pc.wrapping_add(2);
+    let word = word_in(*pc, memory);
+    *pc = pc.wrapping_add(2);
     word
 }

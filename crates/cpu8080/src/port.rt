@@ -1,18 +1,17 @@
 //! IN and OUT.
 
-ghost use Rattle.std.specs.Prelude.{◌≡◌, ◌+◌, OnOk, OnErr};
+ghost use Rattle.std.specs.Prelude.{◌≡◌, OnOk, OnErr};
 ghost use Rattle.mem80.specs.Memory.{byte_at};
 ghost use Rattle.ports.specs.Events.{read_event, write_event, AddsEvent, CountsFailure};
 ghost use Rattle.ports.specs.Input.{input_value};
-ghost use Rattle.isa8080.specs.State.{wrap};
-ghost use Rattle.isa8080.specs.declared.registers.RegisterFile.{RegisterFile};
 
 use crate::flags::MachineRegisters;
 use mem80::Memory;
 use ports::{PortFault, Ports};
 
-/// IN: reads the port whose number is at the program counter into the accumulator.
+/// IN: reads the port whose number is at a place into the accumulator.
 pub fn input<P: Ports>(
+    place: u16,
     registers: &mut MachineRegisters,
     memory: &Memory,
     ports: &mut P,
@@ -20,47 +19,42 @@ pub fn input<P: Ports>(
     ensures ok { OnOk result
         (registers.new
         ≡ record registers.old {
-          a = input_value (P.script ports.old) (P.events ports.old) (byte_at memory.now registers.old.pc);
-          pc = wrap (registers.old.pc + 1);
+          a = input_value (P.script ports.old) (P.events ports.old) (byte_at memory.now place);
         }) }
     ensures event { OnOk result
         (AddsEvent
         (P.events ports.old)
         (P.events ports.new)
         (read_event
-        (byte_at memory.now registers.old.pc)
-        (input_value (P.script ports.old) (P.events ports.old) (byte_at memory.now registers.old.pc)))) }
+        (byte_at memory.now place)
+        (input_value (P.script ports.old) (P.events ports.old) (byte_at memory.now place)))) }
     ensures count { OnOk result (P.failures ports.new ≡ P.failures ports.old) }
     ensures same { OnErr result (registers.new ≡ registers.old) }
     ensures none { OnErr result (P.events ports.new ≡ P.events ports.old) }
     ensures failed { OnErr result (CountsFailure (P.failures ports.old) (P.failures ports.new)) }
     ensures script { P.script ports.new ≡ P.script ports.old }
 {
-    let value = ports.input(memory.get(registers.pc))?;
+    let value = ports.input(memory.get(place))?;
     registers.a = value;
-    registers.pc = registers.pc.wrapping_add(1);
     Ok(())
 }
 
-/// OUT: writes the accumulator to the port whose number is at the program counter.
+/// OUT: writes the accumulator to the port whose number is at a place.
 pub fn output<P: Ports>(
-    registers: &mut MachineRegisters,
+    place: u16,
+    registers: &MachineRegisters,
     memory: &Memory,
     ports: &mut P,
 ) -> Result<(), PortFault>
-    ensures ok { OnOk result (registers.new ≡ record registers.old { pc = wrap (registers.old.pc + 1) }) }
     ensures event { OnOk result
         (AddsEvent
         (P.events ports.old)
         (P.events ports.new)
-        (write_event (byte_at memory.now registers.old.pc) registers.old.a)) }
+        (write_event (byte_at memory.now place) registers.now.a)) }
     ensures count { OnOk result (P.failures ports.new ≡ P.failures ports.old) }
-    ensures same { OnErr result (registers.new ≡ registers.old) }
     ensures none { OnErr result (P.events ports.new ≡ P.events ports.old) }
     ensures failed { OnErr result (CountsFailure (P.failures ports.old) (P.failures ports.new)) }
     ensures script { P.script ports.new ≡ P.script ports.old }
 {
-    ports.output(memory.get(registers.pc), registers.a)?;
-    registers.pc = registers.pc.wrapping_add(1);
-    Ok(())
+    ports.output(memory.get(place), registers.a)
 }
