@@ -1,5 +1,5 @@
 -- Object modules and refusals by the code bound.
-use Rattle.std.specs.Prelude.{IfOk, Result, Ok, Err}
+use Rattle.std.specs.Prelude.{Result, Ok, Err}
 use Rattle.failure.specs.declared.Failure.{Failure}
 use Rattle.failure.specs.declared.Failure.TheVariants as failures
 use Rattle.failure.specs.Failure.{IfFault}
@@ -12,20 +12,13 @@ use Rattle.codegen8080.specs.Refusals.{MayRefuse}
 use Rattle.code_bounds.proofs.Bounds.{segment_is_within_its_bound, too_long_is_past_its_bound}
 use Rattle.module_code.specs.Bounded.{IsPastBound, IsWithinBound}
 
-within_bound : (tree : TreeModule) (object : ObjectModule) → IsGenerated tree object → IsWithinBound tree object
+pub within_bound : (tree : TreeModule) (object : ObjectModule) → IsGenerated tree object → IsWithinBound tree object
 within_bound tree object is typed code =
     segment_is_within_its_bound typed code.storage tree object code.sound code.lowered is
 
 past_bound : (tree : TreeModule) (fault : Fault) → MayRefuse tree fault → IsPastBound tree fault
 past_bound tree TooLong refused = λ typed code.
     too_long_is_past_its_bound typed code.storage tree code.sound code.few code.lowered refused
-
-pub result_within_bound :
-    (tree : TreeModule) (result : Result ObjectModule (Failure Fault))
-    → IfOk result (λ object. IsGenerated tree object)
-    → IfOk result (λ object. IsWithinBound tree object)
-result_within_bound tree (Ok object) is = within_bound tree object is
-result_within_bound tree (Err failure) is = tt
 
 pub refusal_past_bound :
     (tree : TreeModule) (result : Result ObjectModule (Failure Fault))

@@ -1,26 +1,46 @@
-//! Object modules of tree code, with how long their code is.
-#![tactic(auto, using(crate::proofs::Bounding::result_within_bound, crate::proofs::Bounding::refusal_past_bound))]
+//! Object modules of tree code, with what is known of their code.
+#![tactic(auto, using(crate::proofs::Bounding::within_bound, crate::proofs::Bounding::refusal_past_bound))]
 
 ghost use Rattle.std.specs.Prelude.{IfOk};
 ghost use Rattle.failure.specs.Failure.{IfFault};
 ghost use Rattle.codegen8080.specs.Modules.{IsGenerated};
 ghost use Rattle.codegen8080.specs.Refusals.{MayRefuse};
+ghost use Rattle.program_images.specs.internal.AtPlans.{IsObjectOf};
+ghost use Rattle.program_memory.specs.internal.Segments.{HasSegments};
+ghost use Rattle.program_merges.specs.internal.Names.{HasNames};
+ghost use Rattle.program_meaning.specs.KnownValues.{ValuesAreKnown};
+ghost use Rattle.program_meaning.specs.OneModule.{DoesWhereItLies};
+ghost use Rattle.program_meaning.specs.Typed.{IsSoundlyMade};
 ghost use Rattle.module_code.specs.Bounded.{IsPastBound, IsWithinBound};
+ghost use Rattle.module_code.specs.Modules.{OfItsModule};
 
 use codegen8080::Fault;
 use failure::Failure;
+use home_words::hold_homes;
 use object_modules::ObjectModule;
 use std::alloc::Global;
 use treecode::TreeModule;
 
 /// The object module of a module: its constants and its code in the code segment, its variables in the data segment, its
-/// PUBLIC names, and the EXTERNAL names that it refers to. The code segment is within the code bound of the module. Refuses
-/// a module whose storage fits for its length (G1) only where that bound passes 65535.
+/// PUBLIC names, and the EXTERNAL names that it refers to. Wherever it lies, its procedures and its main program do on the
+/// machine what the module says, by what calls do. The code segment is within the code bound of the module. Refuses a
+/// module whose storage fits for its length (G1) only where that bound passes 65535.
 pub fn generate(alloc: Global, tree: &TreeModule) -> Result<ObjectModule, Failure<Fault>>
     ensures made { IfOk result (λ object. IsGenerated tree.now object) }
+    ensures sound { IfOk result (OfItsModule tree.now IsSoundlyMade) }
+    ensures does { IfOk result (OfItsModule tree.now DoesWhereItLies) }
+    ensures known { IfOk result (OfItsModule tree.now ValuesAreKnown) }
+    ensures object { IfOk result (OfItsModule tree.now IsObjectOf) }
+    ensures segments { IfOk result (OfItsModule tree.now HasSegments) }
+    ensures names { IfOk result (OfItsModule tree.now HasNames) }
     ensures bound { IfOk result (λ object. IsWithinBound tree.now object) }
     ensures refused { IfFault result (λ fault. MayRefuse tree.now fault) }
     ensures past { IfFault result (λ fault. IsPastBound tree.now fault) }
 {
-    codegen8080::generate(alloc, tree)
+    // Looks at its numbers say that they are words, and one at its name that an object module is valid.
+    tree.hold_words();
+    hold_homes(tree);
+    let object = codegen8080::generate(alloc, tree)?;
+    let _ = object.name();
+    Ok(object)
 }

@@ -6,10 +6,12 @@ pub mod Resolving
 pub mod CodeLies
 pub mod ModuleStands
 pub mod Shared
+pub mod Shown
 pub mod Marks
 pub mod Labels
 pub mod VariablesApart
 pub mod ModuleLies
+pub mod KnownValues
 pub mod OneModule
 pub mod Linked
 pub mod Programs

@@ -4,7 +4,6 @@ use Rattle.std.proofs.Common.{◌≡◌, ℕ, zero, suc, ◌+◌, ◌%◌, ◌�
 use Rattle.std.specs.Prelude.{slice_get, slice_index, bytes_eq}
 use Rattle.std.specs.Option.{option_map_or, option_and_then}
 use Rattle.std.proofs.lemmas.Iterator.Adapters.{position_from-zero}
-use Rattle.std.proofs.lemmas.List.Elements.{recursion_from_All}
 use Rattle.std.proofs.lemmas.List.Sums.{sum_by-cons}
 use Rattle.std.proofs.lemmas.Option.{none-some, same_Some, slice_get-map}
 use Rattle.std.proofs.lemmas.Slice.Eq.{bytes_eq-Decides}
@@ -16,7 +15,6 @@ use Rattle.object_modules.specs.Module.{ObjectModule, Public}
 use Rattle.object_images.specs.internal.InMemory.{address_of_public, piece_base}
 use Rattle.typed_trees.specs.declared.parts.Visibility.{Visibility}
 use Rattle.typed_trees.specs.declared.parts.Visibility.TheVariants as visibilities
-use Rattle.typed_trees.specs.Globals.{ListsGlobals}
 use Rattle.typed_trees.specs.TypedTrees.{Elsewhere, Nowhere, TypedModule, TypedObject, TypedProcedure}
 use Rattle.layout.specs.Following.{Bases}
 use Rattle.layout.specs.Joined.{InProgram, first_found, is_public_procedure, procedure_meant, public_procedure_in}
@@ -24,27 +22,22 @@ use Rattle.layout.specs.Placing.{Plan as PlacingPlan, bases_from, placement_by, 
 use Rattle.layout.specs.Segments.{address_of_location, location_by_home, location_of, locations_after}
 use Rattle.layout.specs.StartingMemory.{address_of_object}
 use Rattle.layout.proofs.Locations.{location_is}
-use Rattle.layout.proofs.Segments.{of_all}
 use Rattle.meaning.specs.Meaning.{callee_in}
 use Rattle.meaning.specs.Outcomes.{Program}
 use Rattle.isa8080.specs.State.{wrap}
-use Rattle.asm8080.specs.Assembled.{Assembled}
-use Rattle.treecode.specs.declared.module.PublicName.{PublicName}
-use Rattle.treecode.specs.declared.module.PublicPlace.TheVariants.{Procedure}
 use Rattle.program_images.specs.internal.AtPlans.{bases_of, code_lengths_of, plan_of}
 use Rattle.program_memory.specs.internal.InMemory.{IsInMemory, placement_of}
 use Rattle.program_memory.proofs.Addresses.{IsHere}
 use Rattle.program_memory.proofs.Meanings.{address_meant, both_hold, first_position, found_place, public_lies}
 use Rattle.program_memory.proofs.Modules.{address_for, bases_found, lies_at, placed_by}
-use Rattle.steps8080.specs.Writer.{Written, place_of_label}
-use Rattle.codegen8080.specs.Modules.{ArePublicsOf, IsPublicOf}
+use Rattle.steps8080.specs.Writer.{place_of_label}
 use Rattle.task_meaning.specs.TreeNumbers.{HasTypes}
 use Rattle.procedure_meaning.specs.OneModule.{around_in}
 use Rattle.program_meaning.specs.Linked.{ModuleIs, layout_of, made_of, public_address, targets_of}
 use Rattle.program_meaning.specs.Entering.{ModulesAre, entries_of}
 use Rattle.program_meaning.specs.OneModule.{AreEntered, LiesInMemory}
 use Rattle.program_meaning.proofs.Labels.{procedure_lies}
-use Rattle.program_meaning.proofs.Shared.{public_in}
+use Rattle.program_meaning.proofs.Shown.{shows_procedures}
 
 -- the code of a module lies within that of the program
 pub within_code :
@@ -68,33 +61,6 @@ public_visibility : (visibility : Visibility) → is_public_procedure visibility
 public_visibility visibilities.Public is = refl
 public_visibility visibilities.Private is = absurd (cc)
 public_visibility visibilities.External is = absurd (cc)
-
--- the public that a PUBLIC name is
-record PublicFound (written : Written) (bytes : Assembled) (name : PublicName) (publics : List Public) : Type 0 where
-  at : ℕ
-  public : Public
-  found : slice_get publics at ≡ Some public
-  is : IsPublicOf written bytes name.name name.place public
-
-public_found :
-    (written : Written) (bytes : Assembled) (names : List PublicName) (publics : List Public) (index : ℕ)
-    (name : PublicName)
-    → ArePublicsOf written bytes names publics
-    → slice_get names index ≡ Some name
-    → PublicFound written bytes name publics
-public_found written bytes [] publics index name are found = absurd (none-some name found)
-public_found written bytes (one ∷ names) [] index name are found = absurd are
-public_found written bytes (one ∷ names) (public ∷ publics) zero name are found =
-    let same : one ≡ name = same_Some one name found in
-    record {
-      at = 0;
-      public = public;
-      found = refl;
-      is = subst (λ (given : PublicName). IsPublicOf written bytes given.name given.place public) same are.0;
-    }
-public_found written bytes (one ∷ names) (public ∷ publics) (suc index) name are found =
-    let rest = public_found written bytes names publics index name are.1 found in
-    record { at = suc rest.at; public = rest.public; found = rest.found; is = rest.is }
 
 same_wrapped : (one other : ℕ) → wrap one ≡ other → wrap one ≡ wrap other
 same_wrapped one other same = omega (arith, same)
@@ -217,15 +183,8 @@ module _
           let same : its ≡ module_is.typed = same_Some its module_is.typed (sym there ∙ module_is.found) in
           let in_typed : slice_get module_is.typed.procedures index ≡ Some public =
           subst (λ (typed : TypedModule). slice_get typed.procedures index ≡ Some public) same found in
-          let lists : ListsGlobals module_is.typed =
-          of_all ListsGlobals modules number module_is.typed (recursion_from_All ListsGlobals modules is.globals) module_is.found in
-          let name : PublicName = record { name = public.name; place = Procedure index } in
-          let named = public_in module_is.typed (made_of module_is).tree.homes.items index public lists in_typed visible in
-          let in_tree : slice_get (made_of module_is).tree.publics.items named.index ≡ Some name =
-          ap (λ (names : List PublicName). slice_get names named.index) (made_of module_is).lowered.publics ∙ named.found in
-          let one = public_found (made_of module_is).generated.code (made_of module_is).generated.code_bytes (made_of module_is).tree.publics.items
-          (module_is.at.linked.object).publics named.index name (made_of module_is).generated.publics in_tree in
-          let lies = public_lies plan modules objects merged image before after is number one.at module_is.typed one.public module_is.at one.found in
+          let one = shows_procedures module_is.typed module_is.at.linked.object module_is.sound index public in_typed visible in
+          let lies = public_lies plan modules objects merged image before after is number one.place module_is.typed one.public module_is.at one.found in
           let offset : ℕ = place_of_label (made_of module_is).generated.code (made_of module_is).generated.code_bytes index in
           let there_public : address_of_public (plan_of plan) (public_named merged.publics public.name)
           ≡ (piece_base (plan_of plan) module_is.at.linked.start segments.Code + offset) % MEMORY_SIZE =
@@ -263,7 +222,8 @@ module _
       pub are_entered :
           (number : ℕ) (module_is : ModuleIs plan modules objects merged before after number) (script : List (List ℕ))
           → modules_are.at number ≡ Some module_is
-          → AreEntered (program_of script) number module_is.typed (made_of module_is).generated (targets_of module_is)
+          → AreEntered (program_of script) number module_is.typed
+          (place_of_label (made_of module_is).generated.code (made_of module_is).generated.code_bytes) (targets_of module_is)
           (public_address plan merged) (entries_of modules_are)
       are_entered number module_is script at_is = record {
         own = λ index found there here.

@@ -1,16 +1,12 @@
 -- A module of a program lies where its object module does.
-use Rattle.std.proofs.Common.{◌≡◌, ℕ, ◌+◌, ◌<◌, List, length, refl, ap, sym, subst, ◌∙◌, arith}
+use Rattle.std.proofs.Common.{◌≡◌, ℕ, ◌+◌, ◌<◌, List, refl, ap, sym, subst, ◌∙◌, arith}
 use Rattle.std.specs.Prelude.{slice_get, Some}
-use Rattle.std.specs.List.{enumerate_from}
-use Rattle.std.proofs.lemmas.List.{length-map}
-use Rattle.std.proofs.lemmas.List.FromFn.{length-enumerate_from}
 use Rattle.mem80.specs.declared.memory.TheConstants.{MEMORY_SIZE}
 use Rattle.object_modules.specs.declared.segment.Segment.TheVariants as segments
 use Rattle.object_modules.specs.declared.segment.Target.{Target}
 use Rattle.object_modules.specs.declared.segment.Target.TheVariants.{InSegment, External}
 use Rattle.object_modules.specs.Module.{ObjectModule}
 use Rattle.typed_trees.specs.TypedTrees.{TypedModule}
-use Rattle.layout.specs.Storage.{Storage, slot_of_list}
 use Rattle.isa8080.specs.State.{wrap}
 use Rattle.asm8080.specs.Items.{Layout}
 use Rattle.treecode.specs.declared.place.Home.TheVariants.{Static}
@@ -30,6 +26,7 @@ use Rattle.treecode.specs.declared.module.TreeModule.{TreeModule}
 use Rattle.treecode.specs.declared.procedure.ProcedureKind.TheVariants as kinds
 use Rattle.treecode.specs.Homes.{externals_of}
 use Rattle.module_segments.specs.internal.Places.{name_at}
+use Rattle.steps8080.specs.Writer.{place_of_label}
 use Rattle.procedure_meaning.specs.Calls.{Entries}
 use Rattle.procedure_meaning.specs.OneModule.{around_in, in_module}
 use Rattle.program_meaning.specs.OneModule.{AreEntered, LiesInMemory, module_layout}
@@ -37,7 +34,7 @@ use Rattle.program_meaning.specs.Typed.{IsSoundlyMade}
 use Rattle.program_meaning.proofs.Labels.{external_kind, has_heading, here_if_own, label_lies}
 use Rattle.program_meaning.proofs.ModuleStands.{IsOwn, code_of, parts_stand}
 use Rattle.program_meaning.proofs.Shared.{external_named}
-use Rattle.program_meaning.proofs.Resolving.{resolves}
+use Rattle.program_meaning.proofs.Resolving.{lists_counted, resolves}
 use Rattle.program_meaning.proofs.VariablesApart.{variables_apart}
 
 module _
@@ -46,7 +43,9 @@ module _
     (sound : IsSoundlyMade typed object)
     (lies : LiesInMemory program number typed object address_of address_of_name memory)
     (entries : Entries)
-    (entered : AreEntered program number typed sound.made.generated address_of address_of_name entries)
+    (entered :
+        AreEntered program number typed (place_of_label sound.made.generated.code sound.made.generated.code_bytes) address_of
+        address_of_name entries)
   where
     abbrev tree : TreeModule
     tree = sound.made.tree
@@ -66,13 +65,6 @@ module _
     place_small (places.Code offset) index static = omega arith
     place_small (places.Data offset) index static = omega arith
     place_small (places.External offset name) index static = omega arith
-
-    lists_counted : length sound.made.storage.lists ≡ length typed.constants.lists
-    lists_counted =
-        ap (λ (storage : Storage). length storage.lists) sound.made.laid.stored.storage_is
-        ∙ length-map (enumerate_from 0 typed.constants.lists)
-        (λ (numbered : ℕ × List ℕ). slot_of_list typed numbered.0 numbered.1)
-        ∙ length-enumerate_from 0 typed.constants.lists
 
     stack_lies : wrap (own.address_of (InSegment segments.Stack))
         ≡ wrap (program.placement.stack.start + program.placement.stack.len)
@@ -129,7 +121,7 @@ module _
           reentrant = sound.facts.reentrant;
           sized = sound.facts.sized;
           bases = sound.facts.bases;
-          lists = lists_counted;
+          lists = lists_counted typed sound.made.storage sound.made.laid.stored;
           lowered = sound.made.lowered;
           numbers = sound.words.numbers;
           script = lies.types.script;

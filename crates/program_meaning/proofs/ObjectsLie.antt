@@ -8,13 +8,11 @@ use Rattle.object_modules.specs.declared.segment.Target.{Target}
 use Rattle.object_modules.specs.Module.{ObjectModule}
 use Rattle.typed_trees.specs.Storable.{HasPlace, IsStorable}
 use Rattle.typed_trees.specs.TypedTrees.{Home, InData, InConstants, Placed, BasedOn, Elsewhere, Nowhere, InFrame, TypedModule, TypedObject}
-use Rattle.layout.specs.Following.{base_of}
 use Rattle.layout.specs.Joined.{object_meant}
 use Rattle.layout.specs.Lawful.{HasAddresses, LiesWhereAtSays}
 use Rattle.layout.specs.Placement.{ModulePlacement}
-use Rattle.layout.specs.Segments.{Location, SegmentStart, ExternalName, address_of_location, location_by_home, location_of, locations_after}
+use Rattle.layout.specs.Segments.{Location, address_of_location, location_by_home, location_of, locations_after}
 use Rattle.layout.specs.Segments.{Absolute as AtNumber}
-use Rattle.layout.specs.Segments.{Target as ModuleTarget}
 use Rattle.layout.specs.StartingMemory.{address_in, address_of_object}
 use Rattle.layout.proofs.Locations.{location_is}
 use Rattle.layout.proofs.PlacedLocations.{lies_at_location}
@@ -24,13 +22,7 @@ use Rattle.module_segments.specs.internal.Places.{IsStatic}
 use Rattle.program_memory.proofs.Addresses.{locations_length}
 use Rattle.program_memory.proofs.Lists.{got_both}
 use Rattle.procedure_meaning.specs.OneModule.{in_module}
-use Rattle.program_meaning.specs.OneModule.{LiesInMemory, bases_at}
-
--- what the locations of a module are counted from
-abbrev pub address_for :
-    (address_of : Target → ℕ) → (address_of_name : (name : List ℕ) → ℕ) → ModuleTarget → ℕ
-address_for address_of address_of_name (SegmentStart segment) = base_of (bases_at address_of) segment
-address_for address_of address_of_name (ExternalName name) = address_of_name name
+use Rattle.program_meaning.specs.OneModule.{LiesInMemory, address_for, bases_at}
 
 modulo : (number : ℕ) → number % 65536 ≡ (number + 0) % 65536
 modulo number = omega arith

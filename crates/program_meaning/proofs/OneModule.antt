@@ -19,6 +19,7 @@ use Rattle.treecode.specs.Lowered.{AreMoreStatements, AreNoStatements, AreStatem
 use Rattle.treecode.specs.Nodes.{nodes_of}
 use Rattle.steps8080.specs.Writer.{place_of_label}
 use Rattle.codegen8080.specs.Modules.{has_main}
+use Rattle.task_meaning.proofs.NumbersOfTrees.{numbers_of_lowered}
 use Rattle.procedure_meaning.specs.Calls.{Entries}
 use Rattle.procedure_meaning.specs.Main.{EndsAs}
 use Rattle.procedure_meaning.specs.Modules.{ModuleCode}
@@ -29,6 +30,7 @@ use Rattle.program_meaning.specs.Typed.{IsSoundlyMade}
 use Rattle.program_meaning.proofs.Labels.{start_lies}
 use Rattle.program_meaning.proofs.ModuleLies.{module_lies}
 use Rattle.program_meaning.proofs.ModuleStands.{code_of, parts_stand}
+use Rattle.program_meaning.proofs.Shown.{shows_procedures}
 
 statement_there : (first : ℕ) (places : List ℕ) (trees : TypedStatements)
     → has_statement (ListOf first places trees) ≡ true
@@ -80,7 +82,9 @@ module _
     (sound : IsSoundlyMade typed object)
     (lies : LiesInMemory program number typed object address_of address_of_name memory)
     (entries : Entries)
-    (entered : AreEntered program number typed sound.made.generated address_of address_of_name entries)
+    (entered :
+        AreEntered program number typed (place_of_label sound.made.generated.code sound.made.generated.code_bytes) address_of
+        address_of_name entries)
   where
     abbrev code : ModuleCode
     code = code_of program number typed object address_of address_of_name memory sound lies
@@ -101,7 +105,7 @@ module _
 
     -- The object module of a module, wherever it lies: each step of calls from those of all procedures, and the run of the
     -- main program.
-    object_does :
+    pub object_does :
         ModuleDoes program memory entries number typed (start_place address_of object)
         (AllCallsAreKnown program memory entries)
     object_does = record {
@@ -123,9 +127,14 @@ module _
 
 -- Code that was generated for a module does, wherever it lies, what the module says.
 pub generated_does :
-    (typed : TypedModule) (object : ObjectModule) (sound : IsSoundlyMade typed object)
-    → DoesWhereItLies typed sound.made.generated
+    (typed : TypedModule) (object : ObjectModule)
+    → IsSoundlyMade typed object
+    → DoesWhereItLies typed object
 generated_does typed object sound = record {
+  begins = place_of_label sound.made.generated.code sound.made.generated.code_bytes;
+  shown = shows_procedures typed object sound;
+  numbers =
+      numbers_of_lowered typed sound.made.storage sound.made.tree sound.made.lowered sound.words.numbers;
   by_calls = λ program number address_of address_of_name memory entries lies entered.
       object_does program number typed object address_of address_of_name memory sound lies entries entered;
   by_other_calls = λ program number address_of address_of_name memory entries lies entered.

@@ -37,7 +37,7 @@ use Rattle.meaning.specs.Meaning.{later_by}
 use Rattle.procedure_meaning.specs.OneModule.{AllCallsAreKnown, CallsFollow, ModuleDoes, around_in}
 use Rattle.procedure_meaning.proofs.KnownCalls.{calls_known}
 use Rattle.program_meaning.specs.OneModule.{start_place}
-use Rattle.program_meaning.proofs.OneModule.{generated_does, started}
+use Rattle.program_meaning.proofs.OneModule.{object_does, started}
 use Rattle.program_meaning.proofs.Linked.{are_entered, lies_in_memory, program_of}
 use Rattle.program_meaning.specs.Entering.{ModulesAre, entries_of}
 use Rattle.program_meaning.specs.Linked.{ModuleIs, made_of, public_address, targets_of}
@@ -166,9 +166,10 @@ module _
         (start_place (targets_of module_is) module_is.at.linked.object)
         (AllCallsAreKnown program after (entries_of modules_are))
     does_at number module_is at_is =
-        (generated_does module_is.typed module_is.at.linked.object module_is.sound).by_calls program number
-        (targets_of module_is) (public_address plan merged) after (entries_of modules_are)
+        object_does program number module_is.typed module_is.at.linked.object (targets_of module_is)
+        (public_address plan merged) after module_is.sound
         (lies_in_memory plan modules objects merged image before after is number module_is script types)
+        (entries_of modules_are)
         (are_entered plan modules objects merged image before after is modules_are number module_is script at_is)
 
     -- so all calls are known

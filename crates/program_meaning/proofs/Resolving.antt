@@ -39,14 +39,14 @@ use Rattle.treecode.specs.Nodes.{home_at}
 use Rattle.treecode.specs.Resolved.{Resolves}
 use Rattle.module_segments.specs.internal.Places.{IsStatic, location_of_place}
 use Rattle.module_segments.proofs.Homes.{any_lies}
-use Rattle.module_segments.proofs.Slots.{list_offset}
+use Rattle.module_segments.proofs.Slots.{IsStored, list_offset}
 use Rattle.program_memory.proofs.Lists.{got_both, got_numbered, some_within}
 use Rattle.code_facts.specs.Holding.{place_at}
 use Rattle.codegen8080.specs.Modules.{IsGenerated}
 use Rattle.procedure_meaning.specs.OneModule.{around_in}
-use Rattle.program_meaning.specs.OneModule.{LiesInMemory, bases_at, module_layout}
+use Rattle.program_meaning.specs.OneModule.{LiesInMemory, address_for, bases_at, module_layout}
 use Rattle.program_meaning.specs.Typed.{IsSoundlyMade}
-use Rattle.program_meaning.proofs.ObjectsLie.{address_for, has_addresses, object_lies}
+use Rattle.program_meaning.proofs.ObjectsLie.{has_addresses, object_lies}
 use Rattle.program_meaning.proofs.Homes.{not_based, not_in_frame}
 
 -- a further place of a layout is so many bytes on
@@ -68,6 +68,17 @@ twice number = omega arith
 
 turned : (one other : ℕ) → wrap (one + other) ≡ (other + one) % MEMORY_SIZE
 turned one other = omega arith
+
+-- there are as many lists in the storage of a module as in the module
+pub lists_counted :
+    (typed : TypedModule) (storage : Storage)
+    → IsStored typed storage
+    → length storage.lists ≡ length typed.constants.lists
+lists_counted typed storage stored =
+    ap (λ (storage : Storage). length storage.lists) stored.storage_is
+    ∙ length-map (enumerate_from 0 typed.constants.lists)
+    (λ (numbered : ℕ × List ℕ). slot_of_list typed numbered.0 numbered.1)
+    ∙ length-enumerate_from 0 typed.constants.lists
 
 module _
     (program : Program) (number : ℕ) (typed : TypedModule) (object : ObjectModule)
@@ -99,7 +110,7 @@ module _
     starts_data = ap address_of (generated.targets.starts segments.Data refl)
 
     -- a place is at the address of where it lies
-    place_lies : (place : Place)
+    pub place_lies : (place : Place)
         → place_at own place
         ≡ address_of_location (address_for address_of address_of_name) (location_of_place names place)
     place_lies (places.Number value) = refl
@@ -208,16 +219,8 @@ module _
     list_begins list within =
         some_within typed.constants.lists list short (λ bytes found. by bytes found)
       where
-        same : storage ≡ storage_with typed
-        same = sound.made.laid.stored.storage_is
-
         short : list < length typed.constants.lists
-        short =
-            let lengths = ap (λ (storage : Storage). length storage.lists) same in
-            let mapped = length-map (enumerate_from 0 typed.constants.lists)
-            (λ (numbered : ℕ × List ℕ). slot_of_list typed numbered.0 numbered.1) in
-            let counted = length-enumerate_from 0 typed.constants.lists in
-            omega (arith, within, lengths, mapped, counted)
+        short = let counted = lists_counted typed storage sound.made.laid.stored in omega (arith, within, counted)
 
         by : (bytes : List ℕ) → slice_get typed.constants.lists list ≡ Some bytes
             → address_of_list around list ≡ place_at own (places.Code (offset_of_list storage list))

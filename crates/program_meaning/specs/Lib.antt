@@ -3,3 +3,4 @@ pub mod Linked
 pub mod Entering
 pub mod Typed
 pub mod OneModule
+pub mod KnownValues

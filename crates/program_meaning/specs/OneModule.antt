@@ -10,10 +10,13 @@ use Rattle.object_modules.specs.Module.{ObjectModule}
 use Rattle.object_modules.specs.Moving.{bytes_resolved}
 use Rattle.typed_trees.specs.declared.parts.Visibility.TheVariants as visibilities
 use Rattle.typed_trees.specs.TypedTrees.{Elsewhere, Nowhere, TypedModule, TypedObject, TypedProcedure}
-use Rattle.layout.specs.Following.{Bases, FollowsBases}
+use Rattle.layout.specs.declared.slot.Segment.TheVariants as slots
+use Rattle.layout.specs.Following.{Bases, FollowsBases, base_of}
 use Rattle.layout.specs.Joined.{InProgram}
 use Rattle.layout.specs.Lawful.{IsLawful}
 use Rattle.layout.specs.Placement.{ModulePlacement}
+use Rattle.layout.specs.Segments.{After, ExternalName, SegmentStart}
+use Rattle.layout.specs.Segments.{Target as ModuleTarget}
 use Rattle.layout.specs.StartingMemory.{address_of_object}
 use Rattle.layout.specs.Storage.{storage_with}
 use Rattle.meaning.specs.Meaning.{callee_in}
@@ -22,13 +25,12 @@ use Rattle.isa8080.specs.State.{wrap}
 use Rattle.asm8080.specs.Assembled.{layout_at}
 use Rattle.asm8080.specs.Items.{Layout}
 use Rattle.asm8080.specs.Standing.{SetBytesStand}
-use Rattle.treecode.specs.declared.module.ExternalName.{ExternalName}
-use Rattle.treecode.specs.declared.module.TreeModule.{TreeModule}
+use Rattle.treecode.specs.declared.module.ExternalName.{ExternalName as TreeExternal}
 use Rattle.module_segments.specs.internal.Places.{name_at}
+use Rattle.program_memory.specs.internal.Segments.{HasPublic}
 use Rattle.steps8080.specs.Externals.{entry}
-use Rattle.steps8080.specs.Writer.{Written, place_of_label}
-use Rattle.codegen8080.specs.Modules.{IsGenerated}
-use Rattle.task_meaning.specs.TreeNumbers.{HasTypes}
+use Rattle.steps8080.specs.Writer.{Written}
+use Rattle.task_meaning.specs.TreeNumbers.{HasTypes, NumbersFitInModule}
 use Rattle.procedure_meaning.specs.Calls.{Entries}
 use Rattle.procedure_meaning.specs.OneModule.{AllCallsAreKnown, ModuleDoes, OtherCallsAreKnown, around_in, in_module}
 
@@ -75,48 +77,62 @@ pub record LiesInMemory
       ≤ program.placement.code.start + program.placement.code.len
   pub stands : SetBytesStand memory (address_of (InSegment Code)) (bytes_resolved address_of object.code.places)
 
--- Where procedures are entered: those of the module where its code has their labels, and those that its EXTERNAL ones
--- stand for where their names lie.
+-- Where procedures are entered: those of the module where they begin in its code segment, and those that its EXTERNAL
+-- ones stand for where their names lie.
 pub record AreEntered
-    (program : Program) (number : ℕ) (typed : TypedModule) {tree : TreeModule} {object : ObjectModule}
-    (generated : IsGenerated tree object) (address_of : Target → ℕ) (address_of_name : (name : List ℕ) → ℕ)
-    (entries : Entries) : Type 0 where
+    (program : Program) (number : ℕ) (typed : TypedModule) (begins : (index : ℕ) → ℕ)
+    (address_of : Target → ℕ) (address_of_name : (name : List ℕ) → ℕ) (entries : Entries) : Type 0 where
   pub own : (index : ℕ) (found : TypedProcedure)
       → slice_get typed.procedures index ≡ Some found
       → found.visibility ≢ visibilities.External
-      → wrap (entries (in_module number index))
-      ≡ wrap (address_of (InSegment Code) + place_of_label generated.code generated.code_bytes index)
+      → wrap (entries (in_module number index)) ≡ wrap (address_of (InSegment Code) + begins index)
   pub externals : (index : ℕ) (found : TypedProcedure) (at : InProgram)
       → slice_get typed.procedures index ≡ Some found
       → found.visibility ≡ visibilities.External
       → callee_in (around_in program number 0) index ≡ Some at
       → wrap (entries at) ≡ wrap (address_of_name found.name)
 
+-- an object module shows where each PUBLIC procedure of its module begins, by a public of that name
+abbrev pub ShowsProcedures : TypedModule → ObjectModule → (begins : (index : ℕ) → ℕ) → Type 0
+ShowsProcedures typed object begins =
+    (index : ℕ) (found : TypedProcedure)
+    → slice_get typed.procedures index ≡ Some found
+    → found.visibility ≡ visibilities.Public
+    → HasPublic found.name (After (SegmentStart slots.Code) (begins index)) object.publics
+
 -- where a module is started, if it is the main one
 abbrev pub start_place : (address_of : Target → ℕ) → ObjectModule → ℕ
 start_place address_of object = option_map_or (λ offset. address_of (InSegment Code) + offset) object.start 0
 
--- What code is generated for. In every program that a module is one of, for every lawful placement, and wherever its
--- object module then lies: where calls of all procedures are known in runs of less than a number, those of its own are in
--- runs of one more, and the main program runs as the source does; and so, for each number, where calls of the procedures
--- of other modules alone are known.
-pub record DoesWhereItLies
-    (typed : TypedModule) {tree : TreeModule} {object : ObjectModule} (generated : IsGenerated tree object) :
-    Type 0 where
+-- What code is generated for. Each procedure of a module begins somewhere in the code segment of its object module, and
+-- its numbers are words, as every module of a program asks of the others. In every program that the module is one of, for
+-- every lawful placement, and wherever its object module then lies: where calls of all procedures are known in runs of less
+-- than a number, those of its own are in runs of one more, and the main program runs as the source does; and so, for each
+-- number, where calls of the procedures of other modules alone are known.
+pub record DoesWhereItLies (typed : TypedModule) (object : ObjectModule) : Type 0 where
+  pub begins : (index : ℕ) → ℕ
+  pub shown : ShowsProcedures typed object begins
+  pub numbers : NumbersFitInModule typed
   pub by_calls :
       (program : Program) (number : ℕ) (address_of : Target → ℕ) (address_of_name : (name : List ℕ) → ℕ)
       (memory : List ℕ) (entries : Entries)
       → LiesInMemory program number typed object address_of address_of_name memory
-      → AreEntered program number typed generated address_of address_of_name entries
+      → AreEntered program number typed begins address_of address_of_name entries
       → ModuleDoes program memory entries number typed (start_place address_of object)
       (AllCallsAreKnown program memory entries)
   pub by_other_calls :
       (program : Program) (number : ℕ) (address_of : Target → ℕ) (address_of_name : (name : List ℕ) → ℕ)
       (memory : List ℕ) (entries : Entries)
       → LiesInMemory program number typed object address_of address_of_name memory
-      → AreEntered program number typed generated address_of address_of_name entries
+      → AreEntered program number typed begins address_of address_of_name entries
       → ModuleDoes program memory entries number typed (start_place address_of object)
       (OtherCallsAreKnown program memory entries number)
+
+-- what the locations of a module are counted from: its segments, and its EXTERNAL names
+abbrev pub address_for :
+    (address_of : Target → ℕ) → (address_of_name : (name : List ℕ) → ℕ) → ModuleTarget → ℕ
+address_for address_of address_of_name (SegmentStart segment) = base_of (bases_at address_of) segment
+address_for address_of address_of_name (ExternalName name) = address_of_name name
 
 -- where labels lie by the numbers of the code, and its targets
 abbrev pub written_layout : (address_of : Target → ℕ) → (to : Target → Target) → Written → Layout
@@ -125,14 +141,14 @@ written_layout address_of to written = layout_at (λ target. address_of (to targ
 -- where targets lie by the numbers of the module
 abbrev pub address_by_module :
     (address_of : Target → ℕ) → (address_of_name : (name : List ℕ) → ℕ) → (to : Target → Target)
-    → List ExternalName → Target → ℕ
+    → List TreeExternal → Target → ℕ
 address_by_module address_of address_of_name to names (InSegment segment) = address_of (to (InSegment segment))
 address_by_module address_of address_of_name to names (External index) = address_of_name (name_at names index)
 
 -- where labels lie by the numbers of the module, and its targets
 abbrev pub module_layout :
     (address_of : Target → ℕ) → (address_of_name : (name : List ℕ) → ℕ) → (to : Target → Target) → Written
-    → List ExternalName → Layout
+    → List TreeExternal → Layout
 module_layout address_of address_of_name to written names = record {
   place_of = λ label.
       option_map_or (written_layout address_of to written).place_of (entry written.labels label) 0;
