@@ -148,10 +148,12 @@ impl Said {
     }
 }
 
-/// What a command line answers: its exit status, the files that it writes, and what it prints, also as faults.
+/// What a command line answers: its exit status, its calls of files, the files that it writes, and what it prints, also as faults.
 #[derive(Drop)]
 pub struct Answer {
     status: u8,
+    /// How many calls of files there were.
+    pub calls: u64,
     failed: u64,
     written: Vec<File>,
     out: Vec<u8>,
@@ -159,14 +161,16 @@ pub struct Answer {
 }
 
 impl Answer {
-    /// The answer to the words of a command line.
-    pub fn of(alloc: Global, block: &Block, words: &[&str]) -> Answer {
+    /// The answer to the words of a command line, where a call of files fails, counted from 0.
+    pub fn of(alloc: Global, block: &Block, words: &[&str], failing_call: u64) -> Answer {
         let mut files = MemoryFiles::new(alloc, block.files.as_slice());
+        files.failing_call = failing_call;
         let mut out: Vec<u8> = Vec::new(alloc);
         let mut err: Vec<u8> = Vec::new(alloc);
         let status = run_command(alloc, words, &mut files, &mut out, &mut err);
         Answer {
             status,
+            calls: files.calls(),
             failed: files.failed(),
             written: files.into_written(),
             out,
@@ -181,6 +185,21 @@ impl Answer {
             && block.are_written(self.written.as_slice())
             && block.out.is_of(self.out.as_slice())
             && block.err.is_of(self.err.as_slice())
+    }
+
+    /// Whether this is the answer where a file fails: it is refused for that, prints nothing, and of what is said to be written
+    /// has written at most beginnings.
+    pub fn is_stopped(&self, block: &Block) -> bool {
+        self.status == 1
+            && self.failed == 1
+            && self.out.is_empty()
+            && text(self.err.as_slice()).starts_with("U3 ")
+            && self.written.len() <= block.written.len()
+            && self
+                .written
+                .iter()
+                .zip(&block.written)
+                .all(|(file, said)| file.begins(said))
     }
 
     /// Prints it.

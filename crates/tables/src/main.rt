@@ -8,13 +8,15 @@
 //! with `$ `, `@ `, `& `, `x `, `% `, `= `, `* `, `>`, `!` or `damage `. Of the carriage returns that end a line the last one is
 //! no part of it.
 //! A file `closed.obj` can't be begun, and `broken.obj` takes three bytes.
+//! Each command line is carried out again for each of its calls of files, with that call failing: it is to be refused with U3, to
+//! print nothing, and of a file that it is said to write to have written a beginning at most.
 //! A line `damage` between blocks has the bytes of an object file in hexadecimal digits. Each of them is changed to each other
 //! value, and a line is printed at once: how many changes there were, how many were answered otherwise than by the first fault of
 //! a record's length or sum, as a plain walk over the records finds it, and how many have which of these faults.
 //! Each program that a command line runs is also compiled to object files, which are merged and printed as Intel HEX: it is
 //! counted how often these are other bytes than those of the image that is built of the sources.
 //! Then it prints what the machine, its parts and the interpreter do, as the manuals say it; what merges of object files are,
-//! made of modules and of files; objects that are read, placed and loaded, texts of Intel HEX that are read, and how
+//! made of modules and of files; objects that are read, walked over, placed, loaded and run, texts of Intel HEX that are read, and how
 //! commands end whose output fails part way; whether help has each number with the words of its fault; what long code and code
 //! with many labels is; and at last whether the document of the routines, the file `runtime.md` where the program runs, is as
 //! it is made here, or else that document.
@@ -73,56 +75,76 @@ use std::io::read_to_string;
 // The line after a block.
 const END_OF_BLOCK: &str = "====";
 
-// How many lines were read, how many blocks there were, and how many of them had another answer; how many images were
-// compared with those by way of object files, and how many of them are others.
+// How many there were, and how many of them are others than they are to be.
+#[derive(Clone, Copy)]
+struct Count {
+    all: u64,
+    others: u64,
+}
+
+impl Count {
+    // Counts one.
+    fn add(&mut self, is_right: bool) {
+        self.all = self.all.saturating_add(1);
+        if !is_right {
+            self.others = self.others.saturating_add(1);
+        }
+    }
+
+    // Prints both.
+    fn print(&self, page: &mut Page, what: &str, differ: &str) {
+        page.number("", self.all);
+        page.number(what, self.others);
+        page.text(differ);
+    }
+}
+
+// How many lines were read; the answers to command lines, those where a call of files failed, and the images that were compared with
+// those by way of object files.
 #[derive(Clone, Copy)]
 struct Counts {
     lines: u64,
-    blocks: u64,
-    differ: u64,
-    images: u64,
-    other_images: u64,
+    answers: Count,
+    stopped: Count,
+    images: Count,
 }
 
-impl Counts {
-    // Counts a block.
-    fn add(&mut self, is_as_said: bool) {
-        self.blocks = self.blocks.saturating_add(1);
-        if !is_as_said {
-            self.differ = self.differ.saturating_add(1);
-        }
-    }
-
-    // Counts an image that was compared.
-    fn add_image(&mut self, is_same: bool) {
-        self.images = self.images.saturating_add(1);
-        if !is_same {
-            self.other_images = self.other_images.saturating_add(1);
-        }
-    }
-
-    // Prints how many blocks there were, and how many had another answer, and the same of images.
-    fn print(&self, page: &mut Page) {
-        page.number("", self.blocks);
-        page.number(" command lines, ", self.differ);
-        page.text(" differ\n");
-        page.number("", self.images);
-        page.number(" images, ", self.other_images);
-        page.text(" differ by way of object files\n");
-    }
-}
-
-// Whether the words of a command line have the answer that is said of it; where not, prints what it has.
-fn is_as_said(page: &mut Page, block: &Block, words: &[&str]) -> bool {
-    let answer = Answer::of(page.alloc(), block, words);
-    let is_as_said = answer.is_as_said(block);
-    if !is_as_said {
+// Counts an answer; where it is another than it is to be, prints it.
+fn count_answer(
+    page: &mut Page,
+    count: &mut Count,
+    block: &Block,
+    answer: &Answer,
+    is_right: bool,
+) {
+    count.add(is_right);
+    if !is_right {
         page.number("line ", block.place());
         page.text(": ");
         answer.print(page);
         page.text("\n");
     }
-    is_as_said
+}
+
+// Carries out a command line once more for each of its calls of files, with that one failing.
+fn fail_each(page: &mut Page, count: &mut Count, block: &Block, words: &[&str], calls: u64) {
+    for call in 0..calls {
+        let answer = Answer::of(page.alloc(), block, words, call);
+        count_answer(page, count, block, &answer, answer.is_stopped(block));
+    }
+}
+
+// Carries out a command line, with no call of files failing and with each.
+fn answer_words(page: &mut Page, counts: &mut Counts, block: &Block, words: &[&str]) {
+    let answer = Answer::of(page.alloc(), block, words, u64::MAX);
+    count_answer(
+        page,
+        &mut counts.answers,
+        block,
+        &answer,
+        answer.is_as_said(block),
+    );
+    fail_each(page, &mut counts.stopped, block, words, answer.calls);
 }
 
 // Compares the image of a command line with that by way of object files; where it is another, prints the line.
@@ -130,9 +152,9 @@ fn compare_images(page: &mut Page, counts: &mut Counts, block: &Block, words: &[
     let linked = linked_image(page.alloc(), block, words);
     match linked {
         Linked::Missing => {}
-        Linked::Same => counts.add_image(true),
+        Linked::Same => counts.images.add(true),
         Linked::Other => {
-            counts.add_image(false);
+            counts.images.add(false);
             page.number("line ", block.place());
             page.text(": another image by way of object files\n");
         }
@@ -143,7 +165,7 @@ fn compare_images(page: &mut Page, counts: &mut Counts, block: &Block, words: &[
 fn run_block(page: &mut Page, counts: &mut Counts, block: &Block) {
     match block.words(page.alloc()) {
         Ok(words) => {
-            counts.add(is_as_said(page, block, words.as_slice()));
+            answer_words(page, counts, block, words.as_slice());
             compare_images(page, counts, block, words.as_slice());
         }
         Err(_) => page.note(false),
@@ -166,18 +188,24 @@ fn read_line<'a>(page: &mut Page, counts: &mut Counts, block: &mut Block<'a>, li
 
 // Carries out the command lines of rows.
 fn print_blocks(page: &mut Page, rows: &str) {
+    let none = Count { all: 0, others: 0 };
     let mut counts = Counts {
         lines: 0,
-        blocks: 0,
-        differ: 0,
-        images: 0,
-        other_images: 0,
+        answers: none,
+        stopped: none,
+        images: none,
     };
     let mut block = Block::new(page.alloc());
     for line in rows.lines() {
         read_line(page, &mut counts, &mut block, line);
     }
-    counts.print(page);
+    counts.answers.print(page, " command lines, ", " differ\n");
+    counts
+        .stopped
+        .print(page, " failing calls of files, ", " answered otherwise\n");
+    counts
+        .images
+        .print(page, " images, ", " differ by way of object files\n");
 }
 
 // Prints what the parts of the machine do, the interpreter, and what reads and places objects.

@@ -56,12 +56,20 @@ impl File {
             && self.bytes.has(other.bytes.as_slice())
     }
 
-    // How many bytes of these it takes.
+    /// Whether it has this name, and as its bytes a beginning of these.
+    pub fn begins(&self, other: &File) -> bool {
+        let bytes = self.bytes.as_slice();
+        self.name.has(other.name.as_slice())
+            && self.bytes.is_whole()
+            && other.bytes.as_slice().get(..bytes.len()) == Some(bytes)
+    }
+
+    // How many bytes of these it takes: the greater half, so that long texts take several calls.
     fn count_of(&self, bytes: &[u8]) -> usize
         ensures { result ≤ length bytes.now }
     {
         if !self.name.has(BROKEN) {
-            bytes.len()
+            (bytes.len() / 2).saturating_add(1).min(bytes.len())
         } else if self.bytes.as_slice().len() < BROKEN_LENGTH {
             bytes.len().min(1)
         } else {
@@ -89,17 +97,20 @@ fn number_of(files: &[File], name: &str) -> usize {
     files.len()
 }
 
-/// Some files, those that were written, and a count of the calls that failed.
+/// Some files, those that were written, and counts of the calls and of those that failed.
 #[derive(Drop)]
 pub struct MemoryFiles<'a> {
     alloc: Global,
     files: &'a [File],
     written: Vec<File>,
+    calls: u64,
     failed: u64,
+    /// The call that fails, counted from 0, where there are so many.
+    pub failing_call: u64,
 }
 
 impl<'a> MemoryFiles<'a> {
-    /// These files, before any call.
+    /// These files, before any call, of which none is to fail.
     pub fn new(alloc: Global, files: &'a [File]) -> MemoryFiles<'a>
         ensures { result.failed ≡ 0 }
     {
@@ -107,8 +118,15 @@ impl<'a> MemoryFiles<'a> {
             alloc,
             files,
             written: Vec::new(alloc),
+            calls: 0,
             failed: 0,
+            failing_call: u64::MAX,
         }
+    }
+
+    /// How many calls there were.
+    pub fn calls(&self) -> u64 {
+        self.calls
     }
 
     /// How many calls failed.
@@ -119,6 +137,15 @@ impl<'a> MemoryFiles<'a> {
     /// The files that were written, in the order in which they were begun.
     pub fn into_written(self) -> Vec<File> {
         self.written
+    }
+
+    // Counts a call, and answers whether it is another one than that which fails.
+    fn is_good_call(&mut self) -> bool
+        ensures { self.new.failed ≡ self.old.failed }
+    {
+        let is_good = self.calls != self.failing_call;
+        self.calls = self.calls.saturating_add(1);
+        is_good
     }
 
     // Counts a failure.
@@ -173,6 +200,9 @@ impl Files for MemoryFiles<'_> {
     ghost failures = { λ files. files.failed };
 
     fn read_file(&mut self, name: &str) -> Result<Vec<u8>, Failure<FileFault>> {
+        if !self.is_good_call() {
+            return Err(Failure::Fault(self.fail()));
+        }
         let Some(file) = self.file(name) else {
             return Err(Failure::Fault(self.fail()));
         };
@@ -183,7 +213,7 @@ impl Files for MemoryFiles<'_> {
     }
 
     fn begin(&mut self, name: &str) -> Result<(), Failure<FileFault>> {
-        if name == CLOSED {
+        if !self.is_good_call() || name == CLOSED {
             Err(Failure::Fault(self.fail()))
         } else if self.clear(name) {
             Ok(())
@@ -193,7 +223,11 @@ impl Files for MemoryFiles<'_> {
     }
 
     fn append(&mut self, name: &str, bytes: &[u8]) -> Result<usize, Failure<FileFault>> {
-        let count = self.grow(name, bytes);
+        let count = if self.is_good_call() {
+            self.grow(name, bytes)
+        } else {
+            0
+        };
         if count == 0 && !bytes.is_empty() {
             Err(Failure::Fault(self.fail()))
         } else {

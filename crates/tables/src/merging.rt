@@ -207,7 +207,22 @@ fn print_merge(page: &mut Page, all_records: &[&[&str]]) {
     });
 }
 
-/// Prints what merges are.
+// Prints whether a file is written again as it was read.
+fn print_written(page: &mut Page, records: &[&str]) {
+    let file = file_of(page.alloc(), records);
+    let mut bytes = Vec::new(page.alloc());
+    match objmod::read(page.alloc(), file.as_slice()) {
+        Ok(module) => page.note(object_writer::write(&module, &mut bytes).is_ok()),
+        Err(_) => page.note(false),
+    }
+    page.text(if file.has(bytes.as_slice()) {
+        "written as it was read\n"
+    } else {
+        "written otherwise than it was read\n"
+    });
+}
+
+/// Prints what merges are, and whether files are written again as they were read.
 pub fn print_merges(page: &mut Page) {
     print_merge(page, &[&CALLER, &CALLED]);
     print_merge(page, &[&CALLED, &CALLER]);
@@ -216,4 +231,7 @@ pub fn print_merges(page: &mut Page) {
     print_merge(page, &[&CALLED, &LONG]);
     print_merge(page, &[&SHOWING, &SHOWN, &SHOWN_AGAIN]);
     print_merge(page, &[&SHOWING]);
+    for records in [CALLER.as_slice(), &CALLED, &HALVES, &PAGE, &LONG] {
+        print_written(page, records);
+    }
 }

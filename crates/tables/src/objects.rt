@@ -1,14 +1,17 @@
-//! Objects read from a reader and loaded into a memory, and pieces read from Intel HEX.
+//! Objects read from a reader, walked over, and loaded into a memory and run there, and pieces read from Intel HEX.
 
 ghost use Rattle.mem80.specs.Pieces.{AreWritable};
 
+use crate::events::{print_events, word_of};
 use crate::page::Page;
 use crate::readers::BrokenReader;
+use cpu8080::Machine;
 use failure::Failure;
 use hex80::{read_hex, write_hex};
 use locate::{Plan, locate};
 use mem80::{Memory, Piece};
-use objmod::{ObjectModule, Segment, read, read_from};
+use objmod::{ObjectModule, Segment, Walk, read, read_from, walk};
+use ports::Script;
 use std::alloc::Global;
 use std::io::Read;
 
@@ -26,6 +29,15 @@ pub const MERGED: [u8; 57] = [
     0x04, 0x00, 0x01, 0x53, 0x00, 0x8A, 0x06, 0x0D, 0x00, 0x01, 0x00, 0x00, 0xCD, 0x04, 0x00, 0x76,
     0x3E, 0x08, 0xD3, 0x04, 0xC9, 0xBF, 0x22, 0x04, 0x00, 0x03, 0x01, 0x00, 0xD6, 0x04, 0x05, 0x00,
     0x01, 0x01, 0x00, 0x00, 0xF5, 0x0E, 0x01, 0x00, 0xF1,
+];
+
+// MVI A,low of S; OUT 0; MVI A,high of S; OUT 0; HLT, merged with a module aligned at a page, whose first byte is S.
+const HALVES_MERGED: [u8; 72] = [
+    0x02, 0x09, 0x00, 0x01, 0x43, 0x00, 0x00, 0x01, 0x01, 0x01, 0x01, 0xAD, 0x16, 0x07, 0x00, 0x01,
+    0x00, 0x01, 0x01, 0x53, 0x00, 0x8D, 0x06, 0x0D, 0x00, 0x01, 0x00, 0x00, 0x3E, 0x00, 0xD3, 0x00,
+    0x3E, 0x01, 0xD3, 0x00, 0x76, 0x53, 0x22, 0x04, 0x00, 0x01, 0x01, 0x00, 0xD8, 0x22, 0x04, 0x00,
+    0x02, 0x05, 0x00, 0xD3, 0x06, 0x05, 0x00, 0x01, 0x00, 0x01, 0xC9, 0x2A, 0x04, 0x05, 0x00, 0x01,
+    0x01, 0x00, 0x00, 0xF5, 0x0E, 0x01, 0x00, 0xF1,
 ];
 
 // A text, and what is said of it.
@@ -145,6 +157,34 @@ fn print_readers(page: &mut Page) {
     print_read(page, &mut broken);
 }
 
+// Prints the next of each kind of part that a walk hands out: an external name, a content, and a fix of it.
+fn print_next(page: &mut Page, walk: &mut Walk) {
+    page.text("walk:");
+    if let Some(name) = walk.next_external() {
+        page.text(" external ");
+        page.text(std::str::from_utf8(name).unwrap_or(""));
+    }
+    if let Some(content) = walk.next_content() {
+        page.word(" content at ", content.offset);
+        page.number(" of ", content.bytes.len() as u64);
+    }
+    if let Some(fix) = walk.next_fix() {
+        page.word(" fix at ", fix.offset);
+    }
+    page.text("\n");
+}
+
+// Prints the parts of an object that is walked over, and that there are no more.
+fn print_walk(page: &mut Page) {
+    match walk(page.alloc(), &CALLING) {
+        Ok(mut walk) => {
+            print_next(page, &mut walk);
+            print_next(page, &mut walk);
+        }
+        Err(_) => page.note(false),
+    }
+}
+
 // Places an object as usual, and loads it: whether it could be placed.
 fn is_loaded(alloc: Global, memory: &mut Memory, object: &ObjectModule) -> bool {
     match locate(alloc, object, &Plan::usual()) {
@@ -156,12 +196,12 @@ fn is_loaded(alloc: Global, memory: &mut Memory, object: &ObjectModule) -> bool 
     }
 }
 
-// Loads the merge over other bytes.
-fn load_merged(page: &mut Page, memory: &mut Memory) {
+// Loads an object over other bytes.
+fn load_over(page: &mut Page, bytes: &[u8], memory: &mut Memory) {
     for address in 0xFF..0x10A_u16 {
         memory.set(address, 0x11);
     }
-    match read(page.alloc(), &MERGED) {
+    match read(page.alloc(), bytes) {
         Ok(object) => {
             let is_loaded = is_loaded(page.alloc(), memory, &object);
             page.note(is_loaded);
@@ -177,6 +217,14 @@ fn print_memory(page: &mut Page, memory: &Memory) {
         page.byte(" ", memory.get(address));
     }
     page.text("\n");
+}
+
+// Prints how a run from 100H on ends, and its events.
+fn print_run(page: &mut Page, memory: Memory) {
+    let mut machine = Machine::new(memory, Script::new(page.alloc()), 0x100);
+    let end = word_of(machine.run(100));
+    page.line("run: ", end);
+    print_events(page, machine.ports().events());
 }
 
 // Prints pieces of memory.
@@ -215,21 +263,24 @@ fn print_row(page: &mut Page, row: &Row) {
     }
 }
 
-// Prints what is loaded.
-fn print_loaded(page: &mut Page) {
+// Prints what an object is that is loaded, and what it does.
+fn print_loaded(page: &mut Page, bytes: &[u8]) {
     match Memory::new(page.alloc()) {
         Ok(mut memory) => {
-            load_merged(page, &mut memory);
+            load_over(page, bytes, &mut memory);
             print_memory(page, &memory);
+            print_run(page, memory);
         }
         Err(_) => page.note(false),
     }
 }
 
-/// Prints objects that are read and loaded, and the pieces of texts.
+/// Prints objects that are read, walked over, loaded and run, and the pieces of texts.
 pub fn print_objects(page: &mut Page) {
     print_readers(page);
-    print_loaded(page);
+    print_walk(page);
+    print_loaded(page, &MERGED);
+    print_loaded(page, &HALVES_MERGED);
     for row in &TEXTS {
         print_row(page, row);
     }

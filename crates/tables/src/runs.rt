@@ -73,8 +73,14 @@ fn print_parts(page: &mut Page, machine: &mut Machine<Script>) {
     print_run(page, machine, 1);
 }
 
-// An instruction that stands at the last address and goes on at the first one.
+// MVI A,1; LXI H,0; MVI M,2; JMP FFFFH: from the last address on, so that the first one has what A is given, which the program changes.
+const FROM_THE_LAST: [u8; 10] = [0x3E, 0x01, 0x21, 0x00, 0x00, 0x36, 0x02, 0xC3, 0xFF, 0xFF];
+
+// Prints an instruction that stands at the last address and goes on at the first one, before and after that one was written to.
 fn print_last_address(page: &mut Page, machine: &mut Machine<Script>) {
+    let step = machine.step();
+    print_state(page, word_of_step(step), machine.registers());
+    machine.run(3);
     let step = machine.step();
     print_state(page, word_of_step(step), machine.registers());
 }
@@ -163,7 +169,7 @@ fn print_undocumented(page: &mut Page) {
 pub fn print_runs(page: &mut Page) {
     print_with(page, Print::Changes, 0x100, &CHANGES_ITSELF);
     print_with(page, Print::Parts, 0x100, &CHANGES_ITSELF);
-    print_with(page, Print::LastAddress, 0xFFFF, &[0x3E, 0x01]);
+    print_with(page, Print::LastAddress, 0xFFFF, &FROM_THE_LAST);
     print_port_fault(page);
     print_undocumented(page);
 }

@@ -7,36 +7,65 @@ use crate::readers::ShortWriter;
 use commands::run_command;
 use std::alloc::Global;
 
-// The words of a command, the last of which is its file, the bytes of that file, and what is printed.
+// The words of a command, the name of its file and the bytes of that, and what is printed.
 struct Row {
-    words: [&'static str; 3],
+    words: &'static [&'static str],
+    file: &'static str,
     bytes: &'static [u8],
     printed: &'static str,
 }
 
-const PROGRAM: [u8; 28] = *b"M: DO; OUTPUT(0) = 1; END M;";
+const PROGRAM: &[u8] = b"M: DO; DECLARE A BYTE; A = 1; OUTPUT(0) = A; END M;";
 
 // What is printed of the merge stands in `docs/commands.md`.
-const ROWS: [Row; 4] = [
+const ROWS: [Row; 8] = [
     Row {
-        words: ["plm", "locate", "m.obj"],
+        words: &["plm", "--version"],
+        file: "",
+        bytes: b"",
+        printed: "plm 1.0\n",
+    },
+    Row {
+        words: &["plm", "locate", "m.obj"],
+        file: "m.obj",
         bytes: &MERGED,
         printed: "CODE 0100 9\nDATA 4000 0\nSTACK F000 1024\nSTART 0100\nPUBLIC S 0104\n",
     },
     Row {
-        words: ["plm", "hex", "m.obj"],
+        words: &["plm", "locate", "--need", "m.plm"],
+        file: "m.plm",
+        bytes: PROGRAM,
+        printed: "NEED 12\n",
+    },
+    Row {
+        words: &["plm", "hex", "m.obj"],
+        file: "m.obj",
         bytes: &MERGED,
         printed: ":09010000CD0401763E08D304C9C8\n:00000001FF\n",
     },
     Row {
-        words: ["plm", "run", "m.plm"],
-        bytes: &PROGRAM,
+        words: &["plm", "run", "m.plm"],
+        file: "m.plm",
+        bytes: PROGRAM,
         printed: "OUT 00 01\nHALT\n",
     },
     Row {
-        words: ["plm", "interpret", "m.plm"],
-        bytes: &PROGRAM,
+        words: &["plm", "interpret", "m.plm"],
+        file: "m.plm",
+        bytes: PROGRAM,
         printed: "OUT 00 01\nHALT\n",
+    },
+    Row {
+        words: &["plm", "run", "--map", "m.plm"],
+        file: "m.plm",
+        bytes: PROGRAM,
+        printed: "MAP M A 4000 1\nOUT 00 01\nHALT\n",
+    },
+    Row {
+        words: &["plm", "interpret", "--map", "m.plm"],
+        file: "m.plm",
+        bytes: PROGRAM,
+        printed: "MAP M A 4000 1\nOUT 00 01\nHALT\n",
     },
 ];
 
@@ -50,7 +79,7 @@ const FAULTY: [&[&str]; 3] = [
 // The file of a command, where there is memory for it.
 fn files_of(page: &mut Page, row: &Row) -> Vec<File> {
     let mut files = Vec::new(page.alloc());
-    let mut file = File::new(page.alloc(), row.words[2]);
+    let mut file = File::new(page.alloc(), row.file);
     file.bytes.add(row.bytes);
     page.note(files.push(file).is_ok());
     files
@@ -62,7 +91,7 @@ fn is_refused(alloc: Global, row: &Row, files: &[File], room: usize) -> bool {
     let mut err: Vec<u8> = Vec::new(alloc);
     let taken = Vec::new(alloc);
     let mut out = ShortWriter { room, taken };
-    let status = run_command(alloc, &row.words, &mut files, &mut out, &mut err);
+    let status = run_command(alloc, row.words, &mut files, &mut out, &mut err);
     status == 1
         && err.as_slice() == b"U3 - 0\n".as_slice()
         && row.printed.as_bytes().get(..room) == Some(out.taken.as_slice())
@@ -82,11 +111,15 @@ fn refusals(alloc: Global, row: &Row, files: &[File]) -> u64 {
 // Prints how often a command is refused.
 fn print_row(page: &mut Page, row: &Row) {
     let files = files_of(page, row);
-    page.text(row.words[1]);
+    page.text("output of");
+    for word in row.words {
+        page.text(" ");
+        page.text(word);
+    }
     let refused = refusals(page.alloc(), row, files.as_slice());
     page.number(": ", refused);
     page.number(" of ", row.printed.len() as u64);
-    page.text(" shorter outputs are refused\n");
+    page.text(" shorter ones are refused\n");
 }
 
 // The status of a command whose faults can't be told.
