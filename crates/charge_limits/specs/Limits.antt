@@ -10,7 +10,7 @@ HasFewParameters typed =
     (number : ℕ) (found : TypedProcedure) → slice_get typed.procedures number ≡ Some found
     → length found.parameter_types ≤ PARAMETER_LIMIT
 
--- A limit of charges, which no source reaches: 10 bytes, 16 parameters of two bytes, 1024 bytes of variables in a frame, and two bytes
+-- A limit of charges, which no source passes: 10 bytes, 16 parameters of two bytes, 1024 bytes of variables in a frame, and two bytes
 -- for each of 17 * 64 levels, since a level of a text makes an expression at most 17 higher: a call of 16
 -- arguments does.
 abbrev pub charge_limit : ℕ

@@ -28,5 +28,5 @@ tells_cause names texts fault old new cause told = inl (record { fault = fault; 
 pub tells_memory : (names texts : List (List ℕ)) (old new : Option (List ℕ)) → Tells memory_line old new → TellsNoNeed names texts old new
 tells_memory names texts old new told = inr (inl told)
 
-pub tells_output : (names texts : List (List ℕ)) (old new : Option (List ℕ)) → Tells output_line old new → TellsNoNeed names texts old new
-tells_output names texts old new told = inr (inr told)
+pub tells_output : (names texts : List (List ℕ)) (line : List ℕ) (old new : Option (List ℕ)) → IsNeedText texts line → Tells output_line old new → TellsNoNeed names texts old new
+tells_output names texts line old new need told = inr (inr (record { line = line; need = need; told = told }))

@@ -30,7 +30,13 @@ pub record TellsCause (names texts : List (List ℕ)) (old new : Option (List �
   pub cause : HasCause fault texts
   pub told : Tells (fault_line names fault) old new
 
--- that line was printed, or that memory ran out, or that the need was not written
+-- the line of standard output was printed: the texts have a need, which was not written
+pub record TellsOutput (texts : List (List ℕ)) (old new : Option (List ℕ)) : Type 0 where
+  pub line : List ℕ
+  pub need : IsNeedText texts line
+  pub told : Tells output_line old new
+
+-- the line of a fault was printed, or that memory ran out, or that the need was not written
 abbrev pub TellsNoNeed : (names texts : List (List ℕ)) → (old new : Option (List ℕ)) → Type 0
 TellsNoNeed names texts old new =
-    TellsCause names texts old new ⊎ (Tells memory_line old new ⊎ Tells output_line old new)
+    TellsCause names texts old new ⊎ (Tells memory_line old new ⊎ TellsOutput texts old new)

@@ -14,12 +14,13 @@ use Rattle.typed_trees.specs.Views.{module_view}
 use Rattle.layout.specs.Joined.{IsJoined}
 use Rattle.frontend.specs.Reading.{IsSourceOf}
 use Rattle.program_sources.specs.declared.sources.Source as declared_source
+use Rattle.program_sources.specs.declared.sources.TheConstants.{MOST_SOURCES}
 use Rattle.program_sources.specs.Programs.{AreSourcesOf, text_of, texts_of}
 use Rattle.stack_need.specs.StackNeed.{TellsNeed}
 use Rattle.program_needs.specs.declared.fault.NeedFault.{NeedFault}
 use Rattle.program_needs.specs.declared.fault.NeedFault.TheVariants.{TooManySources, Source, Join}
-use Rattle.program_needs.specs.Needs.{HasCause, IsFirstUnread, IsNeedOf, IsNeedText, IsReadable, need_line}
-use Rattle.program_needs.specs.internal.Reading.{IsFirstFault, IsOfJoining, IsOfSource}
+use Rattle.program_needs.specs.Needs.{HasCause, IsNeedOf, IsNeedText, IsReadable, need_line}
+use Rattle.program_needs.specs.internal.Reading.{IsFirstFault, IsOfJoining, IsOfSource, IsUnread}
 
 -- the texts before this place are sources of modules
 abbrev pub AreRead : List (List ℕ) → (file : ℕ) → Type 0
@@ -76,7 +77,7 @@ all_read texts file made before past =
 first_of_one : (fault : NeedFault) (file : ℕ) (texts : List (List ℕ)) → file < length texts → IsOfSource file (text_of texts file) fault → AreRead texts file → IsFirstFault texts fault
 first_of_one TooManySources file texts below is before = absurd is
 first_of_one (Source place fault) file texts below is before =
-    subst (λ k. IsFirstUnread texts k fault) (sym is.0) (record { before = before; below = below; cause = is.1 })
+    subst (λ k. IsUnread texts k fault) (sym is.0) (record { before = before; below = below; cause = is.1 })
 first_of_one (Join fault) file texts below is before = absurd is
 
 pub passed : {A F : Type 0} (result : Result A F) (failure : F) → IsErrAnd result (λ given. given ≡ failure) → result ≡ Err failure
@@ -91,20 +92,25 @@ first_of_all {A} texts file text result (Fault fault) is below at has before =
 first_of_all {A} texts file text result Memory is below at has before =
     subst (λ (r : Result A (Failure NeedFault)). IfFault r (IsFirstFault texts)) (sym is) tt
 
-pub source_cause : (fault : NeedFault) (texts : List (List ℕ)) → IsFirstFault texts fault → HasCause fault texts
-source_cause TooManySources texts is = absurd is
-source_cause (Source file fault) texts is = is
-source_cause (Join fault) texts is = absurd is
+-- as many texts as sources
+few_texts : (sources : List declared_source.Source) → length sources ≤ MOST_SOURCES → length (texts_of sources) ≤ MOST_SOURCES
+few_texts sources few = simp length-map few
 
-pub join_cause : (fault : NeedFault) (texts : List (List ℕ)) (modules : List TypedModule) → AreSourcesOf texts modules → IsOfJoining modules fault → HasCause fault texts
-join_cause TooManySources texts modules are is = absurd is
-join_cause (Source file fault) texts modules are is = absurd is
-join_cause (Join fault) texts modules are is = record { modules = modules; sources = are; cause = is }
+pub source_cause : (fault : NeedFault) (sources : List declared_source.Source) → length sources ≤ MOST_SOURCES → IsFirstFault (texts_of sources) fault → HasCause fault (texts_of sources)
+source_cause TooManySources sources few is = absurd is
+source_cause (Source file fault) sources few is = record { few = few_texts sources few; before = is.before; below = is.below; cause = is.cause }
+source_cause (Join fault) sources few is = absurd is
 
-pub is_need : (texts : List (List ℕ)) (modules : List Typed) (joined : List Typed) (told : Option ℕ) → AreSourcesOf texts (map module_view modules) → IsJoined (map module_view modules)
-    → joined ≡ modules → TellsNeed (map module_view joined) told → IsNeedOf texts told
-is_need texts modules joined told are is same tells =
-    record { modules = map module_view modules; program = record { sources = are; joined = is }; need = subst (λ ms. TellsNeed (map module_view ms) told) same tells }
+pub join_cause : (fault : NeedFault) (sources : List declared_source.Source) (modules : List TypedModule) → length sources ≤ MOST_SOURCES → AreSourcesOf (texts_of sources) modules
+    → IsOfJoining modules fault → HasCause fault (texts_of sources)
+join_cause TooManySources sources modules few are is = absurd is
+join_cause (Source file fault) sources modules few are is = absurd is
+join_cause (Join fault) sources modules few are is = record { few = few_texts sources few; modules = modules; sources = are; cause = is }
+
+pub is_need : (sources : List declared_source.Source) (modules : List Typed) (joined : List Typed) (told : Option ℕ) → length sources ≤ MOST_SOURCES → AreSourcesOf (texts_of sources) (map module_view modules)
+    → IsJoined (map module_view modules) → joined ≡ modules → TellsNeed (map module_view joined) told → IsNeedOf (texts_of sources) told
+is_need sources modules joined told few are is same tells =
+    record { few = few_texts sources few; modules = map module_view modules; program = record { sources = are; joined = is }; need = subst (λ ms. TellsNeed (map module_view ms) told) same tells }
 
 pub is_need_text : (texts : List (List ℕ)) (told : Option ℕ) (line : List ℕ) → IsNeedOf texts told → line ≡ need_line told → IsNeedText texts line
 is_need_text texts told line need is = record { told = told; need = need; line_is = is }

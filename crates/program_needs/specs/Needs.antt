@@ -1,5 +1,5 @@
 -- The need of the program of sources, and why they have none.
-use Rattle.std.specs.Prelude.{◌≡◌, ℕ, ◌<◌, List, [], ◌∷◌, ◌++◌, codes, decimal, length, Option, None, Some}
+use Rattle.std.specs.Prelude.{◌≡◌, ℕ, ◌<◌, ◌≤◌, List, [], ◌∷◌, ◌++◌, codes, decimal, length, Option, None, Some}
 use Rattle.typed_trees.specs.TypedTrees.{TypedModule}
 use Rattle.layout.specs.Joined.{join_refusal}
 use Rattle.join.specs.declared.fault.Fault as join_fault
@@ -13,8 +13,9 @@ use Rattle.stack_need.specs.StackNeed.{TellsNeed}
 use Rattle.program_needs.specs.declared.fault.NeedFault.{NeedFault}
 use Rattle.program_needs.specs.declared.fault.NeedFault.TheVariants.{TooManySources, Source, Join}
 
--- texts are the sources of a program, and this is told of its need
+-- texts are the sources of a program, not too many, and this is told of its need
 pub record IsNeedOf (texts : List (List ℕ)) (told : Option ℕ) : Type 0 where
+  pub few : length texts ≤ MOST_SOURCES
   pub modules : List TypedModule
   pub program : IsProgramOf texts modules
   pub need : TellsNeed modules told
@@ -35,14 +36,16 @@ pub record IsReadable (text : List ℕ) : Type 0 where
   pub typed : TypedModule
   pub source : IsSourceOf text typed
 
--- this source can't be read, and is the first of that kind
+-- this source can't be read, and is the first of that kind; there are not too many
 pub record IsFirstUnread (texts : List (List ℕ)) (file : ℕ) (fault : ReadFault) : Type 0 where
+  pub few : length texts ≤ MOST_SOURCES
   pub before : (other : ℕ) → other < file → IsReadable (text_of texts other)
   pub below : file < length texts
   pub cause : HasReadCause fault (text_of texts file)
 
--- the texts are the sources of modules that make no program
+-- the texts, which are not too many, are the sources of modules that make no program
 pub record MakeNoProgram (texts : List (List ℕ)) (fault : join_fault.Fault) : Type 0 where
+  pub few : length texts ≤ MOST_SOURCES
   pub modules : List TypedModule
   pub sources : AreSourcesOf texts modules
   pub cause : join_refusal modules ≡ Some (refusal_of fault)

@@ -1,12 +1,14 @@
 -- The faults of single steps.
-use Rattle.std.specs.Prelude.{◌≡◌, ℕ, List, Some}
+use Rattle.std.specs.Prelude.{◌≡◌, ℕ, ◌<◌, List, length, Some}
 use Rattle.typed_trees.specs.TypedTrees.{TypedModule}
 use Rattle.layout.specs.Joined.{join_refusal}
 use Rattle.join.specs.Views.{refusal_of}
+use Rattle.frontend.specs.declared.read.ReadFault.{ReadFault}
 use Rattle.frontend.specs.Causes.{HasReadCause}
+use Rattle.program_sources.specs.Programs.{text_of}
 use Rattle.program_needs.specs.declared.fault.NeedFault.{NeedFault}
 use Rattle.program_needs.specs.declared.fault.NeedFault.TheVariants.{TooManySources, Source, Join}
-use Rattle.program_needs.specs.Needs.{IsFirstUnread}
+use Rattle.program_needs.specs.Needs.{IsReadable}
 
 -- the fault of the source of this number, which is this text
 abbrev pub IsOfSource : (place : ℕ) → (text : List ℕ) → NeedFault → Type 0
@@ -14,10 +16,16 @@ IsOfSource place text TooManySources = ⊥
 IsOfSource place text (Source file fault) = (file ≡ place) × HasReadCause fault text
 IsOfSource place text (Join fault) = ⊥
 
+-- this source can't be read, and is the first of that kind, however many there are
+pub record IsUnread (texts : List (List ℕ)) (file : ℕ) (fault : ReadFault) : Type 0 where
+  pub before : (other : ℕ) → other < file → IsReadable (text_of texts other)
+  pub below : file < length texts
+  pub cause : HasReadCause fault (text_of texts file)
+
 -- the first fault of sources
 abbrev pub IsFirstFault : (texts : List (List ℕ)) → NeedFault → Type 0
 IsFirstFault texts TooManySources = ⊥
-IsFirstFault texts (Source file fault) = IsFirstUnread texts file fault
+IsFirstFault texts (Source file fault) = IsUnread texts file fault
 IsFirstFault texts (Join fault) = ⊥
 
 -- a fault of modules that make no program
