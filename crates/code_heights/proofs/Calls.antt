@@ -1,5 +1,5 @@
 -- Calls, assignments, and what expressions do beside their values.
-use Rattle.std.proofs.Common.{◌≡◌, ℕ, zero, suc, ◌+◌, ◌-◌, ◌*◌, ◌%◌, ◌≤◌, Bool, true, false, List, [], ◌∷◌, ◌++◌, Option, Some, None, slice_get, refl, sym, subst, arith}
+use Rattle.std.proofs.Common.{◌≡◌, ℕ, zero, suc, ◌+◌, ◌-◌, ◌*◌, ◌%◌, ◌≤◌, Bool, false, List, [], ◌∷◌, ◌++◌, Option, Some, None, refl, sym, subst, arith}
 use Rattle.trees.specs.declared.declaration.ScalarType.{ScalarType}
 use Rattle.trees.specs.declared.declaration.ScalarType.TheVariants.{Byte, Address}
 use Rattle.typed_trees.specs.Charge.{height_of_arguments}
@@ -14,7 +14,7 @@ use Rattle.treecode.specs.declared.reference.Subscript.{Subscript}
 use Rattle.treecode.specs.declared.reference.Target.{Target}
 use Rattle.treecode.specs.Lowered.{AreArguments, AreMore, AreNone}
 use Rattle.treecode.specs.Nodes.{nodes_of}
-use Rattle.treecode.specs.Queries.{argument, source as source_of}
+use Rattle.treecode.specs.Queries.{source as source_of}
 use Rattle.steps8080.specs.declared.step.Step.{Step}
 use Rattle.steps8080.specs.declared.step.Step.TheVariants as steps
 use Rattle.sites8080.specs.declared.site.Site.{Site}

@@ -1,3 +1,4 @@
+pub mod Machine
 pub mod Joining
 pub mod Trees
 pub mod Found
