@@ -16,7 +16,9 @@ use Rattle.program_meaning.specs.OneModule.{DoesWhereItLies}
 use Rattle.program_meaning.specs.Typed.{IsSoundlyMade}
 use Rattle.program_meaning.proofs.KnownValues.{values_are_known}
 use Rattle.program_meaning.proofs.OneModule.{generated_does}
-use Rattle.module_code.specs.Modules.{OfItsModule}
+use Rattle.tree_bounds.proofs.Bounds.{bound_is}
+use Rattle.code_heights.proofs.Modules.{pushes_within_charges}
+use Rattle.module_code.specs.Modules.{IsCounted, OfItsModule}
 
 -- it is soundly made
 pub soundly_made :
@@ -78,3 +80,10 @@ pub names_are :
     → OfItsModule tree HasNames object
 names_are tree object made typed code =
     let is = (made typed code).made in has_names typed is.storage is.tree object is.laid is.lowered is.generated
+
+-- what is counted on the tree code is that of the module
+pub is_counted : (tree : TreeModule) (object : ObjectModule) → OfItsModule tree (IsCounted tree) object
+is_counted tree object typed code = record {
+  bound = bound_is typed code.storage tree code.sound.parameters code.sound.storable code.laid_out code.lowered;
+  pushes = pushes_within_charges typed code.storage tree code.sound.types code.sound.parameters code.lowered;
+}

@@ -12,7 +12,7 @@ ghost use Rattle.program_meaning.specs.KnownValues.{ValuesAreKnown};
 ghost use Rattle.program_meaning.specs.OneModule.{DoesWhereItLies};
 ghost use Rattle.program_meaning.specs.Typed.{IsSoundlyMade};
 ghost use Rattle.module_code.specs.Bounded.{IsPastBound, IsWithinBound};
-ghost use Rattle.module_code.specs.Modules.{OfItsModule};
+ghost use Rattle.module_code.specs.Modules.{IsCounted, OfItsModule};
 
 use codegen8080::Fault;
 use failure::Failure;
@@ -33,6 +33,7 @@ pub fn generate(alloc: Global, tree: &TreeModule) -> Result<ObjectModule, Failur
     ensures object { IfOk result (OfItsModule tree.now IsObjectOf) }
     ensures segments { IfOk result (OfItsModule tree.now HasSegments) }
     ensures names { IfOk result (OfItsModule tree.now HasNames) }
+    ensures counted { IfOk result (OfItsModule tree.now (IsCounted tree.now)) }
     ensures bound { IfOk result (λ object. IsWithinBound tree.now object) }
     ensures refused { IfFault result (λ fault. MayRefuse tree.now fault) }
     ensures past { IfFault result (λ fault. IsPastBound tree.now fault) }

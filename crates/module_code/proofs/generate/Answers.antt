@@ -1,4 +1,4 @@
-use Rattle.module_code.proofs.Contract.{code_does, names_are, object_is, segments_are, soundly_made, values_known}
+use Rattle.module_code.proofs.Contract.{code_does, is_counted, names_are, object_is, segments_are, soundly_made, values_known}
 use Rattle.module_code.proofs.generate.Goals as goal
 
 pub returns-clause-sound : goal.returns-clause-sound
@@ -35,3 +35,6 @@ returns-clause-names c =
     names_are c.args.tree.now c.in_ok-object.object
     (soundly_made c.args.tree.now c.in_ok-object.object c.hold_words.ensures c.hold_homes.ensures c.in_ok-object.ensures.made
     c.name.ensures.object)
+
+pub returns-clause-counted : goal.returns-clause-counted
+returns-clause-counted c = is_counted c.args.tree.now c.in_ok-object.object
