@@ -44,8 +44,8 @@ module _
     (lies : LiesInMemory program number typed object address_of address_of_name memory)
     (entries : Entries)
     (entered :
-        AreEntered program number typed (place_of_label sound.made.generated.code sound.made.generated.code_bytes) address_of
-        address_of_name entries)
+    AreEntered program number typed (place_of_label sound.made.generated.code sound.made.generated.code_bytes) address_of
+    address_of_name entries)
   where
     abbrev tree : TreeModule
     tree = sound.made.tree

@@ -9,23 +9,21 @@ use Rattle.failure.specs.Failure.{IfFault}
 use Rattle.failure.specs.declared.Failure.{Failure}
 use Rattle.failure.specs.declared.Failure.TheVariants.{Fault, Memory}
 use Rattle.typed_trees.specs.TypedTrees.{TypedModule}
-use Rattle.object_modules.specs.Module.{IsObjectModule, ObjectModule}
+use Rattle.object_modules.specs.Module.{ObjectModule}
 use Rattle.layout.specs.Storage.{Storage, storage_with}
 use Rattle.plans.specs.declared.Plan.{Plan}
 use Rattle.frontend.specs.Causes.{HasReadCause}
 use Rattle.frontend.specs.Reading.{IsSourceOf}
 use Rattle.treecode.specs.declared.module.TreeModule.{TreeModule}
 use Rattle.treecode.specs.Lowered.{IsLowered}
-use Rattle.treecode.specs.Nodes.{NumbersAreWords, nodes_of}
-use Rattle.home_words.specs.HomeWords.{HomesAreWords}
 use Rattle.codegen8080.specs.declared.fault.Fault as code_fault
 use Rattle.codegen8080.specs.declared.fault.Fault.TheVariants.{TooLong}
-use Rattle.codegen8080.specs.Modules.{IsGenerated}
 use Rattle.codegen8080.specs.Refusals.{MayRefuse}
 use Rattle.module_segments.proofs.Slots.{stored}
 use Rattle.code_bounds.specs.Fits.{IsSound}
-use Rattle.code_bounds.proofs.Bounds.{code_is_within_its_bound, too_long_is_past_its_bound}
-use Rattle.program_meaning.specs.Typed.{IsSoundlyMade}
+use Rattle.code_bounds.proofs.Bounds.{code_is_within_its_bound}
+use Rattle.module_code.specs.Bounded.{IsPastBound, IsTreeCodeOf}
+use Rattle.module_code.specs.Modules.{IsSoundTreeCode}
 use Rattle.sound_modules.specs.Sound.{IsSoundlyTyped}
 use Rattle.source_facts.proofs.Sources.{source_is_soundly_typed}
 use Rattle.program_sources.specs.declared.sources.Source as declared_source
@@ -40,35 +38,19 @@ use Rattle.tool.specs.internal.Compiling.{AreCompiled, HasCompileCause, HasGener
 pub has_source : (text : List ℕ) (typed : TypedModule) → IsSourceOf text typed → HasSource typed
 has_source text typed source = record { text = text; source = source }
 
--- an object module that is generated from the tree code of a module that has a source is soundly made
-pub is_soundly_made :
-    (typed : TypedModule) (storage : Storage) (tree : TreeModule) (object : ObjectModule)
+-- tree code of a module that has a source is that of one that is soundly typed
+pub sound_tree_code :
+    (typed : TypedModule) (storage : Storage) (tree : TreeModule)
     → HasSource typed
     → storage ≡ storage_with typed
     → IsLowered typed storage tree
-    → NumbersAreWords (nodes_of tree)
-    → HomesAreWords tree.homes.items
-    → IsGenerated tree object
-    → IsObjectModule object
-    → IsSoundlyMade typed object
-is_soundly_made typed storage tree object has is lowered words homes generated valid =
-    let sound : IsSoundlyTyped typed = source_is_soundly_typed has.text typed has.source in
-    record {
-      made = record {
-        storage = storage_with typed;
-        tree = tree;
-        laid = record {
-          storable = sound.storable;
-          globals = sound.globals;
-          stored = stored typed (storage_with typed) has.source.storage;
-        };
-        lowered = subst (λ (s : Storage). IsLowered typed s tree) is lowered;
-        generated = generated;
-        valid = valid;
-      };
-      facts = sound;
-      words = record { numbers = words; homes = homes };
-    }
+    → IsSoundTreeCode typed tree
+sound_tree_code typed storage tree has is lowered = record {
+  sound = source_is_soundly_typed has.text typed has.source;
+  storage = storage;
+  laid_out = has.source.storage ∙ ap Ok (sym is);
+  lowered = lowered;
+}
 
 -- what the size of code depends on
 pub sound_for_bounds : (typed : TypedModule) → IsSoundlyTyped typed → IsSound typed
@@ -82,14 +64,10 @@ sound_for_bounds typed sound = record {
 
 -- a refusal for a length
 passes_bound : (fault : code_fault.Fault) (typed : TypedModule) (tree : TreeModule)
-    → HasSource typed
-    → IsSoundlyTyped typed
-    → IsLowered typed (storage_with typed) tree
-    → MayRefuse tree fault
+    → IsTreeCodeOf typed tree
+    → IsPastBound tree fault
     → PassesBound fault typed
-passes_bound TooLong typed tree has sound lowered refused =
-    let is = stored typed (storage_with typed) has.source.storage in
-    too_long_is_past_its_bound typed (storage_with typed) tree (sound_for_bounds typed sound) is.data_fits lowered refused
+passes_bound TooLong typed tree code past = past typed code
 
 -- no object module is made of a module whose tree code is refused
 pub not_made : (fault : code_fault.Fault) (typed : TypedModule) (storage : Storage) (tree : TreeModule)
@@ -97,8 +75,9 @@ pub not_made : (fault : code_fault.Fault) (typed : TypedModule) (storage : Stora
     → storage ≡ storage_with typed
     → IsLowered typed storage tree
     → MayRefuse tree fault
+    → IsPastBound tree fault
     → IsNotMade fault typed
-not_made fault typed storage tree has is lowered refused =
+not_made fault typed storage tree has is lowered refused past =
     let sound : IsSoundlyTyped typed = source_is_soundly_typed has.text typed has.source in
     let whole : IsLowered typed (storage_with typed) tree = subst (λ (s : Storage). IsLowered typed s tree) is lowered in
     record {
@@ -106,7 +85,15 @@ not_made fault typed storage tree has is lowered refused =
       lowered = whole;
       refused = refused;
       bound = λ start code written. code_is_within_its_bound typed (storage_with typed) tree start code (sound_for_bounds typed sound) whole written;
-      passes = passes_bound fault typed tree has sound whole refused;
+      passes =
+          passes_bound fault typed tree
+          (record {
+            storage = storage_with typed;
+            lowered = whole;
+            sound = sound_for_bounds typed sound;
+            few = (stored typed (storage_with typed) has.source.storage).data_fits;
+          })
+          past;
     }
 
 -- so a failure of its code has its cause
@@ -115,9 +102,11 @@ pub generation_refused : (file : ℕ) (typed : TypedModule) (storage : Storage) 
     → storage ≡ storage_with typed
     → IsLowered typed storage tree
     → IfFault {A = ObjectModule} (Err failure) (MayRefuse tree)
+    → IfFault {A = ObjectModule} (Err failure) (IsPastBound tree)
     → IfFault {A = ObjectModule} (Err (failure_of_code file failure)) (HasGenerationCause file typed)
-generation_refused file typed storage tree (Fault fault) has is lowered refused = (refl, not_made fault typed storage tree has is lowered refused)
-generation_refused file typed storage tree Memory has is lowered refused = tt
+generation_refused file typed storage tree (Fault fault) has is lowered refused past =
+    (refl, not_made fault typed storage tree has is lowered refused past)
+generation_refused file typed storage tree Memory has is lowered refused past = tt
 
 -- what one text is compiled to
 compiled_to : (text : List ℕ) (one : Compiled) → IsCompiled text one → IsCompiledTo text one.object

@@ -18,7 +18,6 @@ ghost use Rattle.tool.specs.internal.Compiling.{AreCompiled, HasCompileCause, Ha
 use crate::fault::ToolFault;
 use failure::Failure;
 use frontend::{SourceModule, read_source};
-use home_words::hold_homes;
 use layout::Layout;
 use module_code::generate;
 use object_modules::{ObjectModule, Segment};
@@ -88,16 +87,10 @@ fn object_of(
     ensures refused { IfFault result (HasGenerationCause file (module_view source.now.typed)) }
 {
     let tree = lower(alloc, &source.typed, &source.storage)?;
-    tree.hold_words();
-    hold_homes(&tree);
     let generated = generate(alloc, &tree);
     drop(tree);
     match generated {
-        Ok(object) => {
-            // A look at its name says that an object module is valid.
-            let _ = object.name();
-            Ok(object)
-        }
+        Ok(object) => Ok(object),
         Err(failure) => Err(of_code(file, failure)),
     }
 }
