@@ -3,4 +3,7 @@ pub mod NeedTold
 pub mod TextsTold
 pub mod Refused
 pub mod Compiled
+pub mod Inputs
 pub mod Interpreted
+pub mod MapLines
+pub mod Printed

@@ -14,6 +14,7 @@ use Rattle.object_commands.specs.Linking.{KeepsOthers, LinksFiles, StopsLinking}
 use Rattle.object_commands.specs.Placing.{PrintsHex, PrintsPlaces}
 use Rattle.commands.specs.Compiling.{CompilesFile, StopsCompiling}
 use Rattle.commands.specs.Needing.{PrintsNeedOf}
+use Rattle.commands.specs.Running.{PrintsProgram}
 use Rattle.plans.specs.declared.Plan.{Plan}
 
 -- an order to compile or to link changes no file but the one that it names, and others change none
@@ -65,6 +66,14 @@ PrintsAsWanted (wants_compile compile) files old new = Unit {0}
 PrintsAsWanted (wants_link link) files old new = Unit {0}
 PrintsAsWanted (wants_program program) files old new = Unit {0}
 
+-- what an order on sources prints where it is not refused; of other orders nothing is said
+abbrev pub RunsAsWanted : Wanted → Option Directory → (status : ℕ) → (old new : Option (List ℕ)) → Type 0
+RunsAsWanted (wants_program program) files status old new = PrintsProgram program files status old new
+RunsAsWanted (wants_compile compile) files status old new = Unit {0}
+RunsAsWanted (wants_link link) files status old new = Unit {0}
+RunsAsWanted (wants_place place) files status old new = Unit {0}
+RunsAsWanted (wants_need need) files status old new = Unit {0}
+
 -- the files that an order reads, in their order, and then the one that it writes
 abbrev pub names_of : Wanted → List (List ℕ)
 names_of (wants_compile compile) = compile.source ∷ compile.object ∷ []
@@ -93,6 +102,10 @@ StopsByWords (Some wanted) old new = StopsAsWanted wanted old new
 abbrev pub PrintsByWords : Option Wanted → Option Directory → (old new : Option (List ℕ)) → Type 0
 PrintsByWords None files old new = Unit {0}
 PrintsByWords (Some wanted) files old new = PrintsAsWanted wanted files old new
+
+abbrev pub RunsByWords : Option Wanted → Option Directory → (status : ℕ) → (old new : Option (List ℕ)) → Type 0
+RunsByWords None files status old new = Unit {0}
+RunsByWords (Some wanted) files status old new = RunsAsWanted wanted files status old new
 
 -- the one file of an order on an object, or the first text that is refused: the texts of the plan come first, then
 -- the name of a second file

@@ -1,12 +1,16 @@
 //! Carrying out a command line.
 
 ghost use Rattle.std.specs.Prelude.{◌≡◌, ◌≤◌, []};
+ghost use Rattle.answers.specs.Endings.{status_of};
 ghost use Rattle.answers.specs.Refusals.{TellsOther, TellsRefusal};
 ghost use Rattle.clap.specs.Walk.{texts};
 ghost use Rattle.clap.specs.Words.{fault_of};
 ghost use Rattle.files.specs.Files.{KeepsFiles};
 ghost use Rattle.command_line.specs.Command.{plm_app, place_in, program_in, wanted_by, wanted_in, wants_place, wants_program};
-ghost use Rattle.commands.specs.Orders.{AsksHelpAtMost, ChangesAsWanted, ChangesByWords, PrintsAsWanted, PrintsByWords, PrintsWanted, RefusesNoText, StopsAsWanted, StopsByWords, TellsText, TellsTextByWords, WritesAsWanted, WritesByWords, names_by_words, names_of};
+ghost use Rattle.command_line.specs.Settings.{values_in};
+ghost use Rattle.program_sources.specs.Programs.{texts_of};
+ghost use Rattle.commands.specs.Orders.{AsksHelpAtMost, ChangesAsWanted, ChangesByWords, PrintsAsWanted, PrintsByWords, PrintsWanted, RefusesNoText, RunsAsWanted, RunsByWords, StopsAsWanted, StopsByWords, TellsText, TellsTextByWords, WritesAsWanted, WritesByWords, names_by_words, names_of};
+ghost use Rattle.commands.specs.Running.{PrintsFiles, PrintsProgram, PrintsTexts};
 ghost use Rattle.commands.specs.internal.LineFaults.{IsWrong};
 
 use crate::compiling::compile_file;
@@ -30,9 +34,10 @@ use tool::Source;
 /// it prints goes to `out`, and faults go to `err`, which has nothing more where the status is neither 1 nor 2; a failure of
 /// `err` changes no status. It changes no file but that of `link --out`, which has the merge of the objects where the
 /// status is 0, and that of `compile`, which has an object module then; both may have a beginning of it otherwise. None changes
-/// where the words have a fault or ask for help or the version. That a
-/// file can't be read or written is told, with status 1, just where a failure of the files was counted, but for a count that
-/// is at its greatest value.
+/// where the words have a fault or ask for help or the version. Sources that are run or interpreted, where the status is
+/// neither 1 nor 2, have had printed what the machine does with their image, or what they mean, and the status tells how
+/// that ended. That a file can't be read or written is told, with status 1, just where a failure of the files was counted,
+/// but for a count that is at its greatest value.
 #[tactic(auto, using(crate::proofs::OrdersKept::status_bound, crate::proofs::OrdersKept::done_is, crate::proofs::OrdersKept::not_done, crate::proofs::OrdersKept::not_refused, crate::proofs::OrdersKept::not_wrong, crate::proofs::OrdersKept::refused_is, crate::proofs::TextsTold::wrong_is))]
 pub fn run_command<F: Files, O: Write, E: Write>(
     alloc: Global,
@@ -49,6 +54,9 @@ pub fn run_command<F: Files, O: Write, E: Write>(
         WritesByWords (wanted_by (texts words.now)) (F.files files.old) (F.files files.new) }
     ensures printed { fault_of plm_app (texts words.now) ≡ [] → result ≡ 0 → PrintsByWords
         (wanted_by (texts words.now)) (F.files files.old) (O.contents out.old) (O.contents out.new) }
+    ensures ran { fault_of plm_app (texts words.now) ≡ [] →
+        (result ≡ 1 → ⊥) → (result ≡ 2 → ⊥) → RunsByWords
+        (wanted_by (texts words.now)) (F.files files.old) result (O.contents out.old) (O.contents out.new) }
     ensures stopped { (result ≡ 0 → ⊥) →
         StopsByWords (wanted_by (texts words.now)) (F.files files.old) (F.files files.new) }
     ensures refused_text { fault_of plm_app (texts words.now) ≡ [] → result ≡ 2 → TellsTextByWords
@@ -82,6 +90,9 @@ fn end_words<F: Files, O: Write, E: Write>(
         WritesByWords (wanted_by (texts words.now)) (F.files files.old) (F.files files.new) }
     ensures printed { fault_of plm_app (texts words.now) ≡ [] → result ≡ Ending.Done → PrintsByWords
         (wanted_by (texts words.now)) (F.files files.old) (O.contents out.old) (O.contents out.new) }
+    ensures ran { fault_of plm_app (texts words.now) ≡ [] → (result ≡ Ending.Refused → ⊥) →
+        (result ≡ Ending.WrongLine → ⊥) → RunsByWords (wanted_by (texts words.now)) (F.files files.old)
+        (status_of result) (O.contents out.old) (O.contents out.new) }
     ensures stopped { (result ≡ Ending.Done → ⊥) →
         StopsByWords (wanted_by (texts words.now)) (F.files files.old) (F.files files.new) }
     ensures refused_text { fault_of plm_app (texts words.now) ≡ [] → result ≡ Ending.WrongLine →
@@ -134,6 +145,9 @@ fn carry_out<F: Files, O: Write, E: Write>(
     ensures written { result ≡ Ending.Done →
         WritesAsWanted (wanted_in order.now) (F.files files.old) (F.files files.new) }
     ensures printed { result ≡ Ending.Done → PrintsAsWanted (wanted_in order.now) (F.files files.old)
+        (O.contents out.old) (O.contents out.new) }
+    ensures ran { (result ≡ Ending.Refused → ⊥) → (result ≡ Ending.WrongLine → ⊥) →
+        RunsAsWanted (wanted_in order.now) (F.files files.old) (status_of result)
         (O.contents out.old) (O.contents out.new) }
     ensures stopped { (result ≡ Ending.Done → ⊥) →
         StopsAsWanted (wanted_in order.now) (F.files files.old) (F.files files.new) }
@@ -208,6 +222,9 @@ fn carry_out_program<F: Files, O: Write, E: Write>(
     ensures count { (result ≡ Ending.Refused → ⊥) → F.failures files.new ≡ F.failures files.old }
     ensures quiet { (result ≡ Ending.Refused → ⊥) → (result ≡ Ending.WrongLine → ⊥) →
         E.contents err.new ≡ E.contents err.old }
+    ensures ran { (result ≡ Ending.Refused → ⊥) → (result ≡ Ending.WrongLine → ⊥) →
+        PrintsProgram (program_in order.now) (F.files files.old) (status_of result)
+        (O.contents out.old) (O.contents out.new) }
 {
     match order.settings(alloc) {
         Ok(values) => load(alloc, order, &values, files, out, err),
@@ -232,6 +249,9 @@ fn load<F: Files, O: Write, E: Write>(
         (F.failures files.old) (F.failures files.new) (E.contents err.old) (E.contents err.new) }
     ensures count { (result ≡ Ending.Refused → ⊥) → F.failures files.new ≡ F.failures files.old }
     ensures quiet { (result ≡ Ending.Refused → ⊥) → E.contents err.new ≡ E.contents err.old }
+    ensures ran { (result ≡ Ending.Refused → ⊥) →
+        PrintsFiles (program_in order.now) (values_in values.now) (F.files files.old) (status_of result)
+        (O.contents out.old) (O.contents out.new) }
 {
     let names = order.files.as_slice();
     let texts = match read_files(alloc, names, files) {
@@ -257,6 +277,9 @@ fn act<O: Write, E: Write>(
     ensures not_wrong { result ≡ Ending.WrongLine → ⊥ }
     ensures told { result ≡ Ending.Refused → TellsOther (E.contents err.old) (E.contents err.new) }
     ensures quiet { (result ≡ Ending.Refused → ⊥) → E.contents err.new ≡ E.contents err.old }
+    ensures ran { (result ≡ Ending.Refused → ⊥) → PrintsTexts order.now.action order.now.map
+        (values_in values.now) (texts_of sources.now) (status_of result)
+        (O.contents out.old) (O.contents out.new) }
 {
     match order.action {
         Action::Run => run_sources(alloc, order, values, sources, out, err),

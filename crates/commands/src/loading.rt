@@ -1,7 +1,8 @@
 //! Sources and inputs of a command.
 
-ghost use Rattle.std.specs.Prelude.{◌≡◌, IfOk, map};
+ghost use Rattle.std.specs.Prelude.{◌≡◌, [], IfOk, map};
 ghost use Rattle.program_sources.specs.Programs.{texts_of};
+ghost use Rattle.commands.specs.Running.{GivesInput};
 
 use command_line::InputByte;
 use ports::{PortFault, Script};
@@ -37,10 +38,17 @@ pub(crate) fn sources_of<'a>(
 }
 
 /// Ports that give these bytes.
-pub(crate) fn script_of(alloc: Global, input: &[InputByte]) -> Result<Script, PortFault> {
+#[tactic(auto, using(crate::proofs::Inputs::none_put, crate::proofs::Inputs::byte_put, crate::proofs::Inputs::all_put))]
+pub(crate) fn script_of(alloc: Global, input: &[InputByte]) -> Result<Script, PortFault>
+    ensures script { IfOk result (λ script. GivesInput input.now script.script) }
+    ensures events { IfOk result (λ script. script.events ≡ []) }
+    ensures failures { IfOk result (λ script. script.failures ≡ 0) }
+{
     let mut script = Script::new(alloc);
-    for one in input {
+    let mut rest = input;
+    while let [one, more @ ..] = rest {
         script.push_input(one.port, one.byte)?;
+        rest = more;
     }
     Ok(script)
 }

@@ -76,7 +76,7 @@ address_is n small =
     hex_glyphs n small ∙ rw (a, b, c) refl
 
 -- a hole `{:04X}`
-hole_is : (d : _) (spec : _) (n : ℕ) → digits_output d ≡ Some (digits 16 true n) → spec ≡ format_spec 32 0 4 4 (2 ^ 64 - 1) → n < 65536
+pub hole_is : (d : _) (spec : _) (n : ℕ) → digits_output d ≡ Some (digits 16 true n) → spec ≡ format_spec 32 0 4 4 (2 ^ 64 - 1) → n < 65536
     → styled_digits_output d spec ≡ Some (address_digits n)
 hole_is d spec n shown is small = rw (is, shown) (ap Some (address_is n small))
 

@@ -1,7 +1,9 @@
-use Rattle.std.proofs.Common.{refl}
+use Rattle.std.proofs.Common.{refl, ap, ◌∙◌}
 use Rattle.answers.proofs.FilesRead.{stops_as}
 use Rattle.answers.proofs.LinesPrinted.{tells_file, tells_no_file}
+use Rattle.program_sources.specs.Programs.{texts_of}
 use Rattle.commands.proofs.OrdersKept.{stops_in_files}
+use Rattle.commands.proofs.Printed.{prints_files}
 use Rattle.commands.proofs.console.load.Goals as goal
 
 pub returns-in-Err-Fault-clause-told : goal.returns-in-Err-Fault-clause-told
@@ -17,3 +19,7 @@ returns-in-Ok-sources_of-clause-told g c = λ refused. tells_no_file _ _ _ _ _ _
 
 pub returns-clause-told : goal.returns-clause-told
 returns-clause-told g c = λ refused. tells_no_file _ _ _ _ _ _ c.in-Ok.ensures.count c.refuse_memory-in-Err.ensures.told
+
+pub returns-in-Ok-sources_of-clause-ran : goal.returns-in-Ok-sources_of-clause-ran
+returns-in-Ok-sources_of-clause-ran g c = λ other. prints_files _ _ _ _ _ _ _ _ _ _ c.as_slice-names.ensures.value refl c.in-Ok.ensures.texts
+    (ap texts_of c.as_slice-in-Ok-sources_of.ensures.value ∙ (rw c.as_slice.ensures.value at c.in-Ok-sources_of.ensures)) (c.act.ensures.ran other)

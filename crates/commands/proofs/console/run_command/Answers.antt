@@ -1,6 +1,10 @@
 use Rattle.std.proofs.Common.{sym, ◌∙◌}
+use Rattle.commands.proofs.Printed.{runs_by_status}
 use Rattle.commands.proofs.TextsTold.{wrong_is}
 use Rattle.commands.proofs.console.run_command.Goals as goal
 
 pub returns-clause-not_wrong : goal.returns-clause-not_wrong
 returns-clause-not_wrong g c = λ help none wrong. c.end_words-ending.ensures.not_wrong help none (wrong_is _ (sym c.status.ensures ∙ wrong))
+
+pub returns-clause-ran : goal.returns-clause-ran
+returns-clause-ran g c = λ clean not_one not_two. runs_by_status _ _ _ _ _ _ c.status.ensures not_one not_two (c.end_words-ending.ensures.ran clean)
