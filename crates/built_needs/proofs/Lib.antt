@@ -1,1 +1,2 @@
 pub mod NeededRoom
+pub mod BuiltPrograms

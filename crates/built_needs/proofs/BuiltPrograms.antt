@@ -1,0 +1,53 @@
+-- What is true of each program that is built, and of each whose sources are read.
+use Rattle.std.proofs.Common.{ℕ, List, [], ◌∷◌}
+use Rattle.std.specs.Prelude.{All}
+use Rattle.std.proofs.lemmas.List.Elements.{All-cons, All-nil}
+use Rattle.object_modules.specs.Module.{ObjectModule}
+use Rattle.typed_trees.specs.TypedTrees.{TypedModule}
+use Rattle.sound_modules.specs.Sound.{IsSoundlyTyped}
+use Rattle.frontend.specs.Reading.{IsSourceOf}
+use Rattle.program_sources.specs.Programs.{AreSourcesOf, IsProgramOf, program_modules}
+use Rattle.program_meaning.specs.Typed.{AreSoundlyMade}
+use Rattle.charge_limits.specs.Limits.{ChargesFit}
+use Rattle.charge_limits.proofs.Charges.{derived_charges_fit}
+use Rattle.meant_programs.specs.Meant.{IsWhole}
+use Rattle.tool.specs.Construction.{Construction, IsConstruction}
+use Rattle.built_needs.specs.BuiltPrograms.{program_of}
+
+-- modules of which object modules are made are soundly typed
+all_sound : (modules : List TypedModule) (objects : List ObjectModule) → AreSoundlyMade modules objects
+    → All IsSoundlyTyped modules
+all_sound [] [] made = All-nil IsSoundlyTyped
+all_sound (typed ∷ modules) (object ∷ objects) made =
+    All-cons IsSoundlyTyped typed modules made.0.facts (all_sound modules objects made.1)
+all_sound [] (object ∷ objects) made = absurd made
+all_sound (typed ∷ modules) [] made = absurd made
+
+-- A program that is built is joined of soundly typed modules and lies lawfully: so the laws of `meant_programs` say of it
+-- that all that its bodies name is there, which bytes its runs read, and which they change.
+pub built_is_whole : (built : Construction) (script : List (List ℕ)) → IsConstruction built
+    → IsWhole (program_of built script)
+built_is_whole built script is = record {
+  joined = is.joined;
+  sound = all_sound (program_modules built.program) built.objects is.made;
+  lawful = is.lawful;
+}
+
+-- neither a procedure nor the main program of a source is charged more than the limit
+pub source_charges_fit : (text : List ℕ) (typed : TypedModule) → IsSourceOf text typed → ChargesFit typed
+source_charges_fit text typed is =
+    let typing = is.typing in
+    derived_charges_fit typing.read.output typing.tree typed typing.read.derived typing.typing
+
+all_charges_fit : (texts : List (List ℕ)) (modules : List TypedModule) → AreSourcesOf texts modules
+    → All ChargesFit modules
+all_charges_fit [] [] are = All-nil ChargesFit
+all_charges_fit (text ∷ texts) (typed ∷ modules) are =
+    All-cons ChargesFit typed modules (source_charges_fit text typed are.0) (all_charges_fit texts modules are.1)
+all_charges_fit [] (typed ∷ modules) are = absurd are
+all_charges_fit (text ∷ texts) [] are = absurd are
+
+-- and so it is of those of a program
+pub program_charges_fit : (texts : List (List ℕ)) (modules : List TypedModule) → IsProgramOf texts modules
+    → All ChargesFit modules
+program_charges_fit texts modules is = all_charges_fit texts modules is.sources
