@@ -4,7 +4,7 @@ pub use Rattle.command_line.specs.Settings
 pub use Rattle.object_commands.specs.Linking
 pub use Rattle.object_commands.specs.Placing
 pub use Rattle.need_command.specs.Printing
-pub use Rattle.printed_runs.specs.Printing
+pub use Rattle.printed_runs.specs.Printing as PrintedRuns
 pub mod Compiling
 pub mod Map
 pub mod Needing
