@@ -21,6 +21,7 @@ pub mod Singles
 pub mod Assignments
 pub mod Moves
 pub mod Returns
+pub mod Dropping
 pub mod Branches
 pub mod Iterations
 pub mod Lists

@@ -3,21 +3,24 @@ use Rattle.std.proofs.Common.{◌≡◌, ℕ, suc, ◌+◌, ◌-◌, ◌*◌, �
 use Rattle.std.proofs.lemmas.Option.{slice_get_cases, slice_get_within}
 use Rattle.std.specs.Option.{option_map_or}
 use Rattle.trees.specs.declared.declaration.ScalarType.{ScalarType}
+use Rattle.typed_trees.specs.declared.limits.TheConstants.{FRAME_LIMIT}
 use Rattle.typed_trees.specs.Charge.{charge_of, count_of_arguments, height_of, height_of_arguments, height_of_list, height_of_reference, height_of_statement, height_of_target}
-use Rattle.typed_trees.specs.Frames.{AreParameters, ParametersFit, home_of_parameters}
+use Rattle.typed_trees.specs.Frames.{AreParameters, FramesFit, ParametersFit, home_of_parameters}
 use Rattle.typed_trees.specs.TypedTrees.{Home, TypedModule, TypedProcedure}
 use Rattle.typed_trees.specs.WellTyped.{IsWellTyped, TypesHoldInList, TypesHoldInProcedure, Within, WithinMain, WithinProcedure}
 use Rattle.layout.specs.Storage.{Storage}
 use Rattle.asm8080.specs.declared.item.Item.{Item}
 use Rattle.treecode.specs.declared.lists.Range.{Range}
 use Rattle.treecode.specs.declared.module.TreeModule.{TreeModule}
+use Rattle.treecode.specs.declared.procedure.ProcedureKind.{ProcedureKind}
+use Rattle.treecode.specs.declared.procedure.ProcedureKind.TheVariants as kinds
 use Rattle.treecode.specs.declared.procedure.TreeProcedure.{TreeProcedure}
 use Rattle.treecode.specs.declared.statement.StatementNumber.{StatementNumber}
-use Rattle.treecode.specs.Lowered.{HasBody, IsLowered, labels_numbered_in_list}
+use Rattle.treecode.specs.Lowered.{HasBody, IsLowered, IsProcedure, labels_numbered_in_list}
 use Rattle.treecode.specs.Nodes.{nodes_of}
 use Rattle.procedure_frames.specs.internal.Objects.{call_bytes}
-use Rattle.procedure_frames.proofs.Frames.{parameter_count}
-use Rattle.procedure_frames.proofs.Parameters.{has_parameters, numbered_at}
+use Rattle.procedure_frames.proofs.Frames.{has_frame, parameter_count}
+use Rattle.procedure_frames.proofs.Parameters.{frame_fits, has_parameters, numbered_at}
 use Rattle.steps8080.specs.declared.facts.Facts.{Facts}
 use Rattle.steps8080.specs.declared.step.Part.{Part}
 use Rattle.steps8080.specs.declared.step.Task.{Task}
@@ -27,7 +30,7 @@ use Rattle.exprgen8080.specs.Emission.{IsWritten}
 use Rattle.statements8080.specs.declared.body.Body.{Body}
 use Rattle.codegen8080.specs.declared.meeting.Here.{Here}
 use Rattle.codegen8080.specs.Generated.{IsCarriedOut, IsListCarriedOut}
-use Rattle.codegen8080.specs.Modules.{IsEndCode}
+use Rattle.codegen8080.specs.Modules.{IsEndCode, IsFrameOf}
 use Rattle.code_heights.specs.Charges.{ListPushes, PushesWithinCharges, Setting, StatementPushes, TaskPushes}
 use Rattle.code_heights.specs.Heights.{FindsRoom, NothingThere, PushesAtMost, taken_by}
 use Rattle.code_heights.specs.internal.Going.{IsOfTree, Source}
@@ -145,12 +148,13 @@ part_pushes typed storage within site called {part = part} {list = list} fit low
 pub statement_pushes :
     (typed : TypedModule) (storage : Storage) (within : Within) (body : Body) (called : List Bool)
     (number : StatementNumber) {before : Facts} {after : Here} {list : List Item}
+    → body.frame.now.variable_bytes ≤ FRAME_LIMIT
     → ParametersFit typed
     → IsLowered typed storage body.tree.now
     → IsCarriedOut body called before number list after
     → StatementPushes body (record { typed = typed; storage = storage; within = within }) number list
-statement_pushes typed storage within body called number fit lowered done = λ labels bound statement node types.
-    (statement_run body called (source_of typed storage body.tree.now fit lowered within)
+statement_pushes typed storage within body called number small fit lowered done = λ labels bound statement node types.
+    (statement_run body small called (source_of typed storage body.tree.now fit lowered within)
     (2 + 2 * height_of_statement statement) labels number node types (omega arith)).room done
 
 -- a list of statements
@@ -158,12 +162,13 @@ pub list_pushes :
     (typed : TypedModule) (storage : Storage) (within : Within) (body : Body) (called : List Bool)
     (range : Range)
     {before : Facts} {after : Here} {list : List Item}
+    → body.frame.now.variable_bytes ≤ FRAME_LIMIT
     → ParametersFit typed
     → IsLowered typed storage body.tree.now
     → IsListCarriedOut body called before range list after
     → ListPushes body (record { typed = typed; storage = storage; within = within }) range list
-list_pushes typed storage within body called range fit lowered done = λ labels bound statements node types.
-    (whole_list_run body called (source_of typed storage body.tree.now fit lowered within)
+list_pushes typed storage within body called range small fit lowered done = λ labels bound statements node types.
+    (whole_list_run body small called (source_of typed storage body.tree.now fit lowered within)
     (2 + 2 * height_of_list statements) labels range node types (omega arith)).room done
 
 -- a body with its end
@@ -171,16 +176,18 @@ end_room :
     (body : Body) (source : Source body.tree.now) (called : List Bool) (level : ℕ) (here : Here)
     (is_reached : Bool)
     (list : List Item)
+    → body.frame.now.variable_bytes ≤ FRAME_LIMIT
     → IsEndCode body called here is_reached list
     → FindsRoom body.tree.now level level list level
-end_room body source called level here true list is = (end_run body called source level).room is.1
-end_room body source called level here false list is =
+end_room body source called level here true list small is = (end_run body called source level small).room is.1
+end_room body source called level here false list small is =
     subst (λ (items : List Item). FindsRoom body.tree.now level level items level) (sym is) NothingThere
 
 body_room :
     (typed : TypedModule) (storage : Storage) (within : Within) (body : Body) (called : List Bool) (bytes : ℕ)
     (procedure : TreeProcedure) (heading : TypedProcedure) (is_reached : Bool) (ending : List Item)
     {before : Facts} {last : Here} {statements : List Item}
+    → body.frame.now.variable_bytes ≤ FRAME_LIMIT
     → ParametersFit typed
     → IsLowered typed storage body.tree.now
     → HasBody (nodes_of body.tree.now) storage procedure heading
@@ -189,12 +196,38 @@ body_room :
     → IsListCarriedOut body called before procedure.body statements last
     → IsEndCode body called last is_reached ending
     → PushesAtMost body.tree.now bytes (statements ++ ending)
-body_room typed storage within body called bytes procedure heading is_reached ending {last = last} fit lowered has types room written ends =
+body_room typed storage within body called bytes procedure heading is_reached ending {last = last} small fit lowered has types room written ends =
     let source = source_of typed storage body.tree.now fit lowered within in
     room_joined
-    ((whole_list_run body called source bytes (labels_numbered_in_list heading.body) procedure.body has.body types room).room
+    ((whole_list_run body small called source bytes (labels_numbered_in_list heading.body) procedure.body has.body types room).room
     written)
-    (end_room body source called bytes last is_reached ending ends)
+    (end_room body source called bytes last is_reached ending small ends)
+
+-- a body has a frame of no more bytes than a typed procedure may have
+frame_is_small :
+    (typed : TypedModule) (storage : Storage) (tree : TreeModule) (number : ℕ) (procedure : TreeProcedure)
+    (heading : TypedProcedure) (body : Body)
+    → FramesFit typed
+    → ParametersFit typed
+    → slice_get typed.procedures number ≡ Some heading
+    → IsProcedure typed (nodes_of tree) storage number procedure heading
+    → IsFrameOf procedure body.frame.now
+    → body.frame.now.variable_bytes ≤ FRAME_LIMIT
+frame_is_small typed storage tree number procedure heading body frames fit stands is frame = by procedure.kind refl
+  where
+    none : (procedure.kind ≡ kinds.Reentrant → ⊥) → body.frame.now.variable_bytes ≤ FRAME_LIMIT
+    none other = omega (arith, (frame.empty other).variable_bytes)
+
+    by : (kind : ProcedureKind) → procedure.kind ≡ kind → body.frame.now.variable_bytes ≤ FRAME_LIMIT
+    by kinds.Reentrant same =
+        omega (
+          arith,
+          (frame.planned same (has_frame typed (nodes_of tree) storage number procedure heading fit frames stands is)).variable_bytes,
+          is.frame_bytes,
+          (frame_fits typed number heading frames stands).bytes,
+        )
+    by kinds.Static same = none (λ other. cc)
+    by (kinds.External name) same = none (λ other. cc)
 
 -- a procedure, and the main program
 enough_charged : (heading : TypedProcedure) → 2 + 2 * height_of_list heading.body ≤ charge_of heading - call_bytes heading
@@ -208,17 +241,20 @@ main_charged heading = omega arith
 pub pushes_within_charges :
     (typed : TypedModule) (storage : Storage) (tree : TreeModule)
     → IsWellTyped typed
+    → FramesFit typed
     → ParametersFit typed
     → IsLowered typed storage tree
     → PushesWithinCharges typed tree
-pushes_within_charges typed storage tree types fit lowered = record {
+pushes_within_charges typed storage tree types frames fit lowered = record {
   procedures = λ called number procedure heading list there stands code.
       subst (λ (one : TreeModule). IsLowered typed storage one
       → HasBody (nodes_of one) storage procedure heading
       → PushesAtMost one (charge_of heading - call_bytes heading) (code.statements ++ code.ending)) code.tree_is
-      (λ lowered has.
+      (λ lowered_one has.
       body_room typed storage (WithinProcedure number heading.result) code.body called
-      (charge_of heading - call_bytes heading) procedure heading procedure.reaches_its_end code.ending fit lowered has
+      (charge_of heading - call_bytes heading) procedure heading procedure.reaches_its_end code.ending
+      (frame_is_small typed storage tree number procedure heading code.body frames fit stands
+      (lowered.procedures number procedure heading there stands) code.frame) fit lowered_one has
       (numbered_at (TypesHoldInProcedure typed) typed.procedures number heading types.procedures stands)
       (enough_charged heading) code.written code.ends)
       lowered (lowered.procedures number procedure heading there stands).has_body;
@@ -227,7 +263,7 @@ pushes_within_charges typed storage tree types fit lowered = record {
       → HasBody (nodes_of one) storage tree.main typed.main
       → PushesAtMost one (charge_of typed.main) code.statements) code.tree_is
       (λ lowered has.
-      (whole_list_run code.body called (source_of typed storage code.body.tree.now fit lowered WithinMain)
+      (whole_list_run code.body (omega (arith, code.frame.variable_bytes)) called (source_of typed storage code.body.tree.now fit lowered WithinMain)
       (charge_of typed.main) (labels_numbered_in_list typed.main.body) tree.main.body has.body types.main
       (main_charged typed.main)).room code.written)
       lowered lowered.main;

@@ -1,5 +1,5 @@
 -- How procedures return.
-use Rattle.std.proofs.Common.{◌≡◌, ℕ, zero, suc, ◌+◌, ◌-◌, ◌/◌, ◌%◌, ◌≤◌, nat_eq, nat_le, min, Bool, true, false, if◌then◌else◌, List, [], ◌∷◌, ◌++◌, replicate, Option, Some, None, refl, sym, ap, subst, ◌∙◌, arith}
+use Rattle.std.proofs.Common.{◌≡◌, ℕ, zero, suc, ◌+◌, ◌-◌, ◌/◌, ◌%◌, ◌<◌, ◌≤◌, nat_eq, nat_le, min, Bool, true, false, if◌then◌else◌, List, [], ◌∷◌, ◌++◌, replicate, Option, Some, None, refl, sym, ap, subst, ◌∙◌, arith}
 use Rattle.isa8080.specs.declared.instr.Instr.{Instr}
 use Rattle.isa8080.specs.declared.instr.Instr.TheVariants.{Dad, Inx, Lxi, Pchl, Pop, Push, Ret, Sphl, Xchg}
 use Rattle.isa8080.specs.declared.instr.Pair.TheVariants.{Hl, Sp}
@@ -8,6 +8,7 @@ use Rattle.asm8080.specs.declared.item.Item.{Item}
 use Rattle.asm8080.specs.declared.item.Item.TheVariants as items
 use Rattle.trees.specs.declared.declaration.ScalarType.{ScalarType}
 use Rattle.trees.specs.declared.declaration.ScalarType.TheVariants.{Byte, Address}
+use Rattle.typed_trees.specs.declared.limits.TheConstants.{FRAME_LIMIT}
 use Rattle.treecode.specs.declared.procedure.ProcedureKind.{ProcedureKind}
 use Rattle.treecode.specs.declared.procedure.ProcedureKind.TheVariants as kinds
 use Rattle.steps8080.specs.declared.facts.Facts.{Facts}
@@ -89,10 +90,11 @@ module _ (body : Body) (called : List Bool) (source : Source body.tree.now) (lev
   -- or by setting the stack pointer
   sphl_room :
       {here last : Here} {waiting : Option Facts} {list : List Item} (free bytes : ℕ)
+      → bytes < 32768
       → AreCarriedOut body called here waiting
       (plain (Lxi Hl bytes) ∷ plain (Dad Sp) ∷ plain Sphl ∷ []) list last
       → FindsRoom body.tree.now level free list (free + bytes)
-  sphl_room free bytes done =
+  sphl_room free bytes small done =
       let first = plain_first (Lxi Hl bytes) (plain (Dad Sp) ∷ plain Sphl ∷ []) done in
       let second = plain_first (Dad Sp) (plain Sphl ∷ []) first.rest in
       let third = plain_first Sphl [] second.rest in
@@ -101,40 +103,42 @@ module _ (body : Body) (called : List Bool) (source : Source body.tree.now) (lev
       (first.same
       ∙ ap (λ (list : List Item). items.Plain (Lxi Hl bytes) ∷ list)
       (second.same ∙ ap (λ (list : List Item). items.Plain (Dad Sp) ∷ list) third.same)))
-      (BytesDropped (none_room third.rest))
+      (BytesDropped small (none_room third.rest))
 
   sphl_run :
-      (free bytes : ℕ)
+      (free bytes : ℕ) → bytes < 32768
       → StepsRun body called level free (plain (Lxi Hl bytes) ∷ plain (Dad Sp) ∷ plain Sphl ∷ []) (free + bytes)
-  sphl_run free bytes = record { room = λ done. sphl_room free bytes done }
+  sphl_run free bytes small = record { room = λ done. sphl_room free bytes small done }
 
   kept_run :
-      (free bytes : ℕ) (result : Option ScalarType)
+      (free bytes : ℕ) (result : Option ScalarType) → bytes < 32768
       → StepsRun body called level free (kept_steps result (Lxi Hl bytes ∷ Dad Sp ∷ Sphl ∷ [])) (free + bytes)
   unfolding kept_steps
-  kept_run free bytes (Some Address) =
+  kept_run free bytes (Some Address) small =
       then_run (code_run source (steps.Plain Xchg) refl)
-      (both_run (sphl_run free bytes) (code_run source (steps.Plain Xchg) refl))
-  kept_run free bytes (Some Byte) = sphl_run free bytes
-  kept_run free bytes None = sphl_run free bytes
+      (both_run (sphl_run free bytes small) (code_run source (steps.Plain Xchg) refl))
+  kept_run free bytes (Some Byte) small = sphl_run free bytes small
+  kept_run free bytes None small = sphl_run free bytes small
 
   -- bytes are dropped
   drop_by_drops :
-      (free bytes : ℕ) (result : Option ScalarType) (few : Bool)
+      (free bytes : ℕ) (result : Option ScalarType) (few : Bool) → bytes < 32768
       → Drops body called level free
       (if few then pops_steps (bytes / 2) ++ replicate (bytes % 2) (plain (Inx Sp))
       else kept_steps result (Lxi Hl bytes ∷ Dad Sp ∷ Sphl ∷ []))
-  drop_by_drops free bytes result true =
+  drop_by_drops free bytes result true small =
       let words = pops_drop (bytes / 2) free in
       let odd =
       repeated_drops (Inx Sp) 1 (λ free. code_run source (steps.Plain (Inx Sp)) refl) (bytes % 2) words.after in
       record { after = odd.after; more = omega (arith, words.more, odd.more); run = both_run words.run odd.run }
-  drop_by_drops free bytes result false =
-      record { after = free + bytes; more = omega arith; run = kept_run free bytes result }
+  drop_by_drops free bytes result false small =
+      record { after = free + bytes; more = omega arith; run = kept_run free bytes result small }
 
-  drop_drops : (free bytes : ℕ) (result : Option ScalarType) → Drops body called level free (drop_steps bytes result)
+  drop_drops :
+      (free bytes : ℕ) (result : Option ScalarType) → bytes < 32768
+      → Drops body called level free (drop_steps bytes result)
   unfolding drop_steps
-  drop_drops free bytes result = drop_by_drops free bytes result (nat_le bytes 12)
+  drop_drops free bytes result small = drop_by_drops free bytes result (nat_le bytes 12) small
 
   -- a return over words, where as many bytes as at the level are free, or more
   elsewhere_run :
@@ -171,20 +175,30 @@ module _ (body : Body) (called : List Bool) (source : Source body.tree.now) (lev
       by false = return_over_run words free result enough
 
   -- a return
-  return_by_run : (kind : ProcedureKind) → StepsRun body called level level (return_steps_by kind body) level
+  frame_fits :
+      (bytes : ℕ) (none : Bool) → bytes ≤ FRAME_LIMIT
+      → min (bytes + (if none then 0 else 2)) 65535 < 32768
+  frame_fits bytes true small = omega (arith, small)
+  frame_fits bytes false small = omega (arith, small)
+
+  return_by_run :
+      body.frame.now.variable_bytes ≤ FRAME_LIMIT
+      → (kind : ProcedureKind) → StepsRun body called level level (return_steps_by kind body) level
   unfolding return_steps_by return_of_frame_steps
-  return_by_run kinds.Reentrant =
+  return_by_run small kinds.Reentrant =
       let count = body.frame.now.parameter_count in
       let dropped =
       drop_drops level (min (body.frame.now.variable_bytes + (if nat_eq count 0 then 0 else 2)) 65535)
-      body.procedure.now.result in
+      body.procedure.now.result (frame_fits body.frame.now.variable_bytes (nat_eq count 0) small) in
       both_run dropped.run
       (return_over_any_run (count - 1) dropped.after body.procedure.now.result dropped.more)
-  return_by_run kinds.Static = code_run source (steps.Plain Ret) refl
-  return_by_run (kinds.External name) = code_run source (steps.Plain Ret) refl
+  return_by_run small kinds.Static = code_run source (steps.Plain Ret) refl
+  return_by_run small (kinds.External name) = code_run source (steps.Plain Ret) refl
 
-  pub return_run : StepsRun body called level level (return_steps body) level
-  return_run = return_by_run body.procedure.now.kind
+  pub return_run :
+      body.frame.now.variable_bytes ≤ FRAME_LIMIT
+      → StepsRun body called level level (return_steps body) level
+  return_run small = return_by_run small body.procedure.now.kind
 
   -- the end
   zero_run : (result : Option ScalarType) → StepsRun body called level level (zero_result_steps result) level
@@ -193,6 +207,8 @@ module _ (body : Body) (called : List Bool) (source : Source body.tree.now) (lev
   zero_run (Some Address) = plains_run source (plain (Lxi Hl 0) ∷ []) refl
   zero_run None = none_run
 
-  pub end_run : StepsRun body called level level (end_steps body) level
+  pub end_run :
+      body.frame.now.variable_bytes ≤ FRAME_LIMIT
+      → StepsRun body called level level (end_steps body) level
   unfolding end_steps
-  end_run = both_run (zero_run body.procedure.now.result) return_run
+  end_run small = both_run (zero_run body.procedure.now.result) (return_run small)

@@ -20,7 +20,7 @@ room_joined {tree = tree} {level = level} {free = free} {after = after} {more = 
     (CallThere procedure enough (room_joined one two))
 room_joined (RoutineThere routine enough one) two = RoutineThere routine enough (room_joined one two)
 room_joined (ByteDropped one) two = ByteDropped (room_joined one two)
-room_joined (BytesDropped one) two = BytesDropped (room_joined one two)
+room_joined (BytesDropped small one) two = BytesDropped small (room_joined one two)
 room_joined (InstructionThere kept one) two = InstructionThere kept (room_joined one two)
 room_joined (WordThere kept one) two = WordThere kept (room_joined one two)
 room_joined (JumpThere enough one) two = JumpThere enough (room_joined one two)

@@ -8,6 +8,7 @@ use Rattle.trees.specs.declared.declaration.ScalarType.{ScalarType}
 use Rattle.trees.specs.declared.declaration.ScalarType.TheVariants.{Byte, Address}
 use Rattle.typed_trees.specs.Charge.{height_of, height_of_else, height_of_list, height_of_optional, height_of_statement, height_of_statements}
 use Rattle.typed_trees.specs.ExpressionTypes.{type_of}
+use Rattle.typed_trees.specs.declared.limits.TheConstants.{FRAME_LIMIT}
 use Rattle.typed_trees.specs.TypedTrees.{TypedElse, TypedExpression, TypedList, TypedModule, TypedStatement, TypedStatements}
 use Rattle.typed_trees.specs.WellTyped.{IsReturned, TypesHold, TypesHoldIn, TypesHoldInElse, TypesHoldInList, TypesHoldInStatements, Within, WithinMain, WithinProcedure}
 use Rattle.treecode.specs.declared.expression.ExpressionNumber.{ExpressionNumber}
@@ -68,7 +69,8 @@ returned_holds typed (WithinProcedure number (Some scalar)) value is = is.0
 returned_holds typed (WithinProcedure number None) value is = absurd is
 returned_holds typed WithinMain value is = absurd is
 
-module _ (body : Body) (called : List Bool) (source : Source body.tree.now) (level : ℕ) where
+module _ (body : Body) (small : body.frame.now.variable_bytes ≤ FRAME_LIMIT) (called : List Bool)
+    (source : Source body.tree.now) (level : ℕ) where
   -- an expression of the table as an operand
   operand :
       {tree : TypedExpression} (value : ExpressionNumber) (free : ℕ)
@@ -106,7 +108,7 @@ module _ (body : Body) (called : List Bool) (source : Source body.tree.now) (lev
   unfolding return_of_steps
   return_of_run value is =
       both_run (returned_by_run value body.procedure.now.result is)
-      (both_run (return_run body called source level) (plains_run source (Reaches false ∷ []) refl))
+      (both_run (return_run body called source level small) (plains_run source (Reaches false ∷ []) refl))
 
   returned_optional :
       {value : Option ExpressionNumber} {tree : Option TypedExpression}

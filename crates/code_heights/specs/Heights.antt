@@ -1,5 +1,5 @@
 -- How many bytes code pushes: a count along its items alone.
-use Rattle.std.specs.Prelude.{◌≡◌, ℕ, ◌+◌, ◌-◌, ◌*◌, ◌≤◌, Bool, true, false, List, [], ◌∷◌, ◌++◌, length, slice_get}
+use Rattle.std.specs.Prelude.{◌≡◌, ℕ, ◌+◌, ◌-◌, ◌*◌, ◌<◌, ◌≤◌, Bool, true, false, List, [], ◌∷◌, ◌++◌, length, slice_get}
 use Rattle.std.specs.Option.{option_map_or}
 use Rattle.isa8080.specs.declared.instr.Instr.{Instr}
 use Rattle.isa8080.specs.declared.instr.Instr.TheVariants as instructions
@@ -73,11 +73,12 @@ pub data FindsRoom (tree : TreeModule) (level : ℕ) :
       → FindsRoom tree level free others after
       → FindsRoom tree level free
       (jump_item forms.CallTo (module_label_of_routine tree routine) ∷ others) after
-  -- a return takes away what its call has on the stack
+  -- a return takes away what its call has on the stack; a word from 32,768 on may as well lower the stack pointer
   ByteDropped : {free after : ℕ} {others : List Item}
       → FindsRoom tree level (free + 1) others after
       → FindsRoom tree level free (Plain (instructions.Inx Sp) ∷ others) after
   BytesDropped : {free after bytes : ℕ} {others : List Item}
+      → bytes < 32768
       → FindsRoom tree level (free + bytes) others after
       → FindsRoom tree level free
       (Plain (instructions.Lxi Hl bytes)

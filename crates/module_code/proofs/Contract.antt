@@ -85,5 +85,5 @@ names_are tree object made typed code =
 pub is_counted : (tree : TreeModule) (object : ObjectModule) → OfItsModule tree (IsCounted tree) object
 is_counted tree object typed code = record {
   bound = bound_is typed code.storage tree code.sound.parameters code.sound.storable code.laid_out code.lowered;
-  pushes = pushes_within_charges typed code.storage tree code.sound.types code.sound.parameters code.lowered;
+  pushes = pushes_within_charges typed code.storage tree code.sound.types code.sound.frames code.sound.parameters code.lowered;
 }
