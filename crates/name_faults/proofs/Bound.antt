@@ -1,6 +1,7 @@
 -- Parts of a text that have no fault of names, or a first one, and how far the text is after them.
 use Rattle.std.proofs.Common.{◌≡◌, ◌⊎◌, ℕ, Bool, true, false, List, [], ◌∷◌, ◌++◌, Option, None, Some, Ok, append_assoc, inl, inr, refl, sym, ap, subst, ◌∙◌}
-use Rattle.std.specs.Prelude.{not}
+use Rattle.std.specs.Prelude.{Contains, not}
+use Rattle.std.proofs.lemmas.List.Elements.{Contains-append_left, Contains-append_right}
 use Rattle.std.specs.Option.{option_or}
 use Rattle.trees.specs.declared.identifier.Identifier.{Identifier}
 use Rattle.names.specs.declared.entity.Binding.{Binding}
@@ -14,7 +15,6 @@ use Rattle.typing.specs.declared.fault.Cause.TheVariants.{UnknownName, DeclaredT
 use Rattle.typing.specs.declared.fault.Fault.{Fault}
 use Rattle.typing.specs.Checks.{Checked, ◌>>=◌, require, found}
 use Rattle.typing.specs.References.{Known, bound, line_of}
-use Rattle.name_faults.specs.Members.{IsOnLine}
 use Rattle.name_faults.specs.NameFaults.{as_refusal}
 use Rattle.name_faults.proofs.Meeting.{Meets, Joins, Never, meets_ok, meets_then, meets_more, meets_as, after_other, before_other}
 
@@ -33,9 +33,9 @@ abbrev pub AreBlamed : List Event → Fault → Type 0
 AreBlamed [] refusal = ⊥
 AreBlamed (event ∷ others) refusal = Blamed event refusal ⊎ ((fault_of event ≡ None) × AreBlamed others refusal)
 
--- or it is a name of a member
-abbrev pub IsWrong : List Event → List Identifier → Fault → Type 0
-IsWrong events members refusal = AreBlamed events refusal ⊎ IsOnLine refusal.line members
+-- or it is a fault that the name of a member may have
+abbrev pub IsWrong : List Event → List Fault → Fault → Type 0
+IsWrong events members refusal = AreBlamed events refusal ⊎ Contains members refusal
 
 pub no_first : (events : List Event) → NoFault events → first_fault events ≡ None
 no_first [] none = refl
@@ -81,16 +81,7 @@ blamed_later [] others refusal none later = later
 blamed_later (event ∷ events) others refusal (here, rest) later =
     inr (here, blamed_later events others refusal rest later)
 
-on_line_first : (line : ℕ) (names others : List Identifier) → IsOnLine line names → IsOnLine line (names ++ others)
-on_line_first line [] others never = absurd never
-on_line_first line (name ∷ names) others (inl is) = inl is
-on_line_first line (name ∷ names) others (inr later) = inr (on_line_first line names others later)
-
-on_line_later : (line : ℕ) (names others : List Identifier) → IsOnLine line others → IsOnLine line (names ++ others)
-on_line_later line [] others later = later
-on_line_later line (name ∷ names) others later = inr (on_line_later line names others later)
-
-pub events_join : (events others : List Event) (members more : List Identifier)
+pub events_join : (events others : List Event) (members more : List Fault)
     → Joins (NoFault events) (NoFault others) (NoFault (events ++ others))
     (IsWrong events members) (IsWrong others more) (IsWrong (events ++ others) (members ++ more))
 events_join events others members more = record {
@@ -101,22 +92,22 @@ events_join events others members more = record {
   where
     by_first : (refusal : Fault) → IsWrong events members refusal → IsWrong (events ++ others) (members ++ more) refusal
     by_first refusal (inl blamed) = inl (blamed_first events others refusal blamed)
-    by_first refusal (inr member) = inr (on_line_first refusal.line members more member)
+    by_first refusal (inr member) = inr (Contains-append_left members more refusal member)
 
     by_second : NoFault events → (refusal : Fault) → IsWrong others more refusal
         → IsWrong (events ++ others) (members ++ more) refusal
     by_second one refusal (inl blamed) = inl (blamed_later events others refusal one blamed)
-    by_second one refusal (inr member) = inr (on_line_later refusal.line members more member)
+    by_second one refusal (inr member) = inr (Contains-append_right members more refusal member)
 
 -- Names that are used at a place: all are known, or the first unknown one is to blame.
 abbrev pub AreKnown : Here → List Identifier → Type 0
 AreKnown here names = NoFault (uses_at here names)
 
-abbrev pub IsUnknown : Here → (names members : List Identifier) → Fault → Type 0
+abbrev pub IsUnknown : Here → (names : List Identifier) (members : List Fault) → Fault → Type 0
 IsUnknown here names members refusal = IsWrong (uses_at here names) members refusal
 
 -- a check by which names are used
-abbrev pub Finds : {A : Type 0} → Here → (names members : List Identifier) → Checked A → Type 0
+abbrev pub Finds : {A : Type 0} → Here → (names : List Identifier) (members : List Fault) → Checked A → Type 0
 Finds {A} here names members result =
     Meets (AreKnown here names) (IsUnknown here names members) (λ (a : A). Unit {0}) result
 
@@ -138,7 +129,7 @@ unknown_later here [] others refusal known later = later
 unknown_later here (name ∷ names) others refusal (first, rest) later =
     inr (first, unknown_later here names others refusal rest later)
 
-pub names_join : (here : Here) (names others members more : List Identifier)
+pub names_join : (here : Here) (names others : List Identifier) (members more : List Fault)
     → Joins (AreKnown here names) (AreKnown here others) (AreKnown here (names ++ others))
     (IsUnknown here names members) (IsUnknown here others more) (IsUnknown here (names ++ others) (members ++ more))
 names_join here names others members more = record {
@@ -150,12 +141,12 @@ names_join here names others members more = record {
     by_first : (refusal : Fault) → IsUnknown here names members refusal
         → IsUnknown here (names ++ others) (members ++ more) refusal
     by_first refusal (inl blamed) = inl (unknown_first here names others refusal blamed)
-    by_first refusal (inr member) = inr (on_line_first refusal.line members more member)
+    by_first refusal (inr member) = inr (Contains-append_left members more refusal member)
 
     by_second : AreKnown here names → (refusal : Fault) → IsUnknown here others more refusal
         → IsUnknown here (names ++ others) (members ++ more) refusal
     by_second one refusal (inl blamed) = inl (unknown_later here names others refusal one blamed)
-    by_second one refusal (inr member) = inr (on_line_later refusal.line members more member)
+    by_second one refusal (inr member) = inr (Contains-append_right members more refusal member)
 
 -- one name that is looked up: what it is bound to, or it is unknown
 pub bound-finds : (known : Known) (name : Identifier)
@@ -179,7 +170,7 @@ bound-finds known name = by (binding_of known.here name.name) refl
     }
 
 -- A part of a text from one place on, which a check goes through: it comes to another place.
-pub record Walks {A : Type 0} (see : Here → Seen) (before : Here) (members : List Identifier) (here_of : A → Here)
+pub record Walks {A : Type 0} (see : Here → Seen) (before : Here) (members : List Fault) (here_of : A → Here)
     (result : Checked A) : Type 0 where
   pub meets : Meets (NoFault (see before).events) (IsWrong (see before).events members)
       (λ (a : A). here_of a ≡ (see before).here) result
@@ -189,7 +180,7 @@ pub walks_nothing : {A : Type 0} {here_of : A → Here} {a : A} (here : Here) �
 unfolding nothing
 walks_nothing here is = record { meets = meets_ok tt is }
 
-pub walks_then : {A B : Type 0} {first second : Here → Seen} {before : Here} {members more : List Identifier}
+pub walks_then : {A B : Type 0} {first second : Here → Seen} {before : Here} {members more : List Fault}
     {here_of : A → Here} {there_of : B → Here} {result : Checked A} {next : A → Checked B}
     → Walks first before members here_of result
     → ((a : A) → Walks second (here_of a) more there_of (next a))
@@ -203,7 +194,7 @@ walks_then {A} {B} {first} {second} {before} {members} {more} {here_of} {there_o
 }
 
 -- what is given goes on at the same place
-pub walks_on : {A B : Type 0} {see : Here → Seen} {before : Here} {members : List Identifier}
+pub walks_on : {A B : Type 0} {see : Here → Seen} {before : Here} {members : List Fault}
     {here_of : A → Here} {there_of : B → Here} {result : Checked A} {next : A → Checked B}
     → Walks see before members here_of result
     → ((a : A) → Meets (Unit {0}) Never (λ (b : B). there_of b ≡ here_of a) (next a))
@@ -212,7 +203,7 @@ walks_on walks rest = record {
   meets = before_other walks.meets λ a is. meets_more (rest a) λ b same. same ∙ is;
 }
 
-pub walks_ok : {A B : Type 0} {see : Here → Seen} {before : Here} {members : List Identifier}
+pub walks_ok : {A B : Type 0} {see : Here → Seen} {before : Here} {members : List Fault}
     {here_of : A → Here} {there_of : B → Here} {result : Checked A} (f : A → B)
     → ((a : A) → there_of (f a) ≡ here_of a)
     → Walks see before members here_of result
@@ -220,7 +211,7 @@ pub walks_ok : {A B : Type 0} {see : Here → Seen} {before : Here} {members : L
 walks_ok f same walks = walks_on walks λ a. meets_ok tt (same a)
 
 -- after a check that no name is found by
-pub after_walks : {A B : Type 0} {see : Here → Seen} {before : Here} {members : List Identifier} {there_of : B → Here}
+pub after_walks : {A B : Type 0} {see : Here → Seen} {before : Here} {members : List Fault} {there_of : B → Here}
     {P : A → Type 0} {result : Checked A} {next : A → Checked B}
     → Meets (Unit {0}) Never P result
     → ((a : A) → P a → Walks see before members there_of (next a))
@@ -228,14 +219,14 @@ pub after_walks : {A B : Type 0} {see : Here → Seen} {before : Here} {members 
 after_walks other then_is = record { meets = after_other other λ a is. (then_is a is).meets }
 
 -- into a part of a text, and out of it
-pub walks_in : {A : Type 0} {second : Here → Seen} {members : List Identifier} {there_of : A → Here} {result : Checked A}
+pub walks_in : {A : Type 0} {second : Here → Seen} {members : List Fault} {there_of : A → Here} {result : Checked A}
     (move : Here → Here) (before : Here)
     → Walks second (move before) members there_of result
     → Walks (in_turn (moves move) second) before members there_of result
 unfolding in_turn moves
 walks_in move before walks = record { meets = walks.meets }
 
-pub walks_out : {A B : Type 0} {see : Here → Seen} {before : Here} {members : List Identifier}
+pub walks_out : {A B : Type 0} {see : Here → Seen} {before : Here} {members : List Fault}
     {here_of : A → Here} {there_of : B → Here} {result : Checked A} (move : Here → Here) (f : A → B)
     → ((a : A) → there_of (f a) ≡ move (here_of a))
     → Walks see before members here_of result
@@ -254,7 +245,7 @@ walks_out {A} {B} {see} {before} {members} {here_of} {there_of} {result} move f 
     by refusal (inr member) = inr member
 
 -- the same part of a text
-pub walks_as : {A : Type 0} {see : Here → Seen} (other : Here → Seen) {before : Here} {members : List Identifier}
+pub walks_as : {A : Type 0} {see : Here → Seen} (other : Here → Seen) {before : Here} {members : List Fault}
     {here_of : A → Here} {result : Checked A}
     → (see before).events ≡ (other before).events → (see before).here ≡ (other before).here
     → Walks see before members here_of result
@@ -282,7 +273,7 @@ three_alike first second third before = record {
   comes = refl;
 }
 
-pub walks_assoc : {A : Type 0} (first second third : Here → Seen) {before : Here} {members : List Identifier}
+pub walks_assoc : {A : Type 0} (first second third : Here → Seen) {before : Here} {members : List Fault}
     {here_of : A → Here} {result : Checked A}
     → Walks (in_turn first (in_turn second third)) before members here_of result
     → Walks (in_turn (in_turn first second) third) before members here_of result
@@ -318,7 +309,7 @@ declared-once name true = record {
 }
 
 pub declared-walks : {A B : Type 0} (is_again : Here → List ℕ → Bool) (with_it : List ℕ → Here → Here) (name : Identifier)
-    (here : Here) {result : Checked A} {next : A → Checked B} {second : Here → Seen} {members : List Identifier}
+    (here : Here) {result : Checked A} {next : A → Checked B} {second : Here → Seen} {members : List Fault}
     {there_of : B → Here}
     → Meets (NoFault (Declaration name (is_again here name.name) ∷ []))
     (IsWrong (Declaration name (is_again here name.name) ∷ []) []) (λ (a : A). Unit {0}) result

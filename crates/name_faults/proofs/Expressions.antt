@@ -1,6 +1,7 @@
 -- The names in expressions are known where these are typed, and where they are not typed for a name, one is to blame.
 use Rattle.std.specs.Prelude.{nat_le}
-use Rattle.std.proofs.Common.{◌≡◌, ◌==◌, ℕ, List, [], ◌∷◌, ◌++◌, length, Option, None, Some, inl, inr, refl, sym, ap, subst, append-nil}
+use Rattle.std.proofs.Common.{◌≡◌, ◌==◌, ℕ, List, [], ◌∷◌, ◌++◌, length, Option, None, Some, inl, inr, refl, sym, subst, append-nil, arith}
+use Rattle.std.proofs.lemmas.List.Elements.{Contains-append_right}
 use Rattle.trees.specs.declared.identifier.Identifier.{Identifier}
 use Rattle.trees.specs.Trees.{NumberConstant, StringConstant, ExpressionTree, ConstantLeaf, ReferenceLeaf, LocationLeaf, ListLeaf, ParenthesizedNode, AssignmentNode, UnaryNode, BinaryNode, ReferenceTree, ReferenceTo, MemberTree, NoMember, MemberOf, ArgumentTrees, NoArguments, MoreArguments}
 use Rattle.names.specs.declared.entity.Binding.{Binding}
@@ -24,7 +25,7 @@ use Rattle.typing.specs.References.{Known, Given, count_of_given, takes_subscrip
 use Rattle.typing.specs.Functions.{call_arguments, call_of, measured_object, measured_member, measurement, number_of_variable, unary_function, shift_function, input_value, built_in_value, value_of_bound, value_of}
 use Rattle.typing.specs.Expressions.{expression, given_reference, given_member, arguments}
 use Rattle.typing.specs.declared.fault.Fault.{Fault}
-use Rattle.name_faults.specs.Members.{members_in_expression, members_in_reference, members_in_member, members_in_arguments}
+use Rattle.name_faults.specs.Members.{members_in_expression, members_in_reference, members_in_member, members_in_arguments, unknown_member}
 use Rattle.name_faults.proofs.Meeting.{Joins, IsOther, meets_ok, meets_fault, meets_then, meets_as, after_other, before_other, other_required, other_found}
 use Rattle.name_faults.proofs.Others.{not_of_names, number-other, object-other, procedure-other, writable-other, measure-other, function-other, shift-other}
 use Rattle.name_faults.proofs.Bound.{AreKnown, IsUnknown, Finds, names_join, bound-finds}
@@ -43,9 +44,9 @@ abbrev pub names_of_member : GivenMember → List Identifier
 names_of_member WithoutMember = []
 names_of_member (WithMember name given) = names_in_arguments given.trees
 
-abbrev pub members_of_member : GivenMember → List Identifier
+abbrev pub members_of_member : GivenMember → List Fault
 members_of_member WithoutMember = []
-members_of_member (WithMember name given) = name ∷ members_in_arguments given.trees
+members_of_member (WithMember name given) = unknown_member name ∷ members_in_arguments given.trees
 
 -- a reference as it is given
 pub record ReferenceFits (known : Known) (given : GivenReference) : Type 0 where
@@ -56,25 +57,25 @@ pub record ReferenceFits (known : Known) (given : GivenReference) : Type 0 where
 abbrev pub names_after : GivenReference → List Identifier
 names_after given = names_in_arguments given.arguments.trees ++ names_of_member given.member
 
-abbrev pub members_after : GivenReference → List Identifier
+abbrev pub members_after : GivenReference → List Fault
 members_after given = members_in_arguments given.arguments.trees ++ members_of_member given.member
 
 -- a member whose name is unknown
-member-finds : {A B : Type 0} (here : Here) (names members : List Identifier) (name : Identifier) (option : Option A)
+member-finds : {A B : Type 0} (here : Here) (names : List Identifier) (members : List Fault) (name : Identifier) (option : Option A)
     {next : A → Checked B}
     → ((a : A) → Finds here names members (next a))
-    → Finds here names (name ∷ members) (found option UnknownName (line_of name) >>= next)
+    → Finds here names (unknown_member name ∷ members) (found option UnknownName (line_of name) >>= next)
 member-finds here names members name (Some a) then_is =
     meets_as (λ known. known) (λ refusal wrong. more refusal wrong) (then_is a)
   where
-    more : (refusal : Fault) → IsUnknown here names members refusal → IsUnknown here names (name ∷ members) refusal
+    more : (refusal : Fault) → IsUnknown here names members refusal → IsUnknown here names (unknown_member name ∷ members) refusal
     more refusal (inl blamed) = inl blamed
-    more refusal (inr member) = inr (inr member)
+    more refusal (inr member) = inr (Contains-append_right (unknown_member name ∷ []) members refusal member)
 member-finds here names members name None then_is = record {
   given = λ a e. absurd cc;
   refused = λ refusal e is_name.
-      let same : record { cause = UnknownName; line = line_of name } ≡ refusal = cc in
-      inr (inl (ap (λ (f : Fault). f.line) same));
+      let same : unknown_member name ≡ refusal = cc in
+      inr (0, omega arith, same);
 }
 
 -- where there is no member
@@ -140,7 +141,7 @@ measurement-finds known measure line (MoreArguments (ReferenceLeaf (ReferenceTo 
     (measurement known measure line (MoreArguments (ReferenceLeaf (ReferenceTo name NoArguments part)) NoArguments)))
     (sym (append-nil (name ∷ names_in_member part)))
     (subst
-    (λ (members : List Identifier). Finds known.here (name ∷ names_in_member part) members
+    (λ (members : List Fault). Finds known.here (name ∷ names_in_member part) members
     (measurement known measure line (MoreArguments (ReferenceLeaf (ReferenceTo name NoArguments part)) NoArguments)))
     (sym (append-nil (members_in_member part)))
     (meets_then (names_join known.here (name ∷ []) (names_in_member part) [] (members_in_member part))
@@ -323,7 +324,7 @@ as_names : {A : Type 0} (known : Known) (reference : ReferenceTree) (result : Ch
     (members_after (given_reference known reference)) result
     → Finds known.here (names_in_reference reference) (members_in_reference reference) result
 as_names known reference result finds =
-    subst (λ (members : List Identifier). Finds known.here (names_in_reference reference) members result)
+    subst (λ (members : List Fault). Finds known.here (names_in_reference reference) members result)
     (members_given known reference)
     (subst (λ (names : List Identifier). Finds known.here names (members_after (given_reference known reference)) result)
     (names_given known reference) finds)

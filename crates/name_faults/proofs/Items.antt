@@ -1,7 +1,8 @@
 -- The names in items are known where these are typed, and where they are not typed for a name, one is to blame.
-use Rattle.std.proofs.Common.{◌≡◌, ℕ, Bool, true, false, inl, inr, sym, ap, subst, append-nil, append_assoc, List, [], ◌∷◌, ◌++◌, Option, None, Some}
+use Rattle.std.proofs.Common.{◌≡◌, ℕ, Bool, true, false, inl, inr, sym, subst, append-nil, append_assoc, arith, List, [], ◌∷◌, ◌++◌, Option, None, Some}
 use Rattle.std.specs.Prelude.{not, ◌&&◌, is_none}
 use Rattle.std.specs.List.{flat_map}
+use Rattle.std.proofs.lemmas.List.Elements.{Contains-append_right}
 use Rattle.trees.specs.declared.declaration.ScalarType.{ScalarType}
 use Rattle.trees.specs.declared.identifier.Identifier.{Identifier}
 use Rattle.trees.specs.Trees.{NumberConstant, StringConstant, OriginTree, ConstantOrigin, LocationOrigin, OffsetTree, RestrictedTree, SubjectTree, SingleSubject, GroupSubject, AtTree, ValueListTree, ItemTree}
@@ -21,7 +22,7 @@ use Rattle.typing.specs.declared.fault.Cause.TheVariants.{DeclaredTwice, WrongUs
 use Rattle.typing.specs.declared.fault.Fault.{Fault}
 use Rattle.typing.specs.Checks.{Checked, ◌>>=◌, require}
 use Rattle.typing.specs.Items.{line_of_item, place_of_storage, typed_members}
-use Rattle.name_faults.specs.Members.{members_in_type}
+use Rattle.name_faults.specs.Members.{members_in_type, twice_declared}
 use Rattle.name_faults.proofs.Meeting.{Meets, meets_ok, meets_then, meets_as, after_other, before_other, other_required}
 use Rattle.name_faults.proofs.Others.{not_of_names, constant-other, offsets-other, object-other, static-other, scalar-other, string-other, as_listed-other, bound-other, extents-other, dimension-other, linkage-other}
 use Rattle.name_faults.proofs.Bound.{IsUnknown, Finds, names_join, bound-finds}
@@ -124,37 +125,32 @@ list-finds known block item object_type extents (Some list) =
     contents-finds known (line_of_item item) object_type extents list.values
 
 -- the members of a structure, which may have the names of others
-once-meets : (name : Identifier) (test : Bool)
-    → Meets (Unit {0}) (λ (refusal : Fault). name.place.line ≡ refusal.line) (λ (a : Unit {0}). Unit {0})
-    (require test DeclaredTwice (line_of name))
-once-meets name true = meets_ok tt tt
-once-meets name false = record {
-  given = λ a e. absurd cc;
-  refused = λ refusal e is_name.
-      let same : record { cause = DeclaredTwice; line = line_of name } ≡ refusal = cc in
-      ap (λ (f : Fault). f.line) same;
-}
+once-meets : (member : Member) (test : Bool)
+    → Meets (Unit {0}) (λ (refusal : Fault). twice_declared member ≡ refusal) (λ (a : Unit {0}). Unit {0})
+    (require test DeclaredTwice (line_of member.name))
+once-meets member true = meets_ok tt tt
+once-meets member false = record { given = λ a e. absurd cc; refused = λ refusal e is_name. cc }
 
-member-once : {A B : Type 0} (here : Here) (members : List Identifier) (name : Identifier) {result : Checked A}
+member-once : {A B : Type 0} (here : Here) (members : List Fault) (one : Fault) {result : Checked A}
     {next : A → Checked B}
-    → Meets (Unit {0}) (λ (refusal : Fault). name.place.line ≡ refusal.line) (λ (a : A). Unit {0}) result
+    → Meets (Unit {0}) (λ (refusal : Fault). one ≡ refusal) (λ (a : A). Unit {0}) result
     → ((a : A) → Finds here [] members (next a))
-    → Finds here [] (name ∷ members) (result >>= next)
-member-once here members name once then_is =
+    → Finds here [] (one ∷ members) (result >>= next)
+member-once here members one once then_is =
     meets_then
-    (record { both = λ one right. right; first = λ refusal is. inr (inl is); second = λ one refusal wrong. more refusal wrong })
+    (record { both = λ one right. right; first = λ refusal is. inr (0, omega arith, is); second = λ _ refusal wrong. more refusal wrong })
     once λ a _. then_is a
   where
-    more : (refusal : Fault) → IsUnknown here [] members refusal → IsUnknown here [] (name ∷ members) refusal
+    more : (refusal : Fault) → IsUnknown here [] members refusal → IsUnknown here [] (one ∷ members) refusal
     more refusal (inl blamed) = inl blamed
-    more refusal (inr member) = inr (inr member)
+    more refusal (inr member) = inr (Contains-append_right (one ∷ []) members refusal member)
 
 members-find : (here : Here) (before : List TypedMember) (members : List Member)
     → Finds here [] (members_in_type (StructureItem members)) (typed_members before members)
 members-find here before [] = meets_ok tt tt
 members-find here before (member ∷ others) =
-    member-once here (members_in_type (StructureItem others)) member.name
-    (once-meets member.name (not (has_member before member.name.name))) λ _.
+    member-once here (members_in_type (StructureItem others)) (twice_declared member)
+    (once-meets member (not (has_member before member.name.name))) λ _.
     after_other (dimension-other member.dimension) λ dimension _.
     members-find here _ others
 
@@ -171,11 +167,11 @@ pub item-finds : (known : Known) (block : Block) (item : ItemTree)
     → Finds known.here (names_in_item item) (members_in_type item.item_type) (typed_item known block item)
 item-finds known block item =
     let here : Here = known.here in
-    let members : List Identifier = members_in_type item.item_type in
+    let members : List Fault = members_in_type item.item_type in
     let base : List Identifier = names_in_subject item.subject in
     let at : List Identifier = names_at item.at in
     let listed : List Identifier = names_in_list item.value_list in
-    subst (λ (all : List Identifier). Finds here (names_in_item item) all (typed_item known block item))
+    subst (λ (all : List Fault). Finds here (names_in_item item) all (typed_item known block item))
     (append-nil members)
     (subst (λ (names : List Identifier). Finds here names (members ++ []) (typed_item known block item))
     (sym (append_assoc base at listed))

@@ -1,7 +1,7 @@
 -- The typing of a module goes through its text as its binding does: where it is given no name has a fault, and where it is
 -- refused for one that is none of a member, that is the first fault.
 use Rattle.std.proofs.Common.{◌≡◌, ℕ, ◌+◌, List, [], ◌∷◌, ◌++◌, Option, None, Some, Ok, Err, length, take, drop, refl, sym, ap, subst, ◌∙◌, append_assoc, inl, inr}
-use Rattle.std.specs.Prelude.{◌⊎◌, not, ◌||◌, nat_le}
+use Rattle.std.specs.Prelude.{◌⊎◌, Contains, not, ◌||◌, nat_le}
 use Rattle.std.specs.List.{flat_map}
 use Rattle.std.proofs.lemmas.List.{take-append-drop}
 use Rattle.trees.specs.declared.identifier.Identifier.{Identifier}
@@ -24,7 +24,7 @@ use Rattle.typing.specs.Procedures.{declare_parameters, no_more_parameters, open
 use Rattle.typing.specs.Typing.{inner_block, entered, kind, alone, else_part, cases, statements, declaration, declarations, module_block, at_the_beginning, typing_of}
 use Rattle.typing.specs.declared.fault.Fault.{Fault}
 use Rattle.typing.specs.Checks.{◌>>=◌}
-use Rattle.name_faults.specs.Members.{IsOnLine, members_in_kind, members_in_statement, members_in_else, members_in_statements, members_in_element, members_in_type, members_in_declaration, members_in_declarations, members_in_module}
+use Rattle.name_faults.specs.Members.{members_in_kind, members_in_statement, members_in_else, members_in_statements, members_in_element, members_in_type, members_in_declaration, members_in_declarations, members_in_module}
 use Rattle.name_faults.specs.NameFaults.{IsFaultOfNames, IsOfNames, IsRefusedBeside, NamesAreBound, as_refusal}
 use Rattle.name_faults.proofs.Meeting.{Meets, Never, meets_ok, meets_fault, meets_then, after_other, before_other, other_required}
 use Rattle.name_faults.proofs.Others.{not_of_names, objects-other, visibility-other, reentrant-other, parameters-other, body-other}
@@ -176,7 +176,7 @@ procedure_alike declare enter parameters declared body leave before =
     }
 
 procedure_walks : {A : Type 0} (declare enter parameters declared body leave : Here → Seen) {before : Here}
-    {members : List Identifier} {here_of : A → Here} {result : Checked A}
+    {members : List Fault} {here_of : A → Here} {result : Checked A}
     → Walks (in_turn (in_turn declare (in_turn enter parameters)) (in_turn declared (in_turn body leave))) before
     members here_of result
     → Walks (in_turn declare (in_turn enter (in_turn (in_turn parameters (in_turn declared body)) leave))) before
@@ -299,19 +299,21 @@ pub typed_is_bound : (tree : ModuleTree) (found : TypedModule) → typing_of tre
 typed_is_bound tree found is =
     record { faultless = no_first (events_of tree) ((module-meets tree).given found is).0; bound = refl }
 
--- a typing that is refused for a name that is none of a member is refused for the first fault of the binding
+-- a typing that is refused for a name is refused for the first fault of the binding, or for one that the name of a
+-- member may have
 pub refused_for_a_name : (tree : ModuleTree) (refusal : Fault) → typing_of tree ≡ Err refusal → IsOfNames refusal.cause
-    → IsFaultOfNames tree refusal ⊎ IsOnLine refusal.line (members_in_module tree)
+    → IsFaultOfNames tree refusal ⊎ Contains (members_in_module tree) refusal
 refused_for_a_name tree refusal is names = by ((module-meets tree).refused refusal is names)
   where
     by : IsWrong (events_of tree) (members_in_module tree) refusal
-        → IsFaultOfNames tree refusal ⊎ IsOnLine refusal.line (members_in_module tree)
+        → IsFaultOfNames tree refusal ⊎ Contains (members_in_module tree) refusal
     by (inl blamed) =
         let first = first_blamed (events_of tree) refusal blamed in
         inl (record { fault = first.fault; first = first.first; same = first.same })
     by (inr member) = inr member
 
--- one with a fault of names has no typing: it is refused for that, or for another cause, or for a name of a member
+-- one with a fault of names has no typing: it is refused for that, or for another cause, or for a fault of
+-- a member's name
 pub name_fault_is_refused : (tree : ModuleTree) (fault : name_fault.Fault) → IsFirstFault tree fault
     → IsRefusedBeside tree fault
 name_fault_is_refused tree fault first = by (typing_of tree) refl
@@ -319,8 +321,8 @@ name_fault_is_refused tree fault first = by (typing_of tree) refl
     some_is_none : {A : Type 0} {a : A} {option : Option A} → option ≡ None → option ≡ Some a → ⊥
     some_is_none none some = cc
 
-    same_fault : (refusal : Fault) → IsFaultOfNames tree refusal ⊎ IsOnLine refusal.line (members_in_module tree)
-        → (refusal ≡ as_refusal fault) ⊎ IsOnLine refusal.line (members_in_module tree)
+    same_fault : (refusal : Fault) → IsFaultOfNames tree refusal ⊎ Contains (members_in_module tree) refusal
+        → (refusal ≡ as_refusal fault) ⊎ Contains (members_in_module tree) refusal
     same_fault refusal (inl found) =
         let same : found.fault ≡ fault = (let one = found.first in cc) in
         inl (sym found.same ∙ ap as_refusal same)

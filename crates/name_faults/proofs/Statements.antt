@@ -2,6 +2,7 @@
 use Rattle.std.proofs.Common.{◌≡◌, ◌==◌, ℕ, List, [], ◌∷◌, ◌++◌, Option, None, Some, refl, sym, subst, append_assoc}
 use Rattle.std.specs.Prelude.{is_none}
 use Rattle.std.specs.List.{flat_map}
+use Rattle.std.specs.Option.{option_map_or}
 use Rattle.trees.specs.declared.declaration.ScalarType.{ScalarType}
 use Rattle.trees.specs.declared.identifier.Identifier.{Identifier}
 use Rattle.trees.specs.Trees.{ExpressionTree, ReferenceTree, ArgumentTrees, IterationTree}
@@ -18,6 +19,7 @@ use Rattle.typing.specs.References.{Known, line_of, count_of_given}
 use Rattle.typing.specs.Blocks.{Owner, TheModule, OfProcedure, Progress}
 use Rattle.typing.specs.Statements.{value, with_constants, destinations, assignment, call_bound, call, return_with, return_from, goto, step, iteration}
 use Rattle.typing.specs.declared.fault.Cause.TheVariants.{WrongUse}
+use Rattle.typing.specs.declared.fault.Fault.{Fault}
 use Rattle.typing.specs.Checks.{Checked}
 use Rattle.name_faults.specs.Members.{members_in_expression, members_in_reference, members_in_arguments, members_in_iteration}
 use Rattle.name_faults.proofs.Meeting.{Meets, meets_ok, meets_fault, meets_then, after_other, before_other, other_required}
@@ -26,13 +28,13 @@ use Rattle.name_faults.proofs.Bound.{AreKnown, IsUnknown, Walks, names_join, bou
 use Rattle.name_faults.proofs.Expressions.{expression-finds, arguments-find, target-finds, arguments_given, call-finds}
 
 -- names are used, and the text is as far as it was
-abbrev pub Uses : {A : Type 0} → (before : Progress) → (names members : List Identifier) → Checked (A × Progress) → Type 0
+abbrev pub Uses : {A : Type 0} → (before : Progress) → (names : List Identifier) (members : List Fault) → Checked (A × Progress) → Type 0
 Uses {A} before names members result =
     Meets (AreKnown before.known.here names) (IsUnknown before.known.here names members)
     (λ (done : A × Progress). done.1.known.here ≡ before.known.here) result
 
 -- these are the uses of a part of a text
-pub uses_walk : {A : Type 0} (before : Progress) (names members : List Identifier) (result : Checked (A × Progress))
+pub uses_walk : {A : Type 0} (before : Progress) (names : List Identifier) (members : List Fault) (result : Checked (A × Progress))
     → Uses before names members result
     → Walks (uses_of names) before.known.here members (λ (done : A × Progress). done.1.known.here) result
 unfolding uses_of
@@ -45,7 +47,7 @@ value-uses tree progress =
     meets_ok tt refl
 
 -- uses where the text is as far as it was
-uses_at_last : {A : Type 0} (before progress : Progress) (names members : List Identifier)
+uses_at_last : {A : Type 0} (before progress : Progress) (names : List Identifier) (members : List Fault)
     {result : Checked (A × Progress)}
     → progress.known.here ≡ before.known.here
     → Uses progress names members result
@@ -111,7 +113,7 @@ call-uses name trees progress =
 
 -- RETURN
 return_with-uses : (line : ℕ) (result : Option ScalarType) (tree : Option ExpressionTree) (progress : Progress)
-    → Uses progress (names_in_optional names_in_expression tree) (names_in_optional members_in_expression tree)
+    → Uses progress (names_in_optional names_in_expression tree) (option_map_or members_in_expression tree [])
     (return_with line result tree progress)
 return_with-uses line None None progress = meets_ok tt refl
 return_with-uses line (Some scalar) (Some tree) progress =
@@ -121,7 +123,7 @@ return_with-uses line None (Some tree) progress = meets_fault WrongUse line not_
 return_with-uses line (Some scalar) None progress = meets_fault WrongUse line not_of_names
 
 pub return_from-uses : (line : ℕ) (owner : Owner) (tree : Option ExpressionTree) (progress : Progress)
-    → Uses progress (names_in_optional names_in_expression tree) (names_in_optional members_in_expression tree)
+    → Uses progress (names_in_optional names_in_expression tree) (option_map_or members_in_expression tree [])
     (return_from line owner tree progress)
 return_from-uses line TheModule tree progress = meets_fault WrongUse line not_of_names
 return_from-uses line (OfProcedure number heading) tree progress =
@@ -139,7 +141,7 @@ goto-walks label progress = record {
 
 -- the head of an iterative DO
 step-uses : (tree : Option ExpressionTree) (progress : Progress)
-    → Uses progress (names_in_optional names_in_expression tree) (names_in_optional members_in_expression tree)
+    → Uses progress (names_in_optional names_in_expression tree) (option_map_or members_in_expression tree [])
     (step tree progress)
 step-uses None progress = meets_ok tt refl
 step-uses (Some tree) progress =
@@ -153,13 +155,13 @@ iteration-uses tree progress =
     let first : List Identifier = names_in_expression tree.first in
     let last : List Identifier = names_in_expression tree.last in
     let by : List Identifier = names_in_optional names_in_expression tree.step in
-    let members : List Identifier = members_in_expression tree.first in
-    let others : List Identifier = members_in_expression tree.last in
-    let more : List Identifier = names_in_optional members_in_expression tree.step in
+    let members : List Fault = members_in_expression tree.first in
+    let others : List Fault = members_in_expression tree.last in
+    let more : List Fault = option_map_or members_in_expression tree.step [] in
     subst
     (λ (names : List Identifier). Uses progress (tree.variable ∷ names) (members_in_iteration tree) (iteration tree progress))
     (sym (append_assoc first last by))
-    (subst (λ (all : List Identifier). Uses progress (tree.variable ∷ (first ++ (last ++ by))) all (iteration tree progress))
+    (subst (λ (all : List Fault). Uses progress (tree.variable ∷ (first ++ (last ++ by))) all (iteration tree progress))
     (sym (append_assoc members others more))
     (meets_then (names_join here (tree.variable ∷ []) (first ++ (last ++ by)) [] (members ++ (others ++ more)))
     (bound-finds progress.known tree.variable) λ binding _.

@@ -1,5 +1,5 @@
 -- What the typing of a module says of the faults of names that its binding has.
-use Rattle.std.specs.Prelude.{◌≡◌, ◌⊎◌, Err}
+use Rattle.std.specs.Prelude.{◌≡◌, ◌⊎◌, Contains, Err}
 use Rattle.trees.specs.Trees.{ModuleTree}
 use Rattle.names.specs.declared.fault.Fault as name_fault
 use Rattle.names.specs.declared.fault.Fault.TheVariants as name_faults
@@ -9,7 +9,7 @@ use Rattle.typing.specs.declared.fault.Cause.{Cause}
 use Rattle.typing.specs.declared.fault.Cause.TheVariants.{UnknownName, DeclaredTwice}
 use Rattle.typing.specs.declared.fault.Fault.{Fault}
 use Rattle.typing.specs.Typing.{typing_of}
-use Rattle.name_faults.specs.Members.{IsOnLine, members_in_module}
+use Rattle.name_faults.specs.Members.{members_in_module}
 
 -- each use of a name in a module is known, and each declaration may stand where it does
 abbrev pub NamesAreBound : ModuleTree → Type 0
@@ -27,12 +27,12 @@ as_refusal (name_faults.Unknown line) = record { cause = UnknownName; line = lin
 as_refusal (name_faults.DeclaredTwice line) = record { cause = DeclaredTwice; line = line }
 
 -- The typing of a module whose binding has this first fault is refused: for the same on the same line, or for
--- another cause than one of names, or for the name of a member.
+-- another cause than one of names, or for a fault that the name of a member may have.
 pub record IsRefusedBeside (tree : ModuleTree) (fault : name_fault.Fault) : Type 0 where
   pub refusal : Fault
   pub refused : typing_of tree ≡ Err refusal
   pub same : IsOfNames refusal.cause
-      → (refusal ≡ as_refusal fault) ⊎ IsOnLine refusal.line (members_in_module tree)
+      → (refusal ≡ as_refusal fault) ⊎ Contains (members_in_module tree) refusal
 
 -- a refusal of the typing of a module is the first fault of its binding
 pub record IsFaultOfNames (tree : ModuleTree) (refusal : Fault) : Type 0 where
