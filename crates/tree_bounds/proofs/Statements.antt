@@ -1,8 +1,9 @@
 -- What a body of tree code weighs is what its typed tree weighs.
-use Rattle.std.proofs.Common.{◌≡◌, ℕ, zero, suc, ◌+◌, ◌≤◌, List, length, Option, slice_get, refl, ap, ◌∙◌, arith}
+use Rattle.std.proofs.Common.{◌≡◌, ℕ, zero, suc, ◌+◌, ◌≤◌, List, ◌∷◌, drop, length, take, Option, Some, slice_get, drop-cons, refl, ap, ◌∙◌, arith}
 use Rattle.std.specs.Prelude.{sum_by}
 use Rattle.std.specs.Option.{option_map_or}
 use Rattle.std.proofs.lemmas.List.Sums.{sum_by-cons}
+use Rattle.std.proofs.lemmas.Option.{get_or_from_slice_get, slice_get_within}
 use Rattle.typed_trees.specs.ExpressionTypes.{type_of}
 use Rattle.typed_trees.specs.TypedTrees.{TypedArguments, TypedElse, TypedExpression, TypedIteration, TypedList, TypedStatement, TypedStatements, TypedTarget}
 use Rattle.typed_trees.specs.Weight as typed
@@ -10,7 +11,6 @@ use Rattle.layout.specs.Storage.{Storage}
 use Rattle.treecode.specs.declared.expression.Expression.{Expression}
 use Rattle.treecode.specs.declared.expression.ExpressionNumber.{ExpressionNumber}
 use Rattle.treecode.specs.declared.lists.Range.{Range}
-use Rattle.treecode.specs.declared.reference.Target.{Target}
 use Rattle.treecode.specs.declared.statement.Iteration.{Iteration}
 use Rattle.treecode.specs.declared.statement.Statement.{Statement}
 use Rattle.treecode.specs.declared.statement.StatementNumber.{StatementNumber}
@@ -19,7 +19,19 @@ use Rattle.treecode.specs.Nodes.{Nodes}
 use Rattle.treecode.specs.Traits.{no_traits, traits_at}
 use Rattle.code_sizes.specs.Weights.{beside_at}
 use Rattle.code_sizes.proofs.Trees.{arguments_weigh, target_weighs, weighs_at}
-use Rattle.tree_bounds.specs.Bounds.{weight_if_any, weight_of_arguments, weight_of_body, weight_of_else, weight_of_expression, weight_of_iteration, weight_of_range, weight_of_row, weight_of_statement, weight_of_target, weight_of_targets, weight_within}
+use Rattle.tree_bounds.specs.Bounds.{weight_of_arguments, weight_of_body, weight_of_expression, weight_of_iteration, weight_of_range, weight_of_statement, weight_of_target, weight_within}
+
+-- the entries of a range of a table weigh what its first one does, and those after it
+entries_weigh :
+    {A : Type 0} (weight : A → ℕ) (table : List A) (first others : ℕ) (entry : A)
+    → slice_get table first ≡ Some entry
+    → sum_by weight (take (suc others) (drop first table))
+    ≡ weight entry + sum_by weight (take others (drop (suc first) table))
+entries_weigh weight table first others entry there =
+    ap (λ rest. sum_by weight (take (suc others) rest))
+    (drop-cons table first entry (slice_get_within table first entry there)
+    ∙ ap (λ one. one ∷ drop (suc first) table) (get_or_from_slice_get table first entry entry there))
+    ∙ sum_by-cons weight entry (take others (drop (suc first) table))
 
 module _ (nodes : Nodes) (storage : Storage) where
   -- the expressions of statements
@@ -33,7 +45,7 @@ module _ (nodes : Nodes) (storage : Storage) where
   optional_weighs :
       (number : Option ExpressionNumber) (tree : Option TypedExpression)
       → IsOptional nodes storage number tree
-      → weight_if_any nodes number ≡ typed.weight_of_optional tree
+      → option_map_or (weight_of_expression nodes) number 0 ≡ typed.weight_of_optional tree
   optional_weighs number tree IsNoValue = refl
   optional_weighs number tree (IsSomeValue {number = one} {tree = value} is) = expression_weighs one value is
 
@@ -48,16 +60,14 @@ module _ (nodes : Nodes) (storage : Storage) where
   targets_weigh :
       (first count : ℕ) (trees : List TypedTarget)
       → AreTargets nodes storage first count trees
-      → weight_of_targets nodes first count ≡ sum_by typed.weight_of_target trees
+      → sum_by (weight_of_target nodes) (take count (drop first nodes.targets)) ≡ sum_by typed.weight_of_target trees
   targets_weigh first count trees NoTargets = refl
   targets_weigh first count trees (MoreTargets {count = fewer} {target = target} {tree = tree} {others = others} there one more) =
       let this : weight_of_target nodes target ≡ typed.weight_of_target tree =
       target_weighs nodes storage (length nodes.expressions) (beside_at nodes)
       (weighs_at nodes storage (length nodes.expressions)) (omega arith) one in
       let rest = targets_weigh (suc first) fewer others more in
-      let here : option_map_or (weight_of_target nodes) (slice_get nodes.targets first) 0
-      ≡ weight_of_target nodes target =
-      ap (λ (entry : Option Target). option_map_or (weight_of_target nodes) entry 0) there in
+      let here = entries_weigh (weight_of_target nodes) nodes.targets first fewer target there in
       omega (arith, this, rest, here, sum_by-cons typed.weight_of_target tree others)
 
   -- the head of an iterative DO
@@ -98,15 +108,13 @@ module _ (nodes : Nodes) (storage : Storage) where
         → Weighs limit weight
         → bound ≤ limit
         → AreStatements nodes storage labels bound first count trees
-        → weight_of_row weight nodes.lists first count ≡ typed.weight_of_statements trees
+        → sum_by (λ (one : StatementNumber). weight one.index) (take count (drop first nodes.lists))
+        ≡ typed.weight_of_statements trees
     row_weighs limit weight bound first count trees weighs enough AreNoStatements = refl
     row_weighs limit weight bound first count trees weighs enough (AreMoreStatements {count = fewer} {number = number} {tree = tree} {others = others} there one more) =
         let this : weight number.index ≡ typed.weight_of_statement tree = weighs bound number.index tree enough one in
         let rest = row_weighs limit weight bound (suc first) fewer others weighs enough more in
-        let here : option_map_or (λ (one : StatementNumber). weight one.index) (slice_get nodes.lists first) 0
-        ≡ weight number.index =
-        ap (λ (entry : Option StatementNumber). option_map_or (λ (one : StatementNumber). weight one.index) entry 0)
-        there in
+        let here = entries_weigh (λ (one : StatementNumber). weight one.index) nodes.lists first fewer number there in
         omega (arith, this, rest, here)
 
     list_weighs :
@@ -123,7 +131,7 @@ module _ (nodes : Nodes) (storage : Storage) where
         → Weighs limit weight
         → bound ≤ limit
         → IsElse nodes storage labels bound number tree
-        → weight_of_else weight number ≡ typed.weight_of_else tree
+        → option_map_or (λ (one : StatementNumber). weight one.index) number 0 ≡ typed.weight_of_else tree
     else_weighs limit weight bound number tree weighs enough IsNoElse = refl
     else_weighs limit weight bound number tree weighs enough (IsSomeElse {number = other} {tree = statement} is) =
         weighs bound other.index statement enough is

@@ -1,5 +1,5 @@
 -- How much tree code weighs, counted on its nodes, and how many bytes its code segment has at most.
-use Rattle.std.specs.Prelude.{ℕ, zero, suc, ◌+◌, ◌*◌, List, length, Option, Some, None, sum_by, slice_get}
+use Rattle.std.specs.Prelude.{ℕ, zero, suc, ◌+◌, ◌*◌, List, drop, length, slice_get, sum_by, take}
 use Rattle.std.specs.Option.{option_map_or}
 use Rattle.typed_trees.specs.declared.limits.TheConstants.{CODE_BYTES, CODE_BYTES_FOR_WEIGHT}
 use Rattle.typed_trees.specs.Weight.{weight_of_storing}
@@ -22,10 +22,6 @@ use Rattle.code_sizes.specs.Weights.{beside_at, weight_in_target, weight_of_give
 abbrev pub weight_of_expression : Nodes → ExpressionNumber → ℕ
 weight_of_expression nodes number = 1 + beside_at nodes number.index
 
-abbrev pub weight_if_any : Nodes → Option ExpressionNumber → ℕ
-weight_if_any nodes None = 0
-weight_if_any nodes (Some number) = weight_of_expression nodes number
-
 abbrev pub weight_of_arguments : Nodes → Range → ℕ
 weight_of_arguments nodes arguments =
     weight_of_given (beside_at nodes) nodes.arguments arguments.first arguments.count
@@ -34,50 +30,40 @@ weight_of_arguments nodes arguments =
 abbrev pub weight_of_target : Nodes → Target → ℕ
 weight_of_target nodes target = 1 + weight_in_target (beside_at nodes) target
 
--- so many targets in a row, from one on
-abbrev pub weight_of_targets : Nodes → (first count : ℕ) → ℕ
-weight_of_targets nodes first zero = 0
-weight_of_targets nodes first (suc count) =
-    option_map_or (weight_of_target nodes) (slice_get nodes.targets first) 0
-    + weight_of_targets nodes (suc first) count
+-- the entries of a range of a table
+abbrev pub weight_of_entries : {A : Type 0} → (weight : A → ℕ) → List A → Range → ℕ
+weight_of_entries weight table range = sum_by weight (take range.count (drop range.first table))
 
 -- the variable of an iterative DO is a target of the first value
 abbrev pub weight_of_iteration : Nodes → Iteration → ℕ
 weight_of_iteration nodes head =
     1 + weight_of_storing (traits_at nodes head.first).scalar head.scalar
     + weight_of_expression nodes head.first + weight_of_expression nodes head.last
-    + weight_if_any nodes head.step
+    + option_map_or (weight_of_expression nodes) head.step 0
 
--- so many statements in a row, from one on, where this is what those of numbers weigh
-abbrev pub weight_of_row : (weight : ℕ → ℕ) → List StatementNumber → (first count : ℕ) → ℕ
-weight_of_row weight table first zero = 0
-weight_of_row weight table first (suc count) =
-    option_map_or (λ (number : StatementNumber). weight number.index) (slice_get table first) 0
-    + weight_of_row weight table (suc first) count
-
+-- the statements of a list, where this is what those of numbers weigh
 abbrev pub weight_of_range : (weight : ℕ → ℕ) → Nodes → Range → ℕ
-weight_of_range weight nodes range = weight_of_row weight nodes.lists range.first range.count
-
-abbrev pub weight_of_else : (weight : ℕ → ℕ) → Option StatementNumber → ℕ
-weight_of_else weight None = 0
-weight_of_else weight (Some number) = weight number.index
+weight_of_range weight nodes range =
+    weight_of_entries (λ (number : StatementNumber). weight number.index) nodes.lists range
 
 -- each statement weighs 1, but for labels, and what its parts weigh
 abbrev pub weight_of_statement : (weight : ℕ → ℕ) → Nodes → Statement → ℕ
 weight_of_statement weight nodes (statements.Label label) = 0
 weight_of_statement weight nodes statements.Null = 1
 weight_of_statement weight nodes (statements.Assignment targets value) =
-    1 + weight_of_targets nodes targets.first targets.count + weight_of_expression nodes value
+    1 + weight_of_entries (weight_of_target nodes) nodes.targets targets + weight_of_expression nodes value
 weight_of_statement weight nodes (statements.Call procedure arguments) =
     1 + weight_of_arguments nodes arguments
 weight_of_statement weight nodes (statements.Move count source destination) =
     1 + weight_of_expression nodes count + weight_of_expression nodes source
     + weight_of_expression nodes destination
-weight_of_statement weight nodes (statements.Return value) = 1 + weight_if_any nodes value
+weight_of_statement weight nodes (statements.Return value) =
+    1 + option_map_or (weight_of_expression nodes) value 0
 weight_of_statement weight nodes statements.Halt = 1
 weight_of_statement weight nodes (statements.Goto label) = 1
 weight_of_statement weight nodes (statements.If condition body otherwise) =
-    1 + weight_of_expression nodes condition + weight body.index + weight_of_else weight otherwise
+    1 + weight_of_expression nodes condition + weight body.index
+    + option_map_or (λ (number : StatementNumber). weight number.index) otherwise 0
 weight_of_statement weight nodes (statements.Do body) = 1 + weight_of_range weight nodes body
 weight_of_statement weight nodes (statements.While condition body) =
     1 + weight_of_expression nodes condition + weight_of_range weight nodes body
