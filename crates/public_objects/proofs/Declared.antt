@@ -1,4 +1,4 @@
--- The bytes of an object that has a place of its own are declared.
+-- The bytes of an object that has a place are declared.
 use Rattle.std.proofs.Common.{◌≡◌, ℕ, zero, suc, ◌+◌, ◌<◌, Bool, true, false, ◌||◌, List, [], ◌∷◌, length, zip, filter_map, flat_map, map, slice_get, Option, Some, None, refl, sym, ap, subst, ◌∙◌, arith}
 use Rattle.std.specs.Prelude.{option_map, slice_index}
 use Rattle.std.specs.List.{cons_option, list_any}

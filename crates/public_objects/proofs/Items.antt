@@ -1,4 +1,4 @@
--- An item that is PUBLIC has a place of its own.
+-- An item that is PUBLIC has a place.
 use Rattle.std.proofs.Common.{◌≡◌, ℕ, Bool, true, false, List, Option, Some, None, cond, refl}
 use Rattle.std.specs.Prelude.{is_none, ◌&&◌}
 use Rattle.std.specs.Option.{option_map_or}

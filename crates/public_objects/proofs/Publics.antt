@@ -17,33 +17,33 @@ use Rattle.layout.proofs.Segments.{of_all}
 use Rattle.meaning.specs.Outcomes.{Program}
 use Rattle.meant_programs.specs.Meant.{HasAddress, IsWhole}
 use Rattle.meant_programs.proofs.Names.{globals_listed, module_placed}
-use Rattle.public_objects.specs.Publics.{HasOwnAddress, HasTyping, LiesIfPublic, PublicsLie}
+use Rattle.public_objects.specs.Publics.{HasDeclaredBytes, HasTree, LiesIfPublic, PublicsLie}
 use Rattle.public_objects.proofs.Declared.{bytes_declared}
 use Rattle.public_objects.proofs.Walks.{typing_lies}
 
--- in a module that has a typing each PUBLIC object has a place of its own
+-- in a module that has a typing each PUBLIC object has a place
 pub publics_lie : (tree : ModuleTree) (found : TypedModule) → typing_of tree ≡ Ok found → PublicsLie found
 publics_lie tree found is = (typing_lies tree).holds found is
 
-pub all_publics_lie : (modules : List TypedModule) → All HasTyping modules → All PublicsLie modules
+pub all_publics_lie : (modules : List TypedModule) → All HasTree modules → All PublicsLie modules
 all_publics_lie modules typings =
-    All-weaker HasTyping PublicsLie (λ typed has. publics_lie has.tree typed has.is) modules typings
+    All-weaker HasTree PublicsLie (λ typed has. publics_lie has.tree typed has.is) modules typings
 
 module _ (program : Program) (whole : IsWhole program) where
-  -- an object that has a place of its own
-  own_address : (at : InProgram) (typed : TypedModule) (object : TypedObject)
+  -- an object that has a place
+  has_bytes : (at : InProgram) (typed : TypedModule) (object : TypedObject)
       → slice_get program.modules at.number_of_module ≡ Some typed
       → slice_get typed.objects at.number ≡ Some object
       → HasPlace object.home
-      → HasOwnAddress program at
-  own_address at typed object its there place =
+      → HasDeclaredBytes program at
+  has_bytes at typed object its there place =
       by (slice_get program.placement.modules at.number_of_module) refl
       (module_placed program whole at.number_of_module typed its)
     where
       by : (entry : Option ModulePlacement)
           → slice_get program.placement.modules at.number_of_module ≡ entry
           → IsSomeAnd entry (λ (placed : ModulePlacement). HasAddresses (typed, placed))
-          → HasOwnAddress program at
+          → HasDeclaredBytes program at
       by None is has = absurd has
       by (Some placed) is has = record {
         typed = typed;
@@ -72,7 +72,7 @@ module _ (program : Program) (whole : IsWhole program) where
     -- a PUBLIC object that an EXTERNAL one stands for
     public_address : (at : InProgram) (object : TypedObject)
         → MeansObject program.modules object at
-        → HasOwnAddress program at
+        → HasDeclaredBytes program at
     public_address at object means = by_module (slice_get program.modules at.number_of_module) refl means
       where
         by_object : (its : TypedModule) (entry : Option TypedObject)
@@ -81,13 +81,13 @@ module _ (program : Program) (whole : IsWhole program) where
             → IsSomeAnd entry
             (λ (public : TypedObject). (public.is_public ≡ true)
             × (agree (DeclaredObject object) (DeclaredObject public) ≡ true))
-            → HasOwnAddress program at
+            → HasDeclaredBytes program at
         by_object its None is there means = absurd means
         by_object its (Some public) is there means =
             let all : PublicsLie its =
             of_all PublicsLie program.modules at.number_of_module its
             (recursion_from_All PublicsLie program.modules lie) is in
-            own_address at its public is there
+            has_bytes at its public is there
             (of_all LiesIfPublic its.objects at.number public (recursion_from_All LiesIfPublic its.objects all) there
             means.0)
 
@@ -97,7 +97,7 @@ module _ (program : Program) (whole : IsWhole program) where
             (λ (its : TypedModule). IsSomeAnd (slice_get its.objects at.number)
             (λ (public : TypedObject). (public.is_public ≡ true)
             × (agree (DeclaredObject object) (DeclaredObject public) ≡ true)))
-            → HasOwnAddress program at
+            → HasDeclaredBytes program at
         by_module None is means = absurd means
         by_module (Some its) is means = by_object its (slice_get its.objects at.number) is refl means
 
@@ -110,17 +110,17 @@ module _ (program : Program) (whole : IsWhole program) where
 
         external_address : (entry : Option InProgram)
             → IsSomeAnd entry (MeansObject program.modules found)
-            → IsSomeAnd entry (HasOwnAddress program)
+            → IsSomeAnd entry (HasDeclaredBytes program)
         external_address None means = absurd means
         external_address (Some at) means = public_address at found means
 
         by_home : (home : Home)
             → found.home ≡ home
             → HasAddress home
-            → IsSomeAnd (object_meant program.modules at_object found home) (HasOwnAddress program)
-        by_home (InData values) is has = own_address at_object typed found its there (subst HasPlace (sym is) tt)
-        by_home (InConstants values) is has = own_address at_object typed found its there (subst HasPlace (sym is) tt)
-        by_home (Placed address) is has = own_address at_object typed found its there (subst HasPlace (sym is) tt)
+            → IsSomeAnd (object_meant program.modules at_object found home) (HasDeclaredBytes program)
+        by_home (InData values) is has = has_bytes at_object typed found its there (subst HasPlace (sym is) tt)
+        by_home (InConstants values) is has = has_bytes at_object typed found its there (subst HasPlace (sym is) tt)
+        by_home (Placed address) is has = has_bytes at_object typed found its there (subst HasPlace (sym is) tt)
         by_home Elsewhere is has =
             external_address (object_meant program.modules at_object found Elsewhere)
             (subst
@@ -133,32 +133,32 @@ module _ (program : Program) (whole : IsWhole program) where
         by_home (InFrame procedure) is has = absurd has
 
         meant_address : HasAddress found.home
-            → IsSomeAnd (meant_in program.modules number object typed) (HasOwnAddress program)
+            → IsSomeAnd (meant_in program.modules number object typed) (HasDeclaredBytes program)
         meant_address has =
-            subst (λ (entry : Option InProgram). IsSomeAnd entry (HasOwnAddress program))
+            subst (λ (entry : Option InProgram). IsSomeAnd entry (HasDeclaredBytes program))
             (sym (ap (λ (entry : Option TypedObject).
             option_and_then (λ (one : TypedObject). object_meant program.modules at_object one one.home) entry) there))
             (by_home found.home refl has)
 
 -- In a program of modules that have typings, an object that is not BASED, in a frame or nowhere stands for one that
--- has an address of its own.
+-- has an address.
 pub object_lies :
-    (program : Program) → IsWhole program → All HasTyping program.modules
+    (program : Program) → IsWhole program → All HasTree program.modules
     → (number object : ℕ) (typed : TypedModule) (found : TypedObject)
     → slice_get program.modules number ≡ Some typed
     → slice_get typed.objects object ≡ Some found
     → HasAddress found.home
-    → IsSomeAnd (meant_in program.modules number object typed) (HasOwnAddress program)
+    → IsSomeAnd (meant_in program.modules number object typed) (HasDeclaredBytes program)
 object_lies program whole typings number object typed found its there has =
     meant_address program whole (all_publics_lie program.modules typings) number object typed found its there has
 
 -- So does an EXTERNAL one.
 pub external_object_lies :
-    (program : Program) → IsWhole program → All HasTyping program.modules
+    (program : Program) → IsWhole program → All HasTree program.modules
     → (number object : ℕ) (typed : TypedModule) (found : TypedObject)
     → slice_get program.modules number ≡ Some typed
     → slice_get typed.objects object ≡ Some found
     → found.home ≡ Elsewhere
-    → IsSomeAnd (meant_in program.modules number object typed) (HasOwnAddress program)
+    → IsSomeAnd (meant_in program.modules number object typed) (HasDeclaredBytes program)
 external_object_lies program whole typings number object typed found its there elsewhere =
     object_lies program whole typings number object typed found its there (subst HasAddress (sym elsewhere) tt)

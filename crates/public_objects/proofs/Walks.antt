@@ -1,4 +1,4 @@
--- In each part of a text the PUBLIC objects that are declared so far have a place of their own.
+-- In each part of a text the PUBLIC objects that are declared so far have a place.
 use Rattle.std.proofs.Common.{ℕ, ◌+◌, List, [], ◌∷◌, length, nat_le, subst, sym}
 use Rattle.std.specs.Prelude.{All, not}
 use Rattle.std.proofs.lemmas.List.Elements.{All-append, All-cons, All-nil}

@@ -12,8 +12,7 @@ use Rattle.layout.specs.StartingMemory.{address_in}
 use Rattle.meaning.specs.Outcomes.{Program}
 use Rattle.meant_programs.specs.Meant.{IsPlaced}
 
--- an object that is PUBLIC has a place of its own: in the data segment, among the constants, or where AT puts
--- it
+-- an object that is PUBLIC has a place: in the data segment, among the constants, or where AT puts it
 abbrev pub LiesIfPublic : TypedObject → Type 0
 LiesIfPublic object = object.is_public ≡ true → HasPlace object.home
 
@@ -22,13 +21,13 @@ abbrev pub PublicsLie : TypedModule → Type 0
 PublicsLie typed = All LiesIfPublic typed.objects
 
 -- a module that is the typing of a tree
-pub record HasTyping (typed : TypedModule) : Type 0 where
+pub record HasTree (typed : TypedModule) : Type 0 where
   pub tree : ModuleTree
   pub is : typing_of tree ≡ Ok typed
 
--- An object of a program that has an address of its own: the placement has one for it, and each byte from
--- there on, as many as it takes, is declared.
-pub record HasOwnAddress (program : Program) (at : InProgram) : Type 0 where
+-- An object of a program that has an address: the placement has one for it, and each byte from there on, as many as
+-- it takes, is declared. Where AT puts objects, they may share bytes.
+pub record HasDeclaredBytes (program : Program) (at : InProgram) : Type 0 where
   pub typed : TypedModule
   pub object : TypedObject
   pub its_module : slice_get program.modules at.number_of_module ≡ Some typed
