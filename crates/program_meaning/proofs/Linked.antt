@@ -27,9 +27,10 @@ use Rattle.meaning.specs.Outcomes.{Program}
 use Rattle.isa8080.specs.State.{wrap}
 use Rattle.program_images.specs.internal.AtPlans.{bases_of, code_lengths_of, plan_of}
 use Rattle.program_memory.specs.internal.InMemory.{IsInMemory, placement_of}
+use Rattle.program_memory.specs.internal.Linked.{placed_by}
 use Rattle.program_memory.proofs.Addresses.{IsHere}
 use Rattle.program_memory.proofs.Meanings.{address_meant, both_hold, first_position, found_place, public_lies}
-use Rattle.program_memory.proofs.Modules.{address_for, bases_found, lies_at, placed_by}
+use Rattle.program_memory.proofs.Modules.{address_for, bases_found, lies_at}
 use Rattle.steps8080.specs.Writer.{place_of_label}
 use Rattle.task_meaning.specs.TreeNumbers.{HasTypes}
 use Rattle.procedure_meaning.specs.OneModule.{around_in}

@@ -10,7 +10,7 @@ use Rattle.layout.specs.Placing.{Plan as PlacingPlan}
 use Rattle.asm8080.specs.Items.{Layout}
 use Rattle.generated_objects.specs.Made.{IsMadeOf}
 use Rattle.program_images.specs.internal.AtPlans.{plan_of}
-use Rattle.program_memory.proofs.Modules.{IsLinked}
+use Rattle.program_memory.specs.internal.Linked.{IsLinked}
 use Rattle.program_meaning.specs.OneModule.{module_layout}
 use Rattle.program_meaning.specs.Typed.{IsSoundlyMade}
 

@@ -35,9 +35,10 @@ use Rattle.object_images.specs.internal.InMemory.{PublicLies, address_of_public,
 use Rattle.object_images.proofs.Publics.{publics_lie}
 use Rattle.program_images.specs.internal.AtPlans.{plan_of}
 use Rattle.program_memory.specs.internal.InMemory.{IsInMemory, placement_of}
+use Rattle.program_memory.specs.internal.Linked.{IsLinked}
 use Rattle.program_memory.specs.internal.Segments.{HasPublic, IsPublicAt}
 use Rattle.program_memory.proofs.Addresses.{IsHere, locations_length}
-use Rattle.program_memory.proofs.Modules.{IsLinked, address_for, is_linked, lies_at}
+use Rattle.program_memory.proofs.Modules.{address_for, is_linked, lies_at}
 
 -- an object that is PUBLIC is not EXTERNAL
 here_if_public : (home : Home) → IsHereIfPublic home true → IsHere home

@@ -11,9 +11,8 @@ use Rattle.typed_trees.specs.TypedTrees.{TypedObject, TypedModule}
 use Rattle.layout.specs.declared.slot.Segment.{Segment as SlotSegment}
 use Rattle.layout.specs.declared.slot.Segment.TheVariants as slots
 use Rattle.layout.specs.declared.slot.Slot.{Slot}
-use Rattle.layout.specs.Following.{Bases, FollowsBases, LiesInSlot, base_of}
+use Rattle.layout.specs.Following.{Bases, LiesInSlot, base_of}
 use Rattle.layout.specs.Lawful.{HasAddresses, LiesWhereAtSays}
-use Rattle.layout.specs.Placement.{ModulePlacement}
 use Rattle.layout.specs.Placing.{Plan as PlacingPlan, bases_from, module_placement_by, placement_by}
 use Rattle.layout.specs.Segments.{Target as ModuleTarget, SegmentStart, ExternalName, Places, address_of_location, constant_places, data_places, location_of, places_in, resolved}
 use Rattle.layout.specs.Storage.{slot_of_object, storage_with}
@@ -30,6 +29,7 @@ use Rattle.program_images.specs.internal.AtPlans.{AreObjectsOf, IsObjectOf, Stan
 use Rattle.program_images.proofs.Bases.{bases_agree}
 use Rattle.program_images.proofs.Standing.{program_stands}
 use Rattle.program_memory.specs.internal.InMemory.{IsInMemory, placement_of}
+use Rattle.program_memory.specs.internal.Linked.{IsLinked, placed_by}
 use Rattle.program_memory.specs.internal.Segments.{BeginWith, HasSegments, HaveSegments, IsTarget}
 use Rattle.program_memory.proofs.Addresses.{IsHere, lies_here}
 use Rattle.program_memory.proofs.Bytes.{bytes_alike}
@@ -71,10 +71,6 @@ linked_at code data_before (first ∷ others) (object ∷ objects) (suc number) 
       made = rest.made;
       segments = rest.segments;
     }
-
--- where its objects and its constant lists lie
-abbrev pub placed_by : PlacingPlan → Linked → TypedModule → ModulePlacement
-placed_by plan linked typed = module_placement_by (bases_of plan linked) typed (storage_with typed)
 
 -- the addresses of the targets of its bytes
 abbrev pub address_for : PlacingPlan → ObjectModule → Linked → ModuleTarget → ℕ
@@ -121,22 +117,6 @@ loaded_at before after address (first ∷ bytes) (suc index) byte loaded found =
     let same : (address + 1) + index ≡ address + suc index = omega arith in
     subst (λ (at : ℕ). byte_at after at ≡ unwrap_or byte (byte_at before at)) same
     (loaded_at before after (address + 1) bytes index byte loaded.1 found)
-
--- what is known of the module of a number
-pub record IsLinked
-    (plan : PlacingPlan) (modules : List TypedModule) (objects : List ObjectModule) (merged : ObjectModule)
-    (before after : List ℕ) (number : ℕ) (typed : TypedModule) : Type 0 where
-  pub linked : Linked
-  pub found : slice_get (linked_modules objects) number ≡ Some linked
-  pub object_found : slice_get objects number ≡ Some linked.object
-  pub segments : HasSegments typed linked.object
-  pub storable : IsStorable typed
-  pub stands : StandsAt plan merged before after (linked, bases_of plan linked)
-  pub placed :
-      slice_get (placement_of plan modules objects).modules number ≡ Some (placed_by plan linked typed)
-  pub follows : FollowsBases (bases_of plan linked) (storage_with typed) (placed_by plan linked typed)
-  pub at_says : LiesWhereAtSays (typed, placed_by plan linked typed)
-  pub addresses : HasAddresses (typed, placed_by plan linked typed)
 
 pub bases_found :
     (plan : PlacingPlan) (modules : List TypedModule) (objects : List ObjectModule) (number : ℕ) (linked : Linked)

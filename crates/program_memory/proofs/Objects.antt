@@ -24,9 +24,10 @@ use Rattle.object_modules.specs.Image.{Image}
 use Rattle.object_modules.specs.Module.{ObjectModule}
 use Rattle.program_images.specs.internal.AtPlans.{bases_of}
 use Rattle.program_memory.specs.internal.InMemory.{IsInMemory, placement_of}
+use Rattle.program_memory.specs.internal.Linked.{IsLinked, placed_by}
 use Rattle.program_memory.proofs.Lists.{got_numbered, in_back, in_front}
 use Rattle.program_memory.proofs.Meanings.{bytes_meant}
-use Rattle.program_memory.proofs.Modules.{IsLinked, address_for, in_slot, placed_by, stands_there}
+use Rattle.program_memory.proofs.Modules.{address_for, in_slot, stands_there}
 
 -- bytes that are set, of one value after another
 map_both :

@@ -29,9 +29,10 @@ use Rattle.object_images.proofs.Objects.{others_stay}
 use Rattle.program_images.specs.internal.AtPlans.{AreObjectsOf, bases_of, code_lengths_of, plan_of}
 use Rattle.program_images.proofs.Lengths.{code_length_is, data_length_is, data_sum}
 use Rattle.program_memory.specs.internal.InMemory.{IsInMemory, StartsAsItsSource, placement_of}
+use Rattle.program_memory.specs.internal.Linked.{IsLinked, placed_by}
 use Rattle.program_memory.proofs.Among.{any_either, any_of_filter, any_of_filter_map, any_of_flat_map, any_of_map, among_back, among_either, among_front, in_flat_map, in_map, numbered, of_among, of_any, of_flat_map, of_map, of_numbered, of_zip}
 use Rattle.program_memory.proofs.Lists.{got_both}
-use Rattle.program_memory.proofs.Modules.{IsLinked, bases_found, in_slot, is_linked, placed_by}
+use Rattle.program_memory.proofs.Modules.{bases_found, in_slot, is_linked}
 use Rattle.program_memory.proofs.Objects.{empty_byte, filled_byte, filling, in_an_object, list_byte, object_byte}
 
 -- an address is in a range or not
