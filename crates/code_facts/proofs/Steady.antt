@@ -18,7 +18,10 @@ pub declared_is_steady :
     → IsSteady activation address
 declared_is_steady activation address lies declared =
     let above = lies.above in
-    record { apart = λ low below. lies.placed.stack_free address declared low (omega (arith, below, above)) }
+    let bottom = lies.bottom in
+    record {
+      apart = λ low below. lies.placed.stack_free address declared (omega (arith, low, bottom)) (omega (arith, below, above));
+    }
 
 -- a byte of an object in the frame
 pub frame_byte_is_steady :
@@ -49,7 +52,7 @@ frame_location_is_steady activation distance variable object offset lies same wi
 -- no byte below the level that may be pushed is steady
 pub pushed_is_not_steady :
     (activation : Activation) (top address : ℕ)
-    → activation.around.program.placement.stack.start ≤ address
+    → activation.floor ≤ address
     → address < top
     → top ≤ activation.level
     → IsSteady activation address
@@ -61,7 +64,7 @@ pub push_asks :
     (activation : Activation) (sp top : ℕ)
     → LiesWell activation
     → sp ≡ wrap top
-    → activation.around.program.placement.stack.start + 2 ≤ top
+    → activation.floor + 2 ≤ top
     → top ≤ activation.level
     → PushAsks activation sp
 push_asks activation sp top lies pointer room below address steady =

@@ -31,7 +31,7 @@ location_at activation distance (Frame variable offset) = wrap (activation.level
 
 -- a byte that stays while others are pushed: it is none of the part of the stack below the level
 pub record IsSteady (activation : Activation) (address : ℕ) : Type 0 where
-  pub apart : activation.around.program.placement.stack.start ≤ address → address < activation.level → ⊥
+  pub apart : activation.floor ≤ address → address < activation.level → ⊥
 
 -- A byte is the one at an address, and so is a word; all bytes there are steady.
 abbrev pub IsByteAt : Activation → (memory : List ℕ) → (address byte : ℕ) → Type 0

@@ -45,14 +45,15 @@ owns_more activation low high less address (inr (inr mine)) = inr (inr mine)
 pub pushed_is_not_owned :
     (activation : Activation) (top address : ℕ)
     → LiesWell activation
-    → activation.around.program.placement.stack.start ≤ top
+    → activation.floor ≤ top
     → top ≤ address
     → address < activation.level
     → Owns activation top address
     → ⊥
 pushed_is_not_owned activation top address lies low above below (inl variable) =
     let whole = lies.above in
-    lies.placed.stack_free address variable.0 (omega (arith, low, above)) (omega (arith, below, whole))
+    let bottom = lies.bottom in
+    lies.placed.stack_free address variable.0 (omega (arith, low, above, bottom)) (omega (arith, below, whole))
 pushed_is_not_owned activation top address lies low above below (inr (inl mine)) =
     let less : address < top = mine.1 in omega (arith, less, above)
 pushed_is_not_owned activation top address lies low above below (inr (inr mine)) =

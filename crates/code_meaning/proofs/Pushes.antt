@@ -40,7 +40,7 @@ push_does script pair place top r memory events pointer limit room =
 pushed_shares :
     (activation : Activation) (top word : ℕ) (source memory : List ℕ)
     → LiesWell activation
-    → activation.around.program.placement.stack.start + 2 ≤ top
+    → activation.floor + 2 ≤ top
     → top ≤ activation.level
     → word < MEMORY_SIZE
     → Shares activation.around.program activation.image source memory
@@ -50,18 +50,19 @@ pushed_shares activation top word source memory lies room below small shares =
     let stack = lies.placed.stack_in_memory in
     let free = lies.placed.stack_free in
     let apart = lies.placed.apart in
+    let bottom = lies.bottom in
     record {
       is_memory = pushed_is_memory top word memory small shares.is_memory;
       size = shares.size;
       declared = λ address there.
           pushed_keeps top word memory address
-          (λ same. free address there (omega (arith, same, room)) (omega (arith, same, room, below, above)))
-          (λ same. free address there (omega (arith, same, room)) (omega (arith, same, room, below, above)))
+          (λ same. free address there (omega (arith, same, room, bottom)) (omega (arith, same, room, below, above)))
+          (λ same. free address there (omega (arith, same, room, bottom)) (omega (arith, same, room, below, above)))
           ∙ shares.declared address there;
       code = λ address there.
           pushed_keeps top word memory address
-          (λ same. apart address there.0 there.1 (omega (arith, same, room)) (omega (arith, same, room, below, above)))
-          (λ same. apart address there.0 there.1 (omega (arith, same, room)) (omega (arith, same, room, below, above)))
+          (λ same. apart address there.0 there.1 (omega (arith, same, room, bottom)) (omega (arith, same, room, below, above)))
+          (λ same. apart address there.0 there.1 (omega (arith, same, room, bottom)) (omega (arith, same, room, below, above)))
           ∙ shares.code address there;
     }
 
@@ -84,7 +85,7 @@ pub ready_after_push :
     (activation : Activation) (top word : ℕ) (base source : List ℕ) (frame : List (List ℕ)) (r : Registers)
     (memory : List ℕ)
     → LiesWell activation
-    → activation.around.program.placement.stack.start + 2 ≤ top
+    → activation.floor + 2 ≤ top
     → top ≤ activation.level
     → word < MEMORY_SIZE
     → IsReady activation top base source frame r memory
@@ -104,7 +105,7 @@ ready_after_push activation top word base source frame r memory lies room below 
 -- what the pushed bytes become while they stay
 push_keeps :
     (activation : Activation) (top word : ℕ) (memory : List ℕ)
-    → activation.around.program.placement.stack.start + 2 ≤ top
+    → activation.floor + 2 ≤ top
     → Keeps (Owns activation top) memory (pushed top word memory)
 push_keeps activation top word memory room = record {
   size = Rattle.std.proofs.lemmas.List.length-set (slice_set memory (top - 1) (high_byte word)) (top - 2) (low_byte word)
@@ -120,7 +121,7 @@ pub ready_after_pop :
     (activation : Activation) (top word : ℕ) (base source other : List ℕ) (frame others : List (List ℕ))
     (r after last : Registers) (memory ended : List ℕ)
     → LiesWell activation
-    → activation.around.program.placement.stack.start + 2 ≤ top
+    → activation.floor + 2 ≤ top
     → IsReady activation top base source frame r memory
     → IsReady activation (top - 2) (pushed top word memory) other others after ended
     → last.sp ≡ wrap top
@@ -144,7 +145,7 @@ pub still_pushed :
     (activation : Activation) (top word : ℕ) (other : List ℕ) (others : List (List ℕ)) (after : Registers)
     (memory ended : List ℕ)
     → LiesWell activation
-    → activation.around.program.placement.stack.start + 2 ≤ top
+    → activation.floor + 2 ≤ top
     → top ≤ activation.level
     → length memory ≡ MEMORY_SIZE
     → IsReady activation (top - 2) (pushed top word memory) other others after ended

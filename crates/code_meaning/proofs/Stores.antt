@@ -86,8 +86,9 @@ variable_elsewhere :
 variable_elsewhere activation address lies variable object offset within same =
     let inside = lies.inside object offset within in
     let low = lies.low in
+    let bottom = lies.bottom in
     let above = lies.above in
-    lies.placed.stack_free address variable.0 (omega (arith, same, low)) (omega (arith, same, inside, above))
+    lies.placed.stack_free address variable.0 (omega (arith, same, low, bottom)) (omega (arith, same, inside, above))
 
 -- a variable of the program
 pub ready_with_variable :

@@ -12,13 +12,14 @@ use Rattle.asm8080.specs.Standing.{AgreesIn, Keeps}
 use Rattle.code_meaning.specs.Landing.{at_place}
 
 -- Where an activation lies: what it is carried out in; the labels and targets of its module's code; the memory as it was
--- loaded, which all code is compared to; where the stack pointer is when nothing is pushed, counted up to 65536; how far
--- above it each object of the frame begins, and how many bytes it has; how far above it the return address and the
--- caller's stack are.
+-- loaded, which all code is compared to; the lowest byte of the stack that it may change; where the stack pointer is when
+-- nothing is pushed, counted up to 65536; how far above it each object of the frame begins, and how many bytes it has; how
+-- far above it the return address and the caller's stack are.
 pub record Activation : Type 0 where
   pub around : Surroundings
   pub layout : Layout
   pub image : List ℕ
+  pub floor : ℕ
   pub level : ℕ
   pub distance : (object : ℕ) → ℕ
   pub size : (object : ℕ) → ℕ
@@ -29,11 +30,11 @@ pub record Activation : Type 0 where
 abbrev pub IsVariable : Program → (address : ℕ) → Type 0
 IsVariable program address = (is_declared program address ≡ true) × (is_constant program address ≡ false)
 
--- a byte of the stack that an activation may change, where the stack pointer is at a level: one below it, or one up to
--- the caller's stack that is not pushed and not of the return address
+-- a byte of the stack that an activation may change, where the stack pointer is at a level: one from its floor up to
+-- there, or one up to the caller's stack that is not pushed and not of the return address
 abbrev pub IsMine : Activation → (top address : ℕ) → Type 0
 IsMine activation top address =
-    ((activation.around.program.placement.stack.start ≤ address) × (address < top))
+    ((activation.floor ≤ address) × (address < top))
     ⊎ ((activation.level ≤ address) × (address < activation.level + activation.whole)
     × (address ≢ activation.level + activation.back) × (address ≢ activation.level + activation.back + 1))
 
@@ -72,7 +73,7 @@ pub record IsReady
 pub record HasRoom (activation : Activation) (top pushed need : ℕ) : Type 0 where
   pub depth : top + pushed ≡ activation.level
   pub even : pushed % 2 ≡ 0
-  pub enough : activation.around.program.placement.stack.start + activation.around.room + need ≤ top
+  pub enough : activation.floor + activation.around.room + need ≤ top
 
 -- what is true of where a program lies, whatever runs
 pub record PlacementLies (program : Program) : Type 0 where
@@ -95,7 +96,8 @@ pub record PlacementLies (program : Program) : Type 0 where
 -- and of where a frame lies: within the stack, each byte of its own, and none of the return address
 pub record LiesWell (activation : Activation) : Type 0 where
   pub placed : PlacementLies activation.around.program
-  pub low : activation.around.program.placement.stack.start ≤ activation.level
+  pub bottom : activation.around.program.placement.stack.start ≤ activation.floor
+  pub low : activation.floor ≤ activation.level
   pub above : activation.level + activation.whole
       ≤ activation.around.program.placement.stack.start + activation.around.program.placement.stack.len
   pub inside : (object offset : ℕ) → offset < activation.size object

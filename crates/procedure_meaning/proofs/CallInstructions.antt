@@ -170,21 +170,23 @@ return_pushed top back memory room limit size =
 
 -- the bytes of a call below an activation are its own
 call_owned :
-    (activation : Activation) (above address : ℕ)
-    → IsOfCall activation.around.program above address
+    (activation : Activation) (floor above address : ℕ)
+    → activation.floor ≤ floor
+    → IsOfCall activation.around.program floor above address
     → Owns activation above address
-call_owned activation above address (inl variable) = inl variable
-call_owned activation above address (inr mine) = inr (inl mine)
+call_owned activation floor above address low (inl variable) = inl variable
+call_owned activation floor above address low (inr mine) =
+    let from : floor ≤ address = mine.0 in inr (inl (omega (arith, low, from), mine.1))
 
 -- a frame stays in a call below it
 frame_stays :
-    (activation : Activation) (above : ℕ) (frame : List (List ℕ)) (memory ended : List ℕ)
+    (activation : Activation) (floor above : ℕ) (frame : List (List ℕ)) (memory ended : List ℕ)
     → LiesWell activation
     → above ≤ activation.level
-    → Keeps (IsOfCall activation.around.program above) memory ended
+    → Keeps (IsOfCall activation.around.program floor above) memory ended
     → FrameLies activation frame memory
     → FrameLies activation frame ended
-frame_stays activation above frame memory ended lies below kept frame_lies = record {
+frame_stays activation floor above frame memory ended lies below kept frame_lies = record {
   sizes = frame_lies.sizes;
   bytes = λ object offset within.
       kept.bytes (activation.level + activation.distance object + offset)
@@ -193,14 +195,15 @@ frame_stays activation above frame memory ended lies below kept frame_lies = rec
 }
   where
     not_mine : (object offset : ℕ) → offset < activation.size object
-        → IsOfCall activation.around.program above (activation.level + activation.distance object + offset)
+        → IsOfCall activation.around.program floor above (activation.level + activation.distance object + offset)
         → ⊥
     not_mine object offset within (inl variable) =
         let inside = lies.inside object offset within in
         let low = lies.low in
+        let bottom = lies.bottom in
         let high = lies.above in
         lies.placed.stack_free (activation.level + activation.distance object + offset) variable.0
-        (omega (arith, low)) (omega (arith, inside, high))
+        (omega (arith, low, bottom)) (omega (arith, inside, high))
     not_mine object offset within (inr mine) =
         let less : activation.level + activation.distance object + offset < above = mine.1 in
         omega (arith, less, below)
@@ -208,7 +211,7 @@ frame_stays activation above frame memory ended lies below kept frame_lies = rec
 -- a PUSH changes two bytes of the activation's own
 push_keeps :
     (activation : Activation) (top word : ℕ) (memory : List ℕ)
-    → activation.around.program.placement.stack.start + 2 ≤ top
+    → activation.floor + 2 ≤ top
     → Keeps (Owns activation top) memory (pushed top word memory)
 push_keeps activation top word memory room = record {
   size =
@@ -282,7 +285,7 @@ calls_do code entries within frame bound number room shape lies known bounded we
         (λ around u. entered (later_by bound) found.0 (callee.at).number found.1 values around u))
         found (Gave 0 t)) callee.there
 
-    top_low : charge_of callee.found ≤ room → code.program.placement.stack.start + 10 ≤ top
+    top_low : charge_of callee.found ≤ room → shape.floor + 10 ≤ top
     top_low fits =
         let least = least_charge callee.found in
         let enough = has.enough in
@@ -333,7 +336,7 @@ calls_do code entries within frame bound number room shape lies known bounded we
         (entered (later_by bound) callee.typed (callee.at).number callee.found values
         (record { program = code.program; number_of_module = (callee.at).number_of_module; room = room - charge_of callee.found })
         (record s { budget = b }))
-        (ComesBack code.program code.image (callee.found).result (top - 2 + 2 + bytes_pushed values) (from + 3)
+        (ComesBack code.program code.image (callee.found).result (top - 2 + 2 - room) (top - 2 + 2 + bytes_pushed values) (from + 3)
         (record s { budget = b }) (pushed top (wrap (from + 3)) memory))
     entry b less fits =
         known callee.at callee.typed callee.found callee.there callee.here room (top - 2) (from + 3) values
@@ -356,14 +359,14 @@ calls_do code entries within frame bound number room shape lies known bounded we
               pushed_keeps top (wrap (from + 3)) memory address (λ same. omega (arith, same, above, low))
               (λ same. omega (arith, same, above, low)))
               lie));
-          low = omega (arith, enough, low);
+          low = (let bottom = well.bottom in omega (arith, enough, low, bottom));
           high = omega (arith, depth, few, high, low);
         })
       where
-        low : code.program.placement.stack.start + 10 ≤ top
+        low : shape.floor + 10 ≤ top
         low = top_low fits
 
-        enough : code.program.placement.stack.start + room + 0 ≤ top
+        enough : shape.floor + room + 0 ≤ top
         enough = has.enough
 
         depth : top + bytes ≡ shape.level
@@ -374,7 +377,7 @@ calls_do code entries within frame bound number room shape lies known bounded we
 
     arrives : (b found : ℕ) (t : SourceState) (end : State)
         → charge_of callee.found ≤ room
-        → ComesBack code.program code.image (callee.found).result (top - 2 + 2 + bytes_pushed values) (from + 3)
+        → ComesBack code.program code.image (callee.found).result (top - 2 + 2 - room) (top - 2 + 2 + bytes_pushed values) (from + 3)
         (record s { budget = b }) (pushed top (wrap (from + 3)) memory) found t end
         → Arrives activation (top + bytes_pushed values) base (from + 3) (ResultLies heading.result) found t end
     arrives b found t end fits comes = record {
@@ -387,7 +390,7 @@ calls_do code entries within frame bound number room shape lies known bounded we
         shares = comes.shares;
         frame_lies =
             subst (λ (frame : List (List ℕ)). FrameLies activation frame comes.memory) (sym comes.frame)
-            (frame_stays activation (top + bytes_pushed values) s.frame (pushed top (wrap (from + 3)) memory) comes.memory
+            (frame_stays activation (top - 2 + 2 - room) (top + bytes_pushed values) s.frame (pushed top (wrap (from + 3)) memory) comes.memory
             well (omega (arith, depth, few)) kept (after_push fits).frame_lies);
         kept =
             keeps_both (Owns activation (top + bytes_pushed values)) base memory comes.memory
@@ -399,14 +402,14 @@ calls_do code entries within frame bound number room shape lies known bounded we
             (pushed top (wrap (from + 3)) memory)
             (owns_more activation top (top + bytes_pushed values) (omega arith))
             (push_keeps activation top (wrap (from + 3)) memory (omega (arith, low))))
-            (keeps_wider (IsOfCall code.program (top + bytes_pushed values))
+            (keeps_wider (IsOfCall code.program (top - 2 + 2 - room) (top + bytes_pushed values))
             (Owns activation (top + bytes_pushed values)) (pushed top (wrap (from + 3)) memory) comes.memory
-            (call_owned activation (top + bytes_pushed values)) kept));
+            (λ address. call_owned activation (top - 2 + 2 - room) (top + bytes_pushed values) address (omega (arith, enough, low))) kept));
       };
       holds = subst (λ (result : Option ScalarType). ResultLies result found comes.r comes.memory) callee.result comes.lies;
     }
       where
-        low : code.program.placement.stack.start + 10 ≤ top
+        low : shape.floor + 10 ≤ top
         low = top_low fits
 
         depth : top + bytes ≡ shape.level
@@ -415,7 +418,10 @@ calls_do code entries within frame bound number room shape lies known bounded we
         above_is : top - 2 + 2 + bytes_pushed values ≡ top + bytes_pushed values
         above_is = omega (arith, low)
 
-        kept : Keeps (IsOfCall code.program (top + bytes_pushed values)) (pushed top (wrap (from + 3)) memory) comes.memory
+        enough : shape.floor + room + 0 ≤ top
+        enough = has.enough
+
+        kept : Keeps (IsOfCall code.program (top - 2 + 2 - room) (top + bytes_pushed values)) (pushed top (wrap (from + 3)) memory) comes.memory
         kept =
             subst (λ (above : ℕ).
-            Keeps (IsOfCall code.program above) (pushed top (wrap (from + 3)) memory) comes.memory) above_is comes.kept
+            Keeps (IsOfCall code.program (top - 2 + 2 - room) above) (pushed top (wrap (from + 3)) memory) comes.memory) above_is comes.kept

@@ -84,13 +84,14 @@ record IsMade
       → byte_at ended address ≡ byte_at memory address
 
 -- where things lie in the stack of a call
-record IsPlaced (code : ModuleCode) (found : TypedProcedure) (body : Body) (top : ℕ) : Type 0 where
+record IsPlaced (code : ModuleCode) (found : TypedProcedure) (body : Body) (room top : ℕ) : Type 0 where
   bytes : body.frame.now.variable_bytes ≡ found.frame_bytes
   few : found.frame_bytes ≤ 1024
   level : frame_level body.frame.now top + (return_of body.frame.now).start ≡ top
   none : length found.parameters ≡ 0 → (return_of body.frame.now).start ≡ found.frame_bytes
   some : 1 ≤ length found.parameters → (return_of body.frame.now).start ≡ found.frame_bytes + 2
-  low : code.program.placement.stack.start + 3 ≤ frame_level body.frame.now top
+  bottom : code.program.placement.stack.start ≤ top + 2 - room
+  low : top + 2 - room + 3 ≤ frame_level body.frame.now top
   high : top + 2 ≤ code.program.placement.stack.start + code.program.placement.stack.len
   in_memory : code.program.placement.stack.start + code.program.placement.stack.len ≤ MEMORY_SIZE
 
@@ -122,7 +123,7 @@ module _ (code : ModuleCode) (entries : Entries) (bound : ℕ) (lies : ModuleLie
   abbrev has : HasParameters code.typed index found
   has = has_parameters code.typed index found lies.parameters is.is
 
-  placed : IsPlaced code found body top
+  placed : IsPlaced code found body room top
   placed =
       let bytes = (is.frame kind).variable_bytes ∙ lowered.frame_bytes in
       let count = (is.frame kind).parameter_count
@@ -136,14 +137,15 @@ module _ (code : ModuleCode) (entries : Entries) (bound : ℕ) (lies : ModuleLie
       = λ zero. starts.0 zero ∙ bytes in
       let some : (1 ≤ length found.parameters → (return_of body.frame.now).start ≡ found.frame_bytes + 2)
       = λ one. starts.1 one ∙ ap (λ (n : ℕ). n + 2) bytes in
-      let levels = level_of top (return_of body.frame.now).start code.program.placement.stack.start room
-      (length found.parameters) found.frame_bytes none some (omega (arith, charge, charge_fits)) low in
+      let levels = level_of top (return_of body.frame.now).start (top + 2 - room) room
+      (length found.parameters) found.frame_bytes none some (omega (arith, charge, charge_fits)) (omega (arith, low)) in
       record {
         bytes = bytes;
         few = (frame_fits code.typed index found lies.frames is.is).bytes;
         level = levels.0;
         none = none;
         some = some;
+        bottom = omega (arith, low);
         low = levels.1;
         high = omega (arith, high);
         in_memory = lies.placed.stack_in_memory;
@@ -162,10 +164,10 @@ module _ (code : ModuleCode) (entries : Entries) (bound : ℕ) (lies : ModuleLie
   made_does to place facts now ended same made known =
       let set = all_set (surroundings_in code (room - charge_of found)) at.context.activation found.frame_bytes ended
       made.is_memory found.parameter_types found.parameters values (record s { frame = frame_of index code.typed })
-      (parameters_in_words code entries index procedure found body.frame.now (room - charge_of found) level lies is.there
+      (parameters_in_words code entries index procedure found body.frame.now (room - charge_of found) (top + 2 - room) level lies is.there
       is.is (is.frame kind) kind)
       made.words
-      (new_lies code entries index procedure found body.frame.now (room - charge_of found) level lies is.there is.is (is.frame kind)
+      (new_lies code entries index procedure found body.frame.now (room - charge_of found) (top + 2 - room) level lies is.there is.is (is.frame kind)
       ended made.zeros) in
       does_same (Gave tt (record s { frame = set.frame })) set.is
       (gives (record {
@@ -202,7 +204,10 @@ module _ (code : ModuleCode) (entries : Entries) (bound : ℕ) (lies : ModuleLie
         };
       }))
     where
-      low : code.program.placement.stack.start + 3 ≤ frame_level body.frame.now top
+      bottom : code.program.placement.stack.start ≤ top + 2 - room
+      bottom = placed.bottom
+
+      low : top + 2 - room + 3 ≤ frame_level body.frame.now top
       low = placed.low
 
       high : top + 2 ≤ code.program.placement.stack.start + code.program.placement.stack.len
@@ -211,15 +216,15 @@ module _ (code : ModuleCode) (entries : Entries) (bound : ℕ) (lies : ModuleLie
       not_declared : (address : ℕ) → Rattle.meaning.specs.Access.is_declared code.program address ≡ true
           → frame_level body.frame.now top ≤ address + 1 → address < top → ⊥
       not_declared address declared from below =
-          lies.placed.stack_free address declared (omega (arith, low, from)) (omega (arith, below, high))
+          lies.placed.stack_free address declared (omega (arith, bottom, low, from)) (omega (arith, below, high))
 
       not_code : (address : ℕ) → Rattle.mem80.specs.Range.IsIn address code.program.placement.code
           → frame_level body.frame.now top ≤ address + 1 → address < top → ⊥
       not_code address within from below =
-          lies.placed.apart address within.0 within.1 (omega (arith, low, from)) (omega (arith, below, high))
+          lies.placed.apart address within.0 within.1 (omega (arith, bottom, low, from)) (omega (arith, below, high))
 
       of_call : (address : ℕ) → frame_level body.frame.now top ≤ address + 1 → address < top
-          → IsOfCall code.program (top + 2 + bytes_pushed values) address
+          → IsOfCall code.program (top + 2 - room) (top + 2 + bytes_pushed values) address
       of_call address from below = inr (omega (arith, low, from), omega (arith, below))
 
   -- the parameters of the body
@@ -456,7 +461,10 @@ module _ (code : ModuleCode) (entries : Entries) (bound : ℕ) (lies : ModuleLie
       some : 2 ≤ top
       some = (word_place there_are).1
 
-      low : code.program.placement.stack.start + 3 ≤ frame_level body.frame.now top
+      bottom : code.program.placement.stack.start ≤ top + 2 - room
+      bottom = placed.bottom
+
+      low : top + 2 - room + 3 ≤ frame_level body.frame.now top
       low = placed.low
 
       high : top + 2 ≤ code.program.placement.stack.start + code.program.placement.stack.len
@@ -473,8 +481,8 @@ module _ (code : ModuleCode) (entries : Entries) (bound : ℕ) (lies : ModuleLie
       agrees : AgreesIn code.program.placement.code code.image (pushed_memory last.scalar)
       agrees address within =
           pushed_keeps top (pushed_word last.scalar r) memory address
-          (λ same. lies.placed.apart address within.0 within.1 (omega (arith, same, low, place)) (omega (arith, same, high)))
-          (λ same. lies.placed.apart address within.0 within.1 (omega (arith, same, low, place)) (omega (arith, same, high)))
+          (λ same. lies.placed.apart address within.0 within.1 (omega (arith, same, bottom, low, place)) (omega (arith, same, high)))
+          (λ same. lies.placed.apart address within.0 within.1 (omega (arith, same, bottom, low, place)) (omega (arith, same, high)))
           ∙ enters.shares.code address within
 
       facts_are : last_argument_facts body.procedure.now.parameters.items
@@ -539,7 +547,10 @@ module _ (code : ModuleCode) (entries : Entries) (bound : ℕ) (lies : ModuleLie
           (ap (λ (types : List ScalarType). slice_get (zip types found.parameters) (length found.parameter_types - 1))
           none.types)
 
-      low : code.program.placement.stack.start + 3 ≤ frame_level body.frame.now top
+      bottom : code.program.placement.stack.start ≤ top + 2 - room
+      bottom = placed.bottom
+
+      low : top + 2 - room + 3 ≤ frame_level body.frame.now top
       low = placed.low
 
       high : top + 2 ≤ code.program.placement.stack.start + code.program.placement.stack.len

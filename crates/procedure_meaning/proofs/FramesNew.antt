@@ -169,7 +169,7 @@ size_in_frame_is typed index scalar parameter object =
     ∙ scalar_size object.found scalar object.scalar_is
 
 module _ (code : ModuleCode) (entries : Entries) (index : ℕ) (procedure : TreeProcedure) (found : TypedProcedure)
-    (plan : FramePlan) (room level : ℕ) (lies : ModuleLies code entries)
+    (plan : FramePlan) (room floor level : ℕ) (lies : ModuleLies code entries)
     (there : slice_get code.tree.now.procedures.items index ≡ Some procedure)
     (stands : slice_get code.typed.procedures index ≡ Some found) (planned : IsPlanOf procedure plan) where
   abbrev lowered : IsProcedure code.typed (nodes_of code.tree.now) code.storage index procedure found
@@ -179,8 +179,8 @@ module _ (code : ModuleCode) (entries : Entries) (index : ℕ) (procedure : Tree
   pub new_lies :
       (memory : List ℕ)
       → ((address : ℕ) → level ≤ address → address < level + found.frame_bytes → byte_at memory address ≡ 0)
-      → LiesBut (activation_in code room (frame_shape code.typed index found plan level))
-      (IsOfParameters (activation_in code room (frame_shape code.typed index found plan level)) found.parameters)
+      → LiesBut (activation_in code room (frame_shape code.typed index found plan floor level))
+      (IsOfParameters (activation_in code room (frame_shape code.typed index found plan floor level)) found.parameters)
       (frame_of index code.typed) memory
   new_lies memory zeros = record {
     sizes = λ object. lengths_from index object code.typed.objects;
@@ -194,7 +194,7 @@ module _ (code : ModuleCode) (entries : Entries) (index : ℕ) (procedure : Tree
 
       zero_of : (object offset : ℕ) (one : TypedObject)
           → slice_get code.typed.objects object ≡ Some one
-          → (IsOfParameters (activation_in code room (frame_shape code.typed index found plan level)) found.parameters object
+          → (IsOfParameters (activation_in code room (frame_shape code.typed index found plan floor level)) found.parameters object
           offset → ⊥)
           → offset < size_in_frame code.typed index object
           → one.home ≡ InFrame index
@@ -212,7 +212,7 @@ module _ (code : ModuleCode) (entries : Entries) (index : ℕ) (procedure : Tree
 
       by_test : (object offset : ℕ) (one : TypedObject)
           → slice_get code.typed.objects object ≡ Some one
-          → (IsOfParameters (activation_in code room (frame_shape code.typed index found plan level)) found.parameters object
+          → (IsOfParameters (activation_in code room (frame_shape code.typed index found plan floor level)) found.parameters object
           offset → ⊥)
           → offset < size_in_frame code.typed index object
           → (test : Bool) → is_in_frame index one.home ≡ test
@@ -224,7 +224,7 @@ module _ (code : ModuleCode) (entries : Entries) (index : ℕ) (procedure : Tree
 
       by_object : (object offset : ℕ)
           → offset < size_in_frame code.typed index object
-          → (IsOfParameters (activation_in code room (frame_shape code.typed index found plan level)) found.parameters object
+          → (IsOfParameters (activation_in code room (frame_shape code.typed index found plan floor level)) found.parameters object
           offset → ⊥)
           → (entry : Option TypedObject) → slice_get code.typed.objects object ≡ entry
           → byte_at memory (level + distance_of plan (frame_number code.typed index object) + offset) ≡ 0
@@ -256,7 +256,7 @@ module _ (code : ModuleCode) (entries : Entries) (index : ℕ) (procedure : Tree
       → length found.parameters ≡ before + length scalars
       → ((place parameter : ℕ) → slice_get parameters place ≡ Some parameter
       → slice_get found.parameters (before + place) ≡ Some parameter)
-      → AreInWords (surroundings_in code room) (activation_in code room (frame_shape code.typed index found plan level))
+      → AreInWords (surroundings_in code room) (activation_in code room (frame_shape code.typed index found plan floor level))
       found.frame_bytes scalars parameters
   words_from before [] [] are count stand = tt
   words_from before [] (parameter ∷ parameters) are count stand = absurd are
@@ -291,7 +291,7 @@ module _ (code : ModuleCode) (entries : Entries) (index : ℕ) (procedure : Tree
   -- all parameters lie in their words
   pub parameters_in_words :
       procedure.kind ≡ kinds.Reentrant
-      → AreInWords (surroundings_in code room) (activation_in code room (frame_shape code.typed index found plan level))
+      → AreInWords (surroundings_in code room) (activation_in code room (frame_shape code.typed index found plan floor level))
       found.frame_bytes found.parameter_types found.parameters
   parameters_in_words kind =
       words_from 0 found.parameter_types found.parameters

@@ -122,16 +122,16 @@ main_goes code entries start budget room s r memory lies known lists fit stands 
         inner = room - charge_of code.typed.main
 
         well : LiesWell (activation_in code (room - charge_of code.typed.main)
-            (main_shape (code.program.placement.stack.start + code.program.placement.stack.len)))
+            (main_shape code.program.placement.stack.start (code.program.placement.stack.start + code.program.placement.stack.len)))
         well =
-            static_lies code entries (room - charge_of code.typed.main)
-            (code.program.placement.stack.start + code.program.placement.stack.len) 0 lies (omega arith) (omega arith)
+            static_lies code entries (room - charge_of code.typed.main) code.program.placement.stack.start
+            (code.program.placement.stack.start + code.program.placement.stack.len) 0 lies (omega arith) (omega arith) (omega arith)
 
         at : BodyContext
         at =
             body_in code WithinMain stands.body code.typed.main (suc budget) (suc budget)
             (room - charge_of code.typed.main)
-            (main_shape (code.program.placement.stack.start + code.program.placement.stack.len))
+            (main_shape code.program.placement.stack.start (code.program.placement.stack.start + code.program.placement.stack.len))
 
         lowered : HasBody (nodes_of code.tree.now) code.storage code.tree.now.main code.typed.main
         lowered = lies.lowered.main
@@ -142,15 +142,15 @@ main_goes code entries start budget room s r memory lies known lists fit stands 
         charge = charge_is code.typed.main
 
         at_start : IsThere (activation_in code (room - charge_of code.typed.main)
-            (main_shape (code.program.placement.stack.start + code.program.placement.stack.len)))
+            (main_shape code.program.placement.stack.start (code.program.placement.stack.start + code.program.placement.stack.len)))
             (items.WithWord (LoadPair Sp) (AtTarget (InSegment Stack) 0)
             ∷ (stands.statements ++ (items.Plain Hlt ∷ []))) start stands.to
         at_start =
             there_in code (room - charge_of code.typed.main)
-            (main_shape (code.program.placement.stack.start + code.program.placement.stack.len)) stands.there
+            (main_shape code.program.placement.stack.start (code.program.placement.stack.start + code.program.placement.stack.len)) stands.there
 
         parts : AreThere (activation_in code (room - charge_of code.typed.main)
-            (main_shape (code.program.placement.stack.start + code.program.placement.stack.len)))
+            (main_shape code.program.placement.stack.start (code.program.placement.stack.start + code.program.placement.stack.len)))
             stands.statements (items.Plain Hlt ∷ []) (start + 3) stands.to
         parts = both_there stands.statements (items.Plain Hlt ∷ []) (after_word at_start)
 
@@ -161,7 +161,7 @@ main_goes code entries start budget room s r memory lies known lists fit stands 
             (code.program.placement.stack.start + code.program.placement.stack.len) lies.stack_end
 
         ready : IsReady (activation_in code (room - charge_of code.typed.main)
-            (main_shape (code.program.placement.stack.start + code.program.placement.stack.len)))
+            (main_shape code.program.placement.stack.start (code.program.placement.stack.start + code.program.placement.stack.len)))
             (code.program.placement.stack.start + code.program.placement.stack.len) memory s.memory s.frame
             (record r { sp = wrap (code.program.placement.stack.start + code.program.placement.stack.len) }) memory
         ready = record {
@@ -175,26 +175,27 @@ main_goes code entries start budget room s r memory lies known lists fit stands 
             bytes = λ object offset within. absurd (omega (arith, within));
           };
           kept = keeps_all (Owns (activation_in code (room - charge_of code.typed.main)
-              (main_shape (code.program.placement.stack.start + code.program.placement.stack.len)))
+              (main_shape code.program.placement.stack.start (code.program.placement.stack.start + code.program.placement.stack.len)))
               (code.program.placement.stack.start + code.program.placement.stack.len)) memory;
         }
 
         sound : IsSoundBody (body_in code WithinMain stands.body code.typed.main (suc budget) (suc budget)
             (room - charge_of code.typed.main)
-            (main_shape (code.program.placement.stack.start + code.program.placement.stack.len)))
+            (main_shape code.program.placement.stack.start (code.program.placement.stack.start + code.program.placement.stack.len)))
         sound =
             body_sound code WithinMain stands.body code.typed.main (suc budget) (suc budget)
             (room - charge_of code.typed.main)
-            (main_shape (code.program.placement.stack.start + code.program.placement.stack.len)) one_tree tt
+            (main_shape code.program.placement.stack.start (code.program.placement.stack.start + code.program.placement.stack.len)) one_tree tt
             (omega arith) (main_labels_differ code.typed lies.jumps)
             (context_sound code entries WithinMain stands.body.frame (suc budget) budget
             (room - charge_of code.typed.main)
-            (main_shape (code.program.placement.stack.start + code.program.placement.stack.len)) lies known
+            (main_shape code.program.placement.stack.start (code.program.placement.stack.start + code.program.placement.stack.len)) lies known
             (omega arith) well
             (main_planned code stands.body.frame (suc budget) (suc budget) (room - charge_of code.typed.main)
+            code.program.placement.stack.start
             (code.program.placement.stack.start + code.program.placement.stack.len))
             (fit WithinMain stands.body.frame (suc budget) (room - charge_of code.typed.main)
-            (main_shape (code.program.placement.stack.start + code.program.placement.stack.len))))
+            (main_shape code.program.placement.stack.start (code.program.placement.stack.start + code.program.placement.stack.len))))
 
         reaches_end : Bool
         reaches_end =
@@ -214,7 +215,7 @@ main_goes code entries start budget room s r memory lies known lists fit stands 
             → LeavesBy (record { reaches = reaches_end; returns = false; labels = [] }) flow
             → Leaves (body_in code WithinMain stands.body code.typed.main (suc budget) (suc budget)
             (room - charge_of code.typed.main)
-            (main_shape (code.program.placement.stack.start + code.program.placement.stack.len)))
+            (main_shape code.program.placement.stack.start (code.program.placement.stack.start + code.program.placement.stack.len)))
             memory parts.middle stands.last s.budget flow t end
             → Does code.program.script t.budget 0 end (Gave flow t) IsHalted
         by_flow Onward t end by_way leaves =

@@ -33,10 +33,10 @@ pub owned_by_call :
     (activation : Activation) (address : ℕ)
     → LiesWell activation
     → Owns activation activation.level address
-    → IsOfCall activation.around.program (activation.level + activation.whole) address
+    → IsOfCall activation.around.program activation.floor (activation.level + activation.whole) address
 owned_by_call activation address lies (inl variable) = inl variable
 owned_by_call activation address lies (inr (inl mine)) =
-    let low : activation.around.program.placement.stack.start ≤ address = mine.0 in
+    let low : activation.floor ≤ address = mine.0 in
     let high : address < activation.level = mine.1 in
     inr (low, omega (arith, high))
 owned_by_call activation address lies (inr (inr mine)) =
@@ -57,7 +57,7 @@ not_owned :
 not_owned activation top address lies within low is (inl variable) = by_place is
   where
     start : activation.around.program.placement.stack.start ≤ activation.level
-    start = lies.low
+    start = let bottom = lies.bottom in let low = lies.low in omega (arith, bottom, low)
 
     above : activation.level + activation.whole
         ≤ activation.around.program.placement.stack.start + activation.around.program.placement.stack.len
@@ -108,7 +108,7 @@ pub entered_does :
     → LiesWell at.context.activation
     → at.context.activation.back + 2 ≤ at.context.activation.whole
     → at.context.activation.level + at.context.activation.whole ≡ top + 2 + 2 * (length found.parameter_types - 1)
-    → at.context.activation.around.program.placement.stack.start + at.context.activation.around.room
+    → at.context.activation.floor + at.context.activation.around.room
     + (2 + 2 * height_of_list found.body) ≤ at.context.activation.level
     → at.body.procedure.now.result ≡ found.result
     → BeginDoes at number found room entry middle top facts
@@ -128,7 +128,7 @@ pub entered_does :
     top back s r memory
     → Does at.context.activation.around.program.script s.budget 0 (at_place entry r memory s.events)
     (entered at.context.later at.context.typed number found values at.context.activation.around s)
-    (ComesBack at.context.activation.around.program at.context.activation.image found.result
+    (ComesBack at.context.activation.around.program at.context.activation.image found.result at.context.activation.floor
     (top + 2 + bytes_pushed values) back s memory)
 entered_does at number found range room entry middle end_place to top bound facts last reaches ends lies within_whole ends_above has_room result_is begins does is types stands left end_is there returns back values s r memory below as_many enters =
     then_does (begins back values s r memory enters)
@@ -153,14 +153,14 @@ entered_does at number found range room entry middle end_place to top bound fact
 
     Good : ℕ → SourceState → State → Type 0
     Good =
-        ComesBack activation.around.program activation.image found.result (top + 2 + bytes_pushed values) back s memory
+        ComesBack activation.around.program activation.image found.result activation.floor (top + 2 + bytes_pushed values) back s memory
 
     above_is : activation.level + activation.whole ≡ top + 2 + bytes_pushed values
     above_is = omega (arith, ends_above, as_many)
 
     -- the return comes back to the caller
     comes_back : (before : List ℕ) (value : ℕ) (u : SourceState) (place : ℕ) (now : Registers) (ended : List ℕ)
-        → Keeps (IsOfCall activation.around.program (top + 2 + bytes_pushed values)) memory before
+        → Keeps (IsOfCall activation.around.program activation.floor (top + 2 + bytes_pushed values)) memory before
         → ReturnStands at place
         → ReturnLies (activation.level + activation.back) back before
         → IsReady activation activation.level before u.memory u.frame now ended
@@ -183,11 +183,11 @@ entered_does at number found range room entry middle end_place to top bound fact
         }
       where
         good : (before : List ℕ) (value : ℕ) (u : SourceState) (now : Registers) (ended : List ℕ)
-            → Keeps (IsOfCall activation.around.program (top + 2 + bytes_pushed values)) memory before
+            → Keeps (IsOfCall activation.around.program activation.floor (top + 2 + bytes_pushed values)) memory before
             → Keeps (Owns activation activation.level) before ended
             → (end : State)
             → HasReturned at at.body.procedure.now.result (activation.level + activation.whole) back ended value u end
-            → ComesBack activation.around.program activation.image found.result (top + 2 + bytes_pushed values) back s
+            → ComesBack activation.around.program activation.image found.result activation.floor (top + 2 + bytes_pushed values) back s
             memory value (record u { frame = s.frame }) end
         good before value u now ended kept own end has = record {
           r = has.r;
@@ -198,13 +198,13 @@ entered_does at number found range room entry middle end_place to top bound fact
           registers = has.registers;
           pointer = has.pointer ∙ ap wrap above_is;
           kept =
-              keeps_both (IsOfCall activation.around.program (top + 2 + bytes_pushed values)) memory before has.memory kept
-              (keeps_both (IsOfCall activation.around.program (top + 2 + bytes_pushed values)) before ended has.memory
-              (subst (λ (above : ℕ). Keeps (IsOfCall activation.around.program above) before ended) above_is
+              keeps_both (IsOfCall activation.around.program activation.floor (top + 2 + bytes_pushed values)) memory before has.memory kept
+              (keeps_both (IsOfCall activation.around.program activation.floor (top + 2 + bytes_pushed values)) before ended has.memory
+              (subst (λ (above : ℕ). Keeps (IsOfCall activation.around.program activation.floor above) before ended) above_is
               (keeps_wider (Owns activation activation.level)
-              (IsOfCall activation.around.program (activation.level + activation.whole)) before ended
+              (IsOfCall activation.around.program activation.floor (activation.level + activation.whole)) before ended
               (λ address own. owned_by_call activation address lies own) own))
-              (subst (λ (above : ℕ). Keeps (IsOfCall activation.around.program above) ended has.memory) above_is has.kept));
+              (subst (λ (above : ℕ). Keeps (IsOfCall activation.around.program activation.floor above) ended has.memory) above_is has.kept));
           lies =
               subst (λ (result : Option ScalarType). ResultLies result value has.r has.memory) result_is has.lies;
         }
@@ -212,7 +212,7 @@ entered_does at number found range room entry middle end_place to top bound fact
     by_reaches : (reaches_end : Bool) (before : List ℕ) (u : SourceState) (state : State)
         → reaches_end ≡ true
         → IsEndCode at.body at.context.called last reaches_end ends
-        → Keeps (IsOfCall activation.around.program (top + 2 + bytes_pushed values)) memory before
+        → Keeps (IsOfCall activation.around.program activation.floor (top + 2 + bytes_pushed values)) memory before
         → ReturnLies (activation.level + activation.back) back before
         → GoesOn at before end_place last u state
         → Does activation.around.program.script u.budget 0 state (Gave 0 (record u { frame = s.frame })) Good
@@ -229,7 +229,7 @@ entered_does at number found range room entry middle end_place to top bound fact
     by_flow : (flow : Flow) (t u : SourceState) (state : State)
         → LeavesBy ways flow
         → (begun_registers : Registers) (before : List ℕ)
-        → Keeps (IsOfCall activation.around.program (top + 2 + bytes_pushed values)) memory before
+        → Keeps (IsOfCall activation.around.program activation.floor (top + 2 + bytes_pushed values)) memory before
         → ReturnLies (activation.level + activation.back) back before
         → Leaves at before end_place last t.budget flow u state
         → Does activation.around.program.script u.budget 0 state

@@ -171,8 +171,7 @@ module _ (code : ModuleCode) (entries : Entries) (bound number : ℕ) (lies : Mo
         (room - charge_of found) shape)
         → shape.back + 2 ≤ shape.whole
         → shape.level + shape.whole ≡ top + 2 + 2 * (length found.parameter_types - 1)
-        → code.program.placement.stack.start + (room - charge_of found) + (2 + 2 * height_of_list found.body)
-        ≤ shape.level
+        → shape.floor + (room - charge_of found) + (2 + 2 * height_of_list found.body) ≤ shape.level
         → ((middle : ℕ)
         → IsSoundBody (body_at room shape)
         → IsThere (activation_in code (room - charge_of found) shape) stands.begins (code.layout.place_of index) middle
@@ -184,7 +183,7 @@ module _ (code : ModuleCode) (entries : Entries) (bound number : ℕ) (lies : Mo
         → IsEntered code.program code.image room found.parameter_types values top back s r memory
         → Does code.program.script s.budget 0 (at_place (code.layout.place_of index) r memory s.events)
         (entered (later_by bound) code.typed index found values (surroundings_in code (room - charge_of found)) s)
-        (ComesBack code.program code.image found.result (top + 2 + bytes_pushed values) back s memory)
+        (ComesBack code.program code.image found.result shape.floor (top + 2 + bytes_pushed values) back s memory)
     in_shape room top shape well planned within_whole ends_above has_room begins returns back values s r memory below many enters =
         entered_does (body_at room shape) index found procedure.body room (code.layout.place_of index) first.middle
         second.middle stands.to top (length (nodes_of code.tree.now).statements) stands.begun.facts stands.last
@@ -262,13 +261,13 @@ module _ (code : ModuleCode) (entries : Entries) (bound number : ℕ) (lies : Mo
         → EntryFits code found room top values
         → Does code.program.script s.budget 0 (at_place (code.layout.place_of index) r memory s.events)
         (entered (later_by bound) code.typed index found values (surroundings_in code (room - charge_of found)) s)
-        (ComesBack code.program code.image found.result (top + 2 + bytes_pushed values) back s memory)
+        (ComesBack code.program code.image found.result (top + 2 - room) (top + 2 + bytes_pushed values) back s memory)
     static_does begins returns kind static room top back values s r memory below charge_fits enters fits =
-        in_shape room top (static_shape (static_level found top))
-        (static_lies code entries (room - charge_of found) (static_level found top) 2 lies
-        (omega (arith, low, charged)) (omega (arith, high)))
+        in_shape room top (static_shape (top + 2 - room) (static_level found top))
+        (static_lies code entries (room - charge_of found) (top + 2 - room) (static_level found top) 2 lies
+        (omega (arith, low)) (omega (arith, low, charged)) (omega (arith, high)))
         (static_planned code entries index found found.result stands.body.frame bound (suc number)
-        (room - charge_of found) (static_level found top) lies is static)
+        (room - charge_of found) (top + 2 - room) (static_level found top) lies is static)
         (omega arith) (omega arith) (omega (arith, low, charged, charge))
         (λ middle sound its_there.
         begins index (suc number) room (code.layout.place_of index) middle top stands.first procedure found stands.body
@@ -300,13 +299,13 @@ module _ (code : ModuleCode) (entries : Entries) (bound number : ℕ) (lies : Mo
         → EntryFits code found room top values
         → Does code.program.script s.budget 0 (at_place (code.layout.place_of index) r memory s.events)
         (entered (later_by bound) code.typed index found values (surroundings_in code (room - charge_of found)) s)
-        (ComesBack code.program code.image found.result (top + 2 + bytes_pushed values) back s memory)
+        (ComesBack code.program code.image found.result (top + 2 - room) (top + 2 + bytes_pushed values) back s memory)
     reentrant_does begins returns kind room top back values s r memory below charge_fits enters fits =
-        in_shape room top (frame_shape code.typed index found plan (frame_level plan top))
-        (frame_lies code entries index procedure found plan (room - charge_of found) (frame_level plan top) lies there is
-        (stands.frame kind) (omega (arith, low, charged, at_most)) (omega (arith, high, whole, low, charged, at_most, types)))
+        in_shape room top (frame_shape code.typed index found plan (top + 2 - room) (frame_level plan top))
+        (frame_lies code entries index procedure found plan (room - charge_of found) (top + 2 - room) (frame_level plan top)
+        lies there is (stands.frame kind) (omega (arith, low)) (omega (arith, low, charged, at_most)) (omega (arith, high, whole, low, charged, at_most, types)))
         (frame_planned code index found found.result stands.body.frame bound (suc number) (room - charge_of found)
-        (frame_level plan top))
+        (top + 2 - room) (frame_level plan top))
         (omega (arith, within)) (omega (arith, whole, low, charged, at_most, types))
         (omega (arith, low, charged, charge, at_most))
         (λ middle sound its_there.
@@ -367,7 +366,7 @@ module _ (code : ModuleCode) (entries : Entries) (bound number : ℕ) (lies : Mo
         subst (λ (state : State).
         Does code.program.script s.budget 0 state
         (entered (later_by bound) code.typed index found values (surroundings_in code (room - charge_of found)) s)
-        (ComesBack code.program code.image found.result (top + 2 + bytes_pushed values) back s memory))
+        (ComesBack code.program code.image found.result (top + 2 - room) (top + 2 + bytes_pushed values) back s memory))
         (ap (λ (place : ℕ). running (record r { pc = place }) memory s.events)
         (sym (lies.own index procedure there not_outside)))
         (by_kind kind)
@@ -375,7 +374,7 @@ module _ (code : ModuleCode) (entries : Entries) (bound number : ℕ) (lies : Mo
         by_kind : ((procedure.kind ≡ kinds.Static) × (found.is_reentrant ≡ false)) ⊎ (procedure.kind ≡ kinds.Reentrant)
             → Does code.program.script s.budget 0 (at_place (code.layout.place_of index) r memory s.events)
             (entered (later_by bound) code.typed index found values (surroundings_in code (room - charge_of found)) s)
-            (ComesBack code.program code.image found.result (top + 2 + bytes_pushed values) back s memory)
+            (ComesBack code.program code.image found.result (top + 2 - room) (top + 2 + bytes_pushed values) back s memory)
         by_kind (inl static) =
             static_does begins returns static.0 static.1 room top back values s r memory below charge_fits enters
             (entry_fits room top back values s r memory charge_fits enters)

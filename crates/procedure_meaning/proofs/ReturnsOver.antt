@@ -41,7 +41,7 @@ pair_is high low n back one other same = omega (arith, one, other, same)
 module _ (at : BodyContext) (result : Option ScalarType) (value above back : ℕ) (t : SourceState) (memory : List ℕ)
     (lies : LiesWell at.context.activation)
     (shares : Shares at.context.activation.around.program at.context.activation.image t.memory memory)
-    (low : at.context.activation.around.program.placement.stack.start + 2 ≤ above)
+    (low : at.context.activation.floor + 2 ≤ above)
     (high : above ≤ at.context.activation.around.program.placement.stack.start
     + at.context.activation.around.program.placement.stack.len) where
   above_in_memory : above ≤ MEMORY_SIZE
@@ -65,7 +65,7 @@ module _ (at : BodyContext) (result : Option ScalarType) (value above back : ℕ
         shares = shares;
         registers = bytes;
         pointer = pointer;
-        kept = keeps_all (IsOfCall at.context.activation.around.program above) memory;
+        kept = keeps_all (IsOfCall at.context.activation.around.program at.context.activation.floor above) memory;
         lies = lie;
       })
 
@@ -282,18 +282,19 @@ module _ (at : BodyContext) (result : Option ScalarType) (value above back : ℕ
       now_shares =
           let free = lies.placed.stack_free in
           let apart = lies.placed.apart in
+          let bottom = lies.bottom in
           record {
             is_memory = pushed_is_memory above (wrap back) memory (omega arith) shares.is_memory;
             size = shares.size;
             declared = λ address there.
                 pushed_keeps above (wrap back) memory address
-                (λ is. free address there (omega (arith, is, low)) (omega (arith, is, low, high)))
-                (λ is. free address there (omega (arith, is, low)) (omega (arith, is, low, high)))
+                (λ is. free address there (omega (arith, is, low, bottom)) (omega (arith, is, low, high)))
+                (λ is. free address there (omega (arith, is, low, bottom)) (omega (arith, is, low, high)))
                 ∙ shares.declared address there;
             code = λ address there.
                 pushed_keeps above (wrap back) memory address
-                (λ is. apart address there.0 there.1 (omega (arith, is, low)) (omega (arith, is, low, high)))
-                (λ is. apart address there.0 there.1 (omega (arith, is, low)) (omega (arith, is, low, high)))
+                (λ is. apart address there.0 there.1 (omega (arith, is, low, bottom)) (omega (arith, is, low, high)))
+                (λ is. apart address there.0 there.1 (omega (arith, is, low, bottom)) (omega (arith, is, low, high)))
                 ∙ shares.code address there;
           }
 

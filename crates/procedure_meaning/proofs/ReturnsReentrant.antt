@@ -97,7 +97,7 @@ reentrant_returns code entries bound lies index number room top procedure found 
         ≤ code.program.placement.stack.start + code.program.placement.stack.len
     limit = well.above
 
-    low : code.program.placement.stack.start ≤ frame_level body.frame.now top
+    low : top + 2 - room ≤ frame_level body.frame.now top
     low = well.low
 
     in_memory : code.program.placement.stack.start + code.program.placement.stack.len ≤ MEMORY_SIZE

@@ -104,19 +104,22 @@ same_procedure one other first second same = cc
 
 -- without a frame
 pub static_lies :
-    (code : ModuleCode) (entries : Entries) (room level whole : ℕ)
+    (code : ModuleCode) (entries : Entries) (room floor level whole : ℕ)
     → ModuleLies code entries
-    → code.program.placement.stack.start ≤ level
+    → code.program.placement.stack.start ≤ floor
+    → floor ≤ level
     → level + whole ≤ code.program.placement.stack.start + code.program.placement.stack.len
     → LiesWell (activation_in code room (record {
+      floor = floor;
       level = level;
       distance = λ object. 0;
       size = λ object. 0;
       back = 0;
       whole = whole;
     }))
-static_lies code entries room level whole lies low above = record {
+static_lies code entries room floor level whole lies bottom low above = record {
   placed = lies.placed;
+  bottom = bottom;
   low = low;
   above = above;
   inside = λ object offset within. absurd (omega (arith, within));
@@ -126,12 +129,12 @@ static_lies code entries room level whole lies low above = record {
 
 pub static_planned :
     (code : ModuleCode) (entries : Entries) (index : ℕ) (heading : TypedProcedure) (result : Option ScalarType)
-    (frame : Bor FramePlan) (bound number room level : ℕ)
+    (frame : Bor FramePlan) (bound number room floor level : ℕ)
     → ModuleLies code entries
     → slice_get code.typed.procedures index ≡ Some heading
     → heading.is_reentrant ≡ false
-    → FrameIsPlanned (context_in code (WithinProcedure index result) frame bound number room (static_shape level))
-static_planned code entries index heading result frame bound number room level lies is static procedure object other found within there home =
+    → FrameIsPlanned (context_in code (WithinProcedure index result) frame bound number room (static_shape floor level))
+static_planned code entries index heading result frame bound number room floor level lies is static procedure object other found within there home =
     let same : index ≡ procedure = same_procedure index procedure result other within in
     let reentrant =
     lies.reentrant object index found heading there is (home ∙ ap (λ (one : ℕ). InFrame one) (sym same)) in
@@ -182,17 +185,19 @@ byte_in_frame typed procedure object offset within = by_object (slice_get typed.
 
 pub frame_lies :
     (code : ModuleCode) (entries : Entries) (index : ℕ) (procedure : TreeProcedure) (found : TypedProcedure)
-    (plan : FramePlan) (room level : ℕ)
+    (plan : FramePlan) (room floor level : ℕ)
     → ModuleLies code entries
     → slice_get code.tree.now.procedures.items index ≡ Some procedure
     → slice_get code.typed.procedures index ≡ Some found
     → IsPlanOf procedure plan
-    → code.program.placement.stack.start ≤ level
+    → code.program.placement.stack.start ≤ floor
+    → floor ≤ level
     → level + (2 + 2 * length found.parameters + found.frame_bytes)
     ≤ code.program.placement.stack.start + code.program.placement.stack.len
-    → LiesWell (activation_in code room (frame_shape code.typed index found plan level))
-frame_lies code entries index procedure found plan room level lies there is planned low above = record {
+    → LiesWell (activation_in code room (frame_shape code.typed index found plan floor level))
+frame_lies code entries index procedure found plan room floor level lies there is planned bottom low above = record {
   placed = lies.placed;
+  bottom = bottom;
   low = low;
   above = above;
   inside = λ object offset within.
@@ -217,17 +222,17 @@ frame_lies code entries index procedure found plan room level lies there is plan
 
 pub frame_planned :
     (code : ModuleCode) (index : ℕ) (found : TypedProcedure) (result : Option ScalarType) (frame : Bor FramePlan)
-    (bound number room level : ℕ)
+    (bound number room floor level : ℕ)
     → FrameIsPlanned (context_in code (WithinProcedure index result) frame bound number room
-    (frame_shape code.typed index found frame.now level))
-frame_planned code index found result frame bound number room level procedure object other its within there home =
+    (frame_shape code.typed index found frame.now floor level))
+frame_planned code index found result frame bound number room floor level procedure object other its within there home =
     let same : index ≡ procedure = same_procedure index procedure result other within in (
       ap (λ (one : ℕ). distance_of frame.now (frame_number code.typed one object)) same,
       size_at code.typed index object its there (home ∙ ap (λ (one : ℕ). InFrame one) (sym same)),
     )
 
 pub main_planned :
-    (code : ModuleCode) (frame : Bor FramePlan) (bound number room level : ℕ)
-    → FrameIsPlanned (context_in code WithinMain frame bound number room (main_shape level))
-main_planned code frame bound number room level procedure object result found within there home =
+    (code : ModuleCode) (frame : Bor FramePlan) (bound number room floor level : ℕ)
+    → FrameIsPlanned (context_in code WithinMain frame bound number room (main_shape floor level))
+main_planned code frame bound number room floor level procedure object result found within there home =
     let bad : ⊥ = cc in absurd bad

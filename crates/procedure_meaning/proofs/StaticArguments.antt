@@ -63,7 +63,7 @@ module _ (at : BodyContext) (sound : IsSound at.context)
     (entered : List ℕ) (frame : List (List ℕ))
     (none : (object : ℕ) → length (frame_bytes frame object) ≡ 0)
     (others : List Parameter) (slots : List Slot) (values : List ℕ) (top back : ℕ)
-    (start : at.context.activation.around.program.placement.stack.start ≤ top)
+    (start : at.context.activation.floor ≤ top)
     (high : top + 2 + 2 * length others ≤ at.context.activation.around.program.placement.stack.start
     + at.context.activation.around.program.placement.stack.len)
     (taken : (index : ℕ) → index < length others

@@ -44,7 +44,7 @@ module _ (at : BodyContext) (sound : IsSound at.context)
     (many : length values ≡ length slots) (size : length source ≡ MEMORY_SIZE)
     (variables : AreVariables at.context.activation.around.program slots)
     (top back to : ℕ) (begun : Here) (t : SourceState)
-    (start : at.context.activation.around.program.placement.stack.start ≤ top)
+    (start : at.context.activation.floor ≤ top)
     (high : top + 2 + 2 * (length slots - 1) ≤ at.context.activation.around.program.placement.stack.start
     + at.context.activation.around.program.placement.stack.len)
     (level_is : at.context.activation.level ≡ top + 2 * (length slots - 1))

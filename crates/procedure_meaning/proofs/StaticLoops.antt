@@ -217,7 +217,7 @@ module _ (at : BodyContext) (sound : IsSound at.context)
     (above : ℕ) (entered : List ℕ) (frame : List (List ℕ))
     (none : (object : ℕ) → length (frame_bytes frame object) ≡ 0)
     (parameters : List Parameter) (slots : List Slot) (values stacked : List ℕ) (base total : ℕ)
-    (start : at.context.activation.around.program.placement.stack.start ≤ base)
+    (start : at.context.activation.floor ≤ base)
     (high : base + 2 * total ≤ at.context.activation.around.program.placement.stack.start
     + at.context.activation.around.program.placement.stack.len)
     (taken : (index : ℕ) → index < total

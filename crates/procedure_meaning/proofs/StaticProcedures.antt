@@ -210,7 +210,7 @@ static_begins code entries bound lies index number room from to top first proced
         (steps_are body (map parameter_of has.slots) first
         (ap (λ (one : TreeProcedure). one.kind) is.is_procedure ∙ static) its_parameters) written
 
-    low : code.program.placement.stack.start ≤ top
+    low : top + 2 - room ≤ top
     low =
         let enough = enters.low in
         let charge = charge_is found in
@@ -227,7 +227,7 @@ static_begins code entries bound lies index number room from to top first proced
       registers = enters.registers;
       shares = enters.shares;
       known = no_facts_hold;
-      kept = keeps_all (IsOfCall code.program above) memory;
+      kept = keeps_all (IsOfCall code.program (top + 2 - room) above) memory;
       stack = λ address one other. refl;
     }
 

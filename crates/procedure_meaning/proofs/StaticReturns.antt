@@ -1,5 +1,5 @@
 -- A procedure that is not REENTRANT returns by RET.
-use Rattle.std.proofs.Common.{◌≡◌, ℕ, ◌+◌, ◌*◌, ◌/◌, ◌%◌, ◌≤◌, List, [], ◌∷◌, Option, Some, None, refl, ap, subst, ◌∙◌, arith}
+use Rattle.std.proofs.Common.{◌≡◌, ℕ, ◌+◌, ◌-◌, ◌*◌, ◌/◌, ◌%◌, ◌≤◌, List, [], ◌∷◌, Option, Some, None, refl, ap, subst, ◌∙◌, arith}
 use Rattle.mem80.specs.declared.memory.TheConstants.{MEMORY_SIZE}
 use Rattle.mem80.specs.Memory.{byte_at, word_at}
 use Rattle.ports.specs.declared.event.Event.{Event}
@@ -126,7 +126,7 @@ static_returns code bound index number room top procedure found body is static f
           registers =
               record { a = bytes.a; b = bytes.b; c = bytes.c; d = bytes.d; e = bytes.e; h = bytes.h; l = bytes.l };
           pointer = refl;
-          kept = keeps_all (IsOfCall code.program (static_level found top + 2)) memory;
+          kept = keeps_all (IsOfCall code.program (top + 2 - room) (static_level found top + 2)) memory;
           lies =
               result_kept body.procedure.now.result value r (record r { sp = wrap (static_level found top + 2) }) memory
               memory refl refl refl lie;

@@ -136,8 +136,8 @@ pub record Underway
   pub registers : HoldBytes r
   pub shares : Shares at.context.activation.around.program at.context.activation.image source memory
   pub known : KnownOutside at.context facts r memory
-  pub kept : Keeps (IsOfCall at.context.activation.around.program above) entered memory
-  pub stack : (address : ℕ) → at.context.activation.around.program.placement.stack.start ≤ address
+  pub kept : Keeps (IsOfCall at.context.activation.around.program at.context.activation.floor above) entered memory
+  pub stack : (address : ℕ) → at.context.activation.floor ≤ address
       → address < at.context.activation.around.program.placement.stack.start
       + at.context.activation.around.program.placement.stack.len
       → byte_at memory address ≡ byte_at stacked address
@@ -178,7 +178,8 @@ module _ (at : BodyContext) (sound : IsSound at.context)
   end_lies : LiesWell (at_end at.context.activation)
   end_lies = record {
     placed = sound.lies.placed;
-    low = omega arith;
+    bottom = sound.lies.bottom;
+    low = (let low = sound.lies.low in let above = sound.lies.above in omega (arith, low, above));
     above = omega arith;
     inside = λ object offset within. let empty = no_frame object in absurd (omega (arith, within, empty));
     not_back = λ object offset within. let empty = no_frame object in absurd (omega (arith, within, empty));
@@ -237,13 +238,15 @@ module _ (at : BodyContext) (sound : IsSound at.context)
   -- the bytes of a variable are no bytes of the stack
   stack_kept : (scalar : ScalarType) (start value : ℕ) (memory : List ℕ)
       → ((address : ℕ) → IsPart scalar start address → IsVariable at.context.activation.around.program address)
-      → (address : ℕ) → at.context.activation.around.program.placement.stack.start ≤ address
+      → (address : ℕ) → at.context.activation.floor ≤ address
       → address < at.context.activation.around.program.placement.stack.start
       + at.context.activation.around.program.placement.stack.len
       → byte_at (put scalar start value memory) address ≡ byte_at memory address
   stack_kept scalar start value memory variables address low high =
       put_kept scalar start value memory address
-      (λ part. sound.lies.placed.stack_free address (variables address part).0 low high)
+      (λ part.
+      let bottom = sound.lies.bottom in
+      sound.lies.placed.stack_free address (variables address part).0 (omega (arith, bottom, low)) high)
 
   shares_put : (scalar : ScalarType) (start value : ℕ) {stacked : List ℕ} {facts : Facts} {top : ℕ} {source : List ℕ} {r : Registers}
       {memory : List ℕ}
@@ -265,15 +268,15 @@ module _ (at : BodyContext) (sound : IsSound at.context)
 
   kept_put : (scalar : ScalarType) (start value : ℕ) (memory : List ℕ)
       → ((address : ℕ) → IsPart scalar start address → IsVariable at.context.activation.around.program address)
-      → Keeps (IsOfCall at.context.activation.around.program above) entered memory
-      → Keeps (IsOfCall at.context.activation.around.program above) entered (put scalar start value memory)
+      → Keeps (IsOfCall at.context.activation.around.program at.context.activation.floor above) entered memory
+      → Keeps (IsOfCall at.context.activation.around.program at.context.activation.floor above) entered (put scalar start value memory)
   kept_put Byte start value memory variables kept =
-      keeps_put (IsOfCall at.context.activation.around.program above) entered memory start (value % 256)
+      keeps_put (IsOfCall at.context.activation.around.program at.context.activation.floor above) entered memory start (value % 256)
       (inl (variables start refl)) kept
   kept_put Address start value memory variables kept =
-      keeps_put (IsOfCall at.context.activation.around.program above) entered (slice_set memory start (value % 256))
+      keeps_put (IsOfCall at.context.activation.around.program at.context.activation.floor above) entered (slice_set memory start (value % 256))
       (wrap (start + 1)) (value / 256) (inl (variables (wrap (start + 1)) (inr refl)))
-      (keeps_put (IsOfCall at.context.activation.around.program above) entered memory start (value % 256)
+      (keeps_put (IsOfCall at.context.activation.around.program at.context.activation.floor above) entered memory start (value % 256)
       (inl (variables start (inl refl))) kept)
 
   store_asks : (scalar : ScalarType) (start : ℕ)
@@ -412,7 +415,7 @@ module _ (at : BodyContext) (sound : IsSound at.context)
   stack_written :
       {stacked : List ℕ} {facts now_known : Facts} {top : ℕ} {source : List ℕ} {r : Registers} {memory : List ℕ}
       (level word : ℕ) (now : Registers)
-      → at.context.activation.around.program.placement.stack.start + 2 ≤ level
+      → at.context.activation.floor + 2 ≤ level
       → level ≤ above
       → above ≤ at.context.activation.around.program.placement.stack.start
       + at.context.activation.around.program.placement.stack.len
@@ -425,6 +428,7 @@ module _ (at : BodyContext) (sound : IsSound at.context)
   stack_written {memory = memory} level word now low high end small on pointer bytes known =
       let free = sound.lies.placed.stack_free in
       let apart = sound.lies.placed.apart in
+      let bottom = sound.lies.bottom in
       record {
         pointer = pointer;
         registers = bytes;
@@ -433,15 +437,15 @@ module _ (at : BodyContext) (sound : IsSound at.context)
           size = on.shares.size;
           declared = λ address there.
               pushed_keeps level word memory address
-              (λ same. free address there (omega (arith, same, low)) (omega (arith, same, low, high, end)))
-              (λ same. free address there (omega (arith, same, low)) (omega (arith, same, low, high, end)))
+              (λ same. free address there (omega (arith, same, low, bottom)) (omega (arith, same, low, high, end)))
+              (λ same. free address there (omega (arith, same, low, bottom)) (omega (arith, same, low, high, end)))
               ∙ on.shares.declared address there;
           code = λ address there.
               pushed_keeps level word memory address
               (λ same.
-              apart address there.0 there.1 (omega (arith, same, low)) (omega (arith, same, low, high, end)))
+              apart address there.0 there.1 (omega (arith, same, low, bottom)) (omega (arith, same, low, high, end)))
               (λ same.
-              apart address there.0 there.1 (omega (arith, same, low)) (omega (arith, same, low, high, end)))
+              apart address there.0 there.1 (omega (arith, same, low, bottom)) (omega (arith, same, low, high, end)))
               ∙ on.shares.code address there;
         };
         known = known;
@@ -463,7 +467,7 @@ module _ (at : BodyContext) (sound : IsSound at.context)
       {A : Type 0} {outcome : Outcome A} {Good : A → SourceState → State → Type 0} {budget : ℕ}
       {stacked : List ℕ} {facts : Facts} {top : ℕ} {source : List ℕ} {memory : List ℕ} {events : List Event} {from : ℕ}
       (r : Registers)
-      → at.context.activation.around.program.placement.stack.start + 2 ≤ top
+      → at.context.activation.floor + 2 ≤ top
       → top ≤ above
       → above ≤ at.context.activation.around.program.placement.stack.start
       + at.context.activation.around.program.placement.stack.len
@@ -496,7 +500,7 @@ module _ (at : BodyContext) (sound : IsSound at.context)
       → word < MEMORY_SIZE
       → byte_at memory top ≡ low_byte word
       → byte_at memory (top + 1) ≡ high_byte word
-      → at.context.activation.around.program.placement.stack.start ≤ top
+      → at.context.activation.floor ≤ top
       → top + 2 ≤ above
       → above ≤ at.context.activation.around.program.placement.stack.start
       + at.context.activation.around.program.placement.stack.len

@@ -53,7 +53,7 @@ pub record AreZeros
 pub code_stays :
     {count low high : ℕ} {r now : Registers} {memory ended : List ℕ} (at : BodyContext)
     → LiesWell at.context.activation
-    → at.context.activation.around.program.placement.stack.start + 1 ≤ low
+    → at.context.activation.floor + 1 ≤ low
     → high ≤ at.context.activation.around.program.placement.stack.start
     + at.context.activation.around.program.placement.stack.len
     → AreZeros count low high r memory now ended
@@ -62,7 +62,8 @@ pub code_stays :
 code_stays {count = count} {low = low} {high = high} at lies enough limit are agrees address within =
     are.kept address
     (λ from below.
-    lies.placed.apart address within.0 within.1 (omega (arith, from, enough)) (omega (arith, below, limit)))
+    let bottom = lies.bottom in
+    lies.placed.apart address within.0 within.1 (omega (arith, from, enough, bottom)) (omega (arith, below, limit)))
     ∙ agrees address within
 
 -- none yet
@@ -254,9 +255,9 @@ filled are = record {
   kept = are.kept;
 }
 
--- where the stack begins
-abbrev stack_start : BodyContext → ℕ
-stack_start at = at.context.activation.around.program.placement.stack.start
+-- the lowest byte of the stack that may change
+abbrev floor_of : BodyContext → ℕ
+floor_of at = at.context.activation.floor
 
 in_memory_below :
     (at : BodyContext) (high low : ℕ)
@@ -312,7 +313,7 @@ module _ {A : Type 0} {budget : ℕ} {outcome : Outcome A} {Good : A → SourceS
   -- PUSH D
   pub word_pushed :
       (count low from : ℕ) (now : Registers) (ended : List ℕ) (others : List Planned)
-      → stack_start at + 3 ≤ low
+      → floor_of at + 3 ≤ low
       → low ≤ high
       → StepsLie at at_start last (plain (Push StackDe) ∷ others) from to
       → AreZeros count low high r memory now ended
@@ -341,7 +342,7 @@ module _ {A : Type 0} {budget : ℕ} {outcome : Outcome A} {Good : A → SourceS
   -- so many of them
   pub words_pushed :
       (words count low from : ℕ) (now : Registers) (ended : List ℕ) (others : List Planned)
-      → stack_start at + 1 + 2 * words ≤ low
+      → floor_of at + 1 + 2 * words ≤ low
       → low ≤ high
       → StepsLie at at_start last (replicate words (plain (Push StackDe)) ++ others) from to
       → AreZeros count low high r memory now ended
@@ -368,7 +369,7 @@ module _ {A : Type 0} {budget : ℕ} {outcome : Outcome A} {Good : A → SourceS
   -- an odd byte: PUSH D, INX SP
   pub odd_pushed :
       (count low from : ℕ) (now : Registers) (ended : List ℕ) (others : List Planned)
-      → stack_start at + 3 ≤ low
+      → floor_of at + 3 ≤ low
       → low ≤ high
       → StepsLie at at_start last (plain (Push StackDe) ∷ plain (Inx Sp) ∷ others) from to
       → AreZeros count low high r memory now ended
@@ -413,7 +414,7 @@ module _ {A : Type 0} {budget : ℕ} {outcome : Outcome A} {Good : A → SourceS
       (turns low from : ℕ) (now : Registers) (ended : List ℕ) (again : LabelNumber) (others : List Planned)
       → at.context.activation.layout.place_of again.index ≡ from
       → suc turns < 256
-      → stack_start at + 1 + 8 * suc turns ≤ low
+      → floor_of at + 1 + 8 * suc turns ≤ low
       → low ≤ high
       → StepsLie at at_start last (turn_steps again others) from to
       → AreZeros (suc turns) low high r memory now ended
@@ -462,7 +463,7 @@ module _ {A : Type 0} {budget : ℕ} {outcome : Outcome A} {Good : A → SourceS
   pushes_go :
       (words first count low from : ℕ) (now : Registers) (ended : List ℕ) (others : List Planned)
       → words ≤ 512
-      → stack_start at + 1 + 2 * words ≤ low
+      → floor_of at + 1 + 2 * words ≤ low
       → low ≤ high
       → StepsLie at at_start last (pushes_steps words first ++ others) from to
       → AreZeros count low high r memory now ended
@@ -514,9 +515,9 @@ module _ {A : Type 0} {budget : ℕ} {outcome : Outcome A} {Good : A → SourceS
   -- a last odd byte
   odd_goes :
       (bytes count low from : ℕ) (now : Registers) (ended : List ℕ) (others : List Planned)
-      → stack_start at + 3 ≤ low + (1 - bytes % 2)
+      → floor_of at + 3 ≤ low + (1 - bytes % 2)
       → low ≤ high
-      → stack_start at + 1 ≤ low
+      → floor_of at + 1 ≤ low
       → StepsLie at at_start last (odd_byte_steps bytes ++ others) from to
       → AreZeros count low high r memory now ended
       → GoesOnAfter at last others budget outcome Good events count (low - bytes % 2) high to r memory
@@ -543,7 +544,7 @@ module _ {A : Type 0} {budget : ℕ} {outcome : Outcome A} {Good : A → SourceS
   pub zeros_go :
       (bytes first from : ℕ) (others : List Planned)
       → bytes ≤ 1024
-      → stack_start at + 3 + bytes ≤ high
+      → floor_of at + 3 + bytes ≤ high
       → HoldBytes r
       → r.sp ≡ wrap high
       → IsMemory memory

@@ -32,15 +32,14 @@ pub record IsEntered
   pub low : program.placement.stack.start + room ≤ top + 2
   pub high : top + 2 + bytes_pushed values ≤ program.placement.stack.start + program.placement.stack.len
 
--- a byte that a call may change: a variable, or a byte of the stack below the caller's
-abbrev pub IsOfCall : Program → (above address : ℕ) → Type 0
-IsOfCall program above address =
-    IsVariable program address ⊎ ((program.placement.stack.start ≤ address) × (address < above))
+-- a byte that a call may change: a variable, or a byte of the stack from a floor up to the caller's
+abbrev pub IsOfCall : Program → (floor above address : ℕ) → Type 0
+IsOfCall program floor above address = IsVariable program address ⊎ ((floor ≤ address) × (address < above))
 
 -- The machine came back after a call: at the return address, with the arguments taken from the stack and the result in
 -- its register. Of memory no bytes changed but those of calls.
 pub record ComesBack
-    (program : Program) (image : List ℕ) (result : Option ScalarType) (above back : ℕ) (s : SourceState)
+    (program : Program) (image : List ℕ) (result : Option ScalarType) (floor above back : ℕ) (s : SourceState)
     (before : List ℕ) (value : ℕ) (t : SourceState) (end : State) : Type 0 where
   pub r : Registers
   pub memory : List ℕ
@@ -49,11 +48,11 @@ pub record ComesBack
   pub frame : t.frame ≡ s.frame
   pub registers : HoldBytes r
   pub pointer : r.sp ≡ wrap above
-  pub kept : Keeps (IsOfCall program above) before memory
+  pub kept : Keeps (IsOfCall program floor above) before memory
   pub lies : ResultLies result value r memory
 
 -- From the entry of a procedure on the machine does what the call means, after it took one of the budget and its charge
--- from the room, in runs of less than a budget.
+-- from the room, in runs of less than a budget. It changes no byte of the stack below the room.
 abbrev pub EntryDoes :
     Program → (image : List ℕ) → Later → (number : ℕ) → InProgram → TypedModule → TypedProcedure → (entry : ℕ) → Type 0
 EntryDoes program image later number at typed found entry =
@@ -64,7 +63,7 @@ EntryDoes program image later number at typed found entry =
     → Does program.script s.budget 0 (at_place entry r memory s.events)
     (entered later typed at.number found values
     (record { program = program; number_of_module = at.number_of_module; room = room - charge_of found }) s)
-    (ComesBack program image found.result (top + 2 + bytes_pushed values) back s memory)
+    (ComesBack program image found.result (top + 2 - room) (top + 2 + bytes_pushed values) back s memory)
 
 -- where the code of each procedure of a program begins
 abbrev pub Entries : Type 0

@@ -18,9 +18,11 @@ use Rattle.task_meaning.specs.Contexts.{Context}
 use Rattle.statement_meaning.specs.Bodies.{BodyContext}
 use Rattle.procedure_meaning.specs.Modules.{ModuleCode, surroundings_in}
 
--- where an activation lies: where the stack pointer is when nothing is pushed; how far above that each object of its
--- frame begins, and how many bytes it has; how far above it the return address and the caller's stack are
+-- where an activation lies: the lowest byte of the stack that it may change; where the stack pointer is when nothing is
+-- pushed; how far above that each object of its frame begins, and how many bytes it has; how far above it the return
+-- address and the caller's stack are
 pub record Shape : Type 0 where
+  pub floor : ℕ
   pub level : ℕ
   pub distance : (object : ℕ) → ℕ
   pub size : (object : ℕ) → ℕ
@@ -33,6 +35,7 @@ activation_in code room shape = record {
   around = surroundings_in code room;
   layout = code.layout;
   image = code.image;
+  floor = shape.floor;
   level = shape.level;
   distance = shape.distance;
   size = shape.size;
@@ -63,8 +66,9 @@ body_in code within body found bound number room shape = record {
 }
 
 -- without a frame and a return address, as in the main program
-abbrev pub main_shape : (level : ℕ) → Shape
-main_shape level = record {
+abbrev pub main_shape : (floor level : ℕ) → Shape
+main_shape floor level = record {
+  floor = floor;
   level = level;
   distance = λ object. 0;
   size = λ object. 0;
@@ -73,8 +77,9 @@ main_shape level = record {
 }
 
 -- without a frame, and with the return address at the stack pointer
-abbrev pub static_shape : (level : ℕ) → Shape
-static_shape level = record {
+abbrev pub static_shape : (floor level : ℕ) → Shape
+static_shape floor level = record {
+  floor = floor;
   level = level;
   distance = λ object. 0;
   size = λ object. 0;
@@ -90,8 +95,9 @@ size_in_frame typed procedure object =
     (slice_get typed.objects object) 0
 
 -- with the frame of a plan
-abbrev pub frame_shape : TypedModule → (procedure : ℕ) → TypedProcedure → FramePlan → (level : ℕ) → Shape
-frame_shape typed procedure found plan level = record {
+abbrev pub frame_shape : TypedModule → (procedure : ℕ) → TypedProcedure → FramePlan → (floor level : ℕ) → Shape
+frame_shape typed procedure found plan floor level = record {
+  floor = floor;
   level = level;
   distance = λ object. distance_of plan (frame_number typed procedure object);
   size = λ object. size_in_frame typed procedure object;

@@ -69,6 +69,7 @@ bare code = record {
   around = surroundings_in code 0;
   layout = code.layout;
   image = code.image;
+  floor = code.program.placement.stack.start;
   level = 0;
   distance = λ object. 0;
   size = λ object. 0;

@@ -59,13 +59,13 @@ abbrev pub static_body :
     ModuleCode → (index : ℕ) → TypedProcedure → Body → (bound number room top : ℕ) → BodyContext
 static_body code index found body bound number room top =
     body_in code (WithinProcedure index found.result) body found bound number (room - charge_of found)
-    (static_shape (static_level found top))
+    (static_shape (top + 2 - room) (static_level found top))
 
 abbrev pub reentrant_body :
     ModuleCode → (index : ℕ) → TypedProcedure → Body → (bound number room top : ℕ) → BodyContext
 reentrant_body code index found body bound number room top =
     body_in code (WithinProcedure index found.result) body found bound number (room - charge_of found)
-    (frame_shape code.typed index found body.frame.now (frame_level body.frame.now top))
+    (frame_shape code.typed index found body.frame.now (top + 2 - room) (frame_level body.frame.now top))
 
 -- what is true of a procedure of a module and its body
 pub record IsBodyOf

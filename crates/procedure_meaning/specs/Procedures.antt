@@ -25,7 +25,7 @@ pub record HasBegun
   pub ready : IsReady at.context.activation at.context.activation.level memory t.memory t.frame r memory
   pub known : Know at.context facts r memory
   pub return_lies : ReturnLies (at.context.activation.level + at.context.activation.back) back memory
-  pub kept : Keeps (IsOfCall at.context.activation.around.program above) before memory
+  pub kept : Keeps (IsOfCall at.context.activation.around.program at.context.activation.floor above) before memory
 
 -- From its entry on, a procedure sets its parameters, in a new frame, and has begun then at a place.
 abbrev pub BeginDoes :
@@ -49,7 +49,7 @@ pub record HasReturned
   pub shares : Shares at.context.activation.around.program at.context.activation.image t.memory memory
   pub registers : HoldBytes r
   pub pointer : r.sp ≡ wrap above
-  pub kept : Keeps (IsOfCall at.context.activation.around.program above) before memory
+  pub kept : Keeps (IsOfCall at.context.activation.around.program at.context.activation.floor above) before memory
   pub lies : ResultLies result value r memory
 
 -- Wherever the code of the return stands, a ready machine with the result in its register comes back, with the caller's

@@ -73,10 +73,11 @@ move_then {context = context} {top = top} {pushed = pushed} {need = need} {from 
         let ready = stage.ready in
         let depth = stage.room.depth in
         let enough = stage.room.enough in
+        let bottom = lies.bottom in
         let above = lies.above in
         let stack = lies.placed.stack_in_memory in
         let fits = lies.placed.code_in_memory in
-        let start : activation.around.program.placement.stack.start + 2 ≤ top = omega (arith, enough, two) in
+        let start : activation.floor + 2 ≤ top = omega (arith, enough, two) in
         let under : top ≤ activation.level = omega (arith, depth) in
         let limit : top ≤ MEMORY_SIZE = omega (arith, under, above, stack) in
         let entry = activation.layout.place_of (label_of_routine context.site Move).index in
@@ -97,7 +98,7 @@ move_then {context = context} {top = top} {pushed = pushed} {need = need} {from 
         λ address is_there inside.
         let low : top - 2 ≤ address = inside.0 in
         let high : address < top - 2 + 2 = inside.1 in
-        lies.placed.stack_free address is_there (omega (arith, start, low)) (omega (arith, start, high, under, above)) in
+        lies.placed.stack_free address is_there (omega (arith, start, low, bottom)) (omega (arith, start, high, under, above)) in
         let source_misses : BlockMisses (word r.b r.c) (word r.d r.e) (below top 2) =
         λ address block inside.
         stack_missed address
@@ -133,7 +134,7 @@ move_then {context = context} {top = top} {pushed = pushed} {need = need} {from 
               let low : top - 2 ≤ address = in_stack.0 in
               let high : address < top - 2 + 2 = in_stack.1 in
               lies.placed.apart address (omega (arith, one, least)) (omega (arith, other, here, some))
-              (omega (arith, start, low)) (omega (arith, start, high, under, above));
+              (omega (arith, start, low, bottom)) (omega (arith, start, high, under, above));
           blocks_miss_stack = (
             source_misses,
             λ address block inside. stack_missed address (copy_variable address block).0 inside,

@@ -42,7 +42,7 @@ pub record ArePassed
     (now : Registers) (memory : List ℕ) : Type 0 where
   pub below : u.budget < context.number
   pub room :
-      context.activation.around.program.placement.stack.start + context.activation.around.room ≤ low
+      context.activation.floor + context.activation.around.room ≤ low
   pub ready : IsReady context.activation low memory u.memory u.frame now memory
   pub kept : Keeps (Owns context.activation top) base memory
   pub count : length given ≡ length types
@@ -65,7 +65,7 @@ ready_now {activation = activation} {top = top} {memory = memory} ready = record
 -- a push changes what the activation may change
 push_keeps :
     (activation : Activation) (top number : ℕ) (memory : List ℕ)
-    → activation.around.program.placement.stack.start + 2 ≤ top
+    → activation.floor + 2 ≤ top
     → Keeps (Owns activation top) memory (pushed_word top number memory)
 push_keeps activation top number memory room = record {
   size =
@@ -109,7 +109,7 @@ pushed_value Address r = word r.h r.l
 lies_in_word :
     (activation : Activation) (scalar : ScalarType) (found top low : ℕ) (r : Registers) (memory ended : List ℕ)
     → LiesWell activation
-    → activation.around.program.placement.stack.start + 2 ≤ top
+    → activation.floor + 2 ≤ top
     → top ≤ activation.level
     → length memory ≡ MEMORY_SIZE
     → flag_byte r.flags < 256
@@ -128,7 +128,7 @@ lies_in_word activation Byte found top low r memory ended lies room below size f
     (pushed_is_not_owned activation (top - 2) (top - 1) lies (omega (arith, room)) (omega arith) (omega (arith, room, below)))
     ∙ pushed.high ∙ high_of r.a (flag_byte r.flags) flags ∙ is
   where
-    one_more : (low top : ℕ) → low ≡ top - 2 → activation.around.program.placement.stack.start + 2 ≤ top → low + 1 ≡ top - 1
+    one_more : (low top : ℕ) → low ≡ top - 2 → activation.floor + 2 ≤ top → low + 1 ≡ top - 1
     one_more low top place room = omega (arith, place, room)
 
     high_of : (high low : ℕ) → low < 256 → Rattle.isa8080.specs.State.high_byte (word high low) ≡ high
@@ -148,7 +148,7 @@ lies_in_word activation Address found top low r memory ended lies room below siz
           ∙ pushed.high ∙ high_of r.h r.l small ∙ is.0,
     )
   where
-    one_more : (low top : ℕ) → low ≡ top - 2 → activation.around.program.placement.stack.start + 2 ≤ top → low + 1 ≡ top - 1
+    one_more : (low top : ℕ) → low ≡ top - 2 → activation.floor + 2 ≤ top → low + 1 ≡ top - 1
     one_more low top place room = omega (arith, place, room)
 
     high_of : (high low : ℕ) → low < 256 → Rattle.isa8080.specs.State.high_byte (word high low) ≡ high
@@ -313,7 +313,7 @@ at_arguments {context = context} {top = top} {pushed = pushed} {need = need} {ba
             let lies = sound.lies in
             let depth = after.room.depth in
             let enough = after.room.enough in
-            let start : context.activation.around.program.placement.stack.start + 2 ≤ top = omega (arith, enough, fewer) in
+            let start : context.activation.floor + 2 ≤ top = omega (arith, enough, fewer) in
             let highest : top ≤ context.activation.level = omega (arith, depth) in
             let count = passed.count in
             let height = passed.height in

@@ -156,7 +156,7 @@ next_is_steady activation top pushed need sp from one two lies room pointer stea
         absurd (steady.apart (omega (arith, pointer, less, above, stack, enough)) (omega (arith, pointer, less, above, stack)))
     by (inr more) = record { apart = λ low below. at_end low below (cases_lt (activation.level + 1) 65536) }
       where
-        at_end : activation.around.program.placement.stack.start ≤ wrap (sp + 1) → wrap (sp + 1) < activation.level
+        at_end : activation.floor ≤ wrap (sp + 1) → wrap (sp + 1) < activation.level
             → (activation.level + 1 < 65536) ⊎ (65536 ≤ activation.level + 1) → ⊥
         at_end low below (inl inside) =
             let depth = room.depth in
@@ -174,7 +174,7 @@ next_is_steady activation top pushed need sp from one two lies room pointer stea
                 let code_low = second.low in
                 let code_high = second.high in
                 lies.placed.apart (from + 1) code_low (omega (arith, code_high))
-                (omega (arith, pointer, more, depth, above, stack, low, edge)) within
+                (omega (arith, pointer, more, depth, above, stack, low, edge, lies.bottom)) within
             at_code (inr past) =
                 let depth = room.depth in
                 let above = lies.above in
@@ -183,7 +183,7 @@ next_is_steady activation top pushed need sp from one two lies room pointer stea
                 let code_low = first.low in
                 let code_high = second.high in
                 lies.placed.apart from code_low (omega (arith, code_high))
-                (omega (arith, pointer, more, depth, above, stack, low, edge, past))
+                (omega (arith, pointer, more, depth, above, stack, low, edge, past, lies.bottom))
                 (omega (arith, code, code_high, above, edge))
 
 first_is_steady :
@@ -196,7 +196,7 @@ first_is_steady :
 first_is_steady activation top pushed need sp lies room pointer steady =
     record { apart = λ low below. by low below (cases_lt (top + 1) activation.level) }
   where
-    by : activation.around.program.placement.stack.start ≤ sp → sp < activation.level
+    by : activation.floor ≤ sp → sp < activation.level
         → (top + 1 < activation.level) ⊎ (activation.level ≤ top + 1) → ⊥
     by low below (inl less) =
         let above = lies.above in

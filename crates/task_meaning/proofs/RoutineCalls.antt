@@ -141,8 +141,9 @@ pub ready_after_routine :
 ready_after_routine activation top pushed need base source memory ended frame r now lies room two ready pointer bytes is kept =
     let depth = room.depth in
     let enough = room.enough in
+    let bottom = lies.bottom in
     let above = lies.above in
-    let start : activation.around.program.placement.stack.start + 2 ≤ top = omega (arith, enough, two) in
+    let start : activation.floor + 2 ≤ top = omega (arith, enough, two) in
     let under : top ≤ activation.level = omega (arith, depth) in
     record {
       pointer = pointer ∙ ready.pointer;
@@ -155,7 +156,7 @@ ready_after_routine activation top pushed need base source memory ended frame r 
             (λ (inside : IsIn address (below top 2)).
             let low : top - 2 ≤ address = inside.0 in
             let high : address < top - 2 + 2 = inside.1 in
-            lies.placed.stack_free address there (omega (arith, start, low))
+            lies.placed.stack_free address there (omega (arith, start, low, bottom))
             (omega (arith, start, high, under, above)))
             ∙ ready.shares.declared address there;
         code = λ address there.
@@ -163,7 +164,7 @@ ready_after_routine activation top pushed need base source memory ended frame r 
             (λ (inside : IsIn address (below top 2)).
             let low : top - 2 ≤ address = inside.0 in
             let high : address < top - 2 + 2 = inside.1 in
-            lies.placed.apart address there.0 there.1 (omega (arith, start, low))
+            lies.placed.apart address there.0 there.1 (omega (arith, start, low, bottom))
             (omega (arith, start, high, under, above)))
             ∙ ready.shares.code address there;
       };
@@ -213,10 +214,11 @@ routine_then {outcome = outcome} {Good = Good} {context = context} {from = from}
     let ready = going.ready in
     let depth = room.depth in
     let enough = room.enough in
+    let bottom = lies.bottom in
     let above = lies.above in
     let stack = lies.placed.stack_in_memory in
     let fits = lies.placed.code_in_memory in
-    let start : activation.around.program.placement.stack.start + 2 ≤ top = omega (arith, enough, two) in
+    let start : activation.floor + 2 ≤ top = omega (arith, enough, two) in
     let under : top ≤ activation.level = omega (arith, depth) in
     let limit : top ≤ MEMORY_SIZE = omega (arith, under, above, stack) in
     let entry = activation.layout.place_of (label_of_routine context.site routine).index in
@@ -255,7 +257,7 @@ routine_then {outcome = outcome} {Good = Good} {context = context} {from = from}
           let low : top - 2 ≤ address = in_stack.0 in
           let high : address < top - 2 + 2 = in_stack.1 in
           lies.placed.apart address (omega (arith, one, least)) (omega (arith, other, here, some))
-          (omega (arith, start, low)) (omega (arith, start, high, under, above));
+          (omega (arith, start, low, bottom)) (omega (arith, start, high, under, above));
       blocks_miss_stack = no_blocks routine s (below top 2) on;
       copy_misses_code = no_copy routine s code on;
     }) in

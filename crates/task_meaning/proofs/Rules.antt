@@ -316,7 +316,7 @@ push_goes {context = context} {facts = facts} {top = top} {base = base} {source 
     let enough = room.enough in
     let above = lies.above in
     let stack = lies.placed.stack_in_memory in
-    let start : context.activation.around.program.placement.stack.start + 2 ≤ top = omega (arith, enough, two) in
+    let start : context.activation.floor + 2 ≤ top = omega (arith, enough, two) in
     let below : top ≤ context.activation.level = omega (arith, depth) in
     let limit : top ≤ MEMORY_SIZE = omega (arith, below, above, stack) in
     let does : act script (Push pair) (at_place place r memory events)
@@ -410,7 +410,7 @@ pop_goes {context = context} {facts = facts} {top = top} {base = base} {source =
     let enough = room.enough in
     let above = lies.above in
     let stack = lies.placed.stack_in_memory in
-    let start : activation.around.program.placement.stack.start + 2 ≤ top = omega (arith, enough, two) in
+    let start : activation.floor + 2 ≤ top = omega (arith, enough, two) in
     let below : top ≤ activation.level = omega (arith, depth) in
     let limit : top ≤ MEMORY_SIZE = omega (arith, below, above, stack) in
     let is = still_pushed activation top word other others after_part memory ended lies start below

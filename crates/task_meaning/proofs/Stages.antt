@@ -235,7 +235,7 @@ at_push {context = context} {top = top} {pushed = pushed} {need = need} {base = 
     let depth = stage.room.depth in
     let free = stage.room.enough in
     let level : context.activation.level ≤ MEMORY_SIZE = omega (arith, above, stack) in
-    let low : context.activation.around.program.placement.stack.start + 2 ≤ top = omega (arith, free, enough) in
+    let low : context.activation.floor + 2 ≤ top = omega (arith, free, enough) in
     let high : top ≤ context.activation.level = omega (arith, depth) in
     let limit : top ≤ MEMORY_SIZE = omega (arith, high, level) in
     let two : 2 ≤ top = omega (arith, low) in
@@ -254,7 +254,7 @@ at_push {context = context} {top = top} {pushed = pushed} {need = need} {base = 
     (record r { sp = wrap (top - 2); pc = wrap (from + 1) }) (pushed_word top word memory) =
     subst (λ (s : State). FactsHold context.activation (distances_in context) facts s.registers s.memory) acts known in
     let more_room =
-    room_below context.activation.around.program.placement.stack.start context.activation.around.room top pushed need
+    room_below context.activation.floor context.activation.around.room top pushed need
     context.activation.level enough free depth level in
     plain_first r lies ready.shares.code there
     (subst (λ (s : State). Does (script_of context) budget more s outcome Good) (sym acts)
@@ -307,7 +307,7 @@ at_pop {context = context} {top = top} {pushed = pushed} {need = need} {word = w
     let depth = start.room.depth in
     let free = start.room.enough in
     let level : context.activation.level ≤ MEMORY_SIZE = omega (arith, above, stack) in
-    let low : context.activation.around.program.placement.stack.start + 2 ≤ top = omega (arith, free, enough) in
+    let low : context.activation.floor + 2 ≤ top = omega (arith, free, enough) in
     let high : top ≤ context.activation.level = omega (arith, depth) in
     let limit : top ≤ MEMORY_SIZE = omega (arith, high, level) in
     let two : 2 ≤ top = omega (arith, low) in

@@ -155,6 +155,7 @@ ready_with_frame activation top base source frame r memory object offset value w
     let inside = well.inside object offset within in
     let above = well.above in
     let low = well.low in
+    let bottom = well.bottom in
     let stack = well.placed.stack_in_memory in
     let shares = ready.shares in
     let address : ℕ = activation.level + activation.distance object + offset in
@@ -167,11 +168,11 @@ ready_with_frame activation top base source frame r memory object offset value w
         size = shares.size;
         declared = λ other there.
             byte_kept memory address other value
-            (λ same. well.placed.stack_free other there (omega (arith, same, low)) (omega (arith, same, inside, above)))
+            (λ same. well.placed.stack_free other there (omega (arith, same, low, bottom)) (omega (arith, same, inside, above)))
             ∙ shares.declared other there;
         code = λ other there.
             byte_kept memory address other value
-            (λ same. well.placed.apart other there.0 there.1 (omega (arith, same, low)) (omega (arith, same, inside, above)))
+            (λ same. well.placed.apart other there.0 there.1 (omega (arith, same, low, bottom)) (omega (arith, same, inside, above)))
             ∙ shares.code other there;
       };
       frame_lies = put_frame activation frame memory object offset value well shares.is_memory.size within ready.frame_lies;
