@@ -3,5 +3,6 @@ pub mod Others
 pub mod Bound
 pub mod Expressions
 pub mod Items
+pub mod Structures
 pub mod Statements
 pub mod Modules
