@@ -1,11 +1,12 @@
 -- No case of the meaning that is there for trees that no source has is taken in a program.
-use Rattle.std.proofs.Common.{◌≡◌, ℕ, ◌<◌, Some, slice_get, refl, sym, subst}
+use Rattle.std.proofs.Common.{◌≡◌, ℕ, ◌<◌, List, [], Some, slice_get, refl, sym, subst}
 use Rattle.std.proofs.lemmas.List.Elements.{recursion_from_All}
 use Rattle.trees.specs.declared.declaration.ScalarType.TheVariants.{Address}
 use Rattle.typed_trees.specs.Jumps.{ListStands}
 use Rattle.typed_trees.specs.TypedTrees.{TypedStatements, TypedList, ListOf, TypedModule}
 use Rattle.typed_trees.specs.WellTyped.{Within}
 use Rattle.sound_modules.specs.Sound.{IsSoundlyTyped}
+use Rattle.layout.specs.Placement.{Placement}
 use Rattle.meaning.specs.Access.{Surroundings}
 use Rattle.meaning.specs.Meaning.{rest_from}
 use Rattle.meaning.specs.Outcomes.{Program, State}
@@ -81,3 +82,9 @@ takes_no_default program whole = record {
   modules = λ number room typed is.
       in_module (record { program = program; number_of_module = number; room = room }) typed is whole;
 }
+
+-- worked: a program without modules takes one
+without_modules : (placement : Placement) (script : List (List ℕ))
+    → TakesNoDefault (record { modules = []; placement = placement; script = script })
+    → ⊥
+without_modules placement script none = none.main
