@@ -90,7 +90,7 @@ same_weighs typed within of there (StoredIn from to reference) same types =
     let weighs = ap (λ (scalar : ScalarType). weight_of_storing scalar to) (same ∙ sym types.0) in
     omega (arith, weighs)
 same_weighs typed within of there (SentTo from port) same types =
-    let weighs = ap (λ (scalar : ScalarType). weight_of_storing scalar Byte) (same ∙ sym types) in
+    let weighs = ap (λ (scalar : ScalarType). weight_of_storing scalar Byte) (same ∙ sym types.0) in
     omega (arith, weighs)
 
 module _

@@ -9,3 +9,4 @@ pub mod Lasting
 pub mod LastingStatements
 pub mod Runs
 pub mod Staying
+pub mod LabelPlaces

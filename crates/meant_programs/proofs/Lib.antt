@@ -7,3 +7,4 @@ pub mod Changes
 pub mod References
 pub mod Bytes
 pub mod Named
+pub mod Defaults

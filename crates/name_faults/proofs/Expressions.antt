@@ -86,7 +86,8 @@ without_member-finds here (WithMember name given) = meets_fault WrongUse (line_o
 
 -- a port, in which no name stands
 character-other : (line : ℕ) (characters : List ℕ) → IsOther (port_of_character line characters)
-character-other line (character ∷ []) = meets_ok tt tt
+character-other line (character ∷ []) =
+    after_other (other_required (nat_le character 255) WrongConstant line not_of_names) λ _ _. meets_ok tt tt
 character-other line characters = meets_fault WrongUse line not_of_names
 
 port_of-finds : (here : Here) (line : ℕ) (trees : ArgumentTrees)

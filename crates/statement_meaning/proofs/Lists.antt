@@ -9,7 +9,7 @@ use Rattle.typed_trees.specs.WellTyped.{TypesHoldInStatements}
 use Rattle.meaning.specs.Meaning.{Later, caught_in, done_all, dropped, going_on, landed, later_by, rest_from, rest_of}
 use Rattle.meaning.specs.Outcomes.{State as SourceState, Outcome, then_do, Flow, Onward, Returned, Jumped}
 use Rattle.meaning.proofs.AgreementStatements.{onto_is}
-use Rattle.stack_code.proofs.Labels.{rest_at}
+use Rattle.meaning.proofs.LabelPlaces.{rest_at}
 use Rattle.isa8080.specs.State.{Registers, State}
 use Rattle.treecode.specs.declared.lists.Range.{Range}
 use Rattle.treecode.specs.declared.statement.Statement.{Statement}

@@ -54,7 +54,7 @@ pub retyped_types :
     → TypesHoldInTarget at.context.typed at.context.within scalar tree
     → TypesHoldInTarget at.context.typed at.context.within there (retyped tree there)
 retyped_types at scalar there (StoredIn from to part) types = (refl, types.1, types.2)
-retyped_types at scalar there (SentTo from port) types = refl
+retyped_types at scalar there (SentTo from port) types = (refl, types.1)
 
 pub retyped_height : (tree : TypedTarget) (there : ScalarType) → height_of_target (retyped tree there) ≡ height_of_target tree
 retyped_height (StoredIn from to part) there = refl

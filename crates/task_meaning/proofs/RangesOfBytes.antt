@@ -228,4 +228,4 @@ of_type one other n same small = subst (λ (scalar : ScalarType). n < values_of 
 pub target_type : (typed : TypedModule) (within : Within) (to : TypedTarget) (scalar : ScalarType)
     → TypesHoldInTarget typed within scalar to → type_of_target to ≡ scalar
 target_type typed within (StoredIn from to part) scalar types = types.0
-target_type typed within (SentTo from port) scalar types = types
+target_type typed within (SentTo from port) scalar types = types.0

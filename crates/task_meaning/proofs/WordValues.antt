@@ -211,7 +211,7 @@ target_holds : (context : Context) (scalar : ScalarType) (tree : TypedTarget)
     → TypesHoldInTarget context.typed context.within scalar tree
     → type_of_target tree ≡ scalar
 target_holds context scalar (StoredIn from to reference) types = types.0
-target_holds context scalar (SentTo from port) types = types
+target_holds context scalar (SentTo from port) types = types.0
 
 pub embedded_carried :
     {context : Context} {facts last : Facts} {number inner : ExpressionNumber} {target : Target} {place : TypedTarget}

@@ -24,7 +24,7 @@ use Rattle.placing.specs.Views as of_placement
 use Rattle.frontend.specs.declared.read.ReadFault.{ReadFault}
 use Rattle.frontend.specs.declared.read.ReadFault.TheVariants as read_faults
 use Rattle.frontend.specs.Causes.{HasReadCause}
-use Rattle.generated_objects.proofs.Made.{are_storable, as_many_lengths, each_holds_constants, have_image}
+use Rattle.generated_objects.proofs.Made.{are_storable, as_many_lengths, each_holds_constants, have_image, hold_constants}
 use Rattle.locate.specs.Locating.{Absolute}
 use Rattle.program_meaning.specs.Typed.{AreSoundlyMade}
 use Rattle.program_meaning.proofs.MadePrograms.{are_made}
@@ -111,13 +111,14 @@ types_each (typed ∷ modules) [] made = absurd made
 types_each (typed ∷ modules) (object ∷ objects) made =
     ((made.0.facts.types, made.0.made.laid.globals, made.0.facts.frames), types_each modules objects made.1)
 
--- their code is within its bounds
+-- their code has the constants, and is within its bounds
 pub within_bounds : (modules : List TypedModule) (objects : List ObjectModule) → AreSoundlyMade modules objects → AreWithinBounds modules objects
 within_bounds [] [] made = tt
 within_bounds [] (object ∷ objects) made = absurd made
 within_bounds (typed ∷ modules) [] made = absurd made
 within_bounds (typed ∷ modules) (object ∷ objects) made =
     let is = made.0.made in (
+      (hold_constants (typed ∷ modules) (object ∷ objects) (are_made (typed ∷ modules) (object ∷ objects) made)).0,
       segment_is_within_its_bound typed is.storage is.tree object (sound_for_bounds typed made.0.facts) is.lowered is.generated,
       within_bounds modules objects made.1,
     )

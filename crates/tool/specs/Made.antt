@@ -2,7 +2,7 @@
 use Rattle.std.specs.Prelude.{◌≡◌, ℕ, ◌+◌, ◌≤◌, List, [], ◌∷◌, map, Ok}
 use Rattle.mem80.specs.Memory.{IsMemory}
 use Rattle.typed_trees.specs.TypedTrees.{TypedModule}
-use Rattle.typed_trees.specs.Weight.{code_bound}
+use Rattle.typed_trees.specs.Weight.{code_bound, constant_bytes}
 use Rattle.asm8080.specs.Items.{size_of_items}
 use Rattle.steps8080.specs.Writer.{Written}
 use Rattle.codegen8080.specs.Modules.{IsCodeWritten}
@@ -49,11 +49,12 @@ pub record IsNotMade (fault : code_fault.Fault) (typed : TypedModule) : Type 0 w
 abbrev pub code_lengths : List ObjectModule → List ℕ
 code_lengths objects = map (λ (object : ObjectModule). length_of object Code) objects
 
--- the code segments of object modules are within the code bounds of their modules, one by one
+-- each code segment of object modules has at least the constants of its module, and is within its code bound
 abbrev pub AreWithinBounds : List TypedModule → List ObjectModule → Type 0
 AreWithinBounds [] [] = Unit {0}
 AreWithinBounds (typed ∷ modules) (object ∷ objects) =
-    (length_of object Code ≤ code_bound typed) × AreWithinBounds modules objects
+    (constant_bytes typed ≤ length_of object Code) × (length_of object Code ≤ code_bound typed)
+    × AreWithinBounds modules objects
 AreWithinBounds modules objects = ⊥
 
 -- an image is the merge of object modules, placed by a plan

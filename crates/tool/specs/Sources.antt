@@ -33,8 +33,8 @@ pub record HasNoProgram (fault : join_fault.Fault) (texts : List (List ℕ)) : T
   pub sources : AreSourcesOf texts modules
   pub cause : join_refusal modules ≡ Some (of_joining.refusal_of fault)
 
--- the program of the texts can't lie as planned, with the code segments of object modules that are made of its modules and
--- are within their code bounds
+-- the program of the texts can't lie as planned, with the code segments of object modules that are made of its modules: of
+-- lengths between the constants and the code bounds of these
 pub record HasNoPlace (fault : placing_fault.Fault) (texts : List (List ℕ)) (plan : Plan) : Type 0 where
   pub modules : List TypedModule
   pub objects : List ObjectModule

@@ -5,7 +5,7 @@ ghost use Rattle.trees.specs.Trees.{MoreArguments, NoArguments};
 ghost use Rattle.trees.specs.Views.{argument_trees, expression_tree};
 ghost use Rattle.typed_trees.specs.Views.{arguments_view, home_view, object_view, subscript_view, type_view};
 ghost use Rattle.typing.specs.References.{number_of_arguments, takes_subscripts as do_take, subscript_of as subscript_for, whole_part as whole};
-ghost use Rattle.typing.specs.References.{has_location as located, is_constant as constant, is_writable, port_of, port_of_character as character_port};
+ghost use Rattle.typing.specs.References.{has_location as located, is_constant as constant, is_writable, port_from, port_of, port_of_character as character_port};
 ghost use Rattle.typing.specs.References.{scalar_of as scalar_in, without_member};
 ghost use Rattle.typed_expressions.specs.internal.Given.{extent_view, given_selector, member_part, only_tree, part_view, place_view};
 ghost use Rattle.typing.specs.Results.{Answers};
@@ -176,12 +176,20 @@ impl Known {
     }
 }
 
+// The port of a number.
+fn port_from(line: u32, number: u16) -> Result<u8, Failure<Fault>>
+    ensures { Answers (λ port. port) result (port_from line number) }
+{
+    require(number <= 255, Cause::WrongConstant, line)?;
+    Ok(number as u8)
+}
+
 // The port that a string of one character tells.
 fn port_of_character(line: u32, characters: &[u8]) -> Result<u8, Failure<Fault>>
     ensures { Answers (λ port. port) result (character_port line characters.now) }
 {
     match characters {
-        [character] => Ok(*character),
+        [character] => port_from(line, *character as u16),
         _ => Err(refuse(Cause::WrongUse, line)),
     }
 }
@@ -215,8 +223,7 @@ pub(crate) fn port_of(line: u32, arguments: &[Expression]) -> Result<u8, Failure
 {
     match only(arguments) {
         Some(Expression::Constant(Constant::Number(number))) => {
-            require(number.value <= 255, Cause::WrongConstant, number.place.line)?;
-            Ok(number.value as u8)
+            port_from(number.place.line, number.value)
         }
         Some(Expression::Constant(Constant::String(string))) => {
             port_of_character(line, string.characters.as_slice())

@@ -10,7 +10,7 @@ use Rattle.typed_trees.specs.declared.parts.GlobalItem.TheVariants.{GlobalProced
 use Rattle.typed_trees.specs.declared.parts.NumberOrigin.TheVariants.{FromDigits}
 use Rattle.typed_trees.specs.declared.parts.ShiftFunction.TheVariants.{RotateLeft}
 use Rattle.typed_trees.specs.declared.parts.Visibility.TheVariants.{Private, Public}
-use Rattle.typed_trees.specs.TypedTrees.{TypedExpression, NumberNode, ValueNode, LocationNode, ConversionNode, BinaryNode, CallNode, ShiftNode, TypedReference, PartOf, NoSubscript, At, NoArguments, MoreArguments, ReturnStatement, NoStatements, ListOf, Home, InData, BasedOn, InFrame, ObjectType, ScalarObject, StructureObject, TypedObject, TypedProcedure, TypedModule}
+use Rattle.typed_trees.specs.TypedTrees.{TypedExpression, NumberNode, ValueNode, LocationNode, ConversionNode, BinaryNode, CallNode, ShiftNode, InputNode, TypedReference, PartOf, NoSubscript, At, NoArguments, MoreArguments, ReturnStatement, NoStatements, ListOf, Home, InData, BasedOn, InFrame, ObjectType, ScalarObject, StructureObject, TypedObject, TypedProcedure, TypedModule}
 use Rattle.typed_trees.specs.ObjectParts.{IsPartOf, IsScalarOf}
 use Rattle.typed_trees.specs.WellTyped.{Within, WithinProcedure, WithinMain, TypesHold, TypesHoldIn}
 use Rattle.typed_trees.specs.Frames.{FrameFits, HasParameters}
@@ -114,6 +114,13 @@ located_in_a_frame is = is.0.1
 -- RETURN 300 in a BYTE procedure, and RETURN in the main program
 wide_result : TypesHoldIn one in_procedure (ReturnStatement (Some (NumberNode Address 300 FromDigits))) → ⊥
 wide_result is = let same : false ≡ true = ap is_byte is.1 in absurd cc
+
+-- the greatest port, and one more
+greatest_port : TypesHold one WithinMain (InputNode 255)
+greatest_port = omega arith
+
+no_port : TypesHold one WithinMain (InputNode 256) → ⊥
+no_port is = omega (arith, is)
 
 return_in_main : TypesHoldIn one WithinMain (ReturnStatement None) → ⊥
 return_in_main is = is

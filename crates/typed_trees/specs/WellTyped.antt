@@ -51,8 +51,7 @@ RefersToLocation typed within (PartOf number subscript member offset member_subs
     (λ (object : TypedObject). IsSeen typed within object.home × HasLocation object.home
     × IsPartOf object (PartOf number subscript member offset member_subscript))
 
--- A number of a type. That no number is above 65535, and no port above 255, is so by the widths of the code's
--- own numbers.
+-- A number of a type. That no number is above 65535 is so by the widths of the code's own numbers.
 abbrev pub IsNumberOf : ScalarType → ℕ → Type 0
 IsNumberOf Byte value = value < 256
 IsNumberOf Address value = Unit {0}
@@ -104,7 +103,7 @@ abbrev mutual
   TypesHold typed within (ShiftNode scalar function value count) =
       ShiftsIn function scalar × (TypesHold typed within value × (type_of value ≡ scalar))
       × (TypesHold typed within count × (type_of count ≡ Byte))
-  TypesHold typed within (InputNode port) = Unit {0}
+  TypesHold typed within (InputNode port) = port < 256
 
   pub TypesHoldInReference : TypedModule → Within → TypedReference → Type 0
   TypesHoldInReference typed within (PartOf object subscript member offset member_subscript) =
@@ -120,7 +119,7 @@ abbrev mutual
   pub TypesHoldInTarget : TypedModule → Within → ScalarType → TypedTarget → Type 0
   TypesHoldInTarget typed within value (StoredIn from to reference) =
       (from ≡ value) × RefersToScalar typed within to reference × TypesHoldInReference typed within reference
-  TypesHoldInTarget typed within value (SentTo from port) = from ≡ value
+  TypesHoldInTarget typed within value (SentTo from port) = (from ≡ value) × (port < 256)
 
   pub TypesHoldInArguments : TypedModule → Within → TypedArguments → Type 0
   TypesHoldInArguments typed within NoArguments = Unit {0}

@@ -214,7 +214,7 @@ shift_back function line values = gives_fault
 -- ports
 character_back : (line : ℕ) (characters : List ℕ)
     → Gives (λ port. unwrap_or (number_of_characters characters) 0 ≡ port) (port_of_character line characters)
-character_back line (character ∷ []) = gives_ok refl
+character_back line (character ∷ []) = in_turn (required (nat_le character 255) _ _) (λ _ _. gives_ok refl)
 character_back line characters = gives_fault
 
 port_back : (line : ℕ) (trees : ArgumentTrees)

@@ -1,5 +1,5 @@
 -- References, calls and targets have the types that are asked of their parts.
-use Rattle.std.proofs.Common.{◌≡◌, ℕ, ◌+◌, ◌==◌, Bool, true, false, List, [], ◌∷◌, length, take, Option, Some, None, nat_le, sum_by, slice_get, refl, sym, ap, ap₂, subst, ◌∙◌, arith}
+use Rattle.std.proofs.Common.{◌≡◌, ℕ, ◌+◌, ◌<◌, ◌==◌, Bool, true, false, List, [], ◌∷◌, length, take, Option, Some, None, nat_le, sum_by, slice_get, refl, sym, ap, ap₂, subst, ◌∙◌, arith}
 use Rattle.std.specs.Prelude.{if◌then◌else◌, IsSomeAnd}
 use Rattle.std.specs.Option.{option_map}
 use Rattle.std.specs.Str.{bytes_eq}
@@ -9,7 +9,7 @@ use Rattle.std.proofs.lemmas.Option.{slice_get-map}
 use Rattle.trees.specs.declared.declaration.ScalarType.{ScalarType}
 use Rattle.trees.specs.declared.declaration.ScalarType.TheVariants.{Byte, Address}
 use Rattle.trees.specs.declared.identifier.Identifier.{Identifier}
-use Rattle.trees.specs.Trees.{ReferenceLeaf, ReferenceTo, ArgumentTrees, NoArguments, MoreArguments}
+use Rattle.trees.specs.Trees.{NumberConstant, StringConstant, ConstantLeaf, ReferenceLeaf, ReferenceTo, ArgumentTrees, NoArguments, MoreArguments}
 use Rattle.names.specs.declared.entity.Binding.{Binding}
 use Rattle.names.specs.declared.entity.Binding.TheVariants.{Declared, BuiltInName}
 use Rattle.names.specs.declared.entity.BuiltIn.{BuiltIn}
@@ -31,7 +31,7 @@ use Rattle.typed_trees.specs.ExpressionTypes.{type_of}
 use Rattle.typed_trees.specs.WellTyped.{Within, IsSeen, RefersToScalar, HasLocation, RefersToLocation, IsNumberOf, ShiftsIn, types_of, Takes, TypesHold, TypesHoldInReference, TypesHoldInSubscript, TypesHoldInTarget, TypesHoldInArguments, HasType}
 use Rattle.typing.specs.Constants.{type_of_number}
 use Rattle.typing.specs.Nodes.{converted, as_type, arguments_as, type_of_shift, shift_node, Destination, target_of}
-use Rattle.typing.specs.References.{Known, Given, GivenMember, WithoutMember, WithMember, GivenReference, line_of, number_of_arguments, count_of_given, Extent, AnElement, AlsoTheWhole, takes_subscripts, subscript_of, members_of, scalar_of, FoundPart, whole_part, part_with_member, bound, part_of, scalar_part, without_member, port_of, has_location, location_of_bound, location_of, is_writable, destination_of_bound, destination_of}
+use Rattle.typing.specs.References.{Known, Given, GivenMember, WithoutMember, WithMember, GivenReference, line_of, number_of_arguments, count_of_given, Extent, AnElement, AlsoTheWhole, takes_subscripts, subscript_of, members_of, scalar_of, FoundPart, whole_part, part_with_member, bound, part_of, scalar_part, without_member, port_from, port_of_character, port_of, has_location, location_of_bound, location_of, is_writable, destination_of_bound, destination_of}
 use Rattle.typing.specs.Functions.{call_arguments, function_of, unary_function, shift_of, shift_function, measured_object, measure_of, measurement, number_of_variable, built_in_value, value_of_bound, value_of}
 use Rattle.typing.specs.declared.fault.Cause.TheVariants.{WrongUse}
 use Rattle.typing.specs.Checks.{Checked, require}
@@ -39,6 +39,22 @@ use Rattle.typing.proofs.Kept.{Gives, then_more, gives_ok, gives_fault, gives_af
 use Rattle.typing.proofs.NamesBack.{bound_entity, is_bound, Binds}
 use Rattle.typing.proofs.Tables.{Keeps}
 use Rattle.typing.proofs.TypesKept.{Heading, heading_of, Has, Holding, holding_at, holding_more, holding_both, some_and, of_some}
+
+-- a port
+port_is_low : (line number : ℕ) → Gives (λ port. port < 256) (port_from line number)
+port_is_low line number =
+    in_turn (required (nat_le number 255) _ _) (λ _ is.
+    gives_ok (let low = leb-true number 255 is in omega (arith, low)))
+
+port_holds : (line : ℕ) (trees : ArgumentTrees) → Gives (λ port. port < 256) (port_of line trees)
+port_holds line (MoreArguments (ConstantLeaf (NumberConstant number)) NoArguments) =
+    port_is_low number.place.line number.value
+port_holds line (MoreArguments (ConstantLeaf (StringConstant string)) NoArguments) = by string.characters
+  where
+    by : (characters : List ℕ) → Gives (λ port. port < 256) (port_of_character line characters)
+    by (character ∷ []) = port_is_low line character
+    by characters = gives_fault
+port_holds line trees = gives_fault
 
 -- a conversion to a type
 converted_holds : (tables : TypedModule) (within : Within) (to from : ScalarType) (typed : TypedExpression)
@@ -449,9 +465,9 @@ module _ (within : Within) (known : Known) (sees : Sees within known) (given : G
 
   built_in_holds : (built_in : BuiltIn) → ValueSays (built_in_value known built_in given constants)
   built_in_holds built_in_names.Input =
-      gives_after (port_of (line_of given.name) given.arguments.trees) λ port.
+      in_turn (port_holds (line_of given.name) given.arguments.trees) λ port low.
       gives_after (without_member given.member) λ none.
-      gives_ok (holding_at (λ tables has. tt))
+      gives_ok (holding_at (λ tables has. low))
   built_in_holds built_in_names.Low = unary_holds functions.Low
   built_in_holds built_in_names.High = unary_holds functions.High
   built_in_holds built_in_names.Double = unary_holds functions.Double
@@ -508,9 +524,9 @@ module _ (within : Within) (known : Known) (sees : Sees within known) (given : G
       in_turn (scalar_holds number object (seen_object given.name sees bound_to entry)) (λ part is.
       gives_ok (holding_more is (λ tables has part_is from. (refl, part_is.0, part_is.1)))))
   destination_of_bound_holds (BuiltInName built_in_names.Output) bound_to =
-      gives_after (port_of (line_of given.name) given.arguments.trees) λ port.
+      in_turn (port_holds (line_of given.name) given.arguments.trees) λ port low.
       gives_after (without_member given.member) λ none.
-      gives_ok (holding_at (λ tables has from. refl))
+      gives_ok (holding_at (λ tables has from. (refl, low)))
   destination_of_bound_holds binding bound_to = gives_fault
 
   pub target_holds : Gives (TargetHolds within known constants) (destination_of known given constants)

@@ -160,14 +160,18 @@ location_of known given constants = do
   location_of_bound known binding given constants
 
 -- a port: a number up to 255, or a string of one character
+abbrev pub port_from : (line number : ℕ) → Checked ℕ
+port_from line number = do
+  _ ← require (nat_le number 255) WrongConstant line
+  Ok number
+
 abbrev pub port_of_character : (line : ℕ) → List ℕ → Checked ℕ
-port_of_character line (character ∷ []) = Ok character
+port_of_character line (character ∷ []) = port_from line character
 port_of_character line characters = refuse WrongUse line
 
 abbrev pub port_of : (line : ℕ) → ArgumentTrees → Checked ℕ
-port_of line (MoreArguments (ConstantLeaf (NumberConstant number)) NoArguments) = do
-  _ ← require (nat_le number.value 255) WrongConstant number.place.line
-  Ok number.value
+port_of line (MoreArguments (ConstantLeaf (NumberConstant number)) NoArguments) =
+    port_from number.place.line number.value
 port_of line (MoreArguments (ConstantLeaf (StringConstant string)) NoArguments) =
     port_of_character line string.characters
 port_of line trees = refuse WrongUse line

@@ -1,0 +1,90 @@
+-- No case of the meaning that is there for trees that no source has is taken in a program.
+use Rattle.std.proofs.Common.{◌≡◌, ℕ, ◌<◌, List, [], Some, slice_get, refl, sym, subst}
+use Rattle.std.proofs.lemmas.List.Elements.{recursion_from_All}
+use Rattle.trees.specs.declared.declaration.ScalarType.TheVariants.{Address}
+use Rattle.typed_trees.specs.Jumps.{ListStands}
+use Rattle.typed_trees.specs.TypedTrees.{TypedStatements, TypedList, ListOf, TypedModule}
+use Rattle.typed_trees.specs.WellTyped.{Within}
+use Rattle.sound_modules.specs.Sound.{IsSoundlyTyped}
+use Rattle.layout.specs.Placement.{Placement}
+use Rattle.meaning.specs.Access.{Surroundings}
+use Rattle.meaning.specs.Meaning.{rest_from}
+use Rattle.meaning.specs.Outcomes.{Program, State}
+use Rattle.meaning.proofs.AgreementStatements.{later_is_meant}
+use Rattle.meaning.proofs.LabelPlaces.{rest_at}
+use Rattle.meant_programs.specs.Defaults.{BeginsWith, FindsBytes, KeepsBytes, TakesNoDefault, TakesNoDefaultIn}
+use Rattle.meant_programs.specs.Meant.{HasBytes, IsWhole}
+use Rattle.meant_programs.proofs.Bytes.{callee_has_bytes, counter_is_there, list_leaves_bytes, location_leaves_bytes, main_has_bytes, parameters_leave_bytes, scalar_is_there, statement_leaves_bytes, store_leaves_bytes, value_leaves_bytes, values_leave_bytes, variable_is_there}
+use Rattle.meant_programs.proofs.Calls.{location_is_in_memory, values_are_counted}
+use Rattle.meant_programs.proofs.Leaving.{main_is_left, procedure_is_left}
+use Rattle.meant_programs.proofs.Mains.{main_is_there}
+use Rattle.meant_programs.proofs.Named.{names_are_meant}
+use Rattle.meant_programs.proofs.Names.{of_module}
+
+-- the rest of a list from a label on begins with the label
+begins_with : (list : TypedList) (label : ℕ) (rest : TypedStatements) → ListStands list
+    → rest_from label list ≡ Some rest → BeginsWith label rest
+begins_with (ListOf first places statements) label rest stands is =
+    let at = rest_at first label places statements rest stands.0 is in
+    subst (λ (found : TypedStatements). BeginsWith label found) (sym at.begins) refl
+
+module _ (around : Surroundings) (typed : TypedModule)
+    (here : slice_get around.program.modules around.number_of_module ≡ Some typed) where
+  keeps_bytes : (within : Within) (number : ℕ) (s : State) → s.budget < number → HasBytes typed within s
+      → KeepsBytes around typed within number s
+  keeps_bytes within number s below has = record {
+    values = values_leave_bytes number around typed within s below has;
+    value = value_leaves_bytes number around typed within s below has;
+    place = location_leaves_bytes number around typed within s below has;
+    store = store_leaves_bytes number around typed within s below has;
+    statement = statement_leaves_bytes number around typed within s below has;
+    list = list_leaves_bytes number around typed within s below has;
+    parameters = λ scalars parameters arguments.
+        parameters_leave_bytes around typed within scalars parameters arguments s has;
+  }
+
+  finds_bytes : (within : Within) (number : ℕ) (s : State) → s.budget < number → HasBytes typed within s
+      → FindsBytes around typed within number s
+  finds_bytes within number s below has = record {
+    scalar = λ scalar reference refers.
+        scalar_is_there number around typed within scalar reference s here refers below has;
+    base = λ object found is is_scalar lies.
+        variable_is_there around typed within here Address object found s is is_scalar lies has;
+    counter = λ head counts. counter_is_there around typed within here head s counts has;
+  }
+
+  in_module : IsWhole around.program → TakesNoDefaultIn around typed
+  in_module whole =
+      let sound : IsSoundlyTyped typed =
+      of_module IsSoundlyTyped around.program.modules around.number_of_module typed
+      (recursion_from_All IsSoundlyTyped around.program.modules whole.sound) here in
+      record {
+        named = names_are_meant around whole typed here;
+        addresses = λ later within reference s refers.
+            location_is_in_memory later around typed within reference s here refers;
+        counted = λ later arguments s. values_are_counted later around arguments s;
+        left = λ number count procedure s is.
+            procedure_is_left typed number procedure count around s sound.jumps is;
+        main_left = λ count s. main_is_left typed count around s sound.jumps sound.types;
+        main_begins = λ given s size is. main_has_bytes around.program whole given size typed s is;
+        callee_begins = λ heading at procedure s callee is_module size.
+            callee_has_bytes around heading at typed procedure s callee is_module size;
+        kept = keeps_bytes;
+        there = finds_bytes;
+      }
+
+-- in a program that is joined of soundly typed modules and lies lawfully
+pub takes_no_default : (program : Program) → IsWhole program → TakesNoDefault program
+takes_no_default program whole = record {
+  main = main_is_there program whole;
+  later = later_is_meant;
+  labels = begins_with;
+  modules = λ number room typed is.
+      in_module (record { program = program; number_of_module = number; room = room }) typed is whole;
+}
+
+-- worked: a program without modules takes one
+without_modules : (placement : Placement) (script : List (List ℕ))
+    → TakesNoDefault (record { modules = []; placement = placement; script = script })
+    → ⊥
+without_modules placement script none = none.main

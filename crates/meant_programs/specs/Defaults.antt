@@ -1,0 +1,96 @@
+-- The cases that the meaning has for trees that no source has, and that no run of a program takes: each field rules
+-- some out, and names the definitions that have them.
+use Rattle.std.specs.Prelude.{◌≡◌, ℕ, ◌<◌, List, length, Some, slice_get}
+use Rattle.mem80.specs.declared.memory.TheConstants.{MEMORY_SIZE}
+use Rattle.trees.specs.declared.declaration.ScalarType.{ScalarType}
+use Rattle.trees.specs.declared.declaration.ScalarType.TheVariants.{Address}
+use Rattle.typed_trees.specs.Jumps.{ListStands}
+use Rattle.typed_trees.specs.ObjectParts.{IsScalar}
+use Rattle.typed_trees.specs.Sizes.{size_of_scalar}
+use Rattle.typed_trees.specs.TypedTrees.{TypedExpression, TypedReference, TypedTarget, TypedArguments, TypedIteration, TypedStatement, LabelStatement, TypedStatements, MoreStatements, TypedList, TypedObject, TypedProcedure, TypedModule}
+use Rattle.typed_trees.specs.WellTyped.{Within, WithinProcedure, WithinMain, Counts, LiesFor, RefersToLocation, RefersToScalar, types_of}
+use Rattle.layout.specs.Joined.{InProgram}
+use Rattle.layout.specs.StartingMemory.{starting_memory}
+use Rattle.meaning.specs.Access.{Surroundings, place_of}
+use Rattle.meaning.specs.Meaning.{Later, IsMeantBelow, done, done_list, frame_of, later_by, located, parameters_set, rest_from, stored, value, values}
+use Rattle.meaning.specs.Outcomes.{Program, State}
+use Rattle.meant_programs.specs.Meant.{GivesBytes, GivesInMemory, GivesSoMany, HasBytes, HasMain, IsCallee, IsThere, Leaves, LeavesBytes, LeavesMain, LeavesProcedure, ParametersAreThere}
+use Rattle.meant_programs.specs.Named.{NamesAreMeant}
+
+-- statements of which a label is the first
+abbrev pub BeginsWith : (label : ℕ) → TypedStatements → Type 0
+BeginsWith label (MoreStatements (LabelStatement other) others) = other ≡ label
+BeginsWith label statements = ⊥
+
+-- What goes on in a body leaves all bytes of memory and of its frame.
+pub record KeepsBytes (around : Surroundings) (typed : TypedModule) (within : Within) (number : ℕ) (s : State)
+    : Type 0 where
+  pub values : (arguments : TypedArguments) → LeavesBytes typed within (values (later_by number) around arguments s)
+  pub value : (expression : TypedExpression) → LeavesBytes typed within (value (later_by number) around expression s)
+  pub place : (reference : TypedReference) → LeavesBytes typed within (located (later_by number) around reference s)
+  pub store : (target : TypedTarget) (found : ℕ)
+      → LeavesBytes typed within (stored (later_by number) around target found s)
+  pub statement : (statement : TypedStatement)
+      → LeavesBytes typed within (done (later_by number) around statement s)
+  pub list : (list : TypedList) → LeavesBytes typed within (done_list (later_by number) around list s)
+  pub parameters : (scalars : List ScalarType) (parameters arguments : List ℕ)
+      → LeavesBytes typed within (parameters_set around scalars parameters arguments s)
+
+-- Where these bytes are, so are those that the body reads and changes: of scalars, of what objects are BASED on, and
+-- of the variables of iterative DOs.
+pub record FindsBytes (around : Surroundings) (typed : TypedModule) (within : Within) (number : ℕ) (s : State)
+    : Type 0 where
+  pub scalar : (scalar : ScalarType) (reference : TypedReference) → RefersToScalar typed within scalar reference
+      → GivesBytes (size_of_scalar scalar) (located (later_by number) around reference s)
+  pub base : (object : ℕ) (found : TypedObject) → slice_get typed.objects object ≡ Some found
+      → IsScalar Address found → LiesFor within found.home
+      → IsThere (size_of_scalar Address) (place_of around object) s
+  pub counter : (head : TypedIteration) → Counts typed within head
+      → IsThere (size_of_scalar head.scalar) (place_of around head.variable) s
+
+-- in a module, which is carried out in these surroundings
+pub record TakesNoDefaultIn (around : Surroundings) (typed : TypedModule) : Type 0 where
+  -- `home_in`, `home_of`, `place_in`: no such object, or one without a place; `address_of`, `address_of_object`,
+  -- `address_in`, `address_of_list`: no such address; `callee_in`, `called_for`, `called`: no such procedure
+  pub named : NamesAreMeant around typed
+  -- `address_in_memory`: the address of what lies in a frame
+  pub addresses : (later : Later) (within : Within) (reference : TypedReference) (s : State)
+      → RefersToLocation typed within reference → GivesInMemory (located later around reference s)
+  -- `parameters_set`: more or fewer values than arguments, for which there are as many parameters by `named`
+  pub counted : (later : Later) (arguments : TypedArguments) (s : State)
+      → GivesSoMany (length (types_of arguments)) (values later around arguments s)
+  -- `value_of_flow`: a body of a procedure that is left by a jump
+  pub left : (number count : ℕ) (procedure : TypedProcedure) (s : State)
+      → slice_get typed.procedures number ≡ Some procedure
+      → Leaves LeavesProcedure (done_list (later_by count) around procedure.body s)
+  -- `run_of`: a main program that is left by a jump or a RETURN
+  pub main_left : (count : ℕ) (s : State) → Leaves LeavesMain (done_list (later_by count) around typed.main.body s)
+  -- `frame_bytes`, `read_byte`, `write_byte`: no such byte of memory or of the frame. A main program begins with all
+  -- of them, and so does what is called, those of its parameters among them; all stay; and what is read or changed
+  -- is among them.
+  pub main_begins : (given : List ℕ) (s : State) → length given ≡ MEMORY_SIZE
+      → s.memory ≡ starting_memory around.program.modules around.program.placement given
+      → HasBytes typed WithinMain s
+  pub callee_begins : (heading : TypedProcedure) (at : InProgram) (procedure : TypedProcedure) (s : State)
+      → IsCallee around.program.modules heading at typed procedure
+      → around.number_of_module ≡ at.number_of_module
+      → length s.memory ≡ MEMORY_SIZE
+      → HasBytes typed (WithinProcedure at.number procedure.result) (record s { frame = frame_of at.number typed })
+      × ParametersAreThere around procedure.parameter_types procedure.parameters
+      (record s { frame = frame_of at.number typed })
+  pub kept : (within : Within) (number : ℕ) (s : State) → s.budget < number → HasBytes typed within s
+      → KeepsBytes around typed within number s
+  pub there : (within : Within) (number : ℕ) (s : State) → s.budget < number → HasBytes typed within s
+      → FindsBytes around typed within number s
+
+-- in a program
+pub record TakesNoDefault (program : Program) : Type 0 where
+  -- `number_of_main`, `source_run`: no main program
+  pub main : HasMain program.modules
+  -- `nothing_later`: a call, a turn or a jump that nothing is known of
+  pub later : (number : ℕ) → IsMeantBelow number (later_by number)
+  -- `dropped`: a label that is not where the places of its list say
+  pub labels : (list : TypedList) (label : ℕ) (rest : TypedStatements) → ListStands list
+      → rest_from label list ≡ Some rest → BeginsWith label rest
+  pub modules : (number room : ℕ) (typed : TypedModule) → slice_get program.modules number ≡ Some typed
+      → TakesNoDefaultIn (record { program = program; number_of_module = number; room = room }) typed
