@@ -4,13 +4,26 @@ use Rattle.failure.specs.declared.Failure.{Failure}
 use Rattle.failure.specs.declared.Failure.TheVariants as failures
 use Rattle.failure.specs.Failure.{IfFault}
 use Rattle.object_modules.specs.Module.{ObjectModule}
+use Rattle.typed_trees.specs.TypedTrees.{TypedModule}
+use Rattle.sound_modules.specs.Sound.{IsSoundlyTyped}
 use Rattle.treecode.specs.declared.module.TreeModule.{TreeModule}
 use Rattle.codegen8080.specs.declared.fault.Fault.{Fault}
 use Rattle.codegen8080.specs.declared.fault.Fault.TheVariants.{TooLong}
 use Rattle.codegen8080.specs.Modules.{IsGenerated}
 use Rattle.codegen8080.specs.Refusals.{MayRefuse}
+use Rattle.code_bounds.specs.Fits.{IsSound}
 use Rattle.code_bounds.proofs.Bounds.{segment_is_within_its_bound, too_long_is_past_its_bound}
 use Rattle.module_code.specs.Bounded.{IsPastBound, IsWithinBound}
+
+-- what the size of code depends on
+pub sound_for_bounds : (typed : TypedModule) → IsSoundlyTyped typed → IsSound typed
+sound_for_bounds typed sound = record {
+  types = sound.types;
+  jumps = sound.jumps;
+  frames = sound.frames;
+  parameters = sound.parameters;
+  storable = sound.storable;
+}
 
 pub within_bound : (tree : TreeModule) (object : ObjectModule) → IsGenerated tree object → IsWithinBound tree object
 within_bound tree object is typed code =

@@ -1,2 +1,3 @@
 pub mod Bounding
 pub mod Contract
+pub mod Counting

@@ -1,2 +1,3 @@
 pub mod Bounded
+pub mod Items
 pub mod Modules

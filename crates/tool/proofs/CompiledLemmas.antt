@@ -23,7 +23,8 @@ use Rattle.module_segments.proofs.Slots.{stored}
 use Rattle.code_bounds.specs.Fits.{IsSound}
 use Rattle.code_bounds.proofs.Bounds.{code_is_within_its_bound}
 use Rattle.module_code.specs.Bounded.{IsPastBound, IsTreeCodeOf}
-use Rattle.module_code.specs.Modules.{IsSoundTreeCode}
+use Rattle.module_code.specs.Modules.{IsSoundTreeCode, OfItsModule}
+use Rattle.program_meaning.specs.Typed.{IsSoundlyMade}
 use Rattle.sound_modules.specs.Sound.{IsSoundlyTyped}
 use Rattle.source_facts.proofs.Sources.{source_is_soundly_typed}
 use Rattle.program_sources.specs.declared.sources.Source as declared_source
@@ -51,6 +52,14 @@ sound_tree_code typed storage tree has is lowered = record {
   laid_out = has.source.storage ∙ ap Ok (sym is);
   lowered = lowered;
 }
+
+-- its object module is made of it
+pub made_of : (typed : TypedModule) (tree : TreeModule) (object : ObjectModule)
+    → IsSoundTreeCode typed tree
+    → OfItsModule tree IsSoundlyMade object
+    → IsSoundlyMade typed object
+unfolding OfItsModule
+made_of typed tree object code made = made typed code
 
 -- what the size of code depends on
 pub sound_for_bounds : (typed : TypedModule) → IsSoundlyTyped typed → IsSound typed
