@@ -8,7 +8,9 @@ use Rattle.layout.specs.Storage.{Storage, storage_of}
 use Rattle.sound_modules.specs.Sound.{IsSoundlyTyped}
 use Rattle.treecode.specs.declared.module.TreeModule.{TreeModule}
 use Rattle.treecode.specs.Lowered.{IsLowered}
+use Rattle.codegen8080.specs.declared.fault.Fault.{Fault}
 use Rattle.tree_bounds.specs.Bounds.{bound_of_tree}
+use Rattle.module_code.specs.Bounded.{IsNotMade}
 use Rattle.module_code.specs.Items.{BodiesPushWithinCharges, HasItems}
 
 -- tree code of a module that is soundly typed, with the storage that `layout` gives it
@@ -21,6 +23,10 @@ pub record IsSoundTreeCode (typed : TypedModule) (tree : TreeModule) : Type 0 wh
 -- this holds of an object module, and of each module that the tree code is
 unfoldable pub OfItsModule : TreeModule → (TypedModule → ObjectModule → Type 0) → ObjectModule → Type 0
 OfItsModule tree Holds object = (typed : TypedModule) → IsSoundTreeCode typed tree → Holds typed object
+
+-- no object module is made of any module that the tree code is, for this fault
+abbrev pub MakesNone : TreeModule → Fault → Type 0
+MakesNone tree fault = (typed : TypedModule) → IsSoundTreeCode typed tree → IsNotMade fault typed
 
 -- What is counted of an object module: its code segment takes no more bytes than the code bound that is counted on the nodes
 -- of the tree code, which is that of the module; it has items that were written for the tree code, and by any such items its

@@ -11,7 +11,7 @@ ghost use Rattle.program_merges.specs.internal.Names.{HasNames};
 ghost use Rattle.program_meaning.specs.OneModule.{DoesWhereItLies};
 ghost use Rattle.program_meaning.specs.Typed.{IsSoundlyMade};
 ghost use Rattle.module_code.specs.Bounded.{IsPastBound, IsWithinBound};
-ghost use Rattle.module_code.specs.Modules.{IsCounted, OfItsModule};
+ghost use Rattle.module_code.specs.Modules.{IsCounted, MakesNone, OfItsModule};
 
 use codegen8080::Fault;
 use failure::Failure;
@@ -25,7 +25,7 @@ use treecode::TreeModule;
 /// machine what the module says, by what calls do. The code segment is within the code bound of the module, and the code of
 /// each body pushes no more bytes than the charge of its procedure leaves. Refuses a module whose storage fits for its
 /// length (G1) only where that bound passes 65535.
-#[tactic(auto, using(crate::proofs::Contract::soundly_made, crate::proofs::Contract::code_does, crate::proofs::Contract::object_is, crate::proofs::Contract::segments_are, crate::proofs::Contract::names_are, crate::proofs::Counting::counted, crate::proofs::Bounding::within_bound, crate::proofs::Bounding::refusal_past_bound))]
+#[tactic(auto, using(crate::proofs::Contract::soundly_made, crate::proofs::Contract::code_does, crate::proofs::Contract::object_is, crate::proofs::Contract::segments_are, crate::proofs::Contract::names_are, crate::proofs::Counting::counted, crate::proofs::Bounding::within_bound, crate::proofs::Bounding::refusal_past_bound, crate::proofs::Bounding::refusal_makes_none))]
 pub fn generate(alloc: Global, tree: &TreeModule) -> Result<ObjectModule, Failure<Fault>>
     ensures made { IfOk result (λ object. IsGenerated tree.now object) }
     ensures sound { IfOk result (OfItsModule tree.now IsSoundlyMade) }
@@ -37,6 +37,7 @@ pub fn generate(alloc: Global, tree: &TreeModule) -> Result<ObjectModule, Failur
     ensures bound { IfOk result (λ object. IsWithinBound tree.now object) }
     ensures refused { IfFault result (λ fault. MayRefuse tree.now fault) }
     ensures past { IfFault result (λ fault. IsPastBound tree.now fault) }
+    ensures not_made { IfFault result (λ fault. MakesNone tree.now fault) }
 {
     // Looks at its numbers say that they are words, and one at its name that an object module is valid.
     tree.hold_words();

@@ -13,5 +13,7 @@ returns-in-Ok-clause-made c =
 pub returns-in-Err-clause-refused : goal.returns-in-Err-clause-refused
 returns-in-Err-clause-refused c =
     rw c.of_code.ensures
-    (generation_refused c.args.file (module_view c.args.source.now.typed) (layout_view c.args.source.now.storage) c.in_ok-tree.tree c.in-Err.failure c.requires.source c.requires.storage
-    c.in_ok-tree.ensures.lowered c.in-Err.ensures.refused c.in-Err.ensures.past)
+    (generation_refused c.args.file (module_view c.args.source.now.typed) c.in_ok-tree.tree c.in-Err.failure
+    (sound_tree_code (module_view c.args.source.now.typed) (layout_view c.args.source.now.storage) c.in_ok-tree.tree c.requires.source
+    c.requires.storage c.in_ok-tree.ensures.lowered)
+    c.in-Err.ensures.not_made)
