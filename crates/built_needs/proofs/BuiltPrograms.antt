@@ -7,7 +7,7 @@ use Rattle.typed_trees.specs.TypedTrees.{TypedModule}
 use Rattle.sound_modules.specs.Sound.{IsSoundlyTyped}
 use Rattle.frontend.specs.Reading.{IsSourceOf}
 use Rattle.program_sources.specs.Programs.{AreSourcesOf, IsProgramOf, program_modules}
-use Rattle.program_meaning.specs.Typed.{AreSoundlyMade}
+use Rattle.tool.specs.Typed.{AreSoundlyMade}
 use Rattle.charge_limits.specs.Limits.{ChargesFit}
 use Rattle.charge_limits.proofs.Charges.{derived_charges_fit}
 use Rattle.meant_programs.specs.Meant.{IsWhole}

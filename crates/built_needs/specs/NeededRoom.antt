@@ -10,7 +10,7 @@ use Rattle.meaning.specs.declared.reason.Reason.TheVariants.{Stack}
 use Rattle.meaning.specs.Outcomes.{Outside}
 use Rattle.meaning.specs.Run.{Run, source_run}
 use Rattle.locate.specs.Locating.{Absolute}
-use Rattle.program_meaning.specs.Agreement.{Agrees}
+use Rattle.tool.specs.Agreement.{Agrees}
 use Rattle.tool.specs.Image.{machine_run}
 
 -- no budget takes the program outside for another reason than the stack

@@ -7,8 +7,7 @@ use Rattle.asm8080.specs.declared.item.Item.{Item}
 use Rattle.treecode.specs.declared.module.TreeModule.{TreeModule}
 use Rattle.treecode.specs.Lowered.{IsLowered, labels_numbered_in_list}
 use Rattle.codegen8080.specs.Modules.{IsOwnCode}
-use Rattle.statement_meaning.proofs.Lists.{same_number}
-use Rattle.procedure_meaning.proofs.Labels.{main_labels_differ, procedure_labels_differ}
+use Rattle.procedure_meaning.proofs.Labels.{main_label_has_one_number, procedure_label_has_one_number}
 use Rattle.code_bounds.specs.Fits.{IsSound}
 use Rattle.code_bounds.proofs.Constants.{holds_at}
 use Rattle.code_labels.specs.Modules.{LabelsHavePlaces}
@@ -21,17 +20,13 @@ body_differs :
     → IsSound typed
     → slice_get typed.procedures index ≡ Some procedure
     → LabelsDiffer (labels_numbered_in_list procedure.body)
-body_differs typed procedure index sound there one other label first second =
-    same_number (labels_numbered_in_list procedure.body) one other label
-    (procedure_labels_differ typed index procedure sound.jumps
+body_differs typed procedure index sound there =
+    procedure_label_has_one_number typed index procedure sound.jumps
     (holds_at (λ (given : TypedProcedure). BodyIsSound given.body) typed.procedures index procedure
-    sound.jumps.procedures there).stands there)
-    first second
+    sound.jumps.procedures there).stands there
 
 main_differs : (typed : TypedModule) → IsSound typed → LabelsDiffer (labels_numbered_in_list typed.main.body)
-main_differs typed sound one other label first second =
-    same_number (labels_numbered_in_list typed.main.body) one other label (main_labels_differ typed sound.jumps) first
-    second
+main_differs typed sound = main_label_has_one_number typed sound.jumps
 
 -- each label that its own code goes to is bound there, or is that of a routine that it calls
 pub labels_have_places :

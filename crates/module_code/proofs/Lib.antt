@@ -1,2 +1,4 @@
 pub mod Bounding
 pub mod Contract
+pub mod Counting
+pub mod Programs

@@ -5,6 +5,7 @@ use Rattle.std.proofs.lemmas.List.Kept.{AllPairs-cons}
 use Rattle.typed_trees.specs.Jumps.{IsNoLabel, JumpsAreSound, LabelsStand, ListStands, ListsStand, ListsStandInCases, ListsStandInElse, ListsStandInStatements, labels_in, labels_in_else, labels_in_list, labels_in_module, labels_in_procedure, labels_in_statements}
 use Rattle.typed_trees.specs.TypedTrees.{TypedModule, TypedProcedure, TypedStatement, LabelStatement, NullStatement, AssignmentStatement, CallStatement, MoveStatement, ReturnStatement, HaltStatement, GotoStatement, IfStatement, DoStatement, WhileStatement, IterateStatement, CaseStatement, TypedElse, NoElse, ElseStatement, TypedStatements, NoStatements, MoreStatements, TypedList, ListOf}
 use Rattle.treecode.specs.Lowered.{labels_numbered, labels_numbered_in_else, labels_numbered_in_list, labels_numbered_in_statements, numbers_from}
+use Rattle.statement_meaning.proofs.Lists.{same_number}
 
 -- how often a number stands in a list
 abbrev once : Bool → ℕ
@@ -195,3 +196,25 @@ main_labels_differ typed jumps =
     times_both number (flat_map labels_in_procedure typed.procedures) (labels_in_procedure typed.main) in
     let same = list_same number typed.main.body jumps.main.stands in
     omega (arith, all, both, same))
+
+-- so no label of a body has two numbers
+pub procedure_label_has_one_number : (typed : TypedModule) (index : ℕ) (procedure : TypedProcedure)
+    → JumpsAreSound typed
+    → ListStands procedure.body
+    → slice_get typed.procedures index ≡ Some procedure
+    → (one other label : ℕ)
+    → slice_get (labels_numbered_in_list procedure.body) one ≡ Some label
+    → slice_get (labels_numbered_in_list procedure.body) other ≡ Some label
+    → one ≡ other
+procedure_label_has_one_number typed index procedure jumps stands there one other label first second =
+    same_number (labels_numbered_in_list procedure.body) one other label
+    (procedure_labels_differ typed index procedure jumps stands there) first second
+
+pub main_label_has_one_number : (typed : TypedModule)
+    → JumpsAreSound typed
+    → (one other label : ℕ)
+    → slice_get (labels_numbered_in_list typed.main.body) one ≡ Some label
+    → slice_get (labels_numbered_in_list typed.main.body) other ≡ Some label
+    → one ≡ other
+main_label_has_one_number typed jumps one other label first second =
+    same_number (labels_numbered_in_list typed.main.body) one other label (main_labels_differ typed jumps) first second

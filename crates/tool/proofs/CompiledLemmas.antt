@@ -17,21 +17,15 @@ use Rattle.frontend.specs.Reading.{IsSourceOf}
 use Rattle.treecode.specs.declared.module.TreeModule.{TreeModule}
 use Rattle.treecode.specs.Lowered.{IsLowered}
 use Rattle.codegen8080.specs.declared.fault.Fault as code_fault
-use Rattle.codegen8080.specs.declared.fault.Fault.TheVariants.{TooLong}
-use Rattle.codegen8080.specs.Refusals.{MayRefuse}
-use Rattle.module_segments.proofs.Slots.{stored}
-use Rattle.code_bounds.specs.Fits.{IsSound}
-use Rattle.code_bounds.proofs.Bounds.{code_is_within_its_bound}
-use Rattle.module_code.specs.Bounded.{IsPastBound, IsTreeCodeOf}
-use Rattle.module_code.specs.Modules.{IsSoundTreeCode}
-use Rattle.sound_modules.specs.Sound.{IsSoundlyTyped}
+use Rattle.module_code.specs.Modules.{IsSoundTreeCode, MakesNone, OfItsModule}
+use Rattle.module_code.specs.Typed.{IsSoundlyMade}
 use Rattle.source_facts.proofs.Sources.{source_is_soundly_typed}
 use Rattle.program_sources.specs.declared.sources.Source as declared_source
 use Rattle.program_sources.specs.Programs.{text_of, texts_of}
 use Rattle.tool.specs.declared.compiled.Compiled.{Compiled}
 use Rattle.tool.specs.declared.fault.ToolFault.{ToolFault}
 use Rattle.tool.specs.declared.fault.ToolFault.TheVariants.{TooManySources, Source, Code, Program, Link, Locate}
-use Rattle.tool.specs.Made.{IsCompiledTo, IsNotMade, PassesBound}
+use Rattle.tool.specs.Made.{IsCompiledTo}
 use Rattle.tool.specs.Sources.{AreWithoutFault, HasCause, IsInOrder, HasNoObject, IsRefusedAlone, IsWithoutFault}
 use Rattle.tool.specs.internal.Compiling.{AreCompiled, HasCompileCause, HasGenerationCause, HasSource, HasSourceCause, IsCompiled, failure_of_code, module_in}
 
@@ -52,61 +46,21 @@ sound_tree_code typed storage tree has is lowered = record {
   lowered = lowered;
 }
 
--- what the size of code depends on
-pub sound_for_bounds : (typed : TypedModule) → IsSoundlyTyped typed → IsSound typed
-sound_for_bounds typed sound = record {
-  types = sound.types;
-  jumps = sound.jumps;
-  frames = sound.frames;
-  parameters = sound.parameters;
-  storable = sound.storable;
-}
+-- its object module is made of it
+pub made_of : (typed : TypedModule) (tree : TreeModule) (object : ObjectModule)
+    → IsSoundTreeCode typed tree
+    → OfItsModule tree IsSoundlyMade object
+    → IsSoundlyMade typed object
+unfolding OfItsModule
+made_of typed tree object code made = made typed code
 
--- a refusal for a length
-passes_bound : (fault : code_fault.Fault) (typed : TypedModule) (tree : TreeModule)
-    → IsTreeCodeOf typed tree
-    → IsPastBound tree fault
-    → PassesBound fault typed
-passes_bound TooLong typed tree code past = past typed code
-
--- no object module is made of a module whose tree code is refused
-pub not_made : (fault : code_fault.Fault) (typed : TypedModule) (storage : Storage) (tree : TreeModule)
-    → HasSource typed
-    → storage ≡ storage_with typed
-    → IsLowered typed storage tree
-    → MayRefuse tree fault
-    → IsPastBound tree fault
-    → IsNotMade fault typed
-not_made fault typed storage tree has is lowered refused past =
-    let sound : IsSoundlyTyped typed = source_is_soundly_typed has.text typed has.source in
-    let whole : IsLowered typed (storage_with typed) tree = subst (λ (s : Storage). IsLowered typed s tree) is lowered in
-    record {
-      tree = tree;
-      lowered = whole;
-      refused = refused;
-      bound = λ start code written. code_is_within_its_bound typed (storage_with typed) tree start code (sound_for_bounds typed sound) whole written;
-      passes =
-          passes_bound fault typed tree
-          (record {
-            storage = storage_with typed;
-            lowered = whole;
-            sound = sound_for_bounds typed sound;
-            few = (stored typed (storage_with typed) has.source.storage).data_fits;
-          })
-          past;
-    }
-
--- so a failure of its code has its cause
-pub generation_refused : (file : ℕ) (typed : TypedModule) (storage : Storage) (tree : TreeModule) (failure : Failure code_fault.Fault)
-    → HasSource typed
-    → storage ≡ storage_with typed
-    → IsLowered typed storage tree
-    → IfFault {A = ObjectModule} (Err failure) (MayRefuse tree)
-    → IfFault {A = ObjectModule} (Err failure) (IsPastBound tree)
+-- a failure of its code has its cause
+pub generation_refused : (file : ℕ) (typed : TypedModule) (tree : TreeModule) (failure : Failure code_fault.Fault)
+    → IsSoundTreeCode typed tree
+    → IfFault {A = ObjectModule} (Err failure) (MakesNone tree)
     → IfFault {A = ObjectModule} (Err (failure_of_code file failure)) (HasGenerationCause file typed)
-generation_refused file typed storage tree (Fault fault) has is lowered refused past =
-    (refl, not_made fault typed storage tree has is lowered refused past)
-generation_refused file typed storage tree Memory has is lowered refused past = tt
+generation_refused file typed tree (Fault fault) code none = (refl, none typed code)
+generation_refused file typed tree Memory code none = tt
 
 -- what one text is compiled to
 compiled_to : (text : List ℕ) (one : Compiled) → IsCompiled text one → IsCompiledTo text one.object

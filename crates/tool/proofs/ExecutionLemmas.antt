@@ -20,7 +20,7 @@ use Rattle.meaning.specs.Outcomes.{Ended}
 use Rattle.meaning.specs.Run.{Run}
 use Rattle.locate.specs.Locating.{Absolute}
 use Rattle.tool.specs.Execution.{started, IsFaithful}
-use Rattle.program_meaning.specs.Agreement.{Agrees}
+use Rattle.module_code.specs.Agreement.{Agrees}
 use Rattle.tool.specs.Image.{machine_run}
 
 stays_until : (script : List (List ℕ)) (s : State) (j k : ℕ) → j ≤ k → (state_after script j s).status ≡ Halted → state_after script k s ≡ state_after script j s

@@ -3,7 +3,7 @@ use Rattle.std.proofs.Common.{◌≡◌, ℕ, ◌<◌, List, [], ◌∷◌, All,
 use Rattle.std.proofs.lemmas.List.Elements.{All-from_recursion}
 use Rattle.std.specs.List.{AllByRecursion}
 use Rattle.mem80.specs.Memory.{IsMemory}
-use Rattle.mem80.specs.Pieces.{EndsInMemory, IsLoaded}
+use Rattle.mem80.specs.Pieces.{EndsInMemory}
 use Rattle.object_modules.specs.Module.{IsObjectModule, ObjectModule}
 use Rattle.object_images.proofs.Loaded.{runs_are_loaded}
 use Rattle.object_merges.proofs.MergeValid.{merge_is_object}
@@ -18,11 +18,10 @@ use Rattle.plans.specs.declared.Plan.{Plan}
 use Rattle.locate.specs.Locating as of_locating
 use Rattle.locate.specs.Locating.{Absolute, loaded}
 use Rattle.locate.proofs.Loads.{is_loaded}
-use Rattle.program_meaning.specs.Agreement.{Agrees}
-use Rattle.program_meaning.specs.Typed.{AreSoundlyMade}
-use Rattle.program_meaning.proofs.MadePrograms.{are_made, made_program_does}
-use Rattle.generated_objects.proofs.Made.{is_in_memory}
-use Rattle.program_memory.proofs.Starting.{starts_as_its_source}
+use Rattle.module_code.specs.Agreement.{Agrees}
+use Rattle.module_code.specs.Programs.{AreLoaded}
+use Rattle.module_code.specs.Typed.{AreSoundlyMade}
+use Rattle.module_code.proofs.Programs.{make_the_program}
 use Rattle.tool.specs.Headline.{DoesWhatItSays}
 use Rattle.tool.specs.Image.{machine_run}
 use Rattle.tool.specs.Made.{IsImageOfObjects, StartsAsItsSource, code_lengths}
@@ -35,17 +34,28 @@ each_valid [] (object ∷ objects) made = absurd made
 each_valid (typed ∷ modules) [] made = absurd made
 each_valid (typed ∷ modules) (object ∷ objects) made = (made.0.made.valid, each_valid modules objects made.1)
 
--- what a memory holds into which an image of object modules is loaded
-image_is_loaded :
-    (plan : Plan) (objects : List ObjectModule) (image : Absolute) (linked : IsImageOfObjects plan objects image)
+-- the object modules of a program are loaded into a memory with their image
+loads :
+    (plan : Plan) (modules : List TypedModule) (objects : List ObjectModule) (image : Absolute)
+    → IsJoined modules
+    → IsLawful modules (placement_by (plan_view plan) modules (code_lengths objects))
+    → (linked : IsImageOfObjects plan objects image)
     → All EndsInMemory image.pieces
     → (memory : List ℕ)
     → IsMemory memory
-    → IsLoaded linked.placed.image.byte_at memory (loaded image.pieces memory)
-image_is_loaded plan objects image linked ends memory is_memory =
+    → AreLoaded (plan_view plan) modules objects linked.merged linked.placed.image memory (loaded image.pieces memory)
+loads plan modules objects image joined lawful linked ends memory is_memory =
     let placed = linked.placed in
-    runs_are_loaded image.pieces placed.image.byte_at memory (loaded image.pieces memory) placed.pieces
-    (is_loaded image.pieces memory (loaded image.pieces memory) placed.pieces.runs ends refl is_memory.size)
+    record {
+      joined = joined;
+      lawful = lawful;
+      merge = linked.merge;
+      placed = placed.found;
+      loaded =
+          runs_are_loaded image.pieces placed.image.byte_at memory (loaded image.pieces memory) placed.pieces
+          (is_loaded image.pieces memory (loaded image.pieces memory) placed.pieces.runs ends refl is_memory.size);
+      size = is_memory.size;
+    }
 
 -- For every program whose object modules are made of its modules, every memory, every script and all events before it, if
 -- the source never goes outside with the stack of the plan, the image performs exactly the port reads and writes of the
@@ -67,13 +77,12 @@ does_what_it_says plan modules objects image joined made lawful linked ends memo
     Agrees (source_run modules (placement_by (plan_view plan) modules (code_lengths objects)) plan.stack_size memory script events)
     (λ (steps : ℕ). state_after script steps (initial_state (loaded image.pieces memory) events start)))
     (sym placed.start)
-    (made_program_does (plan_view plan) modules objects linked.merged placed.image memory (loaded image.pieces memory)
-    joined made lawful linked.merge placed.found
-    (image_is_loaded plan objects image linked ends memory is_memory)
-    is_memory.size
+    ((make_the_program modules objects made).does (plan_view plan) linked.merged placed.image memory (loaded image.pieces memory)
+    script events (initial_registers placed.image.start)
+    (loads plan modules objects image joined lawful linked ends memory is_memory)
     (loading_keeps_a_memory (of_locating.plan_view plan) linked.merged placed.image image.pieces valid placed.found placed.pieces
     ends memory is_memory)
-    script events (initial_registers placed.image.start) is_script
+    is_script
     (record { a = omega arith; b = omega arith; c = omega arith; d = omega arith; e = omega arith; h = omega arith; l = omega arith })
     never)
 
@@ -88,8 +97,5 @@ pub declared_bytes_start :
     → StartsAsItsSource modules (placement_by (plan_view plan) modules (code_lengths objects)) image
 unfolding placement_by
 declared_bytes_start plan modules objects image joined made lawful linked ends memory is_memory =
-    let placed = linked.placed in
-    starts_as_its_source (plan_view plan) modules objects linked.merged placed.image memory (loaded image.pieces memory)
-    (is_in_memory (plan_view plan) modules objects linked.merged placed.image memory (loaded image.pieces memory)
-    joined (are_made modules objects made) lawful linked.merge placed.found
-    (image_is_loaded plan objects image linked ends memory is_memory) is_memory.size)
+    (make_the_program modules objects made).starts (plan_view plan) linked.merged linked.placed.image memory (loaded image.pieces memory)
+    (loads plan modules objects image joined lawful linked ends memory is_memory)

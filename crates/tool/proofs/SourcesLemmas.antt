@@ -24,11 +24,10 @@ use Rattle.placing.specs.Views as of_placement
 use Rattle.frontend.specs.declared.read.ReadFault.{ReadFault}
 use Rattle.frontend.specs.declared.read.ReadFault.TheVariants as read_faults
 use Rattle.frontend.specs.Causes.{HasReadCause}
-use Rattle.generated_objects.proofs.Made.{are_storable, as_many_lengths, each_holds_constants, have_image, hold_constants}
 use Rattle.locate.specs.Locating.{Absolute}
-use Rattle.program_meaning.specs.Typed.{AreSoundlyMade}
-use Rattle.program_meaning.proofs.MadePrograms.{are_made}
-use Rattle.program_merges.specs.internal.Names.{HaveImage}
+use Rattle.module_code.specs.Typed.{AreSoundlyMade}
+use Rattle.module_code.proofs.Programs.{make_the_program}
+use Rattle.module_code.specs.Names.{HaveImage}
 use Rattle.program_sources.specs.declared.fault.ProgramFault.TheVariants as program_faults
 use Rattle.program_sources.specs.declared.placed.Placed.{Placed}
 use Rattle.program_sources.specs.Programs.{AreSourcesOf, IsPlacedBy, IsProgramOf, program_modules, text_of}
@@ -37,9 +36,7 @@ use Rattle.tool.specs.declared.fault.ToolFault.{ToolFault}
 use Rattle.tool.specs.declared.fault.ToolFault.TheVariants.{TooManySources, Source, Code, Program, Link, Locate}
 use Rattle.tool.specs.Construction.{Construction, IsConstruction, IsTyped}
 use Rattle.tool.specs.Headline.{DoesWhatItSays}
-use Rattle.tool.specs.Made.{AreWithinBounds, IsImageOfObjects, StartsAsItsSource, code_lengths}
-use Rattle.code_bounds.proofs.Bounds.{segment_is_within_its_bound}
-use Rattle.tool.proofs.CompiledLemmas.{sound_for_bounds}
+use Rattle.tool.specs.Made.{IsImageOfObjects, StartsAsItsSource, code_lengths}
 use Rattle.tool.specs.Refusals.{IsRefusal}
 use Rattle.tool.specs.Sources.{AreWithoutFault, HasCause, IsInOrder, IsWithoutFault, sources_before}
 use Rattle.tool.specs.internal.Compiling.{AreCompiled, HasBuildCause, IsBuiltFrom, module_in}
@@ -111,37 +108,25 @@ types_each (typed ∷ modules) [] made = absurd made
 types_each (typed ∷ modules) (object ∷ objects) made =
     ((made.0.facts.types, made.0.made.laid.globals, made.0.facts.frames), types_each modules objects made.1)
 
--- their code has the constants, and is within its bounds
-pub within_bounds : (modules : List TypedModule) (objects : List ObjectModule) → AreSoundlyMade modules objects → AreWithinBounds modules objects
-within_bounds [] [] made = tt
-within_bounds [] (object ∷ objects) made = absurd made
-within_bounds (typed ∷ modules) [] made = absurd made
-within_bounds (typed ∷ modules) (object ∷ objects) made =
-    let is = made.0.made in (
-      (hold_constants (typed ∷ modules) (object ∷ objects) (are_made (typed ∷ modules) (object ∷ objects) made)).0,
-      segment_is_within_its_bound typed is.storage is.tree object (sound_for_bounds typed made.0.facts) is.lowered is.generated,
-      within_bounds modules objects made.1,
-    )
-
 -- they have storage, and their code holds their constants
 pub have_storage : (modules : List TypedModule) (objects : List ObjectModule) (lengths : List ℕ) → AreSoundlyMade modules objects → lengths ≡ code_lengths objects
     → HaveStorage modules lengths
 have_storage modules objects lengths made its =
     subst (HaveStorage modules) (sym its)
     (record {
-      storable = are_storable modules objects (are_made modules objects made);
-      constants = each_holds_constants modules objects (are_made modules objects made);
+      storable = (make_the_program modules objects made).storable;
+      constants = (make_the_program modules objects made).constants;
     })
 
 pub count_fits : (modules : List TypedModule) (objects : List ObjectModule) (lengths : List ℕ) → AreSoundlyMade modules objects → lengths ≡ code_lengths objects
     → length lengths ≡ length modules
-count_fits modules objects lengths made its = ap length its ∙ as_many_lengths modules objects (are_made modules objects made)
+count_fits modules objects lengths made its = ap length its ∙ (make_the_program modules objects made).lengths
 
 -- they can be linked and placed where the program was placed
 pub placed_has_image : (plan : Plan) (modules : List TypedModule) (objects : List ObjectModule) (lengths : List ℕ) (placed : Placed) → AreSoundlyMade modules objects
     → lengths ≡ code_lengths objects → IsPlacedBy modules lengths plan placed → HaveImage (of_placement.plan_view plan) objects
 placed_has_image plan modules objects lengths placed made its is =
-    have_image (of_placement.plan_view plan) modules objects is.joined (are_made modules objects made)
+    (make_the_program modules objects made).linked (of_placement.plan_view plan) is.joined
     (subst (λ (given : List ℕ). placing_refusal (of_placement.plan_view plan) modules given ≡ None) its is.may_lie)
 
 pub program_built : (texts : List (List ℕ)) (compiled : List Compiled) (modules : List Typed) (plan : Plan) (built : Construction) → AreCompiled texts compiled → modules ≡ map typed_in compiled → IsBuiltFrom (map module_view modules) plan built
@@ -168,7 +153,7 @@ build_cause (Program (program_faults.Placement fault)) texts compiled modules ob
       objects = objects;
       program = program_is texts compiled modules are is cause.0;
       made = made_all texts compiled modules objects are is its;
-      bounds = within_bounds (map module_view modules) objects (made_all texts compiled modules objects are is its);
+      bounds = (make_the_program (map module_view modules) objects (made_all texts compiled modules objects are is its)).bounds;
       cause = subst (λ (given : List ℕ). placing_refusal (of_placement.plan_view plan) (map module_view modules) given ≡ Some (of_placement.refusal_of fault))
           (lengths_fit compiled objects lengths its long) cause.1;
     }
@@ -204,11 +189,11 @@ is_construction plan modules lengths placed objects image is its made linked end
       joined = subst IsJoined (sym is.program) is.joined;
       jumps = subst (All JumpsAreSound) (sym is.program) (All-from_recursion JumpsAreSound modules (jumps_each modules objects made));
       types = subst (All IsTyped) (sym is.program) (All-from_recursion IsTyped modules (types_each modules objects made));
-      storable = rw is.program (are_storable modules objects (are_made modules objects made));
+      storable = rw is.program (make_the_program modules objects made).storable;
       made = subst (λ ms. AreSoundlyMade ms objects) (sym is.program) made;
-      bounds = subst (λ ms. AreWithinBounds ms objects) (sym is.program) (within_bounds modules objects made);
+      bounds = subst (λ ms. AreWithinBounds ms objects) (sym is.program) (make_the_program modules objects made).bounds;
       objects = sym (length_mapped (λ (object : ObjectModule). length_of object segments.Code) objects)
-          ∙ as_many_lengths modules objects (are_made modules objects made) ∙ sym (ap length is.program);
+          ∙ (make_the_program modules objects made).lengths ∙ sym (ap length is.program);
       may_lie = rw (is.program, sym its) is.may_lie;
       lawful = rw is.program is.lawful;
       as_planned = rw is.program as_planned;

@@ -17,10 +17,11 @@ use Rattle.placing.specs.Tables.{IsTableOf}
 use Rattle.placing.specs.Views.{plan_view}
 use Rattle.object_modules.specs.Module.{ObjectModule}
 use Rattle.locate.specs.Locating.{Absolute}
-use Rattle.program_meaning.specs.Typed.{AreSoundlyMade}
+use Rattle.module_code.specs.Bounded.{AreWithinBounds}
+use Rattle.module_code.specs.Typed.{AreSoundlyMade}
 use Rattle.program_sources.specs.Programs.{program_modules}
 use Rattle.tool.specs.Headline.{DoesWhatItSays}
-use Rattle.tool.specs.Made.{AreWithinBounds, IsImageOfObjects, StartsAsItsSource, code_lengths}
+use Rattle.tool.specs.Made.{IsImageOfObjects, StartsAsItsSource, code_lengths}
 
 -- the joined program, the plan, the placement with what each byte of memory is by its table, the object modules of
 -- the modules, and the image

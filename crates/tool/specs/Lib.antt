@@ -6,6 +6,9 @@ pub use Rattle.frontend.specs.Reading
 pub use Rattle.frontend.specs.Causes
 pub use Rattle.program_sources.specs.Programs
 pub use Rattle.printed_runs.specs.Printing
+pub use Rattle.module_code.specs.Bounded
+pub use Rattle.module_code.specs.Typed
+pub use Rattle.module_code.specs.Agreement
 pub mod Image
 pub mod Headline
 pub mod Made

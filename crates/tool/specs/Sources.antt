@@ -11,7 +11,8 @@ use Rattle.placing.specs.Views as of_placement
 use Rattle.plans.specs.declared.Plan.{Plan}
 use Rattle.frontend.specs.Causes.{HasReadCause}
 use Rattle.frontend.specs.Reading.{IsSourceOf}
-use Rattle.program_meaning.specs.Typed.{AreSoundlyMade}
+use Rattle.module_code.specs.Bounded.{AreWithinBounds, IsNotMade}
+use Rattle.module_code.specs.Typed.{AreSoundlyMade}
 use Rattle.program_sources.specs.declared.fault.ProgramFault.{ProgramFault}
 use Rattle.program_sources.specs.declared.fault.ProgramFault.TheVariants.{Join, Placement}
 use Rattle.program_sources.specs.declared.sources.TheConstants.{MOST_SOURCES}
@@ -19,7 +20,7 @@ use Rattle.program_sources.specs.Programs.{AreSourcesOf, IsProgramOf, text_of}
 use Rattle.tool.specs.declared.fault.ToolFault.{ToolFault}
 use Rattle.tool.specs.declared.fault.ToolFault.TheVariants.{TooManySources, Source, Code, Program, Link, Locate}
 use Rattle.codegen8080.specs.declared.fault.Fault as code_fault
-use Rattle.tool.specs.Made.{AreWithinBounds, IsCompiledTo, IsNotMade, code_lengths}
+use Rattle.tool.specs.Made.{IsCompiledTo, code_lengths}
 
 -- a text is the source of a module of which no object module is made, for this fault
 pub record HasNoObject (fault : code_fault.Fault) (text : List ℕ) : Type 0 where

@@ -9,7 +9,7 @@ ghost use Rattle.layout.specs.Views.{layout_view};
 ghost use Rattle.frontend.specs.Reading.{IsSourceOf};
 ghost use Rattle.object_modules.specs.Module.{length_of};
 ghost use Rattle.object_modules.specs.declared.segment.Segment.TheVariants as segments;
-ghost use Rattle.program_meaning.specs.Typed.{IsSoundlyMade};
+ghost use Rattle.module_code.specs.Typed.{IsSoundlyMade};
 ghost use Rattle.program_sources.specs.Programs.{texts_of};
 ghost use Rattle.tool.specs.Made.{IsCompiledTo};
 ghost use Rattle.tool.specs.Sources.{AreWithoutFault, HasCause, IsInOrder, IsRefusedAlone};

@@ -4,7 +4,7 @@ ghost use Rattle.std.specs.Prelude.{◌≡◌, IfOk, OnErr};
 ghost use Rattle.meaning.specs.Run.{NeverOutside};
 ghost use Rattle.cpu8080.specs.Runs.{IsRun};
 ghost use Rattle.printed_runs.specs.Printing.{BeginsRun, PrintsRun};
-ghost use Rattle.program_meaning.specs.Agreement.{Agrees};
+ghost use Rattle.module_code.specs.Agreement.{Agrees};
 ghost use Rattle.tool.specs.Execution.{IsFaithful, source_of, started};
 ghost use Rattle.tool.specs.Image.{machine_run};
 ghost use Rattle.tool.specs.Printed.{PrintsEnded};

@@ -11,13 +11,13 @@ use Rattle.plans.specs.declared.Plan.{Plan}
 use Rattle.codegen8080.specs.declared.fault.Fault as code_fault
 use Rattle.frontend.specs.Causes.{HasReadCause}
 use Rattle.frontend.specs.Reading.{IsSourceOf}
-use Rattle.program_meaning.specs.Typed.{IsSoundlyMade}
+use Rattle.module_code.specs.Bounded.{IsNotMade}
+use Rattle.module_code.specs.Typed.{IsSoundlyMade}
 use Rattle.program_sources.specs.Programs.{HasProgramCause, program_modules}
 use Rattle.tool.specs.declared.compiled.Compiled.{Compiled}
 use Rattle.tool.specs.declared.fault.ToolFault.{ToolFault}
 use Rattle.tool.specs.declared.fault.ToolFault.TheVariants.{Source, Code, Program, Link, Locate}
 use Rattle.tool.specs.Construction.{Construction}
-use Rattle.tool.specs.Made.{IsNotMade}
 use Rattle.tool.specs.Sources.{HasNoObject}
 
 -- the module of a source that is compiled
