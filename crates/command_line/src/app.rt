@@ -251,7 +251,7 @@ fn place<'a>(alloc: Global, name: &'a str, teaching: Teaching) -> Built<'a>
     ensures { Builds (place_app name.entry.now) result }
 {
     let planned = add_plan(alloc, named(alloc, name, teaching));
-    add(planned, files(alloc, "FILE", "The object file"))
+    add(planned, files(alloc, "FILE", "The one object file"))
 }
 
 // The command that tells where an object lies or, with its flag, how much of the stack sources need.
@@ -270,7 +270,7 @@ fn locate<'a>(alloc: Global) -> Built<'a>
         files(
             alloc,
             "FILE",
-            "The object file, or with --need the files with the sources",
+            "The one object file, or with --need the files with the sources",
         ),
     )
 }
