@@ -9,6 +9,7 @@ pub mod Soundness
 pub mod ProcedureCalls
 pub mod StaticReturns
 pub mod KnownCalls
+pub mod Below
 pub mod Main
 pub mod FramesSteps
 pub mod Zeros
