@@ -10,7 +10,9 @@ use Rattle.program_sources.specs.Programs.{AreSourcesOf, IsProgramOf, program_mo
 use Rattle.tool.specs.Typed.{AreSoundlyMade}
 use Rattle.charge_limits.specs.Limits.{ChargesFit}
 use Rattle.charge_limits.proofs.Charges.{derived_charges_fit}
+use Rattle.meant_programs.specs.Defaults.{TakesNoDefault}
 use Rattle.meant_programs.specs.Meant.{IsWhole}
+use Rattle.meant_programs.proofs.Defaults.{takes_no_default}
 use Rattle.tool.specs.Construction.{Construction, IsConstruction}
 use Rattle.built_needs.specs.BuiltPrograms.{program_of}
 
@@ -23,8 +25,7 @@ all_sound (typed ∷ modules) (object ∷ objects) made =
 all_sound [] (object ∷ objects) made = absurd made
 all_sound (typed ∷ modules) [] made = absurd made
 
--- A program that is built is joined of soundly typed modules and lies lawfully: so the laws of `meant_programs` say of it
--- that all that its bodies name is there, which bytes its runs read, and which they change.
+-- A program that is built is joined of soundly typed modules and lies lawfully: so the laws of `meant_programs` hold of it.
 pub built_is_whole : (built : Construction) (script : List (List ℕ)) → IsConstruction built
     → IsWhole (program_of built script)
 built_is_whole built script is = record {
@@ -32,6 +33,11 @@ built_is_whole built script is = record {
   sound = all_sound (program_modules built.program) built.objects is.made;
   lawful = is.lawful;
 }
+
+-- no run of it takes a case that the meaning has for trees that no source has
+pub built_takes_no_default : (built : Construction) (script : List (List ℕ)) → IsConstruction built
+    → TakesNoDefault (program_of built script)
+built_takes_no_default built script is = takes_no_default (program_of built script) (built_is_whole built script is)
 
 -- neither a procedure nor the main program of a source is charged more than the limit
 pub source_charges_fit : (text : List ℕ) (typed : TypedModule) → IsSourceOf text typed → ChargesFit typed

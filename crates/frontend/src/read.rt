@@ -6,7 +6,7 @@ ghost use Rattle.words.specs.declared.limits.TheConstants.{LONGEST_SOURCE};
 ghost use Rattle.words.specs.Spelling.{lexemes_of};
 ghost use Rattle.grammar.specs.Derivation.{Derives};
 ghost use Rattle.trees.specs.Views.{module_tree};
-ghost use Rattle.typed_trees.specs.Frames.{FramesFit};
+ghost use Rattle.typed_trees.specs.Frames.{FramesFit, ParametersFit};
 ghost use Rattle.typed_trees.specs.Globals.{ListsGlobals};
 ghost use Rattle.typed_trees.specs.Jumps.{JumpsAreSound};
 ghost use Rattle.typed_trees.specs.Storable.{IsStorable};
@@ -100,6 +100,7 @@ pub fn read_source(alloc: Global, text: &[u8]) -> Result<SourceModule, Failure<R
     ensures types { IfOk result (λ read. IsWellTyped (module_view read.typed)) }
     ensures globals { IfOk result (λ read. ListsGlobals (module_view read.typed)) }
     ensures frames { IfOk result (λ read. FramesFit (module_view read.typed)) }
+    ensures parameters { IfOk result (λ read. ParametersFit (module_view read.typed)) }
     ensures refused { IfFault result (λ fault. HasReadCause fault text.now) }
     ensures too_long { LONGEST_SOURCE < length text.now → result ≡ Err (Failure.Fault ReadFault.TooLong) }
 {
@@ -121,6 +122,7 @@ fn type_text(alloc: Global, text: &[u8]) -> Result<Typed, Failure<ReadFault>>
     ensures types { IfOk result (λ typed. IsWellTyped (module_view typed)) }
     ensures globals { IfOk result (λ typed. ListsGlobals (module_view typed)) }
     ensures frames { IfOk result (λ typed. FramesFit (module_view typed)) }
+    ensures parameters { IfOk result (λ typed. ParametersFit (module_view typed)) }
     ensures refused { IfFault result (λ fault. HasReadCause fault text.now) }
 {
     let tree = parse_text(alloc, text)?;

@@ -6,7 +6,7 @@ ghost use Rattle.trees.specs.Views.{block_declarations, block_statements, declar
 ghost use Rattle.names.specs.internal.Parts.{case_tree, do_tree, if_tree, iterate_tree, procedure_parts, while_tree};
 ghost use Rattle.typed_trees.specs.Views.{else_view, list_view, module_view, procedure_view, statement_view, statements_view};
 ghost use Rattle.typing.specs.Statements.{list_of, places_from};
-ghost use Rattle.typed_trees.specs.Frames.{FramesFit};
+ghost use Rattle.typed_trees.specs.Frames.{FramesFit, ParametersFit};
 ghost use Rattle.typed_trees.specs.Globals.{ListsGlobals};
 ghost use Rattle.typed_trees.specs.Jumps.{JumpsAreSound};
 ghost use Rattle.typed_trees.specs.Storable.{IsStorable};
@@ -431,6 +431,7 @@ pub fn check(alloc: Global, parsed: Module) -> Result<Typed, Failure<Fault>>
     ensures types { IfOk result (λ typed. IsWellTyped (module_view typed)) }
     ensures globals { IfOk result (λ typed. ListsGlobals (module_view typed)) }
     ensures frames { IfOk result (λ typed. FramesFit (module_view typed)) }
+    ensures parameters { IfOk result (λ typed. ParametersFit (module_view typed)) }
 {
     typed(alloc, &parsed)
 }

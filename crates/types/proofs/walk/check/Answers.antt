@@ -1,5 +1,5 @@
 use Rattle.trees.specs.Views.{module_tree}
-use Rattle.typed_trees.specs.Frames.{FramesFit}
+use Rattle.typed_trees.specs.Frames.{FramesFit, ParametersFit}
 use Rattle.typed_trees.specs.Globals.{ListsGlobals}
 use Rattle.typed_trees.specs.Jumps.{JumpsAreSound}
 use Rattle.typed_trees.specs.Storable.{IsStorable}
@@ -12,6 +12,7 @@ use Rattle.typing.proofs.StatementsBack.{gives_back}
 use Rattle.typing.proofs.StorableStatements.{is_storable}
 use Rattle.typing.proofs.TypedLaws.{where_typed}
 use Rattle.typing.proofs.TypesOfStatements.{is_well_typed, globals_are_listed, frames_are_summed}
+use Rattle.typed_parameters.proofs.Walks.{parameters_fit}
 use Rattle.types.proofs.walk.check.Goals as goal
 
 pub returns-clause-given_back : goal.returns-clause-given_back
@@ -41,3 +42,8 @@ pub returns-clause-frames : goal.returns-clause-frames
 returns-clause-frames c =
     where_typed module_view c.typed.result (typing_of (module_tree c.args.parsed)) FramesFit c.typed.ensures
     (frames_are_summed (module_tree c.args.parsed))
+
+pub returns-clause-parameters : goal.returns-clause-parameters
+returns-clause-parameters c =
+    where_typed module_view c.typed.result (typing_of (module_tree c.args.parsed)) ParametersFit c.typed.ensures
+    (parameters_fit (module_tree c.args.parsed))
