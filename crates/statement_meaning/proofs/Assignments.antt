@@ -238,7 +238,7 @@ module _
         target_types.2 tall stage rest
     single_does bound _ _ from here s r memory counted goes stand (IsSent {port = port} {from = from_scalar}) target_types tall stage rest =
         through at sound facts need base of tree is types fits go Good others last to from_scalar Byte bound (Sent from_scalar port)
-        (SentTo from_scalar port) from here s r memory goes stand IsSent refl tall (λ n small. low_again n) stage rest
+        (SentTo from_scalar port) from here s r memory goes stand IsSent (refl, target_types.1) tall (λ n small. low_again n) stage rest
       where
         low_again : (n : ℕ) → n % 256 % 256 ≡ n % 256
         low_again n = omega arith

@@ -65,7 +65,7 @@ source_is :
     → TypesHoldInTarget context.typed context.within scalar to
     → source target ≡ scalar
 source_is context (IsStored reference) types = types.0
-source_is context IsSent types = types
+source_is context IsSent types = types.0
 
 target_is :
     (context : Context) {bound : ℕ} {target : Target} {to : TypedTarget} {scalar : ScalarType}
@@ -73,7 +73,7 @@ target_is :
     → TypesHoldInTarget context.typed context.within scalar to
     → type_of_target to ≡ scalar
 target_is context (IsStored reference) types = types.0
-target_is context IsSent types = types
+target_is context IsSent types = types.0
 
 module _ (context : Context) (sound : IsSound context) (asked : BytesAsked context) where
   -- a tree around one part

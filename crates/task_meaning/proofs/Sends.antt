@@ -49,14 +49,14 @@ pub send_law :
     → IsSound context
     → StepsStand context (PartDoes context) facts from (send_steps scalar port) last to
     → StoreDoes context facts (Sent scalar port) is_wanted pushed from last to
-send_law {context = context} {last = last} {port = port} {scalar = Byte} is_wanted sound stand bound number _ tree IsSent refl_is small top base s r memory less room ready known asked =
-    let at_a : InRegister Byte number r = subst (λ (scalar : ScalarType). InRegister scalar number r) (sym refl_is) asked in
-    let fits : number < values_of Byte = subst (λ (scalar : ScalarType). number < values_of scalar) (sym refl_is) small in
+send_law {context = context} {last = last} {port = port} {scalar = Byte} is_wanted sound stand bound number _ tree IsSent types small top base s r memory less room ready known asked =
+    let at_a : InRegister Byte number r = subst (λ (scalar : ScalarType). InRegister scalar number r) (sym types.0) asked in
+    let fits : number < values_of Byte = subst (λ (scalar : ScalarType). number < values_of scalar) (sym types.0) small in
     out_goes (IsStored context last _ is_wanted number r memory) port (number % 256) s r memory sound
     (at_a ∙ low_byte_is number fits) stand (record { ready = ready; known = known })
     (λ on. record { known = on.known; wanted = λ wanted. asked })
-send_law {context = context} {last = last} {port = port} {scalar = Address} is_wanted sound (PlainThere there stand) bound number _ tree IsSent refl_is small top base s r memory less room ready known asked =
-    let at_hl : InRegister Address number r = subst (λ (scalar : ScalarType). InRegister scalar number r) (sym refl_is) asked in
+send_law {context = context} {last = last} {port = port} {scalar = Address} is_wanted sound (PlainThere there stand) bound number _ tree IsSent types small top base s r memory less room ready known asked =
+    let at_hl : InRegister Address number r = subst (λ (scalar : ScalarType). InRegister scalar number r) (sym types.0) asked in
     let bytes = ready.registers in
     let now : Registers = record r { a = r.l } in
     registers_go r now sound there (record { ready = ready; known = known }) tt refl refl
@@ -65,5 +65,5 @@ send_law {context = context} {last = last} {port = port} {scalar = Address} is_w
     out_goes (IsStored context last _ is_wanted number r memory) port (number % 256) s now memory sound at_hl.1 stand on_now
     (λ on. record {
       known = on.known;
-      wanted = λ wanted. subst (λ (scalar : ScalarType). InRegister scalar number now) refl_is at_hl;
+      wanted = λ wanted. subst (λ (scalar : ScalarType). InRegister scalar number now) types.0 at_hl;
     }))

@@ -149,4 +149,4 @@ at_embedded {context = context} {t = t} {target = target} {number = number} {to 
         → TypesHoldInTarget context.typed context.within scalar to
         → source target ≡ scalar
     source_is (IsStored reference) types = types.0
-    source_is IsSent types = types
+    source_is IsSent types = types.0
