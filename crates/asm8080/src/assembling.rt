@@ -4,6 +4,7 @@ ghost use Rattle.std.specs.Prelude.{◌≡◌, ◌+◌, ◌≤◌, length, repli
 ghost use Rattle.object_modules.specs.declared.segment.TheConstants.{SEGMENT_LIMIT};
 ghost use Rattle.isa8080.specs.State.{high_byte, low_byte, wrap};
 ghost use Rattle.isa8080.specs.Code.{bytes_of};
+ghost use Rattle.asm8080.specs.Standing.{size_of_instruction};
 ghost use Rattle.asm8080.specs.Items.{flags_of_item, instruction_with, is_set, size_of, size_of_items, word_of};
 ghost use Rattle.asm8080.specs.Assembled.{fix_at, place_in, target_of};
 ghost use Rattle.asm8080.specs.internal.Assembling.{all_placed, layout_from, no_code, places_of, with_item, with_items, with_mark};
@@ -14,32 +15,37 @@ use isa8080::{Instr, encode};
 use object_modules::{Fix, FixKind, Segment, Target};
 use std::alloc::{AllocError, Global};
 
+// How many bytes an instruction takes.
+fn instruction_size(instruction: Instr) -> u16
+    ensures { result ≡ size_of_instruction instruction }
+{
+    match instruction {
+        Instr::Lxi(_, _)
+        | Instr::Shld(_)
+        | Instr::Lhld(_)
+        | Instr::Sta(_)
+        | Instr::Lda(_)
+        | Instr::JumpIf(_, _)
+        | Instr::CallIf(_, _)
+        | Instr::Jmp(_)
+        | Instr::Call(_) => 3,
+        Instr::Mvi(_, _) | Instr::AccumulateImmediate(_, _) | Instr::Out(_) | Instr::In(_) => 2,
+        _ => 1,
+    }
+}
+
 // How many bytes an item takes.
 fn item_size(item: Item) -> u16
     ensures { result ≡ size_of item }
 {
     match item {
-        Item::Plain(instruction) => {
-            let (_, size) = encode(instruction);
-            size as u16
-        }
+        Item::Plain(instruction) => instruction_size(instruction),
         Item::WithWord(_, _) => 3,
         Item::Byte(_) => 1,
         Item::Address(_) => 2,
         Item::Gap(count) => count,
         Item::Mark(_) => 0,
     }
-}
-
-/// How many bytes items take.
-pub(crate) fn code_size(items: &[Item]) -> u128
-    ensures { result ≡ size_of_items items.now }
-{
-    let mut size = 0;
-    for item in items {
-        size += item_size(*item) as u128;
-    }
-    size
 }
 
 // Puts the offset of an item into the table, if it is a label.
@@ -61,13 +67,15 @@ fn no_places(alloc: Global, labels: usize) -> Result<Vec<Option<u128>>, AllocErr
     Ok(places)
 }
 
-/// How far from the start of items each of so many labels is, by its number; none where it is not bound.
+/// How far from the start of items each of so many labels is, by its number; none where it is not bound. And how many
+/// bytes the items take.
 pub(crate) fn label_places(
     alloc: Global,
     items: &[Item],
     labels: usize,
-) -> Result<Vec<Option<u128>>, AllocError>
-    ensures { IfOk result (λ places. places.items ≡ places_of labels items.now) }
+) -> Result<(Vec<Option<u128>>, u128), AllocError>
+    ensures places { IfOk result (λ found. found.0.items ≡ places_of labels items.now) }
+    ensures size { IfOk result (λ found. found.1 ≡ size_of_items items.now) }
 {
     let mut places = no_places(alloc, labels)?;
     let mut offset = 0;
@@ -75,7 +83,7 @@ pub(crate) fn label_places(
         put_mark(&mut places, *item, offset);
         offset += item_size(*item) as u128;
     }
-    Ok(places)
+    Ok((places, offset))
 }
 
 /// Whether each label of a table has a place.
@@ -211,17 +219,18 @@ fn push_item(code: &mut CodeParts, item: Item, places: &[Option<u128>]) -> Resul
     push_flags(&mut code.is_set, item)
 }
 
-/// The code of items that fit a segment, whose labels have places in a table.
+/// The code of items that fit a segment, whose labels have places in a table. It has room for so many bytes at once.
 pub(crate) fn assemble(
     alloc: Global,
     items: &[Item],
     places: &[Option<u128>],
+    room: usize,
 ) -> Result<CodeParts, AllocError>
     requires { size_of_items items.now ≤ SEGMENT_LIMIT }
     ensures { IfOk result (λ code.
         code ≡ with_items (layout_from (place_in places.now)) no_code items.now) }
 {
-    let mut code = CodeParts::empty(alloc);
+    let mut code = CodeParts::empty(alloc, room)?;
     for item in items {
         push_item(&mut code, *item, places)?;
     }

@@ -1,13 +1,13 @@
 //! Assembled code.
 
-ghost use Rattle.std.specs.Prelude.{◌≡◌};
+ghost use Rattle.std.specs.Prelude.{◌≡◌, IfOk};
 ghost use Rattle.asm8080.specs.Assembled.{FitsSegment, place_of};
 ghost use Rattle.asm8080.specs.internal.Assembling.{no_code, with_places};
 
 use crate::assembling::place_word;
 use crate::code::Label;
 use object_modules::Fix;
-use std::alloc::Global;
+use std::alloc::{AllocError, Global};
 use std::marker::Model;
 
 /// The bytes of code, which of them are set, and its fixes, as far as it is assembled.
@@ -33,15 +33,15 @@ impl Model for CodeParts {
 }
 
 impl CodeParts {
-    /// No bytes.
-    pub(crate) fn empty(alloc: Global) -> CodeParts
-        ensures { result ≡ no_code }
+    /// No bytes, with room for so many.
+    pub(crate) fn empty(alloc: Global, room: usize) -> Result<CodeParts, AllocError>
+        ensures { IfOk result (λ parts. parts ≡ no_code) }
     {
-        CodeParts {
-            bytes: Vec::new(alloc),
-            is_set: Vec::new(alloc),
+        Ok(CodeParts {
+            bytes: Vec::with_capacity(alloc, room)?,
+            is_set: Vec::with_capacity(alloc, room)?,
             fixes: Vec::new(alloc),
-        }
+        })
     }
 }
 

@@ -7,7 +7,7 @@ ghost use Rattle.asm8080.specs.declared.item.Reference.TheVariants.{AtLabel, AtT
 ghost use Rattle.asm8080.specs.Items.{BindsSame, BindsSameBut, IsAssembly, is_bound, may_be_target};
 ghost use Rattle.asm8080.specs.Assembled.{IsFinished};
 
-use crate::assembling::{all_placed, assemble, code_size, label_places};
+use crate::assembling::{all_placed, assemble, label_places};
 use crate::bytes::CodeBytes;
 use crate::fault::Fault;
 use crate::item::{Item, Reference, WordForm};
@@ -221,15 +221,15 @@ impl Code {
     {
         let alloc = *self.items.allocator();
         let items = self.items.as_slice();
-        let table = label_places(alloc, items, self.labels)?;
+        let (table, size) = label_places(alloc, items, self.labels)?;
         let places = table.as_slice();
         if !all_placed(places) {
             return Err(Failure::Fault(Fault::UnboundLabel));
         }
-        if code_size(items) > SEGMENT_LIMIT as u128 {
+        if size > SEGMENT_LIMIT as u128 {
             return Err(Failure::Fault(Fault::TooLong));
         }
-        let code = assemble(alloc, items, places)?;
+        let code = assemble(alloc, items, places, size as usize)?;
         Ok(CodeBytes::with_places(code, table))
     }
 }

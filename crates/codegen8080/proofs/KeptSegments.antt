@@ -1,9 +1,10 @@
 -- Code as a segment of an object module, with other targets of its fixes.
-use Rattle.std.proofs.Common.{◌≡◌, ℕ, suc, ◌+◌, ◌<◌, ◌≤◌, Bool, true, false, cond, not, ◌==◌, ◌&&◌, ◌||◌, nat_lt, nat_le, List, [], ◌∷◌, ◌++◌, length, map, find, take, Option, Some, None, option_map, slice_get, slice_index, slice_index_or, zero, if◌then◌else◌, refl, sym, ap, ◌∙◌, arith}
+use Rattle.std.proofs.Common.{◌≡◌, ℕ, suc, ◌+◌, ◌-◌, ◌<◌, ◌≤◌, Bool, true, false, cond, not, ◌==◌, ◌&&◌, ◌||◌, nat_lt, nat_le, List, [], ◌∷◌, ◌++◌, length, map, find, take, drop, Option, Some, None, option_map, slice_get, slice_index, slice_index_or, zero, if◌then◌else◌, refl, sym, ap, ◌∙◌, arith}
 use Rattle.std.specs.Prelude.{All, IsTrue}
-use Rattle.std.specs.List.{list_all, range_with_len}
+use Rattle.std.specs.List.{list_all, range_with_len, slice_range}
 use Rattle.std.specs.Option.{option_map_or, option_flatten}
-use Rattle.std.proofs.lemmas.Bool.{le-leb}
+use Rattle.std.proofs.lemmas.Bool.{eq-eqb, le-leb}
+use Rattle.std.proofs.lemmas.List.{append-nil, append_assoc, map-append}
 use Rattle.object_modules.specs.declared.segment.Fix.{Fix}
 use Rattle.object_modules.specs.declared.segment.FixKind.{FixKind}
 use Rattle.object_modules.specs.declared.segment.Segment.{Segment}
@@ -17,7 +18,7 @@ use Rattle.object_modules.specs.Runs.{fixup_at}
 use Rattle.object_modules.specs.Rules.{fix_end}
 use Rattle.object_modules.specs.Spelling.{set_in}
 use Rattle.object_modules.specs.Stored.{IsStored, are_longest, fixes_ascend, is_in_a_run, places_stored}
-use Rattle.object_modules.specs.Text.{Run, runs_from}
+use Rattle.object_modules.specs.Text.{Run, before_runs, runs_from}
 use Rattle.object_modules.specs.internal.Joining.{run_at, with_run, with_runs}
 use Rattle.object_modules.proofs.StoredRuns.{content_with, found, found_is, same_over}
 use Rattle.object_merges.proofs.RunsJoined.{runs_append}
@@ -242,22 +243,95 @@ runs_next places i place h is =
     ∙ runs_append 0 (take i places) (place ∷ [])
     ∙ ap (λ n. with_runs (runs_from 0 (take i places)) (runs_from n (place ∷ []))) size
 
--- a byte that is set makes the runs longer
-pub runs_set :
-    (bytes : List ℕ) (flags : List Bool) (i : ℕ) → i < length bytes → slice_index_or flags i false ≡ true
-    → with_run (runs_from 0 (take i (set_bytes bytes flags))) (run_at i (slice_index bytes i ∷ []))
-    ≡ runs_from 0 (take (i + 1) (set_bytes bytes flags))
-runs_set bytes flags i h set =
-    sym (runs_next (set_bytes bytes flags) i (Some (slice_index bytes i)) (omega (arith, h, set_length bytes flags))
-    (set_at bytes flags i h ∙ ap (λ b. Some (if b then Some (slice_index bytes i) else None)) set))
-
--- and one that is not set does not
+-- a byte that is not set makes the runs no longer
 pub runs_unset :
     (bytes : List ℕ) (flags : List Bool) (i : ℕ) → i < length bytes → slice_index_or flags i false ≡ false
     → runs_from 0 (take i (set_bytes bytes flags)) ≡ runs_from 0 (take (i + 1) (set_bytes bytes flags))
 runs_unset bytes flags i h unset =
     sym (runs_next (set_bytes bytes flags) i None (omega (arith, h, set_length bytes flags))
     (set_at bytes flags i h ∙ ap (λ b. Some (if b then Some (slice_index bytes i) else None)) unset))
+
+-- Bytes that are set one after another are one run.
+one_run : (start first : ℕ) (others : List ℕ)
+    → runs_from start (map Some (first ∷ others)) ≡ run_at start (first ∷ others) ∷ []
+one_run start first [] = refl
+one_run start first (next ∷ others) =
+    ap (before_runs start first) (one_run (start + 1) next others)
+    ∙ ap (λ (b : Bool). if b then run_at start (first ∷ next ∷ others) ∷ [] else run_at start (first ∷ []) ∷ run_at (start + 1) (next ∷ others) ∷ [])
+    (eq-eqb (start + 1) (start + 1) refl)
+
+pub some_added : (runs : List (Run ℕ)) (start : ℕ) (items : List ℕ) → 0 < length items
+    → with_run runs (run_at start items) ≡ with_runs runs (runs_from start (map Some items))
+some_added runs start [] h = elim h [ ]
+some_added runs start (first ∷ others) h = sym (ap (with_runs runs) (one_run start first others))
+
+range_none : (bytes : List ℕ) (start : ℕ) → slice_range bytes start start ≡ []
+range_none bytes start =
+    let none : start - start ≡ 0 = omega arith in ap (λ n. take n (drop start bytes)) none
+
+pub none_added : (runs : List (Run ℕ)) (bytes : List ℕ) (start end : ℕ) → start ≡ end
+    → runs ≡ with_runs runs (runs_from start (map Some (slice_range bytes start end)))
+none_added runs bytes start end same =
+    sym (ap (λ n. with_runs runs (runs_from start (map Some (slice_range bytes start n)))) (sym same)
+    ∙ ap (λ items. with_runs runs (runs_from start (map Some items))) (range_none bytes start))
+
+range_more : (bytes : List ℕ) (start i : ℕ) → start ≤ i → i < length bytes
+    → slice_range bytes start (i + 1) ≡ slice_range bytes start i ++ slice_index bytes i ∷ []
+range_more [] start i le lt = elim lt [ ]
+range_more (byte ∷ others) zero zero le lt = refl
+range_more (byte ∷ others) zero (suc i) le lt =
+    let more : (suc i + 1) - 0 ≡ suc ((i + 1) - 0) = omega arith in
+    let same : suc i - 0 ≡ suc (i - 0) = omega arith in
+    ap (λ n. take n (byte ∷ others)) more
+    ∙ ap (λ rest. byte ∷ rest) (range_more others zero i (omega arith) (omega (arith, lt)))
+    ∙ ap (λ n. take n (byte ∷ others) ++ slice_index others i ∷ []) (sym same)
+range_more (byte ∷ others) (suc start) zero le lt = elim le [ ]
+range_more (byte ∷ others) (suc start) (suc i) le lt =
+    let more : (suc i + 1) - suc start ≡ (i + 1) - start = omega arith in
+    let same : suc i - suc start ≡ i - start = omega arith in
+    ap (λ n. take n (drop start others)) more
+    ∙ range_more others start i (omega (arith, le)) (omega (arith, lt))
+    ∙ ap (λ n. take n (drop start others) ++ slice_index others i ∷ []) (sym same)
+
+-- A stretch of bytes from an index to another one that are all set.
+abbrev pub IsStretch : (bytes : List ℕ) → (flags : List Bool) → (start end : ℕ) → Type 0
+IsStretch bytes flags start end =
+    take end (set_bytes bytes flags) ≡ take start (set_bytes bytes flags) ++ map Some (slice_range bytes start end)
+
+pub stretch_begun : (bytes : List ℕ) (flags : List Bool) (start : ℕ) → IsStretch bytes flags start start
+stretch_begun bytes flags start =
+    sym (ap (λ items. take start (set_bytes bytes flags) ++ map Some items) (range_none bytes start)
+    ∙ append-nil (take start (set_bytes bytes flags)))
+
+pub stretch_more :
+    (bytes : List ℕ) (flags : List Bool) (start i : ℕ) → start ≤ i → i < length bytes
+    → slice_index_or flags i false ≡ true → IsStretch bytes flags start i → IsStretch bytes flags start (i + 1)
+stretch_more bytes flags start i le lt set is =
+    let places : List (Option ℕ) = set_bytes bytes flags in
+    let more : i + 1 ≡ suc i = omega arith in
+    let byte : ℕ = slice_index bytes i in
+    let here : slice_get places i ≡ Some (Some byte)
+    = set_at bytes flags i lt ∙ ap (λ b. Some (if b then Some byte else None)) set in
+    ap (λ n. take n places) more
+    ∙ take_more places i (Some byte) here
+    ∙ ap (λ front. front ++ Some byte ∷ []) is
+    ∙ append_assoc (take start places) (map Some (slice_range bytes start i)) (Some byte ∷ [])
+    ∙ ap (λ rest. take start places ++ rest) (sym (map-append Some (slice_range bytes start i) (byte ∷ [])))
+    ∙ ap (λ items. take start places ++ map Some items) (sym (range_more bytes start i le lt))
+
+-- where it ends, the runs have it
+pub stretch_ended :
+    (bytes : List ℕ) (flags : List Bool) (start end : ℕ) → start ≤ end → end ≤ length bytes
+    → IsStretch bytes flags start end
+    → with_runs (runs_from 0 (take start (set_bytes bytes flags))) (runs_from start (map Some (slice_range bytes start end)))
+    ≡ runs_from 0 (take end (set_bytes bytes flags))
+stretch_ended bytes flags start end le few is =
+    let places : List (Option ℕ) = set_bytes bytes flags in
+    let size : 0 + length (take start places) ≡ start
+    = ap (λ n. 0 + n) (take_length places start (omega (arith, le, few, set_length bytes flags))) ∙ omega arith in
+    sym (ap (λ items. runs_from 0 items) is
+    ∙ runs_append 0 (take start places) (map Some (slice_range bytes start end))
+    ∙ ap (λ n. with_runs (runs_from 0 (take start places)) (runs_from n (map Some (slice_range bytes start end)))) size)
 
 take_all : {A : Type 0} (items : List A) (i : ℕ) → length items ≤ i → take i items ≡ items
 take_all [] zero h = refl

@@ -1,9 +1,9 @@
 //! Segments of object modules from assembled code.
 
-ghost use Rattle.std.specs.Prelude.{◌≡◌, ◌∷◌, ◌++◌, ◌≤◌, ◌<◌, [], All, false, length, slice_index_or, IfOk, OnOk};
+ghost use Rattle.std.specs.Prelude.{◌≡◌, ◌∷◌, ◌++◌, ◌≤◌, ◌<◌, [], All, Some, false, length, map, slice_index_or, slice_range, IfOk, OnOk};
 ghost use Rattle.object_modules.specs.declared.segment.TheConstants.{SEGMENT_LIMIT};
 ghost use Rattle.object_modules.specs.Text.{runs_from};
-ghost use Rattle.object_modules.specs.internal.Joining.{run_at, with_run};
+ghost use Rattle.object_modules.specs.internal.Joining.{with_run, with_runs};
 ghost use Rattle.asm8080.specs.Assembled.{segment_of, set_bytes};
 ghost use Rattle.codegen8080.specs.internal.Segments.{IsKept, KeepsFixes, retarget, with_targets};
 
@@ -51,12 +51,25 @@ fn add_run(runs: &mut Vec<Run>, run: Run) -> Result<(), AllocError>
     }
 }
 
-// Adds a byte that is set at an offset after runs.
-fn add_byte(alloc: Global, runs: &mut Vec<Run>, offset: u16, byte: u8) -> Result<(), AllocError>
-    ensures { OnOk result (runs.new.items ≡ with_run runs.old.items (run_at offset (byte ∷ []))) }
+// Adds the bytes from an index to another one after runs, where there are any.
+#[tactic(auto, using(crate::proofs::KeptSegments::none_added, crate::proofs::KeptSegments::some_added))]
+fn add_bytes(
+    alloc: Global,
+    runs: &mut Vec<Run>,
+    bytes: &[u8],
+    start: usize,
+    end: usize,
+) -> Result<(), AllocError>
+    requires order { start ≤ end }
+    requires within { end ≤ length bytes.now }
+    requires few { length bytes.now ≤ SEGMENT_LIMIT }
+    ensures { OnOk result (runs.new.items ≡ with_runs runs.old.items (runs_from start (map Some (slice_range bytes.now start end)))) }
 {
-    let bytes = Vec::from_slice(alloc, &[byte])?;
-    add_run(runs, Run::new(offset, bytes))
+    if start == end {
+        return Ok(());
+    }
+    let bytes = Vec::from_slice(alloc, &bytes[start..end])?;
+    add_run(runs, Run::new(start as u16, bytes))
 }
 
 // How many bytes there are.
@@ -68,17 +81,20 @@ fn count_of(bytes: &[u8]) -> usize
 }
 
 // The longest runs of bytes that are set.
-#[tactic(auto, using(crate::proofs::KeptSegments::runs_set, crate::proofs::KeptSegments::runs_unset, crate::proofs::KeptSegments::runs_ended))]
+#[tactic(auto, using(crate::proofs::KeptSegments::runs_begun, crate::proofs::KeptSegments::stretch_begun, crate::proofs::KeptSegments::stretch_more, crate::proofs::KeptSegments::stretch_ended, crate::proofs::KeptSegments::runs_unset, crate::proofs::KeptSegments::runs_ended))]
 fn runs_of(alloc: Global, bytes: &[u8], is_set: &[bool]) -> Result<Vec<Run>, AllocError>
     requires { length bytes.now ≤ SEGMENT_LIMIT }
     ensures { IfOk result (λ runs. runs.items ≡ runs_from 0 (set_bytes bytes.now is_set.now)) }
 {
     let mut runs = Vec::new(alloc);
-    for (index, byte) in bytes.iter().enumerate() {
-        if is_set_at(is_set, index) {
-            add_byte(alloc, &mut runs, index as u16, *byte)?;
+    let mut start = 0;
+    for index in 0..bytes.len() {
+        if !is_set_at(is_set, index) {
+            add_bytes(alloc, &mut runs, bytes, start, index)?;
+            start = index + 1;
         }
     }
+    add_bytes(alloc, &mut runs, bytes, start, bytes.len())?;
     Ok(runs)
 }
 
