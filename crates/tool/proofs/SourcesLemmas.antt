@@ -25,6 +25,7 @@ use Rattle.frontend.specs.declared.read.ReadFault.{ReadFault}
 use Rattle.frontend.specs.declared.read.ReadFault.TheVariants as read_faults
 use Rattle.frontend.specs.Causes.{HasReadCause}
 use Rattle.locate.specs.Locating.{Absolute}
+use Rattle.module_code.specs.Bounded.{AreWithinBounds}
 use Rattle.module_code.specs.Typed.{AreSoundlyMade}
 use Rattle.module_code.proofs.Programs.{make_the_program}
 use Rattle.module_code.specs.Names.{HaveImage}
