@@ -5,7 +5,6 @@ use Rattle.std.proofs.KnownBytes.{Appends-trans}
 use Rattle.clap.specs.Walk.{texts}
 use Rattle.mem80.specs.Memory.{zeros}
 use Rattle.ports.specs.declared.event.Event.{Event}
-use Rattle.ports.specs.Events.{IsBeginning}
 use Rattle.ports.specs.Session.{Session}
 use Rattle.files.specs.Files.{Directory}
 use Rattle.answers.specs.Endings.{status_of}
@@ -131,8 +130,8 @@ module _ (run source : Run) (same : run ≡ source) where
   pub ends_so : (stop : Stop) (events : List Event) → run ≡ record { end = stop; events = events } → DoesAs source (Some stop) events
   ends_so stop events means = sym same ∙ means
 
-  pub fails_so : (events : List Event) → IsBeginning events run.events → DoesAs source None events
-  fails_so events begins = subst (λ (r : Run). IsBeginning events r.events) same begins
+  pub fails_so : (events : List Event) → DoesAs run None events → DoesAs source None events
+  fails_so events fails = subst (λ (r : Run). DoesAs r None events) same fails
 
 -- what was printed of a program that was built of texts
 module _ (with_map : Bool) (values : Values) (texts : List (List ℕ)) (built : Construction) (status : ℕ) (old new : Option (List ℕ))

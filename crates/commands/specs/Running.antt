@@ -1,5 +1,5 @@
 -- What is printed of a program that is run or interpreted.
-use Rattle.std.specs.Prelude.{◌≡◌, ℕ, ◌==◌, Bool, List, [], ◌++◌, codes, filter, map, Ok, Option, Some, None}
+use Rattle.std.specs.Prelude.{◌≡◌, ℕ, ◌==◌, Bool, List, [], ◌∷◌, ◌++◌, codes, filter, map, Ok, Option, Some, None}
 use Rattle.std.specs.Io.KnownBytes.{Appends}
 use Rattle.mem80.specs.Memory.{zeros}
 use Rattle.ports.specs.declared.event.Event.{Event}
@@ -54,10 +54,10 @@ pub record PrintsMachine (before : List ℕ) (values : Values) (built : Construc
   pub ended : status ≡ end_status end
   pub printed : Appends old new (before ++ report_of machine.state.events (end_word end))
 
--- a run of a source as it ended, with its events, or a port that failed, with a beginning of them
+-- a run of a source as it ended, with its events, or a port that failed, with a beginning of them that lacks one
 abbrev pub DoesAs : Run → (end : Option Stop) → (events : List Event) → Type 0
 DoesAs run (Some stop) events = run ≡ record { end = stop; events = events }
-DoesAs run None events = IsBeginning events run.events
+DoesAs run None events = (event : Event) × IsBeginning (events ++ event ∷ []) run.events
 
 -- the words that such a run ends with
 abbrev pub source_word : Option Stop → List ℕ
