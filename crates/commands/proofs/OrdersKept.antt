@@ -84,6 +84,9 @@ refused_is Limit e = absurd (omega arith)
 refused_is Stopped e = absurd (omega arith)
 refused_is Outside e = absurd (omega arith)
 
+pub refused_below : (ending : Ending) → ending ≡ Refused → status_of ending ≤ 2
+refused_below ending refused = rw refused (omega arith)
+
 pub status_bound : (ending : Ending) → status_of ending ≤ 5
 status_bound Done = omega arith
 status_bound Refused = omega arith

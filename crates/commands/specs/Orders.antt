@@ -141,3 +141,7 @@ RefusesNoText (Some wanted) = (text : List ℕ) → RefusesText wanted text → 
 abbrev pub AsksHelpAtMost : Kinds → Type 0
 AsksHelpAtMost kinds =
     (kind : ErrorKind) → IsAmong kind kinds → (kind ≡ DisplayHelp) ⊎ (kind ≡ DisplayVersion)
+
+-- `clap` does not find that the words ask for help or for the version
+abbrev pub AsksNoHelp : Kinds → Type 0
+AsksNoHelp kinds = (IsAmong DisplayHelp kinds → ⊥) × (IsAmong DisplayVersion kinds → ⊥)

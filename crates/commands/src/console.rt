@@ -1,15 +1,15 @@
 //! Carrying out a command line.
 
-ghost use Rattle.std.specs.Prelude.{◌≡◌, ◌≤◌, []};
+ghost use Rattle.std.specs.Prelude.{◌≡◌, ◌≤◌, ◌⊎◌, []};
 ghost use Rattle.answers.specs.Endings.{status_of};
-ghost use Rattle.answers.specs.Refusals.{TellsOther, TellsRefusal};
+ghost use Rattle.answers.specs.Refusals.{Tells, TellsOther, TellsRefusal, memory_line};
 ghost use Rattle.clap.specs.Walk.{texts};
 ghost use Rattle.clap.specs.Words.{fault_of};
 ghost use Rattle.files.specs.Files.{KeepsFiles};
 ghost use Rattle.command_line.specs.Command.{plm_app, place_in, program_in, wanted_by, wanted_in, wants_place, wants_program};
 ghost use Rattle.command_line.specs.Settings.{values_in};
 ghost use Rattle.program_sources.specs.Programs.{texts_of};
-ghost use Rattle.commands.specs.Orders.{AsksHelpAtMost, ChangesAsWanted, ChangesByWords, PrintsAsWanted, PrintsByWords, PrintsWanted, RefusesNoText, RunsAsWanted, RunsByWords, StopsAsWanted, StopsByWords, TellsText, TellsTextByWords, WritesAsWanted, WritesByWords, names_by_words, names_of};
+ghost use Rattle.commands.specs.Orders.{AsksHelpAtMost, AsksNoHelp, ChangesAsWanted, ChangesByWords, PrintsAsWanted, PrintsByWords, PrintsWanted, RefusesNoText, RunsAsWanted, RunsByWords, StopsAsWanted, StopsByWords, TellsText, TellsTextByWords, WritesAsWanted, WritesByWords, names_by_words, names_of};
 ghost use Rattle.commands.specs.Running.{PrintsFiles, PrintsProgram, PrintsTexts};
 ghost use Rattle.commands.specs.internal.LineFaults.{IsWrong};
 
@@ -36,7 +36,7 @@ use tool::Source;
 /// status is 0, and that of `compile`, which has an object module then; both may have a beginning of it otherwise. None changes
 /// where the words have a fault or ask for help or the version. Sources that are run or interpreted, where the status is
 /// neither 1 nor 2, have had printed what the machine does with their image, or what they mean, and the status tells how
-/// that ended. That a file can't be read or written is told, with status 1, just where a failure of the files was counted,
+/// that ended. Words that have a fault, and ask neither for help nor for the version, have status 2, or 1 where memory ran out. That a file can't be read or written is told, with status 1, just where a failure of the files was counted,
 /// but for a count that is at its greatest value.
 #[tactic(auto, using(crate::proofs::OrdersKept::status_bound, crate::proofs::OrdersKept::done_is, crate::proofs::OrdersKept::not_done, crate::proofs::OrdersKept::not_refused, crate::proofs::OrdersKept::not_wrong, crate::proofs::OrdersKept::refused_is, crate::proofs::TextsTold::wrong_is))]
 pub fn run_command<F: Files, O: Write, E: Write>(
@@ -63,6 +63,9 @@ pub fn run_command<F: Files, O: Write, E: Write>(
         (wanted_by (texts words.now)) (E.contents err.old) (E.contents err.new) }
     ensures not_wrong { AsksHelpAtMost (fault_of plm_app (texts words.now)) →
         RefusesNoText (wanted_by (texts words.now)) → result ≡ 2 → ⊥ }
+    ensures no_order { (fault_of plm_app (texts words.now) ≡ [] → ⊥) → result ≤ 2 }
+    ensures wrong { (fault_of plm_app (texts words.now) ≡ [] → ⊥) → AsksNoHelp (fault_of plm_app (texts words.now)) →
+        (result ≡ 2) ⊎ ((result ≡ 1) × Tells memory_line (E.contents err.old) (E.contents err.new)) }
     ensures told { result ≡ 1 → TellsRefusal (F.files files.old)
         (names_by_words (wanted_by (texts words.now)))
         (F.failures files.old) (F.failures files.new) (E.contents err.old) (E.contents err.new) }
@@ -99,6 +102,10 @@ fn end_words<F: Files, O: Write, E: Write>(
         TellsTextByWords (wanted_by (texts words.now)) (E.contents err.old) (E.contents err.new) }
     ensures not_wrong { AsksHelpAtMost (fault_of plm_app (texts words.now)) →
         RefusesNoText (wanted_by (texts words.now)) → result ≡ Ending.WrongLine → ⊥ }
+    ensures no_order { (fault_of plm_app (texts words.now) ≡ [] → ⊥) → status_of result ≤ 2 }
+    ensures wrong { (fault_of plm_app (texts words.now) ≡ [] → ⊥) → AsksNoHelp (fault_of plm_app (texts words.now)) →
+        (result ≡ Ending.WrongLine)
+        ⊎ ((result ≡ Ending.Refused) × Tells memory_line (E.contents err.old) (E.contents err.new)) }
     ensures told { result ≡ Ending.Refused → TellsRefusal (F.files files.old)
         (names_by_words (wanted_by (texts words.now)))
         (F.failures files.old) (F.failures files.new) (E.contents err.old) (E.contents err.new) }
@@ -114,8 +121,11 @@ fn end_words<F: Files, O: Write, E: Write>(
 }
 
 // Prints why the command line gives no order, or the help or the version that it asks for.
+#[tactic(auto, using(crate::proofs::OrdersKept::refused_below))]
 fn end_line<O: Write, E: Write>(fault: &LineFault, out: &mut O, err: &mut E) -> Ending
     ensures not_wrong { result ≡ Ending.WrongLine → IsWrong fault.now }
+    ensures wrong { IsWrong fault.now → result ≡ Ending.WrongLine }
+    ensures no_order { status_of result ≤ 2 }
     ensures told { result ≡ Ending.Refused → TellsOther (E.contents err.old) (E.contents err.new) }
     ensures quiet { (result ≡ Ending.Refused → ⊥) → (result ≡ Ending.WrongLine → ⊥) →
         E.contents err.new ≡ E.contents err.old }

@@ -1,10 +1,10 @@
-use Rattle.std.proofs.Common.{refl, subst}
+use Rattle.std.proofs.Common.{inl, inr, refl, subst, sym}
 use Rattle.answers.proofs.FilesRead.{stays}
 use Rattle.answers.proofs.LinesPrinted.{tells_no_file}
 use Rattle.commands.specs.internal.LineFaults.{IsWrong}
-use Rattle.commands.proofs.OrdersKept.{kept_by_words, kept_stops}
+use Rattle.commands.proofs.OrdersKept.{kept_by_words, kept_stops, refused_below}
 use Rattle.commands.proofs.Printed.{runs_by_words}
-use Rattle.commands.proofs.TextsTold.{help_at_most, none_told}
+use Rattle.commands.proofs.TextsTold.{asks_none, help_at_most, none_told}
 use Rattle.commands.proofs.console.end_words.Goals as goal
 
 pub returns-in-Ok-clause-not_wrong : goal.returns-in-Ok-clause-not_wrong
@@ -22,6 +22,22 @@ returns-in-Err-Fault-clause-told g c = λ refused. tells_no_file _ _ _ _ _ _ ref
 pub returns-in-Err-Fault-clause-not_wrong : goal.returns-in-Err-Fault-clause-not_wrong
 returns-in-Err-Fault-clause-not_wrong g c = λ help none wrong. help_at_most _ _ help (rw c.in-Err-Fault.field-0-is at c.in-Err-Fault.ensures.fault)
     (subst IsWrong c.in-Err-Fault.fault-is (c.end_line.ensures.not_wrong wrong))
+
+pub returns-in-Ok-clause-no_order : goal.returns-in-Ok-clause-no_order
+returns-in-Ok-clause-no_order g c = λ faulty. absurd (faulty c.in-Ok.ensures.ok)
+
+pub returns-in-Ok-clause-wrong : goal.returns-in-Ok-clause-wrong
+returns-in-Ok-clause-wrong g c = λ faulty. absurd (faulty c.in-Ok.ensures.ok)
+
+pub returns-in-Err-Fault-clause-wrong : goal.returns-in-Err-Fault-clause-wrong
+returns-in-Err-Fault-clause-wrong g c = λ faulty none. inl (c.end_line.ensures.wrong
+    (subst IsWrong (sym c.in-Err-Fault.fault-is) (asks_none _ _ none (rw c.in-Err-Fault.field-0-is at c.in-Err-Fault.ensures.fault))))
+
+pub returns-in-Err-Memory-clause-no_order : goal.returns-in-Err-Memory-clause-no_order
+returns-in-Err-Memory-clause-no_order g c = λ faulty. refused_below _ c.refuse_memory.ensures.ending
+
+pub returns-in-Err-Memory-clause-wrong : goal.returns-in-Err-Memory-clause-wrong
+returns-in-Err-Memory-clause-wrong g c = λ faulty none. inr (c.refuse_memory.ensures.ending, c.refuse_memory.ensures.line)
 
 pub returns-in-Err-Memory-clause-unchanged : goal.returns-in-Err-Memory-clause-unchanged
 returns-in-Err-Memory-clause-unchanged g c = kept_by_words _ _ _ (stays _)
