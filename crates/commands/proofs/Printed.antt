@@ -26,12 +26,13 @@ use Rattle.command_line.specs.Command.{ProgramWanted, Wanted}
 use Rattle.command_line.specs.Settings.{Values, values_read}
 use Rattle.command_line.specs.declared.orders.Action.{Action}
 use Rattle.command_line.specs.declared.orders.Action.TheVariants.{Run as ToRun, Interpret}
-use Rattle.program_sources.specs.Programs.{IsProgramOf, program_modules}
+use Rattle.program_sources.specs.Programs.{AreSourcesOf, program_modules}
 use Rattle.tool.specs.Construction.{Construction, IsConstruction}
 use Rattle.tool.specs.Execution.{source_of, started}
 use Rattle.commands.specs.Map.{map_if, map_of}
 use Rattle.commands.specs.Orders.{RunsAsWanted, RunsByWords}
-use Rattle.commands.specs.Running.{DoesAs, GivesInput, PrintsFiles, PrintsMachine, PrintsMeaning, PrintsProgram, PrintsTexts, end_status, source_status, source_word}
+use Rattle.commands.specs.Running.{DoesAs, GivesInput, PrintsMachine, PrintsMeaning, PrintsTexts, end_status, source_status, source_word}
+use Rattle.commands.specs.Sources.{AreWanted, HaveTexts}
 use Rattle.commands.proofs.OrdersKept.{not_refused, not_wrong}
 
 -- a run of an image that was printed
@@ -135,27 +136,26 @@ module _ (run source : Run) (same : run ≡ source) where
 
 -- what was printed of a program that was built of texts
 module _ (with_map : Bool) (values : Values) (texts : List (List ℕ)) (built : Construction) (status : ℕ) (old new : Option (List ℕ))
-    (program : IsProgramOf texts (program_modules built.program)) (plan : built.plan ≡ values.plan) (construction : IsConstruction built) where
+    (sources : AreSourcesOf texts (program_modules built.program)) (plan : built.plan ≡ values.plan) (construction : IsConstruction built) where
   pub run_of_texts : PrintsMachine (map_if with_map built) values built status old new → PrintsTexts ToRun with_map values texts status old new
-  run_of_texts printed = record { built = built; program = program; plan = plan; construction = construction; printed = printed }
+  run_of_texts printed = record { built = built; sources = sources; plan = plan; construction = construction; holds = printed }
 
   pub meaning_of_texts : PrintsMeaning (map_if with_map built) values built status old new → PrintsTexts Interpret with_map values texts status old new
-  meaning_of_texts printed = record { built = built; program = program; plan = plan; construction = construction; printed = printed }
+  meaning_of_texts printed = record { built = built; sources = sources; plan = plan; construction = construction; holds = printed }
 
 -- the texts are those of files with these names
-pub prints_files : (files : Option Directory) (wanted : ProgramWanted) (values : Values) (names order : List (Bor (List ℕ))) (read used : List (List ℕ)) (status : ℕ) (old new : Option (List ℕ))
-    → names ≡ order → wanted.files ≡ texts order → HasFiles files (map (λ n. n.now) names) read → used ≡ read
-    → PrintsTexts wanted.action wanted.map values used status old new → PrintsFiles wanted values files status old new
-prints_files files wanted values names order read used status old new same wants has are printed = record {
+pub of_files : (files : Option Directory) (Holds : List (List ℕ) → Type 0) (names order : List (Bor (List ℕ))) (read used : List (List ℕ))
+    → names ≡ order → HasFiles files (map (λ n. n.now) names) read → used ≡ read → Holds used → HaveTexts files (texts order) Holds
+of_files files Holds names order read used same has are holds = record {
   texts = read;
-  read = subst (λ (l : List (List ℕ)). HasFiles files l read) (sym wants) (subst (λ (l : List (Bor (List ℕ))). HasFiles files (map (λ n. n.now) l) read) same has);
-  printed = subst (λ (l : List (List ℕ)). PrintsTexts wanted.action wanted.map values l status old new) are printed;
+  read = subst (λ (l : List (Bor (List ℕ))). HasFiles files (map (λ n. n.now) l) read) same has;
+  holds = subst Holds are holds;
 }
 
 -- the values are those that are written
-pub prints_program : (files : Option Directory) (wanted : ProgramWanted) (values : Values) (status : ℕ) (old new : Option (List ℕ)) → values_read wanted ≡ Ok values
-    → PrintsFiles wanted values files status old new → PrintsProgram wanted files status old new
-prints_program files wanted values status old new written printed = record { values = values; written = written; printed = printed }
+pub of_values : (files : Option Directory) (wanted : ProgramWanted) (Holds : Values → List (List ℕ) → Type 0) (values : Values) → values_read wanted ≡ Ok values
+    → HaveTexts files wanted.files (Holds values) → AreWanted wanted files Holds
+of_values files wanted Holds values written holds = record { values = values; written = written; of_files = holds }
 
 -- the words give the order that was carried out
 pub runs_by_words : (found : Option Wanted) (wanted : Wanted) (files : Option Directory) (status : ℕ) (old new : Option (List ℕ)) → found ≡ Some wanted

@@ -14,6 +14,7 @@ use Rattle.object_commands.specs.Linking.{KeepsOthers, LinksFiles, StopsLinking}
 use Rattle.object_commands.specs.Placing.{PrintsHex, PrintsPlaces}
 use Rattle.commands.specs.Compiling.{CompilesFile, StopsCompiling}
 use Rattle.commands.specs.Needing.{PrintsNeedOf}
+use Rattle.commands.specs.Refusing.{TellsOfProgram}
 use Rattle.commands.specs.Running.{PrintsProgram}
 use Rattle.plans.specs.declared.Plan.{Plan}
 
@@ -74,6 +75,15 @@ RunsAsWanted (wants_link link) files status old new = Unit {0}
 RunsAsWanted (wants_place place) files status old new = Unit {0}
 RunsAsWanted (wants_need need) files status old new = Unit {0}
 
+-- what is told of an order that is refused; of other orders than those on sources that are run or interpreted nothing
+-- more is said than of their files
+abbrev pub TellsAsWanted : Wanted → Option Directory → (old new : Option (List ℕ)) → Type 0
+TellsAsWanted (wants_program program) files old new = TellsOfProgram program files old new
+TellsAsWanted (wants_compile compile) files old new = Unit {0}
+TellsAsWanted (wants_link link) files old new = Unit {0}
+TellsAsWanted (wants_place place) files old new = Unit {0}
+TellsAsWanted (wants_need need) files old new = Unit {0}
+
 -- the files that an order reads, in their order, and then the one that it writes
 abbrev pub names_of : Wanted → List (List ℕ)
 names_of (wants_compile compile) = compile.source ∷ compile.object ∷ []
@@ -106,6 +116,10 @@ PrintsByWords (Some wanted) files old new = PrintsAsWanted wanted files old new
 abbrev pub RunsByWords : Option Wanted → Option Directory → (status : ℕ) → (old new : Option (List ℕ)) → Type 0
 RunsByWords None files status old new = Unit {0}
 RunsByWords (Some wanted) files status old new = RunsAsWanted wanted files status old new
+
+abbrev pub TellsByWords : Option Wanted → Option Directory → (old new : Option (List ℕ)) → Type 0
+TellsByWords None files old new = Unit {0}
+TellsByWords (Some wanted) files old new = TellsAsWanted wanted files old new
 
 -- the one file of an order on an object, or the first text that is refused: the texts of the plan come first, then
 -- the name of a second file

@@ -1,12 +1,11 @@
 -- What is printed of a program that is run or interpreted.
-use Rattle.std.specs.Prelude.{◌≡◌, ℕ, ◌==◌, Bool, List, [], ◌∷◌, ◌++◌, codes, filter, map, Ok, Option, Some, None}
+use Rattle.std.specs.Prelude.{◌≡◌, ℕ, ◌==◌, Bool, List, [], ◌∷◌, ◌++◌, codes, filter, map, Option, Some, None}
 use Rattle.std.specs.Io.KnownBytes.{Appends}
 use Rattle.mem80.specs.Memory.{zeros}
 use Rattle.ports.specs.declared.event.Event.{Event}
 use Rattle.ports.specs.Events.{IsBeginning}
 use Rattle.ports.specs.Input.{queue_of}
 use Rattle.files.specs.Files.{Directory}
-use Rattle.answers.specs.Reading.{HasFiles}
 use Rattle.report.specs.Report.{report_of}
 use Rattle.cpu8080.specs.Machine.{Machine}
 use Rattle.cpu8080.specs.Runs.{IsRun}
@@ -17,14 +16,14 @@ use Rattle.meaning.specs.declared.reason.Reason.TheVariants.{Divide, Byte, Const
 use Rattle.meaning.specs.Outcomes.{Stop, Ended, More, Outside}
 use Rattle.meaning.specs.Run.{Run}
 use Rattle.command_line.specs.Command.{ProgramWanted}
-use Rattle.command_line.specs.Settings.{Values, values_read}
+use Rattle.command_line.specs.Settings.{Values}
 use Rattle.command_line.specs.declared.orders.Action.{Action}
 use Rattle.command_line.specs.declared.orders.Action.TheVariants as actions
 use Rattle.command_line.specs.declared.values.InputByte.{InputByte}
-use Rattle.program_sources.specs.Programs.{IsProgramOf, program_modules}
-use Rattle.tool.specs.Construction.{Construction, IsConstruction}
+use Rattle.tool.specs.Construction.{Construction}
 use Rattle.tool.specs.Execution.{source_of, started}
 use Rattle.commands.specs.Map.{map_if}
+use Rattle.commands.specs.Sources.{AreBuilt, AreWanted, HaveTexts}
 
 -- the bytes of an input for a port, in their order
 abbrev pub bytes_to : (port : ℕ) → List InputByte → List ℕ
@@ -96,24 +95,17 @@ PrintsBuilt actions.Interpret before values built status old new =
 
 -- a program was built of these texts, at the plan of these values, and what an action prints of it was
 -- printed, after its map where one is wanted
-pub record PrintsTexts (action : Action) (map : Bool) (values : Values) (texts : List (List ℕ)) (status : ℕ)
-    (old new : Option (List ℕ)) : Type 0 where
-  pub built : Construction
-  pub program : IsProgramOf texts (program_modules built.program)
-  pub plan : built.plan ≡ values.plan
-  pub construction : IsConstruction built
-  pub printed : PrintsBuilt action (map_if map built) values built status old new
+abbrev pub PrintsTexts :
+    Action → (map : Bool) → Values → (texts : List (List ℕ)) → (status : ℕ) → (old new : Option (List ℕ)) → Type 0
+PrintsTexts action map values texts status old new =
+    AreBuilt values texts (λ built. PrintsBuilt action (map_if map built) values built status old new)
 
--- the files that are wanted have texts, of which with these values this was printed
-pub record PrintsFiles (wanted : ProgramWanted) (values : Values) (files : Option Directory) (status : ℕ)
-    (old new : Option (List ℕ)) : Type 0 where
-  pub texts : List (List ℕ)
-  pub read : HasFiles files wanted.files texts
-  pub printed : PrintsTexts wanted.action wanted.map values texts status old new
+-- the same of the texts of the files that are wanted, and then with the values that are written
+abbrev pub PrintsFiles :
+    ProgramWanted → Values → Option Directory → (status : ℕ) → (old new : Option (List ℕ)) → Type 0
+PrintsFiles wanted values files status old new =
+    HaveTexts files wanted.files (λ texts. PrintsTexts wanted.action wanted.map values texts status old new)
 
--- the same with the values that are written
-pub record PrintsProgram (wanted : ProgramWanted) (files : Option Directory) (status : ℕ)
-    (old new : Option (List ℕ)) : Type 0 where
-  pub values : Values
-  pub written : values_read wanted ≡ Ok values
-  pub printed : PrintsFiles wanted values files status old new
+abbrev pub PrintsProgram : ProgramWanted → Option Directory → (status : ℕ) → (old new : Option (List ℕ)) → Type 0
+PrintsProgram wanted files status old new =
+    AreWanted wanted files (λ values texts. PrintsTexts wanted.action wanted.map values texts status old new)

@@ -9,7 +9,8 @@ ghost use Rattle.files.specs.Files.{KeepsFiles};
 ghost use Rattle.command_line.specs.Command.{plm_app, place_in, program_in, wanted_by, wanted_in, wants_place, wants_program};
 ghost use Rattle.command_line.specs.Settings.{values_in};
 ghost use Rattle.program_sources.specs.Programs.{texts_of};
-ghost use Rattle.commands.specs.Orders.{AsksHelpAtMost, AsksNoHelp, ChangesAsWanted, ChangesByWords, PrintsAsWanted, PrintsByWords, PrintsWanted, RefusesNoText, RunsAsWanted, RunsByWords, StopsAsWanted, StopsByWords, TellsText, TellsTextByWords, WritesAsWanted, WritesByWords, names_by_words, names_of};
+ghost use Rattle.commands.specs.Orders.{AsksHelpAtMost, AsksNoHelp, ChangesAsWanted, ChangesByWords, PrintsAsWanted, PrintsByWords, PrintsWanted, RefusesNoText, RunsAsWanted, RunsByWords, StopsAsWanted, StopsByWords, TellsAsWanted, TellsByWords, TellsText, TellsTextByWords, WritesAsWanted, WritesByWords, names_by_words, names_of};
+ghost use Rattle.commands.specs.Refusing.{TellsOfFiles, TellsOfProgram, TellsOfTexts};
 ghost use Rattle.commands.specs.Running.{PrintsFiles, PrintsProgram, PrintsTexts};
 ghost use Rattle.commands.specs.internal.LineFaults.{IsWrong};
 
@@ -69,6 +70,8 @@ pub fn run_command<F: Files, O: Write, E: Write>(
     ensures told { result ≡ 1 → TellsRefusal (F.files files.old)
         (names_by_words (wanted_by (texts words.now)))
         (F.failures files.old) (F.failures files.new) (E.contents err.old) (E.contents err.new) }
+    ensures why { fault_of plm_app (texts words.now) ≡ [] → result ≡ 1 → TellsByWords
+        (wanted_by (texts words.now)) (F.files files.old) (E.contents err.old) (E.contents err.new) }
     ensures count { (result ≡ 1 → ⊥) → F.failures files.new ≡ F.failures files.old }
     ensures quiet { (result ≡ 1 → ⊥) → (result ≡ 2 → ⊥) →
         E.contents err.new ≡ E.contents err.old }
@@ -109,6 +112,8 @@ fn end_words<F: Files, O: Write, E: Write>(
     ensures told { result ≡ Ending.Refused → TellsRefusal (F.files files.old)
         (names_by_words (wanted_by (texts words.now)))
         (F.failures files.old) (F.failures files.new) (E.contents err.old) (E.contents err.new) }
+    ensures why { fault_of plm_app (texts words.now) ≡ [] → result ≡ Ending.Refused → TellsByWords
+        (wanted_by (texts words.now)) (F.files files.old) (E.contents err.old) (E.contents err.new) }
     ensures count { (result ≡ Ending.Refused → ⊥) → F.failures files.new ≡ F.failures files.old }
     ensures quiet { (result ≡ Ending.Refused → ⊥) → (result ≡ Ending.WrongLine → ⊥) →
         E.contents err.new ≡ E.contents err.old }
@@ -166,6 +171,8 @@ fn carry_out<F: Files, O: Write, E: Write>(
     ensures told { result ≡ Ending.Refused → TellsRefusal (F.files files.old)
         (names_of (wanted_in order.now))
         (F.failures files.old) (F.failures files.new) (E.contents err.old) (E.contents err.new) }
+    ensures why { result ≡ Ending.Refused → TellsAsWanted (wanted_in order.now) (F.files files.old)
+        (E.contents err.old) (E.contents err.new) }
     ensures count { (result ≡ Ending.Refused → ⊥) → F.failures files.new ≡ F.failures files.old }
     ensures quiet { (result ≡ Ending.Refused → ⊥) → (result ≡ Ending.WrongLine → ⊥) →
         E.contents err.new ≡ E.contents err.old }
@@ -232,6 +239,8 @@ fn carry_out_program<F: Files, O: Write, E: Write>(
     ensures count { (result ≡ Ending.Refused → ⊥) → F.failures files.new ≡ F.failures files.old }
     ensures quiet { (result ≡ Ending.Refused → ⊥) → (result ≡ Ending.WrongLine → ⊥) →
         E.contents err.new ≡ E.contents err.old }
+    ensures why { result ≡ Ending.Refused → TellsOfProgram (program_in order.now) (F.files files.old)
+        (E.contents err.old) (E.contents err.new) }
     ensures ran { (result ≡ Ending.Refused → ⊥) → (result ≡ Ending.WrongLine → ⊥) →
         PrintsProgram (program_in order.now) (F.files files.old) (status_of result)
         (O.contents out.old) (O.contents out.new) }
@@ -259,6 +268,8 @@ fn load<F: Files, O: Write, E: Write>(
         (F.failures files.old) (F.failures files.new) (E.contents err.old) (E.contents err.new) }
     ensures count { (result ≡ Ending.Refused → ⊥) → F.failures files.new ≡ F.failures files.old }
     ensures quiet { (result ≡ Ending.Refused → ⊥) → E.contents err.new ≡ E.contents err.old }
+    ensures why { result ≡ Ending.Refused → TellsOfFiles (program_in order.now).files (values_in values.now)
+        (F.files files.old) (E.contents err.old) (E.contents err.new) }
     ensures ran { (result ≡ Ending.Refused → ⊥) →
         PrintsFiles (program_in order.now) (values_in values.now) (F.files files.old) (status_of result)
         (O.contents out.old) (O.contents out.new) }
@@ -286,6 +297,9 @@ fn act<O: Write, E: Write>(
 ) -> Ending
     ensures not_wrong { result ≡ Ending.WrongLine → ⊥ }
     ensures told { result ≡ Ending.Refused → TellsOther (E.contents err.old) (E.contents err.new) }
+    ensures why { result ≡ Ending.Refused → (Tells memory_line (E.contents err.old) (E.contents err.new))
+        ⊎ TellsOfTexts (program_in order.now).files (values_in values.now) (texts_of sources.now)
+        (E.contents err.old) (E.contents err.new) }
     ensures quiet { (result ≡ Ending.Refused → ⊥) → E.contents err.new ≡ E.contents err.old }
     ensures ran { (result ≡ Ending.Refused → ⊥) → PrintsTexts order.now.action order.now.map
         (values_in values.now) (texts_of sources.now) (status_of result)

@@ -1,14 +1,16 @@
 //! Programs that are interpreted.
 
-ghost use Rattle.std.specs.Prelude.{◌≡◌, [], IfOk, option_map};
+ghost use Rattle.std.specs.Prelude.{◌≡◌, ◌⊎◌, [], IfOk, option_map};
 ghost use Rattle.answers.specs.Endings.{status_of};
-ghost use Rattle.answers.specs.Refusals.{TellsOther};
+ghost use Rattle.answers.specs.Refusals.{Tells, TellsOther, memory_line, output_line};
+ghost use Rattle.clap.specs.Walk.{texts};
 ghost use Rattle.command_line.specs.Settings.{values_in};
 ghost use Rattle.command_line.specs.declared.orders.Action.TheVariants.{Interpret};
 ghost use Rattle.program_sources.specs.Programs.{texts_of};
 ghost use Rattle.stack_machine.specs.Runs.{stop_of};
 ghost use Rattle.tool.specs.Execution.{source_of};
 ghost use Rattle.commands.specs.Map.{map_if};
+ghost use Rattle.commands.specs.Refusing.{TellsOfTexts};
 ghost use Rattle.commands.specs.Running.{DoesAs, PrintsMeaning, PrintsTexts, source_status, source_word};
 
 use crate::loading::script_of;
@@ -38,6 +40,9 @@ pub(crate) fn interpret_sources<O: Write, E: Write>(
 ) -> Ending
     ensures not_wrong { result ≡ Ending.WrongLine → ⊥ }
     ensures told { result ≡ Ending.Refused → TellsOther (E.contents err.old) (E.contents err.new) }
+    ensures why { result ≡ Ending.Refused → (Tells memory_line (E.contents err.old) (E.contents err.new))
+        ⊎ TellsOfTexts (texts order.now.files.items) (values_in settings.now) (texts_of sources.now)
+        (E.contents err.old) (E.contents err.new) }
     ensures quiet { (result ≡ Ending.Refused → ⊥) → E.contents err.new ≡ E.contents err.old }
     ensures ran { (result ≡ Ending.Refused → ⊥) → PrintsTexts Interpret order.now.map
         (values_in settings.now) (texts_of sources.now) (status_of result)
@@ -62,6 +67,8 @@ fn interpret_program<O: Write, E: Write>(
 ) -> Ending
     ensures not_wrong { result ≡ Ending.WrongLine → ⊥ }
     ensures told { result ≡ Ending.Refused → TellsOther (E.contents err.old) (E.contents err.new) }
+    ensures why { result ≡ Ending.Refused → (Tells memory_line (E.contents err.old) (E.contents err.new))
+        ⊎ (Tells output_line (E.contents err.old) (E.contents err.new)) }
     ensures quiet { (result ≡ Ending.Refused → ⊥) → E.contents err.new ≡ E.contents err.old }
     ensures ran { (result ≡ Ending.Refused → ⊥) → PrintsMeaning (map_if order.now.map built.now)
         (values_in settings.now) built.now (status_of result) (O.contents out.old) (O.contents out.new) }

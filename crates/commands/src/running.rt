@@ -1,12 +1,14 @@
 //! Runs of programs on the 8080.
 
-ghost use Rattle.std.specs.Prelude.{◌≡◌, [], IfOk};
+ghost use Rattle.std.specs.Prelude.{◌≡◌, ◌⊎◌, [], IfOk};
 ghost use Rattle.answers.specs.Endings.{status_of};
-ghost use Rattle.answers.specs.Refusals.{TellsOther};
+ghost use Rattle.answers.specs.Refusals.{Tells, TellsOther, memory_line, output_line};
+ghost use Rattle.clap.specs.Walk.{texts};
 ghost use Rattle.command_line.specs.Settings.{values_in};
 ghost use Rattle.command_line.specs.declared.orders.Action.TheVariants.{Run};
 ghost use Rattle.program_sources.specs.Programs.{texts_of};
 ghost use Rattle.commands.specs.Map.{map_if};
+ghost use Rattle.commands.specs.Refusing.{TellsOfTexts};
 ghost use Rattle.commands.specs.Running.{PrintsMachine, PrintsTexts, end_status};
 
 use crate::loading::script_of;
@@ -33,6 +35,9 @@ pub(crate) fn run_sources<O: Write, E: Write>(
 ) -> Ending
     ensures not_wrong { result ≡ Ending.WrongLine → ⊥ }
     ensures told { result ≡ Ending.Refused → TellsOther (E.contents err.old) (E.contents err.new) }
+    ensures why { result ≡ Ending.Refused → (Tells memory_line (E.contents err.old) (E.contents err.new))
+        ⊎ TellsOfTexts (texts order.now.files.items) (values_in settings.now) (texts_of sources.now)
+        (E.contents err.old) (E.contents err.new) }
     ensures quiet { (result ≡ Ending.Refused → ⊥) → E.contents err.new ≡ E.contents err.old }
     ensures ran { (result ≡ Ending.Refused → ⊥) → PrintsTexts Run order.now.map
         (values_in settings.now) (texts_of sources.now) (status_of result)
@@ -57,6 +62,8 @@ fn run_built<O: Write, E: Write>(
 ) -> Ending
     ensures not_wrong { result ≡ Ending.WrongLine → ⊥ }
     ensures told { result ≡ Ending.Refused → TellsOther (E.contents err.old) (E.contents err.new) }
+    ensures why { result ≡ Ending.Refused → (Tells memory_line (E.contents err.old) (E.contents err.new))
+        ⊎ (Tells output_line (E.contents err.old) (E.contents err.new)) }
     ensures quiet { (result ≡ Ending.Refused → ⊥) → E.contents err.new ≡ E.contents err.old }
     ensures ran { (result ≡ Ending.Refused → ⊥) → PrintsMachine (map_if order.now.map built.now)
         (values_in settings.now) built.now (status_of result) (O.contents out.old) (O.contents out.new) }

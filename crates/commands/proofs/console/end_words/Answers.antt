@@ -4,6 +4,7 @@ use Rattle.answers.proofs.LinesPrinted.{tells_no_file}
 use Rattle.commands.specs.internal.LineFaults.{IsWrong}
 use Rattle.commands.proofs.OrdersKept.{kept_by_words, kept_stops, refused_below}
 use Rattle.commands.proofs.Printed.{runs_by_words}
+use Rattle.commands.proofs.SourcesTold.{tells_by_words}
 use Rattle.commands.proofs.TextsTold.{asks_none, help_at_most, none_told}
 use Rattle.commands.proofs.console.end_words.Goals as goal
 
@@ -47,6 +48,9 @@ returns-in-Err-Memory-clause-stopped g c = λ other. kept_stops _ _ _ (stays _)
 
 pub returns-in-Err-Memory-clause-told : goal.returns-in-Err-Memory-clause-told
 returns-in-Err-Memory-clause-told g c = λ refused. tells_no_file _ _ _ _ _ _ refl c.refuse_memory.ensures.told
+
+pub returns-in-Ok-clause-why : goal.returns-in-Ok-clause-why
+returns-in-Ok-clause-why g c = λ clean refused. tells_by_words _ _ _ _ _ c.in-Ok.ensures.order (c.carry_out.ensures.why refused)
 
 pub returns-in-Ok-clause-ran : goal.returns-in-Ok-clause-ran
 returns-in-Ok-clause-ran g c = λ clean refused wrong. runs_by_words _ _ _ _ _ _ c.in-Ok.ensures.order (c.carry_out.ensures.ran refused wrong)

@@ -1,4 +1,5 @@
 use Rattle.std.proofs.Common.{sym, ◌∙◌}
+use Rattle.commands.proofs.OrdersKept.{refused_is}
 use Rattle.commands.proofs.Printed.{runs_by_status}
 use Rattle.commands.proofs.TextsTold.{wrong_is, wrong_status}
 use Rattle.commands.proofs.console.run_command.Goals as goal
@@ -11,6 +12,9 @@ returns-clause-no_order g c = λ faulty. rw c.status.ensures (c.end_words-ending
 
 pub returns-clause-wrong : goal.returns-clause-wrong
 returns-clause-wrong g c = λ faulty none. wrong_status _ _ _ c.status.ensures (c.end_words-ending.ensures.wrong faulty none)
+
+pub returns-clause-why : goal.returns-clause-why
+returns-clause-why g c = λ clean one. c.end_words-ending.ensures.why clean (refused_is _ (sym c.status.ensures ∙ one))
 
 pub returns-clause-ran : goal.returns-clause-ran
 returns-clause-ran g c = λ clean not_one not_two. runs_by_status _ _ _ _ _ _ c.status.ensures not_one not_two (c.end_words-ending.ensures.ran clean)
