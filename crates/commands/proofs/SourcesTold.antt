@@ -7,7 +7,7 @@ use Rattle.files.specs.Files.{Directory}
 use Rattle.answers.specs.Reading.{HasFiles, StopsAt}
 use Rattle.answers.specs.Refusals.{Tells, file_line, memory_line, output_line, refusal_line}
 use Rattle.need_command.specs.Faults.{name_at}
-use Rattle.command_line.specs.Command.{ProgramWanted, Wanted}
+use Rattle.command_line.specs.Command.{ProgramWanted, Wanted, wants_compile, wants_link, wants_need, wants_place, wants_program}
 use Rattle.command_line.specs.Settings.{Values, values_read}
 use Rattle.program_sources.specs.Programs.{AreSourcesOf, program_modules}
 use Rattle.tool.specs.Construction.{Construction, IsConstruction}
@@ -73,6 +73,15 @@ program_refused wanted values files old new written (inl told) = inl told
 program_refused wanted values files old new written (inr (inl told)) = inr (inl told)
 program_refused wanted values files old new written (inr (inr told)) =
     inr (inr (of_values files wanted (λ read l. TellsOfTexts wanted.files read l old new) values written told))
+
+-- memory ran out
+pub memory_by_words : (found : Option Wanted) (files : Option Directory) (old new : Option (List ℕ)) → Tells memory_line old new → TellsByWords found files old new
+memory_by_words None files old new told = tt
+memory_by_words (Some (wants_program program)) files old new told = inr (inl told)
+memory_by_words (Some (wants_place place)) files old new told = tt
+memory_by_words (Some (wants_need need)) files old new told = tt
+memory_by_words (Some (wants_compile compile)) files old new told = tt
+memory_by_words (Some (wants_link link)) files old new told = tt
 
 -- the words give the order that was refused
 pub tells_by_words : (found : Option Wanted) (wanted : Wanted) (files : Option Directory) (old new : Option (List ℕ)) → found ≡ Some wanted → TellsAsWanted wanted files old new → TellsByWords found files old new

@@ -3,7 +3,7 @@ use Rattle.answers.proofs.FilesRead.{stops_as}
 use Rattle.answers.proofs.LinesPrinted.{tells_file, tells_no_file}
 use Rattle.program_sources.specs.Programs.{texts_of}
 use Rattle.commands.proofs.OrdersKept.{stops_in_files}
-use Rattle.commands.proofs.Printed.{of_files}
+use Rattle.commands.proofs.Printed.{files_begun, keeps_itself, of_files}
 use Rattle.commands.proofs.SourcesTold.{file_refused, texts_refused}
 use Rattle.commands.proofs.console.load.Goals as goal
 
@@ -38,3 +38,16 @@ returns-clause-why g c = λ refused. inr (inl c.refuse_memory-in-Err.ensures.lin
 pub returns-in-Ok-sources_of-clause-ran : goal.returns-in-Ok-sources_of-clause-ran
 returns-in-Ok-sources_of-clause-ran g c = λ other. of_files _ _ _ _ _ _ c.as_slice-names.ensures.value c.in-Ok.ensures.texts
     (ap texts_of c.as_slice-in-Ok-sources_of.ensures.value ∙ (rw c.as_slice.ensures.value at c.in-Ok-sources_of.ensures)) (c.act.ensures.ran other)
+
+pub returns-in-Err-Fault-clause-begun : goal.returns-in-Err-Fault-clause-begun
+returns-in-Err-Fault-clause-begun g c = λ refused. inl (keeps_itself _)
+
+pub returns-in-Err-Memory-clause-begun : goal.returns-in-Err-Memory-clause-begun
+returns-in-Err-Memory-clause-begun g c = λ refused. inl (keeps_itself _)
+
+pub returns-in-Ok-sources_of-clause-begun : goal.returns-in-Ok-sources_of-clause-begun
+returns-in-Ok-sources_of-clause-begun g c = λ refused. files_begun _ _ _ _ _ _ _ _ c.as_slice-names.ensures.value c.in-Ok.ensures.texts
+    (ap texts_of c.as_slice-in-Ok-sources_of.ensures.value ∙ (rw c.as_slice.ensures.value at c.in-Ok-sources_of.ensures)) (c.act.ensures.begun refused)
+
+pub returns-clause-begun : goal.returns-clause-begun
+returns-clause-begun g c = λ refused. inl (keeps_itself _)

@@ -1,5 +1,6 @@
 use Rattle.std.proofs.Common.{inl}
-use Rattle.commands.proofs.Printed.{meaning_of_texts}
+use Rattle.command_line.specs.declared.orders.Action.TheVariants.{Interpret}
+use Rattle.commands.proofs.Printed.{keeps_itself, meaning_of_texts, texts_begun}
 use Rattle.commands.proofs.SourcesTold.{output_refused, sources_refused}
 use Rattle.commands.proofs.interpreting.interpret_sources.Goals as goal
 
@@ -16,3 +17,12 @@ returns-in-Err-Fault-clause-why g c = λ refused. sources_refused _ _ c.as_slice
 
 pub returns-in-Err-Memory-clause-why : goal.returns-in-Err-Memory-clause-why
 returns-in-Err-Memory-clause-why g c = λ refused. inl c.refuse_memory.ensures.line
+
+pub returns-in-Ok-clause-begun : goal.returns-in-Ok-clause-begun
+returns-in-Ok-clause-begun g c = λ refused. texts_begun Interpret _ _ _ _ _ _ c.in-Ok.ensures.program.sources c.in-Ok.ensures.plan c.in-Ok.ensures.construction (c.interpret_program.ensures.begun refused)
+
+pub returns-in-Err-Fault-clause-begun : goal.returns-in-Err-Fault-clause-begun
+returns-in-Err-Fault-clause-begun g c = λ refused. inl (keeps_itself _)
+
+pub returns-in-Err-Memory-clause-begun : goal.returns-in-Err-Memory-clause-begun
+returns-in-Err-Memory-clause-begun g c = λ refused. inl (keeps_itself _)
