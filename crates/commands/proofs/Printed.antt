@@ -190,13 +190,14 @@ module _ (action : Action) (wanted : Bool) (values : Values) (built : Constructi
   Begins before old new = BeginsBuilt action before values built old new
 
   begun_map : wanted ≡ true → AppendsBeginning a b (map_of built) → Begins (map_if wanted built) a b
-  begun_map is_on begun = rw is_on (inl begun)
+  begun_map is_on begun = subst (λ (w : Bool). Begins (map_if w built) a b) (sym is_on) (inl begun)
 
   begun_with_map : wanted ≡ true → Appends a b (map_of built) → Begins [] b c → Begins (map_if wanted built) a c
-  begun_with_map is_on first begun = rw is_on (begun_after (map_of built) values built a b c action first begun)
+  begun_with_map is_on first begun =
+      subst (λ (w : Bool). Begins (map_if w built) a c) (sym is_on) (begun_after (map_of built) values built a b c action first begun)
 
   begun_alone : wanted ≡ false → Begins [] a c → Begins (map_if wanted built) a c
-  begun_alone is_off begun = rw is_off begun
+  begun_alone is_off begun = subst (λ (w : Bool). Begins (map_if w built) a c) (sym is_off) begun
 
 module _ (wanted : Bool) (values : Values) (built : Construction) (a b c : Option (List ℕ)) where
   pub machine_begins_map : wanted ≡ true → AppendsBeginning a b (map_of built) → BeginsBuilt ToRun (map_if wanted built) values built a b

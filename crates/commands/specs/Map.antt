@@ -1,5 +1,5 @@
 -- The lines of where the objects of a program lie.
-use Rattle.std.specs.Prelude.{ℕ, Bool, min, List, [], ◌∷◌, ◌++◌, codes, flat_map, zip, if◌then◌else◌}
+use Rattle.std.specs.Prelude.{ℕ, Bool, true, false, min, List, [], ◌∷◌, ◌++◌, codes, flat_map, zip}
 use Rattle.std.specs.Option.{option_map_or}
 use Rattle.typed_trees.specs.Sizes.{size_of_object}
 use Rattle.typed_trees.specs.TypedTrees.{TypedModule, TypedObject}
@@ -35,4 +35,5 @@ map_of built = map_text (program_modules built.program) built.placement.modules
 
 -- the same, where it is wanted
 abbrev pub map_if : Bool → Construction → List ℕ
-map_if wanted built = if wanted then map_of built else []
+map_if false built = []
+map_if true built = map_of built
