@@ -7,3 +7,4 @@ pub mod Inputs
 pub mod Interpreted
 pub mod MapLines
 pub mod Printed
+pub mod SourcesTold

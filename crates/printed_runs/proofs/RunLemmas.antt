@@ -61,6 +61,7 @@ module _ (start here : Machine) (j : ℕ) (made : Made start j here) where
     record {
       state = run.2.state ∙ more_made run.0;
       status_is = run.2.status_is;
+      next = rw (sym made.script) run.2.next;
       failures = rw (sym made.failures) run.2.failures;
     },
   )
