@@ -20,7 +20,7 @@ use Rattle.meant_programs.specs.Named.{NamesAreMeant}
 -- statements of which a label is the first
 abbrev pub BeginsWith : (label : ℕ) → TypedStatements → Type 0
 BeginsWith label (MoreStatements (LabelStatement other) others) = other ≡ label
-BeginsWith label statements = ⊥
+BeginsWith label _ = ⊥
 
 -- What goes on in a body leaves all bytes of memory and of its frame.
 pub record KeepsBytes (around : Surroundings) (typed : TypedModule) (within : Within) (number : ℕ) (s : State)
