@@ -1,3 +1,4 @@
 -- What only private functions and proofs cite.
 pub mod Finish
+pub mod PairBytes
 pub mod Parts

@@ -6,9 +6,11 @@ ghost use Rattle.isa8080.specs.declared.instr.Operation.TheVariants.{Add, AddWit
 ghost use Rattle.isa8080.specs.State.{high_byte, low_byte, wrap};
 ghost use Rattle.isa8080.specs.Arithmetic.{increment_of, decrement_of};
 ghost use Rattle.cpu8080.specs.internal.Finish.{accumulated, double_added, pair_in};
+ghost use Rattle.cpu8080.specs.internal.PairBytes.{bytes_of};
 
 use crate::flags::{LazyFlags, MachineRegisters};
-use crate::pairs::{bc, de, hl, set_bc, set_de, set_hl};
+use crate::pairs::{bc, byte_at_hl, de, h, hl, l, put_at_hl, set_bc, set_de, set_hl};
+use crate::register_pair::RegisterPair;
 use alu8080::ConditionBits;
 use mem80::Memory;
 
@@ -109,9 +111,8 @@ pub fn increment_memory(registers: &mut MachineRegisters, memory: &mut Memory)
         ≡ (let byte = slice_index memory.old (pair_in Hl registers.old) in
         slice_set memory.old (pair_in Hl registers.old) (increment_of byte registers.old.flags).value) }
 {
-    let address = hl(registers);
-    let value = alu8080::increment(memory.get(address), &mut registers.flags);
-    memory.set(address, value);
+    let value = alu8080::increment(byte_at_hl(registers, memory), &mut registers.flags);
+    put_at_hl(value, registers, memory);
 }
 
 /// DCR M: counts the byte at the address in H and L down.
@@ -124,9 +125,8 @@ pub fn decrement_memory(registers: &mut MachineRegisters, memory: &mut Memory)
         ≡ (let byte = slice_index memory.old (pair_in Hl registers.old) in
         slice_set memory.old (pair_in Hl registers.old) (decrement_of byte registers.old.flags).value) }
 {
-    let address = hl(registers);
-    let value = alu8080::decrement(memory.get(address), &mut registers.flags);
-    memory.set(address, value);
+    let value = alu8080::decrement(byte_at_hl(registers, memory), &mut registers.flags);
+    put_at_hl(value, registers, memory);
 }
 
 /// INX B and DCX B: adds a 16-bit value to the one in B and C, and sets no flag.
@@ -156,7 +156,7 @@ pub fn add_to_de(word: u16, registers: &mut MachineRegisters)
 pub fn add_to_hl(word: u16, registers: &mut MachineRegisters)
     ensures { registers.new
         ≡ (let sum = wrap (pair_in Hl registers.old + word) in
-        record registers.old { h = high_byte sum; l = low_byte sum }) }
+        record registers.old { hl = bytes_of sum }) }
 {
     let sum = hl(registers).wrapping_add(word);
     set_hl(sum, registers);
@@ -177,16 +177,14 @@ pub fn double_add(word: u16, registers: &mut MachineRegisters)
 pub fn exchange(registers: &mut MachineRegisters)
     ensures { registers.new
         ≡ record registers.old {
-          h = registers.old.d;
-          l = registers.old.e;
-          d = registers.old.h;
-          e = registers.old.l;
+          hl = record { high = registers.old.d; low = registers.old.e };
+          d = registers.old.hl.high;
+          e = registers.old.hl.low;
         } }
 {
-    let high = registers.h;
-    let low = registers.l;
-    registers.h = registers.d;
-    registers.l = registers.e;
+    let high = h(registers);
+    let low = l(registers);
+    registers.hl = RegisterPair::from_bytes(registers.d, registers.e);
     registers.d = high;
     registers.e = low;
 }

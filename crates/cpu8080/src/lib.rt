@@ -8,6 +8,7 @@ mod flags;
 mod machine;
 mod pairs;
 mod port;
+mod register_pair;
 mod remaining;
 mod stack;
 

@@ -6,25 +6,19 @@ ghost use Rattle.isa8080.specs.declared.instr.Pair.TheVariants.{Bc, De, Hl};
 ghost use Rattle.isa8080.specs.Flags.{flag_byte, flags_in};
 ghost use Rattle.isa8080.specs.State.{word as word_of, high_byte, low_byte, wrap};
 ghost use Rattle.cpu8080.specs.internal.Finish.{pair_in};
+ghost use Rattle.cpu8080.specs.internal.PairBytes.{bytes_of};
 
 use crate::flags::{LazyFlags, MachineRegisters};
+use crate::register_pair::{RegisterPair, word_with};
 use isa8080::Flags;
 use mem80::Memory;
-
-// The 16-bit value of a high and a low byte.
-#[inline(always)]
-fn word(high: u8, low: u8) -> u16
-    ensures { result ≡ word_of high low }
-{
-    high as u16 * 256 + low as u16
-}
 
 /// The 16-bit value in B and C.
 #[inline(always)]
 pub fn bc(registers: &MachineRegisters) -> u16
     ensures { result ≡ pair_in Bc registers.now }
 {
-    word(registers.b, registers.c)
+    word_with(registers.b, registers.c)
 }
 
 /// The 16-bit value in D and E.
@@ -32,7 +26,7 @@ pub fn bc(registers: &MachineRegisters) -> u16
 pub fn de(registers: &MachineRegisters) -> u16
     ensures { result ≡ pair_in De registers.now }
 {
-    word(registers.d, registers.e)
+    word_with(registers.d, registers.e)
 }
 
 /// The 16-bit value in H and L.
@@ -40,7 +34,7 @@ pub fn de(registers: &MachineRegisters) -> u16
 pub fn hl(registers: &MachineRegisters) -> u16
     ensures { result ≡ pair_in Hl registers.now }
 {
-    word(registers.h, registers.l)
+    registers.hl.word()
 }
 
 /// The 16-bit value of the accumulator and the flag byte.
@@ -48,7 +42,7 @@ pub fn hl(registers: &MachineRegisters) -> u16
 pub fn psw(registers: &MachineRegisters) -> u16
     ensures { result ≡ word_of registers.now.a (flag_byte registers.now.flags) }
 {
-    word(registers.a, registers.flags.flags().byte())
+    word_with(registers.a, registers.flags.flags().byte())
 }
 
 /// Puts a 16-bit value in B and C.
@@ -72,10 +66,41 @@ pub fn set_de(word: u16, registers: &mut MachineRegisters)
 /// Puts a 16-bit value in H and L.
 #[inline(always)]
 pub fn set_hl(word: u16, registers: &mut MachineRegisters)
-    ensures { registers.new ≡ record registers.old { h = high_byte word; l = low_byte word } }
+    ensures { registers.new ≡ record registers.old { hl = bytes_of word } }
 {
-    registers.h = (word / 256) as u8;
-    registers.l = (word % 256) as u8;
+    registers.hl = RegisterPair::from_word(word);
+}
+
+/// The byte in H.
+#[inline(always)]
+pub fn h(registers: &MachineRegisters) -> u8
+    ensures { result ≡ registers.now.hl.high }
+{
+    registers.hl.high()
+}
+
+/// The byte in L.
+#[inline(always)]
+pub fn l(registers: &MachineRegisters) -> u8
+    ensures { result ≡ registers.now.hl.low }
+{
+    registers.hl.low()
+}
+
+/// Puts a byte in H.
+#[inline(always)]
+pub fn set_h(byte: u8, registers: &mut MachineRegisters)
+    ensures { registers.new ≡ record registers.old { hl = record registers.old.hl { high = byte } } }
+{
+    registers.hl = RegisterPair::from_bytes(byte, registers.hl.low());
+}
+
+/// Puts a byte in L.
+#[inline(always)]
+pub fn set_l(byte: u8, registers: &mut MachineRegisters)
+    ensures { registers.new ≡ record registers.old { hl = record registers.old.hl { low = byte } } }
+{
+    registers.hl = RegisterPair::from_bytes(registers.hl.high(), byte);
 }
 
 /// Puts a 16-bit value in the accumulator and the flags.
@@ -87,12 +112,28 @@ pub fn set_psw(word: u16, registers: &mut MachineRegisters)
     registers.flags = LazyFlags::from_flags(Flags::from_byte((word % 256) as u8));
 }
 
+/// The byte at the address in H and L.
+#[inline(always)]
+pub fn byte_at_hl(registers: &MachineRegisters, memory: &Memory) -> u8
+    ensures { result ≡ byte_at memory.now (pair_in Hl registers.now) }
+{
+    memory.get(hl(registers))
+}
+
+/// Puts a byte at the address in H and L.
+#[inline(always)]
+pub fn put_at_hl(byte: u8, registers: &MachineRegisters, memory: &mut Memory)
+    ensures { memory.new ≡ slice_set memory.old (pair_in Hl registers.now) byte }
+{
+    memory.set(hl(registers), byte);
+}
+
 /// The 16-bit value at an address, its low byte first.
 #[inline(always)]
 pub fn word_in(address: u16, memory: &Memory) -> u16
     ensures { result ≡ word_at memory.now address }
 {
-    word(memory.get(address.wrapping_add(1)), memory.get(address))
+    word_with(memory.get(address.wrapping_add(1)), memory.get(address))
 }
 
 /// Puts a 16-bit value at an address, its low byte first.

@@ -5,6 +5,7 @@ ghost use Rattle.mem80.specs.Memory.{word_at};
 ghost use Rattle.isa8080.specs.declared.instr.Pair.TheVariants.{Hl};
 ghost use Rattle.isa8080.specs.State.{high_byte, low_byte, wrap, two_less};
 ghost use Rattle.cpu8080.specs.internal.Finish.{memory_pushed, pair_in};
+ghost use Rattle.cpu8080.specs.internal.PairBytes.{bytes_of};
 
 use crate::flags::MachineRegisters;
 use crate::pairs::{fetch_word, hl, put_word, set_hl, word_in};
@@ -37,7 +38,7 @@ pub fn pop(registers: &mut MachineRegisters, memory: &Memory) -> u16
 pub fn exchange_top(registers: &mut MachineRegisters, memory: &mut Memory)
     ensures registers { registers.new
         ≡ (let top = word_at memory.old registers.old.sp in
-        record registers.old { h = high_byte top; l = low_byte top }) }
+        record registers.old { hl = bytes_of top }) }
     ensures memory { memory.new
         ≡ slice_set
         (slice_set memory.old registers.old.sp (low_byte (pair_in Hl registers.old)))
