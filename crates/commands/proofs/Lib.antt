@@ -7,4 +7,3 @@ pub mod Inputs
 pub mod Interpreted
 pub mod MapLines
 pub mod Printed
-pub mod SourcesTold

@@ -10,7 +10,7 @@ use Rattle.answers.specs.declared.endings.Ending.TheVariants.{Done, Refused, Wro
 use Rattle.command_line.specs.Command.{Wanted, wants_compile, wants_link, wants_need, wants_place, wants_program}
 use Rattle.command_line.specs.Settings.{only_file}
 use Rattle.object_commands.proofs.FilesWritten.{kept_others}
-use Rattle.commands.specs.Orders.{ChangesAsWanted, ChangesByWords, WritesAsWanted, WritesByWords, StopsAsWanted, StopsByWords, names_by_words, names_of}
+use Rattle.commands.specs.Orders.{ChangesAsWanted, ChangesByWords, WritesAsWanted, WritesByWords, PrintsAsWanted, PrintsByWords, StopsAsWanted, StopsByWords, names_by_words, names_of}
 
 -- where no file changed, none changed but what was wanted
 pub kept_as_wanted : (wanted : Wanted) (old new : Option Directory) → KeepsFiles old new → ChangesAsWanted wanted old new
@@ -46,6 +46,10 @@ kept_stops (Some wanted) old new kept = stops_as_wanted wanted old new kept
 pub stops_by_words : (found : Option Wanted) (wanted : Wanted) (old new : Option Directory) → found ≡ Some wanted → StopsAsWanted wanted old new → StopsByWords found old new
 stops_by_words found wanted old new e stops = rw e stops
 
+pub prints_by_words : (found : Option Wanted) (wanted : Wanted) (files : Option Directory) (old new : Option (List ℕ)) → found ≡ Some wanted → PrintsAsWanted wanted files old new
+    → PrintsByWords found files old new
+prints_by_words found wanted files old new e prints = rw e prints
+
 -- the names of files that are told
 pub told_by_words : (files : Option Directory) (found : Option Wanted) (wanted : Wanted) (before after : ℕ) (old new : Option (List ℕ)) → found ≡ Some wanted
     → TellsRefusal files (names_of wanted) before after old new → TellsRefusal files (names_by_words found) before after old new
@@ -79,9 +83,6 @@ refused_is WrongLine e = absurd (omega arith)
 refused_is Limit e = absurd (omega arith)
 refused_is Stopped e = absurd (omega arith)
 refused_is Outside e = absurd (omega arith)
-
-pub refused_below : (ending : Ending) → ending ≡ Refused → status_of ending ≤ 2
-refused_below ending refused = rw refused (omega arith)
 
 pub status_bound : (ending : Ending) → status_of ending ≤ 5
 status_bound Done = omega arith

@@ -1,5 +1,5 @@
 -- Texts of the command line that are refused.
-use Rattle.std.proofs.Common.{◌≡◌, ◌⊎◌, ℕ, List, Err, Ok, Option, Some, codes, inl, inr, refl, subst, ap, ◌∙◌, arith}
+use Rattle.std.proofs.Common.{◌≡◌, ◌⊎◌, ℕ, List, Err, Ok, Option, Some, codes, inl, inr, refl, subst, arith}
 use Rattle.clap.specs.Words.{Kinds, kind_of}
 use Rattle.clap.specs.declared.error.ErrorKind.TheVariants.{DisplayHelp, DisplayVersion}
 use Rattle.answers.specs.Endings.{status_of}
@@ -11,7 +11,7 @@ use Rattle.command_line.specs.Settings.{Read, ◌>>=◌, only_file, plan_read}
 use Rattle.command_line.specs.declared.reading.LineFault.{LineFault}
 use Rattle.command_line.specs.declared.reading.LineFault.TheVariants.{Help, Version, Wrong}
 use Rattle.plans.specs.declared.Plan.{Plan}
-use Rattle.commands.specs.Orders.{AsksHelpAtMost, AsksNoHelp, RefusesNoText, TellsText, TellsTextByWords}
+use Rattle.commands.specs.Orders.{AsksHelpAtMost, RefusesNoText, TellsText, TellsTextByWords}
 use Rattle.commands.specs.internal.LineFaults.{IsWrong}
 
 pub text_by_words : (found : Option Wanted) (wanted : Wanted) (old new : Option (List ℕ)) → found ≡ Some wanted → TellsText wanted old new → TellsTextByWords found old new
@@ -32,16 +32,6 @@ help_at_most kinds (Wrong error) help is wrong = neither (help (kind_of error) i
     neither : (kind_of error ≡ DisplayHelp) ⊎ (kind_of error ≡ DisplayVersion) → ⊥
     neither (inl asked) = is.0 asked
     neither (inr asked) = is.1 asked
-
--- words with a fault that ask neither for help nor for the version are wrong
-pub asks_none : (kinds : Kinds) (fault : LineFault) → AsksNoHelp kinds → IsFaultOf kinds fault → IsWrong fault
-asks_none kinds (Help error) none is = absurd (none.0 is.1)
-asks_none kinds (Version error) none is = absurd (none.1 is.1)
-asks_none kinds (Wrong error) none is = tt
-
-pub wrong_status : (ending : Ending) (status : ℕ) (Told : Type 0) → status ≡ status_of ending → (ending ≡ WrongLine) ⊎ ((ending ≡ Refused) × Told) → (status ≡ 2) ⊎ ((status ≡ 1) × Told)
-wrong_status ending status Told is (inl wrong) = inl (is ∙ ap status_of wrong)
-wrong_status ending status Told is (inr refused) = inr (is ∙ ap status_of refused.0, refused.1)
 
 pub done_or_refused : (ending : Ending) → (ending ≡ Done) ⊎ (ending ≡ Refused) → ending ≡ WrongLine → ⊥
 done_or_refused ending (inl done) wrong = cc

@@ -9,7 +9,5 @@ pub mod Compiling
 pub mod Map
 pub mod Needing
 pub mod Orders
-pub mod Refusing
 pub mod Running
-pub mod Sources
 pub mod internal

@@ -1,6 +1,5 @@
 -- What orders make of files, and what they print of them.
 use Rattle.std.specs.Prelude.{◌≡◌, ◌⊎◌, ℕ, List, [], ◌∷◌, ◌++◌, Err, Ok, Option, None, Some, codes}
-use Rattle.std.specs.Io.KnownBytes.{Keeps}
 use Rattle.clap.specs.Words.{IsAmong, Kinds, Text}
 use Rattle.clap.specs.declared.error.ErrorKind.{ErrorKind}
 use Rattle.clap.specs.declared.error.ErrorKind.TheVariants.{DisplayHelp, DisplayVersion}
@@ -12,11 +11,10 @@ use Rattle.command_line.specs.Settings.{Read, ◌>>=◌, only_file, plan_read, v
 use Rattle.command_line.specs.declared.orders.PlaceAction.{PlaceAction}
 use Rattle.command_line.specs.declared.orders.PlaceAction.TheVariants.{Locate, Hex}
 use Rattle.object_commands.specs.Linking.{KeepsOthers, LinksFiles, StopsLinking}
-use Rattle.object_commands.specs.Placing.{BeginsHex, BeginsPlaces, PrintsHex, PrintsPlaces}
+use Rattle.object_commands.specs.Placing.{PrintsHex, PrintsPlaces}
 use Rattle.commands.specs.Compiling.{CompilesFile, StopsCompiling}
-use Rattle.commands.specs.Needing.{PrintsNeedOf, StopsNeedOf}
-use Rattle.commands.specs.Refusing.{TellsOfProgram}
-use Rattle.commands.specs.Running.{PrintsProgram, StopsProgram}
+use Rattle.commands.specs.Needing.{PrintsNeedOf}
+use Rattle.commands.specs.Running.{PrintsProgram}
 use Rattle.plans.specs.declared.Plan.{Plan}
 
 -- an order to compile or to link changes no file but the one that it names, and others change none
@@ -51,51 +49,30 @@ abbrev pub PrintsPlaced :
 PrintsPlaced Locate files name plan old new = PrintsPlaces files name plan old new
 PrintsPlaced Hex files name plan old new = PrintsHex files name plan old new
 
--- and what a beginning of that is
-abbrev pub BeginsPlaced :
-    PlaceAction → Option Directory → (name : List ℕ) → Plan → (old new : Option (List ℕ)) → Type 0
-BeginsPlaced Locate files name plan old new = BeginsPlaces files name plan old new
-BeginsPlaced Hex files name plan old new = BeginsHex files name plan old new
-
--- this holds of the one file that is wanted, and of the plan that the texts write
-pub record IsPlaceOf (place : PlaceWanted) (Holds : (name : List ℕ) → Plan → Type 0) : Type 0 where
+-- the one file that is wanted, placed by the plan that the texts write, was printed
+pub record PrintsWanted (place : PlaceWanted) (files : Option Directory)
+    (old new : Option (List ℕ)) : Type 0 where
   pub name : List ℕ
   pub plan : Plan
   pub only : only_file place.files ≡ Ok name
   pub planned : plan_read place.plan ≡ Ok plan
-  pub holds : Holds name plan
+  pub printed : PrintsPlaced place.action files name plan old new
 
-abbrev pub PrintsWanted : PlaceWanted → Option Directory → (old new : Option (List ℕ)) → Type 0
-PrintsWanted place files old new = IsPlaceOf place (λ name plan. PrintsPlaced place.action files name plan old new)
+-- what an order on an object file prints, and one that tells a need; of other orders nothing is said
+abbrev pub PrintsAsWanted : Wanted → Option Directory → (old new : Option (List ℕ)) → Type 0
+PrintsAsWanted (wants_place place) files old new = PrintsWanted place files old new
+PrintsAsWanted (wants_need need) files old new = PrintsNeedOf files need.files old new
+PrintsAsWanted (wants_compile compile) files old new = Unit {0}
+PrintsAsWanted (wants_link link) files old new = Unit {0}
+PrintsAsWanted (wants_program program) files old new = Unit {0}
 
-abbrev pub StopsWanted : PlaceWanted → Option Directory → (old new : Option (List ℕ)) → Type 0
-StopsWanted place files old new =
-    Keeps old new ⊎ IsPlaceOf place (λ name plan. BeginsPlaced place.action files name plan old new)
-
--- what an order prints where it is not refused, with its status: only an order on sources has another than 0
-abbrev pub PrintsAsWanted : Wanted → Option Directory → (status : ℕ) → (old new : Option (List ℕ)) → Type 0
-PrintsAsWanted (wants_program program) files status old new = PrintsProgram program files status old new
-PrintsAsWanted (wants_place place) files status old new = (status ≡ 0) × PrintsWanted place files old new
-PrintsAsWanted (wants_need need) files status old new = (status ≡ 0) × PrintsNeedOf files need.files old new
-PrintsAsWanted (wants_compile compile) files status old new = (status ≡ 0) × Keeps old new
-PrintsAsWanted (wants_link link) files status old new = (status ≡ 0) × Keeps old new
-
--- what an order that is refused has printed: nothing, or a beginning
-abbrev pub BeginsAsWanted : Wanted → Option Directory → (old new : Option (List ℕ)) → Type 0
-BeginsAsWanted (wants_program program) files old new = StopsProgram program files old new
-BeginsAsWanted (wants_place place) files old new = StopsWanted place files old new
-BeginsAsWanted (wants_need need) files old new = StopsNeedOf files need.files old new
-BeginsAsWanted (wants_compile compile) files old new = Keeps old new
-BeginsAsWanted (wants_link link) files old new = Keeps old new
-
--- what is told of an order that is refused; of other orders than those on sources that are run or interpreted nothing
--- more is said than of their files
-abbrev pub TellsAsWanted : Wanted → Option Directory → (old new : Option (List ℕ)) → Type 0
-TellsAsWanted (wants_program program) files old new = TellsOfProgram program files old new
-TellsAsWanted (wants_compile compile) files old new = Unit {0}
-TellsAsWanted (wants_link link) files old new = Unit {0}
-TellsAsWanted (wants_place place) files old new = Unit {0}
-TellsAsWanted (wants_need need) files old new = Unit {0}
+-- what an order on sources prints where it is not refused; of other orders nothing is said
+abbrev pub RunsAsWanted : Wanted → Option Directory → (status : ℕ) → (old new : Option (List ℕ)) → Type 0
+RunsAsWanted (wants_program program) files status old new = PrintsProgram program files status old new
+RunsAsWanted (wants_compile compile) files status old new = Unit {0}
+RunsAsWanted (wants_link link) files status old new = Unit {0}
+RunsAsWanted (wants_place place) files status old new = Unit {0}
+RunsAsWanted (wants_need need) files status old new = Unit {0}
 
 -- the files that an order reads, in their order, and then the one that it writes
 abbrev pub names_of : Wanted → List (List ℕ)
@@ -122,17 +99,13 @@ abbrev pub StopsByWords : Option Wanted → Option Directory → Option Director
 StopsByWords None old new = KeepsFiles old new
 StopsByWords (Some wanted) old new = StopsAsWanted wanted old new
 
-abbrev pub PrintsByWords : Option Wanted → Option Directory → (status : ℕ) → (old new : Option (List ℕ)) → Type 0
-PrintsByWords None files status old new = Unit {0}
-PrintsByWords (Some wanted) files status old new = PrintsAsWanted wanted files status old new
+abbrev pub PrintsByWords : Option Wanted → Option Directory → (old new : Option (List ℕ)) → Type 0
+PrintsByWords None files old new = Unit {0}
+PrintsByWords (Some wanted) files old new = PrintsAsWanted wanted files old new
 
-abbrev pub BeginsByWords : Option Wanted → Option Directory → (old new : Option (List ℕ)) → Type 0
-BeginsByWords None files old new = Unit {0}
-BeginsByWords (Some wanted) files old new = BeginsAsWanted wanted files old new
-
-abbrev pub TellsByWords : Option Wanted → Option Directory → (old new : Option (List ℕ)) → Type 0
-TellsByWords None files old new = Unit {0}
-TellsByWords (Some wanted) files old new = TellsAsWanted wanted files old new
+abbrev pub RunsByWords : Option Wanted → Option Directory → (status : ℕ) → (old new : Option (List ℕ)) → Type 0
+RunsByWords None files status old new = Unit {0}
+RunsByWords (Some wanted) files status old new = RunsAsWanted wanted files status old new
 
 -- the one file of an order on an object, or the first text that is refused: the texts of the plan come first, then
 -- the name of a second file
@@ -168,7 +141,3 @@ RefusesNoText (Some wanted) = (text : List ℕ) → RefusesText wanted text → 
 abbrev pub AsksHelpAtMost : Kinds → Type 0
 AsksHelpAtMost kinds =
     (kind : ErrorKind) → IsAmong kind kinds → (kind ≡ DisplayHelp) ⊎ (kind ≡ DisplayVersion)
-
--- `clap` does not find that the words ask for help or for the version
-abbrev pub AsksNoHelp : Kinds → Type 0
-AsksNoHelp kinds = (IsAmong DisplayHelp kinds → ⊥) × (IsAmong DisplayVersion kinds → ⊥)

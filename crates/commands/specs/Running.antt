@@ -1,12 +1,12 @@
 -- What is printed of a program that is run or interpreted.
-use Rattle.std.specs.Prelude.{◌≡◌, ◌⊎◌, ℕ, ◌==◌, Bool, List, [], ◌∷◌, ◌++◌, codes, filter, map, Option, Some, None}
-use Rattle.std.specs.Io.KnownBytes.{Appends, Keeps}
+use Rattle.std.specs.Prelude.{◌≡◌, ℕ, ◌==◌, Bool, List, [], ◌++◌, codes, filter, map, Ok, Option, Some, None}
+use Rattle.std.specs.Io.KnownBytes.{Appends}
 use Rattle.mem80.specs.Memory.{zeros}
 use Rattle.ports.specs.declared.event.Event.{Event}
 use Rattle.ports.specs.Events.{IsBeginning}
 use Rattle.ports.specs.Input.{queue_of}
-use Rattle.writing.specs.Writing.{AppendsBeginning}
 use Rattle.files.specs.Files.{Directory}
+use Rattle.answers.specs.Reading.{HasFiles}
 use Rattle.report.specs.Report.{report_of}
 use Rattle.cpu8080.specs.Machine.{Machine}
 use Rattle.cpu8080.specs.Runs.{IsRun}
@@ -17,14 +17,14 @@ use Rattle.meaning.specs.declared.reason.Reason.TheVariants.{Divide, Byte, Const
 use Rattle.meaning.specs.Outcomes.{Stop, Ended, More, Outside}
 use Rattle.meaning.specs.Run.{Run}
 use Rattle.command_line.specs.Command.{ProgramWanted}
-use Rattle.command_line.specs.Settings.{Values}
+use Rattle.command_line.specs.Settings.{Values, values_read}
 use Rattle.command_line.specs.declared.orders.Action.{Action}
 use Rattle.command_line.specs.declared.orders.Action.TheVariants as actions
 use Rattle.command_line.specs.declared.values.InputByte.{InputByte}
-use Rattle.tool.specs.Construction.{Construction}
+use Rattle.program_sources.specs.Programs.{IsProgramOf, program_modules}
+use Rattle.tool.specs.Construction.{Construction, IsConstruction}
 use Rattle.tool.specs.Execution.{source_of, started}
 use Rattle.commands.specs.Map.{map_if}
-use Rattle.commands.specs.Sources.{AreBuilt, AreWanted, HaveTexts}
 
 -- the bytes of an input for a port, in their order
 abbrev pub bytes_to : (port : ℕ) → List InputByte → List ℕ
@@ -43,21 +43,21 @@ end_status Illegal = 4
 end_status PortFault = 4
 
 -- after this text what the image of a program does on a memory of zeros, with this input and this limit, was
--- printed, whole or a beginning of it
-pub record PrintsMachine (Writes : Option (List ℕ) → Option (List ℕ) → List ℕ → Type 0) (before : List ℕ)
-    (values : Values) (built : Construction) (status : ℕ) (old new : Option (List ℕ)) : Type 0 where
+-- printed
+pub record PrintsMachine (before : List ℕ) (values : Values) (built : Construction) (status : ℕ)
+    (old new : Option (List ℕ)) : Type 0 where
   pub script : List (List ℕ)
   pub gives : GivesInput values.input script
   pub end : End
   pub machine : Machine
   pub run : IsRun values.limit (started built.image zeros script [] 0) end machine
   pub ended : status ≡ end_status end
-  pub printed : Writes old new (before ++ report_of machine.state.events (end_word end))
+  pub printed : Appends old new (before ++ report_of machine.state.events (end_word end))
 
--- a run of a source as it ended, with its events, or a port that failed, with a beginning of them that lacks one
+-- a run of a source as it ended, with its events, or a port that failed, with a beginning of them
 abbrev pub DoesAs : Run → (end : Option Stop) → (events : List Event) → Type 0
 DoesAs run (Some stop) events = run ≡ record { end = stop; events = events }
-DoesAs run None events = (event : Event) × IsBeginning (events ++ event ∷ []) run.events
+DoesAs run None events = IsBeginning events run.events
 
 -- the words that such a run ends with
 abbrev pub source_word : Option Stop → List ℕ
@@ -76,63 +76,44 @@ source_status (Some More) = 3
 source_status (Some (Outside reason)) = 5
 source_status None = 4
 
--- the same of what a program means, from a memory of zeros, with this input and this budget
-pub record PrintsMeaning (Writes : Option (List ℕ) → Option (List ℕ) → List ℕ → Type 0) (before : List ℕ)
-    (values : Values) (built : Construction) (status : ℕ) (old new : Option (List ℕ)) : Type 0 where
+-- after this text what a program means, from a memory of zeros, with this input and this budget, was printed
+pub record PrintsMeaning (before : List ℕ) (values : Values) (built : Construction) (status : ℕ)
+    (old new : Option (List ℕ)) : Type 0 where
   pub script : List (List ℕ)
   pub gives : GivesInput values.input script
   pub end : Option Stop
   pub events : List Event
   pub does : DoesAs (source_of built zeros script [] values.limit) end events
   pub ended : status ≡ source_status end
-  pub printed : Writes old new (before ++ report_of events (source_word end))
+  pub printed : Appends old new (before ++ report_of events (source_word end))
 
 -- what an action prints of a program
 abbrev pub PrintsBuilt :
-    (Writes : Option (List ℕ) → Option (List ℕ) → List ℕ → Type 0) → Action → (before : List ℕ) → Values
-    → Construction → (status : ℕ) → (old new : Option (List ℕ)) → Type 0
-PrintsBuilt Writes actions.Run = PrintsMachine Writes
-PrintsBuilt Writes actions.Interpret = PrintsMeaning Writes
-
--- what an action began to print: a beginning of the text before, or of all
-abbrev pub BeginsBuilt : Action → (before : List ℕ) → Values → Construction → (old new : Option (List ℕ)) → Type 0
-BeginsBuilt action before values built old new =
-    AppendsBeginning old new before
-    ⊎ ((status : ℕ) × PrintsBuilt AppendsBeginning action before values built status old new)
+    Action → (before : List ℕ) → Values → Construction → (status : ℕ) → (old new : Option (List ℕ)) → Type 0
+PrintsBuilt actions.Run before values built status old new = PrintsMachine before values built status old new
+PrintsBuilt actions.Interpret before values built status old new =
+    PrintsMeaning before values built status old new
 
 -- a program was built of these texts, at the plan of these values, and what an action prints of it was
 -- printed, after its map where one is wanted
-abbrev pub PrintsTexts :
-    Action → (map : Bool) → Values → (texts : List (List ℕ)) → (status : ℕ) → (old new : Option (List ℕ)) → Type 0
-PrintsTexts action map values texts status old new =
-    AreBuilt values texts (λ built. PrintsBuilt Appends action (map_if map built) values built status old new)
+pub record PrintsTexts (action : Action) (map : Bool) (values : Values) (texts : List (List ℕ)) (status : ℕ)
+    (old new : Option (List ℕ)) : Type 0 where
+  pub built : Construction
+  pub program : IsProgramOf texts (program_modules built.program)
+  pub plan : built.plan ≡ values.plan
+  pub construction : IsConstruction built
+  pub printed : PrintsBuilt action (map_if map built) values built status old new
 
-abbrev pub BeginsTexts :
-    Action → (map : Bool) → Values → (texts : List (List ℕ)) → (old new : Option (List ℕ)) → Type 0
-BeginsTexts action map values texts old new =
-    AreBuilt values texts (λ built. BeginsBuilt action (map_if map built) values built old new)
+-- the files that are wanted have texts, of which with these values this was printed
+pub record PrintsFiles (wanted : ProgramWanted) (values : Values) (files : Option Directory) (status : ℕ)
+    (old new : Option (List ℕ)) : Type 0 where
+  pub texts : List (List ℕ)
+  pub read : HasFiles files wanted.files texts
+  pub printed : PrintsTexts wanted.action wanted.map values texts status old new
 
--- the same of the texts of the files that are wanted, and then with the values that are written
-abbrev pub PrintsFiles :
-    ProgramWanted → Values → Option Directory → (status : ℕ) → (old new : Option (List ℕ)) → Type 0
-PrintsFiles wanted values files status old new =
-    HaveTexts files wanted.files (λ texts. PrintsTexts wanted.action wanted.map values texts status old new)
-
-abbrev pub PrintsProgram : ProgramWanted → Option Directory → (status : ℕ) → (old new : Option (List ℕ)) → Type 0
-PrintsProgram wanted files status old new =
-    AreWanted wanted files (λ values texts. PrintsTexts wanted.action wanted.map values texts status old new)
-
--- what was not printed whole: nothing was printed, or a beginning
-abbrev pub StopsTexts :
-    Action → (map : Bool) → Values → (texts : List (List ℕ)) → (old new : Option (List ℕ)) → Type 0
-StopsTexts action map values texts old new = Keeps old new ⊎ BeginsTexts action map values texts old new
-
-abbrev pub StopsFiles : ProgramWanted → Values → Option Directory → (old new : Option (List ℕ)) → Type 0
-StopsFiles wanted values files old new =
-    Keeps old new
-    ⊎ HaveTexts files wanted.files (λ texts. BeginsTexts wanted.action wanted.map values texts old new)
-
-abbrev pub StopsProgram : ProgramWanted → Option Directory → (old new : Option (List ℕ)) → Type 0
-StopsProgram wanted files old new =
-    Keeps old new
-    ⊎ AreWanted wanted files (λ values texts. BeginsTexts wanted.action wanted.map values texts old new)
+-- the same with the values that are written
+pub record PrintsProgram (wanted : ProgramWanted) (files : Option Directory) (status : ℕ)
+    (old new : Option (List ℕ)) : Type 0 where
+  pub values : Values
+  pub written : values_read wanted ≡ Ok values
+  pub printed : PrintsFiles wanted values files status old new

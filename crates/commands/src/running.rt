@@ -1,16 +1,13 @@
 //! Runs of programs on the 8080.
 
-ghost use Rattle.std.specs.Prelude.{◌≡◌, ◌⊎◌, [], IfOk, OnErr};
-ghost use Rattle.std.specs.Io.KnownBytes.{Appends};
+ghost use Rattle.std.specs.Prelude.{◌≡◌, [], IfOk};
 ghost use Rattle.answers.specs.Endings.{status_of};
-ghost use Rattle.answers.specs.Refusals.{Tells, TellsOther, memory_line, output_line};
-ghost use Rattle.clap.specs.Walk.{texts};
+ghost use Rattle.answers.specs.Refusals.{TellsOther};
 ghost use Rattle.command_line.specs.Settings.{values_in};
 ghost use Rattle.command_line.specs.declared.orders.Action.TheVariants.{Run};
 ghost use Rattle.program_sources.specs.Programs.{texts_of};
 ghost use Rattle.commands.specs.Map.{map_if};
-ghost use Rattle.commands.specs.Refusing.{TellsOfTexts};
-ghost use Rattle.commands.specs.Running.{BeginsBuilt, PrintsMachine, PrintsTexts, StopsTexts, end_status};
+ghost use Rattle.commands.specs.Running.{PrintsMachine, PrintsTexts, end_status};
 
 use crate::loading::script_of;
 use crate::map::print_map;
@@ -36,15 +33,10 @@ pub(crate) fn run_sources<O: Write, E: Write>(
 ) -> Ending
     ensures not_wrong { result ≡ Ending.WrongLine → ⊥ }
     ensures told { result ≡ Ending.Refused → TellsOther (E.contents err.old) (E.contents err.new) }
-    ensures why { result ≡ Ending.Refused → (Tells memory_line (E.contents err.old) (E.contents err.new))
-        ⊎ TellsOfTexts (texts order.now.files.items) (values_in settings.now) (texts_of sources.now)
-        (E.contents err.old) (E.contents err.new) }
     ensures quiet { (result ≡ Ending.Refused → ⊥) → E.contents err.new ≡ E.contents err.old }
     ensures ran { (result ≡ Ending.Refused → ⊥) → PrintsTexts Run order.now.map
         (values_in settings.now) (texts_of sources.now) (status_of result)
         (O.contents out.old) (O.contents out.new) }
-    ensures begun { result ≡ Ending.Refused → StopsTexts Run order.now.map
-        (values_in settings.now) (texts_of sources.now) (O.contents out.old) (O.contents out.new) }
 {
     match build(alloc, sources, &settings.plan) {
         Ok(built) => run_built(alloc, order, settings, &built, out, err),
@@ -65,13 +57,9 @@ fn run_built<O: Write, E: Write>(
 ) -> Ending
     ensures not_wrong { result ≡ Ending.WrongLine → ⊥ }
     ensures told { result ≡ Ending.Refused → TellsOther (E.contents err.old) (E.contents err.new) }
-    ensures why { result ≡ Ending.Refused → (Tells memory_line (E.contents err.old) (E.contents err.new))
-        ⊎ (Tells output_line (E.contents err.old) (E.contents err.new)) }
     ensures quiet { (result ≡ Ending.Refused → ⊥) → E.contents err.new ≡ E.contents err.old }
-    ensures ran { (result ≡ Ending.Refused → ⊥) → PrintsMachine Appends (map_if order.now.map built.now)
+    ensures ran { (result ≡ Ending.Refused → ⊥) → PrintsMachine (map_if order.now.map built.now)
         (values_in settings.now) built.now (status_of result) (O.contents out.old) (O.contents out.new) }
-    ensures begun { result ≡ Ending.Refused → BeginsBuilt Run (map_if order.now.map built.now)
-        (values_in settings.now) built.now (O.contents out.old) (O.contents out.new) }
 {
     match print_built(alloc, order.map, settings, built, out) {
         Ok(end) => ending_of(end),
@@ -81,7 +69,7 @@ fn run_built<O: Write, E: Write>(
 }
 
 // Prints the map of a program, where one is wanted, and then what its image does.
-#[tactic(auto, using(crate::proofs::Printed::machine_with_map, crate::proofs::Printed::machine_alone, crate::proofs::Printed::machine_begins_map, crate::proofs::Printed::machine_begins_with_map, crate::proofs::Printed::machine_begins_alone))]
+#[tactic(auto, using(crate::proofs::Printed::machine_with_map, crate::proofs::Printed::machine_alone))]
 fn print_built<O: Write>(
     alloc: Global,
     map: bool,
@@ -89,10 +77,8 @@ fn print_built<O: Write>(
     built: &Built,
     out: &mut O,
 ) -> Result<End, Failure<WriteFault>>
-    ensures printed { IfOk result (λ end. PrintsMachine Appends (map_if map built.now) (values_in settings.now) built.now
+    ensures { IfOk result (λ end. PrintsMachine (map_if map built.now) (values_in settings.now) built.now
         (end_status end) (O.contents out.old) (O.contents out.new)) }
-    ensures begun { OnErr result (BeginsBuilt Run (map_if map built.now) (values_in settings.now) built.now
-        (O.contents out.old) (O.contents out.new)) }
 {
     if map {
         print_map(alloc, built, out)?;
@@ -102,17 +88,15 @@ fn print_built<O: Write>(
 }
 
 // Prints what an image does on a memory of zeros.
-#[tactic(auto, using(crate::proofs::Printed::prints_machine, crate::proofs::Printed::begins_machine, crate::proofs::Printed::machine_begins_none))]
+#[tactic(auto, using(crate::proofs::Printed::prints_machine))]
 fn print_image<O: Write>(
     alloc: Global,
     settings: &Settings,
     built: &Built,
     out: &mut O,
 ) -> Result<End, Failure<WriteFault>>
-    ensures printed { IfOk result (λ end. PrintsMachine Appends [] (values_in settings.now) built.now
+    ensures { IfOk result (λ end. PrintsMachine [] (values_in settings.now) built.now
         (end_status end) (O.contents out.old) (O.contents out.new)) }
-    ensures begun { OnErr result (BeginsBuilt Run [] (values_in settings.now) built.now
-        (O.contents out.old) (O.contents out.new)) }
 {
     let Ok(memory) = Memory::new(alloc) else {
         return Err(Failure::Memory);

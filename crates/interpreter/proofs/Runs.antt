@@ -1,5 +1,5 @@
 -- Runs of stack code are runs of the source.
-use Rattle.std.proofs.Common.{◌≡◌, ℕ, suc, ◌-◌, Bool, true, false, cond, List, [], ◌∷◌, ◌++◌, Option, None, Some, Result, Ok, Err, IfErr, IfOk, OnErr, All, find, nat_lt, slice_get, refl, sym, ap, ◌∙◌, subst, append_assoc, append-nil}
+use Rattle.std.proofs.Common.{◌≡◌, ℕ, suc, ◌-◌, Bool, true, false, cond, List, [], ◌++◌, Option, None, Some, Result, Ok, Err, IfOk, OnErr, All, find, nat_lt, slice_get, refl, sym, ap, ◌∙◌, subst, append_assoc, append-nil}
 use Rattle.std.specs.Option.{option_map_or}
 use Rattle.ports.specs.declared.event.Event.{Event}
 use Rattle.ports.specs.Events.{IsBeginning}
@@ -25,10 +25,7 @@ use Rattle.stack_code.specs.internal.Simulation.{Adds}
 use Rattle.stack_code.proofs.Events.{adds_steps}
 use Rattle.stack_code.proofs.Meant.{begins_as_meant, done_as_meant, main_at}
 use Rattle.stack_compiler.specs.Compiled.{IsCompiled}
-use Rattle.stack_machine.specs.declared.end.RunFault.{RunFault}
-use Rattle.stack_machine.specs.declared.end.RunFault.TheVariants as faults
-use Rattle.stack_machine.specs.Runs.{Reaches, Stops, WouldGoOn, state_at_start}
-use Rattle.interpreter.specs.Faults.{HasNextEvent}
+use Rattle.stack_machine.specs.Runs.{Reaches, Stops, state_at_start}
 use Rattle.interpreter.specs.internal.MainModules.{found_from}
 use Rattle.interpreter.proofs.MainModules.{main_is, main_is_none, number_is}
 
@@ -54,19 +51,11 @@ module _ (modules : List TypedModule) (placement : Placement) (room : ℕ) (star
       ∙ ap (λ (es : List Event). record { end = why; events = es }) stops.events_are
 
   -- and on its way its events are a beginning of the source's
-  begun_at : (so_far : List Event) → Reaches (run_at number memory) so_far → IsBeginning so_far (source_run modules placement room start script events budget).events
-  begun_at so_far reaches =
+  pub begun : Reaches (run_at number memory) after → IsBeginning after (source_run modules placement room start script events budget).events
+  begun reaches =
       subst (λ (es : List Event). IsBeginning es (source_run modules placement room start script events budget).events) reaches.events_are
       (begins_as_meant modules placement room start script events budget main there sound program.instructions.items
       (compiled main (main_at modules main there)).code reaches.count reaches.machine (same_run reaches.count ∙ reaches.going))
-
-  pub begun : Reaches (run_at number memory) after → IsBeginning after (source_run modules placement room start script events budget).events
-  begun reaches = begun_at after reaches
-
-  -- where a port failed its event is among them
-  pub next_begun : (fault : RunFault) → WouldGoOn fault (run_at number memory) after → HasNextEvent fault after (source_run modules placement room start script events budget).events
-  next_begun faults.Port next = (next.0, begun_at (after ++ next.0 ∷ []) next.1)
-  next_begun faults.Memory next = tt
 
 -- a program without a main module ends at once
 module _ (modules : List TypedModule) (placement : Placement) (room : ℕ) (start : List ℕ) (script : List (List ℕ)) (events : List Event) (budget : ℕ) (none : found_from 0 modules ≡ None) where
@@ -111,10 +100,6 @@ started modules placement room start script events budget =
 pub if_ok : {A E : Type 0} (P Q : A → Type 0) (answer : Result A E) → ((found : A) → P found → Q found) → IfOk answer P → IfOk answer Q
 if_ok P Q (Ok found) go holds = go found holds
 if_ok P Q (Err fault) go holds = tt
-
-pub if_err : {A E : Type 0} (P Q : E → Type 0) (answer : Result A E) → ((fault : E) → P fault → Q fault) → IfErr answer P → IfErr answer Q
-if_err P Q (Ok found) go holds = tt
-if_err P Q (Err fault) go holds = go fault holds
 
 pub on_err : {A E : Type 0} (P Q : Type 0) (answer : Result A E) → (P → Q) → OnErr answer P → OnErr answer Q
 on_err P Q (Ok found) go holds = tt

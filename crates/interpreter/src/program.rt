@@ -8,7 +8,6 @@ ghost use Rattle.placing.specs.Views.{placement_view};
 ghost use Rattle.declared.specs.Access.{HasTable, modules_in};
 ghost use Rattle.meaning.specs.Run.{source_run};
 ghost use Rattle.stack_machine.specs.Runs.{FaultCounts, stop_of};
-ghost use Rattle.interpreter.specs.Faults.{HasNextEvent};
 
 use crate::main_module::main_module;
 use contents::fill;
@@ -24,7 +23,7 @@ use std::alloc::{AllocError, Global};
 /// Interprets a joined program that lies at a placement: from a memory, in which its initial values and constants are put
 /// first; with so much room on the stack, in bytes; with these ports; and with a budget of turns of loops, jumps and calls.
 /// Where no port fails it does just what the program means. After a fault, of a port or of memory, the events are a
-/// beginning of those, which lacks one where a port failed, and the events that there were before stay.
+/// beginning of those, and the events that there were before stay.
 #[tactic(auto, using(crate::proofs::Runs::meant, crate::proofs::Runs::begun, crate::proofs::Runs::ended))]
 pub fn interpret<P: Ports>(
     alloc: Global,
@@ -42,9 +41,6 @@ pub fn interpret<P: Ports>(
         (P.script ports.old) (P.events ports.old) budget
         ≡ record { end = stop_of end; events = P.events ports.new }) }
     ensures beginning { OnErr result (IsBeginning (P.events ports.new)
-        (source_run (modules_in joined.now) (placement_view placement.now) room memory
-        (P.script ports.old) (P.events ports.old) budget).events) }
-    ensures next { IfErr result (λ fault. HasNextEvent fault (P.events ports.new)
         (source_run (modules_in joined.now) (placement_view placement.now) room memory
         (P.script ports.old) (P.events ports.old) budget).events) }
     ensures kept { IsBeginning (P.events ports.old) (P.events ports.new) }

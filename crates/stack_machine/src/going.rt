@@ -5,7 +5,7 @@ ghost use Rattle.declared.specs.Access.{HasTable, modules_in};
 ghost use Rattle.declared.specs.Frames.{module_frames};
 ghost use Rattle.stack_code.specs.Machine.{steps};
 ghost use Rattle.stack_code.specs.Program.{AreTablesOf};
-ghost use Rattle.stack_machine.specs.Runs.{FaultCounts, Reaches, Stops, WouldGoOn, stop_of};
+ghost use Rattle.stack_machine.specs.Runs.{FaultCounts, Reaches, Stops, stop_of};
 ghost use Rattle.stack_machine.specs.internal.Views.{machine_view, program_in};
 
 use crate::end::{RunFault, SourceEnd};
@@ -29,9 +29,6 @@ impl<'a> StackMachine<'a> {
             (stop_of end) (P.events ports.new)) }
         ensures count { OnOk result (P.failures ports.new ≡ P.failures ports.old) }
         ensures reached { OnErr result (Reaches (λ count. steps loaded.entry.code.now count
-            (machine_view (program_in loaded.entry (P.script ports.old)) (P.events ports.old) self.old))
-            (P.events ports.new)) }
-        ensures next { IfErr result (λ fault. WouldGoOn fault (λ count. steps loaded.entry.code.now count
             (machine_view (program_in loaded.entry (P.script ports.old)) (P.events ports.old) self.old))
             (P.events ports.new)) }
         ensures failed { IfErr result (λ fault.

@@ -6,7 +6,7 @@ ghost use Rattle.placing.specs.Views.{placement_view};
 ghost use Rattle.declared.specs.Access.{HasTable, modules_in};
 ghost use Rattle.stack_code.specs.Program.{AreTablesOf};
 ghost use Rattle.stack_code.specs.Run.{stack_run, start_surroundings};
-ghost use Rattle.stack_machine.specs.Runs.{FaultCounts, Reaches, Stops, WouldGoOn, state_at_start, stop_of};
+ghost use Rattle.stack_machine.specs.Runs.{FaultCounts, Reaches, Stops, state_at_start, stop_of};
 
 use crate::calls::Calls;
 use crate::end::{RunFault, SourceEnd};
@@ -26,7 +26,7 @@ use typed_trees::{Typed, charge_of};
 
 /// Runs a program from its main module on, which has this number: from a memory, with so much room on the stack and a budget
 /// of turns of loops, jumps and calls. The charge of the main module is taken first.
-#[tactic(auto, using(crate::proofs::Starts::refused, crate::proofs::Starts::given_up, crate::proofs::Starts::runs_on, crate::proofs::Starts::stays, crate::proofs::Starts::stays_before))]
+#[tactic(auto, using(crate::proofs::Starts::refused, crate::proofs::Starts::given_up, crate::proofs::Starts::runs_on, crate::proofs::Starts::stays))]
 pub fn run<'a, P: Ports>(
     alloc: Global,
     program: &'a StackProgram,
@@ -52,11 +52,6 @@ pub fn run<'a, P: Ports>(
         (stop_of end) (P.events ports.new)) }
     ensures count { OnOk result (P.failures ports.new ≡ P.failures ports.old) }
     ensures reached { OnErr result (Reaches (stack_run (program.now).instructions.items (module_view main.now)
-        (start_surroundings (modules_in joined.now) (placement_view placement.now) (P.script ports.old)
-        number_of_main room)
-        (state_at_start memory (P.events ports.old) budget))
-        (P.events ports.new)) }
-    ensures next { IfErr result (λ fault. WouldGoOn fault (stack_run (program.now).instructions.items (module_view main.now)
         (start_surroundings (modules_in joined.now) (placement_view placement.now) (P.script ports.old)
         number_of_main room)
         (state_at_start memory (P.events ports.old) budget))

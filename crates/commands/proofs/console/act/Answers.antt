@@ -1,4 +1,4 @@
-use Rattle.commands.proofs.Printed.{begins_by_action, by_action}
+use Rattle.commands.proofs.Printed.{by_action}
 use Rattle.commands.proofs.console.act.Goals as goal
 
 pub returns-in-Run-clause-ran : goal.returns-in-Run-clause-ran
@@ -6,9 +6,3 @@ returns-in-Run-clause-ran g c = λ other. by_action _ _ _ _ _ _ _ _ c.in-Run.is 
 
 pub returns-in-Interpret-clause-ran : goal.returns-in-Interpret-clause-ran
 returns-in-Interpret-clause-ran g c = λ other. by_action _ _ _ _ _ _ _ _ c.in-Interpret.is (c.interpret_sources.ensures.ran other)
-
-pub returns-in-Run-clause-begun : goal.returns-in-Run-clause-begun
-returns-in-Run-clause-begun g c = λ refused. begins_by_action _ _ _ _ _ _ _ c.in-Run.is (c.run_sources.ensures.begun refused)
-
-pub returns-in-Interpret-clause-begun : goal.returns-in-Interpret-clause-begun
-returns-in-Interpret-clause-begun g c = λ refused. begins_by_action _ _ _ _ _ _ _ c.in-Interpret.is (c.interpret_sources.ensures.begun refused)

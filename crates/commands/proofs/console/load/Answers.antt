@@ -1,10 +1,9 @@
-use Rattle.std.proofs.Common.{inl, inr, refl, ap, ◌∙◌}
+use Rattle.std.proofs.Common.{refl, ap, ◌∙◌}
 use Rattle.answers.proofs.FilesRead.{stops_as}
 use Rattle.answers.proofs.LinesPrinted.{tells_file, tells_no_file}
 use Rattle.program_sources.specs.Programs.{texts_of}
 use Rattle.commands.proofs.OrdersKept.{stops_in_files}
-use Rattle.commands.proofs.Printed.{files_begun, keeps_itself, of_files}
-use Rattle.commands.proofs.SourcesTold.{file_refused, texts_refused}
+use Rattle.commands.proofs.Printed.{prints_files}
 use Rattle.commands.proofs.console.load.Goals as goal
 
 pub returns-in-Err-Fault-clause-told : goal.returns-in-Err-Fault-clause-told
@@ -21,33 +20,6 @@ returns-in-Ok-sources_of-clause-told g c = λ refused. tells_no_file _ _ _ _ _ _
 pub returns-clause-told : goal.returns-clause-told
 returns-clause-told g c = λ refused. tells_no_file _ _ _ _ _ _ c.in-Ok.ensures.count c.refuse_memory-in-Err.ensures.told
 
-pub returns-in-Err-Fault-clause-why : goal.returns-in-Err-Fault-clause-why
-returns-in-Err-Fault-clause-why g c = λ refused. file_refused _ _ c.as_slice-names.ensures.value _ _ _ _ _
-    (stops_as _ _ _ c.in-Err-Fault.name c.in-Err-Fault.name-is (rw c.in-Err-Fault.field-0-is at c.in-Err-Fault.ensures.stops)) c.refuse_file.ensures.told
-
-pub returns-in-Err-Memory-clause-why : goal.returns-in-Err-Memory-clause-why
-returns-in-Err-Memory-clause-why g c = λ refused. inr (inl c.refuse_memory.ensures.line)
-
-pub returns-in-Ok-sources_of-clause-why : goal.returns-in-Ok-sources_of-clause-why
-returns-in-Ok-sources_of-clause-why g c = λ refused. texts_refused _ _ c.as_slice-names.ensures.value _ _ _ _ _ _ c.in-Ok.ensures.texts
-    (ap texts_of c.as_slice-in-Ok-sources_of.ensures.value ∙ (rw c.as_slice.ensures.value at c.in-Ok-sources_of.ensures)) (c.act.ensures.why refused)
-
-pub returns-clause-why : goal.returns-clause-why
-returns-clause-why g c = λ refused. inr (inl c.refuse_memory-in-Err.ensures.line)
-
 pub returns-in-Ok-sources_of-clause-ran : goal.returns-in-Ok-sources_of-clause-ran
-returns-in-Ok-sources_of-clause-ran g c = λ other. of_files _ _ _ _ _ _ c.as_slice-names.ensures.value c.in-Ok.ensures.texts
+returns-in-Ok-sources_of-clause-ran g c = λ other. prints_files _ _ _ _ _ _ _ _ _ _ c.as_slice-names.ensures.value refl c.in-Ok.ensures.texts
     (ap texts_of c.as_slice-in-Ok-sources_of.ensures.value ∙ (rw c.as_slice.ensures.value at c.in-Ok-sources_of.ensures)) (c.act.ensures.ran other)
-
-pub returns-in-Err-Fault-clause-begun : goal.returns-in-Err-Fault-clause-begun
-returns-in-Err-Fault-clause-begun g c = λ refused. inl (keeps_itself _)
-
-pub returns-in-Err-Memory-clause-begun : goal.returns-in-Err-Memory-clause-begun
-returns-in-Err-Memory-clause-begun g c = λ refused. inl (keeps_itself _)
-
-pub returns-in-Ok-sources_of-clause-begun : goal.returns-in-Ok-sources_of-clause-begun
-returns-in-Ok-sources_of-clause-begun g c = λ refused. files_begun _ _ _ _ _ _ _ _ c.as_slice-names.ensures.value c.in-Ok.ensures.texts
-    (ap texts_of c.as_slice-in-Ok-sources_of.ensures.value ∙ (rw c.as_slice.ensures.value at c.in-Ok-sources_of.ensures)) (c.act.ensures.begun refused)
-
-pub returns-clause-begun : goal.returns-clause-begun
-returns-clause-begun g c = λ refused. inl (keeps_itself _)

@@ -18,4 +18,4 @@ returns-in-Err-Port c =
     fails_so _ _
     (same_source c.args.built.now c.program.result.now c.placement.result.now c.plan.result.now c.args.memory c.args.script.now.script c.args.script.now.events c.args.settings.now.limit
     c.program.ensures.shown c.placement.ensures.shown c.plan.ensures.shown)
-    _ c.in-Err-Port.ensures.next
+    _ c.in-Err-Port.ensures.beginning

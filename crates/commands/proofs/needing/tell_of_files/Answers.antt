@@ -1,9 +1,9 @@
-use Rattle.std.proofs.Common.{inl, refl, ap, ◌∙◌}
+use Rattle.std.proofs.Common.{refl, ap, ◌∙◌}
 use Rattle.answers.proofs.FilesRead.{stops_as}
 use Rattle.answers.proofs.LinesPrinted.{tells_file, tells_no_file}
 use Rattle.program_sources.specs.Programs.{texts_of}
+use Rattle.commands.proofs.NeedTold.{prints_by, prints_need_of}
 use Rattle.commands.proofs.OrdersKept.{stops_in_files}
-use Rattle.commands.proofs.Printed.{files_begun, keeps_itself, of_files}
 use Rattle.commands.proofs.needing.tell_of_files.Goals as goal
 
 pub returns-in-Err-Fault-clause-told : goal.returns-in-Err-Fault-clause-told
@@ -18,21 +18,9 @@ pub returns-in-Ok-sources_of-clause-told : goal.returns-in-Ok-sources_of-clause-
 returns-in-Ok-sources_of-clause-told g c = λ refused. tells_no_file _ _ _ _ _ _ c.in-Ok.ensures.count (c.tell_of_sources.ensures.told refused)
 
 pub returns-in-Ok-sources_of-clause-printed : goal.returns-in-Ok-sources_of-clause-printed
-returns-in-Ok-sources_of-clause-printed g c = λ done. of_files _ _ _ _ _ _ c.as_slice-names.ensures.value c.in-Ok.ensures.texts
-    (ap texts_of c.as_slice-in-Ok-sources_of.ensures.value ∙ (rw c.as_slice.ensures.value at c.in-Ok-sources_of.ensures)) (c.tell_of_sources.ensures.printed done)
-
-pub returns-in-Ok-sources_of-clause-begun : goal.returns-in-Ok-sources_of-clause-begun
-returns-in-Ok-sources_of-clause-begun g c = λ refused. files_begun _ _ _ _ _ _ _ _ c.as_slice-names.ensures.value c.in-Ok.ensures.texts
-    (ap texts_of c.as_slice-in-Ok-sources_of.ensures.value ∙ (rw c.as_slice.ensures.value at c.in-Ok-sources_of.ensures)) (c.tell_of_sources.ensures.begun refused)
-
-pub returns-in-Err-Fault-clause-begun : goal.returns-in-Err-Fault-clause-begun
-returns-in-Err-Fault-clause-begun g c = λ refused. inl (keeps_itself _)
-
-pub returns-in-Err-Memory-clause-begun : goal.returns-in-Err-Memory-clause-begun
-returns-in-Err-Memory-clause-begun g c = λ refused. inl (keeps_itself _)
-
-pub returns-clause-begun : goal.returns-clause-begun
-returns-clause-begun g c = λ refused. inl (keeps_itself _)
+returns-in-Ok-sources_of-clause-printed g c = λ done. prints_by _ _ _ _ _ c.as_slice-names.ensures.value
+    (prints_need_of _ _ _ _ _ _ c.in-Ok.ensures.texts
+    (ap texts_of c.as_slice-in-Ok-sources_of.ensures.value ∙ (rw c.as_slice.ensures.value at c.in-Ok-sources_of.ensures)) (c.tell_of_sources.ensures.printed done))
 
 pub returns-clause-told : goal.returns-clause-told
 returns-clause-told g c = λ refused. tells_no_file _ _ _ _ _ _ c.in-Ok.ensures.count c.refuse_memory-in-Err.ensures.told

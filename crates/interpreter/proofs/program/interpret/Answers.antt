@@ -4,7 +4,7 @@ use Rattle.typed_trees.specs.Views.{module_view}
 use Rattle.placing.specs.Views.{placement_view}
 use Rattle.declared.specs.Access.{modules_in}
 use Rattle.interpreter.specs.internal.MainModules.{found_from, found_view}
-use Rattle.interpreter.proofs.Runs.{begins_same, begun, either, if_err, if_ok, kept_reached, kept_stopped, meant, next_begun, on_err, started, tables}
+use Rattle.interpreter.proofs.Runs.{begins_same, begun, either, if_ok, kept_reached, kept_stopped, meant, on_err, started, tables}
 use Rattle.interpreter.proofs.program.interpret.Goals as goal
 
 pub returns-in_default-clause-beginning : goal.returns-in_default-clause-beginning
@@ -42,16 +42,6 @@ returns-in-Some-clause-beginning g c =
     (g.P.Ports.script c.args.ports.now) (g.P.Ports.events c.args.ports.now) _ c.args.budget c.in-Some.found.number (module_view c.in-Some.found.typed.now)
     c.in-Ok-compile.program found c.requires.jumps c.in-Ok-compile.ensures c.in-Ok.ensures reaches)
     c.run.ensures.reached
-
-pub returns-in-Some-clause-next : goal.returns-in-Some-clause-next
-returns-in-Some-clause-next g c =
-    let found : found_from 0 (modules_in c.args.joined.now) ≡ Some (c.in-Some.found.number, module_view c.in-Some.found.typed.now) =
-    ap (λ (modules : _). found_from 0 (map module_view modules)) (sym c.modules.ensures) ∙ sym c.main_module.ensures ∙ ap (option_map found_view) c.in-Some.is in
-    if_err _ _ c.run.result
-    (next_begun (modules_in c.args.joined.now) (placement_view c.args.placement.now) c.args.room c.args.memory c.put_contents.new.memory
-    (g.P.Ports.script c.args.ports.now) (g.P.Ports.events c.args.ports.now) _ c.args.budget c.in-Some.found.number (module_view c.in-Some.found.typed.now)
-    c.in-Ok-compile.program found c.requires.jumps c.in-Ok-compile.ensures c.in-Ok.ensures)
-    c.run.ensures.next
 
 pub returns-in_default-clause-kept : goal.returns-in_default-clause-kept
 returns-in_default-clause-kept g c = begins_same (g.P.Ports.events c.args.ports.now)
