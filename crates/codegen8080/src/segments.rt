@@ -63,7 +63,8 @@ fn add_bytes(
     requires order { start ≤ end }
     requires within { end ≤ length bytes.now }
     requires few { length bytes.now ≤ SEGMENT_LIMIT }
-    ensures { OnOk result (runs.new.items ≡ with_runs runs.old.items (runs_from start (map Some (slice_range bytes.now start end)))) }
+    ensures { OnOk result (runs.new.items
+        ≡ with_runs runs.old.items (runs_from start (map Some (slice_range bytes.now start end)))) }
 {
     if start == end {
         return Ok(());
