@@ -11,6 +11,7 @@ ghost use Rattle.asm8080.specs.internal.Assembling.{all_placed, layout_from, no_
 
 use crate::bytes::CodeParts;
 use crate::item::{Item, Reference, WordForm};
+use crate::stored::StoredItem;
 use isa8080::{Instr, encode};
 use object_modules::{Fix, FixKind, Segment, Target};
 use std::alloc::{AllocError, Global};
@@ -71,7 +72,7 @@ fn no_places(alloc: Global, labels: usize) -> Result<Vec<Option<u128>>, AllocErr
 /// bytes the items take.
 pub(crate) fn label_places(
     alloc: Global,
-    items: &[Item],
+    items: &[StoredItem],
     labels: usize,
 ) -> Result<(Vec<Option<u128>>, u128), AllocError>
     ensures places { IfOk result (λ found. found.0.items ≡ places_of labels items.now) }
@@ -79,9 +80,10 @@ pub(crate) fn label_places(
 {
     let mut places = no_places(alloc, labels)?;
     let mut offset = 0;
-    for item in items {
-        put_mark(&mut places, *item, offset);
-        offset += item_size(*item) as u128;
+    for stored in items {
+        let item = stored.item();
+        put_mark(&mut places, item, offset);
+        offset += item_size(item) as u128;
     }
     Ok((places, offset))
 }
@@ -222,7 +224,7 @@ fn push_item(code: &mut CodeParts, item: Item, places: &[Option<u128>]) -> Resul
 /// The code of items that fit a segment, whose labels have places in a table. It has room for so many bytes at once.
 pub(crate) fn assemble(
     alloc: Global,
-    items: &[Item],
+    items: &[StoredItem],
     places: &[Option<u128>],
     room: usize,
 ) -> Result<CodeParts, AllocError>
@@ -231,8 +233,8 @@ pub(crate) fn assemble(
         code ≡ with_items (layout_from (place_in places.now)) no_code items.now) }
 {
     let mut code = CodeParts::empty(alloc, room)?;
-    for item in items {
-        push_item(&mut code, *item, places)?;
+    for stored in items {
+        push_item(&mut code, stored.item(), places)?;
     }
     Ok(code)
 }

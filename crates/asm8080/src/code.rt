@@ -11,6 +11,7 @@ use crate::assembling::{all_placed, assemble, label_places};
 use crate::bytes::CodeBytes;
 use crate::fault::Fault;
 use crate::item::{Item, Reference, WordForm};
+use crate::stored::{StoredItem, store};
 use failure::Failure;
 use isa8080::Instr;
 use object_modules::{SEGMENT_LIMIT, Target};
@@ -33,10 +34,11 @@ impl Model for Label {
     ghost inverse = { λ number. record { number = number } };
 }
 
-/// Code to which more is added at its end. Where there is no memory for it, it stays as it was.
+/// Code to which more is added at its end. Where there is no memory for it, or it has a label whose number passes 32
+/// bits, it stays as it was.
 #[derive(Drop)]
 pub struct Code {
-    items: Vec<Item>,
+    items: Vec<StoredItem>,
     labels: usize,
 }
 
@@ -68,7 +70,7 @@ impl Code {
         ensures bound { OnOk result (BindsSame self.old.items self.new.items) }
         ensures err { OnErr result (self.new ≡ self.old) }
     {
-        self.items.push(Item::Plain(instruction))?;
+        store(&mut self.items, Item::Plain(instruction))?;
         Ok(())
     }
 
@@ -86,8 +88,10 @@ impl Code {
         ensures bound { OnOk result (BindsSame self.old.items self.new.items) }
         ensures err { OnErr result (self.new ≡ self.old) }
     {
-        self.items
-            .push(Item::WithWord(form, Reference::AtTarget(target, offset)))?;
+        store(
+            &mut self.items,
+            Item::WithWord(form, Reference::AtTarget(target, offset)),
+        )?;
         Ok(())
     }
 
@@ -98,7 +102,7 @@ impl Code {
         ensures bound { OnOk result (BindsSame self.old.items self.new.items) }
         ensures err { OnErr result (self.new ≡ self.old) }
     {
-        self.items.push(Item::Byte(value))?;
+        store(&mut self.items, Item::Byte(value))?;
         Ok(())
     }
 
@@ -111,8 +115,10 @@ impl Code {
         ensures bound { OnOk result (BindsSame self.old.items self.new.items) }
         ensures err { OnErr result (self.new ≡ self.old) }
     {
-        self.items
-            .push(Item::Address(Reference::AtTarget(target, offset)))?;
+        store(
+            &mut self.items,
+            Item::Address(Reference::AtTarget(target, offset)),
+        )?;
         Ok(())
     }
 
@@ -124,8 +130,10 @@ impl Code {
         ensures bound { OnOk result (BindsSame self.old.items self.new.items) }
         ensures err { OnErr result (self.new ≡ self.old) }
     {
-        self.items
-            .push(Item::Address(Reference::AtLabel(label.number)))?;
+        store(
+            &mut self.items,
+            Item::Address(Reference::AtLabel(label.number)),
+        )?;
         Ok(())
     }
 
@@ -136,7 +144,7 @@ impl Code {
         ensures bound { OnOk result (BindsSame self.old.items self.new.items) }
         ensures err { OnErr result (self.new ≡ self.old) }
     {
-        self.items.push(Item::Gap(count))?;
+        store(&mut self.items, Item::Gap(count))?;
         Ok(())
     }
 
@@ -183,7 +191,9 @@ impl Code {
     pub fn is_bound(&self, label: Label) -> bool
         ensures { result ≡ is_bound label self.now.items }
     {
-        self.items.iter().any(|item| matches!(item, Item::Mark(number) if *number == label.number))
+        self.items.iter().any(
+            |stored| matches!(stored.item(), Item::Mark(number) if number == label.number),
+        )
     }
 
     /// Gives a label of this code its place here. No label is bound twice.
@@ -195,7 +205,7 @@ impl Code {
         ensures others { OnOk result (BindsSameBut label self.old.items self.new.items) }
         ensures err { OnErr result (self.new ≡ self.old) }
     {
-        self.items.push(Item::Mark(label.number))?;
+        store(&mut self.items, Item::Mark(label.number))?;
         Ok(())
     }
 
@@ -208,8 +218,10 @@ impl Code {
         ensures bound { OnOk result (BindsSame self.old.items self.new.items) }
         ensures err { OnErr result (self.new ≡ self.old) }
     {
-        self.items
-            .push(Item::WithWord(form, Reference::AtLabel(label.number)))?;
+        store(
+            &mut self.items,
+            Item::WithWord(form, Reference::AtLabel(label.number)),
+        )?;
         Ok(())
     }
 

@@ -6,6 +6,7 @@ mod bytes;
 mod code;
 mod fault;
 mod item;
+mod stored;
 
 pub use assembling::instruction_with;
 pub use bytes::CodeBytes;

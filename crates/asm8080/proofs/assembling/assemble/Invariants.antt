@@ -5,10 +5,10 @@ use Rattle.asm8080.specs.Assembled.{place_in}
 use Rattle.asm8080.specs.internal.Assembling.{layout_from, no_code, with_items}
 use Rattle.asm8080.proofs.assembling.assemble.Given as goal
 
-abbrev pub invariant-loop-item : goal.invariant-loop-item
-invariant-loop-item l = record {
+abbrev pub invariant-loop-stored : goal.invariant-loop-stored
+invariant-loop-stored l = record {
   code :
-      with_items (layout_from (place_in l.places)) l.code (drop l.item-index l.items)
+      with_items (layout_from (place_in l.places)) l.code (drop l.stored-index l.items)
       ≡ with_items (layout_from (place_in l.places)) no_code l.items;
-  room : length l.code.bytes + size_of_items (drop l.item-index l.items) ≤ SEGMENT_LIMIT;
+  room : length l.code.bytes + size_of_items (drop l.stored-index l.items) ≤ SEGMENT_LIMIT;
 }

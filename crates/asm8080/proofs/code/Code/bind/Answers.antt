@@ -10,8 +10,8 @@ invariant_of-self-2 c =
     (of_fields_back _ _ (λ a. c.args.label < a.labels) c.self.view_is c.requires.known))
     (subst (λ n. is_bound n c.self.inside.items.items ≡ false) (sym c.label.view_is)
     (of_fields_back _ _ (λ a. is_bound c.args.label a.items ≡ false) c.self.view_is c.requires.once))
-    c.in_ok-push.ensures.items
+    c.in_ok-store.ensures.items
 
 pub returns-clause-others : goal.returns-clause-others
 returns-clause-others c =
-    others_kept c.args.self.now _ _ _ _ c.self.view_is c.label.view_is c.in_ok-push.ensures.items
+    others_kept c.args.self.now _ _ _ _ c.self.view_is c.label.view_is c.in_ok-store.ensures.items

@@ -8,8 +8,8 @@ invariant_of-self-2 c =
     (subst (λ n. n < c.self.inside.labels) (sym c.label.view_is)
     (of_fields_back _ _ (λ a. c.args.label < a.labels) c.self.view_is c.requires.known))
     (λ label. refl)
-    c.in_ok-push.ensures.items
+    c.in_ok-store.ensures.items
 
 pub returns-clause-bound : goal.returns-clause-bound
 returns-clause-bound c =
-    bound_kept c.args.self.now _ _ _ c.self.view_is (λ label. refl) c.in_ok-push.ensures.items
+    bound_kept c.args.self.now _ _ _ c.self.view_is (λ label. refl) c.in_ok-store.ensures.items

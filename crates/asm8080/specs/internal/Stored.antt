@@ -1,0 +1,38 @@
+-- Items as code keeps them.
+use Rattle.std.specs.Prelude.{ℕ, ◌^◌, Bool, true, nat_lt}
+use Rattle.object_modules.specs.declared.segment.Target.TheVariants.{InSegment, External}
+use Rattle.asm8080.specs.declared.item.Reference.{Reference}
+use Rattle.asm8080.specs.declared.item.Reference.TheVariants.{AtLabel, AtTarget}
+use Rattle.asm8080.specs.declared.item.Item.{Item}
+use Rattle.asm8080.specs.declared.item.Item.TheVariants.{Plain, WithWord, Byte, Address, Gap, Mark}
+use Rattle.asm8080.specs.declared.stored.StoredForm.{StoredForm}
+use Rattle.asm8080.specs.declared.stored.StoredForm.TheVariants as stored
+
+-- what an item is, by its form
+abbrev pub item_of : StoredForm → Item
+item_of (stored.Plain instruction) = Plain instruction
+item_of (stored.LabelWord form label) = WithWord form (AtLabel label)
+item_of (stored.SegmentWord form segment offset) = WithWord form (AtTarget (InSegment segment) offset)
+item_of (stored.ExternalWord form number offset) = WithWord form (AtTarget (External number) offset)
+item_of (stored.Byte value) = Byte value
+item_of (stored.LabelAddress label) = Address (AtLabel label)
+item_of (stored.SegmentAddress segment offset) = Address (AtTarget (InSegment segment) offset)
+item_of (stored.ExternalAddress number offset) = Address (AtTarget (External number) offset)
+item_of (stored.Gap count) = Gap count
+item_of (stored.Mark label) = Mark label
+
+-- the number of a label that stands in 32 bits
+abbrev pub is_short_label : (label : ℕ) → Bool
+is_short_label label = nat_lt label (2 ^ 32)
+
+-- what counts from no label, or from one with such a number
+abbrev pub has_short_label : Reference → Bool
+has_short_label (AtLabel label) = is_short_label label
+has_short_label (AtTarget target offset) = true
+
+-- an item with no label, or with one that has such a number
+abbrev pub is_short : Item → Bool
+is_short (WithWord form reference) = has_short_label reference
+is_short (Address reference) = has_short_label reference
+is_short (Mark label) = is_short_label label
+is_short item = true
