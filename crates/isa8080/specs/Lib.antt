@@ -7,4 +7,5 @@ pub mod Arithmetic
 pub mod Code
 pub mod Act
 pub mod Step
+pub mod Text
 pub mod internal

@@ -1,6 +1,10 @@
 //! Instructions as an assembler writes them: the mnemonic, and after a space the operands with commas
 //! between. Bytes have two hexadecimal digits, and 16-bit values four.
 
+ghost use Rattle.std.specs.Prelude.{◌≡◌, ◌++◌, codes};
+ghost use Rattle.std.specs.Fmt.{WritesOnOk};
+ghost use Rattle.isa8080.specs.Text.{byte_digits, condition_name, immediate_name, index_name, operand_name, operation_name, pair_name, register_name, restart_digit, stack_name, word_digits};
+
 use crate::instr::{
     Condition, IndexPair, Instr, Operand, Operation, Pair, Register, Restart, StackPair,
 };
@@ -8,123 +12,184 @@ use std::fmt;
 
 /// The text of the instruction, as `MVI A,08` or `JNZ 0100`.
 impl fmt::Display for Instr {
+    ghost use Rattle.std.specs.Prelude.{Some};
+    ghost use Rattle.isa8080.specs.Text.{text_of};
+
+    ghost output = { λ instr. Some (text_of instr) };
+
     fn fmt<W: fmt::Write>(&self, f: &mut fmt::Formatter<W>) -> fmt::Result {
-        f.write_str(mnemonic(*self))?;
-        f.write_str(condition_letters(*self))?;
-        write_operands(f, operands_of(*self))
-    }
-}
-
-// Writes the operands, after a space where there are any.
-fn write_operands<W: fmt::Write>(f: &mut fmt::Formatter<W>, operands: Operands) -> fmt::Result {
-    match operands {
-        Operands::None => Ok(()),
-        Operands::One(name) => write!(f, " {name}"),
-        Operands::Two(first, second) => write!(f, " {first},{second}"),
-        Operands::Byte(byte) => write!(f, " {byte:02X}"),
-        Operands::Word(word) => write!(f, " {word:04X}"),
-        Operands::OneAndByte(name, byte) => write!(f, " {name},{byte:02X}"),
-        Operands::OneAndWord(name, word) => write!(f, " {name},{word:04X}"),
-    }
-}
-
-// The operands of an instruction, with the names of registers and pairs.
-#[derive(Clone, Copy)]
-enum Operands {
-    None,
-    One(&'static str),
-    Two(&'static str, &'static str),
-    Byte(u8),
-    Word(u16),
-    OneAndByte(&'static str, u8),
-    OneAndWord(&'static str, u16),
-}
-
-fn operands_of(instr: Instr) -> Operands {
-    match instr {
-        Instr::Lxi(pair, word) => Operands::OneAndWord(pair_name(pair), word),
-        Instr::Stax(pair) | Instr::Ldax(pair) => Operands::One(index_name(pair)),
-        Instr::Inx(pair) | Instr::Dcx(pair) | Instr::Dad(pair) => Operands::One(pair_name(pair)),
-        Instr::Inr(operand) | Instr::Dcr(operand) => Operands::One(operand_name(operand)),
-        Instr::Mvi(operand, byte) => Operands::OneAndByte(operand_name(operand), byte),
-        Instr::Mov(register, operand) => {
-            Operands::Two(register_name(register), operand_name(operand))
+        match *self {
+            Instr::Nop => f.write_str("NOP"),
+            Instr::Lxi(pair, word) => write_name_and_word(f, "LXI", pair_name(pair), word),
+            Instr::Stax(pair) => write_name(f, "STAX", index_name(pair)),
+            Instr::Ldax(pair) => write_name(f, "LDAX", index_name(pair)),
+            Instr::Shld(word) => write_word(f, "SHLD", word),
+            Instr::Lhld(word) => write_word(f, "LHLD", word),
+            Instr::Sta(word) => write_word(f, "STA", word),
+            Instr::Lda(word) => write_word(f, "LDA", word),
+            Instr::Inx(pair) => write_name(f, "INX", pair_name(pair)),
+            Instr::Dcx(pair) => write_name(f, "DCX", pair_name(pair)),
+            Instr::Dad(pair) => write_name(f, "DAD", pair_name(pair)),
+            Instr::Inr(operand) => write_name(f, "INR", operand_name(operand)),
+            Instr::Dcr(operand) => write_name(f, "DCR", operand_name(operand)),
+            Instr::Mvi(operand, byte) => write_name_and_byte(f, "MVI", operand_name(operand), byte),
+            Instr::Rlc => f.write_str("RLC"),
+            Instr::Rrc => f.write_str("RRC"),
+            Instr::Ral => f.write_str("RAL"),
+            Instr::Rar => f.write_str("RAR"),
+            Instr::Daa => f.write_str("DAA"),
+            Instr::Cma => f.write_str("CMA"),
+            Instr::Stc => f.write_str("STC"),
+            Instr::Cmc => f.write_str("CMC"),
+            Instr::Mov(register, operand) => {
+                write_names(f, "MOV", register_name(register), operand_name(operand))
+            }
+            Instr::MovToMemory(register) => write_names(f, "MOV", "M", register_name(register)),
+            Instr::Hlt => f.write_str("HLT"),
+            Instr::Accumulate(operation, operand) => {
+                write_name(f, operation_name(operation), operand_name(operand))
+            }
+            Instr::AccumulateImmediate(operation, byte) => {
+                write_byte(f, immediate_name(operation), byte)
+            }
+            Instr::ReturnIf(condition) => write_condition(f, "R", condition),
+            Instr::JumpIf(condition, word) => write_condition_and_word(f, "J", condition, word),
+            Instr::CallIf(condition, word) => write_condition_and_word(f, "C", condition, word),
+            Instr::Ret => f.write_str("RET"),
+            Instr::Jmp(word) => write_word(f, "JMP", word),
+            Instr::Call(word) => write_word(f, "CALL", word),
+            Instr::Rst(number) => write_name(f, "RST", restart_name(number)),
+            Instr::Pop(pair) => write_name(f, "POP", stack_name(pair)),
+            Instr::Push(pair) => write_name(f, "PUSH", stack_name(pair)),
+            Instr::Out(port) => write_byte(f, "OUT", port),
+            Instr::In(port) => write_byte(f, "IN", port),
+            Instr::Xthl => f.write_str("XTHL"),
+            Instr::Xchg => f.write_str("XCHG"),
+            Instr::Pchl => f.write_str("PCHL"),
+            Instr::Sphl => f.write_str("SPHL"),
+            Instr::Di => f.write_str("DI"),
+            Instr::Ei => f.write_str("EI"),
         }
-        Instr::MovToMemory(register) => Operands::Two("M", register_name(register)),
-        Instr::Accumulate(_, operand) => Operands::One(operand_name(operand)),
-        Instr::Rst(number) => Operands::One(restart_name(number)),
-        Instr::Pop(pair) | Instr::Push(pair) => Operands::One(stack_name(pair)),
-        Instr::AccumulateImmediate(_, byte) | Instr::Out(byte) | Instr::In(byte) => {
-            Operands::Byte(byte)
-        }
-        Instr::Shld(word) | Instr::Lhld(word) | Instr::Sta(word) | Instr::Lda(word) => {
-            Operands::Word(word)
-        }
-        Instr::Jmp(word) | Instr::Call(word) => Operands::Word(word),
-        Instr::JumpIf(_, word) | Instr::CallIf(_, word) => Operands::Word(word),
-        _ => Operands::None,
     }
 }
 
-// The mnemonic, without the letters of a condition.
-fn mnemonic(instr: Instr) -> &'static str {
-    match instr {
-        Instr::Nop => "NOP",
-        Instr::Lxi(_, _) => "LXI",
-        Instr::Stax(_) => "STAX",
-        Instr::Ldax(_) => "LDAX",
-        Instr::Shld(_) => "SHLD",
-        Instr::Lhld(_) => "LHLD",
-        Instr::Sta(_) => "STA",
-        Instr::Lda(_) => "LDA",
-        Instr::Inx(_) => "INX",
-        Instr::Dcx(_) => "DCX",
-        Instr::Dad(_) => "DAD",
-        Instr::Inr(_) => "INR",
-        Instr::Dcr(_) => "DCR",
-        Instr::Mvi(_, _) => "MVI",
-        Instr::Rlc => "RLC",
-        Instr::Rrc => "RRC",
-        Instr::Ral => "RAL",
-        Instr::Rar => "RAR",
-        Instr::Daa => "DAA",
-        Instr::Cma => "CMA",
-        Instr::Stc => "STC",
-        Instr::Cmc => "CMC",
-        Instr::Mov(_, _) | Instr::MovToMemory(_) => "MOV",
-        Instr::Hlt => "HLT",
-        Instr::Accumulate(operation, _) => operation_name(operation),
-        Instr::AccumulateImmediate(operation, _) => immediate_name(operation),
-        Instr::ReturnIf(_) => "R",
-        Instr::JumpIf(_, _) => "J",
-        Instr::CallIf(_, _) => "C",
-        Instr::Ret => "RET",
-        Instr::Jmp(_) => "JMP",
-        Instr::Call(_) => "CALL",
-        Instr::Rst(_) => "RST",
-        Instr::Pop(_) => "POP",
-        Instr::Push(_) => "PUSH",
-        Instr::Out(_) => "OUT",
-        Instr::In(_) => "IN",
-        Instr::Xthl => "XTHL",
-        Instr::Xchg => "XCHG",
-        Instr::Pchl => "PCHL",
-        Instr::Sphl => "SPHL",
-        Instr::Di => "DI",
-        Instr::Ei => "EI",
-    }
+// A byte as two digits.
+fn write_byte_digits<W: fmt::Write>(f: &mut fmt::Formatter<W>, byte: u8) -> fmt::Result
+    ensures { WritesOnOk W.write_str_gives f.old result (byte_digits byte) f.new }
+{
+    write!(f, "{byte:02X}")
 }
 
-// The letters of the condition at the end of the mnemonic.
-fn condition_letters(instr: Instr) -> &'static str {
-    match instr {
-        Instr::ReturnIf(condition) => condition_name(condition),
-        Instr::JumpIf(condition, _) | Instr::CallIf(condition, _) => condition_name(condition),
-        _ => "",
-    }
+// A 16-bit value as four.
+fn write_word_digits<W: fmt::Write>(f: &mut fmt::Formatter<W>, word: u16) -> fmt::Result
+    ensures { WritesOnOk W.write_str_gives f.old result (word_digits word) f.new }
+{
+    write_byte_digits(f, (word / 256) as u8)?;
+    write_byte_digits(f, (word % 256) as u8)
 }
 
-fn condition_name(condition: Condition) -> &'static str {
+// A mnemonic and the name of an operand.
+fn write_name<W: fmt::Write>(f: &mut fmt::Formatter<W>, mnemonic: &str, name: &str) -> fmt::Result
+    ensures { WritesOnOk W.write_str_gives f.old result (mnemonic.now ++ codes " " ++ name.now) f.new }
+{
+    f.write_str(mnemonic)?;
+    f.write_str(" ")?;
+    f.write_str(name)
+}
+
+// A mnemonic and the names of two operands.
+fn write_names<W: fmt::Write>(
+    f: &mut fmt::Formatter<W>,
+    mnemonic: &str,
+    first: &str,
+    second: &str,
+) -> fmt::Result
+    ensures { WritesOnOk W.write_str_gives f.old result
+        (mnemonic.now ++ codes " " ++ first.now ++ codes "," ++ second.now) f.new }
+{
+    write_name(f, mnemonic, first)?;
+    f.write_str(",")?;
+    f.write_str(second)
+}
+
+// A mnemonic and a byte.
+fn write_byte<W: fmt::Write>(f: &mut fmt::Formatter<W>, mnemonic: &str, byte: u8) -> fmt::Result
+    ensures { WritesOnOk W.write_str_gives f.old result (mnemonic.now ++ codes " " ++ byte_digits byte) f.new }
+{
+    f.write_str(mnemonic)?;
+    f.write_str(" ")?;
+    write_byte_digits(f, byte)
+}
+
+// A mnemonic and a 16-bit value.
+fn write_word<W: fmt::Write>(f: &mut fmt::Formatter<W>, mnemonic: &str, word: u16) -> fmt::Result
+    ensures { WritesOnOk W.write_str_gives f.old result (mnemonic.now ++ codes " " ++ word_digits word) f.new }
+{
+    f.write_str(mnemonic)?;
+    f.write_str(" ")?;
+    write_word_digits(f, word)
+}
+
+// A mnemonic, the name of an operand and a byte.
+fn write_name_and_byte<W: fmt::Write>(
+    f: &mut fmt::Formatter<W>,
+    mnemonic: &str,
+    name: &str,
+    byte: u8,
+) -> fmt::Result
+    ensures { WritesOnOk W.write_str_gives f.old result
+        (mnemonic.now ++ codes " " ++ name.now ++ codes "," ++ byte_digits byte) f.new }
+{
+    write_name(f, mnemonic, name)?;
+    f.write_str(",")?;
+    write_byte_digits(f, byte)
+}
+
+// A mnemonic, the name of an operand and a 16-bit value.
+fn write_name_and_word<W: fmt::Write>(
+    f: &mut fmt::Formatter<W>,
+    mnemonic: &str,
+    name: &str,
+    word: u16,
+) -> fmt::Result
+    ensures { WritesOnOk W.write_str_gives f.old result
+        (mnemonic.now ++ codes " " ++ name.now ++ codes "," ++ word_digits word) f.new }
+{
+    write_name(f, mnemonic, name)?;
+    f.write_str(",")?;
+    write_word_digits(f, word)
+}
+
+// A mnemonic that ends with the letters of a condition.
+fn write_condition<W: fmt::Write>(
+    f: &mut fmt::Formatter<W>,
+    mnemonic: &str,
+    condition: Condition,
+) -> fmt::Result
+    ensures { WritesOnOk W.write_str_gives f.old result (mnemonic.now ++ condition_name condition) f.new }
+{
+    f.write_str(mnemonic)?;
+    f.write_str(condition_name(condition))
+}
+
+// Such a mnemonic and a 16-bit value.
+fn write_condition_and_word<W: fmt::Write>(
+    f: &mut fmt::Formatter<W>,
+    mnemonic: &str,
+    condition: Condition,
+    word: u16,
+) -> fmt::Result
+    ensures { WritesOnOk W.write_str_gives f.old result
+        (mnemonic.now ++ condition_name condition ++ codes " " ++ word_digits word) f.new }
+{
+    write_condition(f, mnemonic, condition)?;
+    f.write_str(" ")?;
+    write_word_digits(f, word)
+}
+
+fn condition_name(condition: Condition) -> &'static str
+    ensures { result.now ≡ condition_name condition }
+{
     match condition {
         Condition::NotZero => "NZ",
         Condition::Zero => "Z",
@@ -137,7 +202,9 @@ fn condition_name(condition: Condition) -> &'static str {
     }
 }
 
-fn register_name(register: Register) -> &'static str {
+fn register_name(register: Register) -> &'static str
+    ensures { result.now ≡ register_name register }
+{
     match register {
         Register::B => "B",
         Register::C => "C",
@@ -149,14 +216,18 @@ fn register_name(register: Register) -> &'static str {
     }
 }
 
-fn operand_name(operand: Operand) -> &'static str {
+fn operand_name(operand: Operand) -> &'static str
+    ensures { result.now ≡ operand_name operand }
+{
     match operand {
         Operand::Of(register) => register_name(register),
         Operand::M => "M",
     }
 }
 
-fn pair_name(pair: Pair) -> &'static str {
+fn pair_name(pair: Pair) -> &'static str
+    ensures { result.now ≡ pair_name pair }
+{
     match pair {
         Pair::Bc => "B",
         Pair::De => "D",
@@ -165,14 +236,18 @@ fn pair_name(pair: Pair) -> &'static str {
     }
 }
 
-fn index_name(pair: IndexPair) -> &'static str {
+fn index_name(pair: IndexPair) -> &'static str
+    ensures { result.now ≡ index_name pair }
+{
     match pair {
         IndexPair::IndexBc => "B",
         IndexPair::IndexDe => "D",
     }
 }
 
-fn stack_name(pair: StackPair) -> &'static str {
+fn stack_name(pair: StackPair) -> &'static str
+    ensures { result.now ≡ stack_name pair }
+{
     match pair {
         StackPair::StackBc => "B",
         StackPair::StackDe => "D",
@@ -181,7 +256,9 @@ fn stack_name(pair: StackPair) -> &'static str {
     }
 }
 
-fn restart_name(number: Restart) -> &'static str {
+fn restart_name(number: Restart) -> &'static str
+    ensures { result.now ≡ restart_digit number }
+{
     match number {
         Restart::N0 => "0",
         Restart::N1 => "1",
@@ -195,7 +272,9 @@ fn restart_name(number: Restart) -> &'static str {
 }
 
 // With a register or with memory.
-fn operation_name(operation: Operation) -> &'static str {
+fn operation_name(operation: Operation) -> &'static str
+    ensures { result.now ≡ operation_name operation }
+{
     match operation {
         Operation::Add => "ADD",
         Operation::AddWithCarry => "ADC",
@@ -209,7 +288,9 @@ fn operation_name(operation: Operation) -> &'static str {
 }
 
 // With the byte after the code.
-fn immediate_name(operation: Operation) -> &'static str {
+fn immediate_name(operation: Operation) -> &'static str
+    ensures { result.now ≡ immediate_name operation }
+{
     match operation {
         Operation::Add => "ADI",
         Operation::AddWithCarry => "ACI",
