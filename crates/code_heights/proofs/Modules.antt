@@ -18,7 +18,7 @@ use Rattle.treecode.specs.declared.procedure.TreeProcedure.{TreeProcedure}
 use Rattle.treecode.specs.declared.statement.StatementNumber.{StatementNumber}
 use Rattle.treecode.specs.Lowered.{HasBody, IsLowered, IsProcedure, labels_numbered_in_list}
 use Rattle.treecode.specs.Nodes.{nodes_of}
-use Rattle.procedure_frames.specs.internal.Objects.{call_bytes}
+use Rattle.procedure_frames.specs.Calls.{call_bytes}
 use Rattle.procedure_frames.proofs.Frames.{has_frame, parameter_count}
 use Rattle.procedure_frames.proofs.Parameters.{frame_fits, has_parameters, numbered_at}
 use Rattle.steps8080.specs.declared.facts.Facts.{Facts}
