@@ -25,7 +25,8 @@ use Rattle.object_modules.specs.Displacements.{Linked, code_end, data_end, linke
 use Rattle.object_modules.specs.Image.{Image}
 use Rattle.object_modules.specs.Module.{SetByte, ObjectModule}
 use Rattle.object_images.specs.internal.InMemory.{BytesAreLoaded, address_of_public, address_of_target}
-use Rattle.program_images.specs.internal.AtPlans.{AreObjectsOf, IsObjectOf, StandsAt, bases_of, code_lengths_of, plan_of}
+use Rattle.program_images.specs.Objects.{IsObjectOf}
+use Rattle.program_images.specs.internal.AtPlans.{AreObjectsOf, StandsAt, bases_of, code_lengths_of, plan_of}
 use Rattle.program_images.proofs.Bases.{bases_agree}
 use Rattle.program_images.proofs.Standing.{program_stands}
 use Rattle.program_memory.specs.internal.InMemory.{IsInMemory, placement_of}
