@@ -32,7 +32,7 @@ use Rattle.module_segments.specs.internal.Places.{IsHere, KeepWords, location_of
 use Rattle.module_segments.proofs.Homes.{IsLaidOut}
 use Rattle.module_segments.proofs.Lowered.{code_is, data_is}
 use Rattle.module_segments.proofs.Publics.{public_lies}
-use Rattle.program_memory.specs.internal.Segments.{BeginWith, HasPublic, HasSegments, IsPublicAt}
+use Rattle.program_memory.specs.Segments.{BeginWith, HasPublic, HasSegments, IsPublicAt}
 use Rattle.generated_objects.proofs.Cells.{HasByte, at_zero}
 use Rattle.generated_objects.proofs.Contents.{IsWordContent, contents_begin, contents_keep}
 use Rattle.generated_objects.proofs.Listed.{InList, kept_in, object_listed}

@@ -6,7 +6,7 @@ ghost use Rattle.failure.specs.Failure.{IfFault};
 ghost use Rattle.codegen8080.specs.Modules.{IsGenerated};
 ghost use Rattle.codegen8080.specs.Refusals.{MayRefuse};
 ghost use Rattle.program_images.specs.Objects.{IsObjectOf};
-ghost use Rattle.program_memory.specs.internal.Segments.{HasSegments};
+ghost use Rattle.program_memory.specs.Segments.{HasSegments};
 ghost use Rattle.program_merges.specs.internal.Names.{HasNames};
 ghost use Rattle.program_meaning.specs.OneModule.{DoesWhereItLies};
 ghost use Rattle.program_meaning.specs.Typed.{IsSoundlyMade};

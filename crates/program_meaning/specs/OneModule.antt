@@ -27,7 +27,7 @@ use Rattle.asm8080.specs.Items.{Layout}
 use Rattle.asm8080.specs.Standing.{SetBytesStand}
 use Rattle.treecode.specs.declared.module.ExternalName.{ExternalName as TreeExternal}
 use Rattle.module_segments.specs.internal.Places.{name_at}
-use Rattle.program_memory.specs.internal.Segments.{HasPublic}
+use Rattle.program_memory.specs.Segments.{HasPublic}
 use Rattle.steps8080.specs.Externals.{entry}
 use Rattle.steps8080.specs.Writer.{Written}
 use Rattle.task_meaning.specs.TreeNumbers.{HasTypes, NumbersFitInModule}
