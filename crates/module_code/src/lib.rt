@@ -7,7 +7,7 @@ ghost use Rattle.codegen8080.specs.Modules.{IsGenerated};
 ghost use Rattle.codegen8080.specs.Refusals.{MayRefuse};
 ghost use Rattle.program_images.specs.Objects.{IsObjectOf};
 ghost use Rattle.program_memory.specs.Segments.{HasSegments};
-ghost use Rattle.program_merges.specs.internal.Names.{HasNames};
+ghost use Rattle.program_merges.specs.Names.{HasNames};
 ghost use Rattle.program_meaning.specs.OneModule.{DoesWhereItLies};
 ghost use Rattle.program_meaning.specs.Typed.{IsSoundlyMade};
 ghost use Rattle.module_code.specs.Bounded.{IsPastBound, IsWithinBound};
