@@ -29,7 +29,7 @@ use Rattle.treecode.specs.Lowered.{IsLowered}
 use Rattle.steps8080.specs.Writer.{Written, numbered}
 use Rattle.codegen8080.specs.Modules.{ArePublicsOf, IsAtPlace, IsGenerated, IsOwnCode, IsPublicOf, contents_items}
 use Rattle.module_segments.specs.internal.Places.{IsHere, KeepWords, location_of_place, places_of_contents}
-use Rattle.module_segments.proofs.Homes.{IsLaidOut}
+use Rattle.module_segments.specs.Laid.{IsLaidOut}
 use Rattle.module_segments.proofs.Lowered.{code_is, data_is}
 use Rattle.module_segments.proofs.Publics.{public_lies}
 use Rattle.program_memory.specs.Segments.{BeginWith, HasPublic, HasSegments, IsPublicAt}

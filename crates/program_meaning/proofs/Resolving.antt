@@ -39,7 +39,8 @@ use Rattle.treecode.specs.Nodes.{home_at}
 use Rattle.treecode.specs.Resolved.{Resolves}
 use Rattle.module_segments.specs.internal.Places.{IsStatic, location_of_place}
 use Rattle.module_segments.proofs.Homes.{any_lies}
-use Rattle.module_segments.proofs.Slots.{IsStored, list_offset}
+use Rattle.module_segments.specs.Laid.{IsStored}
+use Rattle.module_segments.proofs.Slots.{list_offset}
 use Rattle.program_memory.proofs.Lists.{got_both, got_numbered, some_within}
 use Rattle.code_facts.specs.Holding.{place_at}
 use Rattle.codegen8080.specs.Modules.{IsGenerated}
