@@ -18,7 +18,7 @@ use Rattle.statements8080.specs.declared.body.Body.{Body}
 use Rattle.statements8080.specs.declared.plan.Planned.{Planned}
 use Rattle.codegen8080.specs.declared.meeting.Here.{Here}
 use Rattle.codegen8080.specs.Generated.{AreCarriedOut, IsCarriedOut, IsListCarriedOut}
-use Rattle.code_sizes.specs.Sizes.{PartsFit, bytes_for}
+use Rattle.code_sizes.specs.internal.Sizes.{PartsFit, bytes_for}
 
 -- the code of planned steps takes at most so many bytes, wherever it stands
 pub record StepsFit (body : Body) (called : List Bool) (steps : List Planned) (most : ℕ) : Type 0 where
