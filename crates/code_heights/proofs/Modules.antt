@@ -31,7 +31,7 @@ use Rattle.statements8080.specs.declared.body.Body.{Body}
 use Rattle.codegen8080.specs.declared.meeting.Here.{Here}
 use Rattle.codegen8080.specs.Generated.{IsCarriedOut, IsListCarriedOut}
 use Rattle.codegen8080.specs.Modules.{IsEndCode, IsFrameOf}
-use Rattle.code_heights.specs.Charges.{ListPushes, PushesWithinCharges, Setting, StatementPushes, TaskPushes}
+use Rattle.code_heights.specs.internal.Charges.{ListPushes, PushesWithinCharges, Setting, StatementPushes, TaskPushes}
 use Rattle.code_heights.specs.Heights.{FindsRoom, NothingThere, PushesAtMost, taken_by}
 use Rattle.code_heights.specs.internal.Going.{IsOfTree, Source}
 use Rattle.code_heights.proofs.Returns.{end_run}
