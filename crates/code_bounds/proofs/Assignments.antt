@@ -25,8 +25,8 @@ use Rattle.statements8080.specs.declared.plan.Planned.{Planned}
 use Rattle.statements8080.specs.Assignments.{any_target, assignment_steps, each_at, each_steps, from_type, several_by, several_steps, single_steps, store_at, stores_steps, takes_byte, takes_word, together_steps, types_by, value_steps}
 use Rattle.statements8080.specs.Plans.{part, steps_from}
 use Rattle.codegen8080.specs.Generated.{site_of}
-use Rattle.code_sizes.specs.Sizes.{PartsFit, bytes_for}
-use Rattle.code_bounds.specs.Fits.{StepsFit}
+use Rattle.code_sizes.specs.internal.Sizes.{PartsFit, bytes_for}
+use Rattle.code_bounds.specs.internal.Fits.{StepsFit}
 use Rattle.code_bounds.proofs.Fitting.{both_fit, less_fits, none_fit}
 use Rattle.code_bounds.proofs.KnownValues.{known_byte_fits, known_word_fits}
 use Rattle.code_bounds.proofs.Parts.{byte_fits, store_fits, target_weighs, weight_beside, word_fits}

@@ -15,7 +15,7 @@ use Rattle.codegen8080.specs.declared.fault.Fault.TheVariants.{TooLong}
 use Rattle.codegen8080.specs.Modules.{IsCodeWritten, IsGenerated, contents_items}
 use Rattle.codegen8080.specs.Refusals.{CodeIsNone, DataAreNone, MayRefuse}
 use Rattle.code_sizes.proofs.PartSizes.{part_size}
-use Rattle.code_bounds.specs.Fits.{IsSound}
+use Rattle.code_bounds.specs.Sound.{IsSound}
 use Rattle.code_bounds.proofs.Constants.{variables_fit}
 use Rattle.code_bounds.proofs.Modules.{code_segment_fits, module_fits}
 use Rattle.code_bounds.proofs.Numbering.{numbered_size}

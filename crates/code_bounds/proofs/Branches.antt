@@ -14,7 +14,7 @@ use Rattle.statements8080.specs.declared.plan.Planned.{Planned}
 use Rattle.statements8080.specs.declared.plan.Planned.TheVariants.{Jumped, JumpOn, List as ListOf, Meet, Reaches, Statement, Turn}
 use Rattle.statements8080.specs.Branches.{both_steps, branch, computed_if_steps, forever_steps, goto_label, has_one_jump, if_steps, statement_if_any, tested_if_steps, tested_while_steps, then_steps, while_steps}
 use Rattle.statements8080.specs.Plans.{jump, mark, nth_label, plain}
-use Rattle.code_bounds.specs.Fits.{StepsFit}
+use Rattle.code_bounds.specs.internal.Fits.{StepsFit}
 use Rattle.code_bounds.proofs.Fitting.{both_fit, less_fits, none_fit, then_fit}
 use Rattle.code_bounds.proofs.Pieces.{plain_fits, plains_fit}
 

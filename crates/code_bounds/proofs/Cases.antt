@@ -35,8 +35,8 @@ use Rattle.statements8080.specs.Cases.{case_steps, cases_end_steps, choice_at_st
 use Rattle.statements8080.specs.Plans.{all, jump, label_at, mark, nth_label, part, plain, steps_from}
 use Rattle.statements8080.specs.Tests.{less_steps}
 use Rattle.codegen8080.specs.Generated.{site_of}
-use Rattle.code_sizes.specs.Sizes.{PartsFit, bytes_for}
-use Rattle.code_bounds.specs.Fits.{StepsFit}
+use Rattle.code_sizes.specs.internal.Sizes.{PartsFit, bytes_for}
+use Rattle.code_bounds.specs.internal.Fits.{StepsFit}
 use Rattle.code_bounds.proofs.Fitting.{both_fit, less_fits, none_fit, then_fit}
 use Rattle.code_bounds.proofs.Iterations.{less_steps_fit}
 use Rattle.code_bounds.proofs.Lists.{AllFit, MoreFit, NoneFit, case_step_fits, no_label_weighs, statement_step_fits}

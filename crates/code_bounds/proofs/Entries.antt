@@ -21,7 +21,7 @@ use Rattle.statements8080.specs.declared.body.Body.{Body}
 use Rattle.statements8080.specs.declared.plan.Planned.{Planned}
 use Rattle.statements8080.specs.Plans.{holds, jump, mark, plain}
 use Rattle.codegen8080.specs.Procedures.{argument_step, below_return_steps, entry_steps, entry_steps_by, exchanged_steps, frame_entry_steps, is_address, known_from, last_argument_facts, last_argument_steps, odd_byte_steps, pair_of, popped_argument_steps, popped_at, popped_from, push_loop_steps, pushed_arguments_steps, pushes_steps, static_entry_steps, store_argument, stores_steps, with_argument, zeros_steps}
-use Rattle.code_bounds.specs.Fits.{StepsFit}
+use Rattle.code_bounds.specs.internal.Fits.{StepsFit}
 use Rattle.code_bounds.proofs.Fitting.{both_fit, less_fits, none_fit, then_fit}
 use Rattle.code_bounds.proofs.Pieces.{plain_fits, plains_fit, repeated_fit}
 

@@ -15,7 +15,7 @@ use Rattle.statements8080.specs.declared.body.Body.{Body}
 use Rattle.statements8080.specs.declared.plan.Planned.{Planned}
 use Rattle.codegen8080.specs.declared.meeting.Here.{Here}
 use Rattle.codegen8080.specs.Generated.{AreCarriedOut, ListCarriedOut, NoneCarriedOut, StatementCarriedOut, StepCarriedOut}
-use Rattle.code_bounds.specs.Fits.{StepsFit}
+use Rattle.code_bounds.specs.internal.Fits.{StepsFit}
 
 -- the code of steps that others follow
 record Parted

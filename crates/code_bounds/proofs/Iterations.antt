@@ -43,8 +43,8 @@ use Rattle.statements8080.specs.Iterations.{add_byte_steps, add_de_steps, add_st
 use Rattle.statements8080.specs.Plans.{all, jump, mark, nth_label, part, plain, word}
 use Rattle.statements8080.specs.Tests.{computed_test, facts_of_test, known_test, less_steps, test_of, test_steps, word_at, word_test_by}
 use Rattle.codegen8080.specs.Generated.{site_of}
-use Rattle.code_sizes.specs.Sizes.{PartsFit, bytes_for}
-use Rattle.code_bounds.specs.Fits.{StepsFit}
+use Rattle.code_sizes.specs.internal.Sizes.{PartsFit, bytes_for}
+use Rattle.code_bounds.specs.internal.Fits.{StepsFit}
 use Rattle.code_bounds.proofs.Fitting.{both_fit, less_fits, none_fit, then_fit}
 use Rattle.code_bounds.proofs.Parts.{byte_fits, load_byte_fits, load_word_fits, whole_address_fits, whole_is, word_fits}
 use Rattle.code_bounds.proofs.Assignments.{value_fits}

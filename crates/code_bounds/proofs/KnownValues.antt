@@ -28,7 +28,7 @@ use Rattle.exprgen8080.specs.Words.{word_steps}
 use Rattle.statements8080.specs.declared.body.Body.{Body}
 use Rattle.statements8080.specs.Plans.{part}
 use Rattle.codegen8080.specs.Generated.{site_of}
-use Rattle.code_bounds.specs.Fits.{StepsFit}
+use Rattle.code_bounds.specs.internal.Fits.{StepsFit}
 use Rattle.code_bounds.proofs.Parts.{task_fits}
 use Rattle.code_bounds.proofs.Pieces.{steps_within}
 

@@ -15,8 +15,8 @@ use Rattle.statements8080.specs.declared.plan.Planned.TheVariants as planned
 use Rattle.codegen8080.specs.declared.meeting.Here.{Here}
 use Rattle.codegen8080.specs.Generated as generated
 use Rattle.codegen8080.specs.Generated.{AreAllCarriedOut, AreCarriedOut, IsCarriedOut, IsListCarriedOut, ListCarriedOut, ListPlanned, StatementCarriedOut, StepCarriedOut}
-use Rattle.code_sizes.specs.Sizes.{bytes_for}
-use Rattle.code_bounds.specs.Fits.{ListFits, StatementFits, StepsFit, spared_by}
+use Rattle.code_sizes.specs.internal.Sizes.{bytes_for}
+use Rattle.code_bounds.specs.internal.Fits.{ListFits, StatementFits, StepsFit, spared_by}
 use Rattle.code_bounds.proofs.Fitting.{no_size}
 
 -- so many statements of the table of lists, from an entry on, are not too long for their trees

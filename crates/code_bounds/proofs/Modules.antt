@@ -32,9 +32,10 @@ use Rattle.statements8080.specs.declared.body.Body.{Body}
 use Rattle.codegen8080.specs.declared.meeting.Here.{Here}
 use Rattle.codegen8080.specs.Generated.{site_of}
 use Rattle.codegen8080.specs.Modules.{AreCodeOf, AreRoutines, IsCodeOf, IsCodeOfMain, IsCodeOfRoutine, IsCodeWritten, IsEndCode, IsGenerated, IsOwnCode, IsProcedureCode, all_routines, contents_items, has_main}
-use Rattle.codegen8080.specs.internal.Segments.{with_targets}
-use Rattle.code_sizes.specs.Sizes.{bytes_for}
-use Rattle.code_bounds.specs.Fits.{AllPartsFit, IsSound, ListFits}
+use Rattle.codegen8080.specs.Targets.{with_targets}
+use Rattle.code_sizes.specs.internal.Sizes.{bytes_for}
+use Rattle.code_bounds.specs.Sound.{IsSound}
+use Rattle.code_bounds.specs.internal.Fits.{AllPartsFit, ListFits}
 use Rattle.code_bounds.proofs.Constants.{constants_fit, holds_at}
 use Rattle.code_bounds.proofs.Entries.{entry_fits}
 use Rattle.code_bounds.proofs.Numbering.{numbered_size}

@@ -22,8 +22,8 @@ use Rattle.statements8080.specs.declared.plan.Planned.TheVariants.{Code}
 use Rattle.statements8080.specs.Moves.{computed_ends_steps, ends_steps, known_move_steps, move_steps}
 use Rattle.statements8080.specs.Plans.{part, plain, word}
 use Rattle.codegen8080.specs.Generated.{site_of}
-use Rattle.code_sizes.specs.Sizes.{PartsFit, bytes_for}
-use Rattle.code_bounds.specs.Fits.{StepsFit}
+use Rattle.code_sizes.specs.internal.Sizes.{PartsFit, bytes_for}
+use Rattle.code_bounds.specs.internal.Fits.{StepsFit}
 use Rattle.code_bounds.proofs.Fitting.{both_fit, less_fits, then_fit}
 use Rattle.code_bounds.proofs.Parts.{word_fits}
 use Rattle.code_bounds.proofs.Pieces.{plain_fits, plains_fit}

@@ -33,8 +33,8 @@ use Rattle.statements8080.specs.declared.plan.Planned.TheVariants as planned
 use Rattle.statements8080.specs.Bodies.{whole}
 use Rattle.statements8080.specs.Plans.{part}
 use Rattle.codegen8080.specs.Generated.{byte_at_address_steps, byte_at_steps, byte_in_a, carried_steps, load_byte_steps, load_word_steps, site_of, word_at_steps, word_in_hl}
-use Rattle.code_sizes.specs.Sizes.{PartsFit, TaskFits, bytes_for}
-use Rattle.code_bounds.specs.Fits.{StepsFit}
+use Rattle.code_sizes.specs.internal.Sizes.{PartsFit, TaskFits, bytes_for}
+use Rattle.code_bounds.specs.internal.Fits.{StepsFit}
 use Rattle.code_bounds.proofs.Pieces.{HoldNoPart, bytes_of_steps, step_fits, steps_within}
 
 -- a part before steps without parts

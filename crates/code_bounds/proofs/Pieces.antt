@@ -21,7 +21,7 @@ use Rattle.codegen8080.specs.declared.meeting.Here.{Here}
 use Rattle.codegen8080.specs.Generated.{AreCarriedOut, HoldsNoStatement, ListCarriedOut, StatementCarriedOut, StepCarriedOut, carried_steps, jump_on_steps, site_of}
 use Rattle.steps8080.specs.declared.step.LabelNumber.{LabelNumber}
 use Rattle.asm8080.specs.declared.item.WordForm.TheVariants.{Jump}
-use Rattle.code_bounds.specs.Fits.{StepsFit}
+use Rattle.code_bounds.specs.internal.Fits.{StepsFit}
 use Rattle.code_bounds.proofs.Fitting.{at_most_three, less_fits, no_size, none_fit, then_fit, word_at_most_three}
 
 -- how many bytes steps take at most of which none is a part

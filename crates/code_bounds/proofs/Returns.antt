@@ -13,7 +13,7 @@ use Rattle.steps8080.specs.Instructions.{clear_a}
 use Rattle.statements8080.specs.declared.body.Body.{Body}
 use Rattle.statements8080.specs.Plans.{plain}
 use Rattle.codegen8080.specs.Procedures.{drop_steps, end_steps, kept_steps, pops_steps, return_of_frame_steps, return_over_any_steps, return_over_steps, return_steps, return_steps_by, zero_result_steps}
-use Rattle.code_bounds.specs.Fits.{StepsFit}
+use Rattle.code_bounds.specs.internal.Fits.{StepsFit}
 use Rattle.code_bounds.proofs.Fitting.{both_fit, less_fits, none_fit, then_fit}
 use Rattle.code_bounds.proofs.Pieces.{plain_fits, plains_fit, repeated_fit}
 

@@ -26,8 +26,8 @@ use Rattle.statements8080.specs.Assignments.{byte_steps, count_of, from_byte_ste
 use Rattle.statements8080.specs.Bodies.{is_near}
 use Rattle.statements8080.specs.Plans.{part, plain}
 use Rattle.codegen8080.specs.Generated.{site_of}
-use Rattle.code_sizes.specs.Sizes.{PartsFit, bytes_for}
-use Rattle.code_bounds.specs.Fits.{StepsFit}
+use Rattle.code_sizes.specs.internal.Sizes.{PartsFit, bytes_for}
+use Rattle.code_bounds.specs.internal.Fits.{StepsFit}
 use Rattle.code_bounds.proofs.Fitting.{less_fits, then_fit}
 use Rattle.code_bounds.proofs.Parts.{address_fits, store_fits, weight_beside}
 use Rattle.code_bounds.proofs.Pieces.{plains_fit}

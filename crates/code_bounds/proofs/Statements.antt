@@ -29,8 +29,8 @@ use Rattle.statements8080.specs.Plans.{jump, mark, plain}
 use Rattle.codegen8080.specs.declared.meeting.Here.{Here}
 use Rattle.codegen8080.specs.Generated.{AreCarriedOut, IsCarriedOut, StatementPlanned, site_of}
 use Rattle.codegen8080.specs.Statements.{return_of_steps, returned_value_steps, statement_steps}
-use Rattle.code_sizes.specs.Sizes.{PartsFit, bytes_for}
-use Rattle.code_bounds.specs.Fits.{ListFits, StatementFits, StepsFit, spared_by}
+use Rattle.code_sizes.specs.internal.Sizes.{PartsFit, bytes_for}
+use Rattle.code_bounds.specs.internal.Fits.{ListFits, StatementFits, StepsFit, spared_by}
 use Rattle.code_bounds.proofs.Assignments.{assignment_fits}
 use Rattle.code_bounds.proofs.Branches.{AnyFits, if_fits, while_fits}
 use Rattle.code_bounds.proofs.Cases.{case_fits}

@@ -16,8 +16,8 @@ use Rattle.statements8080.specs.declared.body.Body.{Body}
 use Rattle.statements8080.specs.declared.plan.Planned.{Planned}
 use Rattle.statements8080.specs.Assignments.{any_target}
 use Rattle.statements8080.specs.Plans.{steps_from}
-use Rattle.code_sizes.specs.Sizes.{bytes_for}
-use Rattle.code_bounds.specs.Fits.{StepsFit}
+use Rattle.code_sizes.specs.internal.Sizes.{bytes_for}
+use Rattle.code_bounds.specs.internal.Fits.{StepsFit}
 use Rattle.code_bounds.proofs.Ranges.{item_there}
 use Rattle.code_bounds.proofs.Fitting.{both_fit, less_fits, none_fit}
 

@@ -18,7 +18,7 @@ use Rattle.treecode.specs.declared.procedure.TreeProcedure.{TreeProcedure}
 use Rattle.treecode.specs.declared.statement.StatementNumber.{StatementNumber}
 use Rattle.treecode.specs.Lowered.{HasBody, IsLowered, IsProcedure, labels_numbered_in_list}
 use Rattle.treecode.specs.Nodes.{nodes_of}
-use Rattle.procedure_frames.specs.internal.Objects.{call_bytes}
+use Rattle.procedure_frames.specs.Calls.{call_bytes}
 use Rattle.procedure_frames.proofs.Frames.{has_frame, parameter_count}
 use Rattle.procedure_frames.proofs.Parameters.{frame_fits, has_parameters, numbered_at}
 use Rattle.steps8080.specs.declared.facts.Facts.{Facts}
@@ -31,7 +31,7 @@ use Rattle.statements8080.specs.declared.body.Body.{Body}
 use Rattle.codegen8080.specs.declared.meeting.Here.{Here}
 use Rattle.codegen8080.specs.Generated.{IsCarriedOut, IsListCarriedOut}
 use Rattle.codegen8080.specs.Modules.{IsEndCode, IsFrameOf}
-use Rattle.code_heights.specs.Charges.{ListPushes, PushesWithinCharges, Setting, StatementPushes, TaskPushes}
+use Rattle.code_heights.specs.internal.Charges.{ListPushes, PushesWithinCharges, Setting, StatementPushes, TaskPushes}
 use Rattle.code_heights.specs.Heights.{FindsRoom, NothingThere, PushesAtMost, taken_by}
 use Rattle.code_heights.specs.internal.Going.{IsOfTree, Source}
 use Rattle.code_heights.proofs.Returns.{end_run}

@@ -1,3 +1,2 @@
 pub mod Heights
-pub mod Charges
 pub mod internal

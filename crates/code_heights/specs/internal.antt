@@ -1,2 +1,3 @@
 pub mod Going
 pub mod Bodies
+pub mod Charges

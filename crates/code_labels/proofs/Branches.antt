@@ -20,7 +20,7 @@ use Rattle.relations8080.specs.declared.word_relations.Words.{Words}
 use Rattle.relations8080.specs.Branches.{branch_part, branch_setting, branch_steps, by_bit_steps, equality_steps, known_branch_steps, outcome_branch_steps, relation_branch_steps, shape_of, shape_steps}
 use Rattle.relations8080.specs.Relations.{relation_outcome, relation_steps}
 use Rattle.relations8080.specs.WordRelations.{equality_of_words, high_difference_steps, low_difference_steps, words_of, words_steps}
-use Rattle.code_labels.specs.Steps.{StepsBind}
+use Rattle.code_labels.specs.internal.Steps.{StepsBind}
 use Rattle.code_labels.proofs.Joining.{joined}
 use Rattle.code_labels.proofs.Going.{Go, bound_later, either_go, free_go, go, then_go}
 use Rattle.code_labels.proofs.Relations.{high_difference_free, low_difference_free, relation_free, words_free}

@@ -18,9 +18,9 @@ use Rattle.statements8080.specs.declared.plan.Planned.{Planned}
 use Rattle.statements8080.specs.declared.plan.Planned.TheVariants as planned
 use Rattle.codegen8080.specs.declared.meeting.Here.{Here}
 use Rattle.codegen8080.specs.Generated.{AreCarriedOut, HoldsNoStatement, ListCarriedOut, NoneCarriedOut, StatementCarriedOut, StepCarriedOut, byte_at_steps, carried_steps, jump_on_steps, load_byte_steps, load_word_steps, site_of, word_at_steps}
-use Rattle.code_labels.specs.Items.{ItemsBind, ItemsGo}
-use Rattle.code_labels.specs.Plans.{ListGoes, PlanBinds, PlanGoes, PlannedBinds, StatementGoes, TaskThen}
-use Rattle.code_labels.specs.Steps.{StepsBind, StepsGo, TaskGoes}
+use Rattle.code_labels.specs.internal.Items.{ItemsBind, ItemsGo}
+use Rattle.code_labels.specs.internal.Plans.{ListGoes, PlanBinds, PlanGoes, PlannedBinds, StatementGoes, TaskThen}
+use Rattle.code_labels.specs.internal.Steps.{StepsBind, StepsGo, TaskGoes}
 use Rattle.code_labels.proofs.Joining.{AreFree, by_finding, by_test, free, joined}
 use Rattle.code_labels.proofs.Going.{free_go}
 use Rattle.code_labels.proofs.Written.{Knows, bound_after, bound_first, items_both, steps_bound, steps_written}

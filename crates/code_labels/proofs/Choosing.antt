@@ -25,7 +25,7 @@ use Rattle.statements8080.specs.Bodies.{body_label}
 use Rattle.statements8080.specs.Branches.{both_steps, branch, computed_if_steps, forever_steps, goto_label, goto_label_of, if_steps, statement_if_any, tested_if_steps, tested_while_steps, then_steps, while_steps}
 use Rattle.statements8080.specs.Cases.{byte_bound_steps, case_steps, cases_end_steps, choice_at_steps, choice_steps, computed_case_steps, entry_of, entry_of_statement, into_table_steps, known_case_steps, number_in_de_steps, statement_at, statements_steps, table_at, table_steps, word_bound_steps}
 use Rattle.statements8080.specs.Plans.{jump, label_at, mark, nth_label, part}
-use Rattle.code_labels.specs.Plans.{ListGoes, PlanBinds, StatementGoes}
+use Rattle.code_labels.specs.internal.Plans.{ListGoes, PlanBinds, StatementGoes}
 use Rattle.code_labels.proofs.Planning.{PlanGo, after_byte, after_word, each_go, either_go, plan_at, plan_first, plan_later, planned_go, plans_then}
 use Rattle.code_labels.proofs.Assigning.{less_go}
 

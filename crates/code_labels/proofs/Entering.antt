@@ -17,7 +17,7 @@ use Rattle.steps8080.specs.Step.{label_of}
 use Rattle.statements8080.specs.declared.body.Body.{Body}
 use Rattle.statements8080.specs.Plans.{holds, plain}
 use Rattle.codegen8080.specs.Procedures.{argument_step, below_return_steps, entry_steps, entry_steps_by, exchanged_steps, frame_entry_steps, is_address, last_argument_facts, last_argument_steps, odd_byte_steps, popped_at, popped_from, push_loop_steps, pushed_arguments_steps, pushes_steps, static_entry_steps, store_argument, stores_steps, zeros_steps}
-use Rattle.code_labels.specs.Plans.{PlanBinds}
+use Rattle.code_labels.specs.internal.Plans.{PlanBinds}
 use Rattle.code_labels.proofs.Planning.{PlanGo, after_plain, either_go, finding_go, plan_first, plan_later, planned_go, plans_then, repeated_go}
 
 -- the loop that pushes zeros

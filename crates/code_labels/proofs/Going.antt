@@ -4,7 +4,7 @@ use Rattle.steps8080.specs.declared.step.Step.{Step}
 use Rattle.steps8080.specs.declared.step.Step.TheVariants as steps
 use Rattle.steps8080.specs.declared.step.Task.{Task}
 use Rattle.steps8080.specs.declared.step.Task.TheVariants as tasks
-use Rattle.code_labels.specs.Steps.{NoLabels, StepsBind, StepsGo, TaskGoes, with_no_branch}
+use Rattle.code_labels.specs.internal.Steps.{NoLabels, StepsBind, StepsGo, TaskGoes, with_no_branch}
 use Rattle.code_labels.proofs.Joining.{AreFree}
 
 pub record Go (ok : ℕ → Type 0) (planned : List Step) : Type 0 where

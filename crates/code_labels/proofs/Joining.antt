@@ -7,7 +7,7 @@ use Rattle.steps8080.specs.declared.step.Step.TheVariants as steps
 use Rattle.steps8080.specs.declared.step.Task.{Task}
 use Rattle.steps8080.specs.declared.step.Task.TheVariants as tasks
 use Rattle.steps8080.specs.Step.{part, repeat_steps}
-use Rattle.code_labels.specs.Steps.{NoLabels, with_no_branch}
+use Rattle.code_labels.specs.internal.Steps.{NoLabels, with_no_branch}
 
 -- steps without labels
 pub record AreFree (planned : List Step) : Type 0 where

@@ -22,7 +22,7 @@ use Rattle.statements8080.specs.Counters.{counter_of, counter_place, counts_by_o
 use Rattle.statements8080.specs.Iterations.{add_de_steps, add_steps, add_word_to_byte_steps, asked_jump, asked_mark, asked_test_steps, below_steps, count_at_hl_steps, count_steps, counts_in_place, facts_of_turn, first_steps, first_test_steps, general_begin_steps, general_end_steps, general_steps, is_byte, is_byte_type, iteration_steps, loop_labels, next_byte_steps, next_steps, next_turn_steps, step_in_de_steps, step_steps, sum_of_byte_steps, sum_of_word_steps, test_label_steps, to_known_steps, turns_if_any}
 use Rattle.statements8080.specs.Plans.{mark, nth_label}
 use Rattle.statements8080.specs.Tests.{test_of, test_steps}
-use Rattle.code_labels.specs.Plans.{PlanBinds}
+use Rattle.code_labels.specs.internal.Plans.{PlanBinds}
 use Rattle.code_labels.proofs.Planning.{PlanGo, after_address, after_load, asking_go, either_go, finding_go, plan_first, plan_later, planned_go, plans_then}
 use Rattle.code_labels.proofs.Assigning.{less_go, single_go, test_go}
 

@@ -24,9 +24,9 @@ use Rattle.statements8080.specs.declared.body.Body.{Body}
 use Rattle.codegen8080.specs.declared.meeting.Here.{Here}
 use Rattle.codegen8080.specs.Generated.{site_of}
 use Rattle.codegen8080.specs.Modules.{AreCodeOf, IsCodeOf, IsCodeOfMain, IsEndCode, IsOwnCode, IsProcedureCode, content_items, contents_items, has_main}
-use Rattle.code_labels.specs.Items.{ItemsBind, ItemsGo}
-use Rattle.code_labels.specs.Modules.{HasItsPlace, LabelsHavePlaces}
-use Rattle.code_labels.specs.Plans.{ListGoes}
+use Rattle.code_labels.specs.internal.Items.{ItemsBind, ItemsGo}
+use Rattle.code_labels.specs.internal.Modules.{HasItsPlace, LabelsHavePlaces}
+use Rattle.code_labels.specs.internal.Plans.{ListGoes}
 use Rattle.code_labels.proofs.Assigning.{end_go}
 use Rattle.code_labels.proofs.Carried.{plan_bound, plan_carried}
 use Rattle.code_labels.proofs.Entering.{entry_go}

@@ -8,9 +8,9 @@ use Rattle.treecode.specs.declared.module.TreeModule.{TreeModule}
 use Rattle.treecode.specs.Lowered.{IsLowered, labels_numbered_in_list}
 use Rattle.codegen8080.specs.Modules.{IsOwnCode}
 use Rattle.procedure_meaning.proofs.Labels.{main_label_has_one_number, procedure_label_has_one_number}
-use Rattle.code_bounds.specs.Fits.{IsSound}
+use Rattle.code_bounds.specs.Sound.{IsSound}
 use Rattle.code_bounds.proofs.Constants.{holds_at}
-use Rattle.code_labels.specs.Modules.{LabelsHavePlaces}
+use Rattle.code_labels.specs.internal.Modules.{LabelsHavePlaces}
 use Rattle.code_labels.proofs.Modules.{own_code_goes}
 use Rattle.code_labels.proofs.Statements.{LabelsDiffer}
 

@@ -13,7 +13,7 @@ use Rattle.steps8080.specs.declared.step.Task.TheVariants as tasks
 use Rattle.statements8080.specs.declared.plan.Planned.{Planned}
 use Rattle.statements8080.specs.declared.plan.Planned.TheVariants as planned
 use Rattle.statements8080.specs.Plans.{mark, part, plain, steps_from}
-use Rattle.code_labels.specs.Plans.{PlanBinds, PlanGoes, TaskThen}
+use Rattle.code_labels.specs.internal.Plans.{PlanBinds, PlanGoes, TaskThen}
 
 pub record PlanGo
     (ok : ℕ → Type 0) (statement : StatementNumber → Type 0) (list : Range → Type 0) (plan : List Planned) :

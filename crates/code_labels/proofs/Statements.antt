@@ -26,8 +26,8 @@ use Rattle.codegen8080.specs.declared.meeting.Here.{Here}
 use Rattle.codegen8080.specs.Generated.{AreAllCarriedOut, AreCarriedOut, IsCarriedOut, IsListCarriedOut, ListPlanned, StatementPlanned, site_of}
 use Rattle.codegen8080.specs.Generated as generated
 use Rattle.codegen8080.specs.Statements.{statement_steps}
-use Rattle.code_labels.specs.Items.{ItemsBind, ItemsGo}
-use Rattle.code_labels.specs.Plans.{ListGoes, PlanBinds, StatementGoes}
+use Rattle.code_labels.specs.internal.Items.{ItemsBind, ItemsGo}
+use Rattle.code_labels.specs.internal.Plans.{ListGoes, PlanBinds, StatementGoes}
 use Rattle.code_labels.proofs.Planning.{planned_go}
 use Rattle.code_labels.proofs.Carried.{plan_bound, plan_carried}
 use Rattle.code_labels.proofs.Written.{Knows, bound_after, bound_first, items_both}

@@ -15,8 +15,8 @@ use Rattle.steps8080.specs.Writer.{word_item}
 use Rattle.sites8080.specs.declared.site.Site.{Site}
 use Rattle.exprgen8080.specs.Emission.{AreWritten, CallWritten, ChangeWritten, HoldsWritten, IsWritten, JumpWritten, MarkWritten, NoneWritten, PartWritten, PlainWritten, Planned, RoutineWritten, TestWritten, WordWritten, call_items, has_routine, knowing, label_of_routine, test_items, test_of_a}
 use Rattle.exprgen8080.specs.Forms.{steps_of, task_steps}
-use Rattle.code_labels.specs.Items.{ItemGoes, ItemsBind, ItemsGo}
-use Rattle.code_labels.specs.Steps.{StepsBind, StepsGo, TaskGoes}
+use Rattle.code_labels.specs.internal.Items.{ItemGoes, ItemsBind, ItemsGo}
+use Rattle.code_labels.specs.internal.Steps.{StepsBind, StepsGo, TaskGoes}
 use Rattle.code_labels.proofs.Going.{free_go}
 use Rattle.code_labels.proofs.Branches.{branch_go}
 use Rattle.code_labels.proofs.Operands.{address_free, store_free}

@@ -1,4 +1,1 @@
-pub mod Steps
-pub mod Items
-pub mod Plans
-pub mod Modules
+pub mod internal

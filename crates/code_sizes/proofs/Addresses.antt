@@ -37,7 +37,8 @@ use Rattle.sites8080.specs.Queries.{base_after, base_of, keeps, located, located
 use Rattle.sites8080.specs.Widths.{unknown}
 use Rattle.operands8080.specs.Addresses.{addition_steps, address_steps, base_added_steps, base_steps, frame_word_steps, location_address_steps, location_word_steps, located_steps, negated, new_address_steps, number_added_steps, second_steps, word_at_hl_steps}
 use Rattle.operands8080.specs.Loads.{byte_in_memory_steps, byte_to_l_steps, extended_byte_in_memory_steps, frame_byte_steps, frame_byte_to_l_steps, location_byte_steps, word_in_memory_steps}
-use Rattle.code_sizes.specs.Weights.{Fit, HasParts, IsOperand, IsPlaced, beside, beside_at, indices, weight_of_index}
+use Rattle.code_sizes.specs.Weights.{beside_at, weight_of_index}
+use Rattle.code_sizes.specs.internal.Parts.{Fit, HasParts, IsOperand, IsPlaced, beside, indices}
 use Rattle.code_sizes.proofs.Chains.{product_fits}
 use Rattle.code_sizes.proofs.Found.{of_found}
 use Rattle.code_sizes.proofs.Joining.{after_part, after_plain, by_asking, by_finding, by_test, fits, joined, repeated, within}

@@ -26,7 +26,7 @@ use Rattle.relations8080.specs.declared.byte_relations.Form.{Form}
 use Rattle.relations8080.specs.declared.byte_relations.Form.TheVariants.{WithMemory, WithE, Pushed}
 use Rattle.relations8080.specs.declared.byte_relations.Sides.{Sides}
 use Rattle.relations8080.specs.ByteRelations.{better_form, byte_is_steps, byte_number_steps, byte_relation_steps, comparing, exchanged, form_of, form_of_equality, form_or_push, in_order, is_better_exchanged, is_zero_steps, known_answer, left_back_steps, may_begin_with, memory_form, number_in_a_steps, pushed_steps, register_form, with_e_steps, with_memory_steps, without_push}
-use Rattle.code_sizes.specs.Weights.{Fit, IsOperand, beside, indices}
+use Rattle.code_sizes.specs.internal.Parts.{Fit, IsOperand, beside, indices}
 use Rattle.code_sizes.proofs.Found.{IsInMemory, operand_is_in_memory}
 use Rattle.code_sizes.proofs.Joining.{after_part, after_plain, by_finding, by_test, fits, joined, within}
 

@@ -35,7 +35,7 @@ use Rattle.exprgen8080.specs.declared.byte_shifts.Shifted.{Shifted}
 use Rattle.exprgen8080.specs.Halves.{byte_number_steps, high_byte_steps, low_of_word_steps}
 use Rattle.exprgen8080.specs.ByteShifts.{by_number_steps, byte_routine, byte_shift_steps, byte_shifted_right_steps, count_in_memory_steps, low_byte_shifted_right_steps, middle_byte_steps, operands_steps, right_shift_steps, rotation_steps, shifted_left_steps, turned_right_steps, zero_steps}
 use Rattle.exprgen8080.specs.ByteOperators.{added_steps, byte_binary_steps, byte_operation_steps, commutes, form_after_right, form_from_register, form_of, form_with_left, form_without_memory, from_number_steps, immediate_steps, in_form_steps, number_of_two, product_byte_steps, quotient_byte_steps, remainder_byte_steps, with_e_steps, with_memory_steps, with_number_steps, with_stack_steps}
-use Rattle.code_sizes.specs.Weights.{Fit, HasTwo, IsOperand, beside, indices, more_for_byte, more_for_word, type_at}
+use Rattle.code_sizes.specs.internal.Parts.{Fit, HasTwo, IsOperand, beside, indices, more_for_byte, more_for_word, type_at}
 use Rattle.code_sizes.proofs.Addresses.{byte_in_memory_fits}
 use Rattle.code_sizes.proofs.Chains.{byte_product_fits}
 use Rattle.code_sizes.proofs.Found.{IsInMemory, high_is_in_memory, of_found, operand_is_in_memory}

@@ -26,7 +26,8 @@ use Rattle.sites8080.specs.Site.{expression, scalar}
 use Rattle.exprgen8080.specs.Bytes.{embedded_steps}
 use Rattle.exprgen8080.specs.Calls.{argument_steps, arguments_steps, call_steps, last_argument_steps, push_of, pushed_argument_steps, value_task}
 use Rattle.exprgen8080.specs.Effects.{both_effects_steps, effects_steps, form_effects_steps, reference_effects_steps, subscript_effects_steps}
-use Rattle.code_sizes.specs.Weights.{AreGiven, Fit, HasParts, IsAimed, IsOfTree, IsOperand, IsPlaced, beside, beside_at, given, indices, size_of_task, weight_in_target, weight_of_given, weight_of_index}
+use Rattle.code_sizes.specs.Weights.{beside_at, weight_in_target, weight_of_given, weight_of_index}
+use Rattle.code_sizes.specs.internal.Parts.{AreGiven, Fit, HasParts, IsAimed, IsOfTree, IsOperand, IsPlaced, beside, given, indices, size_of_task}
 use Rattle.code_sizes.proofs.Addresses.{placed_indices}
 use Rattle.code_sizes.proofs.Joining.{after_part, after_plain, by_finding, by_test, fits, joined, within}
 use Rattle.code_sizes.proofs.Trees.{has_parts, operand}

@@ -12,7 +12,7 @@ use Rattle.steps8080.specs.Instructions.{with_register}
 use Rattle.sites8080.specs.declared.site.Site.{Site}
 use Rattle.sites8080.specs.Widths.{power_from, power_of_two}
 use Rattle.operands8080.specs.Products.{bit_steps, byte_multiple_steps, byte_product_steps, chain_from, has_bit, multiple_steps, product_steps, small_multiple_steps}
-use Rattle.code_sizes.specs.Weights.{Fit, IsOperand, beside}
+use Rattle.code_sizes.specs.internal.Parts.{Fit, IsOperand, beside}
 use Rattle.code_sizes.proofs.Found.{of_found}
 use Rattle.code_sizes.proofs.Joining.{after_part, after_plain, by_finding, by_test, fits, joined, repeated, within}
 

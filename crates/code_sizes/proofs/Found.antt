@@ -16,7 +16,7 @@ use Rattle.sites8080.specs.declared.site.Site.{Site}
 use Rattle.sites8080.specs.Site.{expression}
 use Rattle.sites8080.specs.Queries.{form_in_memory, high_in_memory, high_of, inside, keeps_of_address, memory, plain_in_memory, reference_after, same_low_byte}
 use Rattle.sites8080.specs.Widths.{high_byte_in_memory, operand_in_memory, word_in_memory, word_of}
-use Rattle.code_sizes.specs.Weights.{HasParts, IsOperand, IsPlaced, beside, indices}
+use Rattle.code_sizes.specs.internal.Parts.{HasParts, IsOperand, IsPlaced, beside, indices}
 use Rattle.code_sizes.proofs.Trees.{has_parts}
 
 -- what holds of whatever is found holds of this

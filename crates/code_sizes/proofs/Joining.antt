@@ -9,8 +9,8 @@ use Rattle.steps8080.specs.declared.step.Step.TheVariants as steps
 use Rattle.steps8080.specs.declared.step.Task.{Task}
 use Rattle.steps8080.specs.Step.{part, repeat_steps}
 use Rattle.sites8080.specs.declared.site.Site.{Site}
-use Rattle.code_sizes.specs.Sizes.{size_of_steps}
-use Rattle.code_sizes.specs.Weights.{AreOfTrees, Fit, IsOfTree, size_of_task}
+use Rattle.code_sizes.specs.internal.Sizes.{size_of_steps}
+use Rattle.code_sizes.specs.internal.Parts.{AreOfTrees, Fit, IsOfTree, size_of_task}
 
 pub fits :
     {site : Site} {storage : Storage} {planned : List Step} {size : ℕ}

@@ -34,7 +34,7 @@ use Rattle.exprgen8080.specs.Emission.{AreWritten, IsWritten, PartWritten, Plann
 use Rattle.exprgen8080.specs.Forms.{steps_of, task_steps}
 use Rattle.exprgen8080.specs.Halves.{low_of_word_steps}
 use Rattle.exprgen8080.specs.Words.{computed_word_steps, extended_byte_steps, word_form_steps, word_steps}
-use Rattle.code_sizes.specs.Weights.{type_at}
+use Rattle.code_sizes.specs.internal.Parts.{type_at}
 use Rattle.code_sizes.proofs.Trees.{type_found}
 use Rattle.code_sizes.proofs.Values.{HasNoEnd, ListTurns, LocationTurns, NumberTurns, ProductTurns, QuotientTurns, Turns, ValueTurns}
 

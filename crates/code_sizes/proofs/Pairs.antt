@@ -8,7 +8,7 @@ use Rattle.operands8080.specs.declared.pairs.PairForm.TheVariants.{RightKnown, L
 use Rattle.operands8080.specs.declared.pairs.PairOrder.{PairOrder}
 use Rattle.operands8080.specs.declared.pairs.PairOrder.TheVariants.{LeftInHl, RightInHl}
 use Rattle.operands8080.specs.Pairs.{form_steps, order_of, pair_form, pair_in_order_steps, pair_steps, wish_for_left, wished_steps}
-use Rattle.code_sizes.specs.Weights.{Fit, IsOperand, beside}
+use Rattle.code_sizes.specs.internal.Parts.{Fit, IsOperand, beside}
 use Rattle.code_sizes.proofs.Joining.{fits, joined}
 
 pair_form_fits :

@@ -20,8 +20,9 @@ use Rattle.steps8080.specs.declared.step.Task.TheVariants as tasks
 use Rattle.sites8080.specs.declared.site.Site.{Site}
 use Rattle.exprgen8080.specs.Emission.{AreWritten, IsWritten, knowing}
 use Rattle.exprgen8080.specs.Forms.{steps_of, task_steps}
-use Rattle.code_sizes.specs.Sizes.{PartsFit, TaskFits, size_of_step, size_of_steps}
-use Rattle.code_sizes.specs.Weights.{AreGiven, AreOfTrees, Fit, IsAimed, IsOfTree, IsOperand, IsPlaced, beside, beside_at, given, indices, size_of_task, weight_in_target, weight_of_given, weight_of_indices}
+use Rattle.code_sizes.specs.internal.Sizes.{PartsFit, TaskFits, size_of_step, size_of_steps}
+use Rattle.code_sizes.specs.Weights.{beside_at, weight_in_target, weight_of_given, weight_of_indices}
+use Rattle.code_sizes.specs.internal.Parts.{AreGiven, AreOfTrees, Fit, IsAimed, IsOfTree, IsOperand, IsPlaced, beside, given, indices, size_of_task}
 use Rattle.code_sizes.proofs.Addresses.{address_fits}
 use Rattle.code_sizes.proofs.Calls.{call_fits, effects_fit}
 use Rattle.code_sizes.proofs.NoEnd.{ends_if_written}

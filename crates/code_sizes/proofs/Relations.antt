@@ -44,7 +44,7 @@ use Rattle.relations8080.specs.Branches.{branch_setting, branch_steps, equality_
 use Rattle.relations8080.specs.Relations.{carry_steps, inquiry_steps, outcome_value_steps, relation_outcome, relation_steps, relation_value_steps, value_setting}
 use Rattle.relations8080.specs.ByteRelations.{byte_relation_steps}
 use Rattle.relations8080.specs.WordRelations.{word_relation_steps, equality_of_words, high_difference_steps, low_difference_steps, words_asked, words_compared, words_of, words_steps}
-use Rattle.code_sizes.specs.Weights.{Fit, HasParts, HasTwo, IsOperand, beside}
+use Rattle.code_sizes.specs.internal.Parts.{Fit, HasParts, HasTwo, IsOperand, beside}
 use Rattle.code_sizes.proofs.ByteRelations.{byte_number_fits, byte_relation_fits}
 use Rattle.code_sizes.proofs.Found.{of_found}
 use Rattle.code_sizes.proofs.Joining.{after_part, after_plain, by_finding, by_test, fits, joined, within}

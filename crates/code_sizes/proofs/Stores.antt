@@ -25,7 +25,8 @@ use Rattle.operands8080.specs.declared.stores.Goal.{Goal}
 use Rattle.operands8080.specs.declared.stores.Near.{Near}
 use Rattle.operands8080.specs.declared.stores.Near.TheVariants.{First, Second}
 use Rattle.operands8080.specs.Stores.{address_beside_a_steps, address_beside_de_steps, byte_is_here_steps, goal_of, goal_steps, high_byte_steps, high_zero_steps, send_steps, store_a_at_steps, store_a_steps, store_extended_steps, store_hl_at_steps, store_low_byte_at_steps, store_low_byte_steps, store_near_steps, store_steps, store_word_steps, value_back_steps, word_is_here_steps, word_near}
-use Rattle.code_sizes.specs.Weights.{Fit, IsAimed, IsPlaced, beside_at, indices, weight_in_target}
+use Rattle.code_sizes.specs.Weights.{beside_at, weight_in_target}
+use Rattle.code_sizes.specs.internal.Parts.{Fit, IsAimed, IsPlaced, indices}
 use Rattle.code_sizes.proofs.Joining.{after_plain, by_finding, by_test, fits, joined, within}
 
 near_fits :

@@ -18,7 +18,8 @@ use Rattle.treecode.specs.Nodes.{Nodes, nodes_of}
 use Rattle.treecode.specs.Traits.{no_traits}
 use Rattle.sites8080.specs.declared.site.Site.{Site}
 use Rattle.sites8080.specs.Site.{expression, scalar}
-use Rattle.code_sizes.specs.Weights.{HasParts, IsOperand, beside, beside_at, beside_within, more_for_byte, more_for_word, type_at, weight_in_form, weight_in_target, weight_of_given, weight_of_index, weight_of_indices}
+use Rattle.code_sizes.specs.Weights.{beside_at, beside_within, weight_in_form, weight_in_target, weight_of_given, weight_of_index, weight_of_indices}
+use Rattle.code_sizes.specs.internal.Parts.{HasParts, IsOperand, beside, more_for_byte, more_for_word, type_at}
 
 -- this is what the expressions of numbers below a limit weigh beside 1
 abbrev pub Weighs : Nodes → Storage → (limit : ℕ) → (beside : ℕ → ℕ) → Type 0

@@ -26,7 +26,8 @@ use Rattle.sites8080.specs.Widths.{low_number, power}
 use Rattle.exprgen8080.specs.Bytes.{byte_form_steps, byte_function_steps, byte_of_two_steps, byte_steps, byte_unary_steps, called_byte_steps, known_byte_steps, low_of_value_steps}
 use Rattle.exprgen8080.specs.Words.{computed_word_steps, extended_byte_steps, word_form_steps, word_function_steps, word_of_two_steps, word_steps}
 use Rattle.operands8080.specs.Loads.{byte_in_memory_steps, extended_byte_in_memory_steps}
-use Rattle.code_sizes.specs.Weights.{AreGiven, Fit, HasParts, IsOperand, beside, beside_at, given, indices, more_for_byte, more_for_word, type_at, weight_in_target}
+use Rattle.code_sizes.specs.Weights.{beside_at, weight_in_target}
+use Rattle.code_sizes.specs.internal.Parts.{AreGiven, Fit, HasParts, IsOperand, beside, given, indices, more_for_byte, more_for_word, type_at}
 use Rattle.code_sizes.proofs.Addresses.{byte_in_memory_fits, extended_byte_in_memory_fits, location_address_fits, word_in_memory_fits}
 use Rattle.code_sizes.proofs.Bytes.{NeverTurns, byte_binary_fits, byte_number_fits, byte_shift_fits, high_byte_fits, low_of_word_fits}
 use Rattle.code_sizes.proofs.Calls.{call_fits, embedded_fits}

@@ -35,7 +35,7 @@ use Rattle.steps8080.specs.Step.{part}
 use Rattle.isa8080.specs.declared.instr.Register.TheVariants.{A}
 use Rattle.relations8080.specs.ByteRelations.{number_in_a_steps}
 use Rattle.relations8080.specs.WordRelations.{apart_of, difference_steps, high_byte_steps, high_steps, in_hl, left_apart, load_a_steps, low_steps, masked, masked_form, masked_steps, operand_apart, other_word, place_apart, right_apart, taken_steps, with_pair_steps, with_place_steps, word_below_steps, word_is_steps, word_is_zero_steps, word_number_steps, word_question_steps, word_relation_steps, word_taken_from, words_steps}
-use Rattle.code_sizes.specs.Weights.{Fit, HasParts, IsOperand, beside, indices}
+use Rattle.code_sizes.specs.internal.Parts.{Fit, HasParts, IsOperand, beside, indices}
 use Rattle.code_sizes.proofs.ByteRelations.{byte_number_fits, byte_relation_fits, number_in_a_fits}
 use Rattle.code_sizes.proofs.Found.{IsInMemory, high_is_in_memory, of_found}
 use Rattle.code_sizes.proofs.Joining.{after_part, after_plain, by_asking, by_finding, by_test, fits, joined, repeated, within}

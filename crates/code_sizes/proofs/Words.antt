@@ -36,7 +36,7 @@ use Rattle.exprgen8080.specs.Halves.{high_byte_steps}
 use Rattle.steps8080.specs.declared.step.Step.TheVariants as steps
 use Rattle.steps8080.specs.Instructions.{clear_a, copy, high, low, set, with_register}
 use Rattle.steps8080.specs.Step.{plain}
-use Rattle.code_sizes.specs.Weights.{Fit, IsOperand, beside}
+use Rattle.code_sizes.specs.internal.Parts.{Fit, IsOperand, beside}
 use Rattle.code_sizes.proofs.Addresses.{addition_fits}
 use Rattle.code_sizes.proofs.Bytes.{byte_operation_fits, byte_shifted_right_fits, high_byte_fits, right_shift_fits, with_number_fits}
 use Rattle.code_sizes.proofs.Chains.{product_fits}

@@ -19,8 +19,8 @@ use Rattle.steps8080.specs.Writer.{word_item}
 use Rattle.sites8080.specs.declared.site.Site.{Site}
 use Rattle.exprgen8080.specs.Emission.{AreWritten, CallWritten, ChangeWritten, HoldsWritten, IsWritten, JumpWritten, MarkWritten, NoneWritten, PartWritten, PlainWritten, Planned, RoutineWritten, TestWritten, WordWritten, call_items, items_of_call, knowing, test_items, test_of_a}
 use Rattle.exprgen8080.specs.Forms.{task_steps}
-use Rattle.code_sizes.specs.Sizes.{size_of_steps}
-use Rattle.code_sizes.specs.Weights.{AreOfTrees, Fit, IsOfTree, size_of_task}
+use Rattle.code_sizes.specs.internal.Sizes.{size_of_steps}
+use Rattle.code_sizes.specs.internal.Parts.{AreOfTrees, Fit, IsOfTree, size_of_task}
 
 with_word : (form : WordForm) (word : ℕ) → size_of_instruction (instruction_with form word) ≡ 3
 with_word (LoadPair pair) word = refl

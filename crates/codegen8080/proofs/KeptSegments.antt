@@ -26,7 +26,8 @@ use Rattle.asm8080.specs.Assembled.{Assembled, Assembles, FitsSegment, fixed_byt
 use Rattle.asm8080.specs.Items.{Assembly}
 use Rattle.asm8080.proofs.Segments.{and_true, places_length, run_places, runs_longest, set_length, set_well, valid_bytes}
 use Rattle.steps8080.specs.Writer.{Finishes, Written}
-use Rattle.codegen8080.specs.internal.Segments.{IsKept, KeepsFixes, listed_target, retarget, retargeted, with_targets}
+use Rattle.codegen8080.specs.Targets.{retargeted, with_targets}
+use Rattle.codegen8080.specs.internal.Segments.{IsKept, KeepsFixes, listed_target, retarget}
 
 -- what was assembled keeps its fixes
 pub assembled_keeps : (assembly : Assembly) (code : Assembled) → Assembles assembly code → KeepsFixes code

@@ -21,7 +21,8 @@ use Rattle.steps8080.proofs.Numbered.{use_either}
 use Rattle.codegen8080.specs.Modules.{AreTargets, ArePublicsOf, IsCodeWritten, IsGenerated, IsPublicOf, contents_items, has_main, used_names}
 use Rattle.codegen8080.specs.internal.Listing.{AreListed, ArePublicsIn, HavePlaces, IsMadeOf, IsPublicIn}
 use Rattle.codegen8080.specs.internal.Names.{Linkage}
-use Rattle.codegen8080.specs.internal.Segments.{listed_target, retarget, with_targets}
+use Rattle.codegen8080.specs.Targets.{with_targets}
+use Rattle.codegen8080.specs.internal.Segments.{listed_target, retarget}
 use Rattle.codegen8080.proofs.KeptSegments.{places_in}
 
 -- the label of a number is known by the table of known labels

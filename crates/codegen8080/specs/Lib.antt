@@ -3,6 +3,7 @@ pub mod Procedures
 pub mod Statements
 pub mod Generated
 pub mod Driven
+pub mod Targets
 pub mod Modules
 pub mod Refusals
 pub mod internal

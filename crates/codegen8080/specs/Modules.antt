@@ -39,7 +39,7 @@ use Rattle.statements8080.specs.declared.body.Body.{Body}
 use Rattle.codegen8080.specs.declared.meeting.Here.{Here}
 use Rattle.codegen8080.specs.Generated.{AreCarriedOut, IsListCarriedOut}
 use Rattle.codegen8080.specs.Procedures.{end_steps, entry_steps}
-use Rattle.codegen8080.specs.internal.Segments.{with_targets}
+use Rattle.codegen8080.specs.Targets.{with_targets}
 
 -- the items of what stands in a segment
 abbrev pub content_items : Content → List Item

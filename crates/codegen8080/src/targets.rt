@@ -1,7 +1,8 @@
 //! What fixes count from.
 
 ghost use Rattle.std.specs.Prelude.{◌≡◌, length, map, IfOk};
-ghost use Rattle.codegen8080.specs.internal.Segments.{listed_target, retarget, retargeted};
+ghost use Rattle.codegen8080.specs.Targets.{retargeted};
+ghost use Rattle.codegen8080.specs.internal.Segments.{listed_target, retarget};
 
 use object_modules::{Fix, Segment, Target};
 use std::alloc::{AllocError, Global};

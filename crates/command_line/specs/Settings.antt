@@ -1,6 +1,7 @@
 -- The values of an order's options: which texts are values, and what they say.
 use Rattle.std.specs.Prelude.{◌≡◌, ◌==◌, Bool, ◌&&◌, ◌+◌, ◌*◌, ◌++◌, ℕ, List, [], ◌∷◌, length, nat_le, nat_lt}
 use Rattle.std.specs.Prelude.{Option, Some, None, option_and_then, option_map, Result, Ok, Err, if◌then◌else◌}
+use Rattle.std.specs.Borrow.{Bor}
 use Rattle.std.specs.Char.{digit_value, is_digit}
 use Rattle.std.specs.List.{list_all, slice_split}
 use Rattle.std.specs.Str.Parse.{digits_value}
@@ -106,6 +107,16 @@ abbrev pub only_file : List Text → Read Text
 only_file [] = Err []
 only_file (file ∷ []) = Ok file
 only_file (file ∷ second ∷ more) = Err second
+
+-- the answer is what the text reads as
+abbrev pub Reads : {A : Type 0} → Read A → Result A ValueFault → Type 0
+Reads read (Ok value) = read ≡ Ok value
+Reads read (Err fault) = read ≡ Err fault.text.now
+
+-- the same of a text
+abbrev pub ReadsFile : Read Text → Result (Bor Text) ValueFault → Type 0
+ReadsFile read (Ok file) = read ≡ Ok file.now
+ReadsFile read (Err fault) = read ≡ Err fault.text.now
 
 -- what settings hold
 abbrev pub values_in : Settings → Values

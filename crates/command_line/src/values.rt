@@ -12,7 +12,8 @@ ghost use Rattle.command_line.specs.Settings.{groups_bytes};
 ghost use Rattle.command_line.specs.Settings.{input_bytes, input_read, limit_number, only_file, plan_number};
 ghost use Rattle.command_line.specs.Settings.{plan_read};
 ghost use Rattle.command_line.specs.Settings.{values_read};
-ghost use Rattle.command_line.specs.internal.Reads.{Reads, ReadsFile, if_read, in_front};
+ghost use Rattle.command_line.specs.Settings.{Reads, ReadsFile};
+ghost use Rattle.command_line.specs.internal.Reads.{if_read, in_front};
 
 use crate::orders::{NeedOrder, PlaceOrder, PlanTexts, ProgramOrder};
 use failure::Failure;

@@ -24,7 +24,7 @@ use Rattle.steps8080.specs.Instructions.{high, low}
 use Rattle.steps8080.specs.Writer.{Written, in_front, numbered}
 use Rattle.codegen8080.specs.Modules.{AreTargets, IsNamed, contents_items}
 use Rattle.module_segments.specs.internal.Places.{KeepWords, name_at, places_of_contents}
-use Rattle.program_memory.specs.internal.Segments.{BeginWith, IsTarget}
+use Rattle.program_memory.specs.Segments.{BeginWith, IsTarget}
 use Rattle.generated_objects.proofs.Cells.{HasByte, at_zero}
 use Rattle.generated_objects.proofs.Placed.{place_to}
 

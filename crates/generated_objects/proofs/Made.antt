@@ -20,8 +20,8 @@ use Rattle.layout.specs.Lawful.{IsLawful}
 use Rattle.layout.specs.Placing.{Plan as PlacingPlan, placing_refusal}
 use Rattle.layout.specs.Segments.{Places, constant_places}
 use Rattle.program_images.specs.internal.AtPlans.{AreObjectsOf, code_lengths_of, plan_of}
-use Rattle.program_memory.specs.internal.InMemory.{IsInMemory, placement_of}
-use Rattle.program_memory.specs.internal.Segments.{BeginWith, HaveSegments}
+use Rattle.program_memory.specs.internal.InMemory.{HaveSegments, IsInMemory, placement_of}
+use Rattle.program_memory.specs.Segments.{BeginWith}
 use Rattle.program_merges.specs.internal.Names.{HaveImage, HaveNames}
 use Rattle.program_merges.proofs.Names.{program_has_image}
 use Rattle.generated_objects.specs.Made.{AreMadeOf, IsMadeOf}

@@ -35,8 +35,8 @@ use Rattle.treecode.specs.Lowered.{AreMoreStatements, AreNoStatements, AreStatem
 use Rattle.treecode.specs.Nodes.{Nodes, home_at}
 use Rattle.steps8080.specs.Writer.{Written, place_of_label}
 use Rattle.codegen8080.specs.Modules.{ArePublicsOf, IsAtPlace, IsGenerated, IsPublicOf, has_main, used_names}
-use Rattle.module_segments.proofs.Homes.{IsLaidOut}
-use Rattle.program_merges.specs.internal.Names.{HasNames, external_names_in, public_names_in}
+use Rattle.module_segments.specs.Laid.{IsLaidOut}
+use Rattle.program_merges.specs.Names.{HasNames, external_names_in, public_names_in}
 use Rattle.generated_objects.proofs.Listed.{InList, object_shared, of_each, procedure_shared}
 
 abbrev name_of_public : Public → List ℕ

@@ -27,9 +27,9 @@ use Rattle.steps8080.specs.Instructions.{high, low}
 use Rattle.steps8080.specs.Writer.{Written, in_front, numbered}
 use Rattle.codegen8080.specs.Modules.{IsGenerated, IsSegmentOf, contents_items}
 use Rattle.module_segments.specs.internal.Places.{places_of_contents}
-use Rattle.module_segments.proofs.Homes.{IsLaidOut}
+use Rattle.module_segments.specs.Laid.{IsLaidOut}
 use Rattle.module_segments.proofs.Lowered.{data_length_is}
-use Rattle.program_images.specs.internal.AtPlans.{IsObjectOf}
+use Rattle.program_images.specs.Objects.{IsObjectOf}
 use Rattle.generated_objects.proofs.Contents.{in_front_of}
 use Rattle.generated_objects.proofs.Placed.{places_length}
 use Rattle.generated_objects.proofs.Segments.{data_keep}

@@ -12,7 +12,7 @@ use Rattle.object_modules.specs.Runs.{fixup_at}
 use Rattle.asm8080.specs.Assembled.{Assembled, fixed_bytes, layout_at, set_bytes}
 use Rattle.asm8080.proofs.Fixing.{set_of_items}
 use Rattle.steps8080.specs.Writer.{Written}
-use Rattle.codegen8080.specs.internal.Segments.{retargeted}
+use Rattle.codegen8080.specs.Targets.{retargeted}
 use Rattle.codegen8080.specs.Modules.{IsSegmentOf}
 use Rattle.generated_objects.proofs.Cells.{HasByte, at_zero, cells_of_bytes, places_are, set_length}
 

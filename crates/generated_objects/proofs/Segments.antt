@@ -29,10 +29,10 @@ use Rattle.treecode.specs.Lowered.{IsLowered}
 use Rattle.steps8080.specs.Writer.{Written, numbered}
 use Rattle.codegen8080.specs.Modules.{ArePublicsOf, IsAtPlace, IsGenerated, IsOwnCode, IsPublicOf, contents_items}
 use Rattle.module_segments.specs.internal.Places.{IsHere, KeepWords, location_of_place, places_of_contents}
-use Rattle.module_segments.proofs.Homes.{IsLaidOut}
+use Rattle.module_segments.specs.Laid.{IsLaidOut}
 use Rattle.module_segments.proofs.Lowered.{code_is, data_is}
 use Rattle.module_segments.proofs.Publics.{public_lies}
-use Rattle.program_memory.specs.internal.Segments.{BeginWith, HasPublic, HasSegments, IsPublicAt}
+use Rattle.program_memory.specs.Segments.{BeginWith, HasPublic, HasSegments, IsPublicAt}
 use Rattle.generated_objects.proofs.Cells.{HasByte, at_zero}
 use Rattle.generated_objects.proofs.Contents.{IsWordContent, contents_begin, contents_keep}
 use Rattle.generated_objects.proofs.Listed.{InList, kept_in, object_listed}

@@ -6,7 +6,7 @@ use Rattle.layout.specs.Storage.{Storage}
 use Rattle.treecode.specs.declared.module.TreeModule.{TreeModule}
 use Rattle.treecode.specs.Lowered.{IsLowered}
 use Rattle.codegen8080.specs.Modules.{IsGenerated}
-use Rattle.module_segments.proofs.Homes.{IsLaidOut}
+use Rattle.module_segments.specs.Laid.{IsLaidOut}
 
 -- An object module is made of a module, with its storage, by tree code that is this module. It is valid.
 pub record IsMadeOf (typed : TypedModule) (object : ObjectModule) : Type 0 where

@@ -14,7 +14,7 @@ use Rattle.codegen8080.specs.declared.fault.Fault.{Fault}
 use Rattle.codegen8080.specs.declared.fault.Fault.TheVariants.{TooLong}
 use Rattle.codegen8080.specs.Modules.{IsGenerated}
 use Rattle.codegen8080.specs.Refusals.{MayRefuse}
-use Rattle.code_bounds.specs.Fits.{IsSound}
+use Rattle.code_bounds.specs.Sound.{IsSound}
 use Rattle.code_bounds.proofs.Bounds.{code_is_within_its_bound, segment_is_within_its_bound, too_long_is_past_its_bound}
 use Rattle.module_code.specs.Bounded.{IsPastBound, IsWithinBound}
 use Rattle.module_code.specs.Modules.{MakesNone}

@@ -5,9 +5,9 @@ use Rattle.treecode.specs.Nodes.{NumbersAreWords, nodes_of}
 use Rattle.home_words.specs.HomeWords.{HomesAreWords}
 use Rattle.codegen8080.specs.Modules.{IsGenerated}
 use Rattle.module_segments.proofs.Slots.{stored}
-use Rattle.program_images.specs.internal.AtPlans.{IsObjectOf}
-use Rattle.program_memory.specs.internal.Segments.{HasSegments}
-use Rattle.program_merges.specs.internal.Names.{HasNames}
+use Rattle.program_images.specs.Objects.{IsObjectOf}
+use Rattle.program_memory.specs.Segments.{HasSegments}
+use Rattle.program_merges.specs.Names.{HasNames}
 use Rattle.generated_objects.proofs.Names.{has_names}
 use Rattle.generated_objects.proofs.Objects.{is_object_of}
 use Rattle.generated_objects.proofs.Segments.{has_segments}

@@ -11,7 +11,7 @@ use Rattle.treecode.specs.declared.procedure.TreeProcedure.{TreeProcedure}
 use Rattle.codegen8080.specs.Modules.{AreCodeOf, IsCodeOf, IsCodeOfMain, IsGenerated, has_main}
 use Rattle.tree_bounds.proofs.Bounds.{bound_is}
 use Rattle.code_bounds.proofs.Bounds.{segment_is_within_its_bound}
-use Rattle.code_heights.specs.Charges.{PushesWithinCharges}
+use Rattle.code_heights.specs.internal.Charges.{PushesWithinCharges}
 use Rattle.code_heights.proofs.Modules.{pushes_within_charges}
 use Rattle.module_code.specs.Items.{BodiesPushWithinCharges, HasItems, MainPushes, ProcedurePushes, ProceduresPush}
 use Rattle.module_code.specs.Modules.{IsCounted, OfItsModule}

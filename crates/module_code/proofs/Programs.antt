@@ -8,7 +8,7 @@ use Rattle.program_memory.proofs.Starting.{starts_as_its_source}
 use Rattle.program_meaning.specs.Typed.{AreSoundlyMade}
 use Rattle.program_meaning.proofs.MadePrograms.{are_made, made_program_does}
 use Rattle.module_code.specs.Bounded.{AreWithinBounds}
-use Rattle.module_code.specs.Programs.{MakeTheProgram}
+use Rattle.module_code.specs.internal.Programs.{MakeTheProgram}
 use Rattle.module_code.proofs.Bounding.{sound_for_bounds}
 
 within_bounds :

@@ -14,7 +14,7 @@ use Rattle.codegen8080.specs.declared.fault.Fault.{Fault}
 use Rattle.codegen8080.specs.declared.fault.Fault.TheVariants.{TooLong}
 use Rattle.codegen8080.specs.Modules.{IsCodeWritten}
 use Rattle.codegen8080.specs.Refusals.{MayRefuse}
-use Rattle.code_bounds.specs.Fits.{IsSound}
+use Rattle.code_bounds.specs.Sound.{IsSound}
 
 -- Tree code that was lowered from a module which is typed as `check` promises, and whose data segment has no
 -- more bytes than a segment may have.

@@ -10,7 +10,7 @@ use Rattle.treecode.specs.declared.module.TreeModule.{TreeModule}
 use Rattle.treecode.specs.declared.procedure.ProcedureKind.{ProcedureKind}
 use Rattle.treecode.specs.declared.procedure.ProcedureKind.TheVariants as kinds
 use Rattle.treecode.specs.declared.procedure.TreeProcedure.{TreeProcedure}
-use Rattle.procedure_frames.specs.internal.Objects.{call_bytes}
+use Rattle.procedure_frames.specs.Calls.{call_bytes}
 use Rattle.steps8080.specs.Writer.{Written}
 use Rattle.codegen8080.specs.Modules.{AreCodeOf, IsCodeOf, IsCodeOfMain, IsCodeWritten, IsSegmentOf, has_main}
 use Rattle.code_heights.specs.Heights.{PushesAtMost}

@@ -28,7 +28,8 @@ use Rattle.treecode.specs.Contents.{place_from, content_of, size_of_value as byt
 use Rattle.treecode.specs.Homes.{externals_of, homes_of}
 use Rattle.treecode.specs.Nodes.{home_at}
 use Rattle.module_segments.specs.internal.Places.{location_of_place, places_of_content, places_of_contents, KeepsWord, KeepWords}
-use Rattle.module_segments.proofs.Homes.{IsLaidOut, place_further, any_lies}
+use Rattle.module_segments.specs.Laid.{IsLaidOut}
+use Rattle.module_segments.proofs.Homes.{place_further, any_lies}
 use Rattle.module_segments.proofs.Slots.{constant_small}
 
 -- bytes that are not set

@@ -23,9 +23,10 @@ use Rattle.treecode.specs.declared.place.Place.TheVariants as places
 use Rattle.treecode.specs.Contents.{static_place}
 use Rattle.treecode.specs.Homes.{external_number, external_place, externals_of, home_after, home_of_object, homes_from, homes_of, is_global_object, place_after, place_of_slot}
 use Rattle.treecode.specs.Nodes.{home_at}
+use Rattle.module_segments.specs.Laid.{IsLaidOut}
 use Rattle.module_segments.specs.internal.Places.{location_of_place, IsStatic}
 use Rattle.module_segments.proofs.Externals.{IsNamed, external_is_named}
-use Rattle.module_segments.proofs.Slots.{IsStored, stored, slot_is, data_offset, constant_offset}
+use Rattle.module_segments.proofs.Slots.{stored, slot_is, data_offset, constant_offset}
 
 -- Where an object lies, in two forms that agree: tree code has it there, and in memory if it is static. Of
 -- one that is BASED or in a frame both say 0.
@@ -60,12 +61,6 @@ in_code :
     (place_of_slot (Some (record { segment = segments.Code; offset = offset; size = size })))
     ≡ After (SegmentStart segments.Code) offset
 in_code names offset size fits = ap (After (SegmentStart segments.Code)) (omega (arith, fits))
-
--- a storable module that lists its globals, with its storage
-pub record IsLaidOut (typed : TypedModule) (storage : Storage) : Type 0 where
-  pub storable : IsStorable typed
-  pub globals : ListsGlobals typed
-  pub stored : IsStored typed storage
 
 -- the objects up to one, of which each lies where tree code has it
 record LieAt (typed : TypedModule) (before : List TypedObject) (starts : List Home)

@@ -21,7 +21,8 @@ use Rattle.treecode.specs.Lowered.{IsLowered}
 use Rattle.treecode.specs.Nodes.{home_at, nodes_of}
 use Rattle.module_segments.specs.internal.Places.{location_of_place, places_of_contents, KeepWords}
 use Rattle.module_segments.proofs.Contents.{constants_agree, data_agrees}
-use Rattle.module_segments.proofs.Homes.{IsLaidOut, LiesAt, object_lies, place_further}
+use Rattle.module_segments.specs.Laid.{IsLaidOut}
+use Rattle.module_segments.proofs.Homes.{LiesAt, object_lies, place_further}
 
 -- the homes and names of tree code are those that its module gives
 as_module :

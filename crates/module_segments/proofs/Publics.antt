@@ -14,7 +14,8 @@ use Rattle.treecode.specs.Contents.{public_object, public_item, static_place}
 use Rattle.treecode.specs.Homes.{externals_of, homes_of}
 use Rattle.treecode.specs.Nodes.{home_at}
 use Rattle.module_segments.specs.internal.Places.{location_of_place, IsHere}
-use Rattle.module_segments.proofs.Homes.{IsLaidOut, any_lies}
+use Rattle.module_segments.specs.Laid.{IsLaidOut}
+use Rattle.module_segments.proofs.Homes.{any_lies}
 
 -- a PUBLIC object by its name and by where it lies
 pub record IsPublicObject (typed : TypedModule) (number : ℕ) (name : List ℕ) (public : Option PublicName) :

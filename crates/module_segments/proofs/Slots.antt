@@ -16,13 +16,7 @@ use Rattle.layout.specs.declared.slot.Slot.{Slot}
 use Rattle.layout.specs.declared.slot.TheConstants.{SEGMENT_LIMIT}
 use Rattle.layout.specs.Storage.{Storage, bytes_in_data, data_bytes, bytes_in_constants, fits_as_object, fits_as_list, constants_before, is_list, slot_of_object, slot_of_list, storage_of, storage_with}
 use Rattle.treecode.specs.Known.{offset_of_list}
-
--- what a module with this storage has
-pub record IsStored (typed : TypedModule) (storage : Storage) : Type 0 where
-  pub storage_is : storage ≡ storage_with typed
-  pub data_fits : data_bytes typed.objects ≤ 65535
-  pub constants_fit : constant_bytes typed ≤ 65535
-  pub objects_fit : list_all fits_as_object typed.objects ≡ true
+use Rattle.module_segments.specs.Laid.{IsStored}
 
 pub stored :
     (typed : TypedModule) (storage : Storage) → storage_of typed ≡ Ok storage → IsStored typed storage

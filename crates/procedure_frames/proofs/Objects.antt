@@ -20,7 +20,8 @@ use Rattle.frames.specs.Charges.{IsChargedAs}
 use Rattle.frames.specs.Frames.{bytes_of_call, distance_of, return_of, size_in, IsPlanOf, LiesApart}
 use Rattle.frames.proofs.Places.{apart}
 use Rattle.sound_modules.specs.Sound.{TakeBytes}
-use Rattle.procedure_frames.specs.internal.Objects.{HasByte, place_of_byte, call_bytes, ObjectsLie, IsFramedAs}
+use Rattle.procedure_frames.specs.Calls.{call_bytes}
+use Rattle.procedure_frames.specs.internal.Objects.{HasByte, place_of_byte, ObjectsLie, IsFramedAs}
 use Rattle.procedure_frames.proofs.Entries.{entries, stands_at}
 use Rattle.procedure_frames.proofs.Parameters.{has_parameters, frame_fits}
 use Rattle.procedure_frames.proofs.Bytes.{object_fits}

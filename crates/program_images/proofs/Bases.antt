@@ -6,7 +6,8 @@ use Rattle.layout.specs.Placing.{Plan as PlacingPlan, bases_from}
 use Rattle.layout.specs.Storage.{data_bytes}
 use Rattle.object_modules.specs.Displacements.{Linked, code_end, data_end, linked_after, linked_from, start_after}
 use Rattle.object_modules.specs.Module.{ObjectModule}
-use Rattle.program_images.specs.internal.AtPlans.{AreObjectsOf, BasesAgree, IsObjectOf, bases_of, code_lengths_of}
+use Rattle.program_images.specs.Objects.{IsObjectOf}
+use Rattle.program_images.specs.internal.AtPlans.{AreObjectsOf, BasesAgree, bases_of, code_lengths_of}
 
 -- segments that ask for no page begin where those before them end, and end so much later
 pub record Follows (code data_before : ℕ) (typed : TypedModule) (object : ObjectModule) : Type 0 where

@@ -14,7 +14,8 @@ use Rattle.object_modules.specs.Module.{Public, ObjectModule}
 use Rattle.object_images.specs.internal.InMemory.{ModuleStands, piece_base}
 use Rattle.object_images.proofs.Objects.{objects_stand}
 use Rattle.object_images.proofs.Publics.{publics_lie}
-use Rattle.program_images.specs.internal.AtPlans.{IsAtSlot, ProgramStands, SlotsLie, StandsAt, bases_of, plan_of, segment_of}
+use Rattle.program_images.specs.Objects.{segment_of}
+use Rattle.program_images.specs.internal.AtPlans.{IsAtSlot, ProgramStands, SlotsLie, StandsAt, bases_of, plan_of}
 use Rattle.program_images.proofs.Bases.{bases_agree}
 
 module _ (plan : PlacingPlan) (merged : ObjectModule) (before after : List ℕ) where

@@ -10,7 +10,8 @@ use Rattle.isa8080.proofs.Endings.{stays_state, state_after_sum}
 use Rattle.isa8080.proofs.Growing.{begins_itself, run_adds}
 use Rattle.meaning.specs.Outcomes.{Stop, Ended, More, Outside}
 use Rattle.meaning.specs.Run.{NeverOutside, Run}
-use Rattle.program_meaning.specs.Agreement.{Agrees, ComesTo, Performs}
+use Rattle.program_meaning.specs.Agreement.{Agrees}
+use Rattle.program_meaning.specs.internal.Performing.{ComesTo, Performs}
 
 module _ (script : List (List ℕ)) (start : State) where
   abbrev after : ℕ → State

@@ -19,7 +19,8 @@ use Rattle.asm8080.proofs.Segments.{places_length, set_length}
 use Rattle.steps8080.specs.Externals.{entry}
 use Rattle.steps8080.specs.Writer.{Written}
 use Rattle.codegen8080.specs.Modules.{IsGenerated}
-use Rattle.program_meaning.specs.OneModule.{LiesInMemory, module_layout, written_layout}
+use Rattle.program_meaning.specs.OneModule.{LiesInMemory}
+use Rattle.program_meaning.specs.internal.Layouts.{module_layout, written_layout}
 use Rattle.program_meaning.specs.Typed.{IsSoundlyMade}
 use Rattle.program_meaning.proofs.Renumbered.{LaysOut}
 

@@ -16,8 +16,8 @@ use Rattle.module_segments.specs.internal.Places.{location_of_place}
 use Rattle.quiet_expressions.proofs.Operands.{known_gives}
 use Rattle.task_meaning.proofs.SiteNodes.{have_operands}
 use Rattle.procedure_meaning.specs.OneModule.{around_in}
-use Rattle.program_meaning.specs.KnownValues.{ValuesAreKnown}
-use Rattle.program_meaning.specs.OneModule.{address_for, module_layout}
+use Rattle.program_meaning.specs.internal.KnownValues.{ValuesAreKnown}
+use Rattle.program_meaning.specs.internal.Layouts.{address_for, module_layout}
 use Rattle.program_meaning.specs.Typed.{IsSoundlyMade}
 use Rattle.program_meaning.proofs.Resolving.{lists_counted, place_lies, resolves}
 

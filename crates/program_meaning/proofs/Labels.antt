@@ -22,7 +22,7 @@ use Rattle.treecode.specs.Homes.{external_number, is_global_procedure, kind_of}
 use Rattle.program_memory.proofs.Lists.{some_within}
 use Rattle.steps8080.specs.Writer.{Written, known_label, place_of_known, place_of_label}
 use Rattle.codegen8080.specs.Modules.{IsCodeOfMain, IsGenerated, IsMainCode, contents_items, has_main}
-use Rattle.program_meaning.specs.OneModule.{module_layout, written_layout}
+use Rattle.program_meaning.specs.internal.Layouts.{module_layout, written_layout}
 use Rattle.program_meaning.specs.Typed.{IsSoundlyMade}
 use Rattle.program_meaning.proofs.Marks.{bound_label_small, label_known, or_left, or_right, procedures_bound}
 use Rattle.program_meaning.proofs.ModuleStands.{IsOwn}

@@ -34,8 +34,8 @@ use Rattle.program_memory.proofs.Modules.{address_for, bases_found, lies_at}
 use Rattle.steps8080.specs.Writer.{place_of_label}
 use Rattle.task_meaning.specs.TreeNumbers.{HasTypes}
 use Rattle.procedure_meaning.specs.OneModule.{around_in}
-use Rattle.program_meaning.specs.Linked.{ModuleIs, layout_of, made_of, public_address, targets_of}
-use Rattle.program_meaning.specs.Entering.{ModulesAre, entries_of}
+use Rattle.program_meaning.specs.internal.Linked.{ModuleIs, layout_of, made_of, public_address, targets_of}
+use Rattle.program_meaning.specs.internal.Entering.{ModulesAre, entries_of}
 use Rattle.program_meaning.specs.OneModule.{AreEntered, LiesInMemory}
 use Rattle.program_meaning.proofs.Labels.{procedure_lies}
 use Rattle.program_meaning.proofs.Shown.{shows_procedures}

@@ -23,8 +23,8 @@ use Rattle.program_memory.proofs.Modules.{is_linked}
 use Rattle.generated_objects.specs.Made.{AreMadeOf}
 use Rattle.generated_objects.proofs.Made.{is_in_memory}
 use Rattle.program_meaning.specs.Agreement.{Agrees}
-use Rattle.program_meaning.specs.Entering.{ModulesAre}
-use Rattle.program_meaning.specs.Linked.{ModuleIs}
+use Rattle.program_meaning.specs.internal.Entering.{ModulesAre}
+use Rattle.program_meaning.specs.internal.Linked.{ModuleIs}
 use Rattle.program_meaning.specs.Typed.{AreSoundlyMade, IsSoundlyMade}
 use Rattle.program_meaning.proofs.Programs.{program_does}
 

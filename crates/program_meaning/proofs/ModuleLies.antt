@@ -29,7 +29,8 @@ use Rattle.module_segments.specs.internal.Places.{name_at}
 use Rattle.steps8080.specs.Writer.{place_of_label}
 use Rattle.procedure_meaning.specs.Calls.{Entries}
 use Rattle.procedure_meaning.specs.OneModule.{around_in, in_module}
-use Rattle.program_meaning.specs.OneModule.{AreEntered, LiesInMemory, module_layout}
+use Rattle.program_meaning.specs.OneModule.{AreEntered, LiesInMemory}
+use Rattle.program_meaning.specs.internal.Layouts.{module_layout}
 use Rattle.program_meaning.specs.Typed.{IsSoundlyMade}
 use Rattle.program_meaning.proofs.Labels.{external_kind, has_heading, here_if_own, label_lies}
 use Rattle.program_meaning.proofs.ModuleStands.{IsOwn, code_of, parts_stand}

@@ -29,7 +29,8 @@ use Rattle.exprgen8080.specs.Emission.{has_routine, index_of_routine, module_lab
 use Rattle.codegen8080.specs.Modules.{AreCodeOf, AreRoutines, IsCodeOf, IsCodeOfMain, IsCodeOfRoutine, IsMainCode, IsProcedureCode, IsRoutineCode, all_routines, contents_items, has_main}
 use Rattle.task_meaning.specs.Contexts.{RoutineIsAt}
 use Rattle.procedure_meaning.specs.Modules.{MainStands, ModuleCode, ProcedureStands, bare}
-use Rattle.program_meaning.specs.OneModule.{LiesInMemory, module_layout, written_layout}
+use Rattle.program_meaning.specs.OneModule.{LiesInMemory}
+use Rattle.program_meaning.specs.internal.Layouts.{module_layout, written_layout}
 use Rattle.program_meaning.specs.Typed.{IsSoundlyMade}
 use Rattle.program_meaning.proofs.CodeLies.{all_stand, lays_out, lies_within}
 use Rattle.program_meaning.proofs.Renumbered.{LaysOut, stands_so}

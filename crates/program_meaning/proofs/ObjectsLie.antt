@@ -22,7 +22,8 @@ use Rattle.module_segments.specs.internal.Places.{IsStatic}
 use Rattle.program_memory.proofs.Addresses.{locations_length}
 use Rattle.program_memory.proofs.Lists.{got_both}
 use Rattle.procedure_meaning.specs.OneModule.{in_module}
-use Rattle.program_meaning.specs.OneModule.{LiesInMemory, address_for, bases_at}
+use Rattle.program_meaning.specs.OneModule.{LiesInMemory, bases_at}
+use Rattle.program_meaning.specs.internal.Layouts.{address_for}
 
 modulo : (number : ℕ) → number % 65536 ≡ (number + 0) % 65536
 modulo number = omega arith

@@ -39,8 +39,8 @@ use Rattle.procedure_meaning.proofs.KnownCalls.{calls_known}
 use Rattle.program_meaning.specs.OneModule.{start_place}
 use Rattle.program_meaning.proofs.OneModule.{object_does, started}
 use Rattle.program_meaning.proofs.Linked.{are_entered, lies_in_memory, program_of}
-use Rattle.program_meaning.specs.Entering.{ModulesAre, entries_of}
-use Rattle.program_meaning.specs.Linked.{ModuleIs, made_of, public_address, targets_of}
+use Rattle.program_meaning.specs.internal.Entering.{ModulesAre, entries_of}
+use Rattle.program_meaning.specs.internal.Linked.{ModuleIs, made_of, public_address, targets_of}
 use Rattle.layout.specs.Placing.{Plan as PlacingPlan}
 use Rattle.meaning.specs.Outcomes.{Gave, Onward, Stop, State as SourceState}
 use Rattle.meaning.specs.Run.{NeverOutside, Run, main_done, number_of_main, run_of, source_run}
@@ -49,7 +49,8 @@ use Rattle.isa8080.specs.declared.registers.Status.{Status}
 use Rattle.isa8080.specs.State.{State}
 use Rattle.procedure_meaning.specs.Main.{ComesTo as Arrived, EndsAs}
 use Rattle.code_meaning.specs.Landing.{IsLeft}
-use Rattle.program_meaning.specs.Agreement.{Agrees, ComesTo, Performs}
+use Rattle.program_meaning.specs.Agreement.{Agrees}
+use Rattle.program_meaning.specs.internal.Performing.{ComesTo, Performs}
 use Rattle.program_meaning.proofs.Agreeing.{agrees}
 
 -- the first of a list that passes a test

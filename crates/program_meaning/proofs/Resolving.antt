@@ -39,12 +39,14 @@ use Rattle.treecode.specs.Nodes.{home_at}
 use Rattle.treecode.specs.Resolved.{Resolves}
 use Rattle.module_segments.specs.internal.Places.{IsStatic, location_of_place}
 use Rattle.module_segments.proofs.Homes.{any_lies}
-use Rattle.module_segments.proofs.Slots.{IsStored, list_offset}
+use Rattle.module_segments.specs.Laid.{IsStored}
+use Rattle.module_segments.proofs.Slots.{list_offset}
 use Rattle.program_memory.proofs.Lists.{got_both, got_numbered, some_within}
 use Rattle.code_facts.specs.Holding.{place_at}
 use Rattle.codegen8080.specs.Modules.{IsGenerated}
 use Rattle.procedure_meaning.specs.OneModule.{around_in}
-use Rattle.program_meaning.specs.OneModule.{LiesInMemory, address_for, bases_at, module_layout}
+use Rattle.program_meaning.specs.OneModule.{LiesInMemory, bases_at}
+use Rattle.program_meaning.specs.internal.Layouts.{address_for, module_layout}
 use Rattle.program_meaning.specs.Typed.{IsSoundlyMade}
 use Rattle.program_meaning.proofs.ObjectsLie.{has_addresses, object_lies}
 use Rattle.program_meaning.proofs.Homes.{not_based, not_in_frame}

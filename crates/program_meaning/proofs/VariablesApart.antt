@@ -20,7 +20,8 @@ use Rattle.treecode.specs.Contents.{static_place}
 use Rattle.treecode.specs.Homes.{externals_of, homes_of}
 use Rattle.treecode.specs.Nodes.{home_at}
 use Rattle.module_segments.specs.internal.Places.{location_of_place}
-use Rattle.module_segments.proofs.Homes.{IsLaidOut, object_lies}
+use Rattle.module_segments.specs.Laid.{IsLaidOut}
+use Rattle.module_segments.proofs.Homes.{object_lies}
 use Rattle.module_segments.proofs.Slots.{data_offset}
 use Rattle.code_facts.specs.Holding.{place_at}
 use Rattle.procedure_meaning.specs.Modules.{ModuleCode, VariablesAreApart}

@@ -1,12 +1,9 @@
 -- What it means that a machine performs what a source does.
-use Rattle.std.specs.Prelude.{◌≡◌, ◌≢◌, ℕ, ◌≤◌, List}
-use Rattle.ports.specs.declared.event.Event.{Event}
+use Rattle.std.specs.Prelude.{◌≡◌, ◌≢◌, ℕ}
 use Rattle.ports.specs.Events.{IsBeginning}
-use Rattle.isa8080.specs.declared.registers.Status.{Status}
-use Rattle.isa8080.specs.declared.registers.Status.TheVariants.{Halted, Illegal, Running}
+use Rattle.isa8080.specs.declared.registers.Status.TheVariants.{Halted, Illegal}
 use Rattle.isa8080.specs.State.{State}
-use Rattle.isa8080.specs.Step.{state_after}
-use Rattle.meaning.specs.Outcomes.{Ended, More}
+use Rattle.meaning.specs.Outcomes.{Ended}
 use Rattle.meaning.specs.Run.{Run}
 
 -- the machine performs exactly the source's reads and writes, and halts exactly if the source ends: the source
@@ -21,17 +18,3 @@ pub record Agrees (source : ℕ → Run) (machine : ℕ → State) : Type 0 wher
       → (machine k).status ≡ Halted
       → (n : ℕ) × ((source n).end ≡ Ended)
   pub never_illegal : (k : ℕ) → (machine k).status ≢ Illegal
-
--- a machine that comes, after so many steps at least, to such a status and to these events
-pub record ComesTo
-    (script : List (List ℕ)) (start : State) (steps : ℕ) (status : Status) (events : List Event) : Type 0 where
-  pub count : ℕ
-  pub enough : steps ≤ count
-  pub status_is : (state_after script count start).status ≡ status
-  pub events_are : (state_after script count start).events ≡ events
-
--- The machine does what a run of the source with a budget does: where that ended it halts, and where it wants more it
--- still runs after as many steps as the budget, each time after the same events.
-pub record Performs (script : List (List ℕ)) (start : State) (budget : ℕ) (run : Run) : Type 0 where
-  pub ended : run.end ≡ Ended → ComesTo script start 0 Halted run.events
-  pub more : run.end ≡ More → ComesTo script start budget Running run.events

@@ -11,25 +11,18 @@ use Rattle.object_modules.specs.Moving.{bytes_resolved}
 use Rattle.typed_trees.specs.declared.parts.Visibility.TheVariants as visibilities
 use Rattle.typed_trees.specs.TypedTrees.{Elsewhere, Nowhere, TypedModule, TypedObject, TypedProcedure}
 use Rattle.layout.specs.declared.slot.Segment.TheVariants as slots
-use Rattle.layout.specs.Following.{Bases, FollowsBases, base_of}
+use Rattle.layout.specs.Following.{Bases, FollowsBases}
 use Rattle.layout.specs.Joined.{InProgram}
 use Rattle.layout.specs.Lawful.{IsLawful}
 use Rattle.layout.specs.Placement.{ModulePlacement}
-use Rattle.layout.specs.Segments.{After, ExternalName, SegmentStart}
-use Rattle.layout.specs.Segments.{Target as ModuleTarget}
+use Rattle.layout.specs.Segments.{After, SegmentStart}
 use Rattle.layout.specs.StartingMemory.{address_of_object}
 use Rattle.layout.specs.Storage.{storage_with}
 use Rattle.meaning.specs.Meaning.{callee_in}
 use Rattle.meaning.specs.Outcomes.{Program}
 use Rattle.isa8080.specs.State.{wrap}
-use Rattle.asm8080.specs.Assembled.{layout_at}
-use Rattle.asm8080.specs.Items.{Layout}
 use Rattle.asm8080.specs.Standing.{SetBytesStand}
-use Rattle.treecode.specs.declared.module.ExternalName.{ExternalName as TreeExternal}
-use Rattle.module_segments.specs.internal.Places.{name_at}
-use Rattle.program_memory.specs.internal.Segments.{HasPublic}
-use Rattle.steps8080.specs.Externals.{entry}
-use Rattle.steps8080.specs.Writer.{Written}
+use Rattle.program_memory.specs.Segments.{HasPublic}
 use Rattle.task_meaning.specs.TreeNumbers.{HasTypes, NumbersFitInModule}
 use Rattle.procedure_meaning.specs.Calls.{Entries}
 use Rattle.procedure_meaning.specs.OneModule.{AllCallsAreKnown, ModuleDoes, OtherCallsAreKnown, around_in, in_module}
@@ -127,30 +120,3 @@ pub record DoesWhereItLies (typed : TypedModule) (object : ObjectModule) : Type 
       → AreEntered program number typed begins address_of address_of_name entries
       → ModuleDoes program memory entries number typed (start_place address_of object)
       (OtherCallsAreKnown program memory entries number)
-
--- what the locations of a module are counted from: its segments, and its EXTERNAL names
-abbrev pub address_for :
-    (address_of : Target → ℕ) → (address_of_name : (name : List ℕ) → ℕ) → ModuleTarget → ℕ
-address_for address_of address_of_name (SegmentStart segment) = base_of (bases_at address_of) segment
-address_for address_of address_of_name (ExternalName name) = address_of_name name
-
--- where labels lie by the numbers of the code, and its targets
-abbrev pub written_layout : (address_of : Target → ℕ) → (to : Target → Target) → Written → Layout
-written_layout address_of to written = layout_at (λ target. address_of (to target)) written.code
-
--- where targets lie by the numbers of the module
-abbrev pub address_by_module :
-    (address_of : Target → ℕ) → (address_of_name : (name : List ℕ) → ℕ) → (to : Target → Target)
-    → List TreeExternal → Target → ℕ
-address_by_module address_of address_of_name to names (InSegment segment) = address_of (to (InSegment segment))
-address_by_module address_of address_of_name to names (External index) = address_of_name (name_at names index)
-
--- where labels lie by the numbers of the module, and its targets
-abbrev pub module_layout :
-    (address_of : Target → ℕ) → (address_of_name : (name : List ℕ) → ℕ) → (to : Target → Target) → Written
-    → List TreeExternal → Layout
-module_layout address_of address_of_name to written names = record {
-  place_of = λ label.
-      option_map_or (written_layout address_of to written).place_of (entry written.labels label) 0;
-  address_of = address_by_module address_of address_of_name to names;
-}

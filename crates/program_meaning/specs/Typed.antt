@@ -1,19 +1,17 @@
 -- What is true of each module of a program as it was typed and lowered.
-use Rattle.std.specs.Prelude.{◌≡◌, ℕ, ◌<◌, List, [], ◌∷◌}
-use Rattle.mem80.specs.declared.memory.TheConstants.{MEMORY_SIZE}
+use Rattle.std.specs.Prelude.{List, [], ◌∷◌}
 use Rattle.object_modules.specs.Module.{ObjectModule}
 use Rattle.typed_trees.specs.TypedTrees.{TypedModule}
 use Rattle.sound_modules.specs.Sound.{IsSoundlyTyped}
 use Rattle.treecode.specs.declared.module.TreeModule.{TreeModule}
-use Rattle.treecode.specs.declared.place.Home.TheVariants.{Static}
-use Rattle.treecode.specs.declared.place.Place.TheVariants.{Number}
-use Rattle.treecode.specs.Nodes.{NumbersAreWords, home_at, nodes_of}
+use Rattle.treecode.specs.Nodes.{NumbersAreWords, nodes_of}
+use Rattle.home_words.specs.HomeWords.{HomesAreWords}
 use Rattle.generated_objects.specs.Made.{IsMadeOf}
 
 -- tree code whose numbers are those of an 8080: words
 pub record HasWords (tree : TreeModule) : Type 0 where
   pub numbers : NumbersAreWords (nodes_of tree)
-  pub homes : (object number : ℕ) → home_at tree.homes.items object ≡ Static (Number number) → number < MEMORY_SIZE
+  pub homes : HomesAreWords tree.homes.items
 
 -- an object module is made of a module that is soundly typed, by tree code whose numbers are words
 pub record IsSoundlyMade (typed : TypedModule) (object : ObjectModule) : Type 0 where

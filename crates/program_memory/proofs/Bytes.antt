@@ -9,7 +9,7 @@ use Rattle.object_modules.specs.declared.segment.FixKind.TheVariants.{Both}
 use Rattle.object_modules.specs.declared.segment.Target.{Target}
 use Rattle.object_modules.specs.Module.{Fixup, SetByte, ObjectModule}
 use Rattle.object_modules.specs.Moving.{after_fixup, byte_moved, bytes_resolved, moved_after, value_after, value_moved}
-use Rattle.program_memory.specs.internal.Segments.{BeginWith, IsFix, IsPlace, IsTarget}
+use Rattle.program_memory.specs.Segments.{BeginWith, IsFix, IsPlace, IsTarget}
 
 -- a fix of a word
 is_word : (fixup : Fixup) → fixup.kind ≡ Both → fixup ≡ record { kind = Both; target = fixup.target }

@@ -36,7 +36,7 @@ use Rattle.object_images.proofs.Publics.{publics_lie}
 use Rattle.program_images.specs.internal.AtPlans.{plan_of}
 use Rattle.program_memory.specs.internal.InMemory.{IsInMemory, placement_of}
 use Rattle.program_memory.specs.internal.Linked.{IsLinked}
-use Rattle.program_memory.specs.internal.Segments.{HasPublic, IsPublicAt}
+use Rattle.program_memory.specs.Segments.{HasPublic, IsPublicAt}
 use Rattle.program_memory.proofs.Addresses.{IsHere, locations_length}
 use Rattle.program_memory.proofs.Modules.{address_for, is_linked, lies_at}
 

@@ -25,12 +25,13 @@ use Rattle.object_modules.specs.Displacements.{Linked, code_end, data_end, linke
 use Rattle.object_modules.specs.Image.{Image}
 use Rattle.object_modules.specs.Module.{SetByte, ObjectModule}
 use Rattle.object_images.specs.internal.InMemory.{BytesAreLoaded, address_of_public, address_of_target}
-use Rattle.program_images.specs.internal.AtPlans.{AreObjectsOf, IsObjectOf, StandsAt, bases_of, code_lengths_of, plan_of}
+use Rattle.program_images.specs.Objects.{IsObjectOf}
+use Rattle.program_images.specs.internal.AtPlans.{AreObjectsOf, StandsAt, bases_of, code_lengths_of, plan_of}
 use Rattle.program_images.proofs.Bases.{bases_agree}
 use Rattle.program_images.proofs.Standing.{program_stands}
-use Rattle.program_memory.specs.internal.InMemory.{IsInMemory, placement_of}
+use Rattle.program_memory.specs.internal.InMemory.{HaveSegments, IsInMemory, placement_of}
 use Rattle.program_memory.specs.internal.Linked.{IsLinked, placed_by}
-use Rattle.program_memory.specs.internal.Segments.{BeginWith, HasSegments, HaveSegments, IsTarget}
+use Rattle.program_memory.specs.Segments.{BeginWith, HasSegments, IsTarget}
 use Rattle.program_memory.proofs.Addresses.{IsHere, lies_here}
 use Rattle.program_memory.proofs.Bytes.{bytes_alike}
 use Rattle.program_memory.proofs.Lists.{got_both, got_numbered}

@@ -1,4 +1,3 @@
--- Object modules that have the segments of the modules of a program, and the memory where they were placed.
-pub mod Segments
+-- The modules of a program, and the memory where their object modules were placed.
 pub mod InMemory
 pub mod Linked

@@ -20,7 +20,8 @@ use Rattle.layout.specs.Placing.{SegmentTooLarge}
 use Rattle.program_images.specs.internal.AtPlans.{plan_of, refusal_of_merge}
 use Rattle.program_images.proofs.Made.{merge_made}
 use Rattle.program_images.proofs.Refusals.{ranges_refused}
-use Rattle.program_merges.specs.internal.Names.{HaveNames, ProgramHasImage, external_names_in, shared_in}
+use Rattle.program_merges.specs.Names.{external_names_in, shared_in}
+use Rattle.program_merges.specs.internal.Names.{HaveNames, ProgramHasImage}
 
 abbrev name_of : Global → List ℕ
 name_of global = global.name

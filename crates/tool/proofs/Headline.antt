@@ -19,7 +19,7 @@ use Rattle.locate.specs.Locating as of_locating
 use Rattle.locate.specs.Locating.{Absolute, loaded}
 use Rattle.locate.proofs.Loads.{is_loaded}
 use Rattle.module_code.specs.Agreement.{Agrees}
-use Rattle.module_code.specs.Programs.{AreLoaded}
+use Rattle.module_code.specs.internal.Programs.{AreLoaded}
 use Rattle.module_code.specs.Typed.{AreSoundlyMade}
 use Rattle.module_code.proofs.Programs.{make_the_program}
 use Rattle.tool.specs.Headline.{DoesWhatItSays}

@@ -8,7 +8,7 @@ use Rattle.object_modules.specs.Module.{ObjectModule}
 use Rattle.placing.specs.Views as of_placement
 use Rattle.plans.specs.declared.Plan.{Plan}
 use Rattle.locate.specs.Locating.{Absolute, IsPlaced, plan_view}
-use Rattle.module_code.specs.Names.{HaveImage}
+use Rattle.module_code.specs.internal.Names.{HaveImage}
 use Rattle.tool.specs.Made.{IsImageOfObjects}
 
 pub is_linked : (plan : Plan) (objects : List ObjectModule) (merged : ObjectModule) (image : Absolute)

@@ -28,7 +28,7 @@ use Rattle.locate.specs.Locating.{Absolute}
 use Rattle.module_code.specs.Bounded.{AreWithinBounds}
 use Rattle.module_code.specs.Typed.{AreSoundlyMade}
 use Rattle.module_code.proofs.Programs.{make_the_program}
-use Rattle.module_code.specs.Names.{HaveImage}
+use Rattle.module_code.specs.internal.Names.{HaveImage}
 use Rattle.program_sources.specs.declared.fault.ProgramFault.TheVariants as program_faults
 use Rattle.program_sources.specs.declared.placed.Placed.{Placed}
 use Rattle.program_sources.specs.Programs.{AreSourcesOf, IsPlacedBy, IsProgramOf, program_modules, text_of}

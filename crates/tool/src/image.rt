@@ -4,7 +4,7 @@ ghost use Rattle.std.specs.Prelude.{All, IfOk};
 ghost use Rattle.failure.specs.Failure.{IfFault};
 ghost use Rattle.mem80.specs.Pieces.{EndsInMemory};
 ghost use Rattle.placing.specs.Views.{plan_view};
-ghost use Rattle.module_code.specs.Names.{HaveImage};
+ghost use Rattle.module_code.specs.internal.Names.{HaveImage};
 ghost use Rattle.tool.specs.Made.{IsImageOfObjects};
 
 use crate::fault::ToolFault;

@@ -21,7 +21,8 @@ use Rattle.treecode.specs.declared.module.Content.{Content}
 use Rattle.treecode.specs.declared.module.Content.TheVariants.{Byte, Word, Gap}
 use Rattle.treecode.specs.declared.place.Home.{Home}
 use Rattle.treecode.specs.Contents.{constant_object, constants_from, constants_of, content_of, size_of_value as bytes_of_value, with_constant, with_gap, with_gap_if_any, with_object}
-use Rattle.module_segments.proofs.Slots.{IsStored, constant_small}
+use Rattle.module_segments.specs.Laid.{IsStored}
+use Rattle.module_segments.proofs.Slots.{constant_small}
 use Rattle.tree_bounds.specs.Bounds.{size_of_content, size_of_contents}
 
 -- a gap after contents

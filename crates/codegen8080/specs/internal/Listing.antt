@@ -13,7 +13,8 @@ use Rattle.steps8080.specs.Externals.{entry}
 use Rattle.steps8080.specs.Writer.{place_of_known}
 use Rattle.codegen8080.specs.Modules.{IsAtPlace, has_main, used_names}
 use Rattle.codegen8080.specs.internal.Names.{Linkage}
-use Rattle.codegen8080.specs.internal.Segments.{retarget, with_targets}
+use Rattle.codegen8080.specs.Targets.{with_targets}
+use Rattle.codegen8080.specs.internal.Segments.{retarget}
 
 -- a name, if code has a number for it
 abbrev pub used_name : (number : Option ℕ) → ExternalName → List (List ℕ)

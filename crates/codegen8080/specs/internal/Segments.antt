@@ -1,7 +1,6 @@
 -- Code as a segment of an object module.
-use Rattle.std.specs.Prelude.{ℕ, ◌&&◌, if◌then◌else◌, IsTrue, nat_lt, List, map, slice_get, Option, Some, None}
+use Rattle.std.specs.Prelude.{ℕ, ◌&&◌, if◌then◌else◌, IsTrue, nat_lt, List, slice_get, Option, Some, None}
 use Rattle.std.specs.List.{list_all}
-use Rattle.object_modules.specs.declared.segment.Fix.{Fix}
 use Rattle.object_modules.specs.declared.segment.Segment.TheVariants.{Absolute, Code, Data}
 use Rattle.object_modules.specs.declared.segment.Target.{Target}
 use Rattle.object_modules.specs.declared.segment.Target.TheVariants.{InSegment, External}
@@ -25,14 +24,6 @@ abbrev pub retarget : (numbers : List ℕ) → (count : ℕ) → Target → Targ
 retarget numbers count (External number) = listed_target count (slice_get numbers number)
 retarget numbers count (InSegment Absolute) = InSegment Code
 retarget numbers count (InSegment segment) = InSegment segment
-
--- a fix with another target
-abbrev pub retargeted : (Target → Target) → Fix → Fix
-retargeted to fix = record { kind = fix.kind; target = to fix.target; offset = fix.offset }
-
--- code whose fixes have other targets
-abbrev pub with_targets : (Target → Target) → Assembled → Assembled
-with_targets to code = record code { fixes = map (retargeted to) code.fixes }
 
 -- a segment that a module with so many external names may have, as its code and as its data
 pub record IsKept (count : ℕ) (segment : StoredSegment) : Type 0 where

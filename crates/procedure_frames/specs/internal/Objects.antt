@@ -1,6 +1,6 @@
 -- What a procedure of a typed module takes of the stack, and where the objects in its frame lie there, in the
 -- words of the typed module. Distances are bytes upwards from the stack pointer, where nothing is pushed.
-use Rattle.std.specs.Prelude.{◌≡◌, ℕ, ◌+◌, ◌*◌, ◌<◌, ◌≤◌, length, min, IsSomeAnd, slice_get}
+use Rattle.std.specs.Prelude.{◌≡◌, ℕ, ◌+◌, ◌<◌, ◌≤◌, min, IsSomeAnd, slice_get}
 use Rattle.mem80.specs.declared.memory.TheConstants.{MEMORY_SIZE}
 use Rattle.mem80.specs.Range.{IsIn}
 use Rattle.typed_trees.specs.Charge.{charge_of}
@@ -11,6 +11,7 @@ use Rattle.treecode.specs.Homes.{frame_number}
 use Rattle.frames.specs.declared.frame_plan.FramePlan.{FramePlan}
 use Rattle.frames.specs.Charges.{charge_in, IsChargedAs}
 use Rattle.frames.specs.Frames.{distance_of, return_of, HasFrame, IsPlanOf}
+use Rattle.procedure_frames.specs.Calls.{call_bytes}
 
 -- an object in the frame of a procedure has a byte of this number
 abbrev pub HasByte : TypedModule → (procedure object offset : ℕ) → Type 0
@@ -22,10 +23,6 @@ HasByte typed procedure object offset =
 abbrev pub place_of_byte : TypedModule → FramePlan → (procedure object offset : ℕ) → ℕ
 place_of_byte typed plan procedure object offset =
     distance_of plan (frame_number typed procedure object) + offset
-
--- the bytes that a call of a procedure takes: the return address, a word for each parameter, and the variables
-abbrev pub call_bytes : TypedProcedure → ℕ
-call_bytes heading = 2 + 2 * length heading.parameters + heading.frame_bytes
 
 -- Each byte of an object in the frame lies among the bytes of the call, none is one of the return address, and
 -- no two share a place.

@@ -4,23 +4,18 @@ use Rattle.std.specs.Prelude.{◌≡◌, ℕ, List, [], ◌∷◌, All, length, 
 use Rattle.std.specs.Option.{option_and_then}
 use Rattle.mem80.specs.Range.{address_past}
 use Rattle.typed_trees.specs.TypedTrees.{TypedModule}
-use Rattle.layout.specs.declared.slot.Segment.{Segment as SlotSegment}
-use Rattle.layout.specs.declared.slot.Segment.TheVariants as slots
 use Rattle.layout.specs.declared.slot.Slot.{Slot}
 use Rattle.layout.specs.Following.{Bases, address_of_slot}
 use Rattle.layout.specs.Placing.{Plan as PlacingPlan, PlacingRefusal, RangesOverlap, SegmentTooLarge, ObjectMisplaced, bases_from, placing_refusal, stack_range}
 use Rattle.layout.specs.Placing.{PassesMemory as PlacingPassesMemory}
-use Rattle.layout.specs.Storage.{data_bytes}
-use Rattle.object_modules.specs.declared.segment.Alignment.TheVariants.{Byte}
-use Rattle.object_modules.specs.declared.segment.Segment.{Segment}
 use Rattle.object_modules.specs.declared.segment.Segment.TheVariants.{Code, Data, Stack}
 use Rattle.object_modules.specs.declared.segment.Target.TheVariants.{InSegment}
 use Rattle.object_modules.specs.Displacements.{Linked, linked_modules, public_named}
 use Rattle.object_modules.specs.Image.{Plan, Image, PlacementRefusal, PassesMemory, SegmentsMeet, placement_refusal}
 use Rattle.object_modules.specs.Merge.{SegmentTooLong, link_refusal, main_modules, merge_of, public_names, repeated_after, unresolved}
 use Rattle.object_modules.specs.Module.{Public, ObjectModule, length_of}
-use Rattle.object_modules.specs.Moving.{high_targets}
 use Rattle.object_images.specs.internal.InMemory.{ArePlaced, ModuleStands, address_of_public, address_of_target, piece_base}
+use Rattle.program_images.specs.Objects.{IsObjectOf, segment_of}
 
 -- the plan of a program, as one of object modules
 abbrev pub plan_of : PlacingPlan → Plan
@@ -30,15 +25,6 @@ plan_of plan = record {
   stack_base = plan.stack_base;
   stack_size = plan.stack_size;
 }
-
--- An object module of a module: its data segment holds the variables, neither segment asks for a page, no
--- high byte is fixed alone, and it asks for no stack.
-pub record IsObjectOf (typed : TypedModule) (object : ObjectModule) : Type 0 where
-  pub code_alignment : object.code.alignment ≡ Byte
-  pub data_alignment : object.data_places.alignment ≡ Byte
-  pub data_size : length object.data_places.places ≡ data_bytes typed.objects
-  pub highs : high_targets object ≡ []
-  pub stack : object.stack_length ≡ 0
 
 -- one for each module, in their order
 abbrev pub AreObjectsOf : List TypedModule → List ObjectModule → Type 0
@@ -85,11 +71,6 @@ ProgramStands =
     → All (StandsAt plan merged before after)
     (zip (linked_modules objects)
     (bases_from plan.code_base plan.data_base modules (code_lengths_of objects)))
-
--- the segment of object modules that a segment of the storage is
-abbrev pub segment_of : SlotSegment → Segment
-segment_of slots.Code = Code
-segment_of slots.Data = Data
 
 -- a public is declared at a slot of its module
 pub record IsAtSlot (public : Public) (slot : Slot) : Type 0 where

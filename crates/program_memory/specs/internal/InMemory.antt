@@ -1,6 +1,6 @@
 -- Programs whose object modules were linked, placed and loaded: on what is declared the memory is the one that a run of
 -- the source starts with.
-use Rattle.std.specs.Prelude.{◌≡◌, ℕ, List, All, length}
+use Rattle.std.specs.Prelude.{◌≡◌, ℕ, List, [], ◌∷◌, All, length}
 use Rattle.mem80.specs.declared.memory.TheConstants.{MEMORY_SIZE}
 use Rattle.typed_trees.specs.Globals.{ListsGlobals}
 use Rattle.typed_trees.specs.Storable.{IsStorable}
@@ -14,7 +14,13 @@ use Rattle.object_modules.specs.Image.{Image}
 use Rattle.object_modules.specs.Module.{ObjectModule}
 use Rattle.object_images.specs.internal.InMemory.{ArePlaced}
 use Rattle.program_images.specs.internal.AtPlans.{AreObjectsOf, code_lengths_of, plan_of}
-use Rattle.program_memory.specs.internal.Segments.{HaveSegments}
+use Rattle.program_memory.specs.Segments.{HasSegments}
+
+-- object modules that have the segments of modules, one for each module, in their order
+abbrev pub HaveSegments : List TypedModule → List ObjectModule → Type 0
+HaveSegments [] [] = Unit {0}
+HaveSegments (typed ∷ others) (object ∷ objects) = HasSegments typed object × HaveSegments others objects
+HaveSegments modules objects = ⊥
 
 -- where a program lies whose object modules have code segments of their lengths
 abbrev pub placement_of : PlacingPlan → List TypedModule → List ObjectModule → Placement

@@ -11,7 +11,7 @@ use Rattle.object_modules.specs.Displacements.{Linked, linked_modules}
 use Rattle.object_modules.specs.Module.{ObjectModule}
 use Rattle.program_images.specs.internal.AtPlans.{StandsAt, bases_of}
 use Rattle.program_memory.specs.internal.InMemory.{placement_of}
-use Rattle.program_memory.specs.internal.Segments.{HasSegments}
+use Rattle.program_memory.specs.Segments.{HasSegments}
 
 -- where its objects and its constant lists lie
 abbrev pub placed_by : PlacingPlan → Linked → TypedModule → ModulePlacement

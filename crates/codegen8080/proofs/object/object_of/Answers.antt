@@ -3,7 +3,8 @@ use Rattle.object_modules.specs.declared.segment.Segment.TheVariants.{Code, Data
 use Rattle.object_modules.specs.Module.{ObjectModule}
 use Rattle.object_modules.specs.Stored.{places_stored}
 use Rattle.asm8080.specs.Assembled.{segment_of}
-use Rattle.codegen8080.specs.internal.Segments.{retarget, with_targets}
+use Rattle.codegen8080.specs.Targets.{with_targets}
+use Rattle.codegen8080.specs.internal.Segments.{retarget}
 use Rattle.codegen8080.proofs.object.object_of.Goals as goal
 
 pub returns : goal.returns

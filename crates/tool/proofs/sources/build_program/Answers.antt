@@ -3,7 +3,7 @@ use Rattle.std.proofs.lemmas.List.{length-map}
 use Rattle.typed_trees.specs.Views.{module_view}
 use Rattle.placing.specs.Segments.{HaveStorage}
 use Rattle.placing.specs.Views.{plan_view}
-use Rattle.module_code.specs.Names.{HaveImage}
+use Rattle.module_code.specs.internal.Names.{HaveImage}
 use Rattle.program_sources.specs.Programs.{IsPlacedBy}
 use Rattle.object_modules.specs.Module.{ObjectModule}
 use Rattle.tool.specs.Made.{IsImageOfObjects}

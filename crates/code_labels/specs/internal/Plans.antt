@@ -14,7 +14,7 @@ use Rattle.statements8080.specs.declared.plan.Planned.TheVariants as planned
 use Rattle.statements8080.specs.Branches.{goto_label}
 use Rattle.codegen8080.specs.declared.meeting.Here.{Here}
 use Rattle.codegen8080.specs.Generated.{IsCarriedOut, IsListCarriedOut}
-use Rattle.code_labels.specs.Items.{ItemsBind, ItemsGo}
+use Rattle.code_labels.specs.internal.Items.{ItemsBind, ItemsGo}
 
 -- a task goes to a label of these, if it is a jump by a condition, and something is true of what follows it
 abbrev pub TaskThen : (ok : ℕ → Type 0) → Task → Type 0 → Type 0

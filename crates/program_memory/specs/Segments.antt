@@ -1,22 +1,14 @@
--- Object modules that have the segments of the modules of a program: their code begins with the constants, their
--- data are the variables, and their PUBLIC names stand for where the objects lie.
+-- Object modules that have the segments of modules: their code begins with the constants, their data are the variables,
+-- and their PUBLIC names stand for where the objects lie.
 use Rattle.std.specs.Prelude.{◌≡◌, ℕ, List, [], ◌∷◌, Option, Some, None, slice_get, true}
-use Rattle.typed_trees.specs.TypedTrees.{TypedObject, TypedModule}
-use Rattle.layout.specs.declared.slot.Segment.{Segment as SlotSegment}
-use Rattle.layout.specs.declared.slot.Segment.TheVariants as slots
-use Rattle.layout.specs.Segments.{Target as ModuleTarget, SegmentStart, ExternalName, Location, After, SegmentByte, Places, constant_places, data_places, location_of}
-use Rattle.layout.specs.Segments.{Absolute as AtNumber}
 use Rattle.object_modules.specs.declared.segment.FixKind.TheVariants.{Both}
-use Rattle.object_modules.specs.declared.segment.Segment.{Segment}
-use Rattle.object_modules.specs.declared.segment.Segment.TheVariants.{Absolute, Code, Data}
+use Rattle.object_modules.specs.declared.segment.Segment.TheVariants.{Absolute}
 use Rattle.object_modules.specs.declared.segment.Target.{Target}
 use Rattle.object_modules.specs.declared.segment.Target.TheVariants.{InSegment, External}
 use Rattle.object_modules.specs.Module.{Fixup, SetByte, Public, ObjectModule}
-
--- the segment of an object module that a segment of the storage is
-abbrev pub segment_of : SlotSegment → Segment
-segment_of slots.Code = Code
-segment_of slots.Data = Data
+use Rattle.typed_trees.specs.TypedTrees.{TypedObject, TypedModule}
+use Rattle.layout.specs.Segments.{Target as ModuleTarget, SegmentStart, ExternalName, Location, After, SegmentByte, Places, constant_places, data_places, location_of, Absolute as AtNumber}
+use Rattle.program_images.specs.Objects.{segment_of}
 
 -- the target of a fix is that of a byte: the segment, or the EXTERNAL name by its number
 abbrev pub IsTarget : ObjectModule → ModuleTarget → Target → Type 0
@@ -66,9 +58,3 @@ pub record HasSegments (typed : TypedModule) (object : ObjectModule) : Type 0 wh
       → slice_get typed.objects number ≡ Some each
       → each.is_public ≡ true
       → HasPublic each.name (location_of typed number) object.publics
-
--- one for each module, in their order
-abbrev pub HaveSegments : List TypedModule → List ObjectModule → Type 0
-HaveSegments [] [] = Unit {0}
-HaveSegments (typed ∷ others) (object ∷ objects) = HasSegments typed object × HaveSegments others objects
-HaveSegments modules objects = ⊥

@@ -12,7 +12,7 @@ use Rattle.treecode.specs.declared.procedure.TreeProcedure.{TreeProcedure}
 use Rattle.treecode.specs.declared.statement.StatementNumber.{StatementNumber}
 use Rattle.treecode.specs.Lowered.{AreArguments, IsExpression, IsList, IsReference, IsStatement, IsTarget}
 use Rattle.treecode.specs.Nodes.{nodes_of}
-use Rattle.procedure_frames.specs.internal.Objects.{call_bytes}
+use Rattle.procedure_frames.specs.Calls.{call_bytes}
 use Rattle.steps8080.specs.declared.step.Task.{Task}
 use Rattle.steps8080.specs.declared.step.Task.TheVariants as tasks
 use Rattle.statements8080.specs.declared.body.Body.{Body}

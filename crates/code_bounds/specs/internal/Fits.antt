@@ -1,10 +1,6 @@
 -- Code of statements that takes no more bytes than its weight allows.
 use Rattle.std.specs.Prelude.{◌≡◌, ℕ, ◌+◌, ◌≤◌, Bool, List, Option}
-use Rattle.typed_trees.specs.Frames.{FramesFit, ParametersFit}
-use Rattle.typed_trees.specs.Jumps.{JumpsAreSound}
-use Rattle.typed_trees.specs.Storable.{IsStorable}
-use Rattle.typed_trees.specs.TypedTrees.{TypedList, TypedModule, TypedStatement, LabelStatement}
-use Rattle.typed_trees.specs.WellTyped.{IsWellTyped}
+use Rattle.typed_trees.specs.TypedTrees.{TypedList, TypedStatement, LabelStatement}
 use Rattle.typed_trees.specs.Weight.{weight_of_list, weight_of_statement}
 use Rattle.layout.specs.Storage.{Storage}
 use Rattle.asm8080.specs.declared.item.Item.{Item}
@@ -18,7 +14,7 @@ use Rattle.statements8080.specs.declared.body.Body.{Body}
 use Rattle.statements8080.specs.declared.plan.Planned.{Planned}
 use Rattle.codegen8080.specs.declared.meeting.Here.{Here}
 use Rattle.codegen8080.specs.Generated.{AreCarriedOut, IsCarriedOut, IsListCarriedOut}
-use Rattle.code_sizes.specs.Sizes.{PartsFit, bytes_for}
+use Rattle.code_sizes.specs.internal.Sizes.{PartsFit, bytes_for}
 
 -- the code of planned steps takes at most so many bytes, wherever it stands
 pub record StepsFit (body : Body) (called : List Bool) (steps : List Planned) (most : ℕ) : Type 0 where
@@ -56,13 +52,3 @@ pub record ListFits (body : Body) (called : List Bool) (range : Range) (tree : T
 abbrev pub AllPartsFit : TreeModule → Storage → Type 0
 AllPartsFit tree storage =
     (site : Site) (called : List Bool) → site.tree.now ≡ tree → PartsFit site storage called
-
--- What the size of code depends on, of what typing makes sure of: labels stand in lists alone, no procedure has
--- more parameters than there may be, and DATA fills no more bytes than its object has. A label as a case would
--- weigh nothing and take three bytes; each RETURN of a REENTRANT procedure takes a byte for each parameter.
-pub record IsSound (typed : TypedModule) : Type 0 where
-  pub types : IsWellTyped typed
-  pub jumps : JumpsAreSound typed
-  pub frames : FramesFit typed
-  pub parameters : ParametersFit typed
-  pub storable : IsStorable typed

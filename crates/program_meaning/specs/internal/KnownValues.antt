@@ -13,7 +13,8 @@ use Rattle.treecode.specs.Homes.{externals_of, homes_of}
 use Rattle.treecode.specs.Known.{known_value}
 use Rattle.module_segments.specs.internal.Places.{location_of_place}
 use Rattle.procedure_meaning.specs.OneModule.{around_in}
-use Rattle.program_meaning.specs.OneModule.{LiesInMemory, address_for}
+use Rattle.program_meaning.specs.OneModule.{LiesInMemory}
+use Rattle.program_meaning.specs.internal.Layouts.{address_for}
 
 -- the value of an expression of a module, where it is known but for where things lie
 abbrev pub known_in : TypedModule → TypedExpression → Option Place

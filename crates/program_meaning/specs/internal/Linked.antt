@@ -11,7 +11,7 @@ use Rattle.asm8080.specs.Items.{Layout}
 use Rattle.generated_objects.specs.Made.{IsMadeOf}
 use Rattle.program_images.specs.internal.AtPlans.{plan_of}
 use Rattle.program_memory.specs.internal.Linked.{IsLinked}
-use Rattle.program_meaning.specs.OneModule.{module_layout}
+use Rattle.program_meaning.specs.internal.Layouts.{module_layout}
 use Rattle.program_meaning.specs.Typed.{IsSoundlyMade}
 
 -- a module by its number in a program

@@ -5,7 +5,7 @@ use Rattle.object_modules.specs.Module.{ObjectModule}
 use Rattle.typed_trees.specs.TypedTrees.{TypedModule}
 use Rattle.layout.specs.Placing.{Plan as PlacingPlan}
 use Rattle.procedure_meaning.specs.Calls.{Entries}
-use Rattle.program_meaning.specs.Linked.{ModuleIs, layout_of}
+use Rattle.program_meaning.specs.internal.Linked.{ModuleIs, layout_of}
 
 -- each module of a program, by its number
 pub record ModulesAre

@@ -1,0 +1,2 @@
+-- What only proofs cite.
+pub mod Fits

@@ -1,0 +1,3 @@
+-- What only proofs cite.
+pub mod Sizes
+pub mod Parts
