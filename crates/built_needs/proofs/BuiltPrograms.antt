@@ -12,6 +12,7 @@ use Rattle.charge_limits.specs.Limits.{ChargesFit}
 use Rattle.charge_limits.proofs.Charges.{derived_charges_fit}
 use Rattle.meant_programs.specs.Defaults.{TakesNoDefault}
 use Rattle.meant_programs.specs.Meant.{IsWhole}
+use Rattle.meant_programs.specs.Places.{IsPlaceable}
 use Rattle.meant_programs.proofs.Defaults.{takes_no_default}
 use Rattle.public_objects.specs.Publics.{HasTree}
 use Rattle.public_objects.proofs.Publics.{all_placeable}
@@ -27,7 +28,7 @@ all_sound (typed ∷ modules) (object ∷ objects) made =
 all_sound [] (object ∷ objects) made = absurd made
 all_sound (typed ∷ modules) [] made = absurd made
 
--- A program that is built is joined of soundly typed modules and lies lawfully: so the laws of `meant_programs` hold of it.
+-- A program that is built is joined of soundly typed modules and lies lawfully, as the laws of `meant_programs` ask.
 pub built_is_whole : (built : Construction) (script : List (List ℕ)) → IsConstruction built
     → IsWhole (program_of built script)
 built_is_whole built script is = record {
@@ -47,15 +48,19 @@ sources_have_trees (text ∷ texts) (typed ∷ modules) are =
 sources_have_trees [] (typed ∷ modules) are = absurd are
 sources_have_trees (text ∷ texts) [] are = absurd are
 
--- No run of a program that is built of sources takes a case that the meaning has for trees that no source has: the
--- premises are what `build` promises of each program that it gives.
+-- So PUBLIC objects of a program of sources, and what INITIAL and DATA locate, may be placed.
+pub program_is_placeable : (texts : List (List ℕ)) (modules : List TypedModule) → IsProgramOf texts modules
+    → All IsPlaceable modules
+program_is_placeable texts modules is = all_placeable modules (sources_have_trees texts modules is.sources)
+
+-- No run of a program that is built of texts takes a case that the meaning has for trees that no source has. Both
+-- premises are clauses of `build`, which says them of each program that it gives.
 pub built_takes_no_default : (texts : List (List ℕ)) (built : Construction) (script : List (List ℕ))
     → IsProgramOf texts (program_modules built.program) → IsConstruction built
     → TakesNoDefault (program_of built script)
 built_takes_no_default texts built script sources is =
-    let modules : List TypedModule = program_modules built.program in
     takes_no_default (program_of built script) (built_is_whole built script is)
-    (all_placeable modules (sources_have_trees texts modules sources.sources))
+    (program_is_placeable texts (program_modules built.program) sources)
 
 -- neither a procedure nor the main program of a source is charged more than the limit
 pub source_charges_fit : (text : List ℕ) (typed : TypedModule) → IsSourceOf text typed → ChargesFit typed

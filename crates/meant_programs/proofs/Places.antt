@@ -1,6 +1,6 @@
 -- What each object of a program stands for that is not BASED, in a frame or nowhere lies somewhere, and so does what
 -- INITIAL and DATA locate.
-use Rattle.std.proofs.Common.{◌≡◌, ℕ, ◌+◌, ◌<◌, true, length, Option, Some, None, IsSomeAnd, slice_get, refl, sym, ap, subst, arith}
+use Rattle.std.proofs.Common.{◌≡◌, ℕ, ◌+◌, ◌<◌, true, length, Option, Some, None, IsSomeAnd, slice_get, refl, sym, ap, subst, ◌∙◌, arith}
 use Rattle.std.specs.Prelude.{All, slice_index}
 use Rattle.std.specs.Option.{option_and_then, option_map_or}
 use Rattle.std.proofs.lemmas.List.Elements.{All-weaker, recursion_from_All}
@@ -175,3 +175,28 @@ module _ (program : Program) (whole : IsWhole program) (placeable : All IsPlacea
       All-weaker (LocatesObject typed.objects) (LocationLies program number typed) location_lies
       (values_in object.home) each)
       typed.objects is.locations
+
+-- worked: a BASED object stands for none that lies somewhere, though the placement has its number
+based_lies_nowhere :
+    (program : Program) (number object base : ℕ) (typed : TypedModule) (found : TypedObject)
+    → slice_get program.modules number ≡ Some typed
+    → slice_get typed.objects object ≡ Some found
+    → found.home ≡ BasedOn base
+    → StandsForBytes program number typed object
+    → ⊥
+based_lies_nowhere program number object base typed found its there home stands =
+    let at : InProgram = record { number_of_module = number; number = object } in
+    let by_object : IsSomeAnd (object_meant program.modules at found found.home) (HasDeclaredBytes program) =
+    subst
+    (λ (entry : Option TypedObject).
+    IsSomeAnd (option_and_then (λ (one : TypedObject). object_meant program.modules at one one.home) entry)
+    (HasDeclaredBytes program)) there stands in
+    let lies : HasDeclaredBytes program at =
+    subst (λ (one : Home). IsSomeAnd (object_meant program.modules at found one) (HasDeclaredBytes program)) home
+    by_object in
+    let same_module : Some lies.typed ≡ Some typed = sym lies.its_module ∙ its in
+    let its_typed : lies.typed ≡ typed = cc in
+    let same_object : Some lies.object ≡ Some found =
+    sym lies.its_object ∙ ap (λ (one : TypedModule). slice_get one.objects object) its_typed ∙ there in
+    let its_object : lies.object ≡ found = cc in
+    subst HasPlace (ap (λ (one : TypedObject). one.home) its_object ∙ home) lies.place

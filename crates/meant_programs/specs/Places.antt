@@ -1,6 +1,6 @@
--- Where the objects of a program lie: those that are PUBLIC, those that INITIAL and DATA locate, and what an object
--- stands for (PL/M-80 Programming Manual, "Extended scope: the PUBLIC and EXTERNAL attributes", "The INITIAL
--- attribute", "The DATA attribute").
+-- Where the objects of a program lie: those that are PUBLIC, those that INITIAL and DATA locate, and what an
+-- object stands for (PL/M-80 Programming Manual, "Extended scope: the PUBLIC and EXTERNAL attributes", "The
+-- INITIAL attribute", "The DATA attribute").
 use Rattle.std.specs.Prelude.{◌≡◌, ℕ, ◌+◌, ◌<◌, true, List, All, Some, IsSomeAnd, slice_get}
 use Rattle.typed_trees.specs.declared.parts.InitialValue.TheVariants.{LocationValue}
 use Rattle.typed_trees.specs.declared.parts.InitialValue.{InitialValue}
@@ -21,7 +21,7 @@ LiesIfPublic object = object.is_public ≡ true → HasPlace object.home
 abbrev pub PublicsLie : TypedModule → Type 0
 PublicsLie typed = All LiesIfPublic typed.objects
 
--- what a value of INITIAL or DATA locates is an object of the table, and none that is BASED, in a frame or nowhere
+-- what a value of INITIAL or DATA locates is an object of the table, which is not BASED, in a frame or nowhere
 abbrev pub LocatesObject : (objects : List TypedObject) → InitialValue → Type 0
 LocatesObject objects (LocationValue object offset) =
     IsSomeAnd (slice_get objects object) (λ (found : TypedObject). HasAddress found.home)
@@ -31,8 +31,8 @@ LocatesObject objects value = Unit {0}
 abbrev pub LocatesObjects : (objects : List TypedObject) → TypedObject → Type 0
 LocatesObjects objects object = All (LocatesObject objects) (values_in object.home)
 
--- What is true of the table of objects of every module that a source text is, besides that the module is soundly
--- typed.
+-- What is true of the table of objects of every module that a source text is, besides that the module is
+-- soundly typed.
 pub record ArePlaceable (objects : List TypedObject) : Type 0 where
   pub publics : All LiesIfPublic objects
   pub locations : All (LocatesObjects objects) objects
@@ -40,8 +40,8 @@ pub record ArePlaceable (objects : List TypedObject) : Type 0 where
 abbrev pub IsPlaceable : TypedModule → Type 0
 IsPlaceable typed = ArePlaceable typed.objects
 
--- An object of a program that is there and lies somewhere: the placement has an address for it, and each byte from
--- there on, as many as it takes, is declared. Where AT puts objects, they may share bytes.
+-- An object of a program that is there and lies somewhere: the placement has an address for it, and each byte
+-- from there on, as many as it takes, is declared. Where AT puts objects, they may share bytes.
 pub record HasDeclaredBytes (program : Program) (at : InProgram) : Type 0 where
   pub typed : TypedModule
   pub object : TypedObject
