@@ -12,7 +12,10 @@ use Rattle.charge_limits.specs.Limits.{ChargesFit}
 use Rattle.charge_limits.proofs.Charges.{derived_charges_fit}
 use Rattle.meant_programs.specs.Defaults.{TakesNoDefault}
 use Rattle.meant_programs.specs.Meant.{IsWhole}
+use Rattle.meant_programs.specs.Places.{IsPlaceable}
 use Rattle.meant_programs.proofs.Defaults.{takes_no_default}
+use Rattle.public_objects.specs.Publics.{HasTree}
+use Rattle.public_objects.proofs.Publics.{all_placeable}
 use Rattle.tool.specs.Construction.{Construction, IsConstruction}
 use Rattle.built_needs.specs.BuiltPrograms.{program_of}
 
@@ -25,7 +28,7 @@ all_sound (typed ∷ modules) (object ∷ objects) made =
 all_sound [] (object ∷ objects) made = absurd made
 all_sound (typed ∷ modules) [] made = absurd made
 
--- A program that is built is joined of soundly typed modules and lies lawfully: so the laws of `meant_programs` hold of it.
+-- A program that is built is joined of soundly typed modules and lies lawfully, as the laws of `meant_programs` ask.
 pub built_is_whole : (built : Construction) (script : List (List ℕ)) → IsConstruction built
     → IsWhole (program_of built script)
 built_is_whole built script is = record {
@@ -34,10 +37,30 @@ built_is_whole built script is = record {
   lawful = is.lawful;
 }
 
--- no run of it takes a case that the meaning has for trees that no source has
-pub built_takes_no_default : (built : Construction) (script : List (List ℕ)) → IsConstruction built
+-- modules of which texts are the sources have typings
+sources_have_trees : (texts : List (List ℕ)) (modules : List TypedModule) → AreSourcesOf texts modules
+    → All HasTree modules
+sources_have_trees [] [] are = All-nil HasTree
+sources_have_trees (text ∷ texts) (typed ∷ modules) are =
+    let typing = (are.0).typing in
+    All-cons HasTree typed modules (record { tree = typing.tree; is = typing.typing })
+    (sources_have_trees texts modules are.1)
+sources_have_trees [] (typed ∷ modules) are = absurd are
+sources_have_trees (text ∷ texts) [] are = absurd are
+
+-- So PUBLIC objects of a program of sources, and what INITIAL and DATA locate, may be placed.
+pub program_is_placeable : (texts : List (List ℕ)) (modules : List TypedModule) → IsProgramOf texts modules
+    → All IsPlaceable modules
+program_is_placeable texts modules is = all_placeable modules (sources_have_trees texts modules is.sources)
+
+-- No run of a program that is built of texts takes a case that the meaning has for trees that no source has. Both
+-- premises are clauses of `build`, which says them of each program that it gives.
+pub built_takes_no_default : (texts : List (List ℕ)) (built : Construction) (script : List (List ℕ))
+    → IsProgramOf texts (program_modules built.program) → IsConstruction built
     → TakesNoDefault (program_of built script)
-built_takes_no_default built script is = takes_no_default (program_of built script) (built_is_whole built script is)
+built_takes_no_default texts built script sources is =
+    takes_no_default (program_of built script) (built_is_whole built script is)
+    (program_is_placeable texts (program_modules built.program) sources)
 
 -- neither a procedure nor the main program of a source is charged more than the limit
 pub source_charges_fit : (text : List ℕ) (typed : TypedModule) → IsSourceOf text typed → ChargesFit typed

@@ -1,5 +1,6 @@
 -- No case of the meaning that is there for trees that no source has is taken in a program.
 use Rattle.std.proofs.Common.{◌≡◌, ℕ, ◌<◌, List, [], Some, slice_get, refl, sym, subst}
+use Rattle.std.specs.Prelude.{All}
 use Rattle.std.proofs.lemmas.List.Elements.{recursion_from_All}
 use Rattle.trees.specs.declared.declaration.ScalarType.TheVariants.{Address}
 use Rattle.typed_trees.specs.Jumps.{ListStands}
@@ -14,12 +15,14 @@ use Rattle.meaning.proofs.AgreementStatements.{later_is_meant}
 use Rattle.meaning.proofs.LabelPlaces.{rest_at}
 use Rattle.meant_programs.specs.Defaults.{BeginsWith, FindsBytes, KeepsBytes, TakesNoDefault, TakesNoDefaultIn}
 use Rattle.meant_programs.specs.Meant.{HasBytes, IsWhole}
+use Rattle.meant_programs.specs.Places.{IsPlaceable}
 use Rattle.meant_programs.proofs.Bytes.{callee_has_bytes, counter_is_there, list_leaves_bytes, location_leaves_bytes, main_has_bytes, parameters_leave_bytes, scalar_is_there, statement_leaves_bytes, store_leaves_bytes, value_leaves_bytes, values_leave_bytes, variable_is_there}
 use Rattle.meant_programs.proofs.Calls.{location_is_in_memory, values_are_counted}
 use Rattle.meant_programs.proofs.Leaving.{main_is_left, procedure_is_left}
 use Rattle.meant_programs.proofs.Mains.{main_is_there}
 use Rattle.meant_programs.proofs.Named.{names_are_meant}
 use Rattle.meant_programs.proofs.Names.{of_module}
+use Rattle.meant_programs.proofs.Places.{locations_lie, objects_lie}
 
 -- the rest of a list from a label on begins with the label
 begins_with : (list : TypedList) (label : ℕ) (rest : TypedStatements) → ListStands list
@@ -53,13 +56,15 @@ module _ (around : Surroundings) (typed : TypedModule)
     counter = λ head counts. counter_is_there around typed within here head s counts has;
   }
 
-  in_module : IsWhole around.program → TakesNoDefaultIn around typed
-  in_module whole =
+  in_module : IsWhole around.program → All IsPlaceable around.program.modules → TakesNoDefaultIn around typed
+  in_module whole placeable =
       let sound : IsSoundlyTyped typed =
       of_module IsSoundlyTyped around.program.modules around.number_of_module typed
       (recursion_from_All IsSoundlyTyped around.program.modules whole.sound) here in
       record {
         named = names_are_meant around whole typed here;
+        objects = objects_lie around.program whole placeable around.number_of_module typed here;
+        locations = locations_lie around.program whole placeable around.number_of_module typed here;
         addresses = λ later within reference s refers.
             location_is_in_memory later around typed within reference s here refers;
         counted = λ later arguments s. values_are_counted later around arguments s;
@@ -73,14 +78,15 @@ module _ (around : Surroundings) (typed : TypedModule)
         there = finds_bytes;
       }
 
--- in a program that is joined of soundly typed modules and lies lawfully
-pub takes_no_default : (program : Program) → IsWhole program → TakesNoDefault program
-takes_no_default program whole = record {
+-- in a program that is joined of soundly typed modules and lies lawfully, where PUBLIC objects of the modules and what
+-- INITIAL and DATA locate may be placed
+pub takes_no_default : (program : Program) → IsWhole program → All IsPlaceable program.modules → TakesNoDefault program
+takes_no_default program whole placeable = record {
   main = main_is_there program whole;
   later = later_is_meant;
   labels = begins_with;
   modules = λ number room typed is.
-      in_module (record { program = program; number_of_module = number; room = room }) typed is whole;
+      in_module (record { program = program; number_of_module = number; room = room }) typed is whole placeable;
 }
 
 -- worked: a program without modules takes one

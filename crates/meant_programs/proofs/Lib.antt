@@ -7,4 +7,6 @@ pub mod Changes
 pub mod References
 pub mod Bytes
 pub mod Named
+pub mod Declared
+pub mod Places
 pub mod Defaults

@@ -16,6 +16,7 @@ use Rattle.meaning.specs.Meaning.{Later, IsMeantBelow, done, done_list, frame_of
 use Rattle.meaning.specs.Outcomes.{Program, State}
 use Rattle.meant_programs.specs.Meant.{GivesBytes, GivesInMemory, GivesSoMany, HasBytes, HasMain, IsCallee, IsThere, Leaves, LeavesBytes, LeavesMain, LeavesProcedure, ParametersAreThere}
 use Rattle.meant_programs.specs.Named.{NamesAreMeant}
+use Rattle.meant_programs.specs.Places.{LocationsLie, ObjectsLie}
 
 -- statements of which a label is the first
 abbrev pub BeginsWith : (label : ℕ) → TypedStatements → Type 0
@@ -50,9 +51,16 @@ pub record FindsBytes (around : Surroundings) (typed : TypedModule) (within : Wi
 
 -- in a module, which is carried out in these surroundings
 pub record TakesNoDefaultIn (around : Surroundings) (typed : TypedModule) : Type 0 where
-  -- `home_in`, `home_of`, `place_in`: no such object, or one without a place; `address_of`, `address_of_object`,
-  -- `address_in`, `address_of_list`: no such address; `callee_in`, `called_for`, `called`: no such procedure
+  -- `home_in`, `home_of`, `place_in`: no such object, or one that is nowhere; `address_of`,
+  -- `address_of_object`, `address_in`, `address_of_list`: no number where its address stands; `callee_in`,
+  -- `called_for`, `called`: no such procedure
   pub named : NamesAreMeant around typed
+  -- `address_of_object`, `address_in`: an object that has no place, so that its number says nothing. What is
+  -- not BASED, in a frame or nowhere has one, and what an EXTERNAL object stands for is there and has one.
+  pub objects : ObjectsLie around.program around.number_of_module typed
+  -- `address_of_object` of what INITIAL and DATA locate, with which `source_run` begins: no such object, or one
+  -- that has no place
+  pub locations : LocationsLie around.program around.number_of_module typed
   -- `address_in_memory`: the address of what lies in a frame
   pub addresses : (later : Later) (within : Within) (reference : TypedReference) (s : State)
       → RefersToLocation typed within reference → GivesInMemory (located later around reference s)

@@ -1,3 +1,4 @@
 pub mod Meant
 pub mod Named
+pub mod Places
 pub mod Defaults

@@ -26,20 +26,22 @@ pub record IsWhole (program : Program) : Type 0 where
   pub sound : All IsSoundlyTyped program.modules
   pub lawful : IsLawful program.modules program.placement
 
--- an object that has an address of its own, or stands for one that has
+-- an object with this home has an address of its own, or stands for one of another module
 abbrev pub HasAddress : Home → Type 0
 HasAddress (BasedOn base) = ⊥
 HasAddress (InFrame procedure) = ⊥
 HasAddress Nowhere = ⊥
 HasAddress home = Unit {0}
 
--- the placement has an address for an object of a program
+-- The placement has a number where the address of an object of a program stands. It has one for each object,
+-- also for one that is BASED, in a frame or nowhere, of which that number says nothing: that an object has a
+-- place is what `HasDeclaredBytes` says.
 abbrev pub IsPlaced : Placement → InProgram → Type 0
 IsPlaced placement at =
     IsSomeAnd (slice_get placement.modules at.number_of_module)
     (λ (placed : ModulePlacement). at.number < length placed.objects)
 
--- an object of a module stands for one that is placed
+-- an object of a module stands for one, of this or another module, of which the placement has a number
 abbrev pub ObjectIsMeant : Program → (number_of_module : ℕ) → TypedModule → (object : ℕ) → Type 0
 ObjectIsMeant program number_of_module typed object =
     IsSomeAnd (meant_in program.modules number_of_module object typed) (IsPlaced program.placement)

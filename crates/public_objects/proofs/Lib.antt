@@ -1,4 +1,4 @@
 pub mod Items
+pub mod Locations
 pub mod Walks
-pub mod Declared
 pub mod Publics

@@ -1,144 +1,33 @@
--- PUBLIC objects of typings lie somewhere, and so does what each object of a program stands for.
-use Rattle.std.proofs.Common.{◌≡◌, ℕ, ◌<◌, true, List, length, Option, Some, None, Ok, IsSomeAnd, slice_get, refl, sym, ap, subst, ◌+◌, arith}
-use Rattle.std.specs.Prelude.{All, slice_index}
-use Rattle.std.specs.Option.{option_and_then, option_map_or}
-use Rattle.std.proofs.lemmas.List.Elements.{All-weaker, recursion_from_All}
-use Rattle.std.proofs.lemmas.Option.{slice_get_within}
+-- In modules that have typings PUBLIC objects lie somewhere and INITIAL and DATA locate objects that do, and so does
+-- what each object of a program of them stands for.
+use Rattle.std.proofs.Common.{◌≡◌, ℕ, List, Some, Ok, slice_get, sym, subst}
+use Rattle.std.specs.Prelude.{All}
+use Rattle.std.proofs.lemmas.List.Elements.{All-weaker}
 use Rattle.trees.specs.Trees.{ModuleTree}
-use Rattle.typed_trees.specs.Storable.{HasPlace}
-use Rattle.typed_trees.specs.TypedTrees.{Home, InData, InConstants, Placed, BasedOn, Elsewhere, Nowhere, InFrame, TypedObject, TypedModule}
+use Rattle.typed_trees.specs.TypedTrees.{Elsewhere, TypedObject, TypedModule}
 use Rattle.typing.specs.Typing.{typing_of}
-use Rattle.layout.specs.Joined.{DeclaredObject, InProgram, agree, object_meant}
-use Rattle.layout.specs.Lawful.{HasAddresses}
-use Rattle.layout.specs.Placement.{IsDeclared, ModulePlacement}
-use Rattle.layout.specs.StartingMemory.{meant_in}
-use Rattle.layout.proofs.Meant.{MeansObject, external_object_meant}
-use Rattle.layout.proofs.Segments.{of_all}
 use Rattle.meaning.specs.Outcomes.{Program}
 use Rattle.meant_programs.specs.Meant.{HasAddress, IsWhole}
-use Rattle.meant_programs.proofs.Names.{globals_listed, module_placed}
-use Rattle.public_objects.specs.Publics.{HasDeclaredBytes, HasTree, LiesIfPublic, PublicsLie}
-use Rattle.public_objects.proofs.Declared.{bytes_declared}
-use Rattle.public_objects.proofs.Walks.{typing_lies}
+use Rattle.meant_programs.specs.Places.{IsPlaceable, PublicsLie, StandsForBytes}
+use Rattle.meant_programs.proofs.Places as of_programs
+use Rattle.public_objects.specs.Publics.{HasTree}
+use Rattle.public_objects.proofs.Walks.{typing_is_placeable}
 
--- in a module that has a typing each PUBLIC object has a place
+-- in a module that has a typing each PUBLIC object has a place, and each value of INITIAL and DATA that locates an
+-- object locates one of the module that is not BASED, in a frame or nowhere
+pub is_placeable : (tree : ModuleTree) (found : TypedModule) → typing_of tree ≡ Ok found → IsPlaceable found
+is_placeable tree found is = (typing_is_placeable tree).holds found is
+
 pub publics_lie : (tree : ModuleTree) (found : TypedModule) → typing_of tree ≡ Ok found → PublicsLie found
-publics_lie tree found is = (typing_lies tree).holds found is
+publics_lie tree found is = (is_placeable tree found is).publics
+
+pub all_placeable : (modules : List TypedModule) → All HasTree modules → All IsPlaceable modules
+all_placeable modules typings =
+    All-weaker HasTree IsPlaceable (λ typed has. is_placeable has.tree typed has.is) modules typings
 
 pub all_publics_lie : (modules : List TypedModule) → All HasTree modules → All PublicsLie modules
 all_publics_lie modules typings =
     All-weaker HasTree PublicsLie (λ typed has. publics_lie has.tree typed has.is) modules typings
-
-module _ (program : Program) (whole : IsWhole program) where
-  -- an object that has a place
-  has_bytes : (at : InProgram) (typed : TypedModule) (object : TypedObject)
-      → slice_get program.modules at.number_of_module ≡ Some typed
-      → slice_get typed.objects at.number ≡ Some object
-      → HasPlace object.home
-      → HasDeclaredBytes program at
-  has_bytes at typed object its there place =
-      by (slice_get program.placement.modules at.number_of_module) refl
-      (module_placed program whole at.number_of_module typed its)
-    where
-      by : (entry : Option ModulePlacement)
-          → slice_get program.placement.modules at.number_of_module ≡ entry
-          → IsSomeAnd entry (λ (placed : ModulePlacement). HasAddresses (typed, placed))
-          → HasDeclaredBytes program at
-      by None is has = absurd has
-      by (Some placed) is has = record {
-        typed = typed;
-        object = object;
-        its_module = its;
-        its_object = there;
-        place = place;
-        placed = subst
-            (λ (entry : Option ModulePlacement).
-            IsSomeAnd entry (λ (one : ModulePlacement). at.number < length one.objects)) (sym is) below;
-        declared = λ offset inside.
-            subst (λ (start : ℕ). IsDeclared program.modules program.placement (start + offset))
-            (sym (ap (λ (entry : Option ModulePlacement).
-            option_map_or (λ (one : ModulePlacement). slice_index one.objects at.number) entry 0) is))
-            (bytes_declared program.modules program.placement at.number_of_module at.number typed placed object its is
-            there below place offset inside);
-      }
-        where
-          below : at.number < length placed.objects
-          below =
-              let within = slice_get_within typed.objects at.number object there in
-              let count = has.objects in
-              omega (arith, within, count)
-
-  module _ (lie : All PublicsLie program.modules) where
-    -- a PUBLIC object that an EXTERNAL one stands for
-    public_address : (at : InProgram) (object : TypedObject)
-        → MeansObject program.modules object at
-        → HasDeclaredBytes program at
-    public_address at object means = by_module (slice_get program.modules at.number_of_module) refl means
-      where
-        by_object : (its : TypedModule) (entry : Option TypedObject)
-            → slice_get program.modules at.number_of_module ≡ Some its
-            → slice_get its.objects at.number ≡ entry
-            → IsSomeAnd entry
-            (λ (public : TypedObject). (public.is_public ≡ true)
-            × (agree (DeclaredObject object) (DeclaredObject public) ≡ true))
-            → HasDeclaredBytes program at
-        by_object its None is there means = absurd means
-        by_object its (Some public) is there means =
-            let all : PublicsLie its =
-            of_all PublicsLie program.modules at.number_of_module its
-            (recursion_from_All PublicsLie program.modules lie) is in
-            has_bytes at its public is there
-            (of_all LiesIfPublic its.objects at.number public (recursion_from_All LiesIfPublic its.objects all) there
-            means.0)
-
-        by_module : (entry : Option TypedModule)
-            → slice_get program.modules at.number_of_module ≡ entry
-            → IsSomeAnd entry
-            (λ (its : TypedModule). IsSomeAnd (slice_get its.objects at.number)
-            (λ (public : TypedObject). (public.is_public ≡ true)
-            × (agree (DeclaredObject object) (DeclaredObject public) ≡ true)))
-            → HasDeclaredBytes program at
-        by_module None is means = absurd means
-        by_module (Some its) is means = by_object its (slice_get its.objects at.number) is refl means
-
-    module _
-        (number object : ℕ) (typed : TypedModule) (found : TypedObject)
-        (its : slice_get program.modules number ≡ Some typed) (there : slice_get typed.objects object ≡ Some found)
-      where
-        abbrev at_object : InProgram
-        at_object = record { number_of_module = number; number = object }
-
-        external_address : (entry : Option InProgram)
-            → IsSomeAnd entry (MeansObject program.modules found)
-            → IsSomeAnd entry (HasDeclaredBytes program)
-        external_address None means = absurd means
-        external_address (Some at) means = public_address at found means
-
-        by_home : (home : Home)
-            → found.home ≡ home
-            → HasAddress home
-            → IsSomeAnd (object_meant program.modules at_object found home) (HasDeclaredBytes program)
-        by_home (InData values) is has = has_bytes at_object typed found its there (subst HasPlace (sym is) tt)
-        by_home (InConstants values) is has = has_bytes at_object typed found its there (subst HasPlace (sym is) tt)
-        by_home (Placed address) is has = has_bytes at_object typed found its there (subst HasPlace (sym is) tt)
-        by_home Elsewhere is has =
-            external_address (object_meant program.modules at_object found Elsewhere)
-            (subst
-            (λ (home : Home).
-            IsSomeAnd (object_meant program.modules at_object found home) (MeansObject program.modules found)) is
-            (external_object_meant program.modules whole.joined (globals_listed program whole) number object typed found
-            its there is))
-        by_home (BasedOn base) is has = absurd has
-        by_home Nowhere is has = absurd has
-        by_home (InFrame procedure) is has = absurd has
-
-        meant_address : HasAddress found.home
-            → IsSomeAnd (meant_in program.modules number object typed) (HasDeclaredBytes program)
-        meant_address has =
-            subst (λ (entry : Option InProgram). IsSomeAnd entry (HasDeclaredBytes program))
-            (sym (ap (λ (entry : Option TypedObject).
-            option_and_then (λ (one : TypedObject). object_meant program.modules at_object one one.home) entry) there))
-            (by_home found.home refl has)
 
 -- In a program of modules that have typings, an object that is not BASED, in a frame or nowhere stands for one that
 -- has an address.
@@ -148,9 +37,10 @@ pub object_lies :
     → slice_get program.modules number ≡ Some typed
     → slice_get typed.objects object ≡ Some found
     → HasAddress found.home
-    → IsSomeAnd (meant_in program.modules number object typed) (HasDeclaredBytes program)
+    → StandsForBytes program number typed object
 object_lies program whole typings number object typed found its there has =
-    meant_address program whole (all_publics_lie program.modules typings) number object typed found its there has
+    of_programs.object_lies program whole (all_publics_lie program.modules typings) number object typed found its there
+    has
 
 -- So does an EXTERNAL one.
 pub external_object_lies :
@@ -159,6 +49,6 @@ pub external_object_lies :
     → slice_get program.modules number ≡ Some typed
     → slice_get typed.objects object ≡ Some found
     → found.home ≡ Elsewhere
-    → IsSomeAnd (meant_in program.modules number object typed) (HasDeclaredBytes program)
+    → StandsForBytes program number typed object
 external_object_lies program whole typings number object typed found its there elsewhere =
     object_lies program whole typings number object typed found its there (subst HasAddress (sym elsewhere) tt)

@@ -1,7 +1,8 @@
--- In each part of a text the PUBLIC objects that are declared so far have a place.
-use Rattle.std.proofs.Common.{ℕ, ◌+◌, List, [], ◌∷◌, length, nat_le, subst, sym}
+-- In each part of a text the PUBLIC objects that are declared so far have a place, and INITIAL and DATA locate objects
+-- that have one or are of another module.
+use Rattle.std.proofs.Common.{ℕ, ◌+◌, List, [], ◌∷◌, ◌++◌, length, nat_le, subst, sym}
 use Rattle.std.specs.Prelude.{All, not}
-use Rattle.std.proofs.lemmas.List.Elements.{All-append, All-cons, All-nil}
+use Rattle.std.proofs.lemmas.List.Elements.{All-append, All-cons, All-nil, All-weaker}
 use Rattle.trees.specs.declared.identifier.Identifier.{Identifier}
 use Rattle.trees.specs.Trees as trees
 use Rattle.trees.specs.Trees.{DeclarationTree, DeclarationTrees, DeclareTree, ElementTree, ElseTree, ItemElement, ItemTree, LiterallyElement, ModuleTree, MoreDeclarations, NoDeclarations, ProcedureTree, StatementKindTree, StatementTree, StatementTrees}
@@ -13,42 +14,77 @@ use Rattle.typed_trees.specs.TypedTrees.{TypedObject, TypedStatements}
 use Rattle.typing.specs.declared.fault.Cause.TheVariants.{DeclaredTwice, MisplacedAttribute, TooLarge}
 use Rattle.typing.specs.Blocks.{Block, Progress, is_external}
 use Rattle.typing.specs.Checks.{Checked, require}
-use Rattle.typing.specs.Items.{TypedItem, declare_element, declare_elements, declare_item, declare_names, line_of_item, object_named, size_of_item, with_objects, with_typed_object}
+use Rattle.typing.specs.Items.{TypedItem, declare_element, declare_elements, declare_item, declare_names, line_of_item, object_named, size_of_item, typed_item, with_objects, with_typed_object}
 use Rattle.typing.specs.Expressions.{arguments}
 use Rattle.typing.specs.Procedures.{check_body, own_block, parameter_objects}
 use Rattle.typing.specs.References.{Known, line_of}
 use Rattle.typing.specs.Statements.{declare_labels, labels_before, list_of, with_here, without_label}
 use Rattle.typing.specs.Typing.{alone, at_the_beginning, cases, declaration, declarations, else_part, entered, inner_block, kind, labelled, module_block, statements, typing_of}
+use Rattle.layout.specs.StartingMemory.{values_in}
 use Rattle.typing.proofs.Kept.{Gives, gives_after, gives_ok, in_turn, then_more}
+use Rattle.typing.proofs.Tables.{Keeps, keeps_append}
 use Rattle.typed_parameters.proofs.Opening.{opens}
 use Rattle.typed_parameters.proofs.Walks.{Same, assignment_same, call_same, goto_same, iteration_same, return_same, value_same}
-use Rattle.public_objects.specs.Publics.{LiesIfPublic, PublicsLie}
+use Rattle.meant_programs.specs.Places.{ArePlaceable, IsPlaceable, LiesIfPublic, LocatesObjects}
 use Rattle.public_objects.proofs.Items.{ItemLies, typed_item_lies}
+use Rattle.public_objects.proofs.Locations.{ItemLocates, typed_item_locates, values_later}
 
 -- the objects at a place of a text
 abbrev Lie : Progress → Type 0
-Lie progress = All LiesIfPublic progress.known.objects
+Lie progress = ArePlaceable progress.known.objects
+
+-- none
+none_lie : ArePlaceable []
+none_lie = record { publics = All-nil LiesIfPublic; locations = All-nil (LocatesObjects []) }
+
+-- one more
+one_more : (objects : List TypedObject) (object : TypedObject) → ArePlaceable objects → LiesIfPublic object
+    → LocatesObjects objects object
+    → ArePlaceable (objects ++ object ∷ [])
+one_more objects object lie lies locates =
+    let after : List TypedObject = objects ++ object ∷ [] in
+    let keeps : Keeps objects after = keeps_append objects (object ∷ []) in
+    let old : All (LocatesObjects after) objects =
+    All-weaker (LocatesObjects objects) (LocatesObjects after)
+    (λ each. values_later objects after keeps (values_in each.home)) objects lie.locations in
+    let new : LocatesObjects after object = values_later objects after keeps (values_in object.home) locates in
+    record {
+      publics = All-append LiesIfPublic objects (object ∷ []) lie.publics
+          (All-cons LiesIfPublic object [] lies (All-nil LiesIfPublic));
+      locations = All-append (LocatesObjects after) objects (object ∷ []) old
+          (All-cons (LocatesObjects after) object [] new (All-nil (LocatesObjects after)));
+    }
 
 -- those of an item
 objects_lie : (block : Block) (item : TypedItem) (names : List Identifier) (progress : Progress)
-    → ItemLies item → Lie progress → Gives Lie (with_objects block item names progress)
-objects_lie block item [] progress lies lie = gives_ok lie
-objects_lie block item (name ∷ others) progress lies lie =
+    → ItemLies item → ItemLocates progress.known.objects item → Lie progress
+    → Gives Lie (with_objects block item names progress)
+objects_lie block item [] progress lies locates lie = gives_ok lie
+objects_lie block item (name ∷ others) progress lies locates lie =
+    let objects : List TypedObject = progress.known.objects in
     let object : TypedObject = object_named block item name.name in
     let after : Progress = with_typed_object item.linkage object progress in
     gives_after (require (nat_le after.frame FRAME_LIMIT) TooLarge (line_of name)) λ small.
     objects_lie block item others after lies
-    (All-append LiesIfPublic progress.known.objects (object ∷ []) lie
-    (All-cons LiesIfPublic object [] lies (All-nil LiesIfPublic)))
+    (values_later objects (objects ++ object ∷ []) (keeps_append objects (object ∷ [])) (values_in item.home) locates)
+    (one_more objects object lie lies locates)
+
+-- an item, with both
+both_give : (known : Known) (block : Block) (item : ItemTree)
+    → Gives (λ (typed : TypedItem). ItemLies typed × ItemLocates known.objects typed) (typed_item known block item)
+both_give known block item = record {
+  holds = λ typed is.
+      ((typed_item_lies known block item).holds typed is, (typed_item_locates known block item).holds typed is);
+}
 
 -- what DECLARE declares
 item_lies : (block : Block) (item : ItemTree) (progress : Progress) → Lie progress
     → Gives Lie (declare_item block item progress)
 item_lies block item progress lie =
     gives_after (declare_names block (declared_by item.subject) progress.known.here) λ here.
-    in_turn (typed_item_lies progress.known block item) λ typed lies.
+    in_turn (both_give progress.known block item) λ typed both.
     gives_after (require (nat_le (size_of_item typed) OBJECT_LIMIT) TooLarge (line_of_item item)) λ small.
-    in_turn (objects_lie block typed (declared_by item.subject) progress lies lie) λ after all.
+    in_turn (objects_lie block typed (declared_by item.subject) progress both.0 both.1 lie) λ after all.
     gives_ok all
 
 element_lies : (block : Block) (element : ElementTree) (progress : Progress) → Lie progress
@@ -74,7 +110,7 @@ from_same : {A : Type 0} (progress : Progress) {result : Checked (A × Progress)
     → Lie progress → Gives (λ (found : A × Progress). Same progress found.1) result
     → LeavesLying result
 from_same {A} progress {result} lie is =
-    then_more is (λ found same. subst (λ (known : Known). All LiesIfPublic known.objects) (sym same) lie)
+    then_more is (λ found same. subst (λ (known : Known). ArePlaceable known.objects) (sym same) lie)
 
 list_lies : (trees : StatementTrees) (typed_from : ℕ → Progress → Checked (TypedStatements × Progress))
     (progress : Progress)
@@ -166,7 +202,7 @@ mutual
       in_turn (opens block heading declared progress) λ opened heads.
       in_turn
       (declarations_lie (own_block heading progress) declared opened
-      (subst (λ (objects : List TypedObject). All LiesIfPublic objects) (sym heads.objects) lie)) λ within one.
+      (subst ArePlaceable (sym heads.objects) lie)) λ within one.
       gives_after (parameter_objects within.known.here heading.parameters) λ parameters.
       gives_after (check_body heading body) λ _.
       in_turn
@@ -182,10 +218,10 @@ mutual
       declarations_lie block others between one
 
 -- so they have in a whole module
-pub typing_lies : (tree : ModuleTree) → Gives PublicsLie (typing_of tree)
+pub typing_is_placeable : (tree : ModuleTree) → Gives IsPlaceable (typing_of tree)
 unfolding typing_of
-typing_lies tree =
-    in_turn (declarations_lie module_block tree.declarations at_the_beginning (All-nil LiesIfPublic)) λ declared one.
+typing_is_placeable tree =
+    in_turn (declarations_lie module_block tree.declarations at_the_beginning none_lie) λ declared one.
     in_turn
     (list_lies tree.statements (λ label. statements module_block tree.statements label) declared one
     (λ label inside all. statements_lie module_block tree.statements label inside all)) λ done two.
