@@ -1,21 +1,25 @@
 -- Files that were written of modules are linked, read and placed as the modules are.
-use Rattle.std.proofs.Common.{◌≡◌, ℕ, List, [], ◌∷◌, ◌++◌, map, All, Option, Some, None, option_map, Result, Ok, Err, refl, ap, sym, subst, ◌∙◌}
+use Rattle.std.proofs.Common.{◌≡◌, ℕ, List, [], ◌∷◌, ◌++◌, map, All, Option, Some, None, Result, Ok, Err, refl, ap, sym, subst, ◌∙◌}
+use Rattle.std.specs.Prelude.{IsPermutation}
+use Rattle.std.specs.Io.KnownBytes.{Appends}
 use Rattle.std.specs.List.{AllByRecursion, AllZip}
+use Rattle.std.proofs.lemmas.List.Sorted.{IsPermutation-sym, IsPermutation-map}
+use Rattle.writing.specs.Writing.{AppendsBeginning}
 use Rattle.object_modules.specs.declared.fault.Fault.{Fault}
-use Rattle.object_modules.specs.Image.{Plan, PlacementRefusal, Image, image_at, symbol_at, placed, placement_refusal, image_of}
+use Rattle.object_modules.specs.Image.{Plan, Image, image_at, symbol_at, placed, placement_refusal, image_of}
 use Rattle.object_modules.specs.Merge.{LinkRefusal, link_number, joined, unless_refused, link_refusal, merge_of}
 use Rattle.object_modules.specs.Displacements.{linked_modules}
-use Rattle.object_modules.specs.Module.{Public, ObjectModule, IsObjectModule}
-use Rattle.object_modules.specs.Spelling.{Spells, HasFirstFault}
+use Rattle.object_modules.specs.Module.{ObjectModule, IsObjectModule}
+use Rattle.object_modules.specs.Spelling.{Spells}
 use Rattle.object_modules.specs.Text.{text_of, with_publics_in_order}
 use Rattle.mem80.specs.Pieces.{AreLongestRuns}
 use Rattle.object_texts.proofs.WrittenAgain.{text_spells, written_read, written_not_refused}
 use Rattle.object_merges.proofs.MergeValid.{unless_ok, by_recursion, merge_is_object}
 use Rattle.link_records.specs.Streams.{Merges, IsFirstFaulty, IsRefused}
 use Rattle.locate.specs.Locating.{Absolute, IsPlaced}
-use Rattle.file_images.specs.FileImages.{files_of, LinkTo, IsSameImage, PlacesAs, FilesGiveTheImage, AreRefusedBy, FilesAreRefused, FilesAreNotPlaced}
-use Rattle.file_images.proofs.PublicsInOrder.{text_in_order}
-use Rattle.file_images.proofs.Merges.{number_of, refused_again, MergesAgain, merged_again, unless_err, refusal_is}
+use Rattle.file_images.specs.FileImages.{files_of, LinkTo, IsSameImage, PlacesAs, FilesGiveTheImage, FilesAreRefused, FilesAreNotPlaced}
+use Rattle.file_images.proofs.PublicsInOrder.{in_order, text_in_order, ordered_permutes}
+use Rattle.file_images.proofs.Merges.{number_of, refused_again, merged_again, unless_err, refusal_is}
 use Rattle.file_images.proofs.Runs.{one_image}
 
 -- What the files spell.
@@ -79,7 +83,9 @@ refusal_read objects refusal valid is =
 
 not_both :
     {A R : Type 0} (result : Result A R) (value : A) (refusal : R) → result ≡ Ok value → result ≡ Err refusal → ⊥
-not_both {A} {R} result value refusal ok err = let bad : ◌≡◌ {A = Result A R} (Ok value) (Err refusal) = sym ok ∙ err in cc
+not_both {A} {R} result value refusal ok err =
+    let bad : ◌≡◌ {A = Result A R} (Ok value) (Err refusal) = sym ok ∙ err in
+    cc
 
 one_value :
     {A R : Type 0} (result : Result A R) (left right : A) → result ≡ Ok left → result ≡ Ok right → left ≡ right
@@ -106,6 +112,8 @@ link_to :
 link_to objects merged valid made =
     let merge = merged_again objects merged valid made in
     let all = by_recursion IsObjectModule objects valid in
+    let same : (object : ObjectModule) → Merges (files_of objects) object → text_of object ≡ text_of merged =
+    λ object merges. text_again objects merged valid made object (merge_read objects object valid merges) in
     record {
       linked = merge.again;
       merges = record {
@@ -113,9 +121,13 @@ link_to objects merged valid made =
         spelled = each_spelled objects all;
         merged = merge.merge;
       };
+      same = same;
       written =
-          λ linked merges.
-          text_again objects merged valid made linked (merge_read objects linked valid merges);
+          λ old new writes.
+          subst (λ text. Appends old new text) (same writes.object writes.merges) writes.written;
+      begun =
+          λ old new begins.
+          subst (λ text. AppendsBeginning old new text) (same begins.object begins.merges) begins.written;
       no_fault = none_faulty objects valid;
       no_refusal =
           λ refusal refused.
@@ -140,6 +152,7 @@ record IsPlacedSo (plan : Plan) (object : ObjectModule) (absolute : Absolute) : 
   allowed : placement_refusal plan object ≡ None
   pieces : AreLongestRuns absolute.pieces (image_at plan object)
   start : absolute.start ≡ (placed plan object).start
+  symbols : absolute.symbols ≡ map (symbol_at plan) object.publics
 
 placed_so :
     (plan : Plan) (object : ObjectModule) (absolute : Absolute) → IsPlaced plan object absolute
@@ -150,6 +163,7 @@ placed_so plan object absolute is =
       allowed = ok.1;
       pieces = subst (λ (image : Image). AreLongestRuns absolute.pieces image.byte_at) (sym ok.0) is.pieces;
       start = is.start ∙ sym (ap (λ (image : Image). image.start) ok.0);
+      symbols = is.symbols ∙ sym (ap (λ (image : Image). image.symbols) ok.0);
     }
 
 -- what is read of the text of a valid module
@@ -159,17 +173,27 @@ read_again :
 read_again merged object valid spelled = written_read (text_of merged) object merged spelled valid refl
 
 same_image :
-    (plan : Plan) (merged object : ObjectModule) (image other : Absolute) → object ≡ with_publics_in_order merged
-    → IsPlaced plan merged image → IsPlaced plan object other → IsSameImage other image
-same_image plan merged object image other is here there =
+    (plan : Plan) (merged object : ObjectModule) (image other : Absolute) → IsObjectModule merged
+    → object ≡ with_publics_in_order merged → IsPlaced plan merged image → IsPlaced plan object other
+    → IsSameImage other image
+same_image plan merged object image other valid is here there =
     let left = placed_so plan object other there in
     let right = placed_so plan merged image here in
     let bytes : image_at plan object ≡ image_at plan merged = ap (image_at plan) is ∙ same_bytes plan merged in
+    let symbols : other.symbols ≡ map (symbol_at plan) (in_order merged.publics) =
+    left.symbols ∙ ap (λ (one : ObjectModule). map (symbol_at plan) one.publics) is in
+    let moved : IsPermutation (map (symbol_at plan) (in_order merged.publics)) (map (symbol_at plan) merged.publics) =
+    IsPermutation-map (symbol_at plan) (in_order merged.publics) merged.publics
+    (IsPermutation-sym merged.publics (in_order merged.publics) (ordered_permutes merged.publics valid.publics)) in
     record {
       pieces =
           one_image other.pieces image.pieces (image_at plan merged)
           (subst (AreLongestRuns other.pieces) bytes left.pieces) right.pieces;
       start = left.start ∙ ap (λ one. (placed plan one).start) is ∙ sym right.start;
+      symbols =
+          subst (λ these. IsPermutation these image.symbols) (sym symbols)
+          (subst (λ these. IsPermutation (map (symbol_at plan) (in_order merged.publics)) these)
+          (sym right.symbols) moved);
     }
 
 places_as :
@@ -196,7 +220,7 @@ places_as merged plan image valid is =
       };
       same =
           λ object other spelled there.
-          same_image plan merged object image other (read_again merged object valid spelled) is there;
+          same_image plan merged object image other valid (read_again merged object valid spelled) is there;
       no_fault = λ fault has. written_not_refused (text_of merged) fault merged has valid refl;
       no_refusal =
           λ object refusal spelled refused.
@@ -218,7 +242,9 @@ record IsNumbered (refusal : Option LinkRefusal) (number : List ℕ) : Type 0 wh
   found : refusal ≡ Some one
   numbered : link_number one ≡ number
 
-numbered : (refusal : Option LinkRefusal) (number : List ℕ) → number_of refusal ≡ Some number → IsNumbered refusal number
+numbered :
+    (refusal : Option LinkRefusal) (number : List ℕ) → number_of refusal ≡ Some number
+    → IsNumbered refusal number
 numbered None number h = absurd (let bad : None ≡ Some number = h in cc)
 numbered (Some refusal) number h = record { one = refusal; found = refl; numbered = ap given h }
   where
@@ -249,7 +275,8 @@ files_are_refused objects refusal valid refused =
           not_both (merge_of those) linked again.one (merge_read objects linked valid merges) no;
     }
   where
-    one_number : (other : LinkRefusal) (number : List ℕ) → number_of (Some other) ≡ Some number → link_number other ≡ number
+    one_number : (other : LinkRefusal) (number : List ℕ) → number_of (Some other) ≡ Some number
+        → link_number other ≡ number
     one_number other number h = ap given h
       where
         given : Option (List ℕ) → List ℕ

@@ -1,6 +1,6 @@
--- Modules with their publics in the order in which they are written have the merge of the modules, but for the order of
--- its publics, or are refused by the same number.
-use Rattle.std.proofs.Common.{◌≡◌, ℕ, ◌+◌, ◌%◌, ◌==◌, Bool, true, false, cond, not, ◌||◌, List, [], ◌∷◌, ◌++◌, length, map, flat_map, filter_map, sum_by, slice_get, All, Option, Some, None, option_map, option_and_then, Result, Ok, Err, refl, ap, sym, subst, ◌∙◌}
+-- Modules with their publics in the order in which they are written have the merge of the modules, but for the
+-- order of its publics, or are refused by the same number.
+use Rattle.std.proofs.Common.{◌≡◌, ℕ, ◌+◌, ◌%◌, ◌==◌, Bool, not, ◌||◌, List, [], ◌∷◌, ◌++◌, length, map, flat_map, filter_map, sum_by, slice_get, All, Option, Some, None, option_map, option_and_then, Result, Ok, Err, refl, ap, sym, ◌∙◌}
 use mathlib.Core.Path.{fun_ext}
 use Rattle.std.specs.Prelude.{find}
 use Rattle.std.specs.List.{list_any, cons_option, AllByRecursion}
@@ -273,6 +273,7 @@ found_again objects all none =
     sym (fun_ext (finds_same (all_publics linked) (all_publics (map reordered linked)) (λ segment. sym (same segment))
     (ap (repeated_after []) (names_from 0 0 objects) ∙ none)))
 
+-- the refusals after that of a repeated name
 abbrev later_refusal : List ObjectModule → List Linked → Option LinkRefusal
 later_refusal objects linked =
     option_or (option_map UnresolvedExternal (unresolved objects))
@@ -282,7 +283,9 @@ later_refusal objects linked =
     ∷ (list_any (some_high_byte_moves (all_publics linked)) linked, HighByteMoves)
     ∷ []))
 
-abbrev refusal_by : (unknown : Option (List ℕ)) → (long : Bool) → (mains : List (List ℕ × ℕ)) → (high : Bool) → Option LinkRefusal
+abbrev refusal_by :
+    (unknown : Option (List ℕ)) → (long : Bool) → (mains : List (List ℕ × ℕ)) → (high : Bool)
+    → Option LinkRefusal
 refusal_by unknown long mains high =
     option_or (option_map UnresolvedExternal unknown)
     (first_that_holds
@@ -330,7 +333,9 @@ refused_again objects valid =
 
     go : (there here : Option (List ℕ)) → repeated_after [] (public_names (all_reordered objects)) ≡ there
         → repeated_after [] (public_names objects) ≡ here
-        → number_of (option_or (option_map DuplicatePublic there) (later_refusal (all_reordered objects) (map reordered linked)))
+        → number_of
+        (option_or (option_map DuplicatePublic there)
+        (later_refusal (all_reordered objects) (map reordered linked)))
         ≡ number_of (option_or (option_map DuplicatePublic here) (later_refusal objects linked))
     go None None t h = ap number_of (later_again objects all h)
     go (Some name) (Some other) t h = refl

@@ -12,7 +12,7 @@ use Rattle.object_modules.specs.Merge.{repeated_after}
 use Rattle.object_modules.specs.Module.{Public, is_among}
 use Rattle.object_modules.specs.Text.{publics_in_segment}
 use Rattle.object_files.proofs.Accepted.{public_name}
-use Rattle.file_images.proofs.PublicsInOrder.{SameBySegment}
+use Rattle.file_images.proofs.PublicsInOrder.{SameBySegment, with_first}
 
 -- how often a name stands among names
 abbrev pub times : (name : List ℕ) → List (List ℕ) → ℕ
@@ -122,28 +122,24 @@ by_four :
 by_four name [] = refl
 by_four name (public ∷ others) = go public.segment (by_four name others)
   where
-    rest : Segment → List Public
-    rest segment = publics_in_segment segment others
-
-    own : (b : Bool) → Segment → List Public
-    own b segment = cond b (public ∷ rest segment) (rest segment)
-
     go : (segment : Segment)
         → times_in name others
         ≡ times_in name (publics_in_segment Absolute others)
         + (times_in name (publics_in_segment Code others)
         + (times_in name (publics_in_segment Data others) + times_in name (publics_in_segment Stack others)))
         → cond (bytes_eq name public.name) 1 0 + times_in name others
-        ≡ times_in name (cond (same_segment segment Absolute) (public ∷ publics_in_segment Absolute others) (publics_in_segment Absolute others))
-        + (times_in name (cond (same_segment segment Code) (public ∷ publics_in_segment Code others) (publics_in_segment Code others))
-        + (times_in name (cond (same_segment segment Data) (public ∷ publics_in_segment Data others) (publics_in_segment Data others))
-        + times_in name (cond (same_segment segment Stack) (public ∷ publics_in_segment Stack others) (publics_in_segment Stack others))))
+        ≡ times_in name (with_first public segment others Absolute)
+        + (times_in name (with_first public segment others Code)
+        + (times_in name (with_first public segment others Data)
+        + times_in name (with_first public segment others Stack)))
     go Absolute h = omega (arith, h)
     go Code h = omega (arith, h)
     go Data h = omega (arith, h)
     go Stack h = omega (arith, h)
 
-pub names_same : (left right : List Public) → SameBySegment left right → SameNames (map public_name left) (map public_name right)
+pub names_same :
+    (left right : List Public) → SameBySegment left right
+    → SameNames (map public_name left) (map public_name right)
 names_same left right same name =
     let absolutes = ap (times_in name) (same Absolute) in
     let codes = ap (times_in name) (same Code) in
@@ -230,17 +226,16 @@ found_there :
     → public_named publics name ≡ found_by_segments name publics
 found_there name [] h = refl
 found_there name (public ∷ others) h =
-    let four = by_four name others in
     let named : Bool = bytes_eq name public.name in
     chosen_first public public.segment named (found_in name others Absolute) (found_in name others Code)
     (found_in name others Data) (found_in name others Stack) (public_named others name)
     (λ is. nothing (bytes_eq name public.name) is h)
     (found_there name others (fewer (bytes_eq name public.name) h))
     ∙ sym (same_four
-    (public_named (own (same_segment public.segment Absolute) Absolute) name)
-    (public_named (own (same_segment public.segment Code) Code) name)
-    (public_named (own (same_segment public.segment Data) Data) name)
-    (public_named (own (same_segment public.segment Stack) Stack) name)
+    (public_named (with_first public public.segment others Absolute) name)
+    (public_named (with_first public public.segment others Code) name)
+    (public_named (with_first public public.segment others Data) name)
+    (public_named (with_first public public.segment others Stack) name)
     (chosen public (same_segment public.segment Absolute) named (found_in name others Absolute))
     (chosen public (same_segment public.segment Code) named (found_in name others Code))
     (chosen public (same_segment public.segment Data) named (found_in name others Data))
@@ -250,9 +245,6 @@ found_there name (public ∷ others) h =
     (first_chosen name public (same_segment public.segment Data) named (publics_in_segment Data others) refl)
     (first_chosen name public (same_segment public.segment Stack) named (publics_in_segment Stack others) refl))
   where
-    own : (b : Bool) → Segment → List Public
-    own b segment = cond b (public ∷ publics_in_segment segment others) (publics_in_segment segment others)
-
     fewer : (b : Bool) → cond b 1 0 + times_in name others ≤ 1 → times_in name others ≤ 1
     fewer true low = omega (arith, low)
     fewer false low = omega (arith, low)

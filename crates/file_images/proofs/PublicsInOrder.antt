@@ -1,10 +1,11 @@
 -- Publics in the order in which they are written: of each segment there are the same, in the same order.
-use Rattle.std.proofs.Common.{◌≡◌, ℕ, ◌-◌, Bool, true, false, cond, nat_lt, List, [], ◌∷◌, ◌++◌, length, map, flat_map, refl, ap, sym, ◌∙◌}
-use Rattle.std.specs.Prelude.{filter}
+use Rattle.std.proofs.Common.{◌≡◌, ◌-◌, Bool, true, false, cond, nat_lt, List, [], ◌∷◌, ◌++◌, length, map, flat_map, refl, ap, sym, ◌∙◌}
+use Rattle.std.specs.Prelude.{filter, IsPermutation}
 use Rattle.std.specs.List.{list_all}
 use Rattle.std.proofs.lemmas.Bool.{and_parts}
 use Rattle.std.proofs.lemmas.List.{append-nil}
 use Rattle.std.proofs.lemmas.List.Elements.{filter-append}
+use Rattle.std.proofs.lemmas.List.Sorted.{IsPermutation-refl, IsPermutation-cons, IsPermutation-trans, IsPermutation-sym, IsPermutation-append, IsPermutation-middle}
 use Rattle.omf80.specs.declared.kind.TheConstants.{BODY_LIMIT}
 use Rattle.object_modules.specs.declared.segment.Segment.{Segment}
 use Rattle.object_modules.specs.declared.segment.Segment.TheVariants.{Absolute, Code, Data, Stack}
@@ -23,6 +24,11 @@ SameBySegment left right =
 abbrev pub in_order : List Public → List Public
 in_order publics =
     flat_map (λ segment. publics_in_segment segment publics) (Absolute ∷ Code ∷ Data ∷ [])
+
+-- what there is of a segment, where a public of a segment comes before the others
+abbrev pub with_first : Public → (own : Segment) → (others : List Public) → Segment → List Public
+with_first public own others segment =
+    cond (same_segment own segment) (public ∷ publics_in_segment segment others) (publics_in_segment segment others)
 
 -- What is kept of what is kept of a segment.
 abbrev IsIn : Segment → Public → Bool
@@ -167,7 +173,8 @@ not_in_stack Code h = refl
 not_in_stack Data h = refl
 not_in_stack Stack h = absurd (let bad : false ≡ true = h in cc)
 
-no_stack : (publics : List Public) → list_all is_valid_public publics ≡ true → publics_in_segment Stack publics ≡ []
+no_stack :
+    (publics : List Public) → list_all is_valid_public publics ≡ true → publics_in_segment Stack publics ≡ []
 no_stack [] h = refl
 no_stack (public ∷ others) h =
     let cut = and_parts (is_valid_public public) (list_all is_valid_public others) h in
@@ -182,6 +189,50 @@ ordered_same publics h Absolute = absolute_again publics
 ordered_same publics h Code = code_again publics
 ordered_same publics h Data = data_again publics
 ordered_same publics h Stack = no_stack_ordered publics ∙ sym (no_stack publics h)
+
+-- they are the publics, if in another order
+to_code :
+    (public : Public) (publics absolutes others : List Public) → IsPermutation publics (absolutes ++ others)
+    → IsPermutation (public ∷ publics) (absolutes ++ public ∷ others)
+to_code public publics absolutes others moved =
+    IsPermutation-trans (public ∷ publics) (public ∷ (absolutes ++ others)) (absolutes ++ public ∷ others)
+    (IsPermutation-cons public publics (absolutes ++ others) moved)
+    (IsPermutation-sym (absolutes ++ public ∷ others) (public ∷ (absolutes ++ others))
+    (IsPermutation-middle absolutes public others))
+
+to_data :
+    (public : Public) (publics absolutes codes others : List Public)
+    → IsPermutation publics (absolutes ++ (codes ++ others))
+    → IsPermutation (public ∷ publics) (absolutes ++ (codes ++ public ∷ others))
+to_data public publics absolutes codes others moved =
+    IsPermutation-trans (public ∷ publics) (absolutes ++ public ∷ (codes ++ others))
+    (absolutes ++ (codes ++ public ∷ others)) (to_code public publics absolutes (codes ++ others) moved)
+    (IsPermutation-append absolutes absolutes (public ∷ (codes ++ others)) (codes ++ public ∷ others)
+    (IsPermutation-refl absolutes)
+    (IsPermutation-sym (codes ++ public ∷ others) (public ∷ (codes ++ others))
+    (IsPermutation-middle codes public others)))
+
+pub ordered_permutes :
+    (publics : List Public) → list_all is_valid_public publics ≡ true → IsPermutation publics (in_order publics)
+ordered_permutes [] h = IsPermutation-refl []
+ordered_permutes (public ∷ others) h =
+    let cut = and_parts (is_valid_public public) (list_all is_valid_public others) h in
+    let here = and_parts (may_have_publics public.segment) (nat_lt public.offset 65536) cut.0 in
+    go public.segment here.0 (ordered_permutes others cut.1)
+  where
+    go : (segment : Segment) → may_have_publics segment ≡ true
+        → IsPermutation others (in_order others)
+        → IsPermutation (public ∷ others)
+        (with_first public segment others Absolute
+        ++ (with_first public segment others Code ++ (with_first public segment others Data ++ [])))
+    go Absolute may moved = IsPermutation-cons public others (in_order others) moved
+    go Code may moved =
+        to_code public others (publics_in_segment Absolute others)
+        (publics_in_segment Code others ++ (publics_in_segment Data others ++ [])) moved
+    go Data may moved =
+        to_data public others (publics_in_segment Absolute others) (publics_in_segment Code others)
+        (publics_in_segment Data others ++ []) moved
+    go Stack may moved = absurd (let bad : false ≡ true = may in cc)
 
 -- publics that move stay in their segment
 moved_in_segment :
@@ -233,7 +284,8 @@ segment_written :
 segment_written left right segment same =
     ap (λ (publics : List Public).
     map (PublicsPart segment)
-    (packed (λ (definition : Definition). length (definition_bytes definition)) (BODY_LIMIT - 1) (map definition_of publics))) same
+    (packed (λ (definition : Definition). length (definition_bytes definition)) (BODY_LIMIT - 1)
+    (map definition_of publics))) same
 
 publics_written :
     (publics : List Public)

@@ -1,7 +1,7 @@
 -- An image has one row of longest runs.
-use Rattle.std.proofs.Common.{◌≡◌, ℕ, zero, suc, ◌+◌, ◌-◌, ◌<◌, ◌≤◌, Bool, true, false, cond, ◌&&◌, nat_lt, nat_le, List, [], ◌∷◌, length, get_or, Option, Some, None, option_map, refl, ap, sym, subst, ◌∙◌, arith}
+use Rattle.std.proofs.Common.{◌≡◌, ℕ, ◌+◌, ◌-◌, ◌<◌, ◌≤◌, Bool, true, false, cond, ◌&&◌, nat_lt, nat_le, List, [], ◌∷◌, length, Option, Some, None, option_map, refl, ap, sym, ◌∙◌, arith}
 use Rattle.std.specs.Prelude.{find, slice_index}
-use Rattle.std.proofs.lemmas.Bool.{and_parts, and_left, and_right, and_from, ltb-true, ltb-false, leb-true, lt-ltb, le-leb, lt-leb, le-ltb}
+use Rattle.std.proofs.lemmas.Bool.{and_parts, and_left, and_right, and_from, ltb-true, ltb-false, lt-ltb, le-leb, lt-leb, le-ltb}
 use Rattle.std.proofs.lemmas.Grind.{same_number_lists}
 use Rattle.mem80.specs.declared.range.Piece.{Piece}
 use Rattle.mem80.specs.Pieces.{AreLongestRuns, are_runs, byte_in, has_address, has_bytes}
@@ -10,7 +10,9 @@ abbrev end_of : Piece → ℕ
 end_of piece = piece.start + length piece.bytes
 
 -- a piece has a byte from its start to its end
-has_it : (piece : Piece) (address : ℕ) → piece.start ≤ address → address < end_of piece → has_address address piece ≡ true
+has_it :
+    (piece : Piece) (address : ℕ) → piece.start ≤ address → address < end_of piece
+    → has_address address piece ≡ true
 has_it piece address low high =
     and_from (nat_le piece.start address) (nat_lt address (end_of piece)) (le-leb piece.start address low)
     (lt-ltb address (end_of piece) high)

@@ -1,35 +1,41 @@
--- Object files that were written of modules, and what linking them to one file, reading that file and placing what was
--- read gives: what the contracts of `link_records`, `read` and `locate` promise, of the text that `write` writes.
-use Rattle.std.specs.Prelude.{◌≡◌, ℕ, List, All, map, Ok, Err}
+-- Object files that were written of modules: what it gives to link them to one file, to read that file and to
+-- place what was read, as the contracts of `write`, `link_records`, `read` and `locate` say it.
+use Rattle.std.specs.Prelude.{◌≡◌, ℕ, List, All, map, IsPermutation, Option, Ok, Err}
+use Rattle.std.specs.Io.KnownBytes.{Appends}
+use Rattle.writing.specs.Writing.{AppendsBeginning}
 use Rattle.object_modules.specs.declared.fault.Fault.{Fault}
 use Rattle.object_modules.specs.Image.{Plan, PlacementRefusal, image_of}
 use Rattle.object_modules.specs.Merge.{LinkRefusal, link_number, merge_of}
 use Rattle.object_modules.specs.Module.{ObjectModule, IsObjectModule}
 use Rattle.object_modules.specs.Spelling.{Spells, HasFirstFault}
 use Rattle.object_modules.specs.Text.{text_of}
-use Rattle.link_records.specs.Streams.{Merges, IsFirstFaulty, IsRefused}
+use Rattle.link_records.specs.Streams.{Merges, WritesMerge, BeginsMerge, IsFirstFaulty, IsRefused}
 use Rattle.locate.specs.Locating.{Absolute, IsPlaced}
 
 -- the files that are written for modules, in their order
 abbrev pub files_of : List ObjectModule → List (List ℕ)
 files_of objects = map text_of objects
 
--- Files are linked, and the one file that is written for their merge, whatever module that is called, has this
--- text, byte for byte: no file has a fault, and the merge is not refused.
+-- Files are linked to one file, which has this text, byte for byte: the merge of what they spell has it, and
+-- `link_records` writes it, or a beginning of it where the writer fails. No file has a fault, and the merge is
+-- not refused.
 pub record LinkTo (files : List (List ℕ)) (text : List ℕ) : Type 0 where
   pub linked : ObjectModule
   pub merges : Merges files linked
-  pub written : (object : ObjectModule) → Merges files object → text_of object ≡ text
+  pub same : (object : ObjectModule) → Merges files object → text_of object ≡ text
+  pub written : (old new : Option (List ℕ)) → WritesMerge files old new → Appends old new text
+  pub begun : (old new : Option (List ℕ)) → BeginsMerge files old new → AppendsBeginning old new text
   pub no_fault : (file : ℕ) (fault : Fault) → ¬ IsFirstFaulty files file fault
   pub no_refusal : (refusal : LinkRefusal) → ¬ IsRefused files refusal
 
--- the same bytes at the same addresses, and the same start
+-- the same bytes at the same addresses, the same start, and the same symbols, if in another order
 pub record IsSameImage (left right : Absolute) : Type 0 where
   pub pieces : left.pieces ≡ right.pieces
   pub start : left.start ≡ right.start
+  pub symbols : IsPermutation left.symbols right.symbols
 
--- A text is read, and what it spells is placed by a plan with the bytes and the start of an image: it has no fault,
--- and placing is not refused.
+-- A text is read, and what it spells is placed by a plan as this image: it has no fault, and placing is not
+-- refused.
 pub record PlacesAs (plan : Plan) (text : List ℕ) (image : Absolute) : Type 0 where
   pub read : ObjectModule
   pub spelled : Spells text read
@@ -43,9 +49,9 @@ pub record PlacesAs (plan : Plan) (text : List ℕ) (image : Absolute) : Type 0 
       (object : ObjectModule) (refusal : PlacementRefusal) → Spells text object
       → ¬ (image_of plan object ≡ Err refusal)
 
--- Where a merge of modules is placed by a plan, the files that are written for these modules, linked to one file
--- which is read and placed by that plan, give the same image: the file is that of the merge, byte for byte, and no
--- step is refused.
+-- Where a merge of modules is placed by a plan, the files that are written for these modules, linked to one
+-- file which is read and placed by that plan, give the same image: the file is that of the merge, byte for byte,
+-- and no step is refused.
 abbrev pub FilesGiveTheImage : Type 0
 FilesGiveTheImage =
     (objects : List ObjectModule) (merged : ObjectModule) (plan : Plan) (image : Absolute)
@@ -62,7 +68,8 @@ pub record AreRefusedBy (files : List (List ℕ)) (number : List ℕ) : Type 0 w
   pub no_fault : (file : ℕ) (fault : Fault) → ¬ IsFirstFaulty files file fault
   pub no_merge : (object : ObjectModule) → ¬ Merges files object
 
--- Where a merge of modules is refused, so are the files that are written for these modules, by the same number.
+-- Where a merge of modules is refused, so are the files that are written for these modules, by the same
+-- number.
 abbrev pub FilesAreRefused : Type 0
 FilesAreRefused =
     (objects : List ObjectModule) (refusal : LinkRefusal)
