@@ -60,7 +60,7 @@ FilesGiveTheImage =
     → IsPlaced plan merged image
     → LinkTo (files_of objects) (text_of merged) × PlacesAs plan (text_of merged) image
 
--- Files are not linked, whatever they spell: no file has a fault, and the merge is refused by this number.
+-- Files that spell modules are not linked: no file has a fault, and the merge is refused by this number.
 pub record AreRefusedBy (files : List (List ℕ)) (number : List ℕ) : Type 0 where
   pub refusal : LinkRefusal
   pub refused : IsRefused files refusal
