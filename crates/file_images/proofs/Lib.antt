@@ -1,0 +1,5 @@
+pub mod PublicsInOrder
+pub mod Names
+pub mod Merges
+pub mod Runs
+pub mod FileImages
