@@ -25,12 +25,13 @@ unfolding TellsUnwritten
 output_unwritten old new told = inr told
 
 -- a fault of the sources, told with the names of their files
-pub tells_cause : (names order : List (Bor (List ℕ))) (sources : List (List ℕ)) (plan : Plan) (fault : ToolFault) (old new : Option (List ℕ)) → names ≡ order
-    → HasCause fault sources plan → IsInOrder fault sources → Tells (fault_line (map (λ n. n.now) names) fault) old new
+pub tells_cause : (names order : List (Bor (List ℕ))) (sources : List (List ℕ)) (plan : Plan) (fault was : ToolFault) (old new : Option (List ℕ)) → names ≡ order → was ≡ fault
+    → HasCause fault sources plan → IsInOrder fault sources → Tells (fault_line (map (λ n. n.now) names) was) old new
     → TellsNoProgram (texts order) sources plan old new
 unfolding TellsNoProgram
-tells_cause names order sources plan fault old new same cause first told =
-    inl (record { fault = fault; cause = cause; order = first; told = subst (λ (l : List (Bor (List ℕ))). Tells (fault_line (map (λ n. n.now) l) fault) old new) same told })
+tells_cause names order sources plan fault was old new same is cause first told =
+    let of_fault : Tells (fault_line (map (λ n. n.now) names) fault) old new = subst (λ (f : ToolFault). Tells (fault_line (map (λ n. n.now) names) f) old new) is told in
+    inl (record { fault = fault; cause = cause; order = first; told = subst (λ (l : List (Bor (List ℕ))). Tells (fault_line (map (λ n. n.now) l) fault) old new) same of_fault })
 
 pub tells_memory : (names sources : List (List ℕ)) (plan : Plan) (old new : Option (List ℕ)) → Tells memory_line old new → TellsNoProgram names sources plan old new
 unfolding TellsNoProgram

@@ -31,7 +31,7 @@ use tool::{Built, Source, build};
 use writing::WriteFault;
 
 /// Builds the program of sources, and interprets it from a memory of zeros.
-#[tactic(auto, using(crate::proofs::Untold::tells_cause, crate::proofs::Untold::tells_memory, crate::proofs::Untold::tells_unwritten))]
+#[tactic(auto, using(crate::proofs::Untold::tells_memory, crate::proofs::Untold::tells_unwritten))]
 pub(crate) fn interpret_sources<O: Write, E: Write>(
     alloc: Global,
     order: &ProgramOrder,

@@ -26,7 +26,7 @@ use tool::{Built, Source, build, print_run};
 use writing::WriteFault;
 
 /// Builds the program of sources, and runs its image on a memory of zeros.
-#[tactic(auto, using(crate::proofs::Untold::tells_cause, crate::proofs::Untold::tells_memory, crate::proofs::Untold::tells_unwritten))]
+#[tactic(auto, using(crate::proofs::Untold::tells_memory, crate::proofs::Untold::tells_unwritten))]
 pub(crate) fn run_sources<O: Write, E: Write>(
     alloc: Global,
     order: &ProgramOrder,
