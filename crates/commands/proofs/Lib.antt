@@ -1,9 +1,4 @@
 pub mod OrdersKept
 pub mod NeedTold
 pub mod TextsTold
-pub mod Refused
-pub mod Compiled
-pub mod Inputs
-pub mod Interpreted
-pub mod MapLines
-pub mod Printed
+pub mod ProgramsTold

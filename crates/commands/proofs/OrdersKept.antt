@@ -1,9 +1,7 @@
 -- Files after a command line was carried out.
-use Rattle.std.proofs.Common.{◌≡◌, ◌≤◌, ℕ, List, [], ◌∷◌, map, Bor, Ok, Option, None, Some, inl, refl, subst, arith}
-use Rattle.clap.specs.Walk.{texts}
+use Rattle.std.proofs.Common.{◌≡◌, ◌≤◌, ℕ, List, [], ◌∷◌, Ok, Option, None, Some, inl, refl, subst, arith}
 use Rattle.files.specs.Files.{Directory, KeepsFiles}
 use Rattle.answers.specs.Endings.{status_of}
-use Rattle.answers.specs.Reading.{StopsAt}
 use Rattle.answers.specs.Refusals.{TellsRefusal}
 use Rattle.answers.specs.declared.endings.Ending.{Ending}
 use Rattle.answers.specs.declared.endings.Ending.TheVariants.{Done, Refused, WrongLine, Limit, Stopped, Outside}
@@ -63,9 +61,6 @@ one_alone (one ∷ second ∷ more) file e = cc
 pub told_of_only : (known : Option Directory) (files : List (List ℕ)) (file : List ℕ) (before after : ℕ) (old new : Option (List ℕ)) → only_file files ≡ Ok file
     → TellsRefusal known (file ∷ []) before after old new → TellsRefusal known files before after old new
 told_of_only known files file before after old new e told = subst (λ (l : List (List ℕ)). TellsRefusal known l before after old new) (one_alone files file e) told
-
-pub stops_in_files : (known : Option Directory) (names files : List (Bor (List ℕ))) (name : List ℕ) → names ≡ files → StopsAt known (map (λ n. n.now) names) name → StopsAt known (texts files) name
-stops_in_files known names files name e stopped = subst (λ (l : List (Bor (List ℕ))). StopsAt known (map (λ n. n.now) l) name) e stopped
 
 pub not_done : (ending : Ending) → (status_of ending ≡ 0 → ⊥) → ending ≡ Done → ⊥
 not_done ending other done = other (rw done refl)

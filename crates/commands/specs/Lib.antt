@@ -4,10 +4,9 @@ pub use Rattle.command_line.specs.Settings
 pub use Rattle.object_commands.specs.Linking
 pub use Rattle.object_commands.specs.Placing
 pub use Rattle.need_command.specs.Printing
-pub use Rattle.printed_runs.specs.Printing as PrintedRuns
-pub mod Compiling
-pub mod Map
+pub use Rattle.program_commands.specs.Compiling
+pub use Rattle.program_commands.specs.Running
+pub use Rattle.program_commands.specs.Refusing
 pub mod Needing
 pub mod Orders
-pub mod Running
 pub mod internal

@@ -4,7 +4,7 @@ use Rattle.clap.specs.Words.{IsAmong, Kinds, Text}
 use Rattle.clap.specs.declared.error.ErrorKind.{ErrorKind}
 use Rattle.clap.specs.declared.error.ErrorKind.TheVariants.{DisplayHelp, DisplayVersion}
 use Rattle.files.specs.Files.{Directory, KeepsFiles}
-use Rattle.answers.specs.Refusals.{Tells, refusal_line}
+use Rattle.answers.specs.Refusals.{Tells, memory_line, refusal_line}
 use Rattle.command_line.specs.Command.{PlaceWanted, Wanted, wants_compile, wants_link, wants_need, wants_place}
 use Rattle.command_line.specs.Command.{wants_program}
 use Rattle.command_line.specs.Settings.{Read, ◌>>=◌, only_file, plan_read, values_read}
@@ -12,9 +12,10 @@ use Rattle.command_line.specs.declared.orders.PlaceAction.{PlaceAction}
 use Rattle.command_line.specs.declared.orders.PlaceAction.TheVariants.{Locate, Hex}
 use Rattle.object_commands.specs.Linking.{KeepsOthers, LinksFiles, StopsLinking}
 use Rattle.object_commands.specs.Placing.{PrintsHex, PrintsPlaces}
-use Rattle.commands.specs.Compiling.{CompilesFile, StopsCompiling}
+use Rattle.program_commands.specs.Compiling.{CompilesFile, StopsCompiling}
+use Rattle.program_commands.specs.Refusing.{RefusesCompiling, RefusesProgram}
+use Rattle.program_commands.specs.Running.{PrintsProgram}
 use Rattle.commands.specs.Needing.{PrintsNeedOf}
-use Rattle.commands.specs.Running.{PrintsProgram}
 use Rattle.plans.specs.declared.Plan.{Plan}
 
 -- an order to compile or to link changes no file but the one that it names, and others change none
@@ -74,6 +75,17 @@ RunsAsWanted (wants_link link) files status old new = Unit {0}
 RunsAsWanted (wants_place place) files status old new = Unit {0}
 RunsAsWanted (wants_need need) files status old new = Unit {0}
 
+-- why an order on sources is refused, and what was told of it; of other orders nothing is said
+abbrev pub RefusesAsWanted :
+    Wanted → Option Directory → (before after : ℕ) → (old new : Option (List ℕ)) → Type 0
+RefusesAsWanted (wants_program program) files before after old new =
+    RefusesProgram program files before after old new
+RefusesAsWanted (wants_compile compile) files before after old new =
+    RefusesCompiling compile files before after old new
+RefusesAsWanted (wants_link link) files before after old new = Unit {0}
+RefusesAsWanted (wants_place place) files before after old new = Unit {0}
+RefusesAsWanted (wants_need need) files before after old new = Unit {0}
+
 -- the files that an order reads, in their order, and then the one that it writes
 abbrev pub names_of : Wanted → List (List ℕ)
 names_of (wants_compile compile) = compile.source ∷ compile.object ∷ []
@@ -106,6 +118,12 @@ PrintsByWords (Some wanted) files old new = PrintsAsWanted wanted files old new
 abbrev pub RunsByWords : Option Wanted → Option Directory → (status : ℕ) → (old new : Option (List ℕ)) → Type 0
 RunsByWords None files status old new = Unit {0}
 RunsByWords (Some wanted) files status old new = RunsAsWanted wanted files status old new
+
+-- the same of words; where those without a fault give no order, memory ran out
+abbrev pub RefusesByWords :
+    Option Wanted → Option Directory → (before after : ℕ) → (old new : Option (List ℕ)) → Type 0
+RefusesByWords None files before after old new = Tells memory_line old new
+RefusesByWords (Some wanted) files before after old new = RefusesAsWanted wanted files before after old new
 
 -- the one file of an order on an object, or the first text that is refused: the texts of the plan come first, then
 -- the name of a second file

@@ -7,28 +7,23 @@ ghost use Rattle.clap.specs.Walk.{texts};
 ghost use Rattle.clap.specs.Words.{fault_of};
 ghost use Rattle.files.specs.Files.{KeepsFiles};
 ghost use Rattle.command_line.specs.Command.{plm_app, place_in, program_in, wanted_by, wanted_in, wants_place, wants_program};
-ghost use Rattle.command_line.specs.Settings.{values_in};
-ghost use Rattle.program_sources.specs.Programs.{texts_of};
-ghost use Rattle.commands.specs.Orders.{AsksHelpAtMost, ChangesAsWanted, ChangesByWords, PrintsAsWanted, PrintsByWords, PrintsWanted, RefusesNoText, RunsAsWanted, RunsByWords, StopsAsWanted, StopsByWords, TellsText, TellsTextByWords, WritesAsWanted, WritesByWords, names_by_words, names_of};
-ghost use Rattle.commands.specs.Running.{PrintsFiles, PrintsProgram, PrintsTexts};
+ghost use Rattle.program_commands.specs.Refusing.{RefusesProgram};
+ghost use Rattle.program_commands.specs.Running.{PrintsProgram};
+ghost use Rattle.commands.specs.Orders.{AsksHelpAtMost, ChangesAsWanted, ChangesByWords, PrintsAsWanted, PrintsByWords, PrintsWanted, RefusesAsWanted, RefusesByWords, RefusesNoText, RunsAsWanted, RunsByWords, StopsAsWanted, StopsByWords, TellsText, TellsTextByWords, WritesAsWanted, WritesByWords, names_by_words, names_of};
 ghost use Rattle.commands.specs.internal.LineFaults.{IsWrong};
 
-use crate::compiling::compile_file;
-use crate::interpreting::interpret_sources;
-use crate::loading::sources_of;
 use crate::needing::tell_need;
 use crate::refusals::refuse_value;
-use crate::running::run_sources;
-use answers::{Ending, read_files, refuse_file, refuse_memory, refuse_write};
+use answers::{Ending, refuse_memory, refuse_write};
 use command_line::{
-    Action, LineFault, Order, PlaceAction, PlaceOrder, ProgramOrder, Settings, command,
+    LineFault, Order, PlaceAction, PlaceOrder, ProgramOrder, command,
 };
 use failure::Failure;
 use files::Files;
 use object_commands::{link_files, print_hex, print_places};
+use program_commands::{carry_out_sources, compile_file};
 use std::alloc::Global;
 use std::io::Write;
-use tool::Source;
 
 /// Carries out the words of a command line, the first of which is the program's name, and answers the exit status. What
 /// it prints goes to `out`, and faults go to `err`, which has nothing more where the status is neither 1 nor 2; a failure of
@@ -37,7 +32,8 @@ use tool::Source;
 /// where the words have a fault or ask for help or the version. Sources that are run or interpreted, where the status is
 /// neither 1 nor 2, have had printed what the machine does with their image, or what they mean, and the status tells how
 /// that ended. That a file can't be read or written is told, with status 1, just where a failure of the files was counted,
-/// but for a count that is at its greatest value.
+/// but for a count that is at its greatest value. Where that is not told, sources that are refused with status 1 have a fault
+/// that is told, or memory ran out, or standard output could not be written.
 #[tactic(auto, using(crate::proofs::OrdersKept::status_bound, crate::proofs::OrdersKept::done_is, crate::proofs::OrdersKept::not_done, crate::proofs::OrdersKept::not_refused, crate::proofs::OrdersKept::not_wrong, crate::proofs::OrdersKept::refused_is, crate::proofs::TextsTold::wrong_is))]
 pub fn run_command<F: Files, O: Write, E: Write>(
     alloc: Global,
@@ -65,6 +61,9 @@ pub fn run_command<F: Files, O: Write, E: Write>(
         RefusesNoText (wanted_by (texts words.now)) → result ≡ 2 → ⊥ }
     ensures told { result ≡ 1 → TellsRefusal (F.files files.old)
         (names_by_words (wanted_by (texts words.now)))
+        (F.failures files.old) (F.failures files.new) (E.contents err.old) (E.contents err.new) }
+    ensures refused { fault_of plm_app (texts words.now) ≡ [] → result ≡ 1 → RefusesByWords
+        (wanted_by (texts words.now)) (F.files files.old)
         (F.failures files.old) (F.failures files.new) (E.contents err.old) (E.contents err.new) }
     ensures count { (result ≡ 1 → ⊥) → F.failures files.new ≡ F.failures files.old }
     ensures quiet { (result ≡ 1 → ⊥) → (result ≡ 2 → ⊥) →
@@ -101,6 +100,9 @@ fn end_words<F: Files, O: Write, E: Write>(
         RefusesNoText (wanted_by (texts words.now)) → result ≡ Ending.WrongLine → ⊥ }
     ensures told { result ≡ Ending.Refused → TellsRefusal (F.files files.old)
         (names_by_words (wanted_by (texts words.now)))
+        (F.failures files.old) (F.failures files.new) (E.contents err.old) (E.contents err.new) }
+    ensures refused { fault_of plm_app (texts words.now) ≡ [] → result ≡ Ending.Refused → RefusesByWords
+        (wanted_by (texts words.now)) (F.files files.old)
         (F.failures files.old) (F.failures files.new) (E.contents err.old) (E.contents err.new) }
     ensures count { (result ≡ Ending.Refused → ⊥) → F.failures files.new ≡ F.failures files.old }
     ensures quiet { (result ≡ Ending.Refused → ⊥) → (result ≡ Ending.WrongLine → ⊥) →
@@ -155,6 +157,8 @@ fn carry_out<F: Files, O: Write, E: Write>(
         (E.contents err.old) (E.contents err.new) }
     ensures told { result ≡ Ending.Refused → TellsRefusal (F.files files.old)
         (names_of (wanted_in order.now))
+        (F.failures files.old) (F.failures files.new) (E.contents err.old) (E.contents err.new) }
+    ensures refused { result ≡ Ending.Refused → RefusesAsWanted (wanted_in order.now) (F.files files.old)
         (F.failures files.old) (F.failures files.new) (E.contents err.old) (E.contents err.new) }
     ensures count { (result ≡ Ending.Refused → ⊥) → F.failures files.new ≡ F.failures files.old }
     ensures quiet { (result ≡ Ending.Refused → ⊥) → (result ≡ Ending.WrongLine → ⊥) →
@@ -219,6 +223,8 @@ fn carry_out_program<F: Files, O: Write, E: Write>(
     ensures told { result ≡ Ending.Refused → TellsRefusal (F.files files.old)
         (program_in order.now).files
         (F.failures files.old) (F.failures files.new) (E.contents err.old) (E.contents err.new) }
+    ensures refused { result ≡ Ending.Refused → RefusesProgram (program_in order.now) (F.files files.old)
+        (F.failures files.old) (F.failures files.new) (E.contents err.old) (E.contents err.new) }
     ensures count { (result ≡ Ending.Refused → ⊥) → F.failures files.new ≡ F.failures files.old }
     ensures quiet { (result ≡ Ending.Refused → ⊥) → (result ≡ Ending.WrongLine → ⊥) →
         E.contents err.new ≡ E.contents err.old }
@@ -227,62 +233,8 @@ fn carry_out_program<F: Files, O: Write, E: Write>(
         (O.contents out.old) (O.contents out.new) }
 {
     match order.settings(alloc) {
-        Ok(values) => load(alloc, order, &values, files, out, err),
+        Ok(values) => carry_out_sources(alloc, order, &values, files, out, err),
         Err(Failure::Fault(fault)) => refuse_value(&fault, err),
         Err(Failure::Memory) => refuse_memory(err),
-    }
-}
-
-// Reads the files of an order, and carries it out.
-fn load<F: Files, O: Write, E: Write>(
-    alloc: Global,
-    order: &ProgramOrder,
-    values: &Settings,
-    files: &mut F,
-    out: &mut O,
-    err: &mut E,
-) -> Ending
-    ensures unchanged { KeepsFiles (F.files files.old) (F.files files.new) }
-    ensures not_wrong { result ≡ Ending.WrongLine → ⊥ }
-    ensures told { result ≡ Ending.Refused → TellsRefusal (F.files files.old)
-        (program_in order.now).files
-        (F.failures files.old) (F.failures files.new) (E.contents err.old) (E.contents err.new) }
-    ensures count { (result ≡ Ending.Refused → ⊥) → F.failures files.new ≡ F.failures files.old }
-    ensures quiet { (result ≡ Ending.Refused → ⊥) → E.contents err.new ≡ E.contents err.old }
-    ensures ran { (result ≡ Ending.Refused → ⊥) →
-        PrintsFiles (program_in order.now) (values_in values.now) (F.files files.old) (status_of result)
-        (O.contents out.old) (O.contents out.new) }
-{
-    let names = order.files.as_slice();
-    let texts = match read_files(alloc, names, files) {
-        Ok(texts) => texts,
-        Err(Failure::Fault((fault, name))) => return refuse_file(fault, name, err),
-        Err(Failure::Memory) => return refuse_memory(err),
-    };
-    match sources_of(alloc, names, texts.as_slice()) {
-        Ok(sources) => act(alloc, order, values, sources.as_slice(), out, err),
-        Err(_) => refuse_memory(err),
-    }
-}
-
-// Does with the sources what was ordered.
-fn act<O: Write, E: Write>(
-    alloc: Global,
-    order: &ProgramOrder,
-    values: &Settings,
-    sources: &[Source],
-    out: &mut O,
-    err: &mut E,
-) -> Ending
-    ensures not_wrong { result ≡ Ending.WrongLine → ⊥ }
-    ensures told { result ≡ Ending.Refused → TellsOther (E.contents err.old) (E.contents err.new) }
-    ensures quiet { (result ≡ Ending.Refused → ⊥) → E.contents err.new ≡ E.contents err.old }
-    ensures ran { (result ≡ Ending.Refused → ⊥) → PrintsTexts order.now.action order.now.map
-        (values_in values.now) (texts_of sources.now) (status_of result)
-        (O.contents out.old) (O.contents out.new) }
-{
-    match order.action {
-        Action::Run => run_sources(alloc, order, values, sources, out, err),
-        Action::Interpret => interpret_sources(alloc, order, values, sources, out, err),
     }
 }

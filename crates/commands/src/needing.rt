@@ -9,16 +9,16 @@ ghost use Rattle.need_command.specs.Printing.{PrintsNeed};
 ghost use Rattle.commands.specs.Needing.{PrintsNeedOf};
 ghost use Rattle.commands.specs.Orders.{TellsText};
 
-use crate::loading::sources_of;
 use crate::refusals::refuse_value;
 use answers::{Ending, read_files, refuse_file, refuse_memory};
 use command_line::NeedOrder;
 use failure::Failure;
 use files::Files;
 use need_command::print_need;
+use program_commands::sources_of;
+use program_sources::Source;
 use std::alloc::Global;
 use std::io::Write;
-use tool::Source;
 
 /// Prints how much of the stack the program of the sources of an order needs, once the plan beside them is one.
 #[tactic(auto, using(answers::proofs::FilesRead::stays, crate::proofs::NeedTold::done_or_refused, crate::proofs::NeedTold::tells_plan))]

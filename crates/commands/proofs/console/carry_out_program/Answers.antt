@@ -1,10 +1,17 @@
 use Rattle.std.proofs.Common.{refl}
 use Rattle.answers.proofs.LinesPrinted.{tells_no_file}
-use Rattle.commands.proofs.Printed.{prints_program}
+use Rattle.program_commands.proofs.Untold.{for_memory}
+use Rattle.commands.proofs.ProgramsTold.{prints_program, refuses_program}
 use Rattle.commands.proofs.console.carry_out_program.Goals as goal
 
 pub returns-in-Err-Memory-clause-told : goal.returns-in-Err-Memory-clause-told
 returns-in-Err-Memory-clause-told g c = λ refused. tells_no_file _ _ _ _ _ _ refl c.refuse_memory.ensures.told
 
 pub returns-in-Ok-clause-ran : goal.returns-in-Ok-clause-ran
-returns-in-Ok-clause-ran g c = λ refused wrong. prints_program _ _ _ _ _ _ c.in-Ok.ensures.values (c.load.ensures.ran refused)
+returns-in-Ok-clause-ran g c = λ refused wrong. prints_program _ _ _ _ _ _ c.in-Ok.ensures.values (c.carry_out_sources.ensures.ran refused)
+
+pub returns-in-Ok-clause-refused : goal.returns-in-Ok-clause-refused
+returns-in-Ok-clause-refused g c = λ refused. refuses_program _ _ _ _ _ _ _ c.in-Ok.ensures.values (c.carry_out_sources.ensures.refused refused)
+
+pub returns-in-Err-Memory-clause-refused : goal.returns-in-Err-Memory-clause-refused
+returns-in-Err-Memory-clause-refused g c = λ refused. for_memory _ _ _ _ _ _ _ refl c.refuse_memory.ensures.line

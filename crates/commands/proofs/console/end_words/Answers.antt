@@ -3,7 +3,7 @@ use Rattle.answers.proofs.FilesRead.{stays}
 use Rattle.answers.proofs.LinesPrinted.{tells_no_file}
 use Rattle.commands.specs.internal.LineFaults.{IsWrong}
 use Rattle.commands.proofs.OrdersKept.{kept_by_words, kept_stops}
-use Rattle.commands.proofs.Printed.{runs_by_words}
+use Rattle.commands.proofs.ProgramsTold.{memory_by_words, refuses_by_words, runs_by_words}
 use Rattle.commands.proofs.TextsTold.{help_at_most, none_told}
 use Rattle.commands.proofs.console.end_words.Goals as goal
 
@@ -34,3 +34,9 @@ returns-in-Err-Memory-clause-told g c = λ refused. tells_no_file _ _ _ _ _ _ re
 
 pub returns-in-Ok-clause-ran : goal.returns-in-Ok-clause-ran
 returns-in-Ok-clause-ran g c = λ clean refused wrong. runs_by_words _ _ _ _ _ _ c.in-Ok.ensures.order (c.carry_out.ensures.ran refused wrong)
+
+pub returns-in-Ok-clause-refused : goal.returns-in-Ok-clause-refused
+returns-in-Ok-clause-refused g c = λ clean refused. refuses_by_words _ _ _ _ _ _ _ c.in-Ok.ensures.order (c.carry_out.ensures.refused refused)
+
+pub returns-in-Err-Memory-clause-refused : goal.returns-in-Err-Memory-clause-refused
+returns-in-Err-Memory-clause-refused g c = λ clean refused. memory_by_words _ _ _ _ _ _ refl c.refuse_memory.ensures.line

@@ -1,5 +1,6 @@
 use Rattle.std.proofs.Common.{sym, ◌∙◌}
-use Rattle.commands.proofs.Printed.{runs_by_status}
+use Rattle.commands.proofs.ProgramsTold.{runs_by_status}
+use Rattle.commands.proofs.OrdersKept.{refused_is}
 use Rattle.commands.proofs.TextsTold.{wrong_is}
 use Rattle.commands.proofs.console.run_command.Goals as goal
 
@@ -8,3 +9,6 @@ returns-clause-not_wrong g c = λ help none wrong. c.end_words-ending.ensures.no
 
 pub returns-clause-ran : goal.returns-clause-ran
 returns-clause-ran g c = λ clean not_one not_two. runs_by_status _ _ _ _ _ _ c.status.ensures not_one not_two (c.end_words-ending.ensures.ran clean)
+
+pub returns-clause-refused : goal.returns-clause-refused
+returns-clause-refused g c = λ clean one. c.end_words-ending.ensures.refused clean (refused_is _ (sym c.status.ensures ∙ one))

@@ -3,7 +3,7 @@ use Rattle.answers.proofs.FilesRead.{stops_as}
 use Rattle.answers.proofs.LinesPrinted.{tells_file, tells_no_file}
 use Rattle.program_sources.specs.Programs.{texts_of}
 use Rattle.commands.proofs.NeedTold.{prints_by, prints_need_of}
-use Rattle.commands.proofs.OrdersKept.{stops_in_files}
+use Rattle.program_commands.proofs.Names.{stops_in_files}
 use Rattle.commands.proofs.needing.tell_of_files.Goals as goal
 
 pub returns-in-Err-Fault-clause-told : goal.returns-in-Err-Fault-clause-told

@@ -1,8 +1,0 @@
-use Rattle.commands.proofs.Printed.{by_action}
-use Rattle.commands.proofs.console.act.Goals as goal
-
-pub returns-in-Run-clause-ran : goal.returns-in-Run-clause-ran
-returns-in-Run-clause-ran g c = λ other. by_action _ _ _ _ _ _ _ _ c.in-Run.is (c.run_sources.ensures.ran other)
-
-pub returns-in-Interpret-clause-ran : goal.returns-in-Interpret-clause-ran
-returns-in-Interpret-clause-ran g c = λ other. by_action _ _ _ _ _ _ _ _ c.in-Interpret.is (c.interpret_sources.ensures.ran other)

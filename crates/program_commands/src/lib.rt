@@ -1,0 +1,14 @@
+//! The commands on sources, over files and output streams that are handed in.
+#![tactic(auto)]
+
+mod carrying;
+mod compiling;
+mod interpreting;
+mod loading;
+mod map;
+mod refusals;
+mod running;
+
+pub use carrying::carry_out_sources;
+pub use compiling::compile_file;
+pub use loading::sources_of;
