@@ -15,9 +15,7 @@ ghost use Rattle.commands.specs.internal.LineFaults.{IsWrong};
 use crate::needing::tell_need;
 use crate::refusals::refuse_value;
 use answers::{Ending, refuse_memory, refuse_write};
-use command_line::{
-    LineFault, Order, PlaceAction, PlaceOrder, ProgramOrder, command,
-};
+use command_line::{LineFault, Order, PlaceAction, PlaceOrder, ProgramOrder, command};
 use failure::Failure;
 use files::Files;
 use object_commands::{link_files, print_hex, print_places};
