@@ -3,9 +3,8 @@
 -- and jumps are defined as here: `IsMeantBelow` says so.
 --
 -- All trees have a meaning here, also those that no source has: where an object, a list, a callee or a
--- parameter is not there, or a body is left by a jump, a number is 0 and nothing is done. In a program that
--- is joined of soundly typed modules and lies lawfully no such case is taken: so says `TakesNoDefault` of
--- `meant_programs`, case by case.
+-- parameter is not there, or a body is left by a jump, a number is 0 and nothing is done. A program that is
+-- built of texts takes no such case: so says `TakesNoDefault` of `meant_programs`, case by case.
 use Rattle.std.specs.Prelude.{◌≡◌, ℕ, zero, suc, ◌+◌, ◌<◌, ◌-◌, ◌*◌, ◌%◌, ◌==◌, Bool, true, false, ◌&&◌, nat_le, nat_lt, List, [], ◌∷◌, ◌++◌, replicate, map, slice_get, slice_index, Option, Some, None, option_map, if◌then◌else◌}
 use Rattle.std.specs.Option.{option_map_or, option_and_then}
 use Rattle.mem80.specs.declared.memory.TheConstants.{MEMORY_SIZE}
