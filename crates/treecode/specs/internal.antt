@@ -9,3 +9,4 @@ pub mod Completed
 pub mod Gathered
 pub mod Placed
 pub mod Words
+pub mod Stored

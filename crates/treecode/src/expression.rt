@@ -73,9 +73,6 @@ pub struct Expression {
     pub traits: Traits,
 }
 
-// A module has many expressions, so each is small.
-const _: () = prove!(size_of::<Expression>() <= 64);
-
 impl ExpressionNumber {
     /// One more than the number.
     pub fn bound(self) -> u32

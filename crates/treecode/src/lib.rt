@@ -22,6 +22,7 @@ mod procedures;
 mod reference;
 mod statement;
 mod statements;
+mod stored;
 mod traits;
 
 pub use expression::{Expression, ExpressionForm, ExpressionNumber};

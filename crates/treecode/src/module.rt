@@ -10,6 +10,7 @@ use crate::place::{Home, Place};
 use crate::procedure::TreeProcedure;
 use crate::reference::Target;
 use crate::statement::{Statement, StatementNumber};
+use crate::stored::StoredExpression;
 use crate::traits::{Traits, traits_of};
 use std::alloc::AllocError;
 use trees::{Name, ScalarType};
@@ -51,7 +52,7 @@ pub struct TreeModule {
     pub name: Name,
     /// Where each object begins, by its number.
     pub homes: Vec<Home>,
-    pub expressions: Vec<Expression>,
+    pub(crate) expressions: Vec<StoredExpression>,
     pub statements: Vec<Statement>,
     pub arguments: Vec<ExpressionNumber>,
     pub targets: Vec<Target>,
@@ -89,7 +90,10 @@ impl TreeModule {
     pub fn expression(&self, number: ExpressionNumber) -> Option<Expression>
         ensures { result ≡ slice_get (nodes_of self.now).expressions number.index }
     {
-        self.expressions.get(number.index as usize).copied()
+        match self.expressions.get(number.index as usize) {
+            Some(stored) => Some(stored.expression()),
+            None => None,
+        }
     }
 
     /// The statement of a number, if there is one.
@@ -133,8 +137,8 @@ impl TreeModule {
     pub(crate) fn traits(&self, number: ExpressionNumber) -> Traits
         ensures { result ≡ traits_at (nodes_of self.now) number }
     {
-        match self.expression(number) {
-            Some(expression) => expression.traits,
+        match self.expressions.get(number.index as usize) {
+            Some(stored) => stored.traits(),
             None => Traits::none(),
         }
     }
@@ -154,8 +158,8 @@ impl TreeModule {
         ensures { NumbersAreWords (nodes_of self.now) }
     {
         let mut rest = self.expressions.as_slice();
-        while let [expression, more @ ..] = rest {
-            hold_form(expression.form);
+        while let [stored, more @ ..] = rest {
+            hold_form(stored.expression().form);
             rest = more;
         }
     }
@@ -173,7 +177,7 @@ impl TreeModule {
     {
         let index = next_index(self.expressions.len())?;
         let traits = traits_of(self, scalar, &form);
-        self.expressions.push(Expression { form, traits })?;
+        self.expressions.push(StoredExpression::of(Expression { form, traits }))?;
         Ok(ExpressionNumber { index })
     }
 

@@ -1,0 +1,293 @@
+//! Expressions as a module keeps them.
+
+ghost use Rattle.std.specs.Prelude.{◌≡◌};
+ghost use Rattle.treecode.specs.declared.expression.ExpressionForm.TheVariants.{Assignment};
+ghost use Rattle.treecode.specs.internal.Stored.{form_of, reference_of, subscript_of};
+
+use crate::expression::{Expression, ExpressionForm, ExpressionNumber};
+use crate::lists::Range;
+use crate::reference::{Reference, Subscript, Target};
+use crate::traits::Traits;
+use std::marker::Model;
+use trees::{BinaryOperator, ScalarType, UnaryOperator};
+use typed_trees::{ShiftFunction, UnaryFunction};
+
+/// An element that is meant, if one is.
+#[derive(Clone, Copy)]
+pub(crate) enum StoredSubscript {
+    Whole,
+    Element { stride: u16, index: ExpressionNumber },
+}
+
+/// An object, or a part of it.
+#[derive(Clone, Copy)]
+pub(crate) struct StoredReference {
+    object: u32,
+    subscript: StoredSubscript,
+    offset: u16,
+    member_subscript: StoredSubscript,
+}
+
+/// What an expression is, with the target of an assignment laid flat.
+#[derive(Clone, Copy)]
+pub(crate) enum StoredForm {
+    Number(u16),
+    Value(StoredReference),
+    Location(StoredReference),
+    List(u16),
+    Conversion(ExpressionNumber),
+    /// An assignment to a scalar of the type `to`.
+    Store {
+        from: ScalarType,
+        to: ScalarType,
+        reference: StoredReference,
+        value: ExpressionNumber,
+    },
+    /// An assignment to a port.
+    Send {
+        from: ScalarType,
+        port: u8,
+        value: ExpressionNumber,
+    },
+    Unary {
+        operator: UnaryOperator,
+        operand: ExpressionNumber,
+    },
+    Binary {
+        operands: ScalarType,
+        operator: BinaryOperator,
+        left: ExpressionNumber,
+        right: ExpressionNumber,
+    },
+    Call {
+        procedure: u32,
+        arguments: Range,
+    },
+    Function {
+        function: UnaryFunction,
+        operand: ExpressionNumber,
+    },
+    Shift {
+        function: ShiftFunction,
+        value: ExpressionNumber,
+        count: ExpressionNumber,
+    },
+    Input(u8),
+}
+
+/// An expression in less memory.
+#[derive(Drop)]
+pub(crate) struct StoredExpression {
+    form: StoredForm,
+    traits: Traits,
+}
+
+// A module has many expressions, so each is small.
+const _: () = prove!(size_of::<StoredExpression>() <= 52);
+
+impl Model for StoredExpression {
+    ghost use Rattle.treecode.specs.declared.expression.Expression.{Expression};
+    ghost use Rattle.treecode.specs.internal.Stored.{form_of};
+
+    ghost Value = { Expression };
+
+    ghost view = { λ stored. record { form = form_of stored.form; traits = stored.traits } };
+}
+
+impl StoredSubscript {
+    fn of(subscript: Option<Subscript>) -> StoredSubscript
+        ensures { subscript_of result ≡ subscript }
+    {
+        match subscript {
+            None => StoredSubscript::Whole,
+            Some(Subscript { index, stride }) => StoredSubscript::Element { stride, index },
+        }
+    }
+
+    fn subscript(self) -> Option<Subscript>
+        ensures { result ≡ subscript_of self }
+    {
+        match self {
+            StoredSubscript::Whole => None,
+            StoredSubscript::Element { stride, index } => Some(Subscript { index, stride }),
+        }
+    }
+}
+
+impl StoredReference {
+    fn of(reference: Reference) -> StoredReference
+        ensures { reference_of result ≡ reference }
+    {
+        StoredReference {
+            object: reference.object,
+            subscript: StoredSubscript::of(reference.subscript),
+            offset: reference.offset,
+            member_subscript: StoredSubscript::of(reference.member_subscript),
+        }
+    }
+
+    fn reference(self) -> Reference
+        ensures { result ≡ reference_of self }
+    {
+        Reference {
+            object: self.object,
+            subscript: self.subscript.subscript(),
+            offset: self.offset,
+            member_subscript: self.member_subscript.subscript(),
+        }
+    }
+}
+
+// An assignment as it is kept.
+fn stored_assignment(target: Target, value: ExpressionNumber) -> StoredForm
+    ensures { form_of result ≡ Assignment target value }
+{
+    match target {
+        Target::Stored { from, to, reference } => StoredForm::Store {
+            from,
+            to,
+            reference: StoredReference::of(reference),
+            value,
+        },
+        Target::Sent { from, port } => StoredForm::Send { from, port, value },
+    }
+}
+
+impl StoredForm {
+    fn of(form: ExpressionForm) -> StoredForm
+        ensures { form_of result ≡ form }
+    {
+        match form {
+            ExpressionForm::Number(number) => StoredForm::Number(number),
+            ExpressionForm::Value(reference) => StoredForm::Value(StoredReference::of(reference)),
+            ExpressionForm::Location(reference) => {
+                StoredForm::Location(StoredReference::of(reference))
+            }
+            ExpressionForm::List(offset) => StoredForm::List(offset),
+            ExpressionForm::Conversion(inner) => StoredForm::Conversion(inner),
+            ExpressionForm::Assignment { target, value } => stored_assignment(target, value),
+            ExpressionForm::Unary { operator, operand } => StoredForm::Unary { operator, operand },
+            ExpressionForm::Binary {
+                operands,
+                operator,
+                left,
+                right,
+            } => StoredForm::Binary {
+                operands,
+                operator,
+                left,
+                right,
+            },
+            ExpressionForm::Call {
+                procedure,
+                arguments,
+            } => StoredForm::Call {
+                procedure,
+                arguments,
+            },
+            ExpressionForm::Function { function, operand } => {
+                StoredForm::Function { function, operand }
+            }
+            ExpressionForm::Shift {
+                function,
+                value,
+                count,
+            } => StoredForm::Shift {
+                function,
+                value,
+                count,
+            },
+            ExpressionForm::Input(port) => StoredForm::Input(port),
+        }
+    }
+
+    fn form(self) -> ExpressionForm
+        ensures { result ≡ form_of self }
+    {
+        match self {
+            StoredForm::Number(number) => ExpressionForm::Number(number),
+            StoredForm::Value(reference) => ExpressionForm::Value(reference.reference()),
+            StoredForm::Location(reference) => ExpressionForm::Location(reference.reference()),
+            StoredForm::List(offset) => ExpressionForm::List(offset),
+            StoredForm::Conversion(inner) => ExpressionForm::Conversion(inner),
+            StoredForm::Store {
+                from,
+                to,
+                reference,
+                value,
+            } => ExpressionForm::Assignment {
+                target: Target::Stored {
+                    from,
+                    to,
+                    reference: reference.reference(),
+                },
+                value,
+            },
+            StoredForm::Send { from, port, value } => ExpressionForm::Assignment {
+                target: Target::Sent { from, port },
+                value,
+            },
+            StoredForm::Unary { operator, operand } => ExpressionForm::Unary { operator, operand },
+            StoredForm::Binary {
+                operands,
+                operator,
+                left,
+                right,
+            } => ExpressionForm::Binary {
+                operands,
+                operator,
+                left,
+                right,
+            },
+            StoredForm::Call {
+                procedure,
+                arguments,
+            } => ExpressionForm::Call {
+                procedure,
+                arguments,
+            },
+            StoredForm::Function { function, operand } => {
+                ExpressionForm::Function { function, operand }
+            }
+            StoredForm::Shift {
+                function,
+                value,
+                count,
+            } => ExpressionForm::Shift {
+                function,
+                value,
+                count,
+            },
+            StoredForm::Input(port) => ExpressionForm::Input(port),
+        }
+    }
+}
+
+impl StoredExpression {
+    /// An expression as it is kept.
+    pub(crate) fn of(expression: Expression) -> StoredExpression
+        ensures { result ≡ expression }
+    {
+        StoredExpression {
+            form: StoredForm::of(expression.form),
+            traits: expression.traits,
+        }
+    }
+
+    /// The expression.
+    pub(crate) fn expression(&self) -> Expression
+        ensures { result ≡ self.now }
+    {
+        Expression {
+            form: self.form.form(),
+            traits: self.traits,
+        }
+    }
+
+    /// What is known of it.
+    pub(crate) fn traits(&self) -> Traits
+        ensures { result ≡ self.now.traits }
+    {
+        self.traits
+    }
+}
