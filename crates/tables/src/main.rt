@@ -137,19 +137,6 @@ fn fail_each(page: &mut Page, count: &mut Count, block: &Block, words: &[&str], 
     }
 }
 
-// Carries out a command line, with no call of files failing and with each.
-fn answer_words(page: &mut Page, counts: &mut Counts, block: &Block, words: &[&str]) {
-    let answer = Answer::of(page.alloc(), block, words, u64::MAX);
-    count_answer(
-        page,
-        &mut counts.answers,
-        block,
-        &answer,
-        answer.is_as_said(block),
-    );
-    fail_each(page, &mut counts.stopped, block, words, answer.calls);
-}
-
 // Compares the image of a command line with that by way of object files; where it is another, prints the line.
 fn compare_images(page: &mut Page, counts: &mut Counts, block: &Block, words: &[&str]) {
     let linked = linked_image(page.alloc(), block, words);
@@ -164,13 +151,26 @@ fn compare_images(page: &mut Page, counts: &mut Counts, block: &Block, words: &[
     }
 }
 
+// Carries out a command line, with no call of files failing and with each. Where it is refused there is no image to compare.
+fn answer_words(page: &mut Page, counts: &mut Counts, block: &Block, words: &[&str]) {
+    let answer = Answer::of(page.alloc(), block, words, u64::MAX);
+    count_answer(
+        page,
+        &mut counts.answers,
+        block,
+        &answer,
+        answer.is_as_said(block),
+    );
+    fail_each(page, &mut counts.stopped, block, words, answer.calls);
+    if !answer.is_refused() {
+        compare_images(page, counts, block, words);
+    }
+}
+
 // Carries out a block.
 fn run_block(page: &mut Page, counts: &mut Counts, block: &Block) {
     match block.words(page.alloc()) {
-        Ok(words) => {
-            answer_words(page, counts, block, words.as_slice());
-            compare_images(page, counts, block, words.as_slice());
-        }
+        Ok(words) => answer_words(page, counts, block, words.as_slice()),
         Err(_) => page.note(false),
     }
 }
