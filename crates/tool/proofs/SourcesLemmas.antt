@@ -27,7 +27,7 @@ use Rattle.frontend.specs.Causes.{HasReadCause}
 use Rattle.locate.specs.Locating.{Absolute}
 use Rattle.module_code.specs.Bounded.{AreWithinBounds}
 use Rattle.module_code.specs.Typed.{AreSoundlyMade}
-use Rattle.module_code.proofs.Programs.{make_the_program}
+use Rattle.module_code.proofs.Programs.{make_the_program, numbers_fit}
 use Rattle.module_code.specs.internal.Names.{HaveImage}
 use Rattle.program_sources.specs.declared.fault.ProgramFault.TheVariants as program_faults
 use Rattle.program_sources.specs.declared.placed.Placed.{Placed}
@@ -107,7 +107,8 @@ types_each [] [] made = tt
 types_each [] (object ∷ objects) made = absurd made
 types_each (typed ∷ modules) [] made = absurd made
 types_each (typed ∷ modules) (object ∷ objects) made =
-    ((made.0.facts.types, made.0.made.laid.globals, made.0.facts.frames), types_each modules objects made.1)
+    ((made.0.facts.types, numbers_fit typed object made.0, made.0.made.laid.globals, made.0.facts.frames),
+    types_each modules objects made.1)
 
 -- they have storage, and their code holds their constants
 pub have_storage : (modules : List TypedModule) (objects : List ObjectModule) (lengths : List ℕ) → AreSoundlyMade modules objects → lengths ≡ code_lengths objects
