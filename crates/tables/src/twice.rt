@@ -178,7 +178,10 @@ fn print_programs(page: &mut Page) {
 
 // Prints what the programs do that are interpreted, twice.
 fn print_meanings(page: &mut Page) {
-    for (what, text) in [("a division by 0", DIVIDES), ("statements of each kind", CALLS)] {
+    for (what, text) in [
+        ("a division by 0", DIVIDES),
+        ("statements of each kind", CALLS),
+    ] {
         print_meaning(page, what, text);
         print_meaning(page, what, text);
     }

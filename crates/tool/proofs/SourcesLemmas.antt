@@ -106,9 +106,10 @@ types_each : (modules : List TypedModule) (objects : List ObjectModule) → AreS
 types_each [] [] made = tt
 types_each [] (object ∷ objects) made = absurd made
 types_each (typed ∷ modules) [] made = absurd made
-types_each (typed ∷ modules) (object ∷ objects) made =
-    ((made.0.facts.types, numbers_fit typed object made.0, made.0.made.laid.globals, made.0.facts.frames),
-    types_each modules objects made.1)
+types_each (typed ∷ modules) (object ∷ objects) made = (
+  (made.0.facts.types, numbers_fit typed object made.0, made.0.made.laid.globals, made.0.facts.frames),
+  types_each modules objects made.1,
+)
 
 -- they have storage, and their code holds their constants
 pub have_storage : (modules : List TypedModule) (objects : List ObjectModule) (lengths : List ℕ) → AreSoundlyMade modules objects → lengths ≡ code_lengths objects
