@@ -7,4 +7,5 @@ pub mod Highs
 pub mod Loads
 pub mod Tests
 pub mod Placing
+pub mod Loading
 pub mod Refused

@@ -5,6 +5,7 @@ ghost use Rattle.failure.specs.Failure.{IfFault};
 ghost use Rattle.object_modules.specs.Image.{base_of, image_of, placement_refusal, symbol_at};
 ghost use Rattle.object_modules.specs.Module.{places_of};
 ghost use Rattle.object_modules.specs.Views.{owned_public_view};
+ghost use Rattle.locate.specs.Loading.{GivesItsImage};
 ghost use Rattle.locate.specs.Locating.{IsPlaced, plan_view, refusal_of, symbol_view};
 ghost use Rattle.locate.specs.internal.Images.{image_pieces, segment_pieces};
 ghost use Rattle.locate.specs.internal.Putting.{with_pieces};
@@ -83,8 +84,11 @@ fn symbols_of(
 #[tactic(auto, using(crate::proofs::Placing::image_runs, crate::proofs::Placing::image_in_memory, crate::proofs::Placing::is_placed))]
 fn absolute_of(alloc: Global, object: &ObjectModule, plan: &Plan) -> Result<Absolute, AllocError>
     requires { placement_refusal (plan_view plan.now) object.now ≡ None }
-    ensures { IfOk result (λ absolute. IsPlaced (plan_view plan.now) object.now absolute) }
+    ensures placed { IfOk result (λ absolute. IsPlaced (plan_view plan.now) object.now absolute) }
+    ensures gives { IfOk result (λ absolute. GivesItsImage (plan_view plan.now) object.now absolute) }
 {
+    // A look at its name says that the module is valid, so that its bytes are below 256.
+    let _ = object.name();
     let pieces = image(alloc, object, plan)?;
     let symbols = symbols_of(alloc, object.publics(), plan)?;
     let start = object.start().unwrap_or(0).wrapping_add(plan.code);
@@ -93,7 +97,8 @@ fn absolute_of(alloc: Global, object: &ObjectModule, plan: &Plan) -> Result<Abso
 }
 
 /// Places a module by a plan: the length of its stack is that of the plan. Nothing is placed where an
-/// external name is left or one of the other causes holds; the first in their order is the fault.
+/// external name is left or one of the other causes holds; the first in their order is the fault. Each memory
+/// into which the placed module is put has the bytes of the image, and is a memory still.
 #[tactic(auto, using(crate::proofs::Placing::is_refused))]
 pub fn locate(
     alloc: Global,
@@ -101,6 +106,7 @@ pub fn locate(
     plan: &Plan,
 ) -> Result<Absolute, Failure<LocateFault>>
     ensures placed { IfOk result (λ absolute. IsPlaced (plan_view plan.now) object.now absolute) }
+    ensures gives { IfOk result (λ absolute. GivesItsImage (plan_view plan.now) object.now absolute) }
     ensures refused { IfFault result (λ fault.
         image_of (plan_view plan.now) object.now ≡ Err (refusal_of fault)) }
 {

@@ -6,7 +6,7 @@ ghost use Rattle.std.specs.List.{flat_map};
 ghost use Rattle.std.specs.Io.KnownBytes.{Appends};
 ghost use Rattle.writing.specs.Writing.{AppendsBeginning};
 ghost use Rattle.report.specs.Report.{line_of};
-ghost use Rattle.cpu8080.specs.Runs.{IsRun};
+ghost use Rattle.cpu8080.specs.Runs.{IsOnlyHalt, IsRun};
 ghost use Rattle.printed_runs.specs.Printing.{BeginsRun, PrintsRun, end_word};
 ghost use Rattle.printed_runs.specs.internal.Slices.{BeginsSlice};
 
@@ -91,7 +91,9 @@ fn run_slices<W: Write>(
 }
 
 /// Runs a machine for at most so many steps, and writes a line for each of its events, those of some steps at a time
-/// while it runs, and then the word that the run ends with. After a failure the writer has a beginning of that text.
+/// while it runs, and then the word that the run ends with. After a failure the writer has a beginning of that text. A
+/// machine that has halted is as it is now after any more steps.
+#[tactic(auto, using(cpu8080::proofs::MachineLemmas::only_halt))]
 pub fn print_machine<W: Write>(
     machine: &mut Machine<Script>,
     limit: u64,
@@ -99,6 +101,7 @@ pub fn print_machine<W: Write>(
 ) -> Result<End, Failure<WriteFault>>
     ensures ok { IfOk result (λ end.
         PrintsRun limit machine.old end machine.new (W.contents out.old) (W.contents out.new)) }
+    ensures halt { IfOk result (λ end. end ≡ End.Halted → IsOnlyHalt machine.old machine.new) }
     ensures err { OnErr result
         (BeginsRun limit machine.old (W.contents out.old) (W.contents out.new)) }
 {
