@@ -1,11 +1,10 @@
 -- What a machine does that comes to an item: what the item does, and then what the machine does from there.
-use Rattle.std.proofs.Common.{◌≡◌, ℕ, suc, ◌+◌, ◌%◌, ◌<◌, ◌≤◌, Bool, true, false, if◌then◌else◌, List, [], ◌∷◌, refl, sym, ap, ◌∙◌, arith}
-use Rattle.mem80.specs.declared.memory.TheConstants.{MEMORY_SIZE}
+use Rattle.std.proofs.Common.{◌≡◌, ℕ, suc, ◌+◌, true, false, if◌then◌else◌, List, ◌∷◌, ap, ◌∙◌}
 use Rattle.ports.specs.declared.event.Event.{Event}
 use Rattle.meaning.specs.Outcomes.{State as SourceState, Outcome}
 use Rattle.isa8080.specs.declared.instr.Condition.{Condition}
 use Rattle.isa8080.specs.declared.instr.Instr.{Instr}
-use Rattle.isa8080.specs.State.{Registers, State, wrap, holds}
+use Rattle.isa8080.specs.State.{Registers, State, holds}
 use Rattle.isa8080.specs.Act.{act}
 use Rattle.isa8080.specs.Step.{step_of}
 use Rattle.asm8080.specs.declared.item.Item.{Item}
@@ -15,33 +14,12 @@ use Rattle.asm8080.specs.declared.item.Reference.TheVariants.{AtLabel}
 use Rattle.asm8080.specs.declared.item.WordForm.{WordForm}
 use Rattle.asm8080.specs.declared.item.WordForm.TheVariants.{Jump, JumpWhere}
 use Rattle.asm8080.specs.Items.{instruction_with, word_of}
-use Rattle.asm8080.specs.Standing.{AgreesIn, InstructionStands, size_of_instruction}
-use Rattle.machine_runs.proofs.Steps.{step_is}
+use Rattle.asm8080.specs.Standing.{AgreesIn, size_of_instruction}
+use Rattle.machine_runs.proofs.FirstItems.{plain_item_step, word_item_step}
 use Rattle.code_meaning.specs.Landing.{Does, at_place}
 use Rattle.code_meaning.specs.Activations.{Activation, IsThere, LiesWell}
 use Rattle.code_meaning.proofs.Landing.{after_step, after_paid_step}
-use Rattle.code_meaning.proofs.Standing.{bytes_alike, stands_now}
-
-small : (place : ℕ) → wrap place < MEMORY_SIZE
-small place = omega arith
-
-twice : (place : ℕ) → wrap place ≡ wrap (wrap place)
-twice place = omega arith
-
-past : (place size : ℕ) → wrap (wrap place + size) ≡ wrap (place + size)
-past place size = omega arith
-
--- the step where an instruction stands
-pub step_at :
-    (script : List (List ℕ)) (i : Instr) (place : ℕ) (r : Registers) (memory : List ℕ) (events : List Event)
-    → InstructionStands memory place i
-    → step_of script (at_place place r memory events)
-    ≡ act script i (at_place (place + size_of_instruction i) r memory events)
-step_at script i place r memory events stands =
-    step_is script i (at_place place r memory events) refl (small place)
-    (bytes_alike memory _ place (wrap place) (twice place) stands)
-    ∙ ap (λ n. act script i (Rattle.isa8080.specs.Step.running (record r { pc = n }) memory events))
-    (past place (size_of_instruction i))
+use Rattle.code_meaning.proofs.Standing.{stands_now}
 
 -- an instruction
 pub plain_step :
@@ -53,12 +31,8 @@ pub plain_step :
     → step_of script (at_place from r memory events)
     ≡ act script i (at_place (from + size_of_instruction i) r memory events)
 plain_step script activation i items from to r memory events lies agrees there =
-    step_at script i from r memory events
-    (stands_now activation memory (Plain i ∷ items) from to lies agrees there).0
-
-size_with_word : (form : WordForm) (word : ℕ) → size_of_instruction (instruction_with form word) ≡ 3
-size_with_word (Rattle.asm8080.specs.declared.item.WordForm.TheVariants.LoadPair pair) word = refl
-size_with_word form word = refl
+    plain_item_step script activation.layout i items from to r memory events
+    (stands_now activation memory (Plain i ∷ items) from to lies agrees there)
 
 -- an instruction with a word
 pub word_step :
@@ -70,11 +44,8 @@ pub word_step :
     → step_of script (at_place from r memory events)
     ≡ act script (instruction_with form (word_of activation.layout reference)) (at_place (from + 3) r memory events)
 word_step script activation form reference items from to r memory events lies agrees there =
-    let i = instruction_with form (word_of activation.layout reference) in
-    step_at script i from r memory events
-    (stands_now activation memory (WithWord form reference ∷ items) from to lies agrees there).0
-    ∙ ap (λ size. act script i (at_place (from + size) r memory events))
-    (size_with_word form (word_of activation.layout reference))
+    word_item_step script activation.layout form reference items from to r memory events
+    (stands_now activation memory (WithWord form reference ∷ items) from to lies agrees there)
 
 -- a machine that comes to an instruction
 pub plain_first :

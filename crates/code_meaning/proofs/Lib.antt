@@ -6,6 +6,5 @@ pub mod Stores
 pub mod Pushes
 pub mod Access
 pub mod ByteResults
-pub mod Pops
 pub mod Sequences
 pub mod Lawful

@@ -1,40 +1,11 @@
--- Words that are pushed, and taken again after others have run.
-use Rattle.std.proofs.Common.{◌≡◌, ◌≢◌, ℕ, ◌+◌, ◌-◌, ◌*◌, ◌/◌, ◌%◌, ◌<◌, ◌≤◌, ◌⊎◌, inl, inr, Bool, true, false, List, length, slice_set, refl, sym, ap, ◌∙◌, arith}
+-- Words that are pushed, and are still there after others have run.
+use Rattle.std.proofs.Common.{◌≡◌, ℕ, ◌+◌, ◌-◌, ◌<◌, ◌≤◌, inl, inr, List, length, slice_set, refl, ◌∙◌, arith}
 use Rattle.mem80.specs.declared.memory.TheConstants.{MEMORY_SIZE}
-use Rattle.mem80.specs.Memory.{IsMemory, byte_at, word_at}
-use Rattle.ports.specs.declared.event.Event.{Event}
-use Rattle.meaning.specs.Access.{is_declared}
-use Rattle.isa8080.specs.declared.instr.Instr.TheVariants.{Push}
-use Rattle.isa8080.specs.declared.instr.StackPair.{StackPair}
-use Rattle.isa8080.specs.State.{HoldBytes, Registers, State, high_byte, low_byte, one_less, two_less, wrap, pushed_of}
-use Rattle.isa8080.specs.Act.{act}
-use Rattle.asm8080.specs.Standing.{AgreesIn, Keeps}
-use Rattle.machine_runs.proofs.Calls.{IsPushed, one_below, pushed, pushed_is_memory, pushed_is_pushed, pushed_keeps, two_below}
-use Rattle.code_meaning.specs.Landing.{at_place}
+use Rattle.isa8080.specs.State.{HoldBytes, Registers, high_byte, low_byte, wrap}
+use Rattle.asm8080.specs.Standing.{Keeps}
+use Rattle.machine_runs.proofs.Calls.{IsPushed, pushed, pushed_is_memory, pushed_is_pushed, pushed_keeps}
 use Rattle.code_meaning.specs.Activations.{Activation, FrameLies, IsReady, LiesWell, Owns, Shares}
 use Rattle.code_meaning.proofs.Owning.{keeps_all, keeps_both, keeps_wider, owns_more, pushed_is_not_owned}
-
-lower : (top : ℕ) → top ≤ MEMORY_SIZE → 2 ≤ top → top - 2 ≡ wrap (top - 2)
-lower top limit room = omega arith
-
--- PUSH at a logical stack pointer
-pub push_does :
-    (script : List (List ℕ)) (pair : StackPair) (place top : ℕ) (r : Registers) (memory : List ℕ)
-    (events : List Event)
-    → r.sp ≡ wrap top
-    → top ≤ MEMORY_SIZE
-    → 2 ≤ top
-    → act script (Push pair) (at_place place r memory events)
-    ≡ at_place place (record r { sp = wrap (top - 2) }) (pushed top (pushed_of pair (record r { pc = wrap place })) memory) events
-push_does script pair place top r memory events pointer limit room =
-    let word = pushed_of pair (record r { pc = wrap place }) in
-    ap (λ n. at_place place (record r { sp = two_less r.sp })
-    (slice_set (slice_set memory n (high_byte word)) (two_less r.sp) (low_byte word)) events)
-    (one_below r.sp top pointer limit room)
-    ∙ (ap (λ n. at_place place (record r { sp = n })
-    (slice_set (slice_set memory (top - 1) (high_byte word)) n (low_byte word)) events)
-    (two_below r.sp top pointer limit room)
-    ∙ ap (λ n. at_place place (record r { sp = n }) (pushed top word memory) events) (lower top limit room))
 
 -- bytes of the stack below a level may be written
 pushed_shares :

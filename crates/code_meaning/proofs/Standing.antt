@@ -1,32 +1,14 @@
 -- Items that stand in the code as it was loaded stand in each memory that has that code.
-use Rattle.std.proofs.Common.{◌≡◌, ℕ, ◌+◌, ◌%◌, ◌<◌, ◌≤◌, List, [], ◌∷◌, length, refl, sym, ap, ◌∙◌, arith}
-use Rattle.mem80.specs.declared.memory.TheConstants.{MEMORY_SIZE}
-use Rattle.mem80.specs.Memory.{byte_at}
+use Rattle.std.proofs.Common.{◌≡◌, ℕ, ◌+◌, List, ◌∷◌, arith}
 use Rattle.isa8080.specs.declared.instr.Instr.{Instr}
-use Rattle.isa8080.specs.State.{wrap}
 use Rattle.asm8080.specs.declared.item.Item.{Item}
 use Rattle.asm8080.specs.declared.item.Item.TheVariants.{Plain, WithWord, Mark}
 use Rattle.asm8080.specs.declared.item.Reference.{Reference}
 use Rattle.asm8080.specs.declared.item.WordForm.{WordForm}
-use Rattle.asm8080.specs.Items.{Stands, word_of, instruction_with}
-use Rattle.asm8080.specs.Standing.{AgreesIn, BytesStand, InstructionStands, size_of_instruction}
-use Rattle.machine_runs.proofs.Kept.{stands_still}
+use Rattle.asm8080.specs.Items.{Stands}
+use Rattle.asm8080.specs.Standing.{AgreesIn, size_of_instruction}
+use Rattle.machine_runs.proofs.Kept.{stands_in}
 use Rattle.code_meaning.specs.Activations.{Activation, IsThere, LiesWell}
-
-next_alike : (one other : ℕ) → wrap one ≡ wrap other → wrap (one + 1) ≡ wrap (other + 1)
-next_alike one other same = omega (arith, same)
-
--- bytes that stand from a place on stand from each other place that lies where it does
-pub bytes_alike :
-    (memory bytes : List ℕ) (one other : ℕ)
-    → wrap one ≡ wrap other
-    → BytesStand memory one bytes
-    → BytesStand memory other bytes
-bytes_alike memory [] one other same stands = tt
-bytes_alike memory (byte ∷ others) one other same stands = (
-  ap (byte_at memory) (sym same) ∙ stands.0,
-  bytes_alike memory others (one + 1) (other + 1) (next_alike one other same) stands.1,
-)
 
 -- items stand in a memory that has the code
 pub stands_now :
@@ -36,15 +18,8 @@ pub stands_now :
     → IsThere activation items from to
     → Stands activation.layout memory items from to
 stands_now activation memory items from to lies agrees there =
-    let low = there.low in
-    let high = there.high in
-    let limit = lies.placed.code_in_memory in
-    stands_still activation.layout activation.image memory items from to (omega (arith, high, limit))
-    (λ address above below. agrees address (omega (arith, low, above), omega (arith, high, below)))
-    there.stands
-
-within : (from size to rest : ℕ) → to ≡ from + size + rest → from ≤ from + size
-within from size to rest same = omega arith
+    stands_in activation.layout activation.around.program.placement.code activation.image memory items from to
+    lies.placed.code_in_memory there.low there.high agrees there.stands
 
 -- what stands after an instruction
 pub after_plain :

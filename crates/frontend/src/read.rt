@@ -12,6 +12,7 @@ ghost use Rattle.typed_trees.specs.Jumps.{JumpsAreSound};
 ghost use Rattle.typed_trees.specs.Storable.{IsStorable};
 ghost use Rattle.typed_trees.specs.Views.{module_view};
 ghost use Rattle.typed_trees.specs.WellTyped.{IsWellTyped};
+ghost use Rattle.tree_numbers.specs.Numbers.{NumbersFitInModule};
 ghost use Rattle.layout.specs.Storage.{storage_with};
 ghost use Rattle.layout.specs.Views.{layout_view};
 ghost use Rattle.frontend.specs.Reading.{HasTyping, IsSourceOf, IsText};
@@ -98,6 +99,7 @@ pub fn read_source(alloc: Global, text: &[u8]) -> Result<SourceModule, Failure<R
     ensures storable { IfOk result (λ read. IsStorable (module_view read.typed)) }
     ensures jumps { IfOk result (λ read. JumpsAreSound (module_view read.typed)) }
     ensures types { IfOk result (λ read. IsWellTyped (module_view read.typed)) }
+    ensures numbers { IfOk result (λ read. NumbersFitInModule (module_view read.typed)) }
     ensures globals { IfOk result (λ read. ListsGlobals (module_view read.typed)) }
     ensures frames { IfOk result (λ read. FramesFit (module_view read.typed)) }
     ensures parameters { IfOk result (λ read. ParametersFit (module_view read.typed)) }
@@ -120,6 +122,7 @@ fn type_text(alloc: Global, text: &[u8]) -> Result<Typed, Failure<ReadFault>>
     ensures storable { IfOk result (λ typed. IsStorable (module_view typed)) }
     ensures jumps { IfOk result (λ typed. JumpsAreSound (module_view typed)) }
     ensures types { IfOk result (λ typed. IsWellTyped (module_view typed)) }
+    ensures numbers { IfOk result (λ typed. NumbersFitInModule (module_view typed)) }
     ensures globals { IfOk result (λ typed. ListsGlobals (module_view typed)) }
     ensures frames { IfOk result (λ typed. FramesFit (module_view typed)) }
     ensures parameters { IfOk result (λ typed. ParametersFit (module_view typed)) }

@@ -111,10 +111,11 @@ word_back word low high l h = omega arith
 above : (level : ℕ) → 2 ≤ level → level ≤ MEMORY_SIZE → (level - 2 + 1) % MEMORY_SIZE ≡ level - 1
 above level room limit = omega arith
 
-up : (level : ℕ) → 2 ≤ level → wrap (level - 2 + 2) ≡ wrap level
+pub up : (level : ℕ) → 2 ≤ level → wrap (level - 2 + 2) ≡ wrap level
 up level room = omega arith
 
-word_pushed :
+-- the word at the stack pointer
+pub word_pushed :
     (level word : ℕ) (memory : List ℕ)
     → 2 ≤ level
     → level ≤ MEMORY_SIZE

@@ -1,8 +1,9 @@
 -- Code that stays where it stands, while a machine writes elsewhere.
-use Rattle.std.proofs.Common.{◌≡◌, ◌≢◌, ℕ, ◌+◌, ◌<◌, ◌≤◌, List, [], ◌∷◌, length, refl, ◌∙◌, arith, slice_set}
+use Rattle.std.proofs.Common.{◌≡◌, ◌≢◌, ℕ, ◌+◌, ◌<◌, ◌≤◌, List, [], ◌∷◌, length, refl, sym, ap, ◌∙◌, arith, slice_set}
 use Rattle.std.proofs.lemmas.List.{length-set, get_or-set_same, get_or-set_other}
 use Rattle.std.proofs.lemmas.List.Elements.{All-set}
 use Rattle.mem80.specs.declared.memory.TheConstants.{MEMORY_SIZE}
+use Rattle.mem80.specs.declared.range.Range.{Range}
 use Rattle.mem80.specs.Memory.{IsMemory, byte_at}
 use Rattle.isa8080.specs.State.{wrap}
 use Rattle.asm8080.specs.declared.item.WordForm.{WordForm}
@@ -10,7 +11,7 @@ use Rattle.asm8080.specs.declared.item.WordForm.TheVariants.{LoadPair, StoreHl, 
 use Rattle.asm8080.specs.declared.item.Item.{Item}
 use Rattle.asm8080.specs.declared.item.Item.TheVariants.{Plain, WithWord, Byte, Address, Gap, Mark}
 use Rattle.asm8080.specs.Items.{Layout, Stands, bytes_of_item, size_of, size_of_items, instruction_with}
-use Rattle.asm8080.specs.Standing.{BytesStand, size_of_instruction}
+use Rattle.asm8080.specs.Standing.{AgreesIn, BytesStand, size_of_instruction}
 
 -- a byte that is put elsewhere
 pub byte_kept :
@@ -52,6 +53,21 @@ bytes_stay memory other (byte ∷ others) from to limit fits alike stands = (
   alike (wrap from) (omega arith) (omega arith) ∙ stands.0,
   bytes_stay memory other others (from + 1) to limit (omega arith)
       (λ address low high. alike address (omega arith) high) stands.1,
+)
+
+next_alike : (one other : ℕ) → wrap one ≡ wrap other → wrap (one + 1) ≡ wrap (other + 1)
+next_alike one other same = omega (arith, same)
+
+-- bytes that stand from a place on stand from each other place that lies where it does
+pub bytes_alike :
+    (memory bytes : List ℕ) (one other : ℕ)
+    → wrap one ≡ wrap other
+    → BytesStand memory one bytes
+    → BytesStand memory other bytes
+bytes_alike memory [] one other same stands = tt
+bytes_alike memory (byte ∷ others) one other same stands = (
+  ap (byte_at memory) (sym same) ∙ stands.0,
+  bytes_alike memory others (one + 1) (other + 1) (next_alike one other same) stands.1,
 )
 
 pub size_with : (form : WordForm) (word : ℕ) → size_of_instruction (instruction_with form word) ≡ 3
@@ -132,3 +148,16 @@ stands_still layout memory other (Address reference ∷ others) from to limit al
 stands_still layout memory other (Gap count ∷ others) from to limit alike h =
     stands_still layout memory other others (from + count) to limit
     (λ address low high. alike address (omega arith) high) h
+
+-- and so in each memory that agrees on a range in which they stand
+pub stands_in :
+    (layout : Layout) (range : Range) (memory other : List ℕ) (items : List Item) (from to : ℕ)
+    → range.start + range.len ≤ MEMORY_SIZE
+    → range.start ≤ from
+    → to ≤ range.start + range.len
+    → AgreesIn range memory other
+    → Stands layout memory items from to
+    → Stands layout other items from to
+stands_in layout range memory other items from to limit low high agrees stands =
+    stands_still layout memory other items from to (omega (arith, high, limit))
+    (λ address above below. agrees address (omega (arith, low, above), omega (arith, high, below))) stands

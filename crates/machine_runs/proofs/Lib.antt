@@ -4,5 +4,7 @@ pub mod Straight
 pub mod Loops
 pub mod Kept
 pub mod Calls
+pub mod Stack
+pub mod FirstItems
 pub mod Example
 pub mod Worked

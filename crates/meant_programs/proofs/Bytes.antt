@@ -23,13 +23,13 @@ use Rattle.layout.specs.StartingMemory.{starting_memory}
 use Rattle.layout.proofs.StartingBytes.{starts_as}
 use Rattle.meaning.specs.Access.{Place, InMemory, Surroundings, address_of, frame_bytes, home_of, place_in, place_of, read_scalar}
 use Rattle.meaning.specs.Meaning.{Displacement, Later, based_place, displaced, displacement, done, done_list, frame_of, is_frame_of, later_by, located, parameters_set, stored, value, values}
-use Rattle.meaning.specs.Outcomes.{Program, State, Outcome, Gave, Stopped, then_do}
+use Rattle.meaning.specs.Outcomes.{Program, State, Outcome, Gave, Stopped, Flow, Onward, Returned, Jumped, then_do}
 use Rattle.meaning.specs.internal.Kept.{Continues, Extra, Keeps, jump_took, nothing_else}
 use Rattle.meaning.proofs.Kept.{reads_scalar}
 use Rattle.meaning.proofs.KeptCalls.{later_keeps, sets_parameters}
 use Rattle.meaning.proofs.KeptParts.{displacement_keeps, located_keeps, stored_keeps, value_keeps, values_keep}
 use Rattle.meaning.proofs.KeptStatements.{list_keeps, statement_keeps}
-use Rattle.meant_programs.specs.Meant.{GivesBytes, HasBytes, IsCallee, IsThere, IsWhole, LeavesBytes, ParametersAreThere}
+use Rattle.meant_programs.specs.Meant.{GivesBytes, HasBytes, IsCallee, IsThere, IsWhole, JumpTakesOne, LeavesBytes, ParametersAreThere}
 use Rattle.meant_programs.proofs.Names.{home_there}
 
 -- A call begins with a frame that has all bytes of each object that its procedure has in its frames.
@@ -87,49 +87,64 @@ bytes_kept program typed within s t kept has = record {
 }
 
 leaves_bytes : {A : Type 0} (program : Program) (extra : Extra A) (typed : TypedModule) (within : Within) (s : State)
-    (outcome : Outcome A) → Keeps program extra s outcome → HasBytes typed within s → LeavesBytes typed within outcome
-leaves_bytes program extra typed within s (Gave found t) kept has = bytes_kept program typed within s t kept.0 has
+    (outcome : Outcome A) → Keeps program extra s outcome → HasBytes typed within s → LeavesBytes typed within s outcome
+leaves_bytes program extra typed within s (Gave found t) kept has =
+    (bytes_kept program typed within s t kept.0 has, ((kept.0).follows).budget)
 leaves_bytes program extra typed within s (Stopped why t) kept has = tt
+
+jump_took_one : (program : Program) (s : State) (outcome : Outcome Flow) → Keeps program jump_took s outcome
+    → JumpTakesOne s outcome
+jump_took_one program s (Gave Onward t) kept = tt
+jump_took_one program s (Gave (Returned number) t) kept = tt
+jump_took_one program s (Gave (Jumped label) t) kept = kept.1
+jump_took_one program s (Stopped why t) kept = tt
 
 module _ (number : ℕ) (around : Surroundings) (typed : TypedModule) (within : Within) (s : State)
     (below : s.budget < number) (has : HasBytes typed within s) where
   -- after an expression
   pub value_leaves_bytes : (expression : TypedExpression)
-      → LeavesBytes typed within (value (later_by number) around expression s)
+      → LeavesBytes typed within s (value (later_by number) around expression s)
   value_leaves_bytes expression =
       leaves_bytes around.program nothing_else typed within s (value (later_by number) around expression s)
       (value_keeps number (later_by number) (later_keeps number) expression around s below) has
 
   -- after arguments
   pub values_leave_bytes : (arguments : TypedArguments)
-      → LeavesBytes typed within (values (later_by number) around arguments s)
+      → LeavesBytes typed within s (values (later_by number) around arguments s)
   values_leave_bytes arguments =
       leaves_bytes around.program nothing_else typed within s (values (later_by number) around arguments s)
       (values_keep number (later_by number) (later_keeps number) arguments around s below) has
 
   -- after what locates a part of an object
   pub location_leaves_bytes : (reference : TypedReference)
-      → LeavesBytes typed within (located (later_by number) around reference s)
+      → LeavesBytes typed within s (located (later_by number) around reference s)
   location_leaves_bytes reference =
       leaves_bytes around.program nothing_else typed within s (located (later_by number) around reference s)
       (located_keeps number (later_by number) (later_keeps number) reference around s below) has
 
   -- after a store
   pub store_leaves_bytes : (target : TypedTarget) (found : ℕ)
-      → LeavesBytes typed within (stored (later_by number) around target found s)
+      → LeavesBytes typed within s (stored (later_by number) around target found s)
   store_leaves_bytes target found =
       leaves_bytes around.program nothing_else typed within s (stored (later_by number) around target found s)
       (stored_keeps number (later_by number) (later_keeps number) target found around s below) has
 
   -- after a statement
   pub statement_leaves_bytes : (statement : TypedStatement)
-      → LeavesBytes typed within (done (later_by number) around statement s)
+      → LeavesBytes typed within s (done (later_by number) around statement s)
   statement_leaves_bytes statement =
       leaves_bytes around.program jump_took typed within s (done (later_by number) around statement s)
       (statement_keeps number (later_by number) (later_keeps number) statement around s below) has
 
+  -- where a statement gives a jump, that took one of the budget
+  pub jump_takes_one : (statement : TypedStatement)
+      → JumpTakesOne s (done (later_by number) around statement s)
+  jump_takes_one statement =
+      jump_took_one around.program s (done (later_by number) around statement s)
+      (statement_keeps number (later_by number) (later_keeps number) statement around s below)
+
   -- after a list of statements
-  pub list_leaves_bytes : (list : TypedList) → LeavesBytes typed within (done_list (later_by number) around list s)
+  pub list_leaves_bytes : (list : TypedList) → LeavesBytes typed within s (done_list (later_by number) around list s)
   list_leaves_bytes list =
       leaves_bytes around.program jump_took typed within s (done_list (later_by number) around list s)
       (list_keeps number (later_by number) (later_keeps number) list around s below) has
@@ -137,7 +152,7 @@ module _ (number : ℕ) (around : Surroundings) (typed : TypedModule) (within : 
 -- after parameters are set
 pub parameters_leave_bytes : (around : Surroundings) (typed : TypedModule) (within : Within)
     (scalars : List ScalarType) (parameters arguments : List ℕ) (s : State)
-    → HasBytes typed within s → LeavesBytes typed within (parameters_set around scalars parameters arguments s)
+    → HasBytes typed within s → LeavesBytes typed within s (parameters_set around scalars parameters arguments s)
 parameters_leave_bytes around typed within scalars parameters arguments s has =
     leaves_bytes around.program nothing_else typed within s (parameters_set around scalars parameters arguments s)
     (sets_parameters scalars parameters arguments around s) has

@@ -4,10 +4,12 @@ use Rattle.std.specs.Prelude.{option_map, slice_index}
 use Rattle.std.specs.List.{cons_option, list_any}
 use Rattle.std.proofs.lemmas.List.Folds.{list_any-append}
 use Rattle.std.proofs.lemmas.Option.{none-some}
+use Rattle.mem80.specs.declared.memory.TheConstants.{MEMORY_SIZE}
 use Rattle.typed_trees.specs.Sizes.{size_of_object}
 use Rattle.typed_trees.specs.Storable.{HasPlace}
 use Rattle.typed_trees.specs.TypedTrees.{Home, InData, InConstants, Placed, BasedOn, Elsewhere, Nowhere, InFrame, TypedObject, TypedModule}
-use Rattle.layout.specs.Placement.{AtPiece, ConstantPiece, IsDeclared, ModulePlacement, PieceKind, PlacedPiece, Placement, StaticPiece, holds_byte, kind_of, list_piece, object_piece, piece_of, pieces_of_module}
+use Rattle.layout.specs.Placement.{AtPiece, ConstantPiece, EndsInMemory, IsDeclared, ModulePlacement, PieceKind, PlacedPiece, Placement, StaticPiece, holds_byte, is_declared, kind_of, list_piece, object_piece, piece_of, pieces_of_module}
+use Rattle.layout.specs.Lawful.{IsLawful}
 use Rattle.layout.proofs.Declared.{Decides-declared, Decides-holds}
 
 either_true : (one other : Bool) → other ≡ true → (one || other) ≡ true
@@ -113,3 +115,16 @@ bytes_declared modules placement module_number number typed placed object its is
     (module_has (start + offset) typed placed
     (object_has (start + offset) typed.objects placed.objects number object piece.kind there below piece.is
     ((Decides-holds (start + offset) (piece_of start object piece.kind)).1 (omega arith, omega (arith, inside))))))
+
+-- each byte that is declared is one of memory
+pub declared_in_memory :
+    (modules : List TypedModule) (placement : Placement) (address : ℕ)
+    → IsLawful modules placement
+    → is_declared modules placement address ≡ true
+    → address < MEMORY_SIZE
+declared_in_memory modules placement address lawful declared =
+    let found = (Decides-declared modules placement address).0 declared in
+    let ends : EndsInMemory (found.1).range =
+    subst (λ (piece : PlacedPiece). EndsInMemory piece.range) found.3 (lawful.in_memory found.0 found.1 found.2) in
+    let inside = (found.4).1 in
+    omega (arith, ends, inside)

@@ -1,23 +1,29 @@
 -- No case of the meaning that is there for trees that no source has is taken in a program.
-use Rattle.std.proofs.Common.{◌≡◌, ℕ, ◌<◌, List, [], Some, slice_get, refl, sym, subst}
+use Rattle.std.proofs.Common.{◌≡◌, ℕ, ◌<◌, List, [], length, replicate, Some, slice_get, refl, sym, subst}
 use Rattle.std.specs.Prelude.{All}
-use Rattle.std.proofs.lemmas.List.Elements.{recursion_from_All}
+use Rattle.std.proofs.lemmas.List.{length-replicate}
+use Rattle.std.proofs.lemmas.List.Elements.{All-weaker, recursion_from_All}
+use Rattle.mem80.specs.declared.memory.TheConstants.{MEMORY_SIZE}
 use Rattle.trees.specs.declared.declaration.ScalarType.TheVariants.{Address}
 use Rattle.typed_trees.specs.Jumps.{ListStands}
+use Rattle.typed_trees.specs.Storable.{IsStorable}
 use Rattle.typed_trees.specs.TypedTrees.{TypedStatements, TypedList, ListOf, TypedModule}
 use Rattle.typed_trees.specs.WellTyped.{Within}
 use Rattle.sound_modules.specs.Sound.{IsSoundlyTyped}
 use Rattle.layout.specs.Placement.{Placement}
+use Rattle.layout.specs.StartingMemory.{StartsAs, starting_memory}
+use Rattle.layout.proofs.StartingBytes.{starts_as}
 use Rattle.meaning.specs.Access.{Surroundings}
 use Rattle.meaning.specs.Meaning.{rest_from}
 use Rattle.meaning.specs.Outcomes.{Program, State}
 use Rattle.meaning.proofs.AgreementStatements.{later_is_meant}
 use Rattle.meaning.proofs.LabelPlaces.{rest_at}
-use Rattle.meant_programs.specs.Defaults.{BeginsWith, FindsBytes, KeepsBytes, TakesNoDefault, TakesNoDefaultIn}
+use Rattle.meant_programs.specs.Defaults.{BeginsWith, BeginsWithAll, FindsBytes, KeepsBytes, TakesNoDefault, TakesNoDefaultIn}
 use Rattle.meant_programs.specs.Meant.{HasBytes, IsWhole}
 use Rattle.meant_programs.specs.Places.{IsPlaceable}
-use Rattle.meant_programs.proofs.Bytes.{callee_has_bytes, counter_is_there, list_leaves_bytes, location_leaves_bytes, main_has_bytes, parameters_leave_bytes, scalar_is_there, statement_leaves_bytes, store_leaves_bytes, value_leaves_bytes, values_leave_bytes, variable_is_there}
+use Rattle.meant_programs.proofs.Bytes.{callee_has_bytes, counter_is_there, jump_takes_one, list_leaves_bytes, location_leaves_bytes, main_has_bytes, parameters_leave_bytes, scalar_is_there, statement_leaves_bytes, store_leaves_bytes, value_leaves_bytes, values_leave_bytes, variable_is_there}
 use Rattle.meant_programs.proofs.Calls.{location_is_in_memory, values_are_counted}
+use Rattle.meant_programs.proofs.Declared.{declared_in_memory}
 use Rattle.meant_programs.proofs.Leaving.{main_is_left, procedure_is_left}
 use Rattle.meant_programs.proofs.Mains.{main_is_there}
 use Rattle.meant_programs.proofs.Named.{names_are_meant}
@@ -41,6 +47,7 @@ module _ (around : Surroundings) (typed : TypedModule)
     place = location_leaves_bytes number around typed within s below has;
     store = store_leaves_bytes number around typed within s below has;
     statement = statement_leaves_bytes number around typed within s below has;
+    jump = jump_takes_one number around typed within s below has;
     list = list_leaves_bytes number around typed within s below has;
     parameters = λ scalars parameters arguments.
         parameters_leave_bytes around typed within scalars parameters arguments s has;
@@ -62,6 +69,8 @@ module _ (around : Surroundings) (typed : TypedModule)
       of_module IsSoundlyTyped around.program.modules around.number_of_module typed
       (recursion_from_All IsSoundlyTyped around.program.modules whole.sound) here in
       record {
+        types = sound.types;
+        jumps = sound.jumps;
         named = names_are_meant around whole typed here;
         objects = objects_lie around.program whole placeable around.number_of_module typed here;
         locations = locations_lie around.program whole placeable around.number_of_module typed here;
@@ -78,11 +87,30 @@ module _ (around : Surroundings) (typed : TypedModule)
         there = finds_bytes;
       }
 
+begins_with_all : (program : Program) → IsWhole program → BeginsWithAll program
+begins_with_all program whole =
+    let starts : (given : List ℕ) → length given ≡ MEMORY_SIZE
+    → StartsAs program.modules program.placement given
+    (starting_memory program.modules program.placement given) =
+    λ given size.
+    starts_as program.modules program.placement given whole.lawful
+    (All-weaker IsSoundlyTyped IsStorable (λ typed sound. sound.storable) program.modules whole.sound) size in
+    record {
+      for_each_module = (whole.lawful).for_each_module;
+      complete = (whole.lawful).complete;
+      in_memory = λ contents among address covers.
+          declared_in_memory program.modules program.placement address whole.lawful
+          ((starts (replicate MEMORY_SIZE 0) (length-replicate {A = ℕ} MEMORY_SIZE 0)).declared contents among address
+          covers);
+      starts = starts;
+    }
+
 -- in a program that is joined of soundly typed modules and lies lawfully, where PUBLIC objects of the modules and what
 -- INITIAL and DATA locate may be placed
 pub takes_no_default : (program : Program) → IsWhole program → All IsPlaceable program.modules → TakesNoDefault program
 takes_no_default program whole placeable = record {
   main = main_is_there program whole;
+  begins = begins_with_all program whole;
   later = later_is_meant;
   labels = begins_with;
   modules = λ number room typed is.

@@ -1,20 +1,21 @@
 -- The cases that the meaning has for trees that no source has, and that no run of a program takes: each field rules
 -- some out, and names the definitions that have them.
-use Rattle.std.specs.Prelude.{◌≡◌, ℕ, ◌<◌, List, length, Some, slice_get}
+use Rattle.std.specs.Prelude.{◌≡◌, ℕ, ◌<◌, List, length, zip, All, Some, slice_get}
 use Rattle.mem80.specs.declared.memory.TheConstants.{MEMORY_SIZE}
 use Rattle.trees.specs.declared.declaration.ScalarType.{ScalarType}
 use Rattle.trees.specs.declared.declaration.ScalarType.TheVariants.{Address}
-use Rattle.typed_trees.specs.Jumps.{ListStands}
+use Rattle.typed_trees.specs.Jumps.{JumpsAreSound, ListStands}
 use Rattle.typed_trees.specs.ObjectParts.{IsScalar}
 use Rattle.typed_trees.specs.Sizes.{size_of_scalar}
 use Rattle.typed_trees.specs.TypedTrees.{TypedExpression, TypedReference, TypedTarget, TypedArguments, TypedIteration, TypedStatement, LabelStatement, TypedStatements, MoreStatements, TypedList, TypedObject, TypedProcedure, TypedModule}
-use Rattle.typed_trees.specs.WellTyped.{Within, WithinProcedure, WithinMain, Counts, LiesFor, RefersToLocation, RefersToScalar, types_of}
+use Rattle.typed_trees.specs.WellTyped.{IsWellTyped, Within, WithinProcedure, WithinMain, Counts, LiesFor, RefersToLocation, RefersToScalar, types_of}
 use Rattle.layout.specs.Joined.{InProgram}
-use Rattle.layout.specs.StartingMemory.{starting_memory}
+use Rattle.layout.specs.Lawful.{HasAddresses}
+use Rattle.layout.specs.StartingMemory.{Contents, Covers, IsAmong, StartsAs, contents_of, starting_memory}
 use Rattle.meaning.specs.Access.{Surroundings, place_of}
 use Rattle.meaning.specs.Meaning.{Later, IsMeantBelow, done, done_list, frame_of, later_by, located, parameters_set, rest_from, stored, value, values}
 use Rattle.meaning.specs.Outcomes.{Program, State}
-use Rattle.meant_programs.specs.Meant.{GivesBytes, GivesInMemory, GivesSoMany, HasBytes, HasMain, IsCallee, IsThere, Leaves, LeavesBytes, LeavesMain, LeavesProcedure, ParametersAreThere}
+use Rattle.meant_programs.specs.Meant.{GivesBytes, GivesInMemory, GivesSoMany, HasBytes, HasMain, IsCallee, IsThere, JumpTakesOne, Leaves, LeavesBytes, LeavesMain, LeavesProcedure, ParametersAreThere}
 use Rattle.meant_programs.specs.Named.{NamesAreMeant}
 use Rattle.meant_programs.specs.Places.{LocationsLie, ObjectsLie}
 
@@ -23,22 +24,27 @@ abbrev pub BeginsWith : (label : ℕ) → TypedStatements → Type 0
 BeginsWith label (MoreStatements (LabelStatement other) others) = other ≡ label
 BeginsWith label _ = ⊥
 
--- What goes on in a body leaves all bytes of memory and of its frame.
+-- What goes on in a body leaves as many bytes in memory, and in its frame for each object, as it began with: the
+-- bytes themselves may change. It leaves no more of the budget, and a jump took one of that.
 pub record KeepsBytes (around : Surroundings) (typed : TypedModule) (within : Within) (number : ℕ) (s : State)
     : Type 0 where
-  pub values : (arguments : TypedArguments) → LeavesBytes typed within (values (later_by number) around arguments s)
-  pub value : (expression : TypedExpression) → LeavesBytes typed within (value (later_by number) around expression s)
-  pub place : (reference : TypedReference) → LeavesBytes typed within (located (later_by number) around reference s)
+  pub values : (arguments : TypedArguments)
+      → LeavesBytes typed within s (values (later_by number) around arguments s)
+  pub value : (expression : TypedExpression)
+      → LeavesBytes typed within s (value (later_by number) around expression s)
+  pub place : (reference : TypedReference)
+      → LeavesBytes typed within s (located (later_by number) around reference s)
   pub store : (target : TypedTarget) (found : ℕ)
-      → LeavesBytes typed within (stored (later_by number) around target found s)
+      → LeavesBytes typed within s (stored (later_by number) around target found s)
   pub statement : (statement : TypedStatement)
-      → LeavesBytes typed within (done (later_by number) around statement s)
-  pub list : (list : TypedList) → LeavesBytes typed within (done_list (later_by number) around list s)
+      → LeavesBytes typed within s (done (later_by number) around statement s)
+  pub jump : (statement : TypedStatement) → JumpTakesOne s (done (later_by number) around statement s)
+  pub list : (list : TypedList) → LeavesBytes typed within s (done_list (later_by number) around list s)
   pub parameters : (scalars : List ScalarType) (parameters arguments : List ℕ)
-      → LeavesBytes typed within (parameters_set around scalars parameters arguments s)
+      → LeavesBytes typed within s (parameters_set around scalars parameters arguments s)
 
--- Where these bytes are, so are those that the body reads and changes: of scalars, of what objects are BASED on, and
--- of the variables of iterative DOs.
+-- Where there are as many bytes, those are among them that the body reads and changes: of scalars, of what objects
+-- are BASED on, and of the variables of iterative DOs.
 pub record FindsBytes (around : Surroundings) (typed : TypedModule) (within : Within) (number : ℕ) (s : State)
     : Type 0 where
   pub scalar : (scalar : ScalarType) (reference : TypedReference) → RefersToScalar typed within scalar reference
@@ -49,8 +55,24 @@ pub record FindsBytes (around : Surroundings) (typed : TypedModule) (within : Wi
   pub counter : (head : TypedIteration) → Counts typed within head
       → IsThere (size_of_scalar head.scalar) (place_of around head.variable) s
 
+-- What a program has before it runs is all there when a run begins: each module has a placement, with an address for
+-- each of its objects and constant lists, and of INITIAL, DATA and these lists each byte is in memory where it lies.
+pub record BeginsWithAll (program : Program) : Type 0 where
+  pub for_each_module : length program.placement.modules ≡ length program.modules
+  pub complete : All HasAddresses (zip program.modules program.placement.modules)
+  pub in_memory : (contents : Contents) → IsAmong contents (contents_of program.modules program.placement)
+      → (address : ℕ) → Covers contents address → address < MEMORY_SIZE
+  pub starts : (given : List ℕ) → length given ≡ MEMORY_SIZE
+      → StartsAs program.modules program.placement given
+      (starting_memory program.modules program.placement given)
+
 -- in a module, which is carried out in these surroundings
 pub record TakesNoDefaultIn (around : Surroundings) (typed : TypedModule) : Type 0 where
+  -- What other fields ask of references and of the variables of iterative DOs is true of those in its bodies. `returned`:
+  -- a RETURN without a value in a procedure that has a result, or with one in another.
+  pub types : IsWellTyped typed
+  -- and what they ask of lists is true of those in its bodies
+  pub jumps : JumpsAreSound typed
   -- `home_in`, `home_of`, `place_in`: no such object, or one that is nowhere; `address_of`,
   -- `address_of_object`, `address_in`, `address_of_list`: no number where its address stands; `callee_in`,
   -- `called_for`, `called`: no such procedure
@@ -73,9 +95,10 @@ pub record TakesNoDefaultIn (around : Surroundings) (typed : TypedModule) : Type
       → Leaves LeavesProcedure (done_list (later_by count) around procedure.body s)
   -- `run_of`: a main program that is left by a jump or a RETURN
   pub main_left : (count : ℕ) (s : State) → Leaves LeavesMain (done_list (later_by count) around typed.main.body s)
-  -- `frame_bytes`, `read_byte`, `write_byte`: no such byte of memory or of the frame. A main program begins with all
-  -- of them, and so does what is called, those of its parameters among them; all stay; and what is read or changed
-  -- is among them.
+  -- `frame_bytes`, `read_byte`, `write_byte`: no such byte of memory or of the frame. A main program begins with as
+  -- many as there are to be, and so does what is called, those of its parameters among them; there are as many after
+  -- each part of a run; and what is read or changed is among them. `main_done` begins with a budget that is below
+  -- the number of `later_by`, and it stays below it.
   pub main_begins : (given : List ℕ) (s : State) → length given ≡ MEMORY_SIZE
       → s.memory ≡ starting_memory around.program.modules around.program.placement given
       → HasBytes typed WithinMain s
@@ -91,10 +114,20 @@ pub record TakesNoDefaultIn (around : Surroundings) (typed : TypedModule) : Type
   pub there : (within : Within) (number : ℕ) (s : State) → s.budget < number → HasBytes typed within s
       → FindsBytes around typed within number s
 
--- in a program
+-- In a program: law `takes_no_default` says it of one that is joined of soundly typed modules and lies lawfully, and in
+-- which PUBLIC objects and what INITIAL and DATA locate have places; law `built_takes_no_default` of `built_needs` says
+-- it of each program that is built of texts.
+--
+-- That values are of their types is not said here. Of one that is above its type `result_of` and `result_of_one` take a
+-- difference that stops at 0. Where numbers are words, and the bytes of memory and of the queues of the script are below
+-- 256 (`IsScript`, which the headline asks), each value of well typed trees is of its type: laws `tree_fits` and
+-- `later_fits` of `task_meaning`.
 pub record TakesNoDefault (program : Program) : Type 0 where
   -- `number_of_main`, `source_run`: no main program
   pub main : HasMain program.modules
+  -- `contents_of`, `contents_of_module`: contents of a module, an object or a list without an address, which `zip`
+  -- leaves out; `written`: bytes past the end of memory
+  pub begins : BeginsWithAll program
   -- `nothing_later`: a call, a turn or a jump that nothing is known of
   pub later : (number : ℕ) → IsMeantBelow number (later_by number)
   -- `dropped`: a label that is not where the places of its list say

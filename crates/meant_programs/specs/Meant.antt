@@ -135,10 +135,15 @@ pub record HasBytes (typed : TypedModule) (within : Within) (s : State) : Type 0
       → found.home ≡ InFrame procedure → LiesFor within (InFrame procedure)
       → length (frame_bytes s.frame object) ≡ size_of_object found
 
--- what gives something leaves such a state
-abbrev pub LeavesBytes : {A : Type 0} → TypedModule → Within → Outcome A → Type 0
-LeavesBytes typed within (Gave found t) = HasBytes typed within t
-LeavesBytes typed within (Stopped why t) = Unit {0}
+-- what gives something, from a state on, leaves one with as many bytes, and with no more of the budget
+abbrev pub LeavesBytes : {A : Type 0} → TypedModule → Within → State → Outcome A → Type 0
+LeavesBytes typed within s (Gave found t) = HasBytes typed within t × (t.budget ≤ s.budget)
+LeavesBytes typed within s (Stopped why t) = Unit {0}
+
+-- a jump took one of the budget
+abbrev pub JumpTakesOne : State → Outcome Flow → Type 0
+JumpTakesOne s (Gave (Jumped label) t) = t.budget < s.budget
+JumpTakesOne s outcome = Unit {0}
 
 -- So many bytes from a place on are there in a state: in memory all addresses are, and in a frame, where each
 -- subscript is below its dimension, so many bytes of the object are.

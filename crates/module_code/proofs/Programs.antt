@@ -5,8 +5,10 @@ use Rattle.typed_trees.specs.TypedTrees.{TypedModule}
 use Rattle.code_bounds.proofs.Bounds.{segment_is_within_its_bound}
 use Rattle.generated_objects.proofs.Made.{are_storable, as_many_lengths, each_holds_constants, have_image, hold_constants, is_in_memory}
 use Rattle.program_memory.proofs.Starting.{starts_as_its_source}
-use Rattle.program_meaning.specs.Typed.{AreSoundlyMade}
+use Rattle.tree_numbers.specs.Numbers.{NumbersFitInModule}
+use Rattle.program_meaning.specs.Typed.{AreSoundlyMade, IsSoundlyMade}
 use Rattle.program_meaning.proofs.MadePrograms.{are_made, made_program_does}
+use Rattle.program_meaning.proofs.OneModule.{generated_does}
 use Rattle.module_code.specs.Bounded.{AreWithinBounds}
 use Rattle.module_code.specs.internal.Programs.{MakeTheProgram}
 use Rattle.module_code.proofs.Bounding.{sound_for_bounds}
@@ -25,6 +27,11 @@ within_bounds (typed ∷ modules) (object ∷ objects) made =
           is.generated,
       within_bounds modules objects made.1,
     )
+
+-- the numbers of a module have the width of a word
+pub numbers_fit :
+    (typed : TypedModule) (object : ObjectModule) → IsSoundlyMade typed object → NumbersFitInModule typed
+numbers_fit typed object made = (generated_does typed object made).numbers
 
 pub make_the_program :
     (modules : List TypedModule) (objects : List ObjectModule)

@@ -1,17 +1,16 @@
 -- Which bytes pieces have, by how far those reach that start at each address.
 use Rattle.std.proofs.Common.{◌≡◌, ℕ, zero, suc, ◌+◌, ◌<◌, ◌≤◌, min, max, Bool, true, false, cond, List, [], ◌∷◌, length, take, get_or, Decides, refl, ap, sym, subst, ◌∙◌, arith}
-use Rattle.std.specs.Prelude.{fold, filter, replicate, ◌||◌, ◌&&◌, nat_lt}
+use Rattle.std.specs.Prelude.{fold, filter, replicate, ◌||◌, ◌&&◌, nat_le, nat_lt}
 use Rattle.std.specs.List.{list_any}
 use Rattle.std.proofs.Math.Bool.{or_assoc}
 use Rattle.std.proofs.Math.Decide.{dec_le}
 use Rattle.std.proofs.lemmas.List.{length-set, length-replicate}
-use Rattle.std.proofs.lemmas.List.Folds.{Any-from_list_any, list_any-from_Any}
 use Rattle.std.proofs.lemmas.Bool.{false≢true}
-use Rattle.std.proofs.lemmas.Bool.Decides.{nat_tests, Decides-ltb}
+use Rattle.std.proofs.lemmas.Bool.Decides.{nat_tests}
 use Rattle.mem80.specs.declared.memory.TheConstants.{MEMORY_SIZE}
 use Rattle.mem80.specs.declared.range.Range.{Range}
-use Rattle.mem80.specs.Range.{IsIn}
-use Rattle.layout.specs.Placement.{PlacedPiece, IsOneOf, is_constant_piece}
+use Rattle.layout.specs.Placement.{PlacedPiece, IsOneOf, holds_byte, is_constant_piece}
+use Rattle.layout.proofs.Declared.{Decides-one_of}
 use Rattle.placing.specs.declared.placement.ByteKind.{ByteKind}
 use Rattle.placing.specs.declared.placement.ByteKind.TheVariants.{Undeclared}
 use Rattle.placing.specs.Tables.{IsKind, IsTableOf}
@@ -60,46 +59,27 @@ lt_max a u e = grind (arith, nat_tests)
 lt_min : (a e m : ℕ) → a < m → nat_lt a (min e m) ≡ nat_lt a e
 lt_min a e m within = grind (arith, nat_tests)
 
--- whether a range has an address
-abbrev has : (address : ℕ) → Range → Bool
-has address range = nat_lt range.start (address + 1) && nat_lt address (range.start + range.len)
-
 has_started :
     (address start end : ℕ)
     → start < address + 1
-    → (nat_lt start (address + 1) && nat_lt address end) ≡ nat_lt address end
+    → (nat_le start address && nat_lt address end) ≡ nat_lt address end
 has_started address start end below = grind (arith, nat_tests)
 
 has_not_started :
     (address start end : ℕ) (before : Bool)
     → address + 1 ≤ start
-    → before ≡ (before || (nat_lt start (address + 1) && nat_lt address end))
+    → before ≡ (before || (nat_le start address && nat_lt address end))
 has_not_started address start end true from = refl
 has_not_started address start end false from = grind (arith, nat_tests)
 
-both : (a b : Bool) → (a && b) ≡ true → (a ≡ true) × (b ≡ true)
-both true true is = (refl, refl)
-both true false is = absurd (cc)
-both false b is = absurd (cc)
-
-Decides-has : (address : ℕ) (range : Range) → Decides (has address range) (IsIn address range)
-Decides-has address range = (
-  λ is.
-      let parts = both (nat_lt range.start (address + 1)) (nat_lt address (range.start + range.len)) is in
-      let started : range.start < address + 1 = (Decides-ltb range.start (address + 1)).0 parts.0 in
-      (omega (arith, started), (Decides-ltb address (range.start + range.len)).0 parts.1),
-  λ is.
-      has_started address range.start (range.start + range.len) (omega (arith, is.0))
-      ∙ (Decides-ltb address (range.start + range.len)).1 is.1,
-)
-
 -- a table with one piece more covers what it covered, and what the piece has
 covered_raised :
-    (ends : List ℕ) (range : Range) (address : ℕ)
+    (ends : List ℕ) (piece : PlacedPiece) (address : ℕ)
     → address < length ends
     → address < MEMORY_SIZE
-    → is_covered (raised ends range.start (end_of range)) address ≡ (is_covered ends address || has address range)
-covered_raised ends range address within in_memory =
+    → is_covered (raised ends piece.range.start (end_of piece.range)) address
+    ≡ (is_covered ends address || holds_byte address piece)
+covered_raised ends piece address within in_memory =
     elim (dec_le (suc range.start) (address + 1)) [
       | yes below ↦
           ap (nat_lt address) (raised_below 0 ends range.start (end_of range) (address + 1)
@@ -114,11 +94,11 @@ covered_raised ends range address within in_memory =
           ∙ has_not_started address range.start (range.start + range.len) (is_covered ends address)
           (omega (arith, above))
     ]
+  where
+    range : Range
+    range = piece.range
 
 -- and with many
-abbrev has_piece : (address : ℕ) → PlacedPiece → Bool
-has_piece address piece = has address piece.range
-
 or_false : (a : Bool) → a ≡ (a || false)
 or_false true = refl
 or_false false = refl
@@ -128,21 +108,21 @@ covered_with :
     → address < length tables.all
     → address < MEMORY_SIZE
     → is_covered (with_pieces tables pieces).all address
-    ≡ (is_covered tables.all address || list_any (has_piece address) pieces)
+    ≡ (is_covered tables.all address || list_any (holds_byte address) pieces)
 covered_with tables [] address within in_memory = or_false (is_covered tables.all address)
 covered_with tables (piece ∷ others) address within in_memory =
     covered_with (with_piece tables piece) others address
     (subst (λ n. address < n) (sym (length-set tables.all piece.range.start _)) within) in_memory
-    ∙ ap (λ is. is || list_any (has_piece address) others)
-    (covered_raised tables.all piece.range address within in_memory)
-    ∙ or_assoc (is_covered tables.all address) (has_piece address piece) (list_any (has_piece address) others)
+    ∙ ap (λ is. is || list_any (holds_byte address) others)
+    (covered_raised tables.all piece address within in_memory)
+    ∙ or_assoc (is_covered tables.all address) (holds_byte address piece) (list_any (holds_byte address) others)
 
 constant_with :
     (tables : ReachTables) (pieces : List PlacedPiece) (address : ℕ)
     → address < length tables.constants
     → address < MEMORY_SIZE
     → is_covered (with_pieces tables pieces).constants address
-    ≡ (is_covered tables.constants address || list_any (has_piece address) (filter is_constant_piece pieces))
+    ≡ (is_covered tables.constants address || list_any (holds_byte address) (filter is_constant_piece pieces))
 constant_with tables [] address within in_memory = or_false (is_covered tables.constants address)
 constant_with tables (piece ∷ others) address within in_memory =
     step (is_constant_piece piece) (λ is_constant now_within.
@@ -156,32 +136,19 @@ constant_with tables (piece ∷ others) address within in_memory =
         → is_covered
         (with_pieces (with_end tables piece.range.start (end_of piece.range) taken) others).constants address
         ≡ (is_covered (with_end tables piece.range.start (end_of piece.range) taken).constants address
-        || list_any (has_piece address) (filter is_constant_piece others)))
+        || list_any (holds_byte address) (filter is_constant_piece others)))
         → is_covered
         (with_pieces (with_end tables piece.range.start (end_of piece.range) is_constant) others).constants address
         ≡ (is_covered tables.constants address
-        || list_any (has_piece address)
+        || list_any (holds_byte address)
         (cond is_constant (piece ∷ filter is_constant_piece others) (filter is_constant_piece others)))
     step true next =
         next true (subst (λ n. address < n) (sym (length-set tables.constants piece.range.start _)) within)
-        ∙ ap (λ is. is || list_any (has_piece address) (filter is_constant_piece others))
-        (covered_raised tables.constants piece.range address within in_memory)
-        ∙ or_assoc (is_covered tables.constants address) (has_piece address piece)
-        (list_any (has_piece address) (filter is_constant_piece others))
+        ∙ ap (λ is. is || list_any (holds_byte address) (filter is_constant_piece others))
+        (covered_raised tables.constants piece address within in_memory)
+        ∙ or_assoc (is_covered tables.constants address) (holds_byte address piece)
+        (list_any (holds_byte address) (filter is_constant_piece others))
     step false next = next false within
-
--- what the test over pieces decides
-Decides-one_of :
-    (pieces : List PlacedPiece) (address : ℕ)
-    → Decides (list_any (has_piece address) pieces) (IsOneOf pieces address)
-Decides-one_of pieces address = (
-  λ is.
-      let found = Any-from_list_any (has_piece address) pieces is in
-      (found.0, found.1, found.2, found.3, (Decides-has address (found.1).range).0 found.4),
-  λ found.
-      list_any-from_Any (has_piece address) pieces
-      (found.0, found.1, found.2, found.3, (Decides-has address (found.1).range).1 found.4),
-)
 
 -- before any piece nothing is covered
 none_below : (count address : ℕ) → fold max 0 (take address (replicate count 0)) ≡ 0
@@ -227,17 +194,17 @@ table_told pieces first tables kinds new given told address in_memory =
     let constants : List PlacedPiece = filter is_constant_piece pieces in
     let all_given : tables ≡ with_pieces no_reaches pieces =
     given ∙ ap (λ before. with_pieces before pieces) new in
-    let declared : is_covered tables.all address ≡ list_any (has_piece address) pieces =
+    let declared : is_covered tables.all address ≡ list_any (holds_byte address) pieces =
     ap (λ (now : ReachTables). is_covered now.all address) all_given
     ∙ covered_with no_reaches pieces address (within_no_ends address in_memory) in_memory
-    ∙ ap (λ is. is || list_any (has_piece address) pieces) (none_covered address) in
-    let constant : is_covered tables.constants address ≡ list_any (has_piece address) constants =
+    ∙ ap (λ is. is || list_any (holds_byte address) pieces) (none_covered address) in
+    let constant : is_covered tables.constants address ≡ list_any (holds_byte address) constants =
     ap (λ (now : ReachTables). is_covered now.constants address) all_given
     ∙ constant_with no_reaches pieces address (within_no_ends address in_memory) in_memory
-    ∙ ap (λ is. is || list_any (has_piece address) constants) (none_covered address) in
+    ∙ ap (λ is. is || list_any (holds_byte address) constants) (none_covered address) in
     subst (IsKind pieces address)
     (sym (told address in_memory ∙ ap (λ is. byte_kind is (is_covered tables.constants address)) declared
-    ∙ ap (byte_kind (list_any (has_piece address) pieces)) constant))
+    ∙ ap (byte_kind (list_any (holds_byte address) pieces)) constant))
     (kind_told pieces address
-    (list_any (has_piece address) pieces) (list_any (has_piece address) constants)
+    (list_any (holds_byte address) pieces) (list_any (holds_byte address) constants)
     (Decides-one_of pieces address) (Decides-one_of constants address))

@@ -2,7 +2,7 @@
 use Rattle.std.specs.Prelude.{◌≡◌, ℕ, Some, slice_get}
 use Rattle.std.proofs.Common.{refl}
 use Rattle.typed_trees.specs.TypedTrees.{TypedModule}
-use Rattle.task_meaning.specs.TreeNumbers.{HasTypes}
+use Rattle.task_meaning.specs.ProgramTypes.{HasTypes}
 use Rattle.task_meaning.proofs.NumbersOfTrees.{IsTypedCode, has_types}
 use Rattle.task_meaning.proofs.RangesOfCalls.{calls_fit}
 use Rattle.procedure_meaning.specs.Calls.{Entries}

@@ -14,9 +14,9 @@ use Rattle.isa8080.specs.Flags.{flag_byte}
 use Rattle.isa8080.specs.State.{HoldBytes, Registers, word, wrap}
 use Rattle.isa8080.proofs.FlagBytes.{flag_byte_small}
 use Rattle.machine_runs.proofs.Calls.{pushed, pushed_is_pushed}
+use Rattle.machine_runs.proofs.Stack.{push_does}
 use Rattle.treecode.specs.declared.procedure.Parameter.{Parameter}
 use Rattle.code_meaning.specs.Landing.{at_place}
-use Rattle.code_meaning.proofs.Pushes.{push_does}
 use Rattle.steps8080.specs.Facts.{no_facts}
 use Rattle.statements8080.specs.Plans.{plain}
 use Rattle.codegen8080.specs.Procedures.{last_argument_facts, last_argument_steps, pair_of, with_argument}

@@ -7,7 +7,7 @@ use Rattle.typed_trees.specs.TypedTrees.{TypedModule}
 use Rattle.layout.specs.Joined.{is_main}
 use Rattle.meaning.specs.Meaning.{later_by}
 use Rattle.meaning.specs.Outcomes.{Program}
-use Rattle.task_meaning.specs.TreeNumbers.{HasTypes}
+use Rattle.task_meaning.specs.ProgramTypes.{HasTypes}
 use Rattle.procedure_meaning.specs.Calls.{Entries, EntryDoes}
 use Rattle.procedure_meaning.specs.Modules.{MainStands, ModuleCode, ModuleLies}
 use Rattle.procedure_meaning.specs.OneModule.{AllCallsAreKnown, ModuleDoes, OtherCallsAreKnown, OwnCallsAreKnown, in_module}

@@ -16,9 +16,9 @@ use Rattle.isa8080.specs.Act.{act}
 use Rattle.isa8080.specs.State.{HoldBytes, Registers, State, word, wrap, with_popped}
 use Rattle.asm8080.specs.Standing.{AgreesIn}
 use Rattle.machine_runs.proofs.Calls.{IsPushed}
+use Rattle.machine_runs.proofs.Stack.{pop_does}
 use Rattle.code_meaning.specs.Activations.{LiesWell}
 use Rattle.code_meaning.specs.Landing.{Does, at_place}
-use Rattle.code_meaning.proofs.Pops.{pop_does}
 use Rattle.statements8080.specs.declared.plan.Planned.{Planned}
 use Rattle.statements8080.specs.Plans.{plain}
 use Rattle.codegen8080.specs.declared.meeting.Here.{Here}

@@ -12,11 +12,11 @@ use Rattle.isa8080.specs.declared.instr.StackPair.TheVariants.{StackDe, StackHl}
 use Rattle.isa8080.specs.State.{HoldBytes, Registers, State, high_byte, low_byte, word, wrap, with_popped}
 use Rattle.isa8080.specs.Step.{running}
 use Rattle.machine_runs.proofs.Calls.{pushed, pushed_is_memory, pushed_is_pushed, pushed_keeps}
+use Rattle.machine_runs.proofs.Stack.{push_does}
 use Rattle.code_meaning.specs.Activations.{LiesWell, Shares}
 use Rattle.code_meaning.specs.Landing.{Does, at_place}
 use Rattle.code_meaning.proofs.Landing.{gives}
 use Rattle.code_meaning.proofs.Owning.{keeps_all}
-use Rattle.code_meaning.proofs.Pushes.{push_does}
 use Rattle.statements8080.specs.Plans.{plain}
 use Rattle.codegen8080.specs.declared.meeting.Here.{Here}
 use Rattle.codegen8080.specs.Procedures.{pops_steps, return_over_any_steps, return_over_steps}

@@ -11,6 +11,7 @@ use Rattle.isa8080.specs.Act.{act}
 use Rattle.isa8080.specs.State.{Registers, State, wrap}
 use Rattle.isa8080.specs.Step.{running, step_of}
 use Rattle.asm8080.specs.declared.item.Item.{Item}
+use Rattle.machine_runs.proofs.Stack as stack
 use Rattle.treecode.specs.declared.procedure.ProcedureKind.{ProcedureKind}
 use Rattle.treecode.specs.declared.procedure.ProcedureKind.TheVariants as kinds
 use Rattle.treecode.specs.declared.procedure.TreeProcedure.{TreeProcedure}
@@ -40,19 +41,16 @@ result_kept None value r now memory ended a h l lies = tt
 result_kept (Some Byte) value r now memory ended a h l lies = a ∙ lies
 result_kept (Some Address) value r now memory ended a h l lies = (h ∙ lies.0, l ∙ lies.1)
 
-word_back : (back low high : ℕ) → low ≡ wrap back % 256 → high ≡ wrap back / 256 → low + 256 * high ≡ wrap back
-word_back back low high one other = omega (arith, one, other)
+down : (level : ℕ) → level ≡ level + 2 - 2
+down level = omega arith
 
-same_level : (level : ℕ) → level + 2 ≤ MEMORY_SIZE → wrap level ≡ level + 0
-same_level level limit = omega (arith, limit)
+first_byte : (level : ℕ) → level + 2 - 2 ≡ level + 0
+first_byte level = omega arith
 
-next_level : (level : ℕ) → level + 2 ≤ MEMORY_SIZE → (wrap level + 1) % MEMORY_SIZE ≡ level + 0 + 1
-next_level level limit = omega (arith, limit)
+next_byte : (level : ℕ) → level + 2 - 1 ≡ level + 0 + 1
+next_byte level = omega arith
 
-up : (level : ℕ) → wrap (wrap level + 2) ≡ wrap (level + 2)
-up level = omega arith
-
--- RET at a logical stack pointer
+-- RET, with the return address there
 pub return_does :
     (script : List (List ℕ)) (place level back : ℕ) (r : Registers) (memory : List ℕ) (events : List Event)
     → r.sp ≡ wrap level
@@ -61,12 +59,11 @@ pub return_does :
     → act script Ret (at_place place r memory events)
     ≡ at_place back (record r { sp = wrap (level + 2) }) memory events
 return_does script place level back r memory events pointer limit return_lies =
-    ap (λ n. running (record r { sp = wrap (n + 2); pc = word_at memory n }) memory events) pointer
-    ∙ (ap (λ n. running (record r { sp = wrap (wrap level + 2); pc = n }) memory events)
-    (word_back back (byte_at memory (wrap level)) (byte_at memory ((wrap level + 1) % MEMORY_SIZE))
-    (ap (byte_at memory) (same_level level limit) ∙ return_lies.low)
-    (ap (byte_at memory) (next_level level limit) ∙ return_lies.high))
-    ∙ ap (λ n. running (record r { sp = n; pc = wrap back }) memory events) (up level))
+    stack.return_does script place (level + 2) (wrap back) r memory events (pointer ∙ ap wrap (down level)) (omega arith) limit
+    (record {
+      high = ap (byte_at memory) (next_byte level) ∙ return_lies.high;
+      low = ap (byte_at memory) (first_byte level) ∙ return_lies.low;
+    })
 
 steps_are : (body : Body) → body.procedure.now.kind ≡ kinds.Static → return_steps body ≡ plain Ret ∷ []
 unfolding return_steps_by

@@ -21,6 +21,7 @@ use Rattle.asm8080.specs.declared.item.WordForm.TheVariants.{StoreA, StoreHl}
 use Rattle.asm8080.specs.Items.{instruction_with}
 use Rattle.asm8080.specs.Standing.{Keeps, size_of_instruction}
 use Rattle.machine_runs.proofs.Calls.{pushed, pushed_is_memory, pushed_keeps}
+use Rattle.machine_runs.proofs.Stack.{pop_does, push_does}
 use Rattle.treecode.specs.declared.place.Location.{Location}
 use Rattle.treecode.specs.declared.place.Location.TheVariants.{Frame, Static}
 use Rattle.treecode.specs.declared.place.Place.{Place}
@@ -28,8 +29,6 @@ use Rattle.code_meaning.specs.Activations.{Activation, FrameLies, IsReady, IsThe
 use Rattle.code_meaning.specs.Landing.{Does, at_place}
 use Rattle.code_meaning.proofs.FirstItems.{plain_first}
 use Rattle.code_meaning.proofs.Owning.{keeps_all}
-use Rattle.code_meaning.proofs.Pops.{pop_does}
-use Rattle.code_meaning.proofs.Pushes.{push_does}
 use Rattle.code_meaning.proofs.Stores.{keeps_put, ready_with_variable}
 use Rattle.code_facts.specs.Asking.{Asks, WordAsks}
 use Rattle.code_facts.specs.Holding.{AddressHolds, ByteHolds, Distances, FactsHold, IsByteAt, IsSteady, IsWordAt, WordHolds, location_at, place_at}

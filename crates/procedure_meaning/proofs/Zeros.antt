@@ -19,9 +19,9 @@ use Rattle.asm8080.specs.declared.item.WordForm.TheVariants.{JumpWhere}
 use Rattle.asm8080.specs.Standing.{AgreesIn}
 use Rattle.machine_runs.proofs.Calls.{pushed, pushed_is_memory, pushed_is_pushed, pushed_keeps}
 use Rattle.machine_runs.proofs.Loops.{counted_out, counts_on, one_less_is}
+use Rattle.machine_runs.proofs.Stack.{push_does}
 use Rattle.code_meaning.specs.Activations.{LiesWell}
 use Rattle.code_meaning.specs.Landing.{Does, at_place}
-use Rattle.code_meaning.proofs.Pushes.{push_does}
 use Rattle.steps8080.specs.declared.step.LabelNumber.{LabelNumber}
 use Rattle.statements8080.specs.declared.plan.Planned.{Planned}
 use Rattle.statements8080.specs.Plans.{jump, mark, plain}

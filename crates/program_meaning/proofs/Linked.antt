@@ -32,7 +32,7 @@ use Rattle.program_memory.proofs.Addresses.{IsHere}
 use Rattle.program_memory.proofs.Meanings.{address_meant, both_hold, first_position, found_place, public_lies}
 use Rattle.program_memory.proofs.Modules.{address_for, bases_found, lies_at}
 use Rattle.steps8080.specs.Writer.{place_of_label}
-use Rattle.task_meaning.specs.TreeNumbers.{HasTypes}
+use Rattle.task_meaning.specs.ProgramTypes.{HasTypes}
 use Rattle.procedure_meaning.specs.OneModule.{around_in}
 use Rattle.program_meaning.specs.internal.Linked.{ModuleIs, layout_of, made_of, public_address, targets_of}
 use Rattle.program_meaning.specs.internal.Entering.{ModulesAre, entries_of}

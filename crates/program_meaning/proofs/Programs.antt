@@ -30,7 +30,7 @@ use Rattle.program_memory.proofs.Starting.{starts_as_its_source}
 use Rattle.meaning.specs.Outcomes.{Program}
 use Rattle.code_meaning.specs.Activations.{Shares}
 use Rattle.isa8080.specs.State.{HoldBytes, Registers, wrap}
-use Rattle.task_meaning.specs.TreeNumbers.{HasTypes}
+use Rattle.task_meaning.specs.ProgramTypes.{HasTypes}
 use Rattle.task_meaning.proofs.NumbersOfTrees.{IsTypedCode, has_types}
 use Rattle.meaning.specs.Access.{Surroundings}
 use Rattle.meaning.specs.Meaning.{later_by}

@@ -10,6 +10,7 @@ use Rattle.object_modules.specs.Module.{ObjectModule}
 use Rattle.object_modules.specs.Moving.{bytes_resolved}
 use Rattle.typed_trees.specs.declared.parts.Visibility.TheVariants as visibilities
 use Rattle.typed_trees.specs.TypedTrees.{Elsewhere, Nowhere, TypedModule, TypedObject, TypedProcedure}
+use Rattle.tree_numbers.specs.Numbers.{NumbersFitInModule}
 use Rattle.layout.specs.declared.slot.Segment.TheVariants as slots
 use Rattle.layout.specs.Following.{Bases, FollowsBases}
 use Rattle.layout.specs.Joined.{InProgram}
@@ -23,7 +24,7 @@ use Rattle.meaning.specs.Outcomes.{Program}
 use Rattle.isa8080.specs.State.{wrap}
 use Rattle.asm8080.specs.Standing.{SetBytesStand}
 use Rattle.program_memory.specs.Segments.{HasPublic}
-use Rattle.task_meaning.specs.TreeNumbers.{HasTypes, NumbersFitInModule}
+use Rattle.task_meaning.specs.ProgramTypes.{HasTypes}
 use Rattle.procedure_meaning.specs.Calls.{Entries}
 use Rattle.procedure_meaning.specs.OneModule.{AllCallsAreKnown, ModuleDoes, OtherCallsAreKnown, around_in, in_module}
 

@@ -5,6 +5,7 @@ ghost use Rattle.std.specs.Prelude.{◌≡◌, IfOk};
 ghost use Rattle.failure.specs.Failure.{IfFault};
 ghost use Rattle.typed_trees.specs.Jumps.{JumpsAreSound};
 ghost use Rattle.typed_trees.specs.Views.{module_view};
+ghost use Rattle.tree_numbers.specs.Numbers.{NumbersFitInModule};
 ghost use Rattle.layout.specs.Storage.{storage_with};
 ghost use Rattle.layout.specs.Views.{layout_view};
 ghost use Rattle.sound_modules.specs.Sound.{IsSoundlyTyped};
@@ -23,6 +24,7 @@ pub fn read_source(alloc: Global, text: &[u8]) -> Result<SourceModule, Failure<R
     ensures storage { IfOk result
         (λ read. layout_view read.storage ≡ storage_with (module_view read.typed)) }
     ensures jumps { IfOk result (λ read. JumpsAreSound (module_view read.typed)) }
+    ensures numbers { IfOk result (λ read. NumbersFitInModule (module_view read.typed)) }
     ensures refused { IfFault result (λ fault. HasReadCause fault text.now) }
 {
     let source = frontend::read_source(alloc, text)?;

@@ -16,9 +16,9 @@ use Rattle.meaning.specs.Meaning.{moved}
 use Rattle.code_meaning.specs.Activations.{IsReady, IsVariable}
 use Rattle.code_meaning.specs.Landing.{Does, Lands, Told, at_place}
 use Rattle.code_meaning.proofs.Landing.{told_on}
-use Rattle.code_meaning.proofs.Standing.{bytes_alike, stands_now}
+use Rattle.code_meaning.proofs.Standing.{stands_now}
 use Rattle.code_facts.proofs.Changes.{no_facts_hold}
-use Rattle.machine_runs.proofs.Kept.{stands_still}
+use Rattle.machine_runs.proofs.Kept.{bytes_alike, stands_in}
 use Rattle.steps8080.specs.declared.facts.Facts.{Facts}
 use Rattle.steps8080.specs.declared.step.Step.TheVariants.{CallRoutine}
 use Rattle.steps8080.specs.Facts.{no_facts}
@@ -114,9 +114,8 @@ move_then {context = context} {top = top} {pushed = pushed} {need = need} {from 
         (subst (λ (n : ℕ). block.0 < n) bc block.1) variables) in
         let returns : Returns script Move top s =
         found.is_routine found.layout entry found.to script top s ends
-        (stands_still found.layout activation.image memory found.items entry found.to ends
-        (λ address low high. ready.shares.code address (omega (arith, least, low), omega (arith, here, high)))
-        found.stands)
+        (stands_in found.layout activation.around.program.placement.code activation.image memory found.items entry found.to
+        fits least here ready.shares.code found.stands)
         (record {
           running = refl;
           place = small from;

@@ -187,6 +187,11 @@ impl Answer {
             && block.err.is_of(self.err.as_slice())
     }
 
+    /// Whether nothing was run.
+    pub fn is_refused(&self) -> bool {
+        self.status == 1 || self.status == 2
+    }
+
     /// Whether this is the answer where a file fails: it is refused for that, prints nothing, and of what is said to be written
     /// has written at most beginnings.
     pub fn is_stopped(&self, block: &Block) -> bool {

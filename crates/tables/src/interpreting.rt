@@ -1,4 +1,4 @@
-//! Programs that are interpreted: over ports of which a read fails, and after memory was refused; and a program of no sources.
+//! Programs that are interpreted over ports of which a read fails, and a program of no sources.
 
 use crate::events::print_events;
 use crate::faulty::FaultyPorts;
@@ -6,7 +6,7 @@ use crate::page::Page;
 use failure::Failure;
 use interpreter::{RunFault, SourceEnd, interpret};
 use mem80::Memory;
-use ports::{Ports, Script};
+use ports::Ports;
 use std::alloc::Global;
 use tool::{Built, Plan, Source, ToolFault, build};
 
@@ -35,10 +35,11 @@ fn interpreted<P: Ports>(
     ))
 }
 
-// How it ends, in a word.
-fn word_of_end<P: Ports>(alloc: Global, text: &[u8], ports: &mut P) -> &'static str {
+/// How it ends, in a word.
+pub fn word_of_end<P: Ports>(alloc: Global, text: &[u8], ports: &mut P) -> &'static str {
     match interpreted(alloc, text, ports) {
         Ok(Ok(SourceEnd::Ended)) => "ended",
+        Ok(Ok(SourceEnd::Outside(_))) => "outside",
         Ok(Ok(_)) => "not ended",
         Ok(Err(RunFault::Port)) => "a port failed",
         Ok(Err(RunFault::Memory)) | Err(Failure::Memory) => "out of memory",
@@ -64,26 +65,13 @@ fn print_port_fault(page: &mut Page) {
     print_faulty_run(page, &mut ports);
 }
 
-const CALLS: &[u8] =
+/// A program with statements of each kind.
+pub const CALLS: &[u8] =
     b"M: DO; DECLARE A(2) BYTE PUBLIC INITIAL (1, 'X'), K BYTE DATA (3), R STRUCTURE (B BYTE, C(2) ADDRESS), S LITERALLY 'A(0) + 1', \
 P ADDRESS, X BASED P BYTE; F: PROCEDURE (N) BYTE REENTRANT; DECLARE (N, V) BYTE; V = N; IF N = 0 THEN RETURN 0; RETURN F(N - 1) + V; END F; \
 G: PROCEDURE (Q) PUBLIC; DECLARE Q ADDRESS; P = Q; IF X THEN RETURN; HALT; END G; \
 DO WHILE S < 3; A(0), R.C(1) = -(A(0) := S) * 2; CALL G(.(7, 'AB')); END; OUTPUT(0) = X; OUTPUT(0) = F(3) + HIGH(R.C(1)); GOTO L; HALT; \
 L: DO CASE K - 3; OUTPUT(0) = A(0); HALT; END; END M;";
-
-// Prints how the program ends, and its events.
-fn print_calls(page: &mut Page) {
-    let mut script = Script::new(page.alloc());
-    let end = word_of_end(page.alloc(), CALLS, &mut script);
-    page.line("", end);
-    print_events(page, script.events());
-}
-
-// The program twice: to be run with each allocation refused in turn, of which at most one is.
-fn print_second_run(page: &mut Page) {
-    print_calls(page);
-    print_calls(page);
-}
 
 // How a build ends, in a word.
 fn word_of_build(answer: &Result<Built, Failure<ToolFault>>) -> &'static str {
@@ -103,6 +91,5 @@ fn print_no_sources(page: &mut Page) {
 /// Prints how these programs end.
 pub fn print_programs(page: &mut Page) {
     print_port_fault(page);
-    print_second_run(page);
     print_no_sources(page);
 }

@@ -18,9 +18,10 @@
 //! Then it prints what the machine, its parts and the interpreter do, as the manuals say it; what merges of object files are,
 //! made of modules and of files; objects that are read, walked over, placed, loaded and run, texts of Intel HEX that are read, and how
 //! commands end whose output fails part way; whether help has each number with the words of its fault; what long code and code
-//! with many labels is; and at last whether the document of the routines, the file `runtime.md` where the program runs, is as
+//! with many labels is; what calls answer that are made twice; and at last whether the document of the routines, the file `runtime.md` where the program runs, is as
 //! it is made here, or else that document.
-//! With the word `code` it reads no standard input, and prints what code is alone, for who refuses its allocations.
+//! With the word `code` or `twice` it reads no standard input, and prints what code is alone, or the answers to calls that are made twice,
+//! for who refuses its allocations.
 //!
 //! What is said was written by hand from the rules of the language in `docs/definition.md`, of object files in
 //! `docs/object-format.md` and of the commands in `docs/commands.md`, or computed from them by other programs that share
@@ -50,6 +51,7 @@ mod scripts;
 mod sentences;
 mod shorter;
 mod texts;
+mod twice;
 
 use adjusting::print_adjusting;
 use anyhow::Result;
@@ -71,6 +73,7 @@ use sentences::print_sentences;
 use shorter::print_shorter;
 use std::env;
 use std::io::read_to_string;
+use twice::print_twice;
 
 // The line after a block.
 const END_OF_BLOCK: &str = "====";
@@ -134,19 +137,6 @@ fn fail_each(page: &mut Page, count: &mut Count, block: &Block, words: &[&str], 
     }
 }
 
-// Carries out a command line, with no call of files failing and with each.
-fn answer_words(page: &mut Page, counts: &mut Counts, block: &Block, words: &[&str]) {
-    let answer = Answer::of(page.alloc(), block, words, u64::MAX);
-    count_answer(
-        page,
-        &mut counts.answers,
-        block,
-        &answer,
-        answer.is_as_said(block),
-    );
-    fail_each(page, &mut counts.stopped, block, words, answer.calls);
-}
-
 // Compares the image of a command line with that by way of object files; where it is another, prints the line.
 fn compare_images(page: &mut Page, counts: &mut Counts, block: &Block, words: &[&str]) {
     let linked = linked_image(page.alloc(), block, words);
@@ -161,13 +151,26 @@ fn compare_images(page: &mut Page, counts: &mut Counts, block: &Block, words: &[
     }
 }
 
+// Carries out a command line, with no call of files failing and with each. Where it is refused there is no image to compare.
+fn answer_words(page: &mut Page, counts: &mut Counts, block: &Block, words: &[&str]) {
+    let answer = Answer::of(page.alloc(), block, words, u64::MAX);
+    count_answer(
+        page,
+        &mut counts.answers,
+        block,
+        &answer,
+        answer.is_as_said(block),
+    );
+    fail_each(page, &mut counts.stopped, block, words, answer.calls);
+    if !answer.is_refused() {
+        compare_images(page, counts, block, words);
+    }
+}
+
 // Carries out a block.
 fn run_block(page: &mut Page, counts: &mut Counts, block: &Block) {
     match block.words(page.alloc()) {
-        Ok(words) => {
-            answer_words(page, counts, block, words.as_slice());
-            compare_images(page, counts, block, words.as_slice());
-        }
+        Ok(words) => answer_words(page, counts, block, words.as_slice()),
         Err(_) => page.note(false),
     }
 }
@@ -221,6 +224,7 @@ fn print_parts(page: &mut Page) {
     print_shorter(page);
     print_sentences(page);
     print_assemblies(page);
+    print_twice(page);
 }
 
 // Prints the answers to the command lines of standard input, what the parts do, what code is, and the routines.
@@ -232,19 +236,19 @@ fn print_all(rt: &HostRuntime, page: &mut Page) -> Result<()> {
     Ok(())
 }
 
-// Prints what code is where a word follows the program's name, and else all.
-fn print_ordered(rt: &HostRuntime, page: &mut Page, words: usize) -> Result<()> {
-    if words > 1 {
-        print_assemblies(page);
-        Ok(())
-    } else {
-        print_all(rt, page)
+// Prints what words order, which begin with the program's own name.
+fn print_ordered(rt: &HostRuntime, page: &mut Page, words: &[String]) -> Result<()> {
+    match words.get(1).map_or("", |word| word.as_str()) {
+        "code" => print_assemblies(page),
+        "twice" => print_twice(page),
+        _ => print_all(rt, page)?,
     }
+    Ok(())
 }
 
 fn main(rt: HostRuntime) -> Result<()> {
-    let words = env::args(&rt)?.count();
+    let words: Vec<String> = env::args(&rt)?.collect(rt.alloc())?;
     let mut page = Page::new(rt.alloc());
-    print_ordered(&rt, &mut page, words)?;
+    print_ordered(&rt, &mut page, words.as_slice())?;
     page.write(&mut rt.stdout())
 }

@@ -10,7 +10,7 @@ use Rattle.typed_trees.specs.Globals.{ListsGlobals}
 use Rattle.typed_trees.specs.WellTyped.{IsWellTyped}
 use Rattle.layout.specs.Joined.{IsJoined}
 use Rattle.meaning.specs.Outcomes.{Program}
-use Rattle.typed_trees.specs.TypedTrees.{Subscript, TypedArguments, TypedElse, TypedExpression, TypedIteration, TypedList, TypedModule, TypedReference, TypedStatement, TypedStatements, TypedTarget}
+use Rattle.typed_trees.specs.TypedTrees.{Subscript, TypedArguments, TypedElse, TypedExpression, TypedIteration, TypedList, TypedModule, TypedProcedure, TypedReference, TypedStatement, TypedStatements, TypedTarget}
 use Rattle.layout.specs.Storage.{Storage}
 use Rattle.treecode.specs.declared.expression.ExpressionForm.{ExpressionForm}
 use Rattle.treecode.specs.declared.expression.ExpressionForm.TheVariants as forms
@@ -27,7 +27,8 @@ use Rattle.treecode.specs.declared.statement.StatementNumber.{StatementNumber}
 use Rattle.treecode.specs.Lowered.{AreArguments, AreMore, AreMoreStatements, AreNoStatements, AreNone, AreStatements, AreTargets, IsAbsent, IsAssignment, IsBinary, IsCall, IsCallOf, IsCase, IsConstantList, IsConversion, IsDo, IsElse, IsEmbedded, IsExpression, IsForm, IsFunction, IsGoto, IsHalt, IsIf, IsIndex, IsInput, IsIterate, IsIteration, IsLabel, IsList, IsListOf, IsLocation, IsLowered, IsMove, IsNoElse, IsNoValue, IsNode, IsNull, IsNumber, IsOptional, IsPart, IsReference, IsReturn, IsSent, IsShift, IsSomeElse, IsSomeValue, IsStatement, IsStatementForm, IsStatementNode, IsStored, IsSubscript, IsTarget, IsUnary, IsValue, IsWhile, MoreTargets, NoTargets}
 use Rattle.treecode.specs.Nodes.{Nodes, nodes_of}
 use Rattle.task_meaning.specs.Contexts.{NumbersAreWords}
-use Rattle.task_meaning.specs.TreeNumbers.{HasTypes, NumbersFit, NumbersFitIfSome, NumbersFitIn, NumbersFitInArguments, NumbersFitInElse, NumbersFitInHead, NumbersFitInList, NumbersFitInModule, NumbersFitInReference, NumbersFitInStatements, NumbersFitInSubscript, NumbersFitInTarget, NumbersFitInTargets}
+use Rattle.tree_numbers.specs.Numbers.{NumbersFit, NumbersFitIfSome, NumbersFitIn, NumbersFitInArguments, NumbersFitInElse, NumbersFitInHead, NumbersFitInList, NumbersFitInModule, NumbersFitInProcedure, NumbersFitInReference, NumbersFitInStatements, NumbersFitInSubscript, NumbersFitInTarget, NumbersFitInTargets}
+use Rattle.task_meaning.specs.ProgramTypes.{HasTypes}
 
 module _ (nodes : Nodes) (storage : Storage) (words : NumbersAreWords nodes) where
   mutual
@@ -120,26 +121,6 @@ module _ (nodes : Nodes) (storage : Storage) (words : NumbersAreWords nodes) whe
         → IsList nodes storage labels bound range list → NumbersFitInList list
     in_list (IsListOf are) = in_statements are
 
--- the numbers in the trees of a module that is tree code are below 65536
-pub numbers_of_lowered :
-    (typed : TypedModule) (storage : Storage) (tree : TreeModule)
-    → IsLowered typed storage tree
-    → NumbersAreWords (nodes_of tree)
-    → NumbersFitInModule typed
-numbers_of_lowered typed storage tree lowered words number heading is =
-    by (slice_get_cases tree.procedures.items number).1
-    (subst (λ (count : ℕ). number < count) (sym lowered.procedure_count)
-    (slice_get_within typed.procedures number heading is))
-  where
-    by : ((x : TreeProcedure) × (number < length tree.procedures.items)
-        × (slice_get tree.procedures.items number ≡ Some x) × (get_or tree.procedures.items number x ≡ x))
-        ⊎ ((length tree.procedures.items ≤ number) × (slice_get tree.procedures.items number ≡ None))
-        → number < length tree.procedures.items
-        → NumbersFitInList heading.body
-    by (inl found) less =
-        in_list (nodes_of tree) storage words (lowered.procedures number found.0 heading found.2 is).has_body.body
-    by (inr past) less = let most = past.0 in absurd (omega (arith, less, most))
-
 -- what holds of what stands at each number holds of each
 each_of :
     {X : Type 0} (P : X → Type 0) (items : List X)
@@ -147,6 +128,34 @@ each_of :
     → AllByRecursion P items
 each_of P [] each = tt
 each_of P (first ∷ others) each = (each 0 first refl, each_of P others (λ at item is. each (suc at) item is))
+
+-- the numbers in the trees of a module that is tree code are below 65536
+pub numbers_of_lowered :
+    (typed : TypedModule) (storage : Storage) (tree : TreeModule)
+    → IsLowered typed storage tree
+    → NumbersAreWords (nodes_of tree)
+    → NumbersFitInModule typed
+numbers_of_lowered typed storage tree lowered words = record {
+  procedures =
+      All-from_recursion NumbersFitInProcedure typed.procedures
+      (each_of NumbersFitInProcedure typed.procedures
+      (λ number heading is.
+      by number heading is (slice_get_cases tree.procedures.items number).1
+      (subst (λ (count : ℕ). number < count) (sym lowered.procedure_count)
+      (slice_get_within typed.procedures number heading is))));
+  main = in_list (nodes_of tree) storage words lowered.main.body;
+}
+  where
+    by : (number : ℕ) (heading : TypedProcedure)
+        → slice_get typed.procedures number ≡ Some heading
+        → ((x : TreeProcedure) × (number < length tree.procedures.items)
+        × (slice_get tree.procedures.items number ≡ Some x) × (get_or tree.procedures.items number x ≡ x))
+        ⊎ ((length tree.procedures.items ≤ number) × (slice_get tree.procedures.items number ≡ None))
+        → number < length tree.procedures.items
+        → NumbersFitInList heading.body
+    by number heading is (inl found) less =
+        in_list (nodes_of tree) storage words (lowered.procedures number found.0 heading found.2 is).has_body.body
+    by number heading is (inr past) less = let most = past.0 in absurd (omega (arith, less, most))
 
 -- a module as it is typed is well typed, and it is tree code whose numbers are words
 pub record IsTypedCode (typed : TypedModule) : Type 0 where

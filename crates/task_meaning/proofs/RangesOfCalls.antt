@@ -21,7 +21,8 @@ use Rattle.meaning.specs.Access.{Surroundings, place_of, write_scalar}
 use Rattle.meaning.specs.Meaning.{Later, called, called_for, callee_in, charged, done_list, entered, frame_of, is_frame_of, later_by, parameters_set, procedure_at, value_of_flow}
 use Rattle.meaning.specs.Outcomes.{Flow, Gave, Jumped, Onward, Outcome, Outside, Returned, State, Stopped, then_do}
 use Rattle.task_meaning.specs.Contexts.{AreOfTypes, CallsFit, Context, IsOfResult, SourceFits}
-use Rattle.task_meaning.specs.TreeNumbers.{HasTypes, NumbersFitInList, NumbersFitInModule}
+use Rattle.tree_numbers.specs.Numbers.{NumbersFitInList, NumbersFitInModule, NumbersFitInProcedure}
+use Rattle.task_meaning.specs.ProgramTypes.{HasTypes}
 use Rattle.task_meaning.proofs.RangesOfBytes.{Gives, IsGiven, IsStopped, given_by, gives_then, write_fits}
 use Rattle.task_meaning.proofs.RangesOfTrees.{CalleesAreHeaded, FlowFits, IsHeaded, LaterFits, calls_give, nothing_fits}
 use Rattle.task_meaning.proofs.RangesOfStatements.{after_taking, either, list_fits, rest_fits, turn_fits}
@@ -252,8 +253,9 @@ module _ (later : Later) (fits : LaterFits later) where
 
       body_numbers : NumbersFitInList procedure.body
       body_numbers =
-          of_each NumbersFitInModule around.program.modules around.number_of_module typed program.numbers here number
-          procedure is
+          of_each NumbersFitInProcedure typed.procedures number procedure
+          (of_each NumbersFitInModule around.program.modules around.number_of_module typed program.numbers here).procedures
+          is
 
   -- a call of a procedure that is found
   found_fits :

@@ -10,7 +10,8 @@ use Rattle.meaning.specs.Meaning.{IterateTurn, Later, Turn, WhileTurn, after_tur
 use Rattle.meaning.specs.Outcomes.{Flow, Gave, Jumped, More, Onward, Outcome, Returned, State, Stopped, taking_one, then_do}
 use Rattle.meaning.specs.Values.{as_type, is_true, values_of}
 use Rattle.task_meaning.specs.Contexts.{SourceFits}
-use Rattle.task_meaning.specs.TreeNumbers.{HasTypes, NumbersFit, NumbersFitIfSome, NumbersFitIn, NumbersFitInElse, NumbersFitInList, NumbersFitInStatements}
+use Rattle.tree_numbers.specs.Numbers.{NumbersFit, NumbersFitIfSome, NumbersFitIn, NumbersFitInElse, NumbersFitInList, NumbersFitInStatements}
+use Rattle.task_meaning.specs.ProgramTypes.{HasTypes}
 use Rattle.task_meaning.proofs.RangesOfBytes.{Gives, IsGiven, IsStopped, as_type_fits, byte_fits, gives_then, of_type, read_fits, scalar_fits, write_fits}
 use Rattle.task_meaning.proofs.RangesOfTrees.{CalleesAreHeaded, CallsGive, FlowFits, LaterFits, ReturnFits, TurnFits, calls_give, takes_fits, targets_fit, tree_fits, trees_fit}
 

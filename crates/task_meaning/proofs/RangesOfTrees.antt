@@ -13,7 +13,8 @@ use Rattle.meaning.specs.Meaning.{IterateTurn, Later, Turn, WhileTurn, address_i
 use Rattle.meaning.specs.Outcomes.{Flow, Gave, Jumped, Onward, Returned, State, then_do}
 use Rattle.meaning.specs.Values.{as_type, function_of, result_of, result_of_one, shifted, values_of}
 use Rattle.task_meaning.specs.Contexts.{AreOfTypes, IsOfResult, SourceFits}
-use Rattle.task_meaning.specs.TreeNumbers.{HasTypes, NumbersFit, NumbersFitInArguments, NumbersFitInHead, NumbersFitInList, NumbersFitInReference, NumbersFitInStatements, NumbersFitInSubscript, NumbersFitInTarget, NumbersFitInTargets}
+use Rattle.tree_numbers.specs.Numbers.{NumbersFit, NumbersFitInArguments, NumbersFitInHead, NumbersFitInList, NumbersFitInReference, NumbersFitInStatements, NumbersFitInSubscript, NumbersFitInTarget, NumbersFitInTargets}
+use Rattle.task_meaning.specs.ProgramTypes.{HasTypes}
 use Rattle.task_meaning.proofs.KnownOperands.{number_fits, one_fits, result_fits, shift_fits}
 use Rattle.task_meaning.proofs.RangesOfBytes.{Gives, IsGiven, PlaceFits, address_fits, as_type_fits, computed_fits, function_fits, gives_then, input_fits, list_fits, of_type, place_fits, scalar_fits, target_type, write_fits}
 

@@ -19,9 +19,9 @@ use Rattle.code_meaning.specs.Landing.{Does, Lands, at_place}
 use Rattle.code_meaning.specs.Activations.{Activation, HasRoom, IsReady, LiesWell, Owns}
 use Rattle.code_meaning.proofs.Landing.{told_on}
 use Rattle.code_meaning.proofs.Owning.{keeps_both, keeps_wider}
-use Rattle.code_meaning.proofs.Standing.{bytes_alike, stands_now}
+use Rattle.code_meaning.proofs.Standing.{stands_now}
 use Rattle.code_facts.proofs.Changes.{no_facts_hold}
-use Rattle.machine_runs.proofs.Kept.{stands_still}
+use Rattle.machine_runs.proofs.Kept.{bytes_alike, stands_in}
 use Rattle.steps8080.specs.declared.facts.Facts.{Facts}
 use Rattle.steps8080.specs.declared.step.Part.{Part}
 use Rattle.steps8080.specs.declared.step.Step.{Step}
@@ -237,9 +237,8 @@ routine_then {outcome = outcome} {Good = Good} {context = context} {from = from}
     ready.shares.code there).0) in
     let returns : Returns script routine top s =
     found.is_routine found.layout entry found.to script top s ends
-    (stands_still found.layout activation.image memory found.items entry found.to ends
-    (λ address low high. ready.shares.code address (omega (arith, least, low), omega (arith, here, high)))
-    found.stands)
+    (stands_in found.layout activation.around.program.placement.code activation.image memory found.items entry found.to
+    fits least here ready.shares.code found.stands)
     (record {
       running = refl;
       place = small from;

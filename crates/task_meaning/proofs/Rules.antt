@@ -18,13 +18,13 @@ use Rattle.asm8080.specs.declared.item.WordForm.TheVariants.{LoadPair}
 use Rattle.asm8080.specs.Items.{instruction_with}
 use Rattle.asm8080.specs.Standing.{AgreesIn, size_of_instruction}
 use Rattle.machine_runs.proofs.Calls.{pushed}
+use Rattle.machine_runs.proofs.Stack.{pop_does, push_does}
 use Rattle.treecode.specs.declared.place.Place.{Place}
 use Rattle.treecode.specs.declared.place.Place.TheVariants as places
 use Rattle.code_meaning.specs.Landing.{Does, at_place}
 use Rattle.code_meaning.specs.Activations.{Activation, HasRoom, IsReady, IsThere, LiesWell}
 use Rattle.code_meaning.proofs.FirstItems.{plain_first, word_first}
-use Rattle.code_meaning.proofs.Pops.{pop_does}
-use Rattle.code_meaning.proofs.Pushes.{push_does, ready_after_pop, ready_after_push, still_pushed}
+use Rattle.code_meaning.proofs.Pushes.{ready_after_pop, ready_after_push, still_pushed}
 use Rattle.code_facts.specs.Asking.{Asks, WordAsks}
 use Rattle.std.specs.Int.Bits.{or_self}
 use Rattle.exprgen8080.specs.Emission.{after_test, test_items, test_of_a}

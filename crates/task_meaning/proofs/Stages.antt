@@ -20,6 +20,7 @@ use Rattle.isa8080.specs.State.{HoldBytes, Registers, State, pushed_of, with_pop
 use Rattle.asm8080.specs.declared.item.Item.TheVariants as items
 use Rattle.asm8080.specs.Standing.{size_of_instruction}
 use Rattle.machine_runs.proofs.Calls.{pushed as pushed_word}
+use Rattle.machine_runs.proofs.Stack.{pop_does, push_does}
 use Rattle.treecode.specs.declared.expression.ExpressionNumber.{ExpressionNumber}
 use Rattle.treecode.specs.Lowered.{IsExpression}
 use Rattle.steps8080.specs.declared.facts.Facts.{Facts}
@@ -34,8 +35,7 @@ use Rattle.code_meaning.specs.Activations.{Activation, HasRoom, IsReady, IsThere
 use Rattle.code_meaning.specs.Landing.{Does, Lands, at_place}
 use Rattle.code_meaning.proofs.FirstItems.{plain_first}
 use Rattle.code_meaning.proofs.Landing.{then_does, told_on}
-use Rattle.code_meaning.proofs.Pops.{pop_does}
-use Rattle.code_meaning.proofs.Pushes.{push_does, ready_after_pop, ready_after_push, still_pushed}
+use Rattle.code_meaning.proofs.Pushes.{ready_after_pop, ready_after_push, still_pushed}
 use Rattle.code_facts.specs.Asking.{Asks}
 use Rattle.code_facts.specs.Holding.{FactsHold, IsSteady, place_at}
 use Rattle.code_facts.proofs.After.{facts_after}

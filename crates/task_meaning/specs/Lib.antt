@@ -2,4 +2,4 @@ pub mod Conditions
 pub mod Contexts
 pub mod Tasks
 pub mod Steps
-pub mod TreeNumbers
+pub mod ProgramTypes

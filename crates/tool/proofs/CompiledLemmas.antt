@@ -19,7 +19,7 @@ use Rattle.treecode.specs.Lowered.{IsLowered}
 use Rattle.codegen8080.specs.declared.fault.Fault as code_fault
 use Rattle.module_code.specs.Modules.{IsSoundTreeCode, MakesNone, OfItsModule}
 use Rattle.module_code.specs.Typed.{IsSoundlyMade}
-use Rattle.source_facts.proofs.Sources.{source_is_soundly_typed}
+use Rattle.source_facts.specs.Sound.{IsSoundlyTyped}
 use Rattle.program_sources.specs.declared.sources.Source as declared_source
 use Rattle.program_sources.specs.Programs.{text_of, texts_of}
 use Rattle.tool.specs.declared.compiled.Compiled.{Compiled}
@@ -35,12 +35,13 @@ has_source text typed source = record { text = text; source = source }
 -- tree code of a module that has a source is that of one that is soundly typed
 pub sound_tree_code :
     (typed : TypedModule) (storage : Storage) (tree : TreeModule)
+    → IsSoundlyTyped typed
     → HasSource typed
     → storage ≡ storage_with typed
     → IsLowered typed storage tree
     → IsSoundTreeCode typed tree
-sound_tree_code typed storage tree has is lowered = record {
-  sound = source_is_soundly_typed has.text typed has.source;
+sound_tree_code typed storage tree sound has is lowered = record {
+  sound = sound;
   storage = storage;
   laid_out = has.source.storage ∙ ap Ok (sym is);
   lowered = lowered;

@@ -1,4 +1,3 @@
-pub mod ImageBytes
 pub mod Headline
 pub mod LinkedLemmas
 pub mod ExecutionLemmas

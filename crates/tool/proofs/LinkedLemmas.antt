@@ -1,15 +1,15 @@
 -- Object modules that have a merge and an image are linked and placed.
-use Rattle.std.proofs.Common.{◌≡◌, List, Result, Ok, Err, All, sym, ap, subst, ◌∙◌}
-use Rattle.mem80.specs.declared.range.Piece.{Piece}
-use Rattle.mem80.specs.Pieces.{AreWritable, EndsInMemory}
+use Rattle.std.proofs.Common.{◌≡◌, List, Result, Ok, Err, sym, ap, subst, ◌∙◌}
 use Rattle.object_modules.specs.Image.{Image, PlacementRefusal, image_of}
 use Rattle.object_modules.specs.Merge.{LinkRefusal, merge_of}
 use Rattle.object_modules.specs.Module.{ObjectModule}
 use Rattle.placing.specs.Views as of_placement
 use Rattle.plans.specs.declared.Plan.{Plan}
+use Rattle.locate.specs.Loading.{GivesItsImage}
 use Rattle.locate.specs.Locating.{Absolute, IsPlaced, plan_view}
 use Rattle.module_code.specs.internal.Names.{HaveImage}
 use Rattle.tool.specs.Made.{IsImageOfObjects}
+use Rattle.tool.specs.internal.Merged.{GivesImageOfObjects}
 
 pub is_linked : (plan : Plan) (objects : List ObjectModule) (merged : ObjectModule) (image : Absolute)
     → merge_of objects ≡ Ok merged → IsPlaced (plan_view plan) merged image → IsImageOfObjects plan objects image
@@ -35,6 +35,9 @@ module _ (plan : Plan) (objects : List ObjectModule) (have : HaveImage (of_place
       let bad : ◌≡◌ {A = Result Image PlacementRefusal} (Ok have.image) (Err refusal) =
       sym have.placed ∙ subst (λ (object : ObjectModule). image_of (plan_view plan) object ≡ Err refusal) (sym same) is in cc
 
--- the pieces of a placed module lie in memory
-pub lies : (image : Absolute) (pieces : List Piece) → pieces ≡ image.pieces → AreWritable pieces → All EndsInMemory image.pieces
-lies image pieces same writable = subst (All EndsInMemory) same writable.in_memory
+-- what gives memories the image of one merge does so for the merge, since there is one
+pub gives : (plan : Plan) (objects : List ObjectModule) (merged : ObjectModule) (image : Absolute)
+    → merge_of objects ≡ Ok merged → GivesItsImage (plan_view plan) merged image → GivesImageOfObjects plan objects image
+gives plan objects merged image merge given other other_merge =
+    subst (λ (object : ObjectModule). GivesItsImage (plan_view plan) object image)
+    (same_value merged other (sym merge ∙ other_merge)) given

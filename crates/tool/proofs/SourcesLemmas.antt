@@ -4,7 +4,6 @@ use Rattle.std.proofs.lemmas.Bool.{cases_lt}
 use Rattle.std.proofs.lemmas.List.Elements.{All-from_recursion}
 use Rattle.std.specs.List.{AllByRecursion}
 use Rattle.words.specs.declared.limits.TheConstants.{LONGEST_SOURCE}
-use Rattle.mem80.specs.Pieces.{EndsInMemory}
 use Rattle.typed_trees.specs.TypedTrees.{TypedModule}
 use Rattle.typed_trees.specs.declared.module.Typed.{Typed}
 use Rattle.typed_trees.specs.Jumps.{JumpsAreSound}
@@ -27,7 +26,7 @@ use Rattle.frontend.specs.Causes.{HasReadCause}
 use Rattle.locate.specs.Locating.{Absolute}
 use Rattle.module_code.specs.Bounded.{AreWithinBounds}
 use Rattle.module_code.specs.Typed.{AreSoundlyMade}
-use Rattle.module_code.proofs.Programs.{make_the_program}
+use Rattle.module_code.proofs.Programs.{make_the_program, numbers_fit}
 use Rattle.module_code.specs.internal.Names.{HaveImage}
 use Rattle.program_sources.specs.declared.fault.ProgramFault.TheVariants as program_faults
 use Rattle.program_sources.specs.declared.placed.Placed.{Placed}
@@ -38,6 +37,7 @@ use Rattle.tool.specs.declared.fault.ToolFault.TheVariants.{TooManySources, Sour
 use Rattle.tool.specs.Construction.{Construction, IsConstruction, IsTyped}
 use Rattle.tool.specs.Headline.{DoesWhatItSays}
 use Rattle.tool.specs.Made.{IsImageOfObjects, StartsAsItsSource, code_lengths}
+use Rattle.tool.specs.internal.Merged.{GivesImageOfObjects}
 use Rattle.tool.specs.Refusals.{IsRefusal}
 use Rattle.tool.specs.Sources.{AreWithoutFault, HasCause, IsInOrder, IsWithoutFault, sources_before}
 use Rattle.tool.specs.internal.Compiling.{AreCompiled, HasBuildCause, IsBuiltFrom, module_in}
@@ -106,8 +106,10 @@ types_each : (modules : List TypedModule) (objects : List ObjectModule) → AreS
 types_each [] [] made = tt
 types_each [] (object ∷ objects) made = absurd made
 types_each (typed ∷ modules) [] made = absurd made
-types_each (typed ∷ modules) (object ∷ objects) made =
-    ((made.0.facts.types, made.0.made.laid.globals, made.0.facts.frames), types_each modules objects made.1)
+types_each (typed ∷ modules) (object ∷ objects) made = (
+  (made.0.facts.types, numbers_fit typed object made.0, made.0.made.laid.globals, made.0.facts.frames),
+  types_each modules objects made.1,
+)
 
 -- they have storage, and their code holds their constants
 pub have_storage : (modules : List TypedModule) (objects : List ObjectModule) (lengths : List ℕ) → AreSoundlyMade modules objects → lengths ≡ code_lengths objects
@@ -171,18 +173,18 @@ build_order (Locate fault) texts modules lengths plan cause before = before
 
 -- a program that was placed, with object modules that are made of its modules and the image of these
 pub is_construction : (plan : Plan) (modules : List TypedModule) (lengths : List ℕ) (placed : Placed) (objects : List ObjectModule) (image : Absolute) → IsPlacedBy modules lengths plan placed → lengths ≡ code_lengths objects
-    → AreSoundlyMade modules objects → IsImageOfObjects plan objects image → All EndsInMemory image.pieces
+    → AreSoundlyMade modules objects → IsImageOfObjects plan objects image → GivesImageOfObjects plan objects image
     → IsConstruction (construction_with placed plan objects image)
-is_construction plan modules lengths placed objects image is its made linked ends =
+is_construction plan modules lengths placed objects image is its made linked gives =
     let as_planned : of_placement.placement_view placed.placement ≡ placement_by (of_placement.plan_view plan) modules (code_lengths objects) =
     is.as_planned ∙ ap (λ (given : List ℕ). placement_by (of_placement.plan_view plan) modules given) its in
     let lies = subst (λ (placement : Placement). IsLawful modules placement) as_planned is.lawful in
     let does : DoesWhatItSays modules (of_placement.placement_view placed.placement) plan.stack_size image =
     subst (λ (placement : Placement). DoesWhatItSays modules placement plan.stack_size image) (sym as_planned)
-    (does_what_it_says plan modules objects image is.joined made lies linked ends) in
+    (does_what_it_says plan modules objects image is.joined made lies linked gives) in
     let starts : StartsAsItsSource modules (of_placement.placement_view placed.placement) image =
     subst (λ (placement : Placement). StartsAsItsSource modules placement image) (sym as_planned)
-    (declared_bytes_start plan modules objects image is.joined made lies linked ends) in
+    (declared_bytes_start plan modules objects image is.joined made lies linked gives) in
     record {
       starts = subst (λ ms. StartsAsItsSource ms (of_placement.placement_view placed.placement) image) (sym is.program) starts;
       headline = subst (λ ms. DoesWhatItSays ms (of_placement.placement_view placed.placement) plan.stack_size image) (sym is.program) does;

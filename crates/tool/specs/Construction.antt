@@ -6,6 +6,7 @@ use Rattle.typed_trees.specs.Jumps.{JumpsAreSound}
 use Rattle.typed_trees.specs.Storable.{IsStorable}
 use Rattle.typed_trees.specs.TypedTrees.{TypedModule}
 use Rattle.typed_trees.specs.WellTyped.{IsWellTyped}
+use Rattle.tree_numbers.specs.Numbers.{NumbersFitInModule}
 use Rattle.layout.specs.Joined.{IsJoined}
 use Rattle.layout.specs.Lawful.{IsLawful}
 use Rattle.layout.specs.Placement.{Placement, pieces_of}
@@ -33,9 +34,10 @@ pub record Construction : Type 0 where
   pub objects : List ObjectModule
   pub image : Absolute
 
--- a module that is well typed, lists what it shares with other modules, and whose frames have the bytes of their variables
+-- a module that is well typed, whose numbers have the width of a word, that lists what it shares with other
+-- modules, and whose frames have the bytes of their variables
 abbrev pub IsTyped : TypedModule → Type 0
-IsTyped typed = IsWellTyped typed × ListsGlobals typed × FramesFit typed
+IsTyped typed = IsWellTyped typed × NumbersFitInModule typed × ListsGlobals typed × FramesFit typed
 
 -- The image does what the program says, with the stack of the plan; where it is loaded each declared byte
 -- begins as the program has it; it is the merge of the object modules, placed by the plan. The modules make a

@@ -10,6 +10,7 @@ ghost use Rattle.frontend.specs.Reading.{IsSourceOf};
 ghost use Rattle.object_modules.specs.Module.{length_of};
 ghost use Rattle.object_modules.specs.declared.segment.Segment.TheVariants as segments;
 ghost use Rattle.module_code.specs.Typed.{IsSoundlyMade};
+ghost use Rattle.source_facts.specs.Sound.{IsSoundlyTyped};
 ghost use Rattle.program_sources.specs.Programs.{texts_of};
 ghost use Rattle.tool.specs.Made.{IsCompiledTo};
 ghost use Rattle.tool.specs.Sources.{AreWithoutFault, HasCause, IsInOrder, IsRefusedAlone};
@@ -17,12 +18,13 @@ ghost use Rattle.tool.specs.internal.Compiling.{AreCompiled, HasCompileCause, Ha
 
 use crate::fault::ToolFault;
 use failure::Failure;
-use frontend::{SourceModule, read_source};
+use frontend::SourceModule;
 use layout::Layout;
 use module_code::generate;
 use object_modules::{ObjectModule, Segment};
 use plans::Plan;
 use program_sources::Source;
+use source_facts::read_source;
 use std::alloc::{AllocError, Global};
 use treecode::lower;
 use typed_trees::Typed;
@@ -62,6 +64,7 @@ pub fn compile_all(alloc: Global, sources: &[Source]) -> Result<Vec<Compiled>, F
 // Reads a source.
 fn read(alloc: Global, file: usize, text: &[u8]) -> Result<SourceModule, Failure<ToolFault>>
     ensures source { IfOk result (λ read. IsSourceOf text.now (module_view read.typed)) }
+    ensures sound { IfOk result (λ read. IsSoundlyTyped (module_view read.typed)) }
     ensures storage { IfOk result
         (λ read. layout_view read.storage ≡ storage_with (module_view read.typed)) }
     ensures jumps { IfOk result (λ read. JumpsAreSound (module_view read.typed)) }
@@ -81,6 +84,7 @@ fn object_of(
     source: &SourceModule,
 ) -> Result<ObjectModule, Failure<ToolFault>>
     requires source { HasSource (module_view source.now.typed) }
+    requires sound { IsSoundlyTyped (module_view source.now.typed) }
     requires jumps { JumpsAreSound (module_view source.now.typed) }
     requires storage { layout_view source.now.storage ≡ storage_with (module_view source.now.typed) }
     ensures made { IfOk result (IsSoundlyMade (module_view source.now.typed)) }

@@ -1,11 +1,11 @@
 //! The bytes of a program at their places.
 
-ghost use Rattle.std.specs.Prelude.{All, IfOk};
+ghost use Rattle.std.specs.Prelude.{IfOk};
 ghost use Rattle.failure.specs.Failure.{IfFault};
-ghost use Rattle.mem80.specs.Pieces.{EndsInMemory};
 ghost use Rattle.placing.specs.Views.{plan_view};
 ghost use Rattle.module_code.specs.internal.Names.{HaveImage};
 ghost use Rattle.tool.specs.Made.{IsImageOfObjects};
+ghost use Rattle.tool.specs.internal.Merged.{GivesImageOfObjects};
 
 use crate::fault::ToolFault;
 use failure::Failure;
@@ -15,8 +15,9 @@ use object_modules::ObjectModule;
 use plans::Plan;
 use std::alloc::Global;
 
-/// The image of a program: that of the merge of its object modules, which have one at the plan.
-#[tactic(auto, using(crate::proofs::LinkedLemmas::is_linked, crate::proofs::LinkedLemmas::lies, crate::proofs::LinkedLemmas::not_refused_to_link, crate::proofs::LinkedLemmas::not_refused_to_locate))]
+/// The image of a program: that of the merge of its object modules, which have one at the plan. Put into a memory it gives
+/// it the image of that merge.
+#[tactic(auto, using(crate::proofs::LinkedLemmas::is_linked, crate::proofs::LinkedLemmas::gives, crate::proofs::LinkedLemmas::not_refused_to_link, crate::proofs::LinkedLemmas::not_refused_to_locate))]
 pub fn image_of(
     alloc: Global,
     objects: &[ObjectModule],
@@ -24,7 +25,7 @@ pub fn image_of(
 ) -> Result<Absolute, Failure<ToolFault>>
     requires have_image { HaveImage (plan_view plan.now) objects.now }
     ensures linked { IfOk result (IsImageOfObjects plan.now objects.now) }
-    ensures lies { IfOk result (λ image. All EndsInMemory image.pieces) }
+    ensures gives { IfOk result (GivesImageOfObjects plan.now objects.now) }
     ensures refused { IfFault result (λ _. ⊥) }
 {
     let merged = match link(alloc, objects) {
@@ -33,11 +34,7 @@ pub fn image_of(
         Err(Failure::Memory) => return Err(Failure::Memory),
     };
     match locate(alloc, merged.module(), plan) {
-        Ok(image) => {
-            // A look at its pieces says that they lie in memory.
-            let _ = image.pieces();
-            Ok(image)
-        }
+        Ok(image) => Ok(image),
         Err(Failure::Fault(fault)) => Err(Failure::Fault(ToolFault::Locate(fault))),
         Err(Failure::Memory) => Err(Failure::Memory),
     }

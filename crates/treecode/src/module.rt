@@ -177,7 +177,8 @@ impl TreeModule {
     {
         let index = next_index(self.expressions.len())?;
         let traits = traits_of(self, scalar, &form);
-        self.expressions.push(StoredExpression::of(Expression { form, traits }))?;
+        self.expressions
+            .push(StoredExpression::of(Expression { form, traits }))?;
         Ok(ExpressionNumber { index })
     }
 

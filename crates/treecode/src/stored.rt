@@ -16,7 +16,10 @@ use typed_trees::{ShiftFunction, UnaryFunction};
 #[derive(Clone, Copy)]
 pub(crate) enum StoredSubscript {
     Whole,
-    Element { stride: u16, index: ExpressionNumber },
+    Element {
+        stride: u16,
+        index: ExpressionNumber,
+    },
 }
 
 /// An object, or a part of it.
@@ -143,7 +146,11 @@ fn stored_assignment(target: Target, value: ExpressionNumber) -> StoredForm
     ensures { form_of result ≡ Assignment target value }
 {
     match target {
-        Target::Stored { from, to, reference } => StoredForm::Store {
+        Target::Stored {
+            from,
+            to,
+            reference,
+        } => StoredForm::Store {
             from,
             to,
             reference: StoredReference::of(reference),

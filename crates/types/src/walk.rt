@@ -11,6 +11,7 @@ ghost use Rattle.typed_trees.specs.Globals.{ListsGlobals};
 ghost use Rattle.typed_trees.specs.Jumps.{JumpsAreSound};
 ghost use Rattle.typed_trees.specs.Storable.{IsStorable};
 ghost use Rattle.typed_trees.specs.WellTyped.{IsWellTyped};
+ghost use Rattle.tree_numbers.specs.Numbers.{NumbersFitInModule};
 ghost use Rattle.typing.specs.Untyped.{GivesBack};
 ghost use Rattle.typing.specs.Typing.{alone, cases, declaration, declarations, else_part, entered, kind, left, main_procedure, module_with, statements, typing_of};
 ghost use Rattle.typing.specs.Results.{Answers, Gives, Leaves};
@@ -24,6 +25,7 @@ use crate::procedures::{Inside, check_body, parameter_objects};
 use crate::statement_nodes;
 use failure::Failure;
 use std::alloc::Global;
+use tree_numbers::hold_numbers;
 use trees::{
     Block as BlockTree, Declaration, DoCase, DoWhile, IfThen, IterativeDo, Module, Name, Place,
     Procedure, Statement, StatementKind,
@@ -413,11 +415,14 @@ impl Checker {
 
 // A module as it is typed.
 fn typed(alloc: Global, parsed: &Module) -> Result<Typed, Failure<Fault>>
-    ensures { Answers module_view result (typing_of (module_tree parsed.now)) }
+    ensures typing { Answers module_view result (typing_of (module_tree parsed.now)) }
+    ensures numbers { IfOk result (λ typed. NumbersFitInModule (module_view typed)) }
 {
     let mut checker = Checker::new(alloc);
     let body = checker.module(&parsed.body)?;
-    Ok(checker.into_typed(parsed.name.name, body))
+    let typed = checker.into_typed(parsed.name.name, body);
+    hold_numbers(&typed);
+    Ok(typed)
 }
 
 /// Types a module: resolves its names, gives each expression its type and writes each conversion out. Refuses a module
@@ -429,6 +434,7 @@ pub fn check(alloc: Global, parsed: Module) -> Result<Typed, Failure<Fault>>
     ensures jumps { IfOk result (λ typed. JumpsAreSound (module_view typed)) }
     ensures storable { IfOk result (λ typed. IsStorable (module_view typed)) }
     ensures types { IfOk result (λ typed. IsWellTyped (module_view typed)) }
+    ensures numbers { IfOk result (λ typed. NumbersFitInModule (module_view typed)) }
     ensures globals { IfOk result (λ typed. ListsGlobals (module_view typed)) }
     ensures frames { IfOk result (λ typed. FramesFit (module_view typed)) }
     ensures parameters { IfOk result (λ typed. ParametersFit (module_view typed)) }

@@ -1,5 +1,6 @@
-use Rattle.std.proofs.Common.{rules}
-use Rattle.cpu8080.specs.Runs.{IsRun}
+use Rattle.std.proofs.Common.{◌≡◌, rules}
+use Rattle.cpu8080.specs.Runs.{IsOnlyHalt, IsRun}
+use Rattle.cpu8080.specs.declared.machine.End.TheVariants.{Halted}
 use Rattle.tool.specs.Execution.{started}
 use Rattle.tool.proofs.ExecutionLemmas.{is_faithful}
 use Rattle.tool.proofs.execution.execute.Goals as goal
@@ -10,4 +11,5 @@ returns-clause-faithful g c =
     let events = g.P.Ports.events c.args.ports in
     let failures = g.P.Ports.failures c.args.ports in
     let run : IsRun c.args.limit (started c.args.built.now.image c.args.memory script events failures) c.run-end.result c.run-end.new.self = search rules in
-    λ never. is_faithful c.args.built.now.image c.args.memory script events failures _ (c.machine_of-machine.ensures.agrees never) c.args.limit c.run-end.result c.run-end.new.self run
+    let halt : c.run-end.result ≡ Halted → IsOnlyHalt (started c.args.built.now.image c.args.memory script events failures) c.run-end.new.self = search rules in
+    λ never. is_faithful c.args.built.now.image c.args.memory script events failures _ (c.machine_of-machine.ensures.agrees never) c.args.limit c.run-end.result c.run-end.new.self run halt

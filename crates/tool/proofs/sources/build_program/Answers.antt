@@ -7,6 +7,7 @@ use Rattle.module_code.specs.internal.Names.{HaveImage}
 use Rattle.program_sources.specs.Programs.{IsPlacedBy}
 use Rattle.object_modules.specs.Module.{ObjectModule}
 use Rattle.tool.specs.Made.{IsImageOfObjects}
+use Rattle.tool.specs.internal.Merged.{GivesImageOfObjects}
 use Rattle.tool.proofs.SourcesLemmas.{count_fits, have_storage, is_construction, placed_has_image}
 use Rattle.tool.proofs.sources.build_program.Goals as goal
 
@@ -34,4 +35,4 @@ new-requires c =
     (subst (λ (lengths : List ℕ). IsPlacedBy (map module_view c.args.parts.modules.items) lengths c.args.plan.now c.in-Ok.placed) c.as_slice-2.ensures.value c.in-Ok.ensures.placed)
     c.requires.lengths c.requires.made
     (subst (λ (objects : List ObjectModule). IsImageOfObjects c.args.plan.now objects c.in_ok-image.image) c.as_slice-3.ensures.value c.in_ok-image.ensures.linked)
-    c.in_ok-image.ensures.lies
+    (subst (λ (objects : List ObjectModule). GivesImageOfObjects c.args.plan.now objects c.in_ok-image.image) c.as_slice-3.ensures.value c.in_ok-image.ensures.gives)

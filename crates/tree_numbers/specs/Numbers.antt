@@ -1,11 +1,7 @@
--- The numbers that are written in typed trees have the width of a word.
-use Rattle.std.specs.Prelude.{◌≡◌, ℕ, ◌<◌, List, [], ◌∷◌, All, Option, Some, None, slice_get}
-use Rattle.typed_trees.specs.Globals.{ListsGlobals}
+-- The numbers that are written in typed trees have the width of a word: none is above 65535. With `IsNumberOf` of the
+-- trees that are well typed, by which that of a BYTE is below 256, each is a value of its type.
+use Rattle.std.specs.Prelude.{◌<◌, List, [], ◌∷◌, All, Option, Some, None}
 use Rattle.typed_trees.specs.TypedTrees.{TypedExpression, NumberNode, ValueNode, LocationNode, ListNode, ConversionNode, AssignmentNode, UnaryNode, BinaryNode, CallNode, FunctionNode, ShiftNode, InputNode, TypedReference, PartOf, Subscript, NoSubscript, At, TypedTarget, StoredIn, SentTo, TypedArguments, NoArguments, MoreArguments, TypedIteration, TypedStatement, LabelStatement, NullStatement, AssignmentStatement, CallStatement, MoveStatement, ReturnStatement, HaltStatement, GotoStatement, IfStatement, DoStatement, WhileStatement, IterateStatement, CaseStatement, TypedElse, NoElse, ElseStatement, TypedStatements, NoStatements, MoreStatements, TypedList, ListOf, TypedProcedure, TypedModule}
-use Rattle.typed_trees.specs.WellTyped.{IsWellTyped}
-use Rattle.layout.specs.Joined.{IsJoined}
-use Rattle.ports.specs.Input.{IsScript}
-use Rattle.meaning.specs.Outcomes.{Program}
 
 abbrev mutual
   -- the numbers in an expression are below 65536
@@ -81,17 +77,11 @@ abbrev mutual
   pub NumbersFitInList : TypedList → Type 0
   NumbersFitInList (ListOf first places statements) = NumbersFitInStatements statements
 
--- the numbers in the procedures of a module are below 65536
-abbrev pub NumbersFitInModule : TypedModule → Type 0
-NumbersFitInModule typed =
-    (number : ℕ) (heading : TypedProcedure) → slice_get typed.procedures number ≡ Some heading
-    → NumbersFitInList heading.body
+-- the numbers in the body of a procedure, or of the main program, are below 65536
+abbrev pub NumbersFitInProcedure : TypedProcedure → Type 0
+NumbersFitInProcedure procedure = NumbersFitInList procedure.body
 
--- What is asked of a program so that its values are of their types: its modules make a program, all are well
--- typed, their numbers have the width of a word, and the script of the ports is one of bytes.
-pub record HasTypes (program : Program) : Type 0 where
-  pub joined : IsJoined program.modules
-  pub globals : All ListsGlobals program.modules
-  pub types : All IsWellTyped program.modules
-  pub numbers : All NumbersFitInModule program.modules
-  pub script : IsScript program.script
+-- the numbers in the procedures and in the main program of a module are below 65536
+pub record NumbersFitInModule (typed : TypedModule) : Type 0 where
+  pub procedures : All NumbersFitInProcedure typed.procedures
+  pub main : NumbersFitInProcedure typed.main
