@@ -1,5 +1,5 @@
 -- Files after a command line was carried out.
-use Rattle.std.proofs.Common.{◌≡◌, ◌≤◌, ℕ, List, [], ◌∷◌, Ok, Option, None, Some, inl, refl, subst, arith}
+use Rattle.std.proofs.Common.{◌≡◌, ◌≤◌, ◌⊎◌, ℕ, List, [], ◌∷◌, Ok, Option, None, Some, inl, inr, refl, subst, arith}
 use Rattle.files.specs.Files.{Directory, KeepsFiles}
 use Rattle.answers.specs.Endings.{status_of}
 use Rattle.answers.specs.Refusals.{TellsRefusal}
@@ -94,3 +94,14 @@ done_is WrongLine e = absurd (omega arith)
 done_is Limit e = absurd (omega arith)
 done_is Stopped e = absurd (omega arith)
 done_is Outside e = absurd (omega arith)
+
+-- orders that end as nothing but a run does
+pub done_status : (ending : Ending) → ending ≡ Done → status_of ending ≡ 0
+done_status ending done = rw done refl
+
+pub other_status : (ending : Ending) → (ending ≡ Done) ⊎ (ending ≡ Refused) → (ending ≡ Refused → ⊥) → status_of ending ≡ 0
+other_status ending (inl done) not = done_status ending done
+other_status ending (inr refused) not = absurd (not refused)
+
+pub refused_mild : (ending : Ending) → ending ≡ Refused → status_of ending ≤ 2
+refused_mild ending refused = rw refused (omega arith)

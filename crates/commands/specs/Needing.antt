@@ -1,11 +1,21 @@
--- What is printed of the need of sources.
+-- What is printed of the need of sources, and where it is not.
 use Rattle.std.specs.Prelude.{ℕ, List, Option}
 use Rattle.files.specs.Files.{Directory}
 use Rattle.answers.specs.Reading.{HasFiles}
-use Rattle.need_command.specs.Printing.{PrintsNeed}
+use Rattle.need_command.specs.Printing.{PrintsNeed, StopsNeed, TellsNoNeed}
 
 -- the files of these names have texts, and the line that tells the need of their program was written
-pub record PrintsNeedOf (files : Option Directory) (names : List (List ℕ)) (old new : Option (List ℕ)) : Type 0 where
+pub record PrintsNeedOf (files : Option Directory) (names : List (List ℕ)) (old new : Option (List ℕ)) :
+    Type 0 where
   pub texts : List (List ℕ)
   pub read : HasFiles files names texts
   pub printed : PrintsNeed texts old new
+
+-- the files of these names have texts; it was told why these have no need, or why it was not written; and
+-- nothing of the line was written by then, or a beginning of it
+pub record RefusesNeedOf (files : Option Directory) (names : List (List ℕ))
+    (err_old err_new out_old out_new : Option (List ℕ)) : Type 0 where
+  pub texts : List (List ℕ)
+  pub read : HasFiles files names texts
+  pub told : TellsNoNeed names texts err_old err_new
+  pub printed : StopsNeed texts out_old out_new

@@ -1,21 +1,22 @@
--- What orders make of files, and what they print of them.
+-- What orders make of files, what they print, and why they are refused.
 use Rattle.std.specs.Prelude.{◌≡◌, ◌⊎◌, ℕ, List, [], ◌∷◌, ◌++◌, Err, Ok, Option, None, Some, codes}
+use Rattle.std.specs.Io.KnownBytes.{Keeps}
 use Rattle.clap.specs.Words.{IsAmong, Kinds, Text}
 use Rattle.clap.specs.declared.error.ErrorKind.{ErrorKind}
 use Rattle.clap.specs.declared.error.ErrorKind.TheVariants.{DisplayHelp, DisplayVersion}
 use Rattle.files.specs.Files.{Directory, KeepsFiles}
-use Rattle.answers.specs.Refusals.{Tells, memory_line, refusal_line}
-use Rattle.command_line.specs.Command.{PlaceWanted, Wanted, wants_compile, wants_link, wants_need, wants_place}
-use Rattle.command_line.specs.Command.{wants_program}
+use Rattle.answers.specs.Refusals.{Tells, TellsRefusal, refusal_line}
+use Rattle.command_line.specs.Command.{NeedWanted, PlaceWanted, Wanted, wants_compile, wants_link, wants_need}
+use Rattle.command_line.specs.Command.{wants_place, wants_program}
 use Rattle.command_line.specs.Settings.{Read, ◌>>=◌, only_file, plan_read, values_read}
 use Rattle.command_line.specs.declared.orders.PlaceAction.{PlaceAction}
 use Rattle.command_line.specs.declared.orders.PlaceAction.TheVariants.{Locate, Hex}
 use Rattle.object_commands.specs.Linking.{KeepsOthers, LinksFiles, StopsLinking}
-use Rattle.object_commands.specs.Placing.{PrintsHex, PrintsPlaces}
+use Rattle.object_commands.specs.Placing.{PrintsHex, PrintsPlaces, StopsHex, StopsPlaces}
 use Rattle.program_commands.specs.Compiling.{CompilesFile, StopsCompiling}
-use Rattle.program_commands.specs.Refusing.{RefusesCompiling, RefusesProgram}
+use Rattle.program_commands.specs.Refusing.{RefusesCompiling, RefusesFor, RefusesProgram, RunsOut}
 use Rattle.program_commands.specs.Running.{PrintsProgram}
-use Rattle.commands.specs.Needing.{PrintsNeedOf}
+use Rattle.commands.specs.Needing.{PrintsNeedOf, RefusesNeedOf}
 use Rattle.plans.specs.declared.Plan.{Plan}
 
 -- an order to compile or to link changes no file but the one that it names, and others change none
@@ -26,8 +27,8 @@ ChangesAsWanted (wants_program program) old new = KeepsFiles old new
 ChangesAsWanted (wants_place place) old new = KeepsFiles old new
 ChangesAsWanted (wants_need need) old new = KeepsFiles old new
 
--- the objects that an order to link names are merged in its file, and the source of an order to compile is compiled to its
--- object
+-- the objects that an order to link names are merged in its file, and the source of an order to compile is
+-- compiled to its object
 abbrev pub WritesAsWanted : Wanted → Option Directory → Option Directory → Type 0
 WritesAsWanted (wants_compile compile) old new = CompilesFile old new compile.source compile.object
 WritesAsWanted (wants_link link) old new = LinksFiles old new link.objects link.out
@@ -35,8 +36,8 @@ WritesAsWanted (wants_program program) old new = Unit {0}
 WritesAsWanted (wants_place place) old new = Unit {0}
 WritesAsWanted (wants_need need) old new = Unit {0}
 
--- where an order is not carried out, no file changes, but that of an order to compile or to link may have a beginning of
--- its object
+-- where an order is not carried out, no file changes, but that of an order to compile or to link may have a
+-- beginning of its object
 abbrev pub StopsAsWanted : Wanted → Option Directory → Option Directory → Type 0
 StopsAsWanted (wants_compile compile) old new = StopsCompiling old new compile.source compile.object
 StopsAsWanted (wants_link link) old new = StopsLinking old new link.objects link.out
@@ -59,32 +60,64 @@ pub record PrintsWanted (place : PlaceWanted) (files : Option Directory)
   pub planned : plan_read place.plan ≡ Ok plan
   pub printed : PrintsPlaced place.action files name plan old new
 
--- what an order on an object file prints, and one that tells a need; of other orders nothing is said
+-- of that a beginning was printed, or nothing
+abbrev pub StopsPlaced :
+    PlaceAction → Option Directory → (name : List ℕ) → Plan → (old new : Option (List ℕ)) → Type 0
+StopsPlaced Locate files name plan old new = StopsPlaces files name plan old new
+StopsPlaced Hex files name plan old new = StopsHex files name plan old new
+
+-- what an order on an object file prints, and one that tells a need; one to compile or to link prints nothing.
+-- What one to run or to interpret prints is said below
 abbrev pub PrintsAsWanted : Wanted → Option Directory → (old new : Option (List ℕ)) → Type 0
 PrintsAsWanted (wants_place place) files old new = PrintsWanted place files old new
 PrintsAsWanted (wants_need need) files old new = PrintsNeedOf files need.files old new
-PrintsAsWanted (wants_compile compile) files old new = Unit {0}
-PrintsAsWanted (wants_link link) files old new = Unit {0}
+PrintsAsWanted (wants_compile compile) files old new = Keeps old new
+PrintsAsWanted (wants_link link) files old new = Keeps old new
 PrintsAsWanted (wants_program program) files old new = Unit {0}
 
--- what an order on sources prints where it is not refused; of other orders nothing is said
+-- what an order to run or to interpret sources prints where it is not refused, and the status that it ends
+-- with; any other order ends with status 0 then
 abbrev pub RunsAsWanted : Wanted → Option Directory → (status : ℕ) → (old new : Option (List ℕ)) → Type 0
 RunsAsWanted (wants_program program) files status old new = PrintsProgram program files status old new
-RunsAsWanted (wants_compile compile) files status old new = Unit {0}
-RunsAsWanted (wants_link link) files status old new = Unit {0}
-RunsAsWanted (wants_place place) files status old new = Unit {0}
-RunsAsWanted (wants_need need) files status old new = Unit {0}
+RunsAsWanted (wants_compile compile) files status old new = status ≡ 0
+RunsAsWanted (wants_link link) files status old new = status ≡ 0
+RunsAsWanted (wants_place place) files status old new = status ≡ 0
+RunsAsWanted (wants_need need) files status old new = status ≡ 0
 
--- why an order on sources is refused, and what was told of it; of other orders nothing is said
+-- Why an order on an object file is refused. Its plan is one, and it has one file. What is told is the line of
+-- that file, where its failure was counted, or that of another fault, of which no cause is said. Nothing was
+-- printed by then, or a beginning of what is printed of the file.
+pub record RefusesPlaced (place : PlaceWanted) (files : Option Directory) (before after : ℕ)
+    (err_old err_new out_old out_new : Option (List ℕ)) : Type 0 where
+  pub name : List ℕ
+  pub plan : Plan
+  pub only : only_file place.files ≡ Ok name
+  pub planned : plan_read place.plan ≡ Ok plan
+  pub told : TellsRefusal files (name ∷ []) before after err_old err_new
+  pub printed : StopsPlaced place.action files name plan out_old out_new
+
+-- why an order to tell a need is refused: its plan is one
+pub record RefusesNeed (need : NeedWanted) (files : Option Directory) (before after : ℕ)
+    (err_old err_new out_old out_new : Option (List ℕ)) : Type 0 where
+  pub plan : Plan
+  pub planned : plan_read need.plan ≡ Ok plan
+  pub refused : RefusesFor (RefusesNeedOf files need.files err_old err_new out_old out_new)
+      files need.files before after err_old err_new out_old out_new
+
+-- why an order is refused, what was told of it, and what was printed by then; of an order to link it is only
+-- said that nothing was printed
 abbrev pub RefusesAsWanted :
-    Wanted → Option Directory → (before after : ℕ) → (old new : Option (List ℕ)) → Type 0
-RefusesAsWanted (wants_program program) files before after old new =
-    RefusesProgram program files before after old new
-RefusesAsWanted (wants_compile compile) files before after old new =
-    RefusesCompiling compile files before after old new
-RefusesAsWanted (wants_link link) files before after old new = Unit {0}
-RefusesAsWanted (wants_place place) files before after old new = Unit {0}
-RefusesAsWanted (wants_need need) files before after old new = Unit {0}
+    Wanted → Option Directory → (before after : ℕ)
+    → (err_old err_new out_old out_new : Option (List ℕ)) → Type 0
+RefusesAsWanted (wants_program program) files before after err_old err_new out_old out_new =
+    RefusesProgram program files before after err_old err_new out_old out_new
+RefusesAsWanted (wants_compile compile) files before after err_old err_new out_old out_new =
+    RefusesCompiling compile files before after err_old err_new × Keeps out_old out_new
+RefusesAsWanted (wants_link link) files before after err_old err_new out_old out_new = Keeps out_old out_new
+RefusesAsWanted (wants_place place) files before after err_old err_new out_old out_new =
+    RefusesPlaced place files before after err_old err_new out_old out_new
+RefusesAsWanted (wants_need need) files before after err_old err_new out_old out_new =
+    RefusesNeed need files before after err_old err_new out_old out_new
 
 -- the files that an order reads, in their order, and then the one that it writes
 abbrev pub names_of : Wanted → List (List ℕ)
@@ -115,23 +148,29 @@ abbrev pub PrintsByWords : Option Wanted → Option Directory → (old new : Opt
 PrintsByWords None files old new = Unit {0}
 PrintsByWords (Some wanted) files old new = PrintsAsWanted wanted files old new
 
-abbrev pub RunsByWords : Option Wanted → Option Directory → (status : ℕ) → (old new : Option (List ℕ)) → Type 0
-RunsByWords None files status old new = Unit {0}
+-- words without a fault give an order, where they are not refused
+abbrev pub RunsByWords :
+    Option Wanted → Option Directory → (status : ℕ) → (old new : Option (List ℕ)) → Type 0
+RunsByWords None files status old new = ⊥
 RunsByWords (Some wanted) files status old new = RunsAsWanted wanted files status old new
 
--- the same of words; where those without a fault give no order, memory ran out
-abbrev pub RefusesByWords :
-    Option Wanted → Option Directory → (before after : ℕ) → (old new : Option (List ℕ)) → Type 0
-RefusesByWords None files before after old new = Tells memory_line old new
-RefusesByWords (Some wanted) files before after old new = RefusesAsWanted wanted files before after old new
+-- why words without a fault are refused: memory ran out before their order was known, or the order is refused
+unfoldable pub RefusesByWords :
+    Option Wanted → Option Directory → (before after : ℕ)
+    → (err_old err_new out_old out_new : Option (List ℕ)) → Type 0
+RefusesByWords None files before after err_old err_new out_old out_new =
+    RunsOut before after err_old err_new out_old out_new
+RefusesByWords (Some wanted) files before after err_old err_new out_old out_new =
+    RunsOut before after err_old err_new out_old out_new
+    ⊎ RefusesAsWanted wanted files before after err_old err_new out_old out_new
 
--- the one file of an order on an object, or the first text that is refused: the texts of the plan come first, then
--- the name of a second file
+-- the one file of an order on an object, or the first text that is refused: the texts of the plan come first,
+-- then the name of a second file
 abbrev pub file_read : PlaceWanted → Read Text
 file_read place = plan_read place.plan >>= (λ plan. only_file place.files)
 
--- this text of what is wanted is the first that is refused: it is none of its option's values, or the name of a
--- second file
+-- this text of what is wanted is the first that is refused: it is none of its option's values, or the name of
+-- a second file
 abbrev pub RefusesText : Wanted → (text : List ℕ) → Type 0
 RefusesText (wants_program program) text = values_read program ≡ Err text
 RefusesText (wants_place place) text = file_read place ≡ Err text

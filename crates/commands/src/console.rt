@@ -9,7 +9,7 @@ ghost use Rattle.files.specs.Files.{KeepsFiles};
 ghost use Rattle.command_line.specs.Command.{plm_app, place_in, program_in, wanted_by, wanted_in, wants_place, wants_program};
 ghost use Rattle.program_commands.specs.Refusing.{RefusesProgram};
 ghost use Rattle.program_commands.specs.Running.{PrintsProgram};
-ghost use Rattle.commands.specs.Orders.{AsksHelpAtMost, ChangesAsWanted, ChangesByWords, PrintsAsWanted, PrintsByWords, PrintsWanted, RefusesAsWanted, RefusesByWords, RefusesNoText, RunsAsWanted, RunsByWords, StopsAsWanted, StopsByWords, TellsText, TellsTextByWords, WritesAsWanted, WritesByWords, names_by_words, names_of};
+ghost use Rattle.commands.specs.Orders.{AsksHelpAtMost, ChangesAsWanted, ChangesByWords, PrintsAsWanted, PrintsByWords, PrintsWanted, RefusesAsWanted, RefusesByWords, RefusesNoText, RefusesPlaced, RunsAsWanted, RunsByWords, StopsAsWanted, StopsByWords, TellsText, TellsTextByWords, WritesAsWanted, WritesByWords, names_by_words, names_of};
 ghost use Rattle.commands.specs.internal.LineFaults.{IsWrong};
 
 use crate::needing::tell_need;
@@ -29,9 +29,11 @@ use std::io::Write;
 /// status is 0, and that of `compile`, which has an object module then; both may have a beginning of it otherwise. None changes
 /// where the words have a fault or ask for help or the version. Sources that are run or interpreted, where the status is
 /// neither 1 nor 2, have had printed what the machine does with their image, or what they mean, and the status tells how
-/// that ended. That a file can't be read or written is told, with status 1, just where a failure of the files was counted,
-/// but for a count that is at its greatest value. Where that is not told, sources that are refused with status 1 have a fault
-/// that is told, or memory ran out, or standard output could not be written.
+/// that ended; any other command ends with status 0 then, and `compile` and `link` print nothing. That a file can't be read
+/// or written is told, with status 1, just where a failure of the files was counted, but for a count that is at its greatest
+/// value, and not where a value of the command line is wrong. Where that is not told, sources that are refused with status 1
+/// have a fault that is told, with nothing printed, or memory ran out, or standard output could not be written: then a
+/// beginning of what is printed of them may be there.
 #[tactic(auto, using(crate::proofs::OrdersKept::status_bound, crate::proofs::OrdersKept::done_is, crate::proofs::OrdersKept::not_done, crate::proofs::OrdersKept::not_refused, crate::proofs::OrdersKept::not_wrong, crate::proofs::OrdersKept::refused_is, crate::proofs::TextsTold::wrong_is))]
 pub fn run_command<F: Files, O: Write, E: Write>(
     alloc: Global,
@@ -61,8 +63,11 @@ pub fn run_command<F: Files, O: Write, E: Write>(
         (names_by_words (wanted_by (texts words.now)))
         (F.failures files.old) (F.failures files.new) (E.contents err.old) (E.contents err.new) }
     ensures refused { fault_of plm_app (texts words.now) ≡ [] → result ≡ 1 → RefusesByWords
-        (wanted_by (texts words.now)) (F.files files.old)
-        (F.failures files.old) (F.failures files.new) (E.contents err.old) (E.contents err.new) }
+        (wanted_by (texts words.now)) (F.files files.old) (F.failures files.old) (F.failures files.new)
+        (E.contents err.old) (E.contents err.new) (O.contents out.old) (O.contents out.new) }
+    ensures silent { fault_of plm_app (texts words.now) ≡ [] → result ≡ 2 →
+        O.contents out.new ≡ O.contents out.old }
+    ensures faulty { (fault_of plm_app (texts words.now) ≡ [] → ⊥) → result ≤ 2 }
     ensures count { (result ≡ 1 → ⊥) → F.failures files.new ≡ F.failures files.old }
     ensures quiet { (result ≡ 1 → ⊥) → (result ≡ 2 → ⊥) →
         E.contents err.new ≡ E.contents err.old }
@@ -72,7 +77,7 @@ pub fn run_command<F: Files, O: Write, E: Write>(
 }
 
 // Carries out the words of a command line.
-#[tactic(auto, using(crate::proofs::OrdersKept::by_words, crate::proofs::OrdersKept::written_by_words, crate::proofs::OrdersKept::prints_by_words, crate::proofs::OrdersKept::stops_by_words, crate::proofs::OrdersKept::told_by_words, crate::proofs::TextsTold::text_by_words))]
+#[tactic(auto, using(crate::proofs::OrdersKept::by_words, crate::proofs::OrdersKept::written_by_words, crate::proofs::OrdersKept::prints_by_words, crate::proofs::OrdersKept::stops_by_words, crate::proofs::OrdersKept::told_by_words, crate::proofs::OrdersKept::refused_mild, crate::proofs::TextsTold::text_by_words))]
 fn end_words<F: Files, O: Write, E: Write>(
     alloc: Global,
     words: &[&str],
@@ -100,8 +105,11 @@ fn end_words<F: Files, O: Write, E: Write>(
         (names_by_words (wanted_by (texts words.now)))
         (F.failures files.old) (F.failures files.new) (E.contents err.old) (E.contents err.new) }
     ensures refused { fault_of plm_app (texts words.now) ≡ [] → result ≡ Ending.Refused → RefusesByWords
-        (wanted_by (texts words.now)) (F.files files.old)
-        (F.failures files.old) (F.failures files.new) (E.contents err.old) (E.contents err.new) }
+        (wanted_by (texts words.now)) (F.files files.old) (F.failures files.old) (F.failures files.new)
+        (E.contents err.old) (E.contents err.new) (O.contents out.old) (O.contents out.new) }
+    ensures silent { fault_of plm_app (texts words.now) ≡ [] → result ≡ Ending.WrongLine →
+        O.contents out.new ≡ O.contents out.old }
+    ensures faulty { (fault_of plm_app (texts words.now) ≡ [] → ⊥) → status_of result ≤ 2 }
     ensures count { (result ≡ Ending.Refused → ⊥) → F.failures files.new ≡ F.failures files.old }
     ensures quiet { (result ≡ Ending.Refused → ⊥) → (result ≡ Ending.WrongLine → ⊥) →
         E.contents err.new ≡ E.contents err.old }
@@ -114,7 +122,9 @@ fn end_words<F: Files, O: Write, E: Write>(
 }
 
 // Prints why the command line gives no order, or the help or the version that it asks for.
+#[tactic(auto, using(crate::proofs::OrdersKept::refused_mild))]
 fn end_line<O: Write, E: Write>(fault: &LineFault, out: &mut O, err: &mut E) -> Ending
+    ensures ending { status_of result ≤ 2 }
     ensures not_wrong { result ≡ Ending.WrongLine → IsWrong fault.now }
     ensures told { result ≡ Ending.Refused → TellsOther (E.contents err.old) (E.contents err.new) }
     ensures quiet { (result ≡ Ending.Refused → ⊥) → (result ≡ Ending.WrongLine → ⊥) →
@@ -133,7 +143,7 @@ fn end_line<O: Write, E: Write>(fault: &LineFault, out: &mut O, err: &mut E) -> 
 }
 
 // Carries out an order.
-#[tactic(auto, using(crate::proofs::OrdersKept::kept_as_wanted))]
+#[tactic(auto, using(crate::proofs::OrdersKept::kept_as_wanted, crate::proofs::OrdersKept::done_status, crate::proofs::OrdersKept::other_status, crate::proofs::ProgramsTold::refuses_compile, program_commands::proofs::Printed::stays_written))]
 fn carry_out<F: Files, O: Write, E: Write>(
     alloc: Global,
     order: &Order,
@@ -157,7 +167,9 @@ fn carry_out<F: Files, O: Write, E: Write>(
         (names_of (wanted_in order.now))
         (F.failures files.old) (F.failures files.new) (E.contents err.old) (E.contents err.new) }
     ensures refused { result ≡ Ending.Refused → RefusesAsWanted (wanted_in order.now) (F.files files.old)
-        (F.failures files.old) (F.failures files.new) (E.contents err.old) (E.contents err.new) }
+        (F.failures files.old) (F.failures files.new)
+        (E.contents err.old) (E.contents err.new) (O.contents out.old) (O.contents out.new) }
+    ensures silent { result ≡ Ending.WrongLine → O.contents out.new ≡ O.contents out.old }
     ensures count { (result ≡ Ending.Refused → ⊥) → F.failures files.new ≡ F.failures files.old }
     ensures quiet { (result ≡ Ending.Refused → ⊥) → (result ≡ Ending.WrongLine → ⊥) →
         E.contents err.new ≡ E.contents err.old }
@@ -172,7 +184,7 @@ fn carry_out<F: Files, O: Write, E: Write>(
 }
 
 // Carries out an order on an object file, once the values of its options are known.
-#[tactic(auto, using(answers::proofs::FilesRead::stays, crate::proofs::OrdersKept::told_of_only, crate::proofs::TextsTold::done_or_refused, crate::proofs::TextsTold::tells_plan, crate::proofs::TextsTold::tells_second))]
+#[tactic(auto, using(answers::proofs::FilesRead::stays, crate::proofs::OrdersKept::told_of_only, crate::proofs::TextsTold::done_or_refused, crate::proofs::TextsTold::tells_plan, crate::proofs::TextsTold::tells_second, crate::proofs::NeedTold::is_done, crate::proofs::NeedTold::refused_not_done, crate::proofs::ProgramsTold::refuses_placed))]
 fn carry_out_place<F: Files, O: Write, E: Write>(
     alloc: Global,
     order: &PlaceOrder,
@@ -183,8 +195,14 @@ fn carry_out_place<F: Files, O: Write, E: Write>(
     ensures unchanged { KeepsFiles (F.files files.old) (F.files files.new) }
     ensures printed { result ≡ Ending.Done → PrintsWanted (place_in order.now) (F.files files.old)
         (O.contents out.old) (O.contents out.new) }
+    ensures done { (result ≡ Ending.Refused → ⊥) → (result ≡ Ending.WrongLine → ⊥) →
+        result ≡ Ending.Done }
     ensures refused_text { result ≡ Ending.WrongLine → TellsText (wants_place (place_in order.now))
         (E.contents err.old) (E.contents err.new) }
+    ensures silent { result ≡ Ending.WrongLine → O.contents out.new ≡ O.contents out.old }
+    ensures refused { result ≡ Ending.Refused → RefusesPlaced (place_in order.now) (F.files files.old)
+        (F.failures files.old) (F.failures files.new)
+        (E.contents err.old) (E.contents err.new) (O.contents out.old) (O.contents out.new) }
     ensures told { result ≡ Ending.Refused → TellsRefusal (F.files files.old)
         (place_in order.now).files
         (F.failures files.old) (F.failures files.new) (E.contents err.old) (E.contents err.new) }
@@ -218,11 +236,13 @@ fn carry_out_program<F: Files, O: Write, E: Write>(
     ensures unchanged { KeepsFiles (F.files files.old) (F.files files.new) }
     ensures refused_text { result ≡ Ending.WrongLine → TellsText (wants_program (program_in order.now))
         (E.contents err.old) (E.contents err.new) }
+    ensures silent { result ≡ Ending.WrongLine → O.contents out.new ≡ O.contents out.old }
     ensures told { result ≡ Ending.Refused → TellsRefusal (F.files files.old)
         (program_in order.now).files
         (F.failures files.old) (F.failures files.new) (E.contents err.old) (E.contents err.new) }
     ensures refused { result ≡ Ending.Refused → RefusesProgram (program_in order.now) (F.files files.old)
-        (F.failures files.old) (F.failures files.new) (E.contents err.old) (E.contents err.new) }
+        (F.failures files.old) (F.failures files.new)
+        (E.contents err.old) (E.contents err.new) (O.contents out.old) (O.contents out.new) }
     ensures count { (result ≡ Ending.Refused → ⊥) → F.failures files.new ≡ F.failures files.old }
     ensures quiet { (result ≡ Ending.Refused → ⊥) → (result ≡ Ending.WrongLine → ⊥) →
         E.contents err.new ≡ E.contents err.old }

@@ -5,9 +5,10 @@ ghost use Rattle.answers.specs.Refusals.{TellsOther, TellsRefusal};
 ghost use Rattle.files.specs.Files.{KeepsFiles};
 ghost use Rattle.program_sources.specs.Programs.{texts_of};
 ghost use Rattle.command_line.specs.Command.{need_in, wants_need};
-ghost use Rattle.need_command.specs.Printing.{PrintsNeed};
-ghost use Rattle.commands.specs.Needing.{PrintsNeedOf};
-ghost use Rattle.commands.specs.Orders.{TellsText};
+ghost use Rattle.need_command.specs.Printing.{PrintsNeed, StopsNeed, TellsNoNeed};
+ghost use Rattle.program_commands.specs.Refusing.{RefusesFor};
+ghost use Rattle.commands.specs.Needing.{PrintsNeedOf, RefusesNeedOf};
+ghost use Rattle.commands.specs.Orders.{RefusesNeed, TellsText};
 
 use crate::refusals::refuse_value;
 use answers::{Ending, read_files, refuse_file, refuse_memory};
@@ -21,7 +22,7 @@ use std::alloc::Global;
 use std::io::Write;
 
 /// Prints how much of the stack the program of the sources of an order needs, once the plan beside them is one.
-#[tactic(auto, using(answers::proofs::FilesRead::stays, crate::proofs::NeedTold::done_or_refused, crate::proofs::NeedTold::tells_plan))]
+#[tactic(auto, using(answers::proofs::FilesRead::stays, crate::proofs::NeedTold::done_or_refused, crate::proofs::NeedTold::is_done, crate::proofs::NeedTold::refuses_need, crate::proofs::NeedTold::tells_plan))]
 pub(crate) fn tell_need<F: Files, O: Write, E: Write>(
     alloc: Global,
     order: &NeedOrder,
@@ -32,8 +33,14 @@ pub(crate) fn tell_need<F: Files, O: Write, E: Write>(
     ensures unchanged { KeepsFiles (F.files files.old) (F.files files.new) }
     ensures printed { result ≡ Ending.Done → PrintsNeedOf (F.files files.old) (need_in order.now).files
         (O.contents out.old) (O.contents out.new) }
+    ensures done { (result ≡ Ending.Refused → ⊥) → (result ≡ Ending.WrongLine → ⊥) →
+        result ≡ Ending.Done }
     ensures refused_text { result ≡ Ending.WrongLine → TellsText (wants_need (need_in order.now))
         (E.contents err.old) (E.contents err.new) }
+    ensures silent { result ≡ Ending.WrongLine → O.contents out.new ≡ O.contents out.old }
+    ensures refused { result ≡ Ending.Refused → RefusesNeed (need_in order.now) (F.files files.old)
+        (F.failures files.old) (F.failures files.new)
+        (E.contents err.old) (E.contents err.new) (O.contents out.old) (O.contents out.new) }
     ensures told { result ≡ Ending.Refused → TellsRefusal (F.files files.old) (need_in order.now).files
         (F.failures files.old) (F.failures files.new) (E.contents err.old) (E.contents err.new) }
     ensures count { (result ≡ Ending.Refused → ⊥) → F.failures files.new ≡ F.failures files.old }
@@ -58,6 +65,11 @@ fn tell_of_files<F: Files, O: Write, E: Write>(
     ensures printed { result ≡ Ending.Done → PrintsNeedOf (F.files files.old) (need_in order.now).files
         (O.contents out.old) (O.contents out.new) }
     ensures ending { (result ≡ Ending.Done) ⊎ (result ≡ Ending.Refused) }
+    ensures refused { result ≡ Ending.Refused → RefusesFor
+        (RefusesNeedOf (F.files files.old) (need_in order.now).files
+        (E.contents err.old) (E.contents err.new) (O.contents out.old) (O.contents out.new))
+        (F.files files.old) (need_in order.now).files (F.failures files.old) (F.failures files.new)
+        (E.contents err.old) (E.contents err.new) (O.contents out.old) (O.contents out.new) }
     ensures told { result ≡ Ending.Refused → TellsRefusal (F.files files.old) (need_in order.now).files
         (F.failures files.old) (F.failures files.new) (E.contents err.old) (E.contents err.new) }
     ensures count { (result ≡ Ending.Refused → ⊥) → F.failures files.new ≡ F.failures files.old }
@@ -76,6 +88,7 @@ fn tell_of_files<F: Files, O: Write, E: Write>(
 }
 
 // Prints the need of the program of the sources of an order.
+#[tactic(auto, using(crate::proofs::NeedTold::refused_not_done, crate::proofs::NeedTold::no_need_by))]
 fn tell_of_sources<O: Write, E: Write>(
     alloc: Global,
     order: &NeedOrder,
@@ -86,6 +99,10 @@ fn tell_of_sources<O: Write, E: Write>(
     ensures printed { result ≡ Ending.Done → PrintsNeed (texts_of sources.now)
         (O.contents out.old) (O.contents out.new) }
     ensures ending { (result ≡ Ending.Done) ⊎ (result ≡ Ending.Refused) }
+    ensures refused { result ≡ Ending.Refused → TellsNoNeed (need_in order.now).files (texts_of sources.now)
+        (E.contents err.old) (E.contents err.new) }
+    ensures stopped { result ≡ Ending.Refused → StopsNeed (texts_of sources.now)
+        (O.contents out.old) (O.contents out.new) }
     ensures told { result ≡ Ending.Refused → TellsOther (E.contents err.old) (E.contents err.new) }
     ensures quiet { (result ≡ Ending.Refused → ⊥) → E.contents err.new ≡ E.contents err.old }
 {

@@ -10,4 +10,3 @@ pub mod Map
 pub mod Running
 pub mod Faults
 pub mod Refusing
-pub mod internal

@@ -1,6 +1,8 @@
 -- What is printed of a program that is run or interpreted.
-use Rattle.std.specs.Prelude.{◌≡◌, ℕ, ◌==◌, Bool, List, [], ◌++◌, codes, filter, map, Ok, Option, Some, None}
+use Rattle.std.specs.Prelude.{◌≡◌, ◌⊎◌, ℕ, ◌==◌, ◌≤◌, Bool, List, [], ◌++◌, codes, filter, length, map}
+use Rattle.std.specs.Prelude.{Ok, Option, Some, None}
 use Rattle.std.specs.Io.KnownBytes.{Appends}
+use Rattle.writing.specs.Writing.{AppendsBeginning}
 use Rattle.mem80.specs.Memory.{zeros}
 use Rattle.ports.specs.declared.event.Event.{Event}
 use Rattle.ports.specs.Events.{IsBeginning}
@@ -21,6 +23,7 @@ use Rattle.command_line.specs.Settings.{Values, values_read}
 use Rattle.command_line.specs.declared.orders.Action.{Action}
 use Rattle.command_line.specs.declared.orders.Action.TheVariants as actions
 use Rattle.command_line.specs.declared.values.InputByte.{InputByte}
+use Rattle.program_sources.specs.declared.sources.TheConstants.{MOST_SOURCES}
 use Rattle.program_sources.specs.Programs.{IsProgramOf, program_modules}
 use Rattle.tool.specs.Construction.{Construction, IsConstruction}
 use Rattle.tool.specs.Execution.{source_of, started}
@@ -53,6 +56,16 @@ pub record PrintsMachine (before : List ℕ) (values : Values) (built : Construc
   pub run : IsRun values.limit (started built.image zeros script [] 0) end machine
   pub ended : status ≡ end_status end
   pub printed : Appends old new (before ++ report_of machine.state.events (end_word end))
+
+-- a beginning of that was printed
+pub record BeginsMachine (before : List ℕ) (values : Values) (built : Construction)
+    (old new : Option (List ℕ)) : Type 0 where
+  pub script : List (List ℕ)
+  pub gives : GivesInput values.input script
+  pub end : End
+  pub machine : Machine
+  pub run : IsRun values.limit (started built.image zeros script [] 0) end machine
+  pub printed : AppendsBeginning old new (before ++ report_of machine.state.events (end_word end))
 
 -- a run of a source as it ended, with its events, or a port that failed, with a beginning of them
 abbrev pub DoesAs : Run → (end : Option Stop) → (events : List Event) → Type 0
@@ -87,6 +100,16 @@ pub record PrintsMeaning (before : List ℕ) (values : Values) (built : Construc
   pub ended : status ≡ source_status end
   pub printed : Appends old new (before ++ report_of events (source_word end))
 
+-- a beginning of that was printed
+pub record BeginsMeaning (before : List ℕ) (values : Values) (built : Construction)
+    (old new : Option (List ℕ)) : Type 0 where
+  pub script : List (List ℕ)
+  pub gives : GivesInput values.input script
+  pub end : Option Stop
+  pub events : List Event
+  pub does : DoesAs (source_of built zeros script [] values.limit) end events
+  pub printed : AppendsBeginning old new (before ++ report_of events (source_word end))
+
 -- what an action prints of a program
 abbrev pub PrintsBuilt :
     Action → (before : List ℕ) → Values → Construction → (status : ℕ) → (old new : Option (List ℕ)) → Type 0
@@ -94,11 +117,23 @@ PrintsBuilt actions.Run before values built status old new = PrintsMachine befor
 PrintsBuilt actions.Interpret before values built status old new =
     PrintsMeaning before values built status old new
 
--- a program was built of these texts, at the plan of these values, and what an action prints of it was
--- printed, after its map where one is wanted
+-- a beginning of that was printed: of the text before, or of that and what follows it
+abbrev pub BeginsBuilt :
+    Action → (before : List ℕ) → Values → Construction → (old new : Option (List ℕ)) → Type 0
+BeginsBuilt actions.Run before values built old new = BeginsMachine before values built old new
+BeginsBuilt actions.Interpret before values built old new = BeginsMeaning before values built old new
+
+unfoldable pub StopsBuilt :
+    Action → (before : List ℕ) → Values → Construction → (old new : Option (List ℕ)) → Type 0
+StopsBuilt action before values built old new =
+    AppendsBeginning old new before ⊎ BeginsBuilt action before values built old new
+
+-- a program was built of these texts, which are not too many, at the plan of these values, and what an action
+-- prints of it was printed, after its map where one is wanted
 pub record PrintsTexts (action : Action) (map : Bool) (values : Values) (texts : List (List ℕ)) (status : ℕ)
     (old new : Option (List ℕ)) : Type 0 where
   pub built : Construction
+  pub few : length texts ≤ MOST_SOURCES
   pub program : IsProgramOf texts (program_modules built.program)
   pub plan : built.plan ≡ values.plan
   pub construction : IsConstruction built

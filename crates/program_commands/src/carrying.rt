@@ -7,7 +7,7 @@ ghost use Rattle.files.specs.Files.{KeepsFiles};
 ghost use Rattle.command_line.specs.Command.{program_in};
 ghost use Rattle.command_line.specs.Settings.{values_in};
 ghost use Rattle.program_sources.specs.Programs.{texts_of};
-ghost use Rattle.program_commands.specs.Refusing.{RefusesFor, TellsNoProgram, TellsOfFiles};
+ghost use Rattle.program_commands.specs.Refusing.{RefusesFiles, RefusesFor, RefusesTexts};
 ghost use Rattle.program_commands.specs.Running.{PrintsFiles, PrintsTexts};
 
 use crate::interpreting::interpret_sources;
@@ -23,7 +23,8 @@ use tool::Source;
 
 /// Reads the files of an order, builds the program of their texts with these values, and runs or interprets it. Where the
 /// order is refused, the line is told of the first file that can't be read, or that memory ran out, or of the fault of the
-/// sources, or of standard output.
+/// sources, with nothing printed; or a program was built, a beginning of what is printed of it was printed, and the line is
+/// that of memory or of standard output.
 pub fn carry_out_sources<F: Files, O: Write, E: Write>(
     alloc: Global,
     order: &ProgramOrder,
@@ -38,10 +39,10 @@ pub fn carry_out_sources<F: Files, O: Write, E: Write>(
         (program_in order.now).files
         (F.failures files.old) (F.failures files.new) (E.contents err.old) (E.contents err.new) }
     ensures refused { result ≡ Ending.Refused → RefusesFor
-        (TellsOfFiles (program_in order.now) (values_in values.now) (F.files files.old)
-        (E.contents err.old) (E.contents err.new))
-        (F.files files.old) (program_in order.now).files
-        (F.failures files.old) (F.failures files.new) (E.contents err.old) (E.contents err.new) }
+        (RefusesFiles (program_in order.now) (values_in values.now) (F.files files.old)
+        (E.contents err.old) (E.contents err.new) (O.contents out.old) (O.contents out.new))
+        (F.files files.old) (program_in order.now).files (F.failures files.old) (F.failures files.new)
+        (E.contents err.old) (E.contents err.new) (O.contents out.old) (O.contents out.new) }
     ensures count { (result ≡ Ending.Refused → ⊥) → F.failures files.new ≡ F.failures files.old }
     ensures quiet { (result ≡ Ending.Refused → ⊥) → E.contents err.new ≡ E.contents err.old }
     ensures ran { (result ≡ Ending.Refused → ⊥) →
@@ -72,8 +73,9 @@ fn act<O: Write, E: Write>(
     ensures not_wrong { result ≡ Ending.WrongLine → ⊥ }
     ensures told { result ≡ Ending.Refused → TellsOther (E.contents err.old) (E.contents err.new) }
     ensures refused { result ≡ Ending.Refused →
-        TellsNoProgram (program_in order.now).files (texts_of sources.now) values.now.plan
-        (E.contents err.old) (E.contents err.new) }
+        RefusesTexts order.now.action order.now.map (values_in values.now)
+        (program_in order.now).files (texts_of sources.now)
+        (E.contents err.old) (E.contents err.new) (O.contents out.old) (O.contents out.new) }
     ensures quiet { (result ≡ Ending.Refused → ⊥) → E.contents err.new ≡ E.contents err.old }
     ensures ran { (result ≡ Ending.Refused → ⊥) → PrintsTexts order.now.action order.now.map
         (values_in values.now) (texts_of sources.now) (status_of result)

@@ -1,6 +1,6 @@
 //! Programs that are interpreted.
 
-ghost use Rattle.std.specs.Prelude.{◌≡◌, [], IfOk, option_map};
+ghost use Rattle.std.specs.Prelude.{◌≡◌, [], IfOk, OnErr, option_map};
 ghost use Rattle.answers.specs.Endings.{status_of};
 ghost use Rattle.answers.specs.Refusals.{TellsOther};
 ghost use Rattle.command_line.specs.Command.{program_in};
@@ -10,9 +10,8 @@ ghost use Rattle.program_sources.specs.Programs.{texts_of};
 ghost use Rattle.stack_machine.specs.Runs.{stop_of};
 ghost use Rattle.tool.specs.Execution.{source_of};
 ghost use Rattle.program_commands.specs.Map.{map_if};
-ghost use Rattle.program_commands.specs.Refusing.{TellsNoProgram};
-ghost use Rattle.program_commands.specs.Running.{DoesAs, PrintsMeaning, PrintsTexts, source_status, source_word};
-ghost use Rattle.program_commands.specs.internal.Unwritten.{TellsUnwritten};
+ghost use Rattle.program_commands.specs.Refusing.{RefusesTexts, TellsUnwritten};
+ghost use Rattle.program_commands.specs.Running.{DoesAs, PrintsMeaning, PrintsTexts, StopsBuilt, source_status, source_word};
 
 use crate::loading::script_of;
 use crate::map::print_map;
@@ -31,7 +30,7 @@ use tool::{Built, Source, build};
 use writing::WriteFault;
 
 /// Builds the program of sources, and interprets it from a memory of zeros.
-#[tactic(auto, using(crate::proofs::Untold::tells_memory, crate::proofs::Untold::tells_unwritten))]
+#[tactic(auto, using(crate::proofs::Untold::tells_memory))]
 pub(crate) fn interpret_sources<O: Write, E: Write>(
     alloc: Global,
     order: &ProgramOrder,
@@ -43,8 +42,9 @@ pub(crate) fn interpret_sources<O: Write, E: Write>(
     ensures not_wrong { result ≡ Ending.WrongLine → ⊥ }
     ensures told { result ≡ Ending.Refused → TellsOther (E.contents err.old) (E.contents err.new) }
     ensures refused { result ≡ Ending.Refused →
-        TellsNoProgram (program_in order.now).files (texts_of sources.now) settings.now.plan
-        (E.contents err.old) (E.contents err.new) }
+        RefusesTexts Interpret order.now.map (values_in settings.now)
+        (program_in order.now).files (texts_of sources.now)
+        (E.contents err.old) (E.contents err.new) (O.contents out.old) (O.contents out.new) }
     ensures quiet { (result ≡ Ending.Refused → ⊥) → E.contents err.new ≡ E.contents err.old }
     ensures ran { (result ≡ Ending.Refused → ⊥) → PrintsTexts Interpret order.now.map
         (values_in settings.now) (texts_of sources.now) (status_of result)
@@ -70,6 +70,8 @@ fn interpret_program<O: Write, E: Write>(
     ensures not_wrong { result ≡ Ending.WrongLine → ⊥ }
     ensures told { result ≡ Ending.Refused → TellsOther (E.contents err.old) (E.contents err.new) }
     ensures refused { result ≡ Ending.Refused → TellsUnwritten (E.contents err.old) (E.contents err.new) }
+    ensures stopped { result ≡ Ending.Refused → StopsBuilt Interpret (map_if order.now.map built.now)
+        (values_in settings.now) built.now (O.contents out.old) (O.contents out.new) }
     ensures quiet { (result ≡ Ending.Refused → ⊥) → E.contents err.new ≡ E.contents err.old }
     ensures ran { (result ≡ Ending.Refused → ⊥) → PrintsMeaning (map_if order.now.map built.now)
         (values_in settings.now) built.now (status_of result) (O.contents out.old) (O.contents out.new) }
@@ -81,8 +83,9 @@ fn interpret_program<O: Write, E: Write>(
     }
 }
 
-// Prints the map of a program, where one is wanted, and then what the program does.
-#[tactic(auto, using(crate::proofs::Printed::meaning_with_map, crate::proofs::Printed::meaning_alone))]
+// Prints the map of a program, where one is wanted, and then what the program does. After a failure a beginning of that
+// was printed.
+#[tactic(auto, using(crate::proofs::Printed::meaning_with_map, crate::proofs::Printed::meaning_alone, crate::proofs::Printed::map_stops, crate::proofs::Printed::stops_with_map, crate::proofs::Printed::stops_alone))]
 fn print_program<O: Write>(
     alloc: Global,
     map: bool,
@@ -90,8 +93,10 @@ fn print_program<O: Write>(
     built: &Built,
     out: &mut O,
 ) -> Result<Option<SourceEnd>, Failure<WriteFault>>
-    ensures { IfOk result (λ end. PrintsMeaning (map_if map built.now) (values_in settings.now) built.now
+    ensures ok { IfOk result (λ end. PrintsMeaning (map_if map built.now) (values_in settings.now) built.now
         (source_status (option_map stop_of end)) (O.contents out.old) (O.contents out.new)) }
+    ensures err { OnErr result (StopsBuilt Interpret (map_if map built.now) (values_in settings.now) built.now
+        (O.contents out.old) (O.contents out.new)) }
 {
     if map {
         print_map(alloc, built, out)?;
@@ -100,16 +105,18 @@ fn print_program<O: Write>(
     Ok(end)
 }
 
-// Prints what a program does from a memory of zeros.
-#[tactic(auto, using(crate::proofs::Printed::prints_meaning))]
+// Prints what a program does from a memory of zeros. After a failure a beginning of that was printed.
+#[tactic(auto, using(crate::proofs::Printed::prints_meaning, crate::proofs::Printed::nothing_stops))]
 fn print_meaning<O: Write>(
     alloc: Global,
     settings: &Settings,
     built: &Built,
     out: &mut O,
 ) -> Result<Option<SourceEnd>, Failure<WriteFault>>
-    ensures { IfOk result (λ end. PrintsMeaning [] (values_in settings.now) built.now
+    ensures ok { IfOk result (λ end. PrintsMeaning [] (values_in settings.now) built.now
         (source_status (option_map stop_of end)) (O.contents out.old) (O.contents out.new)) }
+    ensures err { OnErr result (StopsBuilt Interpret [] (values_in settings.now) built.now
+        (O.contents out.old) (O.contents out.new)) }
 {
     let Ok(memory) = Memory::new(alloc) else {
         return Err(Failure::Memory);

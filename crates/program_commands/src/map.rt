@@ -1,7 +1,8 @@
 //! Where the objects of a program lie, line by line.
 
-ghost use Rattle.std.specs.Prelude.{◌≡◌, ◌++◌, [], IfOk, OnOk, map};
+ghost use Rattle.std.specs.Prelude.{◌≡◌, ◌++◌, [], IfOk, OnErr, OnOk, map};
 ghost use Rattle.std.specs.Io.KnownBytes.{Appends};
+ghost use Rattle.writing.specs.Writing.{AppendsBeginning};
 ghost use Rattle.typed_trees.specs.Views.{module_view, object_view};
 ghost use Rattle.layout.specs.Placement.{kind_of};
 ghost use Rattle.placing.specs.Views.{module_placement_view};
@@ -106,13 +107,16 @@ fn lines_of(alloc: Global, built: &Built) -> io::Result<Vec<u8>>
 }
 
 /// Prints where each object lies that has storage or a place by AT, in the order of the modules and of their texts: the
-/// name of its module, its own, its address and how many bytes it takes.
+/// name of its module, its own, its address and how many bytes it takes. After a failure a beginning of that was printed.
+#[tactic(auto, using(crate::proofs::Printed::nothing_begun))]
 pub(crate) fn print_map<O: Write>(
     alloc: Global,
     built: &Built,
     out: &mut O,
 ) -> Result<(), Failure<WriteFault>>
-    ensures { OnOk result (Appends (O.contents out.old) (O.contents out.new) (map_of built.now)) }
+    ensures ok { OnOk result (Appends (O.contents out.old) (O.contents out.new) (map_of built.now)) }
+    ensures err { OnErr result
+        (AppendsBeginning (O.contents out.old) (O.contents out.new) (map_of built.now)) }
 {
     match lines_of(alloc, built) {
         Ok(lines) => write_bytes(out, lines.as_slice()),

@@ -1,6 +1,6 @@
 //! Runs of programs on the 8080.
 
-ghost use Rattle.std.specs.Prelude.{◌≡◌, [], IfOk};
+ghost use Rattle.std.specs.Prelude.{◌≡◌, [], IfOk, OnErr};
 ghost use Rattle.answers.specs.Endings.{status_of};
 ghost use Rattle.answers.specs.Refusals.{TellsOther};
 ghost use Rattle.command_line.specs.Command.{program_in};
@@ -8,9 +8,8 @@ ghost use Rattle.command_line.specs.Settings.{values_in};
 ghost use Rattle.command_line.specs.declared.orders.Action.TheVariants.{Run};
 ghost use Rattle.program_sources.specs.Programs.{texts_of};
 ghost use Rattle.program_commands.specs.Map.{map_if};
-ghost use Rattle.program_commands.specs.Refusing.{TellsNoProgram};
-ghost use Rattle.program_commands.specs.Running.{PrintsMachine, PrintsTexts, end_status};
-ghost use Rattle.program_commands.specs.internal.Unwritten.{TellsUnwritten};
+ghost use Rattle.program_commands.specs.Refusing.{RefusesTexts, TellsUnwritten};
+ghost use Rattle.program_commands.specs.Running.{PrintsMachine, PrintsTexts, StopsBuilt, end_status};
 
 use crate::loading::script_of;
 use crate::map::print_map;
@@ -26,7 +25,7 @@ use tool::{Built, Source, build, print_run};
 use writing::WriteFault;
 
 /// Builds the program of sources, and runs its image on a memory of zeros.
-#[tactic(auto, using(crate::proofs::Untold::tells_memory, crate::proofs::Untold::tells_unwritten))]
+#[tactic(auto, using(crate::proofs::Untold::tells_memory))]
 pub(crate) fn run_sources<O: Write, E: Write>(
     alloc: Global,
     order: &ProgramOrder,
@@ -38,8 +37,9 @@ pub(crate) fn run_sources<O: Write, E: Write>(
     ensures not_wrong { result ≡ Ending.WrongLine → ⊥ }
     ensures told { result ≡ Ending.Refused → TellsOther (E.contents err.old) (E.contents err.new) }
     ensures refused { result ≡ Ending.Refused →
-        TellsNoProgram (program_in order.now).files (texts_of sources.now) settings.now.plan
-        (E.contents err.old) (E.contents err.new) }
+        RefusesTexts Run order.now.map (values_in settings.now)
+        (program_in order.now).files (texts_of sources.now)
+        (E.contents err.old) (E.contents err.new) (O.contents out.old) (O.contents out.new) }
     ensures quiet { (result ≡ Ending.Refused → ⊥) → E.contents err.new ≡ E.contents err.old }
     ensures ran { (result ≡ Ending.Refused → ⊥) → PrintsTexts Run order.now.map
         (values_in settings.now) (texts_of sources.now) (status_of result)
@@ -65,6 +65,8 @@ fn run_built<O: Write, E: Write>(
     ensures not_wrong { result ≡ Ending.WrongLine → ⊥ }
     ensures told { result ≡ Ending.Refused → TellsOther (E.contents err.old) (E.contents err.new) }
     ensures refused { result ≡ Ending.Refused → TellsUnwritten (E.contents err.old) (E.contents err.new) }
+    ensures stopped { result ≡ Ending.Refused → StopsBuilt Run (map_if order.now.map built.now)
+        (values_in settings.now) built.now (O.contents out.old) (O.contents out.new) }
     ensures quiet { (result ≡ Ending.Refused → ⊥) → E.contents err.new ≡ E.contents err.old }
     ensures ran { (result ≡ Ending.Refused → ⊥) → PrintsMachine (map_if order.now.map built.now)
         (values_in settings.now) built.now (status_of result) (O.contents out.old) (O.contents out.new) }
@@ -76,8 +78,9 @@ fn run_built<O: Write, E: Write>(
     }
 }
 
-// Prints the map of a program, where one is wanted, and then what its image does.
-#[tactic(auto, using(crate::proofs::Printed::machine_with_map, crate::proofs::Printed::machine_alone))]
+// Prints the map of a program, where one is wanted, and then what its image does. After a failure a beginning of that was
+// printed.
+#[tactic(auto, using(crate::proofs::Printed::machine_with_map, crate::proofs::Printed::machine_alone, crate::proofs::Printed::map_stops, crate::proofs::Printed::stops_with_map, crate::proofs::Printed::stops_alone))]
 fn print_built<O: Write>(
     alloc: Global,
     map: bool,
@@ -85,8 +88,10 @@ fn print_built<O: Write>(
     built: &Built,
     out: &mut O,
 ) -> Result<End, Failure<WriteFault>>
-    ensures { IfOk result (λ end. PrintsMachine (map_if map built.now) (values_in settings.now) built.now
+    ensures ok { IfOk result (λ end. PrintsMachine (map_if map built.now) (values_in settings.now) built.now
         (end_status end) (O.contents out.old) (O.contents out.new)) }
+    ensures err { OnErr result (StopsBuilt Run (map_if map built.now) (values_in settings.now) built.now
+        (O.contents out.old) (O.contents out.new)) }
 {
     if map {
         print_map(alloc, built, out)?;
@@ -95,16 +100,18 @@ fn print_built<O: Write>(
     Ok(end)
 }
 
-// Prints what an image does on a memory of zeros.
-#[tactic(auto, using(crate::proofs::Printed::prints_machine))]
+// Prints what an image does on a memory of zeros. After a failure a beginning of that was printed.
+#[tactic(auto, using(crate::proofs::Printed::prints_machine, crate::proofs::Printed::nothing_stops))]
 fn print_image<O: Write>(
     alloc: Global,
     settings: &Settings,
     built: &Built,
     out: &mut O,
 ) -> Result<End, Failure<WriteFault>>
-    ensures { IfOk result (λ end. PrintsMachine [] (values_in settings.now) built.now
+    ensures ok { IfOk result (λ end. PrintsMachine [] (values_in settings.now) built.now
         (end_status end) (O.contents out.old) (O.contents out.new)) }
+    ensures err { OnErr result (StopsBuilt Run [] (values_in settings.now) built.now
+        (O.contents out.old) (O.contents out.new)) }
 {
     let Ok(memory) = Memory::new(alloc) else {
         return Err(Failure::Memory);

@@ -1,7 +1,7 @@
 use Rattle.std.proofs.Common.{refl}
 use Rattle.answers.proofs.LinesPrinted.{tells_no_file}
-use Rattle.program_commands.proofs.Untold.{for_memory}
-use Rattle.commands.proofs.ProgramsTold.{prints_program, refuses_program}
+use Rattle.program_commands.proofs.Untold.{refuses_memory, refuses_values, runs_out}
+use Rattle.commands.proofs.ProgramsTold.{prints_program}
 use Rattle.commands.proofs.console.carry_out_program.Goals as goal
 
 pub returns-in-Err-Memory-clause-told : goal.returns-in-Err-Memory-clause-told
@@ -11,7 +11,7 @@ pub returns-in-Ok-clause-ran : goal.returns-in-Ok-clause-ran
 returns-in-Ok-clause-ran g c = λ refused wrong. prints_program _ _ _ _ _ _ c.in-Ok.ensures.values (c.carry_out_sources.ensures.ran refused)
 
 pub returns-in-Ok-clause-refused : goal.returns-in-Ok-clause-refused
-returns-in-Ok-clause-refused g c = λ refused. refuses_program _ _ _ _ _ _ _ c.in-Ok.ensures.values (c.carry_out_sources.ensures.refused refused)
+returns-in-Ok-clause-refused g c = λ refused. refuses_values _ _ _ _ _ _ _ _ _ c.in-Ok.ensures.values (c.carry_out_sources.ensures.refused refused)
 
 pub returns-in-Err-Memory-clause-refused : goal.returns-in-Err-Memory-clause-refused
-returns-in-Err-Memory-clause-refused g c = λ refused. for_memory _ _ _ _ _ _ _ refl c.refuse_memory.ensures.line
+returns-in-Err-Memory-clause-refused g c = λ refused. refuses_memory _ _ _ _ _ _ _ _ (runs_out _ _ _ _ _ refl c.refuse_memory.ensures.line)

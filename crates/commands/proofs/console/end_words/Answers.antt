@@ -1,6 +1,7 @@
 use Rattle.std.proofs.Common.{refl, subst}
 use Rattle.answers.proofs.FilesRead.{stays}
 use Rattle.answers.proofs.LinesPrinted.{tells_no_file}
+use Rattle.program_commands.proofs.Untold.{runs_out}
 use Rattle.commands.specs.internal.LineFaults.{IsWrong}
 use Rattle.commands.proofs.OrdersKept.{kept_by_words, kept_stops}
 use Rattle.commands.proofs.ProgramsTold.{memory_by_words, refuses_by_words, runs_by_words}
@@ -36,7 +37,7 @@ pub returns-in-Ok-clause-ran : goal.returns-in-Ok-clause-ran
 returns-in-Ok-clause-ran g c = λ clean refused wrong. runs_by_words _ _ _ _ _ _ c.in-Ok.ensures.order (c.carry_out.ensures.ran refused wrong)
 
 pub returns-in-Ok-clause-refused : goal.returns-in-Ok-clause-refused
-returns-in-Ok-clause-refused g c = λ clean refused. refuses_by_words _ _ _ _ _ _ _ c.in-Ok.ensures.order (c.carry_out.ensures.refused refused)
+returns-in-Ok-clause-refused g c = λ clean refused. refuses_by_words _ _ _ _ _ _ _ _ _ c.in-Ok.ensures.order (c.carry_out.ensures.refused refused)
 
 pub returns-in-Err-Memory-clause-refused : goal.returns-in-Err-Memory-clause-refused
-returns-in-Err-Memory-clause-refused g c = λ clean refused. memory_by_words _ _ _ _ _ _ refl c.refuse_memory.ensures.line
+returns-in-Err-Memory-clause-refused g c = λ clean refused. memory_by_words _ _ _ _ _ _ _ _ (runs_out _ _ _ _ _ refl c.refuse_memory.ensures.line)

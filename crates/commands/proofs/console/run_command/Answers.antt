@@ -1,4 +1,4 @@
-use Rattle.std.proofs.Common.{sym, ◌∙◌}
+use Rattle.std.proofs.Common.{◌≤◌, ℕ, subst, sym, ◌∙◌}
 use Rattle.commands.proofs.ProgramsTold.{runs_by_status}
 use Rattle.commands.proofs.OrdersKept.{refused_is}
 use Rattle.commands.proofs.TextsTold.{wrong_is}
@@ -12,3 +12,9 @@ returns-clause-ran g c = λ clean not_one not_two. runs_by_status _ _ _ _ _ _ c.
 
 pub returns-clause-refused : goal.returns-clause-refused
 returns-clause-refused g c = λ clean one. c.end_words-ending.ensures.refused clean (refused_is _ (sym c.status.ensures ∙ one))
+
+pub returns-clause-silent : goal.returns-clause-silent
+returns-clause-silent g c = λ clean two. c.end_words-ending.ensures.silent clean (wrong_is _ (sym c.status.ensures ∙ two))
+
+pub returns-clause-faulty : goal.returns-clause-faulty
+returns-clause-faulty g c = λ fault. subst (λ (s : ℕ). s ≤ 2) (sym c.status.ensures) (c.end_words-ending.ensures.faulty fault)

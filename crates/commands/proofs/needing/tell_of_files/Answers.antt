@@ -2,8 +2,9 @@ use Rattle.std.proofs.Common.{refl, ap, ◌∙◌}
 use Rattle.answers.proofs.FilesRead.{stops_as}
 use Rattle.answers.proofs.LinesPrinted.{tells_file, tells_no_file}
 use Rattle.program_sources.specs.Programs.{texts_of}
-use Rattle.commands.proofs.NeedTold.{prints_by, prints_need_of}
 use Rattle.program_commands.proofs.Names.{stops_in_files}
+use Rattle.program_commands.proofs.Untold.{for_file, for_memory, for_reason}
+use Rattle.commands.proofs.NeedTold.{prints_by, prints_need_of, refuses_need_of}
 use Rattle.commands.proofs.needing.tell_of_files.Goals as goal
 
 pub returns-in-Err-Fault-clause-told : goal.returns-in-Err-Fault-clause-told
@@ -24,3 +25,20 @@ returns-in-Ok-sources_of-clause-printed g c = λ done. prints_by _ _ _ _ _ c.as_
 
 pub returns-clause-told : goal.returns-clause-told
 returns-clause-told g c = λ refused. tells_no_file _ _ _ _ _ _ c.in-Ok.ensures.count c.refuse_memory-in-Err.ensures.told
+
+pub returns-in-Err-Fault-clause-refused : goal.returns-in-Err-Fault-clause-refused
+returns-in-Err-Fault-clause-refused g c = λ refused. for_file _ _ _ _ _ _ _ _ _ _ refl (rw c.in-Err-Fault.field-0-is at c.in-Err-Fault.ensures.failed)
+    (stops_as _ _ _ c.in-Err-Fault.name c.in-Err-Fault.name-is
+    (stops_in_files _ _ _ _ c.as_slice-names.ensures.value (rw c.in-Err-Fault.field-0-is at c.in-Err-Fault.ensures.stops))) c.refuse_file.ensures.told
+
+pub returns-in-Err-Memory-clause-refused : goal.returns-in-Err-Memory-clause-refused
+returns-in-Err-Memory-clause-refused g c = λ refused. for_memory _ _ _ _ _ _ _ _ (rw c.in-Err-Memory.field-0-is at c.in-Err-Memory.ensures.failed) c.refuse_memory.ensures.line
+
+pub returns-in-Ok-sources_of-clause-refused : goal.returns-in-Ok-sources_of-clause-refused
+returns-in-Ok-sources_of-clause-refused g c = λ refused. for_reason _ _ _ _ _ _ _ _ _ c.in-Ok.ensures.count
+    (refuses_need_of _ _ _ _ _ _ _ _ _ c.as_slice-names.ensures.value c.in-Ok.ensures.texts
+    (ap texts_of c.as_slice-in-Ok-sources_of.ensures.value ∙ (rw c.as_slice.ensures.value at c.in-Ok-sources_of.ensures))
+    (c.tell_of_sources.ensures.refused refused) (c.tell_of_sources.ensures.stopped refused))
+
+pub returns-clause-refused : goal.returns-clause-refused
+returns-clause-refused g c = λ refused. for_memory _ _ _ _ _ _ _ _ c.in-Ok.ensures.count c.refuse_memory-in-Err.ensures.line

@@ -4,7 +4,7 @@ use Rattle.answers.proofs.LinesPrinted.{tells_file, tells_no_file}
 use Rattle.program_sources.specs.Programs.{texts_of}
 use Rattle.program_commands.proofs.Names.{stops_in_files}
 use Rattle.program_commands.proofs.Printed.{prints_files}
-use Rattle.program_commands.proofs.Untold.{for_file, for_memory, for_reason, tells_of_files}
+use Rattle.program_commands.proofs.Untold.{for_file, for_memory, for_reason, refuses_files}
 use Rattle.program_commands.proofs.carrying.carry_out_sources.Goals as goal
 
 pub returns-in-Err-Fault-clause-told : goal.returns-in-Err-Fault-clause-told
@@ -26,17 +26,17 @@ returns-in-Ok-sources_of-clause-ran g c = λ other. prints_files _ _ _ _ _ _ _ _
     (ap texts_of c.as_slice-in-Ok-sources_of.ensures.value ∙ (rw c.as_slice.ensures.value at c.in-Ok-sources_of.ensures)) (c.act.ensures.ran other)
 
 pub returns-in-Err-Fault-clause-refused : goal.returns-in-Err-Fault-clause-refused
-returns-in-Err-Fault-clause-refused g c = λ refused. for_file _ _ _ _ _ _ _ _ _ refl (rw c.in-Err-Fault.field-0-is at c.in-Err-Fault.ensures.failed)
+returns-in-Err-Fault-clause-refused g c = λ refused. for_file _ _ _ _ _ _ _ _ _ _ refl (rw c.in-Err-Fault.field-0-is at c.in-Err-Fault.ensures.failed)
     (stops_as _ _ _ c.in-Err-Fault.name c.in-Err-Fault.name-is
     (stops_in_files _ _ _ _ c.as_slice-names.ensures.value (rw c.in-Err-Fault.field-0-is at c.in-Err-Fault.ensures.stops))) c.refuse_file.ensures.told
 
 pub returns-in-Err-Memory-clause-refused : goal.returns-in-Err-Memory-clause-refused
-returns-in-Err-Memory-clause-refused g c = λ refused. for_memory _ _ _ _ _ _ _ (rw c.in-Err-Memory.field-0-is at c.in-Err-Memory.ensures.failed) c.refuse_memory.ensures.line
+returns-in-Err-Memory-clause-refused g c = λ refused. for_memory _ _ _ _ _ _ _ _ (rw c.in-Err-Memory.field-0-is at c.in-Err-Memory.ensures.failed) c.refuse_memory.ensures.line
 
 pub returns-in-Ok-sources_of-clause-refused : goal.returns-in-Ok-sources_of-clause-refused
-returns-in-Ok-sources_of-clause-refused g c = λ refused. for_reason _ _ _ _ _ _ _ c.in-Ok.ensures.count
-    (tells_of_files _ _ _ _ _ _ _ _ _ c.as_slice-names.ensures.value refl c.in-Ok.ensures.texts
+returns-in-Ok-sources_of-clause-refused g c = λ refused. for_reason _ _ _ _ _ _ _ _ _ c.in-Ok.ensures.count
+    (refuses_files _ _ _ _ _ _ _ _ _ _ _ c.as_slice-names.ensures.value refl c.in-Ok.ensures.texts
     (ap texts_of c.as_slice-in-Ok-sources_of.ensures.value ∙ (rw c.as_slice.ensures.value at c.in-Ok-sources_of.ensures)) (c.act.ensures.refused refused))
 
 pub returns-clause-refused : goal.returns-clause-refused
-returns-clause-refused g c = λ refused. for_memory _ _ _ _ _ _ _ c.in-Ok.ensures.count c.refuse_memory-in-Err.ensures.line
+returns-clause-refused g c = λ refused. for_memory _ _ _ _ _ _ _ _ c.in-Ok.ensures.count c.refuse_memory-in-Err.ensures.line
