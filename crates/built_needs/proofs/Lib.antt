@@ -1,2 +1,3 @@
 pub mod NeededRoom
 pub mod BuiltPrograms
+pub mod BuiltFiles

@@ -6,3 +6,4 @@ pub use Rattle.meant_programs.specs.Places
 pub use Rattle.charge_limits.specs.Limits
 pub mod NeededRoom
 pub mod BuiltPrograms
+pub mod BuiltFiles

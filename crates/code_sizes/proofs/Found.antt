@@ -11,10 +11,11 @@ use Rattle.treecode.specs.declared.expression.ExpressionNumber.{ExpressionNumber
 use Rattle.treecode.specs.declared.reference.Reference.{Reference}
 use Rattle.treecode.specs.Lowered.{IsPart, IsReference}
 use Rattle.treecode.specs.Nodes.{nodes_of}
+use Rattle.treecode.specs.Queries.{inside}
 use Rattle.typed_trees.specs.TypedTrees.{PartOf, TypedReference}
 use Rattle.sites8080.specs.declared.site.Site.{Site}
 use Rattle.sites8080.specs.Site.{expression}
-use Rattle.sites8080.specs.Queries.{form_in_memory, high_in_memory, high_of, inside, keeps_of_address, memory, plain_in_memory, reference_after, same_low_byte}
+use Rattle.sites8080.specs.Queries.{form_in_memory, high_in_memory, high_of, keeps_of_address, memory, plain_in_memory, reference_after, same_low_byte}
 use Rattle.sites8080.specs.Widths.{high_byte_in_memory, operand_in_memory, word_in_memory, word_of}
 use Rattle.code_sizes.specs.internal.Parts.{HasParts, IsOperand, IsPlaced, beside, indices}
 use Rattle.code_sizes.proofs.Trees.{has_parts}

@@ -18,7 +18,7 @@ use Rattle.treecode.specs.declared.reference.Reference.{Reference}
 use Rattle.treecode.specs.declared.reference.Subscript.{Subscript}
 use Rattle.treecode.specs.declared.traits.Keeps.{Keeps}
 use Rattle.treecode.specs.Homes.{place_after}
-use Rattle.treecode.specs.Queries.{home, keeps_of_reference, none_kept, place_number}
+use Rattle.treecode.specs.Queries.{home, inside, keeps_of_reference, none_kept, place_number}
 use Rattle.steps8080.specs.Facts.{same_location}
 use Rattle.sites8080.specs.declared.queries.Base.{Base}
 use Rattle.sites8080.specs.declared.queries.Base.TheVariants.{Static, Based, Frame}
@@ -207,12 +207,6 @@ plain_in_memory site number =
     option_and_then (λ (found : Expression). form_in_memory site found.form) (expression site number)
 
 -- the expression inside LOW, DOUBLE or a conversion, which has the same low byte; else the expression itself
-abbrev pub inside : ExpressionNumber → ExpressionForm → ExpressionNumber
-inside number (Conversion inner) = inner
-inside number (Function Low operand) = operand
-inside number (Function Double operand) = operand
-inside number form = number
-
 unfoldable pub same_low_byte : Site → ExpressionNumber → ExpressionNumber
 same_low_byte site number = elim (expression site number) [
   | Some found ↦ inside number found.form

@@ -92,14 +92,10 @@ pub fn reference_after(reference: Reference, distance: u16) -> Reference
 
 impl<'a> Site<'a> {
     /// The value of an expression, where it is known but for where things lie. Exact in the type of the expression.
-    #[tactic(auto, unfolding(crate::specs::Queries::known))]
     pub fn known(&self, number: ExpressionNumber) -> Option<Place>
         ensures { result ≡ known self.now number }
     {
-        match self.expression(number) {
-            Some(expression) => expression.traits.known,
-            None => None,
-        }
+        self.tree.traits(number).known
     }
 
     /// The number that an expression is, where it is known and depends on nothing.
@@ -114,50 +110,31 @@ impl<'a> Site<'a> {
     }
 
     /// Whether evaluating an expression changes nothing: it calls nothing, stores nothing and reads no port.
-    #[tactic(auto, unfolding(crate::specs::Queries::is_quiet))]
     pub fn is_quiet(&self, number: ExpressionNumber) -> bool
         ensures { result ≡ is_quiet self.now number }
     {
-        match self.expression(number) {
-            Some(expression) => expression.traits.is_quiet,
-            None => false,
-        }
+        self.tree.traits(number).is_quiet
     }
 
     /// Whether an expression calls nothing and stores nothing.
-    #[tactic(auto, unfolding(crate::specs::Queries::stores_nothing))]
     pub fn stores_nothing(&self, number: ExpressionNumber) -> bool
         ensures { result ≡ stores_nothing self.now number }
     {
-        match self.expression(number) {
-            Some(expression) => expression.traits.stores_nothing,
-            None => false,
-        }
+        self.tree.traits(number).stores_nothing
     }
 
     /// Whether the code that puts the low byte of an expression into A changes A and the flags alone.
-    #[tactic(auto, unfolding(crate::specs::Queries::is_free))]
     pub fn is_free(&self, number: ExpressionNumber) -> bool
         ensures { result ≡ is_free self.now number }
     {
-        match self.expression(number) {
-            Some(expression) => expression.traits.is_free,
-            None => false,
-        }
+        self.tree.traits(number).is_free
     }
 
     /// What the code that puts the value of an expression into HL keeps.
-    #[tactic(auto, unfolding(crate::specs::Queries::keeps))]
     pub fn keeps(&self, number: ExpressionNumber) -> Keeps
         ensures { result ≡ keeps self.now number }
     {
-        match self.expression(number) {
-            Some(expression) => expression.traits.keeps,
-            None => Keeps {
-                a: false,
-                de: false,
-            },
-        }
+        self.tree.traits(number).keeps
     }
 
     /// What the code that puts the address of a part of an object into HL keeps.
@@ -343,21 +320,11 @@ impl<'a> Site<'a> {
     }
 
     /// The expression inside LOW, DOUBLE or a conversion, which has the same low byte; else the expression itself.
-    #[tactic(auto, unfolding(crate::specs::Queries::same_low_byte))]
+    #[tactic(auto, using(crate::proofs::Kept::same_low_byte_is_kept))]
     pub fn same_low_byte(&self, number: ExpressionNumber) -> ExpressionNumber
         ensures { result ≡ same_low_byte self.now number }
     {
-        match self.expression(number) {
-            Some(expression) => match expression.form {
-                ExpressionForm::Conversion(inner) => inner,
-                ExpressionForm::Function {
-                    function: UnaryFunction::Low | UnaryFunction::Double,
-                    operand,
-                } => operand,
-                _ => number,
-            },
-            None => number,
-        }
+        self.tree.same_low_byte(number)
     }
 
     /// The part of memory that holds the low byte of an expression, where the expression is a reference, or LOW, HIGH,

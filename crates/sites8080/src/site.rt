@@ -36,14 +36,10 @@ impl<'a> Site<'a> {
     }
 
     /// The type of an expression.
-    #[tactic(auto, unfolding(crate::specs::Site::scalar))]
     pub fn scalar(&self, number: ExpressionNumber) -> ScalarType
         ensures { result ≡ scalar self.now number }
     {
-        match self.expression(number) {
-            Some(expression) => expression.traits.scalar,
-            None => ScalarType::Byte,
-        }
+        self.tree.traits(number).scalar
     }
 
     /// How far above the stack pointer a byte of a variable or parameter in the frame lies, where so many bytes are

@@ -10,9 +10,10 @@ use Rattle.treecode.specs.declared.expression.ExpressionForm.{ExpressionForm}
 use Rattle.treecode.specs.declared.expression.ExpressionForm.TheVariants as forms
 use Rattle.treecode.specs.declared.expression.ExpressionNumber.{ExpressionNumber}
 use Rattle.treecode.specs.Lowered.{IsExpression, IsForm, IsNumber, IsValue, IsLocation, IsConstantList, IsConversion, IsEmbedded, IsUnary, IsBinary, IsCallOf, IsFunction, IsShift, IsInput}
+use Rattle.treecode.specs.Queries.{inside}
 use Rattle.treecode.specs.Traits as traits
 use Rattle.steps8080.specs.declared.facts.Facts.{Facts}
-use Rattle.sites8080.specs.Queries.{form_in_memory, high_in_memory, high_of, inside, memory, plain_in_memory, same_low_byte}
+use Rattle.sites8080.specs.Queries.{form_in_memory, high_in_memory, high_of, memory, plain_in_memory, same_low_byte}
 use Rattle.sites8080.specs.Site.{expression}
 use Rattle.exprgen8080.specs.Emission.{knowing}
 use Rattle.task_meaning.specs.Contexts.{Context, IsSound, nodes_in}

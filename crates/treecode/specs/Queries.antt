@@ -1,10 +1,14 @@
 -- What code asks of places, and of the nodes of a module.
 use Rattle.std.specs.Prelude.{ℕ, ◌+◌, min, max, Option, Some, None, slice_get}
+use Rattle.std.specs.Option.{option_map_or}
 use Rattle.trees.specs.declared.declaration.ScalarType.{ScalarType}
+use Rattle.typed_trees.specs.declared.parts.UnaryFunction.TheVariants.{Low, Double}
 use Rattle.treecode.specs.declared.place.Place.{Place}
 use Rattle.treecode.specs.declared.place.Home.{Home}
 use Rattle.treecode.specs.declared.lists.Range.{Range}
 use Rattle.treecode.specs.declared.expression.Expression.{Expression}
+use Rattle.treecode.specs.declared.expression.ExpressionForm.{ExpressionForm}
+use Rattle.treecode.specs.declared.expression.ExpressionForm.TheVariants.{Conversion, Function}
 use Rattle.treecode.specs.declared.expression.ExpressionNumber.{ExpressionNumber}
 use Rattle.treecode.specs.declared.reference.Reference.{Reference}
 use Rattle.treecode.specs.declared.reference.Subscript.{Subscript}
@@ -30,6 +34,17 @@ home tree object = home_at tree.homes.items object
 -- the expression of a number
 abbrev pub tree_expression : TreeModule → ExpressionNumber → Option Expression
 tree_expression tree number = slice_get tree.expressions.items number.index
+
+-- the expression inside LOW, DOUBLE or a conversion, which has the same low byte; else the expression itself
+abbrev pub inside : ExpressionNumber → ExpressionForm → ExpressionNumber
+inside number (Conversion inner) = inner
+inside number (Function Low operand) = operand
+inside number (Function Double operand) = operand
+inside number form = number
+
+abbrev pub low_byte_at : TreeModule → ExpressionNumber → ExpressionNumber
+low_byte_at tree number =
+    option_map_or (λ (found : Expression). inside number found.form) (tree_expression tree number) number
 
 -- the statement of a number
 abbrev pub statement : TreeModule → StatementNumber → Option Statement

@@ -1,8 +1,7 @@
 //! Modules of tree code.
 
-ghost use Rattle.std.specs.Prelude.{◌≡◌, ◌<◌, IfOk};
+ghost use Rattle.std.specs.Prelude.{◌≡◌, IfOk};
 ghost use Rattle.treecode.specs.Nodes.{entry_of};
-ghost use Rattle.treecode.specs.internal.Words.{FormIsWord};
 
 use crate::expression::{Expression, ExpressionForm, ExpressionNumber};
 use crate::lists::Range;
@@ -74,6 +73,7 @@ pub struct TreeModule {
 impl TreeModule {
     ghost use Rattle.std.specs.Prelude.{◌≡◌, [], ◌∷◌, ◌++◌, length, slice_get, IfOk};
     ghost use Rattle.treecode.specs.Nodes.{NumbersAreWords, home_at, item_of, nodes_of};
+    ghost use Rattle.treecode.specs.Queries.{low_byte_at};
     ghost use Rattle.treecode.specs.Traits.{expression_of, number_at, traits_at};
 
     /// Where an object begins; the address 0 where there is none of that number.
@@ -93,6 +93,16 @@ impl TreeModule {
         match self.expressions.get(number.index as usize) {
             Some(stored) => Some(stored.expression()),
             None => None,
+        }
+    }
+
+    /// The expression inside LOW, DOUBLE or a conversion, which has the same low byte; else the expression itself.
+    pub fn same_low_byte(&self, number: ExpressionNumber) -> ExpressionNumber
+        ensures { result ≡ low_byte_at self.now number }
+    {
+        match self.expressions.get(number.index as usize) {
+            Some(stored) => stored.same_low_byte(number),
+            None => number,
         }
     }
 
@@ -133,8 +143,8 @@ impl TreeModule {
         }
     }
 
-    /// What is known of an expression; nothing where there is none of that number.
-    pub(crate) fn traits(&self, number: ExpressionNumber) -> Traits
+    /// What is known of an expression; nothing where there is none of that number. It is found sooner than the expression.
+    pub fn traits(&self, number: ExpressionNumber) -> Traits
         ensures { result ≡ traits_at (nodes_of self.now) number }
     {
         match self.expressions.get(number.index as usize) {
@@ -159,7 +169,7 @@ impl TreeModule {
     {
         let mut rest = self.expressions.as_slice();
         while let [stored, more @ ..] = rest {
-            hold_form(stored.expression().form);
+            stored.hold_word();
             rest = more;
         }
     }
@@ -236,22 +246,6 @@ impl TreeModule {
         let count = next_index(list.len())?;
         self.lists.extend_from_slice(list)?;
         Ok(Range { first, count })
-    }
-}
-
-// Tells that a number of 16 bits has the width of a word.
-fn hold_word(number: u16)
-    ensures { number < 65536 }
-{
-    let _ = number;
-}
-
-// Tells that the number of a form, if it is one, has the width of a word.
-fn hold_form(form: ExpressionForm)
-    ensures { FormIsWord form }
-{
-    if let ExpressionForm::Number(number) = form {
-        hold_word(number);
     }
 }
 

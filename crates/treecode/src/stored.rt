@@ -1,8 +1,10 @@
 //! Expressions as a module keeps them.
 
-ghost use Rattle.std.specs.Prelude.{◌≡◌};
+ghost use Rattle.std.specs.Prelude.{◌≡◌, ◌<◌};
 ghost use Rattle.treecode.specs.declared.expression.ExpressionForm.TheVariants.{Assignment};
+ghost use Rattle.treecode.specs.Queries.{inside};
 ghost use Rattle.treecode.specs.internal.Stored.{form_of, reference_of, subscript_of};
+ghost use Rattle.treecode.specs.internal.Words.{FormIsWord};
 
 use crate::expression::{Expression, ExpressionForm, ExpressionNumber};
 use crate::lists::Range;
@@ -160,6 +162,13 @@ fn stored_assignment(target: Target, value: ExpressionNumber) -> StoredForm
     }
 }
 
+// Tells that a number of 16 bits has the width of a word.
+fn hold_word(number: u16)
+    ensures { number < 65536 }
+{
+    let _ = number;
+}
+
 impl StoredForm {
     fn of(form: ExpressionForm) -> StoredForm
         ensures { form_of result ≡ form }
@@ -288,6 +297,29 @@ impl StoredExpression {
         Expression {
             form: self.form.form(),
             traits: self.traits,
+        }
+    }
+
+    /// The expression inside LOW, DOUBLE or a conversion; else the number that it has itself.
+    pub(crate) fn same_low_byte(&self, number: ExpressionNumber) -> ExpressionNumber
+        ensures { result ≡ inside number self.now.form }
+    {
+        match self.form {
+            StoredForm::Conversion(inner) => inner,
+            StoredForm::Function {
+                function: UnaryFunction::Low | UnaryFunction::Double,
+                operand,
+            } => operand,
+            _ => number,
+        }
+    }
+
+    /// Tells that the number that it is, if it is one, has the width of a word, and does nothing.
+    pub(crate) fn hold_word(&self)
+        ensures { FormIsWord self.now.form }
+    {
+        if let StoredForm::Number(number) = self.form {
+            hold_word(number);
         }
     }
 
