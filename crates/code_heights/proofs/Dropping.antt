@@ -1,6 +1,8 @@
--- A word from 32,768 on that is added to the stack pointer, as 65,534 to push two bytes, is counted as no drop.
-use Rattle.std.proofs.Common.{◌≡◌, ℕ, ◌<◌, ◌≤◌, ◌⊎◌, inl, inr, Bool, true, false, List, [], ◌∷◌, ◌++◌, Option, Some, None, slice_get, refl, sym, ap, subst, ◌∙◌, true≢false, arith}
+-- A word that is added to the stack pointer and is above the bytes of a frame and of a parameter, as 65,534 to push two
+-- bytes, is counted as no drop.
+use Rattle.std.proofs.Common.{◌≡◌, ℕ, ◌+◌, ◌<◌, ◌≤◌, ◌⊎◌, inl, inr, Bool, true, false, List, [], ◌∷◌, ◌++◌, Option, Some, None, slice_get, refl, sym, ap, subst, ◌∙◌, true≢false, arith}
 use Rattle.std.proofs.lemmas.Bool.{false≢true}
+use Rattle.typed_trees.specs.declared.limits.TheConstants.{FRAME_LIMIT}
 use Rattle.isa8080.specs.declared.instr.Instr.{Instr}
 use Rattle.isa8080.specs.declared.instr.Instr.TheVariants as instructions
 use Rattle.isa8080.specs.declared.instr.Pair.TheVariants.{Hl, Sp}
@@ -61,7 +63,7 @@ record IsKept (tree : TreeModule) (level : ℕ) (i : Instr) (others : List Item)
 
 module _
     {tree : TreeModule} {level after : ℕ} {i : Instr} {others : List Item} (plain : is_counted i ≡ false)
-    (great : (bytes : ℕ) → bytes < 32768 → i ≡ instructions.Lxi Hl bytes → ⊥)
+    (great : (bytes : ℕ) → bytes ≤ FRAME_LIMIT + 2 → i ≡ instructions.Lxi Hl bytes → ⊥)
   where
     first_kept :
         {free : ℕ} {list : List Item}
@@ -105,7 +107,7 @@ module _
 -- what begins with such a sum finds no room, however much is free
 pub sum_finds_no_room :
     {tree : TreeModule} {level free after : ℕ} {others : List Item} (word : ℕ)
-    → 32768 ≤ word
+    → FRAME_LIMIT + 2 < word
     → FindsRoom tree level free
     (Plain (instructions.Lxi Hl word)
     ∷ Plain (instructions.Dad Sp)

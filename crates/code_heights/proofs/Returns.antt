@@ -1,5 +1,5 @@
 -- How procedures return.
-use Rattle.std.proofs.Common.{◌≡◌, ℕ, zero, suc, ◌+◌, ◌-◌, ◌/◌, ◌%◌, ◌<◌, ◌≤◌, nat_eq, nat_le, min, Bool, true, false, if◌then◌else◌, List, [], ◌∷◌, ◌++◌, replicate, Option, Some, None, refl, sym, ap, subst, ◌∙◌, arith}
+use Rattle.std.proofs.Common.{◌≡◌, ℕ, zero, suc, ◌+◌, ◌-◌, ◌/◌, ◌%◌, ◌≤◌, nat_eq, nat_le, min, Bool, true, false, if◌then◌else◌, List, [], ◌∷◌, ◌++◌, replicate, Option, Some, None, refl, sym, ap, subst, ◌∙◌, arith}
 use Rattle.isa8080.specs.declared.instr.Instr.{Instr}
 use Rattle.isa8080.specs.declared.instr.Instr.TheVariants.{Dad, Inx, Lxi, Pchl, Pop, Push, Ret, Sphl, Xchg}
 use Rattle.isa8080.specs.declared.instr.Pair.TheVariants.{Hl, Sp}
@@ -90,7 +90,7 @@ module _ (body : Body) (called : List Bool) (source : Source body.tree.now) (lev
   -- or by setting the stack pointer
   sphl_room :
       {here last : Here} {waiting : Option Facts} {list : List Item} (free bytes : ℕ)
-      → bytes < 32768
+      → bytes ≤ FRAME_LIMIT + 2
       → AreCarriedOut body called here waiting
       (plain (Lxi Hl bytes) ∷ plain (Dad Sp) ∷ plain Sphl ∷ []) list last
       → FindsRoom body.tree.now level free list (free + bytes)
@@ -106,12 +106,12 @@ module _ (body : Body) (called : List Bool) (source : Source body.tree.now) (lev
       (BytesDropped small (none_room third.rest))
 
   sphl_run :
-      (free bytes : ℕ) → bytes < 32768
+      (free bytes : ℕ) → bytes ≤ FRAME_LIMIT + 2
       → StepsRun body called level free (plain (Lxi Hl bytes) ∷ plain (Dad Sp) ∷ plain Sphl ∷ []) (free + bytes)
   sphl_run free bytes small = record { room = λ done. sphl_room free bytes small done }
 
   kept_run :
-      (free bytes : ℕ) (result : Option ScalarType) → bytes < 32768
+      (free bytes : ℕ) (result : Option ScalarType) → bytes ≤ FRAME_LIMIT + 2
       → StepsRun body called level free (kept_steps result (Lxi Hl bytes ∷ Dad Sp ∷ Sphl ∷ [])) (free + bytes)
   unfolding kept_steps
   kept_run free bytes (Some Address) small =
@@ -122,7 +122,7 @@ module _ (body : Body) (called : List Bool) (source : Source body.tree.now) (lev
 
   -- bytes are dropped
   drop_by_drops :
-      (free bytes : ℕ) (result : Option ScalarType) (few : Bool) → bytes < 32768
+      (free bytes : ℕ) (result : Option ScalarType) (few : Bool) → bytes ≤ FRAME_LIMIT + 2
       → Drops body called level free
       (if few then pops_steps (bytes / 2) ++ replicate (bytes % 2) (plain (Inx Sp))
       else kept_steps result (Lxi Hl bytes ∷ Dad Sp ∷ Sphl ∷ []))
@@ -135,7 +135,7 @@ module _ (body : Body) (called : List Bool) (source : Source body.tree.now) (lev
       record { after = free + bytes; more = omega arith; run = kept_run free bytes result small }
 
   drop_drops :
-      (free bytes : ℕ) (result : Option ScalarType) → bytes < 32768
+      (free bytes : ℕ) (result : Option ScalarType) → bytes ≤ FRAME_LIMIT + 2
       → Drops body called level free (drop_steps bytes result)
   unfolding drop_steps
   drop_drops free bytes result small = drop_by_drops free bytes result (nat_le bytes 12) small
@@ -177,7 +177,7 @@ module _ (body : Body) (called : List Bool) (source : Source body.tree.now) (lev
   -- a return
   frame_fits :
       (bytes : ℕ) (none : Bool) → bytes ≤ FRAME_LIMIT
-      → min (bytes + (if none then 0 else 2)) 65535 < 32768
+      → min (bytes + (if none then 0 else 2)) 65535 ≤ FRAME_LIMIT + 2
   frame_fits bytes true small = omega (arith, small)
   frame_fits bytes false small = omega (arith, small)
 

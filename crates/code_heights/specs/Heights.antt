@@ -1,6 +1,7 @@
 -- How many bytes code pushes: a count along its items alone.
-use Rattle.std.specs.Prelude.{◌≡◌, ℕ, ◌+◌, ◌-◌, ◌*◌, ◌<◌, ◌≤◌, Bool, true, false, List, [], ◌∷◌, ◌++◌, length, slice_get}
+use Rattle.std.specs.Prelude.{◌≡◌, ℕ, ◌+◌, ◌-◌, ◌*◌, ◌≤◌, Bool, true, false, List, [], ◌∷◌, ◌++◌, length, slice_get}
 use Rattle.std.specs.Option.{option_map_or}
+use Rattle.typed_trees.specs.declared.limits.TheConstants.{FRAME_LIMIT}
 use Rattle.isa8080.specs.declared.instr.Instr.{Instr}
 use Rattle.isa8080.specs.declared.instr.Instr.TheVariants as instructions
 use Rattle.isa8080.specs.declared.instr.Pair.TheVariants.{Hl, Sp}
@@ -73,12 +74,13 @@ pub data FindsRoom (tree : TreeModule) (level : ℕ) :
       → FindsRoom tree level free others after
       → FindsRoom tree level free
       (jump_item forms.CallTo (module_label_of_routine tree routine) ∷ others) after
-  -- a return takes away what its call has on the stack; a word from 32,768 on may as well lower the stack pointer
+  -- a return takes away what its call has on the stack; where it does so by a sum, that is the bytes of a frame and of a
+  -- parameter at most
   ByteDropped : {free after : ℕ} {others : List Item}
       → FindsRoom tree level (free + 1) others after
       → FindsRoom tree level free (Plain (instructions.Inx Sp) ∷ others) after
   BytesDropped : {free after bytes : ℕ} {others : List Item}
-      → bytes < 32768
+      → bytes ≤ FRAME_LIMIT + 2
       → FindsRoom tree level (free + bytes) others after
       → FindsRoom tree level free
       (Plain (instructions.Lxi Hl bytes)

@@ -12,7 +12,7 @@ use Rattle.plans.specs.declared.Plan.{Plan}
 use Rattle.need_command.specs.Printing.{PrintsNeed, StopsNeed, TellsNoNeed}
 use Rattle.program_commands.specs.Refusing.{RefusesFor}
 use Rattle.commands.specs.Needing.{PrintsNeedOf, RefusesNeedOf}
-use Rattle.commands.specs.Orders.{RefusesNeed, TellsText}
+use Rattle.commands.specs.Orders.{PrintsNeedWanted, RefusesNeed, TellsText}
 
 pub done_or_refused : (ending : Ending) → (ending ≡ Done) ⊎ (ending ≡ Refused) → ending ≡ WrongLine → ⊥
 done_or_refused ending (inl done) wrong = cc
@@ -54,6 +54,10 @@ refuses_need_of files names order read used old new out now same has are told pr
 }
 
 -- the plan is one
+pub prints_wanted : (need : NeedWanted) (plan : Plan) (files : Option Directory) (old new : Option (List ℕ)) → plan_read need.plan ≡ Ok plan
+    → PrintsNeedOf files need.files old new → PrintsNeedWanted need files old new
+prints_wanted need plan files old new planned printed = record { plan = plan; planned = planned; printed = printed }
+
 pub refuses_need : (need : NeedWanted) (plan : Plan) (files : Option Directory) (before after : ℕ) (old new out now : Option (List ℕ)) → plan_read need.plan ≡ Ok plan
     → RefusesFor (RefusesNeedOf files need.files old new out now) files need.files before after old new out now → RefusesNeed need files before after old new out now
 refuses_need need plan files before after old new out now planned refused = record { plan = plan; planned = planned; refused = refused }

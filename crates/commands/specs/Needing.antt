@@ -11,8 +11,8 @@ pub record PrintsNeedOf (files : Option Directory) (names : List (List ℕ)) (ol
   pub read : HasFiles files names texts
   pub printed : PrintsNeed texts old new
 
--- the files of these names have texts; it was told why these have no need, or why it was not written; and
--- nothing of the line was written by then, or a beginning of it
+-- the files of these names have texts; it was told why these have no need, or that memory ran out, or that the
+-- need was not written; and nothing of the line was written by then, or a beginning of it
 pub record RefusesNeedOf (files : Option Directory) (names : List (List ℕ))
     (err_old err_new out_old out_new : Option (List ℕ)) : Type 0 where
   pub texts : List (List ℕ)

@@ -60,6 +60,13 @@ pub record PrintsWanted (place : PlaceWanted) (files : Option Directory)
   pub planned : plan_read place.plan ≡ Ok plan
   pub printed : PrintsPlaced place.action files name plan old new
 
+-- the need of the sources that are wanted, beside texts that write a plan, was printed
+pub record PrintsNeedWanted (need : NeedWanted) (files : Option Directory)
+    (old new : Option (List ℕ)) : Type 0 where
+  pub plan : Plan
+  pub planned : plan_read need.plan ≡ Ok plan
+  pub printed : PrintsNeedOf files need.files old new
+
 -- of that a beginning was printed, or nothing
 abbrev pub StopsPlaced :
     PlaceAction → Option Directory → (name : List ℕ) → Plan → (old new : Option (List ℕ)) → Type 0
@@ -70,7 +77,7 @@ StopsPlaced Hex files name plan old new = StopsHex files name plan old new
 -- What one to run or to interpret prints is said below
 abbrev pub PrintsAsWanted : Wanted → Option Directory → (old new : Option (List ℕ)) → Type 0
 PrintsAsWanted (wants_place place) files old new = PrintsWanted place files old new
-PrintsAsWanted (wants_need need) files old new = PrintsNeedOf files need.files old new
+PrintsAsWanted (wants_need need) files old new = PrintsNeedWanted need files old new
 PrintsAsWanted (wants_compile compile) files old new = Keeps old new
 PrintsAsWanted (wants_link link) files old new = Keeps old new
 PrintsAsWanted (wants_program program) files old new = Unit {0}

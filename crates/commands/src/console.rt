@@ -58,7 +58,8 @@ pub fn run_command<F: Files, O: Write, E: Write>(
     ensures refused_text { fault_of plm_app (texts words.now) ≡ [] → result ≡ 2 → TellsTextByWords
         (wanted_by (texts words.now)) (E.contents err.old) (E.contents err.new) }
     ensures not_wrong { AsksHelpAtMost (fault_of plm_app (texts words.now)) →
-        RefusesNoText (wanted_by (texts words.now)) → result ≡ 2 → ⊥ }
+        (fault_of plm_app (texts words.now) ≡ [] → RefusesNoText (wanted_by (texts words.now))) →
+        result ≡ 2 → ⊥ }
     ensures told { result ≡ 1 → TellsRefusal (F.files files.old)
         (names_by_words (wanted_by (texts words.now)))
         (F.failures files.old) (F.failures files.new) (E.contents err.old) (E.contents err.new) }
@@ -100,7 +101,8 @@ fn end_words<F: Files, O: Write, E: Write>(
     ensures refused_text { fault_of plm_app (texts words.now) ≡ [] → result ≡ Ending.WrongLine →
         TellsTextByWords (wanted_by (texts words.now)) (E.contents err.old) (E.contents err.new) }
     ensures not_wrong { AsksHelpAtMost (fault_of plm_app (texts words.now)) →
-        RefusesNoText (wanted_by (texts words.now)) → result ≡ Ending.WrongLine → ⊥ }
+        (fault_of plm_app (texts words.now) ≡ [] → RefusesNoText (wanted_by (texts words.now))) →
+        result ≡ Ending.WrongLine → ⊥ }
     ensures told { result ≡ Ending.Refused → TellsRefusal (F.files files.old)
         (names_by_words (wanted_by (texts words.now)))
         (F.failures files.old) (F.failures files.new) (E.contents err.old) (E.contents err.new) }

@@ -8,7 +8,7 @@ ghost use Rattle.command_line.specs.Command.{need_in, wants_need};
 ghost use Rattle.need_command.specs.Printing.{PrintsNeed, StopsNeed, TellsNoNeed};
 ghost use Rattle.program_commands.specs.Refusing.{RefusesFor};
 ghost use Rattle.commands.specs.Needing.{PrintsNeedOf, RefusesNeedOf};
-ghost use Rattle.commands.specs.Orders.{RefusesNeed, TellsText};
+ghost use Rattle.commands.specs.Orders.{PrintsNeedWanted, RefusesNeed, TellsText};
 
 use crate::refusals::refuse_value;
 use answers::{Ending, read_files, refuse_file, refuse_memory};
@@ -22,7 +22,7 @@ use std::alloc::Global;
 use std::io::Write;
 
 /// Prints how much of the stack the program of the sources of an order needs, once the plan beside them is one.
-#[tactic(auto, using(answers::proofs::FilesRead::stays, crate::proofs::NeedTold::done_or_refused, crate::proofs::NeedTold::is_done, crate::proofs::NeedTold::refuses_need, crate::proofs::NeedTold::tells_plan))]
+#[tactic(auto, using(answers::proofs::FilesRead::stays, crate::proofs::NeedTold::done_or_refused, crate::proofs::NeedTold::is_done, crate::proofs::NeedTold::prints_wanted, crate::proofs::NeedTold::refuses_need, crate::proofs::NeedTold::tells_plan))]
 pub(crate) fn tell_need<F: Files, O: Write, E: Write>(
     alloc: Global,
     order: &NeedOrder,
@@ -31,7 +31,7 @@ pub(crate) fn tell_need<F: Files, O: Write, E: Write>(
     err: &mut E,
 ) -> Ending
     ensures unchanged { KeepsFiles (F.files files.old) (F.files files.new) }
-    ensures printed { result ≡ Ending.Done → PrintsNeedOf (F.files files.old) (need_in order.now).files
+    ensures printed { result ≡ Ending.Done → PrintsNeedWanted (need_in order.now) (F.files files.old)
         (O.contents out.old) (O.contents out.new) }
     ensures done { (result ≡ Ending.Refused → ⊥) → (result ≡ Ending.WrongLine → ⊥) →
         result ≡ Ending.Done }

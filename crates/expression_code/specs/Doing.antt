@@ -11,8 +11,8 @@ use Rattle.task_meaning.specs.Contexts.{Context, IsSound}
 use Rattle.task_meaning.specs.Tasks.{PartDoes}
 
 -- Items are added to code. Wherever they stand, in a body with this site of a module whose code calls the routines that
--- they call, the machine does from their first to their last what the part says, where is known at their start what was
--- known at the end of the code before.
+-- they and the code before call, the machine does from their first to their last what the part says, where is known at
+-- their start what was known at the end of the code before.
 pub record CodeDoes (site : Site) (part : Part) (before after : Emission) : Type 0 where
   pub list : List Item
   pub writes : Writes before.writer after.writer list

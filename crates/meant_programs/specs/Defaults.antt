@@ -44,7 +44,7 @@ pub record KeepsBytes (around : Surroundings) (typed : TypedModule) (within : Wi
       → LeavesBytes typed within s (parameters_set around scalars parameters arguments s)
 
 -- Where there are as many bytes, those are among them that the body reads and changes: of scalars, of what objects
--- are BASED on, and of the variables of iterative DOs.
+-- are BASED on, and of the variables of iterative DOs. (Those that MOVE reads and changes are bytes of memory.)
 pub record FindsBytes (around : Surroundings) (typed : TypedModule) (within : Within) (number : ℕ) (s : State)
     : Type 0 where
   pub scalar : (scalar : ScalarType) (reference : TypedReference) → RefersToScalar typed within scalar reference
@@ -125,8 +125,8 @@ pub record TakesNoDefaultIn (around : Surroundings) (typed : TypedModule) : Type
 pub record TakesNoDefault (program : Program) : Type 0 where
   -- `number_of_main`, `source_run`: no main program
   pub main : HasMain program.modules
-  -- `contents_of`, `contents_of_module`: contents of a module, an object or a list without an address, which `zip`
-  -- leaves out; `written`: bytes past the end of memory
+  -- `contents_of`, `contents_of_module`, `pieces_of`, `pieces_of_module`: contents of a module, an object or a list
+  -- without an address, which `zip` leaves out; `written`: bytes past the end of memory
   pub begins : BeginsWithAll program
   -- `nothing_later`: a call, a turn or a jump that nothing is known of
   pub later : (number : ℕ) → IsMeantBelow number (later_by number)

@@ -23,20 +23,20 @@ pub record BeginsNeed (texts : List (List ℕ)) (old new : Option (List ℕ)) : 
 abbrev pub StopsNeed : (texts : List (List ℕ)) → (old new : Option (List ℕ)) → Type 0
 StopsNeed texts old new = Keeps old new ⊎ BeginsNeed texts old new
 
--- The line of a fault was printed whose cause is in the texts, and those that are looked for before it have none.
--- The files of the texts have these names.
+-- The line of a fault was told, which is to say that it was printed, or a beginning of it, which may be nothing. Its
+-- cause is in the texts, and those that are looked for before it have none. The files of the texts have these names.
 pub record TellsCause (names texts : List (List ℕ)) (old new : Option (List ℕ)) : Type 0 where
   pub fault : NeedFault
   pub cause : HasCause fault texts
   pub told : Tells (fault_line names fault) old new
 
--- the line of standard output was printed: the texts have a need, which was not written
+-- the line of standard output was told: the texts have a need, which was not written
 pub record TellsOutput (texts : List (List ℕ)) (old new : Option (List ℕ)) : Type 0 where
   pub line : List ℕ
   pub need : IsNeedText texts line
   pub told : Tells output_line old new
 
--- the line of a fault was printed, or that memory ran out, or that the need was not written
+-- the line of a fault was told, or that memory ran out, or that the need was not written
 abbrev pub TellsNoNeed : (names texts : List (List ℕ)) → (old new : Option (List ℕ)) → Type 0
 TellsNoNeed names texts old new =
     TellsCause names texts old new ⊎ (Tells memory_line old new ⊎ TellsOutput texts old new)

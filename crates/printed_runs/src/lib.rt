@@ -92,7 +92,7 @@ fn run_slices<W: Write>(
 
 /// Runs a machine for at most so many steps, and writes a line for each of its events, those of some steps at a time
 /// while it runs, and then the word that the run ends with. After a failure the writer has a beginning of that text. A
-/// machine that has halted is as it is now after any more steps.
+/// machine that halts is then in the only state in which it is ever halted.
 #[tactic(auto, using(cpu8080::proofs::MachineLemmas::only_halt))]
 pub fn print_machine<W: Write>(
     machine: &mut Machine<Script>,

@@ -49,8 +49,8 @@ pub record StopsTexts (action : Action) (map : Bool) (values : Values) (texts : 
   pub told : TellsUnwritten err_old err_new
   pub printed : StopsBuilt action (map_if map built) values built out_old out_new
 
--- Why an action was not carried out on texts: for a fault of theirs, or since memory ran out, with nothing
--- printed; or once their program was built. The files of the texts have these names.
+-- Why an action was not carried out on texts: for a fault of theirs or of the plan, or since memory ran out, with
+-- nothing printed; or once their program was built. The files of the texts have these names.
 unfoldable pub RefusesTexts :
     Action → (map : Bool) → Values → (names texts : List (List ℕ))
     → (err_old err_new out_old out_new : Option (List ℕ)) → Type 0

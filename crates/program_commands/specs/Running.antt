@@ -117,12 +117,13 @@ PrintsBuilt actions.Run before values built status old new = PrintsMachine befor
 PrintsBuilt actions.Interpret before values built status old new =
     PrintsMeaning before values built status old new
 
--- a beginning of that was printed: of the text before, or of that and what follows it
+-- a beginning of that was printed, of the text before and of what follows it
 abbrev pub BeginsBuilt :
     Action → (before : List ℕ) → Values → Construction → (old new : Option (List ℕ)) → Type 0
 BeginsBuilt actions.Run before values built old new = BeginsMachine before values built old new
 BeginsBuilt actions.Interpret before values built old new = BeginsMeaning before values built old new
 
+-- a beginning was printed: of the text before, with which memory may have run out, or of that and what follows it
 unfoldable pub StopsBuilt :
     Action → (before : List ℕ) → Values → Construction → (old new : Option (List ℕ)) → Type 0
 StopsBuilt action before values built old new =

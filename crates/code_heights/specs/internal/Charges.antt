@@ -73,8 +73,8 @@ ListPushes body setting range list =
     → PushesAtMost body.tree.now (2 + 2 * height_of_list statements) list
 
 -- The code of each body of a module pushes at most what the charge of its procedure leaves beside the bytes that the
--- call has on the stack then: the return address, a word for each parameter, and the variables of a frame. The main
--- program has none of these. How a procedure begins is not counted.
+-- call has on the stack then, at most: the return address, a word for each parameter, and the variables of a frame. The
+-- main program has none of these. How a procedure begins is not counted.
 pub record PushesWithinCharges (typed : TypedModule) (tree : TreeModule) : Type 0 where
   pub procedures :
       (called : List Bool) (number : ℕ) (procedure : TreeProcedure) (heading : TypedProcedure)

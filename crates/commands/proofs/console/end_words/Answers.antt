@@ -9,7 +9,7 @@ use Rattle.commands.proofs.TextsTold.{help_at_most, none_told}
 use Rattle.commands.proofs.console.end_words.Goals as goal
 
 pub returns-in-Ok-clause-not_wrong : goal.returns-in-Ok-clause-not_wrong
-returns-in-Ok-clause-not_wrong g c = λ help none wrong. none_told _ _ _ _ c.in-Ok.ensures.order none (c.carry_out.ensures.refused_text wrong)
+returns-in-Ok-clause-not_wrong g c = λ help none wrong. none_told _ _ _ _ c.in-Ok.ensures.order (none c.in-Ok.ensures.ok) (c.carry_out.ensures.refused_text wrong)
 
 pub returns-in-Err-Fault-clause-unchanged : goal.returns-in-Err-Fault-clause-unchanged
 returns-in-Err-Fault-clause-unchanged g c = kept_by_words _ _ _ (stays _)
