@@ -53,7 +53,6 @@ module _ (layout : Layout) (written : Written) (memory : List ℕ) where
       by (Some number) is some =
           ap (λ (found : Option ℕ). wrap (offset + layout.address_of (External (unwrap_or found 0)))) is
           ∙ ap (word_of layout) (same_item (AtTarget (External number) offset) known some)
-
   same_word (AtNumber number) known given = ap (word_of layout) (same_item (AtNumber number) known given)
 
   -- an item, and others after it

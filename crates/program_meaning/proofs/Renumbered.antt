@@ -62,7 +62,6 @@ module _ (written : Written) (own layout : Layout) (lays : LaysOut written own l
   same_word (AtTarget (InSegment segment) offset) made is =
       let same : made ≡ AtTarget (InSegment segment) offset = cc in
       rw same (ap (λ address. wrap (offset + address)) (lays.starts segment))
-
   same_word (AtNumber number) made is = let same : made ≡ AtNumber number = cc in rw same refl
 
   -- so the items stand where those by the code's numbers do
