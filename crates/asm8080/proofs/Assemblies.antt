@@ -6,6 +6,7 @@ use Rattle.std.proofs.lemmas.Bool.{eq-eqb, le-leb, lt-ltb}
 use Rattle.std.proofs.lemmas.List.{length-append, length-replicate}
 use Rattle.std.proofs.lemmas.List.Elements.{All-head, All-tail}
 use Rattle.object_modules.specs.declared.segment.Fix.{Fix}
+use Rattle.object_modules.specs.declared.segment.Target.{Target}
 use Rattle.object_modules.specs.declared.segment.Target.TheVariants.{InSegment, External}
 use Rattle.object_modules.specs.declared.segment.Segment.TheVariants.{Code}
 use Rattle.object_modules.specs.Module.{is_target, words_are_whole}
@@ -15,12 +16,12 @@ use Rattle.object_modules.specs.Text.{runs_from}
 use Rattle.object_modules.specs.declared.segment.TheConstants.{SEGMENT_LIMIT}
 use Rattle.isa8080.specs.State.{wrap}
 use Rattle.asm8080.specs.declared.item.Reference.{Reference}
-use Rattle.asm8080.specs.declared.item.Reference.TheVariants.{AtLabel, AtTarget}
+use Rattle.asm8080.specs.declared.item.Reference.TheVariants.{AtLabel, AtTarget, AtNumber}
 use Rattle.asm8080.specs.declared.item.Item.{Item}
 use Rattle.asm8080.specs.declared.item.Item.TheVariants.{Plain, WithWord, Byte, Address, Gap, Mark}
 use Rattle.asm8080.specs.Standing.{BytesStand, SetBytesStand}
 use Rattle.asm8080.specs.Items.{Assembly, BoundOnce, IsAssembly, IsKnown, IsListed, KnowsLabels, Layout, ListsExternals, Stands, bytes_of_item, flags_of_item, flags_of_items, is_bound, is_set, marks, offset_of, size_of, size_of_items}
-use Rattle.asm8080.specs.Assembled.{AllBound, Assembles, fix_at, fixed_bytes, fixes_of_items, layout_at, place_in, target_of}
+use Rattle.asm8080.specs.Assembled.{AllBound, Assembles, fix_at, fixed_bytes, fixes_of_items, layout_at, place_in, target_of, with_fix}
 use Rattle.asm8080.specs.internal.Assembling.{bytes_of_items, code_of, layout_from, offset_in}
 use Rattle.asm8080.proofs.Words.{item_length}
 use Rattle.asm8080.proofs.Fixing.{cells_are, cells_of_items, fixed_items, some_length, whole_items}
@@ -195,13 +196,34 @@ fixes_before fix (next ∷ others) after h =
     and_true (nat_le (fix_end fix) next.offset) (fixes_ascend (next ∷ others))
     (le-leb (fix_end fix) next.offset after) h
 
+-- a word's fix before others keeps this
+after_with :
+    (start offset : ℕ) (target : Option Target) (others : List Fix)
+    → start ≤ offset
+    → AreAfter start others
+    → AreAfter start (with_fix offset target others)
+after_with start offset None others h after = after
+after_with start offset (Some target) others h after = h
+
+ascend_with :
+    (offset : ℕ) (target : Option Target) (others : List Fix)
+    → AreAfter (offset + 2) others
+    → fixes_ascend others ≡ true
+    → fixes_ascend (with_fix offset target others) ≡ true
+ascend_with offset None others after h = h
+ascend_with offset (Some target) others after h = fixes_before (fix_at offset target) others after h
+
 fixes_after : (start offset : ℕ) (items : List Item) → start ≤ offset → AreAfter start (fixes_of_items offset items)
 fixes_after start offset [] h = tt
 fixes_after start offset (Plain instruction ∷ others) h =
     fixes_after start (offset + size_of (Plain instruction)) others (omega arith)
-fixes_after start offset (WithWord form reference ∷ others) h = let ok : start ≤ offset + 1 = omega arith in ok
+fixes_after start offset (WithWord form reference ∷ others) h =
+    after_with start (offset + 1) (target_of reference) (fixes_of_items (offset + 3) others) (omega arith)
+    (fixes_after start (offset + 3) others (omega arith))
 fixes_after start offset (Byte value ∷ others) h = fixes_after start (offset + 1) others (omega arith)
-fixes_after start offset (Address reference ∷ others) h = h
+fixes_after start offset (Address reference ∷ others) h =
+    after_with start offset (target_of reference) (fixes_of_items (offset + 2) others) h
+    (fixes_after start (offset + 2) others (omega arith))
 fixes_after start offset (Gap count ∷ others) h = fixes_after start (offset + count) others (omega arith)
 fixes_after start offset (Mark label ∷ others) h = fixes_after start (offset + 0) others (omega arith)
 
@@ -209,11 +231,11 @@ pub items_ascend : (offset : ℕ) (items : List Item) → fixes_ascend (fixes_of
 items_ascend offset [] = refl
 items_ascend offset (Plain instruction ∷ others) = items_ascend (offset + size_of (Plain instruction)) others
 items_ascend offset (WithWord form reference ∷ others) =
-    fixes_before (fix_at (offset + 1) reference) (fixes_of_items (offset + 3) others)
+    ascend_with (offset + 1) (target_of reference) (fixes_of_items (offset + 3) others)
     (fixes_after (offset + 1 + 2) (offset + 3) others (omega arith)) (items_ascend (offset + 3) others)
 items_ascend offset (Byte value ∷ others) = items_ascend (offset + 1) others
 items_ascend offset (Address reference ∷ others) =
-    fixes_before (fix_at offset reference) (fixes_of_items (offset + 2) others)
+    ascend_with offset (target_of reference) (fixes_of_items (offset + 2) others)
     (fixes_after (offset + 2) (offset + 2) others (omega arith)) (items_ascend (offset + 2) others)
 items_ascend offset (Gap count ∷ others) = items_ascend (offset + count) others
 items_ascend offset (Mark label ∷ others) = items_ascend (offset + 0) others
@@ -221,6 +243,15 @@ items_ascend offset (Mark label ∷ others) = items_ascend (offset + 0) others
 -- and each ends within the items
 abbrev ends_within : (end : ℕ) → Fix → Bool
 ends_within end fix = nat_le (fix_end fix) end
+
+within_with :
+    (offset end : ℕ) (target : Option Target) (others : List Fix)
+    → offset + 2 ≤ end
+    → list_all (ends_within end) others ≡ true
+    → list_all (ends_within end) (with_fix offset target others) ≡ true
+within_with offset end None others ends h = h
+within_with offset end (Some target) others ends h =
+    and_true (nat_le (offset + 2) end) (list_all (ends_within end) others) (le-leb (offset + 2) end ends) h
 
 pub items_within :
     (offset end : ℕ) (items : List Item)
@@ -230,29 +261,34 @@ items_within offset end [] h = refl
 items_within offset end (Plain instruction ∷ others) h =
     items_within (offset + size_of (Plain instruction)) end others (omega (arith, h))
 items_within offset end (WithWord form reference ∷ others) h =
-    and_true (nat_le (offset + 1 + 2) end) (list_all (ends_within end) (fixes_of_items (offset + 3) others))
-    (le-leb (offset + 1 + 2) end (omega (arith, h))) (items_within (offset + 3) end others (omega (arith, h)))
+    within_with (offset + 1) end (target_of reference) (fixes_of_items (offset + 3) others) (omega (arith, h))
+    (items_within (offset + 3) end others (omega (arith, h)))
 items_within offset end (Byte value ∷ others) h = items_within (offset + 1) end others (omega (arith, h))
 items_within offset end (Address reference ∷ others) h =
-    and_true (nat_le (offset + 2) end) (list_all (ends_within end) (fixes_of_items (offset + 2) others))
-    (le-leb (offset + 2) end (omega (arith, h))) (items_within (offset + 2) end others (omega (arith, h)))
+    within_with offset end (target_of reference) (fixes_of_items (offset + 2) others) (omega (arith, h))
+    (items_within (offset + 2) end others (omega (arith, h)))
 items_within offset end (Gap count ∷ others) h = items_within (offset + count) end others (omega (arith, h))
 items_within offset end (Mark label ∷ others) h = items_within (offset + 0) end others (omega (arith, h))
 
--- and what it counts from is a target that an object module may have
-target_fits :
-    (labels count : ℕ) (reference : Reference)
-    → IsKnown labels reference
-    → IsListed count reference
-    → is_target count (target_of reference) ≡ true
-target_fits labels count (AtLabel label) known listed = refl
-target_fits labels count (AtTarget (InSegment segment) offset) known listed = known
-target_fits labels count (AtTarget (External number) offset) known listed =
-    and_true (nat_lt number count) (nat_lt number 65536) (lt-ltb number count listed.0)
-    (lt-ltb number 65536 listed.1)
-
 abbrev fits_module : (count : ℕ) → Fix → Bool
 fits_module count fix = is_target count fix.target
+
+-- and what it counts from is a target that an object module may have
+fit_with :
+    (labels count offset : ℕ) (reference : Reference) (others : List Fix)
+    → IsKnown labels reference
+    → IsListed count reference
+    → list_all (fits_module count) others ≡ true
+    → list_all (fits_module count) (with_fix offset (target_of reference) others) ≡ true
+fit_with labels count offset (AtLabel label) others known listed h = h
+fit_with labels count offset (AtTarget (InSegment segment) displacement) others known listed h =
+    and_true (is_target count (InSegment segment)) (list_all (fits_module count) others) known h
+fit_with labels count offset (AtTarget (External number) displacement) others known listed h =
+    and_true (is_target count (External number)) (list_all (fits_module count) others)
+    (and_true (nat_lt number count) (nat_lt number 65536) (lt-ltb number count listed.0)
+    (lt-ltb number 65536 listed.1))
+    h
+fit_with labels count offset (AtNumber number) others known listed h = h
 
 pub items_fit :
     (labels count offset : ℕ) (items : List Item)
@@ -265,10 +301,9 @@ items_fit labels count offset (Plain instruction ∷ others) known listed =
     (All-tail (KnowsLabels labels) (Plain instruction) others known)
     (All-tail (ListsExternals count) (Plain instruction) others listed)
 items_fit labels count offset (WithWord form reference ∷ others) known listed =
-    and_true (is_target count (target_of reference))
-    (list_all (fits_module count) (fixes_of_items (offset + 3) others))
-    (target_fits labels count reference (All-head (KnowsLabels labels) (WithWord form reference) others known)
-    (All-head (ListsExternals count) (WithWord form reference) others listed))
+    fit_with labels count (offset + 1) reference (fixes_of_items (offset + 3) others)
+    (All-head (KnowsLabels labels) (WithWord form reference) others known)
+    (All-head (ListsExternals count) (WithWord form reference) others listed)
     (items_fit labels count (offset + 3) others
     (All-tail (KnowsLabels labels) (WithWord form reference) others known)
     (All-tail (ListsExternals count) (WithWord form reference) others listed))
@@ -277,10 +312,9 @@ items_fit labels count offset (Byte value ∷ others) known listed =
     (All-tail (KnowsLabels labels) (Byte value) others known)
     (All-tail (ListsExternals count) (Byte value) others listed)
 items_fit labels count offset (Address reference ∷ others) known listed =
-    and_true (is_target count (target_of reference))
-    (list_all (fits_module count) (fixes_of_items (offset + 2) others))
-    (target_fits labels count reference (All-head (KnowsLabels labels) (Address reference) others known)
-    (All-head (ListsExternals count) (Address reference) others listed))
+    fit_with labels count offset reference (fixes_of_items (offset + 2) others)
+    (All-head (KnowsLabels labels) (Address reference) others known)
+    (All-head (ListsExternals count) (Address reference) others listed)
     (items_fit labels count (offset + 2) others
     (All-tail (KnowsLabels labels) (Address reference) others known)
     (All-tail (ListsExternals count) (Address reference) others listed))

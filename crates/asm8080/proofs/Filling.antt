@@ -5,17 +5,17 @@ use Rattle.std.proofs.lemmas.Bool.{eq-eqb, eqb-true, le-leb, leb-true}
 use Rattle.std.proofs.lemmas.List.{length-replicate}
 use Rattle.object_modules.specs.declared.segment.Fix.{Fix}
 use Rattle.object_modules.specs.declared.segment.Segment.TheVariants.{Code}
+use Rattle.object_modules.specs.declared.segment.Target.{Target}
 use Rattle.object_modules.specs.Rules.{fix_end, is_within}
 use Rattle.object_modules.specs.Stored.{content_of_run, is_in_a_run}
 use Rattle.object_modules.specs.Text.{Run, before_runs, runs_from}
 use Rattle.object_modules.proofs.ReadBack.{both}
 use Rattle.isa8080.specs.Code.{bytes_of}
 use Rattle.isa8080.specs.State.{high_byte, low_byte}
-use Rattle.asm8080.specs.declared.item.Reference.{Reference}
 use Rattle.asm8080.specs.declared.item.Item.{Item}
 use Rattle.asm8080.specs.declared.item.Item.TheVariants.{Plain, WithWord, Byte, Address, Gap, Mark}
 use Rattle.asm8080.specs.Items.{Layout, word_of}
-use Rattle.asm8080.specs.Assembled.{fix_at, fixes_of_items}
+use Rattle.asm8080.specs.Assembled.{fix_at, fixes_of_items, target_of, with_fix}
 use Rattle.asm8080.proofs.Words.{form_bytes, opcode}
 use Rattle.asm8080.proofs.Fixing.{cells_of_items, some_length}
 
@@ -147,9 +147,9 @@ begins offset value (next ∷ others) = go (next.offset == offset + 1) refl
 
 -- both bytes of a word
 word_in :
-    (offset low high : ℕ) (reference : Reference) (rest : List (Option ℕ))
-    → is_in_a_run Code (runs_from offset (Some low ∷ Some high ∷ rest)) (fix_at offset reference) ≡ true
-word_in offset low high reference rest =
+    (offset low high : ℕ) (target : Target) (rest : List (Option ℕ))
+    → is_in_a_run Code (runs_from offset (Some low ∷ Some high ∷ rest)) (fix_at offset target) ≡ true
+word_in offset low high target rest =
     let second : Begins (offset + 1) high (runs_from (offset + 1 + 1) rest)
     = begins (offset + 1) high (runs_from (offset + 1 + 1) rest) in
     let run : Run ℕ = run_at offset (low ∷ high ∷ second.items) in
@@ -157,22 +157,31 @@ word_in offset low high reference rest =
     = λ joins.
     cond joins (run ∷ second.others)
     (run_at offset (low ∷ []) ∷ run_at (offset + 1) (high ∷ second.items) ∷ second.others) in
-    ap (λ runs. is_in_a_run Code (before_runs offset low runs) (fix_at offset reference)) second.same
-    ∙ ap (λ joins. is_in_a_run Code (joined joins) (fix_at offset reference)) (eq-eqb (offset + 1) (offset + 1) refl)
-    ∙ or_left (is_within (content_of_run Code run) (fix_at offset reference))
-    (is_in_a_run Code second.others (fix_at offset reference))
-    (inside offset (low ∷ high ∷ second.items) (fix_at offset reference) (omega arith) (omega arith))
+    ap (λ runs. is_in_a_run Code (before_runs offset low runs) (fix_at offset target)) second.same
+    ∙ ap (λ joins. is_in_a_run Code (joined joins) (fix_at offset target)) (eq-eqb (offset + 1) (offset + 1) refl)
+    ∙ or_left (is_within (content_of_run Code run) (fix_at offset target))
+    (is_in_a_run Code second.others (fix_at offset target))
+    (inside offset (low ∷ high ∷ second.items) (fix_at offset target) (omega arith) (omega arith))
 
 word_more :
-    (offset low high : ℕ) (reference : Reference) (rest : List (Option ℕ)) (fixes : List Fix)
+    (offset low high : ℕ) (target : Option Target) (rest : List (Option ℕ)) (fixes : List Fix)
     → InRuns (runs_from (offset + 2) rest) fixes
-    → InRuns (runs_from offset (Some low ∷ Some high ∷ rest)) (fix_at offset reference ∷ fixes)
-word_more offset low high reference rest fixes h =
-    let two : offset + 2 ≡ offset + 2 = refl in
-    and_true (is_in_a_run Code (runs_from offset (Some low ∷ Some high ∷ rest)) (fix_at offset reference))
-    (list_all (is_in_a_run Code (runs_from offset (Some low ∷ Some high ∷ rest))) fixes)
-    (word_in offset low high reference rest)
-    (bytes_more offset (offset + 2) (Some low ∷ Some high ∷ []) rest fixes two h)
+    → InRuns (runs_from offset (Some low ∷ Some high ∷ rest)) (with_fix offset target fixes)
+word_more offset low high target rest fixes h = by_target target
+  where
+    two : offset + 2 ≡ offset + 2
+    two = refl
+
+    later : InRuns (runs_from offset (Some low ∷ Some high ∷ rest)) fixes
+    later = bytes_more offset (offset + 2) (Some low ∷ Some high ∷ []) rest fixes two h
+
+    by_target :
+        (from : Option Target) → InRuns (runs_from offset (Some low ∷ Some high ∷ rest)) (with_fix offset from fixes)
+    by_target None = later
+    by_target (Some from) =
+        and_true (is_in_a_run Code (runs_from offset (Some low ∷ Some high ∷ rest)) (fix_at offset from))
+        (list_all (is_in_a_run Code (runs_from offset (Some low ∷ Some high ∷ rest))) fixes)
+        (word_in offset low high from rest) later
 
 pub items_filled :
     (layout : Layout) (offset : ℕ) (items : List Item)
@@ -186,23 +195,24 @@ items_filled layout offset (Plain instruction ∷ others) =
 items_filled layout offset (WithWord form reference ∷ others) =
     let word : ℕ = word_of layout reference in
     let rest : List (Option ℕ) = cells_of_items layout others in
+    let target : Option Target = target_of reference in
     let fixes : List Fix = fixes_of_items (offset + 3) others in
     let next : offset + 1 + 2 ≡ offset + 3 = omega arith in
     let later : InRuns (runs_from (offset + 1 + 2) rest) fixes
     = subst (λ n. InRuns (runs_from n rest) fixes) (sym next) (items_filled layout (offset + 3) others) in
     ap (λ (bytes : List ℕ).
-    list_all (is_in_a_run Code (runs_from offset (map Some bytes ++ rest))) (fix_at (offset + 1) reference ∷ fixes))
+    list_all (is_in_a_run Code (runs_from offset (map Some bytes ++ rest))) (with_fix (offset + 1) target fixes))
     (form_bytes form word)
     ∙ all_more offset (opcode form) (runs_from (offset + 1) (Some (low_byte word) ∷ Some (high_byte word) ∷ rest))
-    (fix_at (offset + 1) reference ∷ fixes)
-    (word_more (offset + 1) (low_byte word) (high_byte word) reference rest fixes later)
+    (with_fix (offset + 1) target fixes)
+    (word_more (offset + 1) (low_byte word) (high_byte word) target rest fixes later)
 items_filled layout offset (Byte value ∷ others) =
     let next : offset + 1 ≡ offset + 1 = refl in
     bytes_more offset (offset + 1) (Some value ∷ []) (cells_of_items layout others) (fixes_of_items (offset + 1) others)
     next (items_filled layout (offset + 1) others)
 items_filled layout offset (Address reference ∷ others) =
     let word : ℕ = word_of layout reference in
-    word_more offset (low_byte word) (high_byte word) reference (cells_of_items layout others)
+    word_more offset (low_byte word) (high_byte word) (target_of reference) (cells_of_items layout others)
     (fixes_of_items (offset + 2) others) (items_filled layout (offset + 2) others)
 items_filled layout offset (Gap count ∷ others) =
     bytes_more offset (offset + count) (replicate count None) (cells_of_items layout others)

@@ -5,25 +5,29 @@ use Rattle.std.proofs.lemmas.List.{length-replicate}
 use Rattle.std.proofs.lemmas.Bool.{eq-eqb, ne_eqb}
 use Rattle.object_modules.specs.declared.segment.Fix.{Fix}
 use Rattle.object_modules.specs.declared.segment.FixKind.TheVariants.{Both}
+use Rattle.object_modules.specs.declared.segment.Target.{Target}
 use Rattle.object_modules.specs.Module.{Fixup, SetByte, words_are_whole}
 use Rattle.object_modules.specs.Runs.{fixup_at}
 use Rattle.isa8080.specs.State.{high_byte, low_byte}
 use Rattle.isa8080.specs.Code.{bytes_of}
-use Rattle.asm8080.specs.declared.item.Reference.{Reference}
 use Rattle.asm8080.specs.declared.item.Item.{Item}
 use Rattle.asm8080.specs.declared.item.Item.TheVariants.{Plain, WithWord, Byte, Address, Gap, Mark}
 use Rattle.asm8080.specs.Items.{Layout, bytes_of_item, flags_of_items, size_of, word_of}
-use Rattle.asm8080.specs.Assembled.{fix_at, fixed_bytes, fixes_of_items, set_bytes, target_of}
+use Rattle.asm8080.specs.Assembled.{fix_at, fixed_bytes, fixes_of_items, set_bytes, target_of, with_fix}
 use Rattle.asm8080.specs.internal.Assembling.{bytes_of_items}
 use Rattle.asm8080.proofs.Words.{form_bytes, item_length, opcode}
 
--- a byte at which no fix begins, and the first byte of a word that is a reference
+-- a byte at which no fix begins, and the first byte of a word, which may count from a target
 abbrev pub plain : ℕ → SetByte
 plain value = record { value = value; fixup = None }
 
-abbrev pub fixed : ℕ → Reference → SetByte
-fixed value reference =
-    record { value = value; fixup = Some (record { kind = Both; target = target_of reference }) }
+abbrev pub fixed : ℕ → Option Target → SetByte
+fixed value target =
+    record { value = value; fixup = option_map (λ from. record { kind = Both; target = from }) target }
+
+-- a word before other bytes
+abbrev pub word_before : (word : ℕ) → Option Target → List (Option SetByte) → List (Option SetByte)
+word_before word target rest = Some (fixed (low_byte word) target) ∷ Some (plain (high_byte word)) ∷ rest
 
 -- bytes that are not fixed
 abbrev pub row_of : List (Option ℕ) → List (Option SetByte)
@@ -92,15 +96,9 @@ cells_are layout (Mark label ∷ others) = cells_are layout others
 abbrev pub set_before : Layout → Item → List (Option SetByte) → List (Option SetByte)
 set_before layout (Plain instruction) rest = row_of (map Some (bytes_of instruction)) ++ rest
 set_before layout (WithWord form reference) rest =
-    Some (plain (opcode form))
-    ∷ Some (fixed (low_byte (word_of layout reference)) reference)
-    ∷ Some (plain (high_byte (word_of layout reference)))
-    ∷ rest
+    Some (plain (opcode form)) ∷ word_before (word_of layout reference) (target_of reference) rest
 set_before layout (Byte value) rest = Some (plain value) ∷ rest
-set_before layout (Address reference) rest =
-    Some (fixed (low_byte (word_of layout reference)) reference)
-    ∷ Some (plain (high_byte (word_of layout reference)))
-    ∷ rest
+set_before layout (Address reference) rest = word_before (word_of layout reference) (target_of reference) rest
 set_before layout (Gap count) rest = row_of (replicate count None) ++ rest
 set_before layout (Mark label) rest = rest
 
@@ -130,6 +128,14 @@ here fix fixes x h =
     = λ test. option_map fixup_of (cond test (Some fix) (find (λ (other : Fix). other.offset == x) fixes)) in
     ap by h
 
+with_elsewhere :
+    (offset x : ℕ) (target : Option Target) (fixes : List Fix)
+    → x < offset
+    → fixup_at (with_fix offset target fixes) x ≡ fixup_at fixes x
+with_elsewhere offset x None fixes h = refl
+with_elsewhere offset x (Some target) fixes h =
+    not_here (fix_at offset target) fixes x (ne_eqb offset x (λ e. absurd (omega (arith, e))))
+
 -- the fixes of items are at or after the place of the first
 pub none_early :
     (offset x : ℕ) (items : List Item) → x < offset → fixup_at (fixes_of_items offset items) x ≡ None
@@ -137,13 +143,11 @@ none_early offset x [] h = refl
 none_early offset x (Plain instruction ∷ others) h =
     none_early (offset + size_of (Plain instruction)) x others (omega arith)
 none_early offset x (WithWord form reference ∷ others) h =
-    not_here (fix_at (offset + 1) reference) (fixes_of_items (offset + 3) others) x
-    (ne_eqb (offset + 1) x (λ e. absurd (omega (arith, e))))
+    with_elsewhere (offset + 1) x (target_of reference) (fixes_of_items (offset + 3) others) (omega arith)
     ∙ none_early (offset + 3) x others (omega arith)
 none_early offset x (Byte value ∷ others) h = none_early (offset + 1) x others (omega arith)
 none_early offset x (Address reference ∷ others) h =
-    not_here (fix_at offset reference) (fixes_of_items (offset + 2) others) x
-    (ne_eqb offset x (λ e. absurd (omega (arith, e))))
+    with_elsewhere offset x (target_of reference) (fixes_of_items (offset + 2) others) (omega arith)
     ∙ none_early (offset + 2) x others (omega arith)
 none_early offset x (Gap count ∷ others) h = none_early (offset + count) x others (omega arith)
 none_early offset x (Mark label ∷ others) h = none_early (offset + 0) x others (omega arith)
@@ -191,15 +195,22 @@ plain_front fixes offset end (byte ∷ others) rest out ends none h =
     (none offset here)
     (plain_front fixes (offset + 1) end others rest out next none h)
 
--- a word with its fix
+-- a word, with its fix if it counts from a target
 word_front :
-    (reference : Reference) (offset low high : ℕ) (others : List Item) (rest : List (Option ℕ))
+    (target : Option Target) (offset word : ℕ) (others : List Item) (rest : List (Option ℕ))
     (out : List (Option SetByte))
     → fixed_bytes (fixes_of_items (offset + 2) others) (offset + 2) rest ≡ out
-    → fixed_bytes (fix_at offset reference ∷ fixes_of_items (offset + 2) others) offset (Some low ∷ Some high ∷ rest)
-    ≡ Some (fixed low reference) ∷ Some (plain high) ∷ out
-word_front reference offset low high others rest out h =
-    let fix : Fix = fix_at offset reference in
+    → fixed_bytes (with_fix offset target (fixes_of_items (offset + 2) others)) offset
+    (Some (low_byte word) ∷ Some (high_byte word) ∷ rest)
+    ≡ word_before word target out
+word_front None offset word others rest out h =
+    let ends : offset + 2 ≡ offset + 2 = refl in
+    plain_front (fixes_of_items (offset + 2) others) offset (offset + 2)
+    (Some (low_byte word) ∷ Some (high_byte word) ∷ []) rest out ends (λ x k. none_early (offset + 2) x others k) h
+word_front (Some target) offset word others rest out h =
+    let low : ℕ = low_byte word in
+    let high : ℕ = high_byte word in
+    let fix : Fix = fix_at offset target in
     let fixes : List Fix = fixes_of_items (offset + 2) others in
     let same : offset + 1 + 1 ≡ offset + 2 = omega arith in
     join (Some low) (fixup_at (fix ∷ fixes) offset) (Some (fixup_of fix))
@@ -227,19 +238,19 @@ fixed_items layout offset (Plain instruction ∷ others) =
 fixed_items layout offset (WithWord form reference ∷ others) =
     let word : ℕ = word_of layout reference in
     let rest : List (Option ℕ) = cells_of_items layout others in
+    let target : Option Target = target_of reference in
     let fixes : List Fix = fixes_of_items offset (WithWord form reference ∷ others) in
     let moved : offset + 1 + 2 ≡ offset + 3 = omega arith in
     ap (λ (bytes : List ℕ). fixed_bytes fixes offset (map Some bytes ++ rest)) (form_bytes form word)
     ∙ join (Some (opcode form)) (fixup_at fixes offset) None
     (fixed_bytes fixes (offset + 1) (Some (low_byte word) ∷ Some (high_byte word) ∷ rest))
-    (Some (fixed (low_byte word) reference) ∷ Some (plain (high_byte word)) ∷ set_of_items layout others)
-    (not_here (fix_at (offset + 1) reference) (fixes_of_items (offset + 3) others) offset
-    (ne_eqb (offset + 1) offset (λ e. absurd (omega (arith, e))))
+    (word_before word target (set_of_items layout others))
+    (with_elsewhere (offset + 1) offset target (fixes_of_items (offset + 3) others) (omega arith)
     ∙ none_early (offset + 3) offset others (omega arith))
     (ap (λ n.
-    fixed_bytes (fix_at (offset + 1) reference ∷ fixes_of_items n others) (offset + 1)
+    fixed_bytes (with_fix (offset + 1) target (fixes_of_items n others)) (offset + 1)
     (Some (low_byte word) ∷ Some (high_byte word) ∷ rest)) (sym moved)
-    ∙ word_front reference (offset + 1) (low_byte word) (high_byte word) others rest (set_of_items layout others)
+    ∙ word_front target (offset + 1) word others rest (set_of_items layout others)
     (fixed_items layout (offset + 1 + 2) others))
 fixed_items layout offset (Byte value ∷ others) =
     join (Some value) (fixup_at (fixes_of_items (offset + 1) others) offset) None
@@ -248,8 +259,8 @@ fixed_items layout offset (Byte value ∷ others) =
     (none_early (offset + 1) offset others (omega arith))
     (fixed_items layout (offset + 1) others)
 fixed_items layout offset (Address reference ∷ others) =
-    word_front reference offset (low_byte (word_of layout reference)) (high_byte (word_of layout reference)) others
-    (cells_of_items layout others) (set_of_items layout others)
+    word_front (target_of reference) offset (word_of layout reference) others (cells_of_items layout others)
+    (set_of_items layout others)
     (fixed_items layout (offset + 2) others)
 fixed_items layout offset (Gap count ∷ others) =
     plain_front (fixes_of_items (offset + count) others) offset (offset + count) (replicate count None)
@@ -271,13 +282,22 @@ whole_plain [] rest h = h
 whole_plain (None ∷ others) rest h = whole_plain others rest h
 whole_plain (Some value ∷ others) rest h = whole_plain others rest h
 
+whole_word :
+    (word : ℕ) (target : Option Target) (rest : List (Option SetByte))
+    → words_are_whole rest ≡ true
+    → words_are_whole (word_before word target rest) ≡ true
+whole_word word None rest h = h
+whole_word word (Some target) rest h = h
+
 pub whole_items : (layout : Layout) (items : List Item) → words_are_whole (set_of_items layout items) ≡ true
 whole_items layout [] = refl
 whole_items layout (Plain instruction ∷ others) =
     whole_plain (map Some (bytes_of instruction)) (set_of_items layout others) (whole_items layout others)
-whole_items layout (WithWord form reference ∷ others) = whole_items layout others
+whole_items layout (WithWord form reference ∷ others) =
+    whole_word (word_of layout reference) (target_of reference) (set_of_items layout others) (whole_items layout others)
 whole_items layout (Byte value ∷ others) = whole_items layout others
-whole_items layout (Address reference ∷ others) = whole_items layout others
+whole_items layout (Address reference ∷ others) =
+    whole_word (word_of layout reference) (target_of reference) (set_of_items layout others) (whole_items layout others)
 whole_items layout (Gap count ∷ others) =
     whole_plain (replicate count None) (set_of_items layout others) (whole_items layout others)
 whole_items layout (Mark label ∷ others) = whole_items layout others

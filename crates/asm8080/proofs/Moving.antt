@@ -1,18 +1,21 @@
 -- The bytes of items where targets have addresses.
 use Rattle.std.proofs.Common.{◌≡◌, ℕ, ◌+◌, ◌%◌, List, [], ◌∷◌, ◌++◌, map, replicate, Option, Some, None, option_map, refl, sym, ap, ◌∙◌}
 use Rattle.object_modules.specs.declared.segment.Target.{Target}
+use Rattle.object_modules.specs.declared.segment.Target.TheVariants.{InSegment}
+use Rattle.object_modules.specs.declared.segment.Segment.TheVariants.{Code}
 use Rattle.object_modules.specs.Module.{SetByte}
 use Rattle.object_modules.specs.Moving.{moved_after, second_byte_moved, value_after}
-use Rattle.isa8080.specs.State.{high_byte, low_byte}
+use Rattle.isa8080.specs.State.{high_byte, low_byte, wrap}
 use Rattle.isa8080.specs.Code.{bytes_of}
 use Rattle.asm8080.specs.declared.item.Reference.{Reference}
+use Rattle.asm8080.specs.declared.item.Reference.TheVariants.{AtLabel, AtTarget, AtNumber}
 use Rattle.asm8080.specs.declared.item.Item.{Item}
 use Rattle.asm8080.specs.declared.item.Item.TheVariants.{Plain, WithWord, Byte, Address, Gap, Mark}
 use Rattle.asm8080.specs.Items.{word_of}
 use Rattle.asm8080.specs.Assembled.{fixed_bytes, fixes_of_items, resolved, target_of}
 use Rattle.asm8080.specs.internal.Assembling.{code_of, layout_from, offset_in}
-use Rattle.asm8080.proofs.Words.{form_bytes, high_moved, layout_moved, low_moved, opcode}
-use Rattle.asm8080.proofs.Fixing.{cells_are, cells_of_items, fixed, fixed_items, plain, row_of, set_of_items}
+use Rattle.asm8080.proofs.Words.{form_bytes, high_moved, label_moved, layout_moved, low_moved, opcode, target_moved}
+use Rattle.asm8080.proofs.Fixing.{cells_are, cells_of_items, fixed_items, plain, row_of, set_of_items, word_before}
 
 -- nothing stays fixed
 abbrev none_kept : Target → Option Target
@@ -53,20 +56,41 @@ bytes_move gain_of before (Some value ∷ others) rest out rests after =
     byte_moves gain_of before value (row_of others ++ rest) (row_of others ++ out) rests
     (bytes_move gain_of (Some (plain value)) others rest out (λ v. refl) after)
 
-word_moves :
-    (gain_of : Target → ℕ) (before : Option SetByte) (reference : Reference) (low high low_after high_after : ℕ)
+-- a word that counts from a target
+target_moves :
+    (gain_of : Target → ℕ) (before : Option SetByte) (target : Target) (word word_after : ℕ)
     (rest out : List (Option SetByte))
-    → (low + gain_of (target_of reference)) % 256 ≡ low_after
-    → second_byte_moved low high (gain_of (target_of reference)) ≡ high_after
-    → moved_after gain_of none_kept (Some (plain high)) rest ≡ out
-    → moved_after gain_of none_kept before (Some (fixed low reference) ∷ Some (plain high) ∷ rest)
-    ≡ Some (plain low_after) ∷ Some (plain high_after) ∷ out
-word_moves gain_of before reference low high low_after high_after rest out first second h =
-    let gain : ℕ = gain_of (target_of reference) in
-    let others : List (Option SetByte) = moved_after gain_of none_kept (Some (plain high)) rest in
-    cell ((low + gain) % 256) low_after
-    (Some (plain (second_byte_moved low high gain)) ∷ others) (Some (plain high_after) ∷ out) first
-    (cell (second_byte_moved low high gain) high_after others out second h)
+    → wrap (word + gain_of target) ≡ word_after
+    → moved_after gain_of none_kept (Some (plain (high_byte word))) rest ≡ out
+    → moved_after gain_of none_kept before (word_before word (Some target) rest) ≡ word_before word_after None out
+target_moves gain_of before target word word_after rest out moved h =
+    let gain : ℕ = gain_of target in
+    let second : ℕ = second_byte_moved (low_byte word) (high_byte word) gain in
+    let others : List (Option SetByte) = moved_after gain_of none_kept (Some (plain (high_byte word))) rest in
+    cell ((low_byte word + gain) % 256) (low_byte word_after)
+    (Some (plain second) ∷ others) (Some (plain (high_byte word_after)) ∷ out) (low_moved word gain word_after moved)
+    (cell second (high_byte word_after) others out (high_moved word gain word_after moved) h)
+
+-- a word of items
+word_moves :
+    (address_of : Target → ℕ) (place_of : ℕ → ℕ) (before : Option SetByte) (reference : Reference)
+    (rest out : List (Option SetByte))
+    → Rests address_of before
+    → moved_after address_of none_kept (Some (plain (high_byte (word_of (layout_from place_of) reference)))) rest ≡ out
+    → moved_after address_of none_kept before
+    (word_before (word_of (layout_from place_of) reference) (target_of reference) rest)
+    ≡ word_before (word_of (layout_moved address_of place_of) reference) None out
+word_moves address_of place_of before (AtLabel label) rest out rests h =
+    target_moves address_of before (InSegment Code) (wrap (place_of label))
+    (wrap (address_of (InSegment Code) + place_of label)) rest out
+    (label_moved (place_of label) (address_of (InSegment Code))) h
+word_moves address_of place_of before (AtTarget target offset) rest out rests h =
+    target_moves address_of before target (wrap (offset + 0)) (wrap (offset + address_of target)) rest out
+    (target_moved offset (address_of target)) h
+word_moves address_of place_of before (AtNumber number) rest out rests h =
+    byte_moves address_of before (low_byte number) (Some (plain (high_byte number)) ∷ rest)
+    (Some (plain (high_byte number)) ∷ out) rests
+    (byte_moves address_of (Some (plain (low_byte number))) (high_byte number) rest out (λ v. refl) h)
 
 row_append : (bytes rest : List (Option ℕ)) → row_of bytes ++ row_of rest ≡ row_of (bytes ++ rest)
 row_append [] rest = refl
@@ -90,12 +114,9 @@ moved_items address_of place_of before (WithWord form reference ∷ others) rest
     let word_after : ℕ = word_of (layout_moved address_of place_of) reference in
     let rest : List (Option SetByte) = set_of_items (layout_from place_of) others in
     let after : List (Option ℕ) = cells_of_items (layout_moved address_of place_of) others in
-    byte_moves address_of before (opcode form)
-    (Some (fixed (low_byte word) reference) ∷ Some (plain (high_byte word)) ∷ rest)
-    (Some (plain (low_byte word_after)) ∷ Some (plain (high_byte word_after)) ∷ row_of after) rests
-    (word_moves address_of (Some (plain (opcode form))) reference (low_byte word) (high_byte word)
-    (low_byte word_after) (high_byte word_after) rest (row_of after)
-    (low_moved address_of place_of reference) (high_moved address_of place_of reference)
+    byte_moves address_of before (opcode form) (word_before word (target_of reference) rest)
+    (word_before word_after None (row_of after)) rests
+    (word_moves address_of place_of (Some (plain (opcode form))) reference rest (row_of after) (λ v. refl)
     (moved_items address_of place_of (Some (plain (high_byte word))) others (λ v. refl)))
     ∙ ap (λ (bytes : List ℕ). row_of (map Some bytes ++ after)) (sym (form_bytes form word_after))
 moved_items address_of place_of before (Byte value ∷ others) rests =
@@ -104,11 +125,8 @@ moved_items address_of place_of before (Byte value ∷ others) rests =
     (moved_items address_of place_of (Some (plain value)) others (λ v. refl))
 moved_items address_of place_of before (Address reference ∷ others) rests =
     let word : ℕ = word_of (layout_from place_of) reference in
-    let word_after : ℕ = word_of (layout_moved address_of place_of) reference in
-    word_moves address_of before reference (low_byte word) (high_byte word)
-    (low_byte word_after) (high_byte word_after) (set_of_items (layout_from place_of) others)
-    (row_of (cells_of_items (layout_moved address_of place_of) others))
-    (low_moved address_of place_of reference) (high_moved address_of place_of reference)
+    word_moves address_of place_of before reference (set_of_items (layout_from place_of) others)
+    (row_of (cells_of_items (layout_moved address_of place_of) others)) rests
     (moved_items address_of place_of (Some (plain (high_byte word))) others (λ v. refl))
 moved_items address_of place_of before (Gap count ∷ others) rests =
     let after : List (Option ℕ) = cells_of_items (layout_moved address_of place_of) others in

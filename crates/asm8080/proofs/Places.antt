@@ -6,12 +6,13 @@ use Rattle.std.proofs.lemmas.Bool.{eq-eqb, eqb-true, ltb-true, lt-ltb}
 use Rattle.std.proofs.lemmas.List.{append_assoc, length-append, length-replicate}
 use Rattle.std.proofs.lemmas.List.Elements.{All-head, All-tail}
 use Rattle.object_modules.specs.declared.segment.Fix.{Fix}
+use Rattle.object_modules.specs.declared.segment.Target.{Target}
 use Rattle.object_modules.specs.declared.segment.TheConstants.{SEGMENT_LIMIT}
 use Rattle.asm8080.specs.declared.fault.Fault.TheVariants.{UnboundLabel, TooLong}
 use Rattle.asm8080.specs.declared.item.Item.{Item}
 use Rattle.asm8080.specs.declared.item.Item.TheVariants.{Plain, WithWord, Byte, Address, Gap, Mark}
 use Rattle.asm8080.specs.Items.{Assembly, BoundOnce, IsAssembly, KnowsLabels, Layout, bytes_of_item, flags_of_item, flags_of_items, is_bound, marks, offset_of, size_of, size_of_items}
-use Rattle.asm8080.specs.Assembled.{AllBound, Assembled, Assembles, FitsSegment, IsFinished, fixes_of_items, place_in}
+use Rattle.asm8080.specs.Assembled.{AllBound, Assembled, Assembles, FitsSegment, IsFinished, fixes_of_items, place_in, target_of, with_fix}
 use Rattle.asm8080.specs.internal.Assembling.{all_placed, bytes_of_items, code_of, fixes_of_item, layout_from, no_code, offset_in, places_after, places_of, with_item, with_items, with_mark, with_places}
 use Rattle.asm8080.proofs.Words.{item_length}
 use Rattle.asm8080.proofs.Assemblies.{assembles, flags_length}
@@ -249,13 +250,21 @@ all_placed_if_bound assembly is bound =
     ∙ bound label (lt-ltb label assembly.labels (omega (arith, places_length assembly))))
 
 -- code item by item
+before_more :
+    (offset : ℕ) (target : Option Target) (others : List Fix)
+    → with_fix offset target [] ++ others ≡ with_fix offset target others
+before_more offset None others = refl
+before_more offset (Some target) others = refl
+
 fixes_split :
     (offset : ℕ) (item : Item) (others : List Item)
     → fixes_of_item offset item ++ fixes_of_items (offset + size_of item) others ≡ fixes_of_items offset (item ∷ others)
 fixes_split offset (Plain instruction) others = refl
-fixes_split offset (WithWord form reference) others = refl
+fixes_split offset (WithWord form reference) others =
+    before_more (offset + 1) (target_of reference) (fixes_of_items (offset + 3) others)
 fixes_split offset (Byte value) others = refl
-fixes_split offset (Address reference) others = refl
+fixes_split offset (Address reference) others =
+    before_more offset (target_of reference) (fixes_of_items (offset + 2) others)
 fixes_split offset (Gap count) others = refl
 fixes_split offset (Mark label) others = refl
 

@@ -9,13 +9,9 @@ use Rattle.isa8080.specs.State.{high_byte, low_byte, wrap}
 use Rattle.isa8080.specs.Code.{bytes_of}
 use Rattle.asm8080.specs.declared.item.WordForm.{WordForm}
 use Rattle.asm8080.specs.declared.item.WordForm.TheVariants.{LoadPair, StoreHl, LoadHl, StoreA, LoadA, Jump, JumpWhere, CallTo, CallWhere}
-use Rattle.asm8080.specs.declared.item.Reference.{Reference}
-use Rattle.asm8080.specs.declared.item.Reference.TheVariants.{AtLabel, AtTarget}
 use Rattle.asm8080.specs.declared.item.Item.{Item}
 use Rattle.asm8080.specs.declared.item.Item.TheVariants.{Plain, WithWord, Byte, Address, Gap, Mark}
 use Rattle.asm8080.specs.Items.{Layout, bytes_of_item, instruction_with, size_of, word_of}
-use Rattle.asm8080.specs.Assembled.{target_of}
-use Rattle.asm8080.specs.internal.Assembling.{layout_from}
 
 -- the first byte of a form
 abbrev pub opcode : WordForm → ℕ
@@ -50,19 +46,12 @@ layout_moved address_of place_of = record {
   address_of = address_of;
 }
 
-wrap_moved : (place gain : ℕ) → (place % 65536 + gain) % 65536 ≡ (gain + place) % 65536
-wrap_moved place gain = omega arith
-
-wrap_gain : (offset gain : ℕ) → ((offset + 0) % 65536 + gain) % 65536 ≡ (offset + gain) % 65536
-wrap_gain offset gain = omega arith
-
 -- a word gains the address of its target
-pub word_moved :
-    (address_of : Target → ℕ) (place_of : ℕ → ℕ) (reference : Reference)
-    → wrap (word_of (layout_from place_of) reference + address_of (target_of reference))
-    ≡ word_of (layout_moved address_of place_of) reference
-word_moved address_of place_of (AtLabel label) = wrap_moved (place_of label) (address_of (InSegment Code))
-word_moved address_of place_of (AtTarget target offset) = wrap_gain offset (address_of target)
+pub label_moved : (place gain : ℕ) → wrap (wrap place + gain) ≡ wrap (gain + place)
+label_moved place gain = omega arith
+
+pub target_moved : (offset gain : ℕ) → wrap (wrap (offset + 0) + gain) ≡ wrap (offset + gain)
+target_moved offset gain = omega arith
 
 low_gained : (word gain : ℕ) → (word % 256 + gain) % 256 ≡ (word + gain) % 65536 % 256
 low_gained word gain = omega arith
@@ -70,19 +59,11 @@ low_gained word gain = omega arith
 high_gained : (word gain : ℕ) → (word % 256 + 256 * (word / 256) + gain) / 256 % 256 ≡ (word + gain) % 65536 / 256
 high_gained word gain = omega arith
 
-pub low_moved :
-    (address_of : Target → ℕ) (place_of : ℕ → ℕ) (reference : Reference)
-    → (low_byte (word_of (layout_from place_of) reference) + address_of (target_of reference)) % 256
-    ≡ low_byte (word_of (layout_moved address_of place_of) reference)
-low_moved address_of place_of reference =
-    low_gained (word_of (layout_from place_of) reference) (address_of (target_of reference))
-    ∙ ap low_byte (word_moved address_of place_of reference)
+pub low_moved : (word gain after : ℕ) → wrap (word + gain) ≡ after → (low_byte word + gain) % 256 ≡ low_byte after
+low_moved word gain after h = low_gained word gain ∙ ap low_byte h
 
 pub high_moved :
-    (address_of : Target → ℕ) (place_of : ℕ → ℕ) (reference : Reference)
-    → second_byte_moved (low_byte (word_of (layout_from place_of) reference))
-    (high_byte (word_of (layout_from place_of) reference)) (address_of (target_of reference))
-    ≡ high_byte (word_of (layout_moved address_of place_of) reference)
-high_moved address_of place_of reference =
-    high_gained (word_of (layout_from place_of) reference) (address_of (target_of reference))
-    ∙ ap high_byte (word_moved address_of place_of reference)
+    (word gain after : ℕ)
+    → wrap (word + gain) ≡ after
+    → second_byte_moved (low_byte word) (high_byte word) gain ≡ high_byte after
+high_moved word gain after h = high_gained word gain ∙ ap high_byte h

@@ -21,7 +21,7 @@ use Rattle.asm8080.specs.declared.fault.Fault.TheVariants.{UnboundLabel, TooLong
 use Rattle.asm8080.specs.declared.item.Item.{Item}
 use Rattle.asm8080.specs.declared.item.Item.TheVariants.{WithWord, Address}
 use Rattle.asm8080.specs.declared.item.Reference.{Reference}
-use Rattle.asm8080.specs.declared.item.Reference.TheVariants.{AtLabel, AtTarget}
+use Rattle.asm8080.specs.declared.item.Reference.TheVariants.{AtLabel, AtTarget, AtNumber}
 use Rattle.asm8080.specs.Items.{Assembly, Layout, ListsExternals, Stands, flags_of_items, is_bound, offset_of, size_of, size_of_items}
 use Rattle.asm8080.specs.Standing.{SetBytesStand}
 
@@ -77,22 +77,28 @@ segment_of code = record {
 abbrev pub resolved : (address_of : Target → ℕ) → Assembled → List (Option ℕ)
 resolved address_of code = bytes_resolved address_of (places_of code)
 
--- what a reference counts from: a label from the start of the code
-abbrev pub target_of : Reference → Target
-target_of (AtLabel label) = InSegment Code
-target_of (AtTarget target offset) = target
+-- what a reference counts from: a label from the start of the code, a number from nothing
+abbrev pub target_of : Reference → Option Target
+target_of (AtLabel label) = Some (InSegment Code)
+target_of (AtTarget target offset) = Some target
+target_of (AtNumber number) = None
 
--- the fix of the word of a reference
-abbrev pub fix_at : (offset : ℕ) → Reference → Fix
-fix_at offset reference = record { kind = Both; target = target_of reference; offset = offset }
+-- the fix of a word that counts from a target
+abbrev pub fix_at : (offset : ℕ) → Target → Fix
+fix_at offset target = record { kind = Both; target = target; offset = offset }
 
--- the fixes of items from an offset on: each word that is a reference has one
+-- the fix of a word, if it counts from a target, before others
+abbrev pub with_fix : (offset : ℕ) → Option Target → List Fix → List Fix
+with_fix offset None others = others
+with_fix offset (Some target) others = fix_at offset target ∷ others
+
+-- the fixes of items from an offset on: each word that counts from a target has one
 abbrev pub fixes_of_items : (offset : ℕ) → List Item → List Fix
 fixes_of_items offset [] = []
 fixes_of_items offset (WithWord form reference ∷ others) =
-    fix_at (offset + 1) reference ∷ fixes_of_items (offset + 3) others
+    with_fix (offset + 1) (target_of reference) (fixes_of_items (offset + 3) others)
 fixes_of_items offset (Address reference ∷ others) =
-    fix_at offset reference ∷ fixes_of_items (offset + 2) others
+    with_fix offset (target_of reference) (fixes_of_items (offset + 2) others)
 fixes_of_items offset (item ∷ others) = fixes_of_items (offset + size_of item) others
 
 -- the labels of items that begin at an address
@@ -116,7 +122,7 @@ pub record Assembles (assembly : Assembly) (code : Assembled) : Type 0 where
   pub size : length code.bytes ≡ size_of_items assembly.items
   -- of each byte it says whether it is set: those of gaps are not, and all others are
   pub set : code.is_set ≡ flags_of_items assembly.items
-  -- each word that is a reference has a fix, and nothing else has one
+  -- each word that counts from a target has a fix, and nothing else has one
   pub fixes : code.fixes ≡ fixes_of_items 0 assembly.items
   -- no fix begins before the one before it ends
   pub ascending : IsTrue (fixes_ascend code.fixes)

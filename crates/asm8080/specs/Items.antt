@@ -11,7 +11,7 @@ use Rattle.isa8080.specs.Code.{bytes_of}
 use Rattle.asm8080.specs.declared.item.WordForm.{WordForm}
 use Rattle.asm8080.specs.declared.item.WordForm.TheVariants.{LoadPair, StoreHl, LoadHl, StoreA, LoadA, Jump, JumpWhere, CallTo, CallWhere}
 use Rattle.asm8080.specs.declared.item.Reference.{Reference}
-use Rattle.asm8080.specs.declared.item.Reference.TheVariants.{AtLabel, AtTarget}
+use Rattle.asm8080.specs.declared.item.Reference.TheVariants.{AtLabel, AtTarget, AtNumber}
 use Rattle.asm8080.specs.declared.item.Item.{Item}
 use Rattle.asm8080.specs.declared.item.Item.TheVariants.{Plain, WithWord, Byte, Address, Gap, Mark}
 use Rattle.asm8080.specs.Standing.{BytesStand, size_of_instruction}
@@ -79,6 +79,7 @@ may_be_target (External number) = true
 abbrev pub IsKnown : (labels : ℕ) → Reference → Type 0
 IsKnown labels (AtLabel label) = label < labels
 IsKnown labels (AtTarget target offset) = IsTrue (may_be_target target)
+IsKnown labels (AtNumber number) = Unit {0}
 
 abbrev pub KnowsLabels : (labels : ℕ) → Item → Type 0
 KnowsLabels labels (WithWord form reference) = IsKnown labels reference
@@ -119,6 +120,7 @@ pub record Layout : Type 0 where
 abbrev pub word_of : Layout → Reference → ℕ
 word_of layout (AtLabel label) = wrap (layout.place_of label)
 word_of layout (AtTarget target offset) = wrap (offset + layout.address_of target)
+word_of layout (AtNumber number) = number
 
 -- the bytes of an item that isn't a label, with 0 for each that stays unset
 abbrev pub bytes_of_item : Layout → Item → List ℕ

@@ -6,7 +6,7 @@ ghost use Rattle.isa8080.specs.State.{high_byte, low_byte, wrap};
 ghost use Rattle.isa8080.specs.Code.{bytes_of};
 ghost use Rattle.asm8080.specs.Standing.{size_of_instruction};
 ghost use Rattle.asm8080.specs.Items.{flags_of_item, instruction_with, is_set, size_of, size_of_items, word_of};
-ghost use Rattle.asm8080.specs.Assembled.{fix_at, place_in, target_of};
+ghost use Rattle.asm8080.specs.Assembled.{place_in, target_of, with_fix};
 ghost use Rattle.asm8080.specs.internal.Assembling.{all_placed, layout_from, no_code, places_of, with_item, with_items, with_mark};
 
 use crate::bytes::CodeParts;
@@ -112,28 +112,34 @@ fn reference_word(reference: Reference, places: &[Option<u128>]) -> u16
     match reference {
         Reference::AtLabel(label) => place_word(places, label),
         Reference::AtTarget(_, offset) => offset,
+        Reference::AtNumber(number) => number,
     }
 }
 
-// What a reference counts from.
-fn reference_target(reference: Reference) -> Target
+// What a reference counts from; none where it is a number.
+fn reference_target(reference: Reference) -> Option<Target>
     ensures { result ≡ target_of reference }
 {
     match reference {
-        Reference::AtLabel(_) => Target::InSegment(Segment::Code),
-        Reference::AtTarget(target, _) => target,
+        Reference::AtLabel(_) => Some(Target::InSegment(Segment::Code)),
+        Reference::AtTarget(target, _) => Some(target),
+        Reference::AtNumber(_) => None,
     }
 }
 
-// The fix of the word of a reference.
-fn fix_at(offset: u16, reference: Reference) -> Fix
-    ensures { result ≡ fix_at offset reference }
+// Adds the fix of a word, if it counts from a target.
+fn push_fix(fixes: &mut Vec<Fix>, offset: u16, target: Option<Target>) -> Result<(), AllocError>
+    ensures { OnOk result ((fixes.new).items ≡ (fixes.old).items ++ with_fix offset target []) }
 {
-    Fix {
+    let Some(target) = target else {
+        return Ok(());
+    };
+    fixes.push(Fix {
         kind: FixKind::Both,
-        target: reference_target(reference),
+        target,
         offset,
-    }
+    })?;
+    Ok(())
 }
 
 /// The instruction of a form with its word.
@@ -208,12 +214,16 @@ fn push_item(code: &mut CodeParts, item: Item, places: &[Option<u128>]) -> Resul
         Item::WithWord(form, reference) => {
             let word = reference_word(reference, places);
             push_instruction(&mut code.bytes, instruction_with(form, word))?;
-            code.fixes.push(fix_at((offset + 1) as u16, reference))?;
+            push_fix(
+                &mut code.fixes,
+                (offset + 1) as u16,
+                reference_target(reference),
+            )?;
         }
         Item::Byte(value) => code.bytes.push(value)?,
         Item::Address(reference) => {
             push_word(&mut code.bytes, reference_word(reference, places))?;
-            code.fixes.push(fix_at(offset as u16, reference))?;
+            push_fix(&mut code.fixes, offset as u16, reference_target(reference))?;
         }
         Item::Gap(count) => push_zeros(&mut code.bytes, count)?,
         Item::Mark(_) => {}

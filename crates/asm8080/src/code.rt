@@ -3,7 +3,7 @@
 ghost use Rattle.std.specs.Prelude.{◌≡◌, ◌+◌, ◌^◌, ◌<◌, false, [], ◌∷◌, ◌++◌, OnErr, OnOk, IfOk, IfSome, IsTrue, Ok, Err};
 ghost use Rattle.failure.specs.Failure.{IfFault};
 ghost use Rattle.asm8080.specs.declared.item.Item.TheVariants.{Plain, WithWord, Byte, Address, Gap, Mark};
-ghost use Rattle.asm8080.specs.declared.item.Reference.TheVariants.{AtLabel, AtTarget};
+ghost use Rattle.asm8080.specs.declared.item.Reference.TheVariants.{AtLabel, AtTarget, AtNumber};
 ghost use Rattle.asm8080.specs.Items.{BindsSame, BindsSameBut, IsAssembly, is_bound, may_be_target};
 ghost use Rattle.asm8080.specs.Assembled.{IsFinished};
 
@@ -91,6 +91,20 @@ impl Code {
         store(
             &mut self.items,
             Item::WithWord(form, Reference::AtTarget(target, offset)),
+        )?;
+        Ok(())
+    }
+
+    /// Adds an instruction whose word is a number.
+    pub fn emit_number(&mut self, form: WordForm, number: u16) -> Result<(), AllocError>
+        ensures ok { OnOk result (self.new
+            ≡ record self.old { items = self.old.items ++ WithWord form (AtNumber number) ∷ [] }) }
+        ensures bound { OnOk result (BindsSame self.old.items self.new.items) }
+        ensures err { OnErr result (self.new ≡ self.old) }
+    {
+        store(
+            &mut self.items,
+            Item::WithWord(form, Reference::AtNumber(number)),
         )?;
         Ok(())
     }

@@ -26,13 +26,15 @@ pub enum WordForm {
     CallWhere(Condition),
 }
 
-/// A 16-bit value that depends on where something will lie.
+/// A 16-bit value: a number, or one that depends on where something will lie.
 #[derive(Clone, Copy)]
 pub enum Reference {
     /// The place of a label, by its number.
     AtLabel(usize),
     /// So many bytes after what a target's offsets count from, modulo 65536.
     AtTarget(Target, u16),
+    /// A number, which nothing moves.
+    AtNumber(u16),
 }
 
 /// An instruction, data between instructions, or the place of a label.
@@ -40,7 +42,7 @@ pub enum Reference {
 pub enum Item {
     /// An instruction whose bytes are known.
     Plain(Instr),
-    /// An instruction whose word is not known yet.
+    /// An instruction with its word.
     WithWord(WordForm, Reference),
     /// A byte of data.
     Byte(u8),

@@ -21,6 +21,8 @@ pub(crate) enum StoredForm {
     SegmentWord(WordForm, Segment, u16),
     /// An instruction whose word is so many bytes after an external name, by its number.
     ExternalWord(WordForm, u16, u16),
+    /// An instruction whose word is a number.
+    NumberWord(WordForm, u16),
     /// A byte of data.
     Byte(u8),
     /// A word of data that is the place of a label, by its number.
@@ -29,6 +31,8 @@ pub(crate) enum StoredForm {
     SegmentAddress(Segment, u16),
     /// A word of data that is so many bytes after an external name, by its number.
     ExternalAddress(u16, u16),
+    /// A word of data that is a number.
+    NumberAddress(u16),
     /// So many bytes that stay unset.
     Gap(u16),
     /// The place of a label, by its number.
@@ -60,7 +64,7 @@ fn short_label(label: usize) -> Option<u32>
     u32::try_from(label).ok()
 }
 
-// An instruction whose word is not known yet.
+// An instruction with its word.
 fn stored_word(form: WordForm, reference: Reference) -> Option<StoredItem>
     ensures { result ≡ if has_short_label reference then Some (WithWord form reference) else None }
 {
@@ -72,6 +76,7 @@ fn stored_word(form: WordForm, reference: Reference) -> Option<StoredItem>
         Reference::AtTarget(Target::External(number), offset) => {
             StoredForm::ExternalWord(form, number, offset)
         }
+        Reference::AtNumber(number) => StoredForm::NumberWord(form, number),
     };
     Some(StoredItem { form })
 }
@@ -88,6 +93,7 @@ fn stored_address(reference: Reference) -> Option<StoredItem>
         Reference::AtTarget(Target::External(number), offset) => {
             StoredForm::ExternalAddress(number, offset)
         }
+        Reference::AtNumber(number) => StoredForm::NumberAddress(number),
     };
     Some(StoredItem { form })
 }
@@ -135,6 +141,9 @@ impl StoredItem {
             StoredForm::ExternalWord(form, number, offset) => {
                 Item::WithWord(form, Reference::AtTarget(Target::External(number), offset))
             }
+            StoredForm::NumberWord(form, number) => {
+                Item::WithWord(form, Reference::AtNumber(number))
+            }
             StoredForm::Byte(value) => Item::Byte(value),
             StoredForm::LabelAddress(label) => Item::Address(Reference::AtLabel(label as usize)),
             StoredForm::SegmentAddress(segment, offset) => {
@@ -143,6 +152,7 @@ impl StoredItem {
             StoredForm::ExternalAddress(number, offset) => {
                 Item::Address(Reference::AtTarget(Target::External(number), offset))
             }
+            StoredForm::NumberAddress(number) => Item::Address(Reference::AtNumber(number)),
             StoredForm::Gap(count) => Item::Gap(count),
             StoredForm::Mark(label) => Item::Mark(label as usize),
         }

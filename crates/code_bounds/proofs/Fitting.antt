@@ -3,14 +3,10 @@ use Rattle.std.proofs.Common.{◌≡◌, ℕ, ◌+◌, ◌≤◌, Bool, List, []
 use Rattle.isa8080.specs.declared.instr.Instr.{Instr}
 use Rattle.isa8080.specs.declared.instr.Instr.TheVariants.{Nop, Lxi, Stax, Ldax, Shld, Lhld, Sta, Lda, Inx, Dcx, Dad, Inr, Dcr, Mvi, Rlc, Rrc, Ral, Rar, Daa, Cma, Stc, Cmc, Mov, MovToMemory, Hlt, Accumulate, AccumulateImmediate, ReturnIf, JumpIf, CallIf, Ret, Jmp, Call, Rst, Pop, Push, Out, In, Xthl, Xchg, Pchl, Sphl, Di, Ei}
 use Rattle.asm8080.specs.declared.item.Item.{Item}
-use Rattle.asm8080.specs.declared.item.WordForm.{WordForm}
-use Rattle.asm8080.specs.Items.{instruction_with, size_of, size_of_items}
+use Rattle.asm8080.specs.Items.{size_of_items}
 use Rattle.asm8080.specs.Standing.{size_of_instruction}
 use Rattle.asm8080.proofs.Parts.{size_in_parts}
-use Rattle.treecode.specs.declared.place.Place.{Place}
-use Rattle.treecode.specs.declared.place.Place.TheVariants.{Number, Code, Data, External}
 use Rattle.steps8080.specs.declared.facts.Facts.{Facts}
-use Rattle.steps8080.specs.Writer.{word_item}
 use Rattle.statements8080.specs.declared.body.Body.{Body}
 use Rattle.statements8080.specs.declared.plan.Planned.{Planned}
 use Rattle.codegen8080.specs.declared.meeting.Here.{Here}
@@ -161,9 +157,3 @@ at_most_three Pchl = omega arith
 at_most_three Sphl = omega arith
 at_most_three Di = omega arith
 at_most_three Ei = omega arith
-
-pub word_at_most_three : (form : WordForm) (place : Place) → size_of (word_item form place) ≤ 3
-word_at_most_three form (Number number) = at_most_three (instruction_with form number)
-word_at_most_three form (Code offset) = omega arith
-word_at_most_three form (Data offset) = omega arith
-word_at_most_three form (External offset name) = omega arith

@@ -22,7 +22,7 @@ use Rattle.codegen8080.specs.Generated.{AreCarriedOut, HoldsNoStatement, ListCar
 use Rattle.steps8080.specs.declared.step.LabelNumber.{LabelNumber}
 use Rattle.asm8080.specs.declared.item.WordForm.TheVariants.{Jump}
 use Rattle.code_bounds.specs.internal.Fits.{StepsFit}
-use Rattle.code_bounds.proofs.Fitting.{at_most_three, less_fits, no_size, none_fit, then_fit, word_at_most_three}
+use Rattle.code_bounds.proofs.Fitting.{at_most_three, less_fits, no_size, none_fit, then_fit}
 
 -- how many bytes steps take at most of which none is a part
 abbrev pub bytes_of_step : Step → ℕ
@@ -71,7 +71,7 @@ steps_within [] none NoneWritten = omega arith
 steps_within (steps.Plain i ∷ others) none (PlainWritten rest) =
     omega (arith, at_most_three i, steps_within others none.1 rest)
 steps_within (steps.Word form place ∷ others) none (WordWritten rest) =
-    omega (arith, word_at_most_three form place, steps_within others none.1 rest)
+    omega (arith, steps_within others none.1 rest)
 steps_within (steps.Jump form label ∷ others) none (JumpWritten rest) =
     omega (arith, steps_within others none.1 rest)
 steps_within (steps.Mark label ∷ others) none (MarkWritten rest) =

@@ -1,24 +1,18 @@
 -- What it means that facts of the registers hold: of the registers and the memory of the machine alone.
 use Rattle.std.specs.Prelude.{◌≡◌, ℕ, ◌+◌, ◌<◌, ◌≤◌, ◌==◌, Bool, true, false, List, Option, Some, None}
-use Rattle.object_modules.specs.declared.segment.Segment.TheVariants as segments
-use Rattle.object_modules.specs.declared.segment.Target.TheVariants as targets
 use Rattle.mem80.specs.Memory.{byte_at}
 use Rattle.isa8080.specs.State.{Registers, word, wrap}
-use Rattle.asm8080.specs.declared.item.Reference.TheVariants.{AtTarget}
 use Rattle.asm8080.specs.Items.{Layout, word_of}
 use Rattle.treecode.specs.declared.place.Place.{Place}
-use Rattle.treecode.specs.declared.place.Place.TheVariants.{Number, Code, Data, External}
 use Rattle.treecode.specs.declared.place.Location.{Location}
 use Rattle.treecode.specs.declared.place.Location.TheVariants.{Static, Frame}
 use Rattle.steps8080.specs.declared.facts.Facts.{Facts}
+use Rattle.steps8080.specs.Writer.{reference_at}
 use Rattle.code_meaning.specs.Activations.{Activation}
 
 -- the word that a place is, by where labels and targets lie
 abbrev pub place_at : Layout → Place → ℕ
-place_at layout (Number number) = number
-place_at layout (Code offset) = word_of layout (AtTarget (targets.InSegment segments.Code) offset)
-place_at layout (Data offset) = word_of layout (AtTarget (targets.InSegment segments.Data) offset)
-place_at layout (External offset name) = word_of layout (AtTarget (targets.External name) offset)
+place_at layout place = word_of layout (reference_at place)
 
 -- how far above the level of an activation each variable of its frame begins
 abbrev pub Distances : Type 0

@@ -1,5 +1,5 @@
 -- What is written for steps that find room finds room, and so does what is written for a part.
-use Rattle.std.proofs.Common.{◌≡◌, ℕ, ◌+◌, ◌-◌, Bool, true, false, List, [], ◌∷◌, ◌++◌, if◌then◌else◌, refl, sym, subst}
+use Rattle.std.proofs.Common.{ℕ, ◌+◌, ◌-◌, Bool, true, false, List, [], ◌∷◌, ◌++◌, if◌then◌else◌, refl, sym, subst}
 use Rattle.isa8080.specs.declared.instr.Instr.{Instr}
 use Rattle.isa8080.specs.declared.instr.Instr.TheVariants as instructions
 use Rattle.isa8080.specs.declared.instr.Pair.TheVariants.{Sp}
@@ -7,10 +7,8 @@ use Rattle.asm8080.specs.declared.item.Item.{Item}
 use Rattle.asm8080.specs.declared.item.Item.TheVariants as items
 use Rattle.asm8080.specs.declared.item.WordForm.{WordForm}
 use Rattle.asm8080.specs.declared.item.WordForm.TheVariants as word_forms
-use Rattle.asm8080.specs.Items.{instruction_with}
 use Rattle.treecode.specs.declared.module.TreeModule.{TreeModule}
 use Rattle.treecode.specs.declared.place.Place.{Place}
-use Rattle.treecode.specs.declared.place.Place.TheVariants.{Number, Code, Data, External}
 use Rattle.steps8080.specs.declared.facts.Facts.{Facts}
 use Rattle.steps8080.specs.declared.step.LabelNumber.{LabelNumber}
 use Rattle.steps8080.specs.declared.step.Part.{Part}
@@ -21,7 +19,7 @@ use Rattle.steps8080.specs.Writer.{jump_item, word_item}
 use Rattle.sites8080.specs.declared.site.Site.{Site}
 use Rattle.exprgen8080.specs.Emission.{AreWritten, CallWritten, ChangeWritten, HoldsWritten, IsWritten, JumpWritten, MarkWritten, NoneWritten, PartWritten, PlainWritten, Planned, RoutineWritten, TestWritten, WordWritten, knowing, test_of_a}
 use Rattle.exprgen8080.specs.Forms.{steps_of, task_steps}
-use Rattle.code_heights.specs.Heights.{BranchThere, ByteDropped, CallThere, FindsRoom, HaltThere, InstructionThere, JumpThere, LabelThere, NothingThere, PopThere, PushThere, ReturnThere, RoutineThere, TableJumpThere, WordThere, keeps_stack, keeps_stack_with}
+use Rattle.code_heights.specs.Heights.{BranchThere, ByteDropped, CallThere, FindsRoom, HaltThere, InstructionThere, JumpThere, LabelThere, NothingThere, PopThere, PushThere, ReturnThere, RoutineThere, TableJumpThere, WordThere}
 use Rattle.code_heights.specs.internal.Going.{Go, GoesOn, GoesOnWithLabel, GoesOnWithWord, IsOfTree, Runs, Source}
 use Rattle.code_heights.proofs.Addresses.{address_runs}
 use Rattle.code_heights.proofs.Calls.{call_runs, effects_run}
@@ -57,17 +55,6 @@ plain_room tree level free after instructions.Sphl more is go = absurd is
 plain_room tree level free after i more is go = InstructionThere refl (go free is)
 
 -- an instruction with a word
-at_place :
-    (tree : TreeModule) (level free after : ℕ) (form : WordForm) (place : Place) (more : List Item)
-    → keeps_stack_with form ≡ true
-    → ((word : ℕ) → keeps_stack (instruction_with form word) ≡ true)
-    → FindsRoom tree level free more after
-    → FindsRoom tree level free (word_item form place ∷ more) after
-at_place tree level free after form (Number number) more kept alone rest = InstructionThere (alone number) rest
-at_place tree level free after form (Code offset) more kept alone rest = WordThere kept rest
-at_place tree level free after form (Data offset) more kept alone rest = WordThere kept rest
-at_place tree level free after form (External offset name) more kept alone rest = WordThere kept rest
-
 word_room :
     (tree : TreeModule) (level free after : ℕ) (form : WordForm) (place : Place) (more : List Item)
     {Rest : ℕ → Type 0}
@@ -79,8 +66,7 @@ word_room tree level free after word_forms.Jump place more is go = absurd is
 word_room tree level free after (word_forms.JumpWhere condition) place more is go = absurd is
 word_room tree level free after word_forms.CallTo place more is go = absurd is
 word_room tree level free after (word_forms.CallWhere condition) place more is go = absurd is
-word_room tree level free after form place more is go =
-    at_place tree level free after form place more refl (λ word. refl) (go free is)
+word_room tree level free after form place more is go = WordThere refl (go free is)
 
 -- one with a label
 label_room :

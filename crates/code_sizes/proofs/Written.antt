@@ -1,36 +1,20 @@
 -- What is written for steps takes no more bytes than the steps do, where the code of each task does not.
-use Rattle.std.proofs.Common.{◌≡◌, ℕ, ◌+◌, ◌≤◌, Bool, true, false, List, [], ◌∷◌, ◌++◌, Option, Some, None, slice_get, if◌then◌else◌, refl, arith}
+use Rattle.std.proofs.Common.{◌≡◌, ℕ, ◌+◌, ◌≤◌, Bool, true, false, List, [], ◌∷◌, ◌++◌, Option, Some, None, slice_get, if◌then◌else◌, arith}
 use Rattle.layout.specs.Storage.{Storage}
 use Rattle.asm8080.specs.declared.item.Item.{Item}
 use Rattle.asm8080.specs.declared.item.Item.TheVariants as items
-use Rattle.asm8080.specs.declared.item.WordForm.{WordForm}
-use Rattle.asm8080.specs.declared.item.WordForm.TheVariants.{LoadPair}
-use Rattle.asm8080.specs.Items.{instruction_with, size_of, size_of_items}
-use Rattle.asm8080.specs.Standing.{size_of_instruction}
-use Rattle.treecode.specs.declared.place.Place.{Place}
-use Rattle.treecode.specs.declared.place.Place.TheVariants.{Number, Code, Data, External}
+use Rattle.asm8080.specs.Items.{size_of_items}
 use Rattle.treecode.specs.declared.procedure.ProcedureKind.{ProcedureKind}
 use Rattle.treecode.specs.declared.procedure.ProcedureKind.TheVariants as kinds
 use Rattle.treecode.specs.declared.procedure.TreeProcedure.{TreeProcedure}
 use Rattle.steps8080.specs.declared.facts.Facts.{Facts}
 use Rattle.steps8080.specs.declared.step.Part.{Part}
 use Rattle.steps8080.specs.declared.step.Step.{Step}
-use Rattle.steps8080.specs.Writer.{word_item}
 use Rattle.sites8080.specs.declared.site.Site.{Site}
 use Rattle.exprgen8080.specs.Emission.{AreWritten, CallWritten, ChangeWritten, HoldsWritten, IsWritten, JumpWritten, MarkWritten, NoneWritten, PartWritten, PlainWritten, Planned, RoutineWritten, TestWritten, WordWritten, call_items, items_of_call, knowing, test_items, test_of_a}
 use Rattle.exprgen8080.specs.Forms.{task_steps}
 use Rattle.code_sizes.specs.internal.Sizes.{size_of_steps}
 use Rattle.code_sizes.specs.internal.Parts.{AreOfTrees, Fit, IsOfTree, size_of_task}
-
-with_word : (form : WordForm) (word : ℕ) → size_of_instruction (instruction_with form word) ≡ 3
-with_word (LoadPair pair) word = refl
-with_word form word = refl
-
-pub size_of_word : (form : WordForm) (place : Place) → size_of (word_item form place) ≡ 3
-size_of_word form (Number number) = with_word form number
-size_of_word form (Code offset) = refl
-size_of_word form (Data offset) = refl
-size_of_word form (External offset name) = refl
 
 size_of_kind : (procedure : ℕ) (kind : ProcedureKind) → size_of_items (items_of_call procedure kind) ≤ 3
 size_of_kind procedure kinds.Static = omega arith
@@ -82,10 +66,10 @@ mutual
       let after : size_of_items more ≤ size_of_steps (size_of_task site) others =
       steps_written site storage called fit are rest in
       omega (arith, after)
-  steps_written site storage called fit are (WordWritten {form = form} {place = place} {others = others} {more = more} rest) =
+  steps_written site storage called fit are (WordWritten {others = others} {more = more} rest) =
       let after : size_of_items more ≤ size_of_steps (size_of_task site) others =
       steps_written site storage called fit are rest in
-      omega (arith, after, size_of_word form place)
+      omega (arith, after)
   steps_written site storage called fit are (JumpWritten {others = others} {more = more} rest) =
       let after : size_of_items more ≤ size_of_steps (size_of_task site) others =
       steps_written site storage called fit are rest in

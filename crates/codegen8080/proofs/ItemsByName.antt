@@ -8,7 +8,7 @@ use Rattle.object_modules.specs.declared.segment.Target.TheVariants.{InSegment, 
 use Rattle.asm8080.specs.declared.item.Item.{Item}
 use Rattle.asm8080.specs.declared.item.Item.TheVariants.{Plain, WithWord, Byte, Address, Gap, Mark}
 use Rattle.asm8080.specs.declared.item.Reference.{Reference}
-use Rattle.asm8080.specs.declared.item.Reference.TheVariants.{AtLabel, AtTarget}
+use Rattle.asm8080.specs.declared.item.Reference.TheVariants.{AtLabel, AtTarget, AtNumber}
 use Rattle.asm8080.specs.Items.{Layout, Stands, instruction_with, word_of}
 use Rattle.asm8080.specs.Standing.{BytesStand}
 use Rattle.steps8080.specs.Externals.{entry}
@@ -53,6 +53,7 @@ module _ (layout : Layout) (written : Written) (memory : List ℕ) where
       by (Some number) is some =
           ap (λ (found : Option ℕ). wrap (offset + layout.address_of (External (unwrap_or found 0)))) is
           ∙ ap (word_of layout) (same_item (AtTarget (External number) offset) known some)
+  same_word (AtNumber number) known given = ap (word_of layout) (same_item (AtNumber number) known given)
 
   -- an item, and others after it
   item_stands : (item found : Item) (others made : List Item) (from to : ℕ)

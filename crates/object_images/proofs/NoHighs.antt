@@ -12,7 +12,7 @@ use Rattle.object_modules.specs.Runs.{fixup_at}
 use Rattle.object_merges.proofs.FixesOfPlaces.{high_at}
 use Rattle.asm8080.specs.declared.item.Item.{Item}
 use Rattle.asm8080.specs.declared.item.Item.TheVariants.{Plain, WithWord, Byte, Address, Gap, Mark}
-use Rattle.asm8080.specs.Assembled.{Assembled, Assembles, fixed_bytes, fixes_of_items, places_of, set_bytes}
+use Rattle.asm8080.specs.Assembled.{Assembled, Assembles, fixed_bytes, fixes_of_items, places_of, set_bytes, target_of, with_fix}
 use Rattle.asm8080.specs.Items.{Assembly, size_of}
 use Rattle.object_images.specs.internal.Code.{retargeted, with_targets}
 
@@ -34,12 +34,21 @@ no_high_targets object h k = highs_append object.code.places object.data_places.
 abbrev IsWord : Fix → Type 0
 IsWord fix = fix.kind ≡ Both
 
+-- a fix of a whole word, if there is one, before others
+words_with :
+    (offset : ℕ) (target : Option Target) (others : List Fix) → AllByRecursion IsWord others
+    → AllByRecursion IsWord (with_fix offset target others)
+words_with offset None others all = all
+words_with offset (Some target) others all = (refl, all)
+
 items_words : (offset : ℕ) (items : List Item) → AllByRecursion IsWord (fixes_of_items offset items)
 items_words offset [] = tt
 items_words offset (Plain instruction ∷ others) = items_words (offset + size_of (Plain instruction)) others
-items_words offset (WithWord form reference ∷ others) = (refl, items_words (offset + 3) others)
+items_words offset (WithWord form reference ∷ others) =
+    words_with (offset + 1) (target_of reference) (fixes_of_items (offset + 3) others) (items_words (offset + 3) others)
 items_words offset (Byte value ∷ others) = items_words (offset + 1) others
-items_words offset (Address reference ∷ others) = (refl, items_words (offset + 2) others)
+items_words offset (Address reference ∷ others) =
+    words_with offset (target_of reference) (fixes_of_items (offset + 2) others) (items_words (offset + 2) others)
 items_words offset (Gap count ∷ others) = items_words (offset + count) others
 items_words offset (Mark label ∷ others) = items_words (offset + 0) others
 

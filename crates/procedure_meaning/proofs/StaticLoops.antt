@@ -15,11 +15,9 @@ use Rattle.asm8080.specs.declared.item.Item.{Item}
 use Rattle.asm8080.specs.declared.item.Item.TheVariants as items
 use Rattle.asm8080.specs.declared.item.WordForm.{WordForm}
 use Rattle.asm8080.specs.Standing.{size_of_instruction}
-use Rattle.machine_runs.proofs.Kept.{size_with}
 use Rattle.treecode.specs.declared.place.Location.{Location}
 use Rattle.treecode.specs.declared.place.Location.TheVariants.{Static}
 use Rattle.treecode.specs.declared.place.Place.{Place}
-use Rattle.treecode.specs.declared.place.Place.TheVariants as places
 use Rattle.treecode.specs.declared.procedure.Parameter.{Parameter}
 use Rattle.code_meaning.specs.Activations.{Activation, IsThere, IsVariable}
 use Rattle.code_meaning.specs.Landing.{Does, at_place}
@@ -61,17 +59,10 @@ pub word_parted :
     → PartedThere activation (word_item form place ∷ []) others from (from + 3) to
 word_parted {activation = activation} {from = from} {to = to} form place others there =
     let parts = both_there (word_item form place ∷ []) others there in
+    let same : from + 3 ≡ parts.middle = parts.first.stands.1 in
     subst (λ (middle : ℕ). PartedThere activation (word_item form place ∷ []) others from middle to)
-    (sym (ends place parts.middle parts.first))
+    (sym same)
     (record { one = parts.first; rest = parts.second })
-  where
-    ends : (place : Place) (middle : ℕ) → IsThere activation (word_item form place ∷ []) from middle → from + 3 ≡ middle
-    ends (places.Number number) middle one =
-        let size = size_with form number in
-        ap (λ (size : ℕ). from + size) (sym size) ∙ one.stands.1
-    ends (places.Code offset) middle one = one.stands.1
-    ends (places.Data offset) middle one = one.stands.1
-    ends (places.External offset name) middle one = one.stands.1
 
 -- what a register is known to hold: a value that goes to a parameter
 pub record HeldAs (slots : List Slot) (values : List ℕ) (scalar : ScalarType) (location : Location) (value : ℕ) :

@@ -7,7 +7,7 @@ use Rattle.isa8080.specs.State.{high_byte, low_byte, wrap}
 use Rattle.asm8080.specs.declared.item.Item.{Item}
 use Rattle.asm8080.specs.declared.item.Item.TheVariants.{Plain, WithWord, Byte, Address, Gap, Mark}
 use Rattle.asm8080.specs.declared.item.Reference.{Reference}
-use Rattle.asm8080.specs.declared.item.Reference.TheVariants.{AtLabel, AtTarget}
+use Rattle.asm8080.specs.declared.item.Reference.TheVariants.{AtLabel, AtTarget, AtNumber}
 use Rattle.asm8080.specs.Items.{Layout, Stands, instruction_with, word_of}
 use Rattle.asm8080.specs.Standing.{BytesStand}
 use Rattle.steps8080.specs.Externals.{entry}
@@ -62,6 +62,7 @@ module _ (written : Written) (own layout : Layout) (lays : LaysOut written own l
   same_word (AtTarget (InSegment segment) offset) made is =
       let same : made ≡ AtTarget (InSegment segment) offset = cc in
       rw same (ap (λ address. wrap (offset + address)) (lays.starts segment))
+  same_word (AtNumber number) made is = let same : made ≡ AtNumber number = cc in rw same refl
 
   -- so the items stand where those by the code's numbers do
   pub stands_so :

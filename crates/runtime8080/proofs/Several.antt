@@ -2,7 +2,7 @@
 use Rattle.std.proofs.Common.{◌≡◌, ℕ, ◌≤◌, List, [], ◌∷◌, ◌++◌, ap, ◌∙◌}
 use Rattle.std.specs.Prelude.{All}
 use Rattle.std.proofs.lemmas.List.Elements.{All-nil, All-cons, All-head, All-tail}
-use Rattle.asm8080.specs.declared.item.Reference.TheVariants.{AtLabel, AtTarget}
+use Rattle.asm8080.specs.declared.item.Reference.TheVariants.{AtLabel, AtTarget, AtNumber}
 use Rattle.asm8080.specs.declared.item.Item.{Item}
 use Rattle.asm8080.specs.declared.item.Item.TheVariants.{Plain, WithWord, Byte, Address, Gap, Mark}
 use Rattle.asm8080.specs.Items.{Assembly, ListsExternals}
@@ -46,9 +46,11 @@ own_label :
 own_label first past count (Plain instruction) own = tt
 own_label first past count (WithWord form (AtLabel label)) own = tt
 own_label first past count (WithWord form (AtTarget target offset)) own = absurd own
+own_label first past count (WithWord form (AtNumber number)) own = tt
 own_label first past count (Byte value) own = tt
 own_label first past count (Address (AtLabel label)) own = tt
 own_label first past count (Address (AtTarget target offset)) own = absurd own
+own_label first past count (Address (AtNumber number)) own = tt
 own_label first past count (Gap size) own = tt
 own_label first past count (Mark label) own = tt
 

@@ -13,7 +13,7 @@ use Rattle.isa8080.specs.declared.instr.Instr.TheVariants.{Call}
 use Rattle.isa8080.specs.declared.registers.Status.TheVariants.{Running}
 use Rattle.isa8080.specs.State.{HoldBytes, State, Registers, pair_of, wrap}
 use Rattle.asm8080.specs.declared.item.Reference.{Reference}
-use Rattle.asm8080.specs.declared.item.Reference.TheVariants.{AtLabel, AtTarget}
+use Rattle.asm8080.specs.declared.item.Reference.TheVariants.{AtLabel, AtTarget, AtNumber}
 use Rattle.asm8080.specs.declared.item.Item.{Item}
 use Rattle.asm8080.specs.declared.item.Item.TheVariants as item_variants
 use Rattle.asm8080.specs.Items.{Assembly, Layout, Stands, is_bound, size_of_items}
@@ -190,6 +190,7 @@ IsOwnLabel first past label = (first ≤ label) × (label < past)
 abbrev pub IsOwnReference : (first past : ℕ) → Reference → Type 0
 IsOwnReference first past (AtLabel label) = IsOwnLabel first past label
 IsOwnReference first past (AtTarget target offset) = ⊥
+IsOwnReference first past (AtNumber number) = Unit {0}
 
 -- what an item binds or refers to is one of these labels
 abbrev pub HasOwnLabels : (first past : ℕ) → Item → Type 0

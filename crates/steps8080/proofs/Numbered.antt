@@ -7,7 +7,7 @@ use Rattle.object_modules.specs.declared.segment.Target.TheVariants.{InSegment, 
 use Rattle.asm8080.specs.declared.item.Item.{Item}
 use Rattle.asm8080.specs.declared.item.Item.TheVariants.{Plain, WithWord, Byte, Address, Gap, Mark}
 use Rattle.asm8080.specs.declared.item.Reference.{Reference}
-use Rattle.asm8080.specs.declared.item.Reference.TheVariants.{AtLabel, AtTarget}
+use Rattle.asm8080.specs.declared.item.Reference.TheVariants.{AtLabel, AtTarget, AtNumber}
 use Rattle.asm8080.specs.Items.{Assembly}
 use Rattle.steps8080.specs.Externals.{AddsOnly, Extends, entry}
 use Rattle.steps8080.specs.Writer.{NumbersNames, Written, Writes, in_front, numbered, numbered_item, numbered_reference, use_name, uses_name}
@@ -38,6 +38,7 @@ reference_stays before after (AtTarget (External name) offset) made labels exter
     (externals name)
     given
 reference_stays before after (AtTarget (InSegment segment) offset) made labels externals given = given
+reference_stays before after (AtNumber number) made labels externals given = given
 
 item_stays :
     (before after : Written) (item made : Item)

@@ -5,13 +5,13 @@ use Rattle.std.specs.List.{list_any}
 use Rattle.object_modules.specs.declared.segment.Segment.TheVariants as segments
 use Rattle.object_modules.specs.declared.segment.Target.TheVariants.{InSegment, External}
 use Rattle.asm8080.specs.declared.item.Item.{Item}
-use Rattle.asm8080.specs.declared.item.Item.TheVariants.{Plain, WithWord, Byte, Address, Mark}
+use Rattle.asm8080.specs.declared.item.Item.TheVariants.{WithWord, Byte, Address, Mark}
 use Rattle.asm8080.specs.declared.item.Reference.{Reference}
-use Rattle.asm8080.specs.declared.item.Reference.TheVariants.{AtLabel, AtTarget}
+use Rattle.asm8080.specs.declared.item.Reference.TheVariants.{AtLabel, AtTarget, AtNumber}
 use Rattle.asm8080.specs.declared.item.WordForm.{WordForm}
 use Rattle.asm8080.specs.declared.item.WordForm.TheVariants.{CallTo}
 use Rattle.asm8080.specs.Assembled.{Assembled, Assembles, place_of}
-use Rattle.asm8080.specs.Items.{Assembly, IsAssembly, instruction_with}
+use Rattle.asm8080.specs.Items.{Assembly, IsAssembly}
 use Rattle.runtime8080.specs.declared.routine.Routine.{Routine}
 use Rattle.runtime8080.specs.Routines.{AddsRoutine}
 use Rattle.treecode.specs.declared.place.Place.{Place}
@@ -33,6 +33,7 @@ numbered_reference written (AtLabel label) = option_map AtLabel (entry written.l
 numbered_reference written (AtTarget (External name) offset) =
     option_map (λ number. AtTarget (External number) offset) (entry written.externals name)
 numbered_reference written (AtTarget (InSegment segment) offset) = Some (AtTarget (InSegment segment) offset)
+numbered_reference written (AtNumber number) = Some (AtNumber number)
 
 abbrev pub numbered_item : Written → Item → Option Item
 numbered_item written (WithWord form reference) =
@@ -89,12 +90,16 @@ pub record WritesRoutine
   pub labels : after.labels ≡ entered.labels
   pub externals : after.externals ≡ entered.externals
 
+-- what the word of a place is
+abbrev pub reference_at : Place → Reference
+reference_at (places.Number number) = AtNumber number
+reference_at (places.Code offset) = AtTarget (InSegment segments.Code) offset
+reference_at (places.Data offset) = AtTarget (InSegment segments.Data) offset
+reference_at (places.External offset name) = AtTarget (External name) offset
+
 -- an instruction with the word of a place
 abbrev pub word_item : WordForm → Place → Item
-word_item form (places.Number number) = Plain (instruction_with form number)
-word_item form (places.Code offset) = WithWord form (AtTarget (InSegment segments.Code) offset)
-word_item form (places.Data offset) = WithWord form (AtTarget (InSegment segments.Data) offset)
-word_item form (places.External offset name) = WithWord form (AtTarget (External name) offset)
+word_item form place = WithWord form (reference_at place)
 
 -- an instruction whose word is the address just past the stack
 abbrev pub stack_end_item : WordForm → Item

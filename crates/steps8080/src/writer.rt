@@ -3,7 +3,7 @@
 ghost use Rattle.std.specs.Prelude.{◌≡◌, [], ◌∷◌, ◌++◌, None, Some, map, replicate, IfOk, IsTrue, OnErr, OnOk, Err};
 ghost use Rattle.failure.specs.Failure.{IfFault};
 ghost use Rattle.asm8080.specs.declared.item.Item.TheVariants.{Plain, WithWord, Byte, Address, Gap, Mark};
-ghost use Rattle.asm8080.specs.declared.item.Reference.TheVariants.{AtTarget};
+ghost use Rattle.asm8080.specs.declared.item.Reference.TheVariants.{AtTarget, AtNumber};
 ghost use Rattle.object_modules.specs.declared.segment.Target.TheVariants.{External, InSegment};
 ghost use Rattle.object_modules.specs.Module.{is_movable};
 ghost use Rattle.asm8080.specs.Assembled.{IsFinished};
@@ -16,7 +16,7 @@ ghost use Rattle.steps8080.specs.internal.Labels.{Follows};
 
 use crate::externals::Externals;
 use crate::step::LabelNumber;
-use asm8080::{Code, CodeBytes, Fault, Label, WordForm, instruction_with};
+use asm8080::{Code, CodeBytes, Fault, Label, WordForm};
 use failure::Failure;
 use isa8080::Instr;
 use object_modules::{Segment, Target};
@@ -110,12 +110,20 @@ impl Writer {
         Ok(())
     }
 
+    // Adds an instruction whose word is a number.
+    fn numbered(&mut self, form: WordForm, number: u16) -> Result<(), AllocError>
+        ensures { OnOk result (Writes self.old self.new (WithWord form (AtNumber number) ∷ [])) }
+    {
+        self.code.emit_number(form, number)?;
+        Ok(())
+    }
+
     /// Adds an instruction with the word of a place.
     pub fn word(&mut self, form: WordForm, place: Place) -> Result<(), AllocError>
         ensures { OnOk result (Writes self.old self.new (word_item form place ∷ [])) }
     {
         match place {
-            Place::Number(number) => self.plain(instruction_with(form, number)),
+            Place::Number(number) => self.numbered(form, number),
             Place::Code(offset) => self.fixed(form, Segment::Code, offset),
             Place::Data(offset) => self.fixed(form, Segment::Data, offset),
             Place::External { name, offset } => self.fixed_by_name(form, name, offset),

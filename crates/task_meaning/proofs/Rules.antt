@@ -14,13 +14,11 @@ use Rattle.isa8080.specs.Act.{act}
 use Rattle.isa8080.proofs.FlagBytes.{flag_byte_small}
 use Rattle.asm8080.specs.declared.item.Item.TheVariants as items
 use Rattle.asm8080.specs.declared.item.WordForm.{WordForm}
-use Rattle.asm8080.specs.declared.item.WordForm.TheVariants.{LoadPair}
 use Rattle.asm8080.specs.Items.{instruction_with}
 use Rattle.asm8080.specs.Standing.{AgreesIn, size_of_instruction}
 use Rattle.machine_runs.proofs.Calls.{pushed}
 use Rattle.machine_runs.proofs.Stack.{pop_does, push_does}
 use Rattle.treecode.specs.declared.place.Place.{Place}
-use Rattle.treecode.specs.declared.place.Place.TheVariants as places
 use Rattle.code_meaning.specs.Landing.{Does, at_place}
 use Rattle.code_meaning.specs.Activations.{Activation, HasRoom, IsReady, IsThere, LiesWell}
 use Rattle.code_meaning.proofs.FirstItems.{plain_first, word_first}
@@ -164,10 +162,6 @@ registers_go {memory = memory} {events = events} r now sound there on asks does 
     plain_goes r now memory events sound there on asks does
     (λ known. rest (record { ready = ready_with_registers pointer bytes on.ready; known = known }))
 
-size_with_word : (form : WordForm) (word : ℕ) → size_of_instruction (instruction_with form word) ≡ 3
-size_with_word (LoadPair pair) word = refl
-size_with_word form word = refl
-
 -- an instruction with the word of a place: what it does is left
 pub word_acts :
     {A : Type 0} {budget more : ℕ} {outcome : Outcome A} {Good : A → SourceState → State → Type 0}
@@ -180,14 +174,7 @@ pub word_acts :
     (instruction_with form (place_at context.activation.layout place)) (at_place (from + 3) r memory events))
     outcome Good
     → Does context.activation.around.program.script budget more (at_place from r memory events) outcome Good
-word_acts {budget = budget} {more = more} {outcome = outcome} {Good = Good} {context = context} {memory = memory} {events = events} {from = from} form (places.Number number) r sound code there rest =
-    plain_first r sound.lies code (there)
-    (subst (λ (size : ℕ). Does context.activation.around.program.script budget more
-    (act context.activation.around.program.script (instruction_with form number) (at_place (from + size) r memory events))
-    outcome Good) (sym (size_with_word form number)) rest)
-word_acts form (places.Code offset) r sound code there rest = word_first r sound.lies code there rest
-word_acts form (places.Data offset) r sound code there rest = word_first r sound.lies code there rest
-word_acts form (places.External offset name) r sound code there rest = word_first r sound.lies code there rest
+word_acts form place r sound code there rest = word_first r sound.lies code there rest
 
 -- and what is known after it holds then
 pub word_goes :

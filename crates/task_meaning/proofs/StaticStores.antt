@@ -6,14 +6,12 @@ use Rattle.meaning.specs.Outcomes.{State as SourceState, Outcome, then_do}
 use Rattle.isa8080.specs.State.{Registers, State, wrap}
 use Rattle.isa8080.specs.Act.{act}
 use Rattle.asm8080.specs.declared.item.WordForm.{WordForm}
-use Rattle.asm8080.specs.declared.item.WordForm.TheVariants.{LoadPair, StoreA}
+use Rattle.asm8080.specs.declared.item.WordForm.TheVariants.{StoreA}
 use Rattle.asm8080.specs.Items.{instruction_with}
-use Rattle.asm8080.specs.Standing.{size_of_instruction}
 use Rattle.treecode.specs.declared.place.Place.{Place}
-use Rattle.treecode.specs.declared.place.Place.TheVariants as places
 use Rattle.code_meaning.specs.Landing.{Does, at_place}
 use Rattle.code_meaning.specs.Activations.{IsReady, IsThere}
-use Rattle.code_meaning.proofs.FirstItems.{plain_step, word_step}
+use Rattle.code_meaning.proofs.FirstItems.{word_step}
 use Rattle.code_facts.specs.Asking.{IsSteadyByte, WordAsks}
 use Rattle.code_facts.specs.Holding.{place_at}
 use Rattle.code_facts.proofs.After.{facts_after_word}
@@ -28,10 +26,6 @@ use Rattle.task_meaning.proofs.Rules.{GoesOn, bytes_at_place}
 use Rattle.task_meaning.proofs.Addresses.{nothing_goes}
 use Rattle.task_meaning.proofs.Stores.{gains}
 use Rattle.task_meaning.proofs.Writing.{byte_written}
-
-size_with_word : (form : WordForm) (word : ℕ) → size_of_instruction (instruction_with form word) ≡ 3
-size_with_word (LoadPair pair) word = refl
-size_with_word form word = refl
 
 -- an instruction with the word of a place that makes a step to spare
 pub word_gains :
@@ -57,25 +51,9 @@ word_gains {A = A} {budget = budget} {outcome = outcome} {Good = Good} {context 
     (facts_after_word script context.activation (distances_in context) facts form place
     (at_place (from + 3) r memory events)
     shares.is_memory (bytes_at_place (wrap (from + 3)) r on.ready.registers) asks on.known) in
-    by_place place there does (rest known)
-  where
-    by_place : (place : Place)
-        → IsThere context.activation (word_item form place ∷ []) from (from + 3)
-        → act context.activation.around.program.script
-        (instruction_with form (place_at context.activation.layout place)) (at_place (from + 3) r memory events)
-        ≡ at_place (from + 3) now ended events
-        → Does context.activation.around.program.script budget 0 (at_place (from + 3) now ended events) outcome Good
-        → Does context.activation.around.program.script budget 1 (at_place from r memory events) outcome Good
-    by_place (places.Number number) there does rest =
-        gains (plain_step context.activation.around.program.script context.activation (instruction_with form number) [] from (from + 3) r memory events sound.lies on.ready.shares.code there
-        ∙ ap (λ (size : ℕ). act context.activation.around.program.script (instruction_with form number) (at_place (from + size) r memory events)) (size_with_word form number)
-        ∙ does) rest
-    by_place (places.Code offset) there does rest =
-        gains (word_step context.activation.around.program.script context.activation form _ [] from (from + 3) r memory events sound.lies on.ready.shares.code there ∙ does) rest
-    by_place (places.Data offset) there does rest =
-        gains (word_step context.activation.around.program.script context.activation form _ [] from (from + 3) r memory events sound.lies on.ready.shares.code there ∙ does) rest
-    by_place (places.External offset name) there does rest =
-        gains (word_step context.activation.around.program.script context.activation form _ [] from (from + 3) r memory events sound.lies on.ready.shares.code there ∙ does) rest
+    gains
+    (word_step script context.activation form _ [] from (from + 3) r memory events sound.lies shares.code there ∙ does)
+    (rest known)
 
 -- STA at the place of a byte
 pub sta_stores :

@@ -3,13 +3,9 @@
 use Rattle.std.proofs.Common.{◌≡◌, ℕ, ◌+◌, Bool, List, [], ◌∷◌, refl, sym, subst, ap, ◌∙◌, arith}
 use Rattle.asm8080.specs.declared.item.Item.{Item}
 use Rattle.asm8080.specs.declared.item.Item.TheVariants as items
-use Rattle.asm8080.specs.declared.item.WordForm.{WordForm}
-use Rattle.asm8080.specs.declared.item.WordForm.TheVariants.{LoadPair}
-use Rattle.asm8080.specs.Items.{instruction_with, size_of}
+use Rattle.asm8080.specs.Items.{size_of}
 use Rattle.asm8080.specs.Standing.{size_of_instruction}
 use Rattle.machine_runs.proofs.Kept.{stands_size}
-use Rattle.treecode.specs.declared.place.Place.{Place}
-use Rattle.treecode.specs.declared.place.Place.TheVariants.{Number, Code, Data, External}
 use Rattle.code_meaning.specs.Activations.{Activation, IsThere}
 use Rattle.code_meaning.proofs.Sequences.{both_there}
 use Rattle.code_meaning.proofs.Standing.{after_mark, mark_lies}
@@ -44,16 +40,6 @@ first_there activation item more from size to same there =
     (stands_size activation.layout activation.image (item ∷ []) from parts.middle parts.first.stands) in
     record { first = rw (sym here) parts.first; rest = rw (sym here) parts.second }
 
-with_word : (form : WordForm) (word : ℕ) → size_of_instruction (instruction_with form word) ≡ 3
-with_word (LoadPair pair) word = refl
-with_word form word = refl
-
-size_of_word : (form : WordForm) (place : Place) → size_of (word_item form place) ≡ 3
-size_of_word form (Number number) = with_word form number
-size_of_word form (Code offset) = refl
-size_of_word form (Data offset) = refl
-size_of_word form (External offset name) = refl
-
 -- what carries out each task by its steps
 abbrev pub CarryOut : Context → Type 0
 CarryOut context =
@@ -76,7 +62,7 @@ mutual
       let parts = first_there context.activation (items.Plain i) more from (size_of_instruction i) to refl there in
       PlainThere parts.first (steps_stand context site called one_site one_table carry (from + size_of_instruction i) to others parts.rest)
   steps_stand context site called one_site one_table carry from to (WordWritten {form = form} {place = place} {more = more} others) there =
-      let parts = first_there context.activation (word_item form place) more from 3 to (size_of_word form place) there in
+      let parts = first_there context.activation (word_item form place) more from 3 to refl there in
       WordThere parts.first (steps_stand context site called one_site one_table carry (from + 3) to others parts.rest)
   steps_stand context site called one_site one_table carry from to (JumpWritten {more = more} others) there =
       let parts = first_there context.activation _ more from 3 to refl there in

@@ -5,7 +5,7 @@ use Rattle.object_modules.specs.declared.segment.Fix.{Fix}
 use Rattle.asm8080.specs.declared.item.Item.{Item}
 use Rattle.asm8080.specs.declared.item.Item.TheVariants.{Plain, WithWord, Byte, Address, Gap, Mark}
 use Rattle.asm8080.specs.Items.{Layout, bytes_of_item, flags_of_item, flags_of_items, offset_of, size_of}
-use Rattle.asm8080.specs.Assembled.{Assembled, fix_at, fixes_of_items}
+use Rattle.asm8080.specs.Assembled.{Assembled, fixes_of_items, target_of, with_fix}
 
 -- labels at these places, and each target at 0
 abbrev pub layout_from : (place_of : (label : ℕ) → ℕ) → Layout
@@ -49,9 +49,9 @@ all_placed places = list_all is_some places
 -- the fix of an item at an offset, if it has one
 abbrev pub fixes_of_item : (offset : ℕ) → Item → List Fix
 fixes_of_item offset (Plain instruction) = []
-fixes_of_item offset (WithWord form reference) = fix_at (offset + 1) reference ∷ []
+fixes_of_item offset (WithWord form reference) = with_fix (offset + 1) (target_of reference) []
 fixes_of_item offset (Byte value) = []
-fixes_of_item offset (Address reference) = fix_at offset reference ∷ []
+fixes_of_item offset (Address reference) = with_fix offset (target_of reference) []
 fixes_of_item offset (Gap count) = []
 fixes_of_item offset (Mark label) = []
 

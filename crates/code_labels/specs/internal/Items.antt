@@ -3,12 +3,13 @@ use Rattle.std.specs.Prelude.{◌≡◌, ◌⊎◌, ℕ, List, [], ◌∷◌}
 use Rattle.asm8080.specs.declared.item.Item.{Item}
 use Rattle.asm8080.specs.declared.item.Item.TheVariants as items
 use Rattle.asm8080.specs.declared.item.Reference.{Reference}
-use Rattle.asm8080.specs.declared.item.Reference.TheVariants.{AtLabel, AtTarget}
+use Rattle.asm8080.specs.declared.item.Reference.TheVariants.{AtLabel, AtTarget, AtNumber}
 
 -- a reference is to a label of these, or to none
 abbrev pub ReferenceGoes : (ok : ℕ → Type 0) → Reference → Type 0
 ReferenceGoes ok (AtLabel label) = ok label
 ReferenceGoes ok (AtTarget target offset) = Unit {0}
+ReferenceGoes ok (AtNumber number) = Unit {0}
 
 abbrev pub ItemGoes : (ok : ℕ → Type 0) → Item → Type 0
 ItemGoes ok (items.WithWord form reference) = ReferenceGoes ok reference

@@ -1,0 +1,11 @@
+use Rattle.std.proofs.Common.{refl}
+use Rattle.asm8080.specs.declared.item.Item.{Item}
+use Rattle.asm8080.specs.declared.item.Item.TheVariants.{WithWord}
+use Rattle.asm8080.specs.declared.item.Reference.TheVariants.{AtNumber}
+use Rattle.steps8080.proofs.Numbered.{writes_known}
+use Rattle.steps8080.proofs.writer.Writer.numbered.Goals as goal
+
+pub returns : goal.returns
+returns c =
+    let item : Item = WithWord c.args.form (AtNumber c.args.number) in
+    writes_known _ _ _ item item c.self.view_is c.in_ok-emit_number.ensures.ok refl refl refl
