@@ -25,4 +25,4 @@ files_give_its_image built is =
     let linked = is.linked in
     let given = files_give_the_image built.objects linked.merged (plan_view built.plan) built.image
     (all_valid (program_modules built.program) built.objects is.made) linked.merge linked.placed in
-    record { merged = linked.merged; linked = given.0; placed = given.1 }
+    record { merged = linked.merged; merge = linked.merge; linked = given.0; placed = given.1 }

@@ -1,2 +1,3 @@
-//! A program that is built with as much stack as it needs does what its sources say. Nothing here runs.
+//! What holds of a program that is built: with as much stack as it needs it does what its sources say, and its object files give
+//! its image. Nothing here runs.
 #![tactic(auto)]

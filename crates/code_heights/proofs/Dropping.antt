@@ -9,7 +9,7 @@ use Rattle.isa8080.specs.declared.instr.Pair.TheVariants.{Hl, Sp}
 use Rattle.asm8080.specs.declared.item.Item.{Item}
 use Rattle.asm8080.specs.declared.item.Item.TheVariants.{Plain, WithWord}
 use Rattle.asm8080.specs.declared.item.Reference.{Reference}
-use Rattle.asm8080.specs.declared.item.WordForm.{WordForm}
+use Rattle.asm8080.specs.declared.item.WordForm.TheVariants as forms
 use Rattle.treecode.specs.declared.module.TreeModule.{TreeModule}
 use Rattle.treecode.specs.declared.procedure.ProcedureKind.{ProcedureKind}
 use Rattle.treecode.specs.declared.procedure.ProcedureKind.TheVariants as kinds
@@ -35,14 +35,14 @@ same_first :
     → is_counted one ≡ false
 same_first {one = one} {other = other} same plain = let first : one ≡ other = cc in ap is_counted first ∙ plain
 
--- the items of a call are none, or one with a word
+-- the items of a call are none, or a CALL
 abbrev AreOfCall : List Item → Type 0
-AreOfCall list = (list ≡ []) ⊎ ((form : WordForm) × (reference : Reference) × (list ≡ WithWord form reference ∷ []))
+AreOfCall list = (list ≡ []) ⊎ ((reference : Reference) × (list ≡ WithWord forms.CallTo reference ∷ []))
 
 of_kind : (procedure : ℕ) (kind : ProcedureKind) → AreOfCall (items_of_call procedure kind)
-of_kind procedure (kinds.External name) = inr (_, _, refl)
-of_kind procedure kinds.Static = inr (_, _, refl)
-of_kind procedure kinds.Reentrant = inr (_, _, refl)
+of_kind procedure (kinds.External name) = inr (_, refl)
+of_kind procedure kinds.Static = inr (_, refl)
+of_kind procedure kinds.Reentrant = inr (_, refl)
 
 of_call : (tree : TreeModule) (procedure : ℕ) → AreOfCall (module_call_items tree procedure)
 of_call tree procedure = by (slice_get tree.procedures.items procedure)
@@ -80,8 +80,8 @@ module _
             → (more ≡ Plain i ∷ others → IsKept tree level i others after)
             → IsKept tree level i others after
         by (inl none) later = later (ap (λ (call : List Item). call ++ more) (sym none) ∙ same)
-        by (inr (form, reference, one)) later =
-            let first : WithWord form reference ∷ more ≡ Plain i ∷ others =
+        by (inr (reference, one)) later =
+            let first : WithWord forms.CallTo reference ∷ more ≡ Plain i ∷ others =
             ap (λ (call : List Item). call ++ more) (sym one) ∙ same in
             absurd cc
     first_kept (RoutineThere routine enough rest) same = absurd cc
@@ -118,6 +118,63 @@ sum_finds_no_room word great room =
     let first =
     first_kept refl
     (λ bytes small same. let is : word ≡ bytes = cc in omega (arith, small, great, is)) room refl in
+    let second = first_kept refl (λ bytes small same. cc) first.room refl in
+    let third = first_kept refl (λ bytes small same. cc) second.room refl in
+    false≢true third.kept
+
+-- what finds room after HL was loaded
+record IsLoaded (tree : TreeModule) (level : ℕ) (others : List Item) (after : ℕ) : Type 0 where
+  free : ℕ
+  room : FindsRoom tree level free others after
+
+module _ {tree : TreeModule} {level after : ℕ} {reference : Reference} {others : List Item} where
+  load_kept :
+      {free : ℕ} {list : List Item}
+      → FindsRoom tree level free list after
+      → list ≡ WithWord (forms.LoadPair Hl) reference ∷ others
+      → IsLoaded tree level others after
+  load_kept NothingThere same = absurd cc
+  load_kept (PushThere enough rest) same = absurd cc
+  load_kept (PopThere rest) same = absurd cc
+  load_kept (CallThere {others = more} procedure enough rest) same =
+      by (of_call tree procedure) (λ others_are. load_kept rest others_are)
+    where
+      by : AreOfCall (module_call_items tree procedure)
+          → (more ≡ WithWord (forms.LoadPair Hl) reference ∷ others → IsLoaded tree level others after)
+          → IsLoaded tree level others after
+      by (inl none) later = later (ap (λ (call : List Item). call ++ more) (sym none) ∙ same)
+      by (inr (to, one)) later =
+          let first : WithWord forms.CallTo to ∷ more ≡ WithWord (forms.LoadPair Hl) reference ∷ others =
+          ap (λ (call : List Item). call ++ more) (sym one) ∙ same in
+          absurd cc
+  load_kept (RoutineThere routine enough rest) same = absurd cc
+  load_kept (ByteDropped rest) same = absurd cc
+  load_kept (BytesDropped small rest) same = absurd cc
+  load_kept (InstructionThere kept rest) same = absurd cc
+  load_kept (WordThere {free = free} {others = more} kept rest) same =
+      let last : more ≡ others = cc in
+      record {
+        free = free;
+        room = subst (λ (list : List Item). FindsRoom tree level free list after) last rest;
+      }
+  load_kept (JumpThere enough rest) same = absurd cc
+  load_kept (BranchThere enough rest) same = absurd cc
+  load_kept (TableJumpThere enough rest) same = absurd cc
+  load_kept (ReturnThere rest) same = absurd cc
+  load_kept (HaltThere rest) same = absurd cc
+  load_kept (LabelThere enough rest) same = absurd cc
+
+-- no word that an item has beside its form is counted as a drop, be it a number or where something lies
+pub placed_sum_finds_no_room :
+    {tree : TreeModule} {level free after : ℕ} {others : List Item} (reference : Reference)
+    → FindsRoom tree level free
+    (WithWord (forms.LoadPair Hl) reference
+    ∷ Plain (instructions.Dad Sp)
+    ∷ Plain instructions.Sphl
+    ∷ others) after
+    → ⊥
+placed_sum_finds_no_room reference room =
+    let first = load_kept room refl in
     let second = first_kept refl (λ bytes small same. cc) first.room refl in
     let third = first_kept refl (λ bytes small same. cc) second.room refl in
     false≢true third.kept

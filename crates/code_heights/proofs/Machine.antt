@@ -13,7 +13,10 @@ use Rattle.isa8080.specs.declared.instr.StackPair.TheVariants.{Psw, StackBc, Sta
 use Rattle.isa8080.specs.Act.{act, with_operand}
 use Rattle.isa8080.specs.Arithmetic.{decrement_of, increment_of}
 use Rattle.isa8080.specs.State.{Registers, State, register_of, two_less, with_register, wrap}
-use Rattle.code_heights.specs.Heights.{keeps_stack}
+use Rattle.asm8080.specs.declared.item.WordForm.{WordForm}
+use Rattle.asm8080.specs.declared.item.WordForm.TheVariants as forms
+use Rattle.asm8080.specs.Items.{instruction_with}
+use Rattle.code_heights.specs.Heights.{keeps_stack, keeps_stack_with}
 
 -- the stack pointer and the program counter are as they were
 abbrev pub Stays : Registers → Registers → Type 0
@@ -123,3 +126,19 @@ pub inx_gives_one :
     (script : List (List ℕ)) (s : State)
     → (act script (instructions.Inx Sp) s).registers.sp ≡ wrap (s.registers.sp + 1)
 inx_gives_one script s = refl
+
+-- so does each instruction of a form that keeps the stack with any word
+pub word_keeps_stack :
+    (form : WordForm) (word : ℕ) → keeps_stack_with form ≡ true → keeps_stack (instruction_with form word) ≡ true
+word_keeps_stack (forms.LoadPair Bc) word kept = refl
+word_keeps_stack (forms.LoadPair De) word kept = refl
+word_keeps_stack (forms.LoadPair Hl) word kept = refl
+word_keeps_stack (forms.LoadPair Sp) word kept = absurd (false≢true kept)
+word_keeps_stack forms.StoreHl word kept = refl
+word_keeps_stack forms.LoadHl word kept = refl
+word_keeps_stack forms.StoreA word kept = refl
+word_keeps_stack forms.LoadA word kept = refl
+word_keeps_stack forms.Jump word kept = absurd (false≢true kept)
+word_keeps_stack (forms.JumpWhere condition) word kept = absurd (false≢true kept)
+word_keeps_stack forms.CallTo word kept = absurd (false≢true kept)
+word_keeps_stack (forms.CallWhere condition) word kept = absurd (false≢true kept)

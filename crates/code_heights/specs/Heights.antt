@@ -74,8 +74,8 @@ pub data FindsRoom (tree : TreeModule) (level : ℕ) :
       → FindsRoom tree level free others after
       → FindsRoom tree level free
       (jump_item forms.CallTo (module_label_of_routine tree routine) ∷ others) after
-  -- a return takes away what its call has on the stack; where it does so by a sum, that is the bytes of a frame and of a
-  -- parameter at most
+  -- a return takes away what its call has on the stack; where it does so by a sum, that is at most the bytes of a
+  -- frame and of a parameter
   ByteDropped : {free after : ℕ} {others : List Item}
       → FindsRoom tree level (free + 1) others after
       → FindsRoom tree level free (Plain (instructions.Inx Sp) ∷ others) after

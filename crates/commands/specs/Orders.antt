@@ -60,18 +60,18 @@ pub record PrintsWanted (place : PlaceWanted) (files : Option Directory)
   pub planned : plan_read place.plan ≡ Ok plan
   pub printed : PrintsPlaced place.action files name plan old new
 
+-- of that a beginning was printed, or nothing
+abbrev pub StopsPlaced :
+    PlaceAction → Option Directory → (name : List ℕ) → Plan → (old new : Option (List ℕ)) → Type 0
+StopsPlaced Locate files name plan old new = StopsPlaces files name plan old new
+StopsPlaced Hex files name plan old new = StopsHex files name plan old new
+
 -- the need of the sources that are wanted, beside texts that write a plan, was printed
 pub record PrintsNeedWanted (need : NeedWanted) (files : Option Directory)
     (old new : Option (List ℕ)) : Type 0 where
   pub plan : Plan
   pub planned : plan_read need.plan ≡ Ok plan
   pub printed : PrintsNeedOf files need.files old new
-
--- of that a beginning was printed, or nothing
-abbrev pub StopsPlaced :
-    PlaceAction → Option Directory → (name : List ℕ) → Plan → (old new : Option (List ℕ)) → Type 0
-StopsPlaced Locate files name plan old new = StopsPlaces files name plan old new
-StopsPlaced Hex files name plan old new = StopsHex files name plan old new
 
 -- what an order on an object file prints, and one that tells a need; one to compile or to link prints nothing.
 -- What one to run or to interpret prints is said below

@@ -123,7 +123,8 @@ abbrev pub BeginsBuilt :
 BeginsBuilt actions.Run before values built old new = BeginsMachine before values built old new
 BeginsBuilt actions.Interpret before values built old new = BeginsMeaning before values built old new
 
--- a beginning was printed: of the text before, with which memory may have run out, or of that and what follows it
+-- a beginning was printed: of the text before, where memory ran out or the writer failed by then; or of that and
+-- what follows it
 unfoldable pub StopsBuilt :
     Action → (before : List ℕ) → Values → Construction → (old new : Option (List ℕ)) → Type 0
 StopsBuilt action before values built old new =

@@ -72,8 +72,8 @@ ListPushes body setting range list =
     → TypesHoldInList setting.typed setting.within statements
     → PushesAtMost body.tree.now (2 + 2 * height_of_list statements) list
 
--- The code of each body of a module pushes at most what the charge of its procedure leaves beside the bytes that the
--- call has on the stack then, at most: the return address, a word for each parameter, and the variables of a frame. The
+-- The code of each body of a module pushes at most what the charge of its procedure leaves beside what the call has on
+-- the stack then, which is at most the return address, a word for each parameter, and the variables of a frame. The
 -- main program has none of these. How a procedure begins is not counted.
 pub record PushesWithinCharges (typed : TypedModule) (tree : TreeModule) : Type 0 where
   pub procedures :
