@@ -101,13 +101,14 @@ fn print_labels(page: &mut Page, what: &str, count: usize) {
     }
 }
 
-// Adds an instruction, a label, data of each kind and bytes that stay unset.
+// Adds instructions with each kind of word, a label, data of each kind and bytes that stay unset.
 fn add_parts(code: &mut Code) -> Result<Label, Failure<Fault>> {
     code.emit_fixed(
         WordForm::LoadPair(Pair::Hl),
         Target::InSegment(Segment::Data),
         0x1234,
     )?;
+    code.emit_number(WordForm::StoreA, 0xABCD)?;
     let label = code.label()?;
     code.bind(label)?;
     code.emit_byte(0x5A)?;
