@@ -1,4 +1,4 @@
--- Code before it has a place: instructions with words that depend on where something will lie.
+-- Code before it has a place: instructions with words that may depend on where something will lie.
 use Rattle.std.specs.Prelude.{◌≡◌, ℕ, ◌+◌, ◌<◌, ◌==◌, Bool, true, false, if◌then◌else◌, IsTrue, List, [], ◌∷◌, ◌++◌, All, replicate, Option, Some, None, option_map}
 use Rattle.std.specs.List.{list_any}
 use Rattle.object_modules.specs.declared.segment.Target.{Target}

@@ -142,8 +142,8 @@ fn push_fix(fixes: &mut Vec<Fix>, offset: u16, target: Option<Target>) -> Result
     Ok(())
 }
 
-/// The instruction of a form with its word.
-pub fn instruction_with(form: WordForm, word: u16) -> Instr
+// The instruction of a form with its word.
+fn instruction_with(form: WordForm, word: u16) -> Instr
     ensures { result ≡ instruction_with form word }
 {
     match form {

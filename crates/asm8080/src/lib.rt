@@ -8,7 +8,6 @@ mod fault;
 mod item;
 mod stored;
 
-pub use assembling::instruction_with;
 pub use bytes::CodeBytes;
 pub use code::{Code, Label};
 pub use fault::Fault;

@@ -111,7 +111,7 @@ impl Writer {
     }
 
     // Adds an instruction whose word is a number.
-    fn numbered(&mut self, form: WordForm, number: u16) -> Result<(), AllocError>
+    fn word_of_number(&mut self, form: WordForm, number: u16) -> Result<(), AllocError>
         ensures { OnOk result (Writes self.old self.new (WithWord form (AtNumber number) ∷ [])) }
     {
         self.code.emit_number(form, number)?;
@@ -123,7 +123,7 @@ impl Writer {
         ensures { OnOk result (Writes self.old self.new (word_item form place ∷ [])) }
     {
         match place {
-            Place::Number(number) => self.numbered(form, number),
+            Place::Number(number) => self.word_of_number(form, number),
             Place::Code(offset) => self.fixed(form, Segment::Code, offset),
             Place::Data(offset) => self.fixed(form, Segment::Data, offset),
             Place::External { name, offset } => self.fixed_by_name(form, name, offset),

@@ -1,5 +1,5 @@
--- The numbers that are written in typed trees have the width of a word: none is above 65535. With `IsNumberOf` of the
--- trees that are well typed, by which that of a BYTE is below 256, each is a value of its type.
+-- The values of the numbers in typed trees, as `NumberNode` has them, have the width of a word: none is above 65535.
+-- With `IsNumberOf` of the trees that are well typed, by which that of a BYTE is below 256, each is a value of its type.
 use Rattle.std.specs.Prelude.{◌<◌, List, [], ◌∷◌, All, Option, Some, None}
 use Rattle.typed_trees.specs.TypedTrees.{TypedExpression, NumberNode, ValueNode, LocationNode, ListNode, ConversionNode, AssignmentNode, UnaryNode, BinaryNode, CallNode, FunctionNode, ShiftNode, InputNode, TypedReference, PartOf, Subscript, NoSubscript, At, TypedTarget, StoredIn, SentTo, TypedArguments, NoArguments, MoreArguments, TypedIteration, TypedStatement, LabelStatement, NullStatement, AssignmentStatement, CallStatement, MoveStatement, ReturnStatement, HaltStatement, GotoStatement, IfStatement, DoStatement, WhileStatement, IterateStatement, CaseStatement, TypedElse, NoElse, ElseStatement, TypedStatements, NoStatements, MoreStatements, TypedList, ListOf, TypedProcedure, TypedModule}
 

@@ -143,7 +143,8 @@ impl TreeModule {
         }
     }
 
-    /// What is known of an expression; nothing where there is none of that number. It is found sooner than the expression.
+    /// What is known of an expression; nothing where there is none of that number. It is found sooner than the
+    /// expression.
     pub fn traits(&self, number: ExpressionNumber) -> Traits
         ensures { result ≡ traits_at (nodes_of self.now) number }
     {

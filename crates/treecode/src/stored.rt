@@ -3,13 +3,14 @@
 ghost use Rattle.std.specs.Prelude.{◌≡◌, ◌<◌};
 ghost use Rattle.treecode.specs.declared.expression.ExpressionForm.TheVariants.{Assignment};
 ghost use Rattle.treecode.specs.Queries.{inside};
-ghost use Rattle.treecode.specs.internal.Stored.{form_of, reference_of, subscript_of};
+ghost use Rattle.treecode.specs.internal.Stored.{form_of, known_of, reference_of, subscript_of, traits_in};
 ghost use Rattle.treecode.specs.internal.Words.{FormIsWord};
 
 use crate::expression::{Expression, ExpressionForm, ExpressionNumber};
 use crate::lists::Range;
+use crate::place::Place;
 use crate::reference::{Reference, Subscript, Target};
-use crate::traits::Traits;
+use crate::traits::{Keeps, Traits};
 use std::marker::Model;
 use trees::{BinaryOperator, ScalarType, UnaryOperator};
 use typed_trees::{ShiftFunction, UnaryFunction};
@@ -80,23 +81,101 @@ pub(crate) enum StoredForm {
     Input(u8),
 }
 
+/// A value that is known but for where things lie, if one is.
+#[derive(Clone, Copy)]
+pub(crate) enum StoredValue {
+    Unknown,
+    Number(u16),
+    Code(u16),
+    Data(u16),
+    External { offset: u16, name: u32 },
+}
+
+/// What is known of an expression.
+#[derive(Clone, Copy)]
+pub(crate) struct StoredTraits {
+    known: StoredValue,
+    height: u16,
+    scalar: ScalarType,
+    is_quiet: bool,
+    stores_nothing: bool,
+    is_free: bool,
+    keeps: Keeps,
+}
+
 /// An expression in less memory.
 #[derive(Drop)]
 pub(crate) struct StoredExpression {
     form: StoredForm,
-    traits: Traits,
+    traits: StoredTraits,
 }
 
 // A module has many expressions, so each is small.
-const _: () = prove!(size_of::<StoredExpression>() <= 52);
+const _: () = prove!(size_of::<StoredExpression>() <= 48);
 
 impl Model for StoredExpression {
     ghost use Rattle.treecode.specs.declared.expression.Expression.{Expression};
-    ghost use Rattle.treecode.specs.internal.Stored.{form_of};
+    ghost use Rattle.treecode.specs.internal.Stored.{form_of, traits_in};
 
     ghost Value = { Expression };
 
-    ghost view = { λ stored. record { form = form_of stored.form; traits = stored.traits } };
+    ghost view = { λ stored. record { form = form_of stored.form; traits = traits_in stored.traits } };
+}
+
+impl StoredValue {
+    fn of(known: Option<Place>) -> StoredValue
+        ensures { known_of result ≡ known }
+    {
+        match known {
+            None => StoredValue::Unknown,
+            Some(Place::Number(number)) => StoredValue::Number(number),
+            Some(Place::Code(offset)) => StoredValue::Code(offset),
+            Some(Place::Data(offset)) => StoredValue::Data(offset),
+            Some(Place::External { offset, name }) => StoredValue::External { offset, name },
+        }
+    }
+
+    fn known(self) -> Option<Place>
+        ensures { result ≡ known_of self }
+    {
+        match self {
+            StoredValue::Unknown => None,
+            StoredValue::Number(number) => Some(Place::Number(number)),
+            StoredValue::Code(offset) => Some(Place::Code(offset)),
+            StoredValue::Data(offset) => Some(Place::Data(offset)),
+            StoredValue::External { offset, name } => Some(Place::External { offset, name }),
+        }
+    }
+}
+
+impl StoredTraits {
+    fn of(traits: Traits) -> StoredTraits
+        ensures { traits_in result ≡ traits }
+    {
+        StoredTraits {
+            known: StoredValue::of(traits.known),
+            height: traits.height,
+            scalar: traits.scalar,
+            is_quiet: traits.is_quiet,
+            stores_nothing: traits.stores_nothing,
+            is_free: traits.is_free,
+            keeps: traits.keeps,
+        }
+    }
+
+    fn traits(self) -> Traits
+        ensures { result ≡ traits_in self }
+    {
+        Traits {
+            known: self.known.known(),
+            height: self.height,
+            scalar: self.scalar,
+            is_quiet: self.is_quiet,
+            stores_nothing: self.stores_nothing,
+            is_free: self.is_free,
+            keeps: self.keeps,
+        }
+    }
 }
 
 impl StoredSubscript {
@@ -286,7 +365,7 @@ impl StoredExpression {
     {
         StoredExpression {
             form: StoredForm::of(expression.form),
-            traits: expression.traits,
+            traits: StoredTraits::of(expression.traits),
         }
     }
 
@@ -296,7 +375,7 @@ impl StoredExpression {
     {
         Expression {
             form: self.form.form(),
-            traits: self.traits,
+            traits: self.traits.traits(),
         }
     }
 
@@ -327,6 +406,6 @@ impl StoredExpression {
     pub(crate) fn traits(&self) -> Traits
         ensures { result ≡ self.now.traits }
     {
-        self.traits
+        self.traits.traits()
     }
 }

@@ -2,6 +2,8 @@
 use Rattle.std.specs.Prelude.{Option, Some, None}
 use Rattle.treecode.specs.declared.expression.ExpressionForm.{ExpressionForm}
 use Rattle.treecode.specs.declared.expression.ExpressionForm.TheVariants as forms
+use Rattle.treecode.specs.declared.place.Place.{Place}
+use Rattle.treecode.specs.declared.place.Place.TheVariants as places
 use Rattle.treecode.specs.declared.reference.Reference.{Reference}
 use Rattle.treecode.specs.declared.reference.Subscript.{Subscript}
 use Rattle.treecode.specs.declared.reference.Target.TheVariants.{Stored, Sent}
@@ -10,6 +12,10 @@ use Rattle.treecode.specs.declared.stored.StoredForm.TheVariants as stored
 use Rattle.treecode.specs.declared.stored.StoredReference.{StoredReference}
 use Rattle.treecode.specs.declared.stored.StoredSubscript.{StoredSubscript}
 use Rattle.treecode.specs.declared.stored.StoredSubscript.TheVariants.{Whole, Element}
+use Rattle.treecode.specs.declared.stored.StoredTraits.{StoredTraits}
+use Rattle.treecode.specs.declared.stored.StoredValue.{StoredValue}
+use Rattle.treecode.specs.declared.stored.StoredValue.TheVariants as values
+use Rattle.treecode.specs.declared.traits.Traits.{Traits}
 
 -- a subscript, if there is one
 abbrev pub subscript_of : StoredSubscript → Option Subscript
@@ -39,3 +45,23 @@ form_of (stored.Call procedure arguments) = forms.Call procedure arguments
 form_of (stored.Function function operand) = forms.Function function operand
 form_of (stored.Shift function value count) = forms.Shift function value count
 form_of (stored.Input port) = forms.Input port
+
+-- a value that is known, if one is
+abbrev pub known_of : StoredValue → Option Place
+known_of values.Unknown = None
+known_of (values.Number number) = Some (places.Number number)
+known_of (values.Code offset) = Some (places.Code offset)
+known_of (values.Data offset) = Some (places.Data offset)
+known_of (values.External offset name) = Some (places.External offset name)
+
+-- what is known of an expression
+abbrev pub traits_in : StoredTraits → Traits
+traits_in traits = record {
+  known = known_of traits.known;
+  height = traits.height;
+  scalar = traits.scalar;
+  is_quiet = traits.is_quiet;
+  stores_nothing = traits.stores_nothing;
+  is_free = traits.is_free;
+  keeps = traits.keeps;
+}
