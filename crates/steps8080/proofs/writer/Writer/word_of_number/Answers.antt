@@ -3,7 +3,7 @@ use Rattle.asm8080.specs.declared.item.Item.{Item}
 use Rattle.asm8080.specs.declared.item.Item.TheVariants.{WithWord}
 use Rattle.asm8080.specs.declared.item.Reference.TheVariants.{AtNumber}
 use Rattle.steps8080.proofs.Numbered.{writes_known}
-use Rattle.steps8080.proofs.writer.Writer.numbered.Goals as goal
+use Rattle.steps8080.proofs.writer.Writer.word_of_number.Goals as goal
 
 pub returns : goal.returns
 returns c =
