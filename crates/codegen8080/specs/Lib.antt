@@ -2,6 +2,7 @@ pub mod Faults
 pub mod Procedures
 pub mod Statements
 pub mod Generated
+pub mod Labelled
 pub mod Driven
 pub mod Targets
 pub mod Modules

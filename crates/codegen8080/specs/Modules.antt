@@ -1,6 +1,6 @@
 -- What the object module of a module is: the items of its code and of its data, how these are bytes of its segments, and
 -- its names.
-use Rattle.std.specs.Prelude.{◌≡◌, ℕ, suc, nat_lt, Bool, true, false, if◌then◌else◌, List, [], ◌∷◌, ◌++◌, flat_map, Option, Some, None, slice_get}
+use Rattle.std.specs.Prelude.{◌≡◌, ℕ, suc, nat_lt, Bool, true, false, if◌then◌else◌, List, [], ◌∷◌, ◌++◌, flat_map, length, Option, Some, None, slice_get}
 use Rattle.isa8080.specs.declared.instr.Instr.TheVariants.{Hlt}
 use Rattle.isa8080.specs.declared.instr.Pair.TheVariants.{Sp}
 use Rattle.object_modules.specs.declared.segment.Alignment.TheVariants.{Byte as OnByte}
@@ -33,12 +33,14 @@ use Rattle.frames.specs.declared.frame_plan.FramePlan.{FramePlan}
 use Rattle.frames.specs.Frames.{HasFrame, HasNothing, IsPlanOf, LiesApart}
 use Rattle.steps8080.specs.Externals.{Extends, entry}
 use Rattle.steps8080.specs.Facts.{no_facts}
+use Rattle.steps8080.specs.Step.{label_after, label_of}
 use Rattle.steps8080.specs.Writer.{Written, address_items, numbered, place_of_label, stack_end_item, use_name}
 use Rattle.exprgen8080.specs.Emission.{call_routine, has_routine, module_label_of_routine}
 use Rattle.statements8080.specs.declared.body.Body.{Body}
 use Rattle.codegen8080.specs.declared.meeting.Here.{Here}
 use Rattle.codegen8080.specs.Generated.{AreCarriedOut, IsListCarriedOut}
-use Rattle.codegen8080.specs.Procedures.{end_steps, entry_steps}
+use Rattle.codegen8080.specs.Labelled.{AreStepsLabelled, IsListLabelled}
+use Rattle.codegen8080.specs.Procedures.{end_steps, entry_labels, entry_steps}
 use Rattle.codegen8080.specs.Targets.{with_targets}
 
 -- the items of what stands in a segment
@@ -132,6 +134,70 @@ pub record IsOwnCode (tree : TreeModule) (called : List Bool) (start : ℕ) (lis
   pub procedures_are : AreCodeOf tree called 0 tree.procedures.items procedures
   pub list_is : list ≡ contents_items tree.constants.items ++ (main ++ procedures)
 
+-- the labels of the end of a procedure, where it is reached
+abbrev pub IsEndLabelled :
+    (body : Body) (called : List Bool) (here : Here) (is_reached : Bool) (items : List Item)
+    → IsEndCode body called here is_reached items → (label next : ℕ) → Type 0
+IsEndLabelled body called here true items code label next = AreStepsLabelled code.1 label next
+IsEndLabelled body called here false items code label next = next ≡ label
+
+-- The labels of a main program: those that its source names, and then those of its statements.
+pub record IsMainLabelled
+    {tree : TreeModule} {called : List Bool} {start : ℕ} {items : List Item}
+    (code : IsMainCode tree called start items) (label next : ℕ) : Type 0 where
+  pub named : code.body.first_label ≡ label_of label
+  pub written : IsListLabelled code.written (label_after label tree.main.label_count) next
+
+-- where there is one
+abbrev pub IsCodeOfMainLabelled :
+    (tree : TreeModule) (called : List Bool) (start : ℕ) (is_there : Bool) (items : List Item)
+    → IsCodeOfMain tree called start is_there items → (label next : ℕ) → Type 0
+IsCodeOfMainLabelled tree called start true items code label next = IsMainLabelled code label next
+IsCodeOfMainLabelled tree called start false items code label next = next ≡ label
+
+-- The labels of a procedure: those that its source names, and then those of its beginning, its statements and its end.
+pub record IsProcedureLabelled
+    {tree : TreeModule} {called : List Bool} {number : ℕ} {procedure : TreeProcedure} {items : List Item}
+    (code : IsProcedureCode tree called number procedure items) (label next : ℕ) : Type 0 where
+  pub begun : ℕ
+  pub ended : ℕ
+  pub named : code.body.first_label ≡ label_of label
+  pub first : code.first ≡ label_after label procedure.label_count
+  pub begins : AreStepsLabelled code.begins (label_after code.first (entry_labels code.body)) begun
+  pub written : IsListLabelled code.written begun ended
+  pub ends :
+      IsEndLabelled code.body called code.last procedure.reaches_its_end code.ending code.ends ended next
+
+-- of one that is not EXTERNAL
+abbrev pub IsCodeLabelled :
+    (tree : TreeModule) (called : List Bool) (number : ℕ) (procedure : TreeProcedure) (kind : ProcedureKind)
+    (items : List Item)
+    → IsCodeOf tree called number procedure kind items → (label next : ℕ) → Type 0
+IsCodeLabelled tree called number procedure (kinds.External name) items code label next = next ≡ label
+IsCodeLabelled tree called number procedure kinds.Static items code label next = IsProcedureLabelled code label next
+IsCodeLabelled tree called number procedure kinds.Reentrant items code label next = IsProcedureLabelled code label next
+
+-- of procedures one after another
+abbrev pub AreProceduresLabelled :
+    (tree : TreeModule) (called : List Bool) (number : ℕ) (procedures : List TreeProcedure) (items : List Item)
+    → AreCodeOf tree called number procedures items → (label next : ℕ) → Type 0
+AreProceduresLabelled tree called number [] items code label next = next ≡ label
+AreProceduresLabelled tree called number (procedure ∷ others) items code label next =
+    (middle : ℕ)
+    × IsCodeLabelled tree called number procedure procedure.kind code.0 code.2 label middle
+    × AreProceduresLabelled tree called (suc number) others code.1 code.3 middle next
+
+-- The labels of a module's own code: of its main program, and then of its procedures, after those of the entries of the
+-- procedures, of the routines, and of the main program's entry.
+pub record IsOwnLabelled
+    {tree : TreeModule} {called : List Bool} {start : ℕ} {items : List Item}
+    (code : IsOwnCode tree called start items) (next : ℕ) : Type 0 where
+  pub begun : ℕ
+  pub start_is : start ≡ label_after (length tree.procedures.items) 9
+  pub main : IsCodeOfMainLabelled tree called start (has_main tree) code.main code.main_is (label_after start 1) begun
+  pub procedures :
+      AreProceduresLabelled tree called 0 tree.procedures.items code.procedures code.procedures_are begun next
+
 -- the routines in the order in which they stand
 abbrev pub all_routines : List Routine
 all_routines =
@@ -175,13 +241,16 @@ AreRoutines tree called written (routine ∷ others) list =
     × (list ≡ first ++ more)
 
 -- Code as it was written: its items are those of the module, by the numbers that the code has for labels and names, and
--- the routines that are called. Items of the module refer to each name that has a number, and call each of the routines.
+-- the routines that are called. The labels of the module's items are counted in their order. Items of the module refer to
+-- each name that has a number, and call each of the routines.
 pub record IsCodeWritten (tree : TreeModule) (start : ℕ) (written : Written) : Type 0 where
   pub called : List Bool
   pub own : List Item
   pub made : List Item
   pub listed : List Item
   pub own_is : IsOwnCode tree called start own
+  pub next_label : ℕ
+  pub labels : IsOwnLabelled own_is next_label
   pub same : numbered written own ≡ Some made
   pub listed_are : AreRoutines tree called written all_routines listed
   pub items_are : written.code.items ≡ made ++ listed

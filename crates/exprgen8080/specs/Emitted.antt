@@ -1,5 +1,5 @@
 -- What is written when code is emitted.
-use Rattle.std.specs.Prelude.{◌≡◌, ◌⊎◌, ℕ, ◌≤◌, Bool, true, false, List, [], ◌∷◌, Option, None, replicate, length, slice_get, slice_index_or, Some}
+use Rattle.std.specs.Prelude.{◌≡◌, ◌⊎◌, ℕ, Bool, true, false, List, [], ◌∷◌, Option, None, replicate, length, slice_get, slice_index_or, Some}
 use Rattle.asm8080.specs.declared.item.Item.{Item}
 use Rattle.asm8080.specs.declared.item.Item.TheVariants as items
 use Rattle.asm8080.specs.declared.item.WordForm.TheVariants.{CallTo}
@@ -15,6 +15,7 @@ use Rattle.steps8080.specs.Writer.{Writes, jump_item, word_item}
 use Rattle.sites8080.specs.declared.site.Site.{Site}
 use Rattle.exprgen8080.specs.declared.emission.Emission.{Emission}
 use Rattle.exprgen8080.specs.Emission.{AreWritten, IsWritten, after_test, call_routine, has_routine, module_call_items, module_label_of_routine, test_items}
+use Rattle.exprgen8080.specs.Labelled.{AreLabelled, IsLabelled}
 
 -- a table of routines that has all that another one has
 abbrev pub HasAll : (called wider : List Bool) → Type 0
@@ -74,7 +75,8 @@ pub record AddsItems (before after : Emission) (list : List Item) (known : Facts
   pub called : HasAll before.is_called.items after.is_called.items
   pub steps : after.steps ≡ before.steps
 
--- The code of steps is added, and that of a part. No step stays planned, and the labels that are taken stay taken.
+-- The code of steps is added, and that of a part. No step stays planned, and their labels are the first ones that are not
+-- taken.
 pub record EmitsSteps (site : Site) (planned : List Step) (before after : Emission) : Type 0 where
   pub list : List Item
   pub writes : Writes before.writer after.writer list
@@ -82,7 +84,7 @@ pub record EmitsSteps (site : Site) (planned : List Step) (before after : Emissi
   pub called : HasAll before.is_called.items after.is_called.items
   pub notes : NotesCalled site.tree.now before.is_called.items after.is_called.items list
   pub steps : after.steps.list.items ≡ before.steps.list.items
-  pub labels : label_after before.steps.labels 0 ≤ label_after after.steps.labels 0
+  pub labels : AreLabelled written before.steps.labels after.steps.labels
 
 pub record Emits (site : Site) (part : Part) (before after : Emission) : Type 0 where
   pub list : List Item
@@ -91,7 +93,7 @@ pub record Emits (site : Site) (part : Part) (before after : Emission) : Type 0 
   pub called : HasAll before.is_called.items after.is_called.items
   pub notes : NotesCalled site.tree.now before.is_called.items after.is_called.items list
   pub steps : after.steps.list.items ≡ before.steps.list.items
-  pub labels : label_after before.steps.labels 0 ≤ label_after after.steps.labels 0
+  pub labels : IsLabelled written before.steps.labels after.steps.labels
 
 -- no code of a module yet: the first labels are those of its procedures and of the routines
 pub record IsEmpty (tree : TreeModule) (emission : Emission) : Type 0 where

@@ -9,4 +9,5 @@ pub mod Words
 pub mod Effects
 pub mod Forms
 pub mod Emission
+pub mod Labelled
 pub mod Emitted

@@ -1,0 +1,51 @@
+-- Which labels the code of statements has: they are counted in the order of the code.
+use Rattle.std.specs.Prelude.{◌≡◌, ℕ, Bool, List, Option}
+use Rattle.asm8080.specs.declared.item.Item.{Item}
+use Rattle.treecode.specs.declared.lists.Range.{Range}
+use Rattle.treecode.specs.declared.statement.StatementNumber.{StatementNumber}
+use Rattle.steps8080.specs.declared.facts.Facts.{Facts}
+use Rattle.steps8080.specs.Step.{label_after}
+use Rattle.exprgen8080.specs.Emission.{knowing}
+use Rattle.exprgen8080.specs.Labelled.{AreLabelled}
+use Rattle.statements8080.specs.declared.body.Body.{Body}
+use Rattle.statements8080.specs.declared.plan.Planned.{Planned}
+use Rattle.codegen8080.specs.declared.meeting.Here.{Here}
+use Rattle.codegen8080.specs.Generated.{AreAllCarriedOut, AreCarriedOut, IsCarriedOut, IsListCarriedOut, ListCarriedOut, ListPlanned, MoreStatements, NoneCarriedOut, NoStatements, StatementCarriedOut, StatementPlanned, StepCarriedOut, site_of}
+use Rattle.codegen8080.specs.Statements.{statement_labels}
+
+abbrev mutual
+  -- The labels of planned steps follow each other from this one on, and the next one is not taken: a statement takes its
+  -- own, and then its parts theirs.
+  pub AreStepsLabelled :
+      {body : Body} {called : List Bool} {here last : Here} {waiting : Option Facts} {list : List Planned}
+      {items : List Item}
+      → AreCarriedOut body called here waiting list items last → (label next : ℕ) → Type 0
+  AreStepsLabelled NoneCarriedOut label next = next ≡ label
+  AreStepsLabelled (StepCarriedOut alone written others) label next =
+      (middle : ℕ) × AreLabelled written label middle × AreStepsLabelled others middle next
+  AreStepsLabelled (StatementCarriedOut first others) label next =
+      (middle : ℕ) × IsStatementLabelled first label middle × AreStepsLabelled others middle next
+  AreStepsLabelled (ListCarriedOut first others) label next =
+      (middle : ℕ) × IsListLabelled first label middle × AreStepsLabelled others middle next
+
+  -- those of a statement
+  pub IsStatementLabelled :
+      {body : Body} {called : List Bool} {facts : Facts} {number : StatementNumber} {items : List Item} {last : Here}
+      → IsCarriedOut body called facts number items last → (label next : ℕ) → Type 0
+  IsStatementLabelled {body = body} {facts = facts} (StatementPlanned {statement = statement} at found steps) label next =
+      (at ≡ label)
+      × AreStepsLabelled steps (label_after label (statement_labels body (knowing (site_of body) facts) statement)) next
+
+  -- of the statements of a list
+  pub IsListLabelled :
+      {body : Body} {called : List Bool} {facts : Facts} {range : Range} {items : List Item} {last : Here}
+      → IsListCarriedOut body called facts range items last → (label next : ℕ) → Type 0
+  IsListLabelled (ListPlanned all) label next = AreAllLabelled all label next
+
+  -- and of so many statements one after another
+  pub AreAllLabelled :
+      {body : Body} {called : List Bool} {here last : Here} {first count : ℕ} {items : List Item}
+      → AreAllCarriedOut body called here first count items last → (label next : ℕ) → Type 0
+  AreAllLabelled NoStatements label next = next ≡ label
+  AreAllLabelled (MoreStatements found first others) label next =
+      (middle : ℕ) × IsStatementLabelled first label middle × AreAllLabelled others middle next
