@@ -6,6 +6,7 @@ use Rattle.sites8080.specs.declared.site.Site.{Site}
 use Rattle.exprgen8080.specs.declared.emission.Emission.{Emission}
 use Rattle.exprgen8080.specs.Emission.{IsWritten}
 use Rattle.exprgen8080.specs.Emitted.{Emits, NotesCalled}
+use Rattle.exprgen8080.specs.Labelled.{IsLabelled}
 use Rattle.task_meaning.proofs.CarriedOut.{emitted_does}
 use Rattle.expression_code.specs.Doing.{CodeDoes}
 
@@ -18,13 +19,19 @@ code_does site part before after emits = record {
   list = emits.list;
   writes = emits.writes;
   does = λ context from to same sound called there.
+      let code :
+      (written : IsWritten context.site after.is_called.items before.facts part emits.list after.facts)
+      × IsLabelled written before.steps.labels after.steps.labels =
+      subst
+      (λ (one : Site).
+      (written : IsWritten one after.is_called.items before.facts part emits.list after.facts)
+      × IsLabelled written before.steps.labels after.steps.labels)
+      (sym same) (emits.written, emits.labels) in
       emitted_does context {part = part} {before = before} {after = after} from to sound
       (record {
         list = emits.list;
         writes = emits.writes;
-        written =
-            subst (λ (one : Site). IsWritten one after.is_called.items before.facts part emits.list after.facts)
-            (sym same) emits.written;
+        written = code.0;
         called = emits.called;
         notes =
             subst
@@ -32,7 +39,7 @@ code_does site part before after emits = record {
             NotesCalled one.tree.now before.is_called.items after.is_called.items emits.list)
             (sym same) emits.notes;
         steps = emits.steps;
-        labels = emits.labels;
+        labels = code.1;
       })
       called there;
 }

@@ -19,6 +19,7 @@ use Rattle.exprgen8080.specs.declared.emission.Emission.{Emission}
 use Rattle.exprgen8080.specs.Emission.{AreWritten, IsWritten, NoneWritten, PlainWritten, WordWritten, JumpWritten, MarkWritten, RoutineWritten, CallWritten, TestWritten, HoldsWritten, ChangeWritten, PartWritten, Planned, call_items, call_routine, calls_label, has_routine, module_label_of_routine, module_routine_label, index_of_routine, knowing, test_items}
 use Rattle.exprgen8080.specs.Emitted.{AddsItems, Emits, EmitsSteps, HasAll, IsAlone, NotesCalled, NotesOnly, after_step, step_items}
 use Rattle.exprgen8080.specs.Forms.{task_labels, task_steps}
+use Rattle.exprgen8080.specs.Labelled.{AreLabelled, IsLabelled}
 
 -- a table has all that it has
 pub has_itself : (called : List Bool) → HasAll called called
@@ -117,24 +118,75 @@ module _ {site : Site} {called wider : List Bool} (more : HasAll called wider) w
         → IsWritten site called facts part items last → IsWritten site wider facts part items last
     is_kept (Planned label steps) = Planned label (are_kept steps)
 
+module _ {site : Site} {called : List Bool} (wider : List Bool) (more : HasAll called wider) where
+  mutual
+    unfolding are_kept
+
+    -- with the same labels
+    pub are_labels_kept : {facts last : Facts} {list : List Step} {items : List Item} (label next : ℕ)
+        → (written : AreWritten site called facts list items last)
+        → AreLabelled written label next → AreLabelled (are_kept more written) label next
+    are_labels_kept label next NoneWritten labels = labels
+    are_labels_kept label next (PlainWritten others) labels = are_labels_kept label next others labels
+    are_labels_kept label next (WordWritten others) labels = are_labels_kept label next others labels
+    are_labels_kept label next (JumpWritten others) labels = are_labels_kept label next others labels
+    are_labels_kept label next (MarkWritten others) labels = are_labels_kept label next others labels
+    are_labels_kept label next (RoutineWritten is_called others) labels = are_labels_kept label next others labels
+    are_labels_kept label next (CallWritten others) labels = are_labels_kept label next others labels
+    are_labels_kept label next (TestWritten others) labels = are_labels_kept label next others labels
+    are_labels_kept label next (HoldsWritten others) labels = are_labels_kept label next others labels
+    are_labels_kept label next (ChangeWritten others) labels = are_labels_kept label next others labels
+    are_labels_kept label next (PartWritten first others) labels = (
+      labels.0,
+      is_labels_kept label labels.0 first labels.1,
+      are_labels_kept labels.0 next others labels.2,
+    )
+
+    pub is_labels_kept : {facts last : Facts} {part : Part} {items : List Item} (label next : ℕ)
+        → (written : IsWritten site called facts part items last)
+        → IsLabelled written label next → IsLabelled (is_kept more written) label next
+    is_labels_kept {facts = facts} {part = part} label next (Planned at steps) labels = (
+      labels.0,
+      are_labels_kept (label_after label (task_labels (knowing site facts) part)) next steps labels.1,
+    )
+
+-- steps that are written, with labels from this one on, of which that one is the next
+abbrev pub Steps : (site : Site) (called : List Bool) (facts : Facts) (list : List Step) (items : List Item)
+    (last : Facts) (label next : ℕ) → Type 0
+Steps site called facts list items last label next =
+    (written : AreWritten site called facts list items last) × AreLabelled written label next
+
+-- and a part
+abbrev pub OnePart : (site : Site) (called : List Bool) (facts : Facts) (part : Part) (items : List Item)
+    (last : Facts) (label next : ℕ) → Type 0
+OnePart site called facts part items last label next =
+    (written : IsWritten site called facts part items last) × IsLabelled written label next
+
 -- a step that is no part is written, and others after it
 pub step_written : (site : Site) (called : List Bool) (facts last : Facts) (step : Step)
-    (others : List Step) (more : List Item)
+    (others : List Step) (more : List Item) (label next : ℕ)
     → IsAlone called step
-    → AreWritten site called (after_step facts step) others more last
-    → AreWritten site called facts (step ∷ others) (step_items site.tree.now facts step ++ more) last
-step_written site called facts last (steps.Plain i) others more alone written = PlainWritten written
-step_written site called facts last (steps.Word form place) others more alone written = WordWritten written
-step_written site called facts last (steps.Jump form label) others more alone written = JumpWritten written
-step_written site called facts last (steps.Mark label) others more alone written = MarkWritten written
-step_written site called facts last (steps.CallRoutine routine) others more alone written =
-    RoutineWritten alone written
-step_written site called facts last (steps.CallProcedure procedure) others more alone written =
-    CallWritten written
-step_written site called facts last steps.TestA others more alone written = TestWritten written
-step_written site called facts last (steps.Holds held) others more alone written = HoldsWritten written
-step_written site called facts last steps.MemoryChanged others more alone written = ChangeWritten written
-step_written site called facts last (steps.Part part) others more alone written = absurd alone
+    → Steps site called (after_step facts step) others more last label next
+    → Steps site called facts (step ∷ others) (step_items site.tree.now facts step ++ more) last label next
+step_written site called facts last (steps.Plain i) others more label next alone written =
+    (PlainWritten written.0, written.1)
+step_written site called facts last (steps.Word form place) others more label next alone written =
+    (WordWritten written.0, written.1)
+step_written site called facts last (steps.Jump form to) others more label next alone written =
+    (JumpWritten written.0, written.1)
+step_written site called facts last (steps.Mark at) others more label next alone written =
+    (MarkWritten written.0, written.1)
+step_written site called facts last (steps.CallRoutine routine) others more label next alone written =
+    (RoutineWritten alone written.0, written.1)
+step_written site called facts last (steps.CallProcedure procedure) others more label next alone written =
+    (CallWritten written.0, written.1)
+step_written site called facts last steps.TestA others more label next alone written =
+    (TestWritten written.0, written.1)
+step_written site called facts last (steps.Holds held) others more label next alone written =
+    (HoldsWritten written.0, written.1)
+step_written site called facts last steps.MemoryChanged others more label next alone written =
+    (ChangeWritten written.0, written.1)
+step_written site called facts last (steps.Part part) others more label next alone written = absurd alone
 
 -- a step is alone where more routines are called
 pub alone_kept : (called wider : List Bool) (step : Step) → HasAll called wider
@@ -151,33 +203,40 @@ alone_kept called wider (steps.Holds held) more alone = alone
 alone_kept called wider steps.MemoryChanged more alone = alone
 
 -- steps are written one after another
-pub are_appended : {site : Site} {called : List Bool} {facts middle last : Facts}
-    {list others : List Step} {items more : List Item}
-    → AreWritten site called facts list items middle → AreWritten site called middle others more last
-    → AreWritten site called facts (list ++ others) (items ++ more) last
-are_appended NoneWritten then = then
-are_appended (PlainWritten first) then = PlainWritten (are_appended first then)
-are_appended (WordWritten first) then = WordWritten (are_appended first then)
-are_appended (JumpWritten first) then = JumpWritten (are_appended first then)
-are_appended (MarkWritten first) then = MarkWritten (are_appended first then)
-are_appended (RoutineWritten is_called first) then = RoutineWritten is_called (are_appended first then)
-are_appended {site = site} {called = called} {facts = facts} {last = last} {others = others} {more = more}
-    (CallWritten {procedure = procedure} {others = list} {more = items} first) then =
-    subst (λ all. AreWritten site called facts (steps.CallProcedure procedure ∷ (list ++ others)) all last)
+pub appended : {site : Site} {called : List Bool} {facts middle last : Facts}
+    {list others : List Step} {items more : List Item} {label between next : ℕ}
+    → (written : AreWritten site called facts list items middle) → AreLabelled written label between
+    → Steps site called middle others more last between next
+    → Steps site called facts (list ++ others) (items ++ more) last label next
+appended {site = site} {called = called} {middle = middle} {last = last} {others = others} {more = more} {next = next}
+    NoneWritten labels then =
+    subst (λ at. Steps site called middle others more last at next) labels then
+appended (PlainWritten first) labels then = let rest = appended first labels then in (PlainWritten rest.0, rest.1)
+appended (WordWritten first) labels then = let rest = appended first labels then in (WordWritten rest.0, rest.1)
+appended (JumpWritten first) labels then = let rest = appended first labels then in (JumpWritten rest.0, rest.1)
+appended (MarkWritten first) labels then = let rest = appended first labels then in (MarkWritten rest.0, rest.1)
+appended (RoutineWritten is_called first) labels then =
+    let rest = appended first labels then in (RoutineWritten is_called rest.0, rest.1)
+appended {site = site} {called = called} {facts = facts} {last = last} {others = others} {more = more} {label = label}
+    {next = next} (CallWritten {procedure = procedure} {others = list} {more = items} first) labels then =
+    let rest = appended first labels then in
+    subst (λ all. Steps site called facts (steps.CallProcedure procedure ∷ (list ++ others)) all last label next)
     (sym (append_assoc (call_items site procedure) items more))
-    (CallWritten (are_appended first then))
-are_appended {site = site} {called = called} {facts = facts} {last = last} {others = others} {more = more}
-    (TestWritten {others = list} {more = items} first) then =
-    subst (λ all. AreWritten site called facts (steps.TestA ∷ (list ++ others)) all last)
+    (CallWritten rest.0, rest.1)
+appended {site = site} {called = called} {facts = facts} {last = last} {others = others} {more = more} {label = label}
+    {next = next} (TestWritten {others = list} {more = items} first) labels then =
+    let rest = appended first labels then in
+    subst (λ all. Steps site called facts (steps.TestA ∷ (list ++ others)) all last label next)
     (sym (append_assoc (test_items facts) items more))
-    (TestWritten (are_appended first then))
-are_appended (HoldsWritten first) then = HoldsWritten (are_appended first then)
-are_appended (ChangeWritten first) then = ChangeWritten (are_appended first then)
-are_appended {site = site} {called = called} {facts = facts} {last = last} {others = others} {more = more}
-    (PartWritten {part = part} {others = list} {first = here} {more = items} is first) then =
-    subst (λ all. AreWritten site called facts (steps.Part part ∷ (list ++ others)) all last)
+    (TestWritten rest.0, rest.1)
+appended (HoldsWritten first) labels then = let rest = appended first labels then in (HoldsWritten rest.0, rest.1)
+appended (ChangeWritten first) labels then = let rest = appended first labels then in (ChangeWritten rest.0, rest.1)
+appended {site = site} {called = called} {facts = facts} {last = last} {others = others} {more = more} {label = label}
+    {next = next} (PartWritten {part = part} {others = list} {first = here} {more = items} is first) labels then =
+    let rest = appended first labels.2 then in
+    subst (λ all. Steps site called facts (steps.Part part ∷ (list ++ others)) all last label next)
     (sym (append_assoc here items more))
-    (PartWritten is (are_appended first then))
+    (PartWritten is rest.0, (labels.0, labels.1, rest.1))
 
 -- no step is added
 pub emits_nothing : (site : Site) (emission : Emission) → EmitsSteps site [] emission emission
@@ -188,24 +247,29 @@ emits_nothing site emission = record {
   called = has_itself emission.is_called.items;
   notes = λ routine given. inl given;
   steps = refl;
-  labels = omega arith;
+  labels = refl;
 }
 
 -- the code of steps is added one after another
 pub emits_then : (site : Site) (first second : List Step) (before between after : Emission)
     → EmitsSteps site first before between → EmitsSteps site second between after
     → EmitsSteps site (first ++ second) before after
-emits_then site first second before between after here next = record {
-  list = here.list ++ next.list;
-  writes = writes_then before.writer between.writer after.writer here.list next.list here.writes next.writes;
-  written = are_appended (are_kept next.called here.written) next.written;
-  called = λ routine given. next.called routine (here.called routine given);
-  notes =
-      notes_then site.tree.now before.is_called.items between.is_called.items after.is_called.items here.list next.list
-      here.notes next.notes;
-  steps = next.steps ∙ here.steps;
-  labels = omega (arith, here.labels, next.labels);
-}
+emits_then site first second before between after here next =
+    let all =
+    appended (are_kept next.called here.written)
+    (are_labels_kept after.is_called.items next.called before.steps.labels between.steps.labels here.written here.labels)
+    (next.written, next.labels) in
+    record {
+      list = here.list ++ next.list;
+      writes = writes_then before.writer between.writer after.writer here.list next.list here.writes next.writes;
+      written = all.0;
+      called = λ routine given. next.called routine (here.called routine given);
+      notes =
+          notes_then site.tree.now before.is_called.items between.is_called.items after.is_called.items here.list
+          next.list here.notes next.notes;
+      steps = next.steps ∙ here.steps;
+      labels = all.1;
+    }
 
 -- a step that is no part
 pub emits_step : (site : Site) (step : Step) (before after : Emission)
@@ -217,48 +281,57 @@ pub emits_step : (site : Site) (step : Step) (before after : Emission)
 emits_step site step before after adds alone notes =
     let called : List Bool = after.is_called.items in
     let list : List Item = step_items site.tree.now before.facts step in
+    let label : ℕ = before.steps.labels in
+    let written : Steps site called before.facts (step ∷ []) list after.facts label after.steps.labels =
+    subst (λ next. Steps site called before.facts (step ∷ []) list after.facts label next)
+    (sym (ap (λ at. at.labels) adds.steps))
+    (subst (λ known. Steps site called before.facts (step ∷ []) list known label label) (sym adds.facts)
+    (subst (λ all. Steps site called before.facts (step ∷ []) all (after_step before.facts step) label label)
+    (append-nil list)
+    (step_written site called before.facts (after_step before.facts step) step [] [] label label alone
+    (NoneWritten, refl)))) in
     record {
       list = list;
       writes = adds.writes;
-      written = subst (λ known. AreWritten site called before.facts (step ∷ []) list known) (sym adds.facts)
-          (subst (λ all. AreWritten site called before.facts (step ∷ []) all (after_step before.facts step))
-          (append-nil list)
-          (step_written site called before.facts (after_step before.facts step) step [] [] alone NoneWritten));
+      written = written.0;
       called = adds.called;
       notes = notes;
       steps = ap (λ at. at.list.items) adds.steps;
-      labels = subst (λ to. label_after before.steps.labels 0 ≤ label_after to 0)
-          (sym (ap (λ at. at.labels) adds.steps)) (omega arith);
+      labels = written.1;
     }
 
 -- a part
 pub emits_part : (site : Site) (part : Part) (before after : Emission)
     → Emits site part before after
     → EmitsSteps site (steps.Part part ∷ []) before after
-emits_part site part before after emits = record {
-  list = emits.list;
-  writes = emits.writes;
-  written =
-      subst (λ all. AreWritten site after.is_called.items before.facts (steps.Part part ∷ []) all after.facts)
-      (append-nil emits.list) (PartWritten emits.written NoneWritten);
-  called = emits.called;
-  notes = emits.notes;
-  steps = emits.steps;
-  labels = emits.labels;
-}
+emits_part site part before after emits =
+    let label : ℕ = before.steps.labels in
+    let next : ℕ = after.steps.labels in
+    let written : Steps site after.is_called.items before.facts (steps.Part part ∷ []) emits.list after.facts label next =
+    subst
+    (λ all. Steps site after.is_called.items before.facts (steps.Part part ∷ []) all after.facts label next)
+    (append-nil emits.list) (PartWritten emits.written NoneWritten, (next, emits.labels, refl)) in
+    record {
+      list = emits.list;
+      writes = emits.writes;
+      written = written.0;
+      called = emits.called;
+      notes = emits.notes;
+      steps = emits.steps;
+      labels = written.1;
+    }
 
 -- The steps of a part are being written, those up to an end; those from an index on are left.
 pub record IsWriting (site : Site) (part : Part) (before now : Emission) (index end : ℕ) : Type 0 where
   pub list : List Item
   pub writes : Writes before.writer now.writer list
-  pub left : (called : List Bool) (more : List Item) (last : Facts) → HasAll now.is_called.items called
-      → AreWritten site called now.facts (drop index now.steps.list.items) more last
-      → IsWritten site called before.facts part (list ++ more) last
+  pub left : (called : List Bool) (more : List Item) (last : Facts) (next : ℕ) → HasAll now.is_called.items called
+      → Steps site called now.facts (drop index now.steps.list.items) more last now.steps.labels next
+      → OnePart site called before.facts part (list ++ more) last before.steps.labels next
   pub called : HasAll before.is_called.items now.is_called.items
   pub notes : NotesCalled site.tree.now before.is_called.items now.is_called.items list
   pub begins : take (length before.steps.list.items) now.steps.list.items ≡ before.steps.list.items
   pub count : length now.steps.list.items ≡ end
-  pub labels : label_after before.steps.labels 0 ≤ label_after now.steps.labels 0
 
 -- what is left where an index is within
 pub left_is : {A : Type 0} (list : List A) (index : ℕ) (found : A) → slice_get list index ≡ Some found
@@ -273,29 +346,35 @@ module _ (site : Site) (part : Part) (before now : Emission) where
       → planned ≡ record before { steps = planned.steps }
       → AddsWithLabels before.steps planned.steps
       (task_labels (knowing site before.facts) part) (task_steps (knowing site before.facts) part)
+      → planned.steps.labels < 4294967296
       → length planned.steps.list.items ≡ end
       → IsWriting site part before planned (length before.steps.list.items) end
-  writing_begins planned end same adds count =
+  writing_begins planned end same adds small count =
       let first : List Step = before.steps.list.items in
       let label : ℕ = before.steps.labels in
       let list : List Step = task_steps (knowing site before.facts) part label in
       let facts : planned.facts ≡ before.facts = ap (λ (at : Emission). at.facts) same in
       let is_left : drop (length first) planned.steps.list.items ≡ list =
       ap (drop (length first)) adds.added ∙ drop_at first list (length first) refl in
+      let next_label : ℕ = label_after label (task_labels (knowing site before.facts) part) in
+      let labels : planned.steps.labels ≡ next_label = omega (arith, adds.labels, small) in
       record {
         list = [];
         writes = subst (λ (to : Emission). Writes before.writer to.writer []) (sym same)
             (writes_nothing before.writer);
-        left = λ called more last wider written.
-            Planned label (subst (λ known. AreWritten site called known list more last) facts
-            (subst (λ left. AreWritten site called planned.facts left more last) is_left written));
+        left = λ called more last next wider written.
+            let steps : Steps site called before.facts list more last next_label next =
+            subst (λ known. Steps site called known list more last next_label next) facts
+            (subst (λ at. Steps site called planned.facts list more last at next) labels
+            (subst (λ left. Steps site called planned.facts left more last planned.steps.labels next) is_left
+            written)) in
+            (Planned label steps.0, (refl, steps.1));
         called = subst (λ (to : Emission). HasAll before.is_called.items to.is_called.items) (sym same)
             (has_itself before.is_called.items);
         notes = subst (λ (to : Emission). NotesCalled site.tree.now before.is_called.items to.is_called.items [])
             (sym same) (λ routine given. inl given);
         begins = ap (take (length first)) adds.added ∙ take_at first list (length first) refl;
         count = count;
-        labels = subst (λ to. label_after label 0 ≤ to) (sym adds.labels) (omega arith);
       }
 
   module _ (next : Emission) (index end : ℕ) (so_far : IsWriting site part before now index end) where
@@ -310,22 +389,24 @@ module _ (site : Site) (part : Part) (before now : Emission) where
         record {
           list = so_far.list ++ list;
           writes = writes_then before.writer now.writer next.writer so_far.list list so_far.writes emits.writes;
-          left = λ called more last wider written.
-              let others : AreWritten site called next.facts (drop (index + 1) steps_now) more last =
-              subst (λ at. AreWritten site called next.facts (drop (index + 1) at) more last) emits.steps written in
-              subst (λ all. IsWritten site called before.facts part all last)
+          left = λ called more last after wider written.
+              let others : Steps site called next.facts (drop (index + 1) steps_now) more last next.steps.labels after =
+              subst (λ at. Steps site called next.facts (drop (index + 1) at) more last next.steps.labels after)
+              emits.steps written in
+              subst (λ all. OnePart site called before.facts part all last before.steps.labels after)
               (sym (append_assoc so_far.list list more))
-              (so_far.left called (list ++ more) last (λ routine given. wider routine (emits.called routine given))
-              (subst (λ left. AreWritten site called now.facts left (list ++ more) last)
+              (so_far.left called (list ++ more) last after
+              (λ routine given. wider routine (emits.called routine given))
+              (subst (λ left. Steps site called now.facts left (list ++ more) last now.steps.labels after)
               (sym (left_is steps_now index step is))
-              (are_appended (are_kept wider emits.written) others)));
+              (appended (are_kept wider emits.written)
+              (are_labels_kept called wider now.steps.labels next.steps.labels emits.written emits.labels) others)));
           called = λ routine given. emits.called routine (so_far.called routine given);
           notes =
               notes_then site.tree.now before.is_called.items now.is_called.items next.is_called.items so_far.list list
               so_far.notes emits.notes;
           begins = ap (take (length before.steps.list.items)) emits.steps ∙ so_far.begins;
           count = ap length emits.steps ∙ so_far.count;
-          labels = omega (arith, so_far.labels, emits.labels);
         }
 
   -- all steps are written
@@ -339,17 +420,23 @@ module _ (site : Site) (part : Part) (before now : Emission) where
   writing_ends after index end so_far done same list labels =
       let none : drop index now.steps.list.items ≡ [] =
       drop_all index now.steps.list.items (omega (arith, so_far.count, done)) in
-      let written : IsWritten site now.is_called.items before.facts part so_far.list now.facts =
-      subst (λ all. IsWritten site now.is_called.items before.facts part all now.facts)
+      let label : ℕ = before.steps.labels in
+      let written :
+      OnePart site after.is_called.items before.facts part so_far.list after.facts label after.steps.labels =
+      subst
+      (λ (to : Emission).
+      OnePart site to.is_called.items before.facts part so_far.list to.facts label after.steps.labels)
+      (sym same)
+      (subst (λ next. OnePart site now.is_called.items before.facts part so_far.list now.facts label next) (sym labels)
+      (subst (λ all. OnePart site now.is_called.items before.facts part all now.facts label now.steps.labels)
       (append-nil so_far.list)
-      (so_far.left now.is_called.items [] now.facts (has_itself now.is_called.items)
-      (subst (λ left. AreWritten site now.is_called.items now.facts left [] now.facts) (sym none) NoneWritten)) in
+      (so_far.left now.is_called.items [] now.facts now.steps.labels (has_itself now.is_called.items)
+      (subst (λ left. Steps site now.is_called.items now.facts left [] now.facts now.steps.labels now.steps.labels)
+      (sym none) (NoneWritten, refl))))) in
       record {
         list = so_far.list;
         writes = subst (λ (to : Emission). Writes before.writer to.writer so_far.list) (sym same) so_far.writes;
-        written =
-            subst (λ (to : Emission). IsWritten site to.is_called.items before.facts part so_far.list to.facts)
-            (sym same) written;
+        written = written.0;
         called = subst (λ (to : Emission). HasAll before.is_called.items to.is_called.items) (sym same)
             so_far.called;
         notes =
@@ -357,7 +444,7 @@ module _ (site : Site) (part : Part) (before now : Emission) where
             (λ (to : Emission). NotesCalled site.tree.now before.is_called.items to.is_called.items so_far.list)
             (sym same) so_far.notes;
         steps = list ∙ so_far.begins;
-        labels = subst (λ to. label_after before.steps.labels 0 ≤ label_after to 0) (sym labels) so_far.labels;
+        labels = written.1;
       }
 
 -- past the end nothing is left
@@ -383,13 +470,12 @@ pub none_passed : (site : Site) (part : Part) (before now : Emission) (index end
 none_passed site part before now index end so_far none = record {
   list = so_far.list;
   writes = so_far.writes;
-  left = λ called more last wider written.
-      so_far.left called more last wider
-      (subst (λ left. AreWritten site called now.facts left more last)
+  left = λ called more last next wider written.
+      so_far.left called more last next wider
+      (subst (λ left. Steps site called now.facts left more last now.steps.labels next)
       (sym (none_is now.steps.list.items index none)) written);
   called = so_far.called;
   notes = so_far.notes;
   begins = so_far.begins;
   count = so_far.count;
-  labels = so_far.labels;
 }

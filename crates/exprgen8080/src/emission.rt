@@ -30,6 +30,13 @@ pub const ROUTINES: [Routine; 9] = [
     Routine::Move,
 ];
 
+// Tells that a number of labels has 32 bits, and does nothing.
+fn hold_labels(labels: u32)
+    ensures { labels < 4294967296 }
+{
+    let _ = labels;
+}
+
 // The place of a routine among them.
 fn routine_index(routine: Routine) -> u32
     ensures { result ≡ index_of_routine routine }
@@ -278,6 +285,7 @@ impl Emission {
         let start = self.steps.count();
         let here = self.site(site);
         plan_task(&here, part, &mut self.steps)?;
+        hold_labels(self.steps.labels);
         let end = self.steps.count();
         for index in start..end {
             if let Some(step) = self.steps.get(index) {
