@@ -3,6 +3,7 @@ pub mod Procedures
 pub mod Statements
 pub mod Generated
 pub mod Labelled
+pub mod Code
 pub mod Driven
 pub mod Targets
 pub mod Modules

@@ -1,5 +1,5 @@
 -- The code of steps as it is written step by step.
-use Rattle.std.proofs.Common.{◌≡◌, ◌==◌, ◌||◌, ◌⊎◌, inl, inr, ℕ, ◌+◌, ◌≤◌, ◌<◌, zero, suc, Bool, true, false, set, slice_index_or, List, [], ◌∷◌, ◌++◌, length, Option, Some, None, slice_get, Result, Ok, Err, OnOk, drop, take, refl, sym, ap, subst, ◌∙◌, arith, append_assoc, append-nil}
+use Rattle.std.proofs.Common.{◌≡◌, ◌==◌, ◌||◌, ◌⊎◌, inl, inr, ℕ, ◌+◌, ◌≤◌, ◌<◌, zero, suc, Bool, true, false, set, slice_index_or, List, [], ◌∷◌, ◌++◌, length, Some, None, slice_get, drop, take, refl, sym, ap, subst, ◌∙◌, arith, append_assoc, append-nil}
 use Rattle.std.proofs.lemmas.List.Folds.{list_any-append}
 use Rattle.std.proofs.lemmas.List.{drop_at, drop_all, drop_more, take_at}
 use Rattle.std.proofs.lemmas.Option.{get_or_from_slice_get, slice_get_within}
@@ -151,23 +151,23 @@ module _ {site : Site} {called : List Bool} (wider : List Bool) (more : HasAll c
     )
 
 -- steps that are written, with labels from this one on, of which that one is the next
-abbrev pub Steps : (site : Site) (called : List Bool) (facts : Facts) (list : List Step) (items : List Item)
+abbrev pub LabelledSteps : (site : Site) (called : List Bool) (facts : Facts) (list : List Step) (items : List Item)
     (last : Facts) (label next : ℕ) → Type 0
-Steps site called facts list items last label next =
+LabelledSteps site called facts list items last label next =
     (written : AreWritten site called facts list items last) × AreLabelled written label next
 
 -- and a part
-abbrev pub OnePart : (site : Site) (called : List Bool) (facts : Facts) (part : Part) (items : List Item)
+abbrev pub LabelledPart : (site : Site) (called : List Bool) (facts : Facts) (part : Part) (items : List Item)
     (last : Facts) (label next : ℕ) → Type 0
-OnePart site called facts part items last label next =
+LabelledPart site called facts part items last label next =
     (written : IsWritten site called facts part items last) × IsLabelled written label next
 
 -- a step that is no part is written, and others after it
 pub step_written : (site : Site) (called : List Bool) (facts last : Facts) (step : Step)
     (others : List Step) (more : List Item) (label next : ℕ)
     → IsAlone called step
-    → Steps site called (after_step facts step) others more last label next
-    → Steps site called facts (step ∷ others) (step_items site.tree.now facts step ++ more) last label next
+    → LabelledSteps site called (after_step facts step) others more last label next
+    → LabelledSteps site called facts (step ∷ others) (step_items site.tree.now facts step ++ more) last label next
 step_written site called facts last (steps.Plain i) others more label next alone written =
     (PlainWritten written.0, written.1)
 step_written site called facts last (steps.Word form place) others more label next alone written =
@@ -206,11 +206,11 @@ alone_kept called wider steps.MemoryChanged more alone = alone
 pub appended : {site : Site} {called : List Bool} {facts middle last : Facts}
     {list others : List Step} {items more : List Item} {label between next : ℕ}
     → (written : AreWritten site called facts list items middle) → AreLabelled written label between
-    → Steps site called middle others more last between next
-    → Steps site called facts (list ++ others) (items ++ more) last label next
+    → LabelledSteps site called middle others more last between next
+    → LabelledSteps site called facts (list ++ others) (items ++ more) last label next
 appended {site = site} {called = called} {middle = middle} {last = last} {others = others} {more = more} {next = next}
     NoneWritten labels then =
-    subst (λ at. Steps site called middle others more last at next) labels then
+    subst (λ at. LabelledSteps site called middle others more last at next) labels then
 appended (PlainWritten first) labels then = let rest = appended first labels then in (PlainWritten rest.0, rest.1)
 appended (WordWritten first) labels then = let rest = appended first labels then in (WordWritten rest.0, rest.1)
 appended (JumpWritten first) labels then = let rest = appended first labels then in (JumpWritten rest.0, rest.1)
@@ -220,13 +220,13 @@ appended (RoutineWritten is_called first) labels then =
 appended {site = site} {called = called} {facts = facts} {last = last} {others = others} {more = more} {label = label}
     {next = next} (CallWritten {procedure = procedure} {others = list} {more = items} first) labels then =
     let rest = appended first labels then in
-    subst (λ all. Steps site called facts (steps.CallProcedure procedure ∷ (list ++ others)) all last label next)
+    subst (λ all. LabelledSteps site called facts (steps.CallProcedure procedure ∷ (list ++ others)) all last label next)
     (sym (append_assoc (call_items site procedure) items more))
     (CallWritten rest.0, rest.1)
 appended {site = site} {called = called} {facts = facts} {last = last} {others = others} {more = more} {label = label}
     {next = next} (TestWritten {others = list} {more = items} first) labels then =
     let rest = appended first labels then in
-    subst (λ all. Steps site called facts (steps.TestA ∷ (list ++ others)) all last label next)
+    subst (λ all. LabelledSteps site called facts (steps.TestA ∷ (list ++ others)) all last label next)
     (sym (append_assoc (test_items facts) items more))
     (TestWritten rest.0, rest.1)
 appended (HoldsWritten first) labels then = let rest = appended first labels then in (HoldsWritten rest.0, rest.1)
@@ -234,7 +234,7 @@ appended (ChangeWritten first) labels then = let rest = appended first labels th
 appended {site = site} {called = called} {facts = facts} {last = last} {others = others} {more = more} {label = label}
     {next = next} (PartWritten {part = part} {others = list} {first = here} {more = items} is first) labels then =
     let rest = appended first labels.2 then in
-    subst (λ all. Steps site called facts (steps.Part part ∷ (list ++ others)) all last label next)
+    subst (λ all. LabelledSteps site called facts (steps.Part part ∷ (list ++ others)) all last label next)
     (sym (append_assoc here items more))
     (PartWritten is rest.0, (labels.0, labels.1, rest.1))
 
@@ -282,11 +282,11 @@ emits_step site step before after adds alone notes =
     let called : List Bool = after.is_called.items in
     let list : List Item = step_items site.tree.now before.facts step in
     let label : ℕ = before.steps.labels in
-    let written : Steps site called before.facts (step ∷ []) list after.facts label after.steps.labels =
-    subst (λ next. Steps site called before.facts (step ∷ []) list after.facts label next)
+    let written : LabelledSteps site called before.facts (step ∷ []) list after.facts label after.steps.labels =
+    subst (λ next. LabelledSteps site called before.facts (step ∷ []) list after.facts label next)
     (sym (ap (λ at. at.labels) adds.steps))
-    (subst (λ known. Steps site called before.facts (step ∷ []) list known label label) (sym adds.facts)
-    (subst (λ all. Steps site called before.facts (step ∷ []) all (after_step before.facts step) label label)
+    (subst (λ known. LabelledSteps site called before.facts (step ∷ []) list known label label) (sym adds.facts)
+    (subst (λ all. LabelledSteps site called before.facts (step ∷ []) all (after_step before.facts step) label label)
     (append-nil list)
     (step_written site called before.facts (after_step before.facts step) step [] [] label label alone
     (NoneWritten, refl)))) in
@@ -307,9 +307,9 @@ pub emits_part : (site : Site) (part : Part) (before after : Emission)
 emits_part site part before after emits =
     let label : ℕ = before.steps.labels in
     let next : ℕ = after.steps.labels in
-    let written : Steps site after.is_called.items before.facts (steps.Part part ∷ []) emits.list after.facts label next =
+    let written : LabelledSteps site after.is_called.items before.facts (steps.Part part ∷ []) emits.list after.facts label next =
     subst
-    (λ all. Steps site after.is_called.items before.facts (steps.Part part ∷ []) all after.facts label next)
+    (λ all. LabelledSteps site after.is_called.items before.facts (steps.Part part ∷ []) all after.facts label next)
     (append-nil emits.list) (PartWritten emits.written NoneWritten, (next, emits.labels, refl)) in
     record {
       list = emits.list;
@@ -326,8 +326,8 @@ pub record IsWriting (site : Site) (part : Part) (before now : Emission) (index 
   pub list : List Item
   pub writes : Writes before.writer now.writer list
   pub left : (called : List Bool) (more : List Item) (last : Facts) (next : ℕ) → HasAll now.is_called.items called
-      → Steps site called now.facts (drop index now.steps.list.items) more last now.steps.labels next
-      → OnePart site called before.facts part (list ++ more) last before.steps.labels next
+      → LabelledSteps site called now.facts (drop index now.steps.list.items) more last now.steps.labels next
+      → LabelledPart site called before.facts part (list ++ more) last before.steps.labels next
   pub called : HasAll before.is_called.items now.is_called.items
   pub notes : NotesCalled site.tree.now before.is_called.items now.is_called.items list
   pub begins : take (length before.steps.list.items) now.steps.list.items ≡ before.steps.list.items
@@ -363,10 +363,10 @@ module _ (site : Site) (part : Part) (before now : Emission) where
         writes = subst (λ (to : Emission). Writes before.writer to.writer []) (sym same)
             (writes_nothing before.writer);
         left = λ called more last next wider written.
-            let steps : Steps site called before.facts list more last next_label next =
-            subst (λ known. Steps site called known list more last next_label next) facts
-            (subst (λ at. Steps site called planned.facts list more last at next) labels
-            (subst (λ left. Steps site called planned.facts left more last planned.steps.labels next) is_left
+            let steps : LabelledSteps site called before.facts list more last next_label next =
+            subst (λ known. LabelledSteps site called known list more last next_label next) facts
+            (subst (λ at. LabelledSteps site called planned.facts list more last at next) labels
+            (subst (λ left. LabelledSteps site called planned.facts left more last planned.steps.labels next) is_left
             written)) in
             (Planned label steps.0, (refl, steps.1));
         called = subst (λ (to : Emission). HasAll before.is_called.items to.is_called.items) (sym same)
@@ -390,14 +390,14 @@ module _ (site : Site) (part : Part) (before now : Emission) where
           list = so_far.list ++ list;
           writes = writes_then before.writer now.writer next.writer so_far.list list so_far.writes emits.writes;
           left = λ called more last after wider written.
-              let others : Steps site called next.facts (drop (index + 1) steps_now) more last next.steps.labels after =
-              subst (λ at. Steps site called next.facts (drop (index + 1) at) more last next.steps.labels after)
+              let others : LabelledSteps site called next.facts (drop (index + 1) steps_now) more last next.steps.labels after =
+              subst (λ at. LabelledSteps site called next.facts (drop (index + 1) at) more last next.steps.labels after)
               emits.steps written in
-              subst (λ all. OnePart site called before.facts part all last before.steps.labels after)
+              subst (λ all. LabelledPart site called before.facts part all last before.steps.labels after)
               (sym (append_assoc so_far.list list more))
               (so_far.left called (list ++ more) last after
               (λ routine given. wider routine (emits.called routine given))
-              (subst (λ left. Steps site called now.facts left (list ++ more) last now.steps.labels after)
+              (subst (λ left. LabelledSteps site called now.facts left (list ++ more) last now.steps.labels after)
               (sym (left_is steps_now index step is))
               (appended (are_kept wider emits.written)
               (are_labels_kept called wider now.steps.labels next.steps.labels emits.written emits.labels) others)));
@@ -422,16 +422,16 @@ module _ (site : Site) (part : Part) (before now : Emission) where
       drop_all index now.steps.list.items (omega (arith, so_far.count, done)) in
       let label : ℕ = before.steps.labels in
       let written :
-      OnePart site after.is_called.items before.facts part so_far.list after.facts label after.steps.labels =
+      LabelledPart site after.is_called.items before.facts part so_far.list after.facts label after.steps.labels =
       subst
       (λ (to : Emission).
-      OnePart site to.is_called.items before.facts part so_far.list to.facts label after.steps.labels)
+      LabelledPart site to.is_called.items before.facts part so_far.list to.facts label after.steps.labels)
       (sym same)
-      (subst (λ next. OnePart site now.is_called.items before.facts part so_far.list now.facts label next) (sym labels)
-      (subst (λ all. OnePart site now.is_called.items before.facts part all now.facts label now.steps.labels)
+      (subst (λ next. LabelledPart site now.is_called.items before.facts part so_far.list now.facts label next) (sym labels)
+      (subst (λ all. LabelledPart site now.is_called.items before.facts part all now.facts label now.steps.labels)
       (append-nil so_far.list)
       (so_far.left now.is_called.items [] now.facts now.steps.labels (has_itself now.is_called.items)
-      (subst (λ left. Steps site now.is_called.items now.facts left [] now.facts now.steps.labels now.steps.labels)
+      (subst (λ left. LabelledSteps site now.is_called.items now.facts left [] now.facts now.steps.labels now.steps.labels)
       (sym none) (NoneWritten, refl))))) in
       record {
         list = so_far.list;
@@ -472,7 +472,7 @@ none_passed site part before now index end so_far none = record {
   writes = so_far.writes;
   left = λ called more last next wider written.
       so_far.left called more last next wider
-      (subst (λ left. Steps site called now.facts left more last now.steps.labels next)
+      (subst (λ left. LabelledSteps site called now.facts left more last now.steps.labels next)
       (sym (none_is now.steps.list.items index none)) written);
   called = so_far.called;
   notes = so_far.notes;

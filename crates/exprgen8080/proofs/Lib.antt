@@ -1,3 +1,4 @@
 pub mod Arguments
 pub mod Parts
 pub mod Emitting
+pub mod CodeLaws

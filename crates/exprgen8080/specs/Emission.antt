@@ -1,5 +1,5 @@
 -- The code of steps: which items are written for them, and what is known of the registers after these.
-use Rattle.std.specs.Prelude.{◌≡◌, ◌==◌, ℕ, Bool, true, false, if◌then◌else◌, List, [], ◌∷◌, ◌++◌, length, Option, Some, None, slice_get, slice_index_or}
+use Rattle.std.specs.Prelude.{◌≡◌, ◌==◌, ℕ, Bool, true, false, if◌then◌else◌, List, [], ◌∷◌, ◌++◌, length, Some, None, slice_get, slice_index_or}
 use Rattle.std.specs.List.{list_any}
 use Rattle.isa8080.specs.declared.instr.Instr.{Instr}
 use Rattle.isa8080.specs.declared.instr.Instr.TheVariants.{Accumulate}
@@ -17,7 +17,6 @@ use Rattle.treecode.specs.declared.place.Place.{Place}
 use Rattle.treecode.specs.declared.procedure.ProcedureKind.{ProcedureKind}
 use Rattle.treecode.specs.declared.procedure.ProcedureKind.TheVariants as kinds
 use Rattle.treecode.specs.declared.module.TreeModule.{TreeModule}
-use Rattle.treecode.specs.declared.procedure.TreeProcedure.{TreeProcedure}
 use Rattle.steps8080.specs.declared.facts.Facts.{Facts}
 use Rattle.steps8080.specs.declared.step.LabelNumber.{LabelNumber}
 use Rattle.steps8080.specs.declared.step.Part.{Part}

@@ -11,3 +11,4 @@ pub mod Forms
 pub mod Emission
 pub mod Labelled
 pub mod Emitted
+pub mod Code
