@@ -2,6 +2,7 @@
 #![tactic(auto)]
 
 ghost use Rattle.std.specs.Prelude.{IfOk};
+ghost use Rattle.exprgen8080.specs.Code.{AddsCodeOfPart};
 ghost use Rattle.exprgen8080.specs.Emitted.{Emits};
 ghost use Rattle.expression_code.specs.Doing.{CodeDoes};
 
@@ -15,6 +16,7 @@ use steps8080::Part;
 /// of all procedures do with less of the budget. A refusal drops the code.
 pub fn emit_expression(code: Emission, site: &Site<'_>, part: Part) -> Result<Emission, AllocError>
     ensures emitted { IfOk result (λ after. Emits site.now part code after) }
+    ensures code { IfOk result (λ after. AddsCodeOfPart site.now part code after) }
     ensures does { IfOk result (λ after. CodeDoes site.now part code after) }
 {
     exprgen8080::emit_expression(code, site, part)

@@ -3,4 +3,4 @@ use Rattle.expression_code.proofs.emit_expression.Goals as goal
 
 pub returns-clause-does : goal.returns-clause-does
 returns-clause-does c =
-    code_does_if c.args.site.now c.args.part c.args.code c.emit_expression.result c.emit_expression.ensures
+    code_does_if c.args.site.now c.args.part c.args.code c.emit_expression.result c.emit_expression.ensures.emits
