@@ -18,23 +18,25 @@ use Rattle.steps8080.specs.declared.facts.Facts.{Facts}
 use Rattle.steps8080.specs.declared.step.LabelNumber.{LabelNumber}
 use Rattle.steps8080.specs.declared.step.Step.TheVariants as steps
 use Rattle.steps8080.specs.Facts.{no_facts}
+use Rattle.steps8080.specs.Step.{label_after, label_of}
 use Rattle.steps8080.specs.Writer.{Writes, stack_end_item}
 use Rattle.steps8080.proofs.Numbered.{writes_nothing, writes_then}
 use Rattle.sites8080.specs.declared.site.Site.{Site}
 use Rattle.exprgen8080.specs.declared.emission.Emission.{Emission}
 use Rattle.exprgen8080.specs.Emission.{AreWritten, call_routine, MarkWritten, NoneWritten, PlainWritten}
 use Rattle.exprgen8080.specs.Emitted.{EmitsSteps, HasAll, NotesCalled}
+use Rattle.exprgen8080.specs.Labelled.{AreLabelled}
 use Rattle.exprgen8080.proofs.Emitting.{has_itself, none_noted, notes_then}
 use Rattle.statements8080.specs.declared.body.Body.{Body}
 use Rattle.statements8080.specs.declared.plan.Planned.{Planned}
 use Rattle.codegen8080.specs.declared.generator.Generator.{Generator}
 use Rattle.codegen8080.specs.declared.meeting.Here.{Here}
 use Rattle.codegen8080.specs.Driven.{AddsCode, AddsList, AddsPlanned, here_of}
-use Rattle.codegen8080.specs.Generated.{AreCarriedOut, IsListCarriedOut}
-use Rattle.codegen8080.specs.Modules.{IsEndCode, IsFrameOf}
-use Rattle.codegen8080.specs.Procedures.{end_steps, entry_steps}
-use Rattle.codegen8080.specs.internal.Bodies.{AddsEnd, AddsEntry, AddsMain, AddsOwn}
-use Rattle.codegen8080.proofs.Driving.{all_kept, list_kept}
+use Rattle.codegen8080.specs.Labelled.{LabelledList, LabelledSteps}
+use Rattle.codegen8080.specs.Modules.{IsFrameOf, IsMainCode, IsProcedureCode}
+use Rattle.codegen8080.specs.Procedures.{end_steps, entry_labels, entry_steps}
+use Rattle.codegen8080.specs.internal.Bodies.{AddsEnd, AddsEntry, AddsMain, AddsOwn, LabelledEnd}
+use Rattle.codegen8080.proofs.Driving.{labelled_list_kept, labelled_steps_kept}
 
 -- the plan of a frame has what is said of it by the kind of the procedure
 pub frame_is :
@@ -46,30 +48,39 @@ pub frame_is :
 frame_is procedure (Ok plan) planned apart empty = record { planned = planned; apart = apart; empty = empty }
 frame_is procedure (Err fault) planned apart empty = tt
 
--- steps that are planned after others are carried out
+-- steps that are planned after others are carried out, with labels from one on that is free then
 pub planned_added :
-    (body : Body) (list : List Planned) (start : ℕ) (before ready after : Generator)
+    (body : Body) (list : List Planned) (start : ℕ) (free : (label : ℕ) → ℕ) (before ready after : Generator)
     → ready.emission ≡ record (before.emission) { steps = ready.emission.steps }
+    → ready.emission.steps.labels ≡ free before.emission.steps.labels
     → ready.goes_on ≡ before.goes_on
     → ready.plan.list.items ≡ before.plan.list.items ++ list
     → start ≡ length before.plan.list.items
     → AddsPlanned body (drop start ready.plan.list.items) ready after
     → AddsCode body.tree.now
-    (λ called added. AreCarriedOut body called (here_of before) None list added (here_of after)) before after
-planned_added body list start before ready after emission goes_on plan begins adds =
+    (λ called added label next.
+    LabelledSteps body called (here_of before) None list added (here_of after) (free label) next)
+    before after
+planned_added body list start free before ready after emission labels goes_on plan begins adds =
+    let from : ℕ = ready.emission.steps.labels in
+    let next : ℕ = after.emission.steps.labels in
     let called : List Bool = after.emission.is_called.items in
     let left : drop start ready.plan.list.items ≡ list =
     ap (drop start) plan ∙ drop_at before.plan.list.items list start (sym begins) in
-    let written : AreCarriedOut body called (here_of ready) None list adds.list (here_of after) =
-    subst (λ all. AreCarriedOut body called (here_of ready) None all adds.list (here_of after)) left adds.written in
+    let written : LabelledSteps body called (here_of ready) None list adds.list (here_of after) from next =
+    subst (λ all. LabelledSteps body called (here_of ready) None all adds.list (here_of after) from next) left
+    adds.written in
     record {
       list = adds.list;
       writes = subst (λ (from : Emission). Writes from.writer after.emission.writer adds.list) emission adds.writes;
       written =
-          subst (λ (from : Emission). AreCarriedOut body called
-          (record { facts = from.facts; goes_on = before.goes_on }) None list adds.list (here_of after)) emission
-          (subst (λ goes. AreCarriedOut body called (record { facts = ready.emission.facts; goes_on = goes }) None
-          list adds.list (here_of after)) goes_on written);
+          subst (λ first. LabelledSteps body called (here_of before) None list adds.list (here_of after) first next)
+          labels
+          (subst (λ (at : Emission). LabelledSteps body called
+          (record { facts = at.facts; goes_on = before.goes_on }) None list adds.list (here_of after) from next)
+          emission
+          (subst (λ goes. LabelledSteps body called (record { facts = ready.emission.facts; goes_on = goes }) None
+          list adds.list (here_of after) from next) goes_on written));
       called = subst (λ (from : Emission). HasAll from.is_called.items called) emission adds.called;
       notes = subst (λ (from : Emission). NotesCalled body.tree.now from.is_called.items called adds.list) emission
           adds.notes;
@@ -77,23 +88,26 @@ planned_added body list start before ready after emission goes_on plan begins ad
 
 -- and so is how a procedure begins
 pub entry_added :
-    (body : Body) (first start : ℕ) (before ready after : Generator) {E : Type 0} (result : Result (Unit {0}) E)
+    (body : Body) (start : ℕ) (before ready after : Generator) {E : Type 0} (result : Result (Unit {0}) E)
     → ready.emission ≡ record (before.emission) { steps = ready.emission.steps }
+    → ready.emission.steps.labels ≡ label_after before.emission.steps.labels (entry_labels body)
     → ready.goes_on ≡ before.goes_on
-    → ready.plan.list.items ≡ before.plan.list.items ++ entry_steps body first
+    → ready.plan.list.items ≡ before.plan.list.items ++ entry_steps body before.emission.steps.labels
     → start ≡ length before.plan.list.items
     → OnOk result (AddsPlanned body (drop start ready.plan.list.items) ready after)
     → OnOk result (AddsEntry body before after)
-entry_added body first start before ready after (Ok done) emission goes_on plan begins adds =
-    let added = planned_added body (entry_steps body first) start before ready after emission goes_on plan begins adds in
+entry_added body start before ready after (Ok done) emission labels goes_on plan begins adds =
+    let added =
+    planned_added body (entry_steps body before.emission.steps.labels) start
+    (λ label. label_after label (entry_labels body)) before ready after emission labels goes_on plan begins adds in
     record {
       list = added.list;
       writes = added.writes;
-      written = (first, added.written);
+      written = added.written;
       called = added.called;
       notes = added.notes;
     }
-entry_added body first start before ready after (Err fault) emission goes_on plan begins adds = adds
+entry_added body start before ready after (Err fault) emission labels goes_on plan begins adds = adds
 
 -- and how it ends
 pub end_added :
@@ -108,13 +122,18 @@ pub end_added :
 end_added body start before ready after (Ok done) reached emission goes_on plan begins adds =
     let same : ready.emission ≡ record (before.emission) { steps = ready.emission.steps } =
     emission ∙ ap (λ (from : Emission). record (before.emission) { steps = from.steps }) (sym emission) in
-    let added = planned_added body (end_steps body) start before ready after same goes_on plan begins adds in
+    let labels : ready.emission.steps.labels ≡ before.emission.steps.labels =
+    ap (λ (from : Emission). from.steps.labels) emission in
+    let added =
+    planned_added body (end_steps body) start (λ label. label) before ready after same labels goes_on plan begins adds in
     record {
       list = added.list;
       writes = added.writes;
       written =
-          subst (λ is_reached. IsEndCode body after.emission.is_called.items (here_of before) is_reached added.list)
-          (sym reached) (here_of after, added.written);
+          subst
+          (λ is_reached. LabelledEnd body after.emission.is_called.items (here_of before) is_reached added.list
+          before.emission.steps.labels after.emission.steps.labels)
+          (sym reached) ((here_of after, added.written.0), added.written.1);
       called = added.called;
       notes = added.notes;
     }
@@ -126,8 +145,10 @@ no_end_added body before reached = record {
   list = [];
   writes = writes_nothing before.emission.writer;
   written =
-      subst (λ is_reached. IsEndCode body before.emission.is_called.items (here_of before) is_reached [])
-      (sym reached) refl;
+      subst
+      (λ is_reached. LabelledEnd body before.emission.is_called.items (here_of before) is_reached []
+      before.emission.steps.labels before.emission.steps.labels)
+      (sym reached) (refl, refl);
   called = has_itself before.emission.is_called.items;
   notes = λ routine given. inl given;
 }
@@ -151,6 +172,7 @@ alone_noted tree other before after list item calls_none same notes = λ routine
 record IsMarked (label : ℕ) (before after : Emission) : Type 0 where
   writes : Writes before.writer after.writer (items.Mark label ∷ [])
   facts : after.facts ≡ no_facts
+  labels : after.steps.labels ≡ before.steps.labels
   called : HasAll before.is_called.items after.is_called.items
   notes : (tree : TreeModule) → NotesCalled tree before.is_called.items after.is_called.items (items.Mark label ∷ [])
 
@@ -160,6 +182,13 @@ mark_is :
     → (list ≡ items.Mark label.index ∷ []) × (last ≡ no_facts)
 mark_is (MarkWritten NoneWritten) = (refl, refl)
 
+mark_labels :
+    {site : Site} {called : List Bool} {facts last : Facts} {label : LabelNumber} {list : List Item}
+    (written : AreWritten site called facts (steps.Mark label ∷ []) list last) (from next : ℕ)
+    → AreLabelled written from next
+    → next ≡ from
+mark_labels (MarkWritten NoneWritten) from next labels = labels
+
 marked : (site : Site) (label : LabelNumber) (before after : Emission)
     → EmitsSteps site (steps.Mark label ∷ []) before after
     → IsMarked label.index before after
@@ -168,6 +197,7 @@ marked site label before after emits =
     record {
       writes = subst (Writes before.writer after.writer) is.0 emits.writes;
       facts = is.1;
+      labels = mark_labels emits.written before.steps.labels after.steps.labels emits.labels;
       called = emits.called;
       notes = λ tree.
           alone_noted site.tree.now tree before.is_called.items after.is_called.items emits.list
@@ -181,14 +211,22 @@ plain_is :
     → list ≡ items.Plain i ∷ []
 plain_is (PlainWritten NoneWritten) = refl
 
+plain_labels :
+    {site : Site} {called : List Bool} {facts last : Facts} {i : Instr} {list : List Item}
+    (written : AreWritten site called facts (steps.Plain i ∷ []) list last) (from next : ℕ)
+    → AreLabelled written from next
+    → next ≡ from
+plain_labels (PlainWritten NoneWritten) from next labels = labels
+
 -- the code of the end of a procedure where more routines are called
 pub end_kept :
-    (body : Body) (called wider : List Bool) (here : Here) (is_reached : Bool) (list : List Item)
+    (body : Body) (called wider : List Bool) (here : Here) (is_reached : Bool) (list : List Item) (label next : ℕ)
     → HasAll called wider
-    → IsEndCode body called here is_reached list
-    → IsEndCode body wider here is_reached list
-end_kept body called wider here true list more is = (is.0, all_kept more is.1)
-end_kept body called wider here false list more is = is
+    → LabelledEnd body called here is_reached list label next
+    → LabelledEnd body wider here is_reached list label next
+end_kept body called wider here true list label next more is =
+    let kept = labelled_steps_kept wider more label next (is.0.1, is.1) in ((is.0.0, kept.0), kept.1)
+end_kept body called wider here false list label next more is = is
 
 -- a procedure is written part by part
 pub own_added :
@@ -197,15 +235,17 @@ pub own_added :
     → body.tree.now ≡ tree
     → body.procedure.now ≡ procedure
     → IsFrameOf procedure body.frame.now
+    → body.first_label ≡ label_of before.emission.steps.labels
     → begun.emission ≡ record (before.emission) { steps = begun.emission.steps }
+    → begun.emission.steps.labels ≡ label_after before.emission.steps.labels procedure.label_count
     → EmitsSteps site (steps.Mark label ∷ []) begun.emission labelled.emission
     → labelled.goes_on ≡ true
     → AddsEntry body labelled entered
     → AddsList body procedure.body entered listed
     → AddsEnd body listed after
     → AddsOwn tree label.index procedure before after
-own_added tree procedure label body site before begun labelled entered listed after tree_is procedure_is frame same
-    emits goes_on entry list end =
+own_added tree procedure label body site before begun labelled entered listed after tree_is procedure_is frame named
+    same labels emits goes_on entry list end =
     let called : List Bool = after.emission.is_called.items in
     let mark = marked site label begun.emission labelled.emission emits in
     let from_entry : HasAll entered.emission.is_called.items called =
@@ -213,6 +253,39 @@ own_added tree procedure label body site before begun labelled entered listed af
     let here : here_of labelled ≡ record { facts = no_facts; goes_on = true } =
     ap (λ (facts : Facts). record { facts = facts; goes_on = labelled.goes_on }) mark.facts
     ∙ ap (λ goes. record { facts = no_facts; goes_on = goes }) goes_on in
+    let first : ℕ = labelled.emission.steps.labels in
+    let begun_label : ℕ = entered.emission.steps.labels in
+    let ended_label : ℕ = listed.emission.steps.labels in
+    let next : ℕ = after.emission.steps.labels in
+    let begins : LabelledSteps body called (record { facts = no_facts; goes_on = true }) None (entry_steps body first)
+    entry.list (here_of entered) (label_after first (entry_labels body)) begun_label =
+    subst (λ at. LabelledSteps body called at None (entry_steps body first) entry.list (here_of entered)
+    (label_after first (entry_labels body)) begun_label) here (labelled_steps_kept called from_entry
+    (label_after first (entry_labels body)) begun_label entry.written) in
+    let written : LabelledList body called entered.emission.facts procedure.body list.list (here_of listed)
+    begun_label ended_label =
+    labelled_list_kept called end.called begun_label ended_label list.written in
+    let ends : LabelledEnd body called (here_of listed) procedure.reaches_its_end end.list ended_label next =
+    subst (λ (own : TreeProcedure). LabelledEnd body called (here_of listed) own.reaches_its_end end.list ended_label
+    next) procedure_is end.written in
+    let code : IsProcedureCode tree called label.index procedure
+    (items.Mark label.index ∷ (entry.list ++ (list.list ++ end.list))) =
+    record {
+      body = body;
+      tree_is = tree_is;
+      procedure_is = procedure_is;
+      frame = frame;
+      first = first;
+      beginning = entry.list;
+      statements = list.list;
+      ending = end.list;
+      entered = here_of entered;
+      last = here_of listed;
+      begins = begins.0;
+      written = written.0;
+      ends = ends.0;
+      list_is = refl;
+    } in
     record {
       list = items.Mark label.index ∷ (entry.list ++ (list.list ++ end.list));
       writes =
@@ -226,25 +299,18 @@ own_added tree procedure label body site before begun labelled entered listed af
           (list.list ++ end.list) entry.writes
           (writes_then entered.emission.writer listed.emission.writer after.emission.writer list.list end.list
           list.writes end.writes)));
-      written = record {
-        body = body;
-        tree_is = tree_is;
-        procedure_is = procedure_is;
-        frame = frame;
-        first = entry.written.0;
-        beginning = entry.list;
-        statements = list.list;
-        ending = end.list;
-        entered = here_of entered;
-        last = here_of listed;
-        begins =
-            subst (λ at. AreCarriedOut body called at None (entry_steps body entry.written.0) entry.list
-            (here_of entered)) here (all_kept from_entry entry.written.1);
-        written = list_kept end.called list.written;
-        ends = subst (λ (own : TreeProcedure). IsEndCode body called (here_of listed) own.reaches_its_end end.list)
-            procedure_is end.written;
-        list_is = refl;
-      };
+      written = (
+        code,
+        record {
+          begun = begun_label;
+          ended = ended_label;
+          named = named;
+          first = mark.labels ∙ labels;
+          begins = begins.1;
+          written = written.1;
+          ends = ends.1;
+        },
+      );
       called =
           subst (λ (from : Emission). HasAll from.is_called.items called) same
           (λ routine given. from_entry routine (entry.called routine (mark.called routine given)));
@@ -272,20 +338,47 @@ pub main_added :
     → body.tree.now ≡ tree
     → body.procedure.now ≡ tree.main
     → HasNothing body.frame.now
+    → body.first_label ≡ label_of before.emission.steps.labels
     → begun.emission ≡ record (before.emission) { steps = begun.emission.steps }
+    → begun.emission.steps.labels ≡ label_after before.emission.steps.labels tree.main.label_count
     → EmitsSteps site (steps.Mark label ∷ []) begun.emission labelled.emission
     → Writes labelled.emission.writer ready.emission.writer (stack_end_item (LoadPair Sp) ∷ [])
     → ready.emission ≡ record (labelled.emission) { writer = ready.emission.writer }
     → AddsList body tree.main.body ready listed
     → EmitsSteps last (steps.Plain Hlt ∷ []) listed.emission after.emission
     → AddsMain tree label.index before after
-main_added tree label body site last before begun labelled ready listed after tree_is procedure_is frame same emits stack
-    kept list halts =
+main_added tree label body site last before begun labelled ready listed after tree_is procedure_is frame named same
+    labels emits stack kept list halts =
     let called : List Bool = after.emission.is_called.items in
     let mark = marked site label begun.emission labelled.emission emits in
     let facts : ready.emission.facts ≡ no_facts = ap (λ (at : Emission). at.facts) kept ∙ mark.facts in
     let table : ready.emission.is_called.items ≡ labelled.emission.is_called.items =
     ap (λ (at : Emission). at.is_called.items) kept in
+    let from : ℕ = label_after before.emission.steps.labels tree.main.label_count in
+    let begins : ready.emission.steps.labels ≡ from =
+    ap (λ (at : Emission). at.steps.labels) kept ∙ (mark.labels ∙ labels) in
+    let next : ℕ = after.emission.steps.labels in
+    let ends : next ≡ listed.emission.steps.labels =
+    plain_labels halts.written listed.emission.steps.labels next halts.labels in
+    let written : LabelledList body called no_facts tree.main.body list.list (here_of listed) from next =
+    subst (λ at. LabelledList body called no_facts tree.main.body list.list (here_of listed) from at) (sym ends)
+    (subst (λ at. LabelledList body called no_facts tree.main.body list.list (here_of listed) at
+    listed.emission.steps.labels) begins
+    (subst (λ at. LabelledList body called at tree.main.body list.list (here_of listed) ready.emission.steps.labels
+    listed.emission.steps.labels) facts
+    (labelled_list_kept called halts.called ready.emission.steps.labels listed.emission.steps.labels list.written))) in
+    let code : IsMainCode tree called label.index
+    (items.Mark label.index ∷ stack_end_item (LoadPair Sp) ∷ (list.list ++ (items.Plain Hlt ∷ []))) =
+    record {
+      body = body;
+      tree_is = tree_is;
+      procedure_is = procedure_is;
+      frame = frame;
+      statements = list.list;
+      last = here_of listed;
+      written = written.0;
+      list_is = refl;
+    } in
     let halt : Writes listed.emission.writer after.emission.writer (items.Plain Hlt ∷ []) =
     subst (Writes listed.emission.writer after.emission.writer) (plain_is halts.written) halts.writes in
     record {
@@ -302,18 +395,7 @@ main_added tree label body site last before begun labelled ready listed after tr
           (stack_end_item (LoadPair Sp) ∷ []) (list.list ++ (items.Plain Hlt ∷ [])) stack
           (writes_then ready.emission.writer listed.emission.writer after.emission.writer list.list
           (items.Plain Hlt ∷ []) list.writes halt)));
-      written = record {
-        body = body;
-        tree_is = tree_is;
-        procedure_is = procedure_is;
-        frame = frame;
-        statements = list.list;
-        last = here_of listed;
-        written =
-            subst (λ at. IsListCarriedOut body called at tree.main.body list.list (here_of listed)) facts
-            (list_kept halts.called list.written);
-        list_is = refl;
-      };
+      written = (code, record { named = named; written = written.1 });
       called =
           subst (λ (from : Emission). HasAll from.is_called.items called) same
           (λ routine given. halts.called routine (list.called routine

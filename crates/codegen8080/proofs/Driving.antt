@@ -9,13 +9,14 @@ use Rattle.treecode.specs.declared.statement.Statement.{Statement as TreeStateme
 use Rattle.treecode.specs.declared.statement.StatementNumber.{StatementNumber}
 use Rattle.steps8080.specs.declared.facts.Facts.{Facts}
 use Rattle.steps8080.specs.declared.step.Step.{Step}
+use Rattle.steps8080.specs.Step.{label_after}
 use Rattle.steps8080.specs.Writer.{Writes}
 use Rattle.steps8080.proofs.Numbered.{writes_nothing, writes_then}
 use Rattle.sites8080.specs.declared.site.Site.{Site}
 use Rattle.exprgen8080.specs.declared.emission.Emission.{Emission}
 use Rattle.exprgen8080.specs.Emission.{AreWritten, knowing}
 use Rattle.exprgen8080.specs.Emitted.{EmitsSteps, HasAll, NotesCalled}
-use Rattle.exprgen8080.proofs.Emitting.{are_kept, emits_then, has_itself, left_is, none_is, notes_then}
+use Rattle.exprgen8080.proofs.Emitting.{are_kept, are_labels_kept, emits_then, has_itself, left_is, none_is, notes_then}
 use Rattle.statements8080.specs.declared.body.Body.{Body}
 use Rattle.statements8080.specs.declared.plan.Planned.{Planned}
 use Rattle.statements8080.specs.declared.plan.Planned.TheVariants as planned
@@ -23,7 +24,8 @@ use Rattle.codegen8080.specs.declared.generator.Generator.{Generator}
 use Rattle.codegen8080.specs.declared.meeting.Here.{Here}
 use Rattle.codegen8080.specs.Driven.{AddsCode, AddsList, AddsPlanned, AddsStatement, AddsStep, here_of}
 use Rattle.codegen8080.specs.Generated.{AreAllCarriedOut, AreCarriedOut, HoldsNoStatement, IsCarriedOut, IsListCarriedOut, ListCarriedOut, ListPlanned, MoreStatements, NoStatements, NoneCarriedOut, StatementCarriedOut, StatementPlanned, StepCarriedOut, carried_steps, here_after, site_of, waiting_after}
-use Rattle.codegen8080.specs.Statements.{statement_steps}
+use Rattle.codegen8080.specs.Labelled.{AreAllLabelled, AreStepsLabelled, IsListLabelled, IsStatementLabelled, LabelledList, LabelledStatement, LabelledStatements, LabelledSteps}
+use Rattle.codegen8080.specs.Statements.{statement_labels, statement_steps}
 use Rattle.codegen8080.specs.internal.Carrying.{CarriesOut}
 
 -- steps that may not be added, after others
@@ -36,33 +38,70 @@ emits_after site first second before between after (Ok done) here next =
     emits_then site first second before between after here next
 emits_after site first second before between after (Err fault) here next = next
 
--- What is written where some routines are called is written where more are.
-module _ {body : Body} {called wider : List Bool} (more : HasAll called wider) where
+-- What is written where some routines are called is written where more are, with the same labels.
+module _ {body : Body} {called : List Bool} (wider : List Bool) (more : HasAll called wider) where
   mutual
-    pub all_kept : {here last : Here} {waiting : Option Facts} {steps : List Planned} {items : List Item}
-        → AreCarriedOut body called here waiting steps items last
-        → AreCarriedOut body wider here waiting steps items last
-    all_kept NoneCarriedOut = NoneCarriedOut
-    all_kept (StepCarriedOut alone first others) = StepCarriedOut alone (are_kept more first) (all_kept others)
-    all_kept (StatementCarriedOut first others) = StatementCarriedOut (statement_kept first) (all_kept others)
-    all_kept (ListCarriedOut first others) = ListCarriedOut (list_kept first) (all_kept others)
+    steps_kept : {here last : Here} {waiting : Option Facts} {steps : List Planned} {items : List Item}
+        (code : AreCarriedOut body called here waiting steps items last) (label next : ℕ)
+        → AreStepsLabelled code label next
+        → LabelledSteps body wider here waiting steps items last label next
+    steps_kept NoneCarriedOut label next labels = (NoneCarriedOut, labels)
+    steps_kept (StepCarriedOut alone first others) label next labels =
+        let kept = steps_kept others labels.0 next labels.2 in
+        (StepCarriedOut alone (are_kept more first) kept.0,
+        (labels.0, are_labels_kept wider more label labels.0 first labels.1, kept.1))
+    steps_kept (StatementCarriedOut first others) label next labels =
+        let one = statement_kept first label labels.0 labels.1 in
+        let kept = steps_kept others labels.0 next labels.2 in
+        (StatementCarriedOut one.0 kept.0, (labels.0, one.1, kept.1))
+    steps_kept (ListCarriedOut first others) label next labels =
+        let one = list_kept first label labels.0 labels.1 in
+        let kept = steps_kept others labels.0 next labels.2 in
+        (ListCarriedOut one.0 kept.0, (labels.0, one.1, kept.1))
 
-    pub statement_kept : {facts : Facts} {number : StatementNumber} {items : List Item} {last : Here}
-        → IsCarriedOut body called facts number items last
-        → IsCarriedOut body wider facts number items last
-    statement_kept (StatementPlanned label at steps) = StatementPlanned label at (all_kept steps)
+    statement_kept : {facts : Facts} {number : StatementNumber} {items : List Item} {last : Here}
+        (code : IsCarriedOut body called facts number items last) (label next : ℕ)
+        → IsStatementLabelled code label next
+        → LabelledStatement body wider facts number items last label next
+    statement_kept (StatementPlanned first at steps) label next labels =
+        let kept = steps_kept steps _ next labels.1 in
+        (StatementPlanned first at kept.0, (labels.0, kept.1))
 
-    pub list_kept : {facts : Facts} {range : Range} {items : List Item} {last : Here}
-        → IsListCarriedOut body called facts range items last
-        → IsListCarriedOut body wider facts range items last
-    list_kept (ListPlanned statements) = ListPlanned (statements_kept statements)
+    list_kept : {facts : Facts} {range : Range} {items : List Item} {last : Here}
+        (code : IsListCarriedOut body called facts range items last) (label next : ℕ)
+        → IsListLabelled code label next
+        → LabelledList body wider facts range items last label next
+    list_kept (ListPlanned statements) label next labels =
+        let kept = statements_kept statements label next labels in
+        (ListPlanned kept.0, kept.1)
 
-    pub statements_kept : {here last : Here} {first count : ℕ} {items : List Item}
-        → AreAllCarriedOut body called here first count items last
-        → AreAllCarriedOut body wider here first count items last
-    statements_kept NoStatements = NoStatements
-    statements_kept (MoreStatements at first others) =
-        MoreStatements at (statement_kept first) (statements_kept others)
+    statements_kept : {here last : Here} {first count : ℕ} {items : List Item}
+        (code : AreAllCarriedOut body called here first count items last) (label next : ℕ)
+        → AreAllLabelled code label next
+        → LabelledStatements body wider here first count items last label next
+    statements_kept NoStatements label next labels = (NoStatements, labels)
+    statements_kept (MoreStatements at first others) label next labels =
+        let one = statement_kept first label labels.0 labels.1 in
+        let kept = statements_kept others labels.0 next labels.2 in
+        (MoreStatements at one.0 kept.0, (labels.0, one.1, kept.1))
+
+  pub labelled_steps_kept : {here last : Here} {waiting : Option Facts} {steps : List Planned} {items : List Item}
+      (label next : ℕ)
+      → LabelledSteps body called here waiting steps items last label next
+      → LabelledSteps body wider here waiting steps items last label next
+  labelled_steps_kept label next code = steps_kept code.0 label next code.1
+
+  pub labelled_statement_kept : {facts : Facts} {number : StatementNumber} {items : List Item} {last : Here}
+      (label next : ℕ)
+      → LabelledStatement body called facts number items last label next
+      → LabelledStatement body wider facts number items last label next
+  labelled_statement_kept label next code = statement_kept code.0 label next code.1
+
+  pub labelled_list_kept : {facts : Facts} {range : Range} {items : List Item} {last : Here}
+      (label next : ℕ)
+      → LabelledList body called facts range items last label next
+      → LabelledList body wider facts range items last label next
+  labelled_list_kept label next code = list_kept code.0 label next code.1
 
 module _ (body : Body) (waiting : Option Facts) (before after : Generator) where
   -- a step that holds no statement is carried out
@@ -78,13 +117,25 @@ module _ (body : Body) (waiting : Option Facts) (before after : Generator) where
         list = adds.emits.list;
         writes = subst (λ (to : Emission). Writes before.emission.writer to.writer adds.emits.list) same
             adds.emits.writes;
-        followed = λ called others more last wider rest.
-            StepCarriedOut alone
-            (are_kept (subst (λ (to : Emission). HasAll to.is_called.items called) (sym same) wider)
-            adds.emits.written)
-            (subst (λ here. AreCarriedOut body called here (waiting_after (here_of before) waiting step) others more last)
+        followed = λ called others more last next wider rest.
+            let kept : HasAll written.is_called.items called =
+            subst (λ (to : Emission). HasAll to.is_called.items called) (sym same) wider in
+            let left : LabelledSteps body called (here_after (here_of before) waiting written.facts step)
+            (waiting_after (here_of before) waiting step) others more last written.steps.labels next =
+            subst (λ here. LabelledSteps body called here (waiting_after (here_of before) waiting step) others more last
+            written.steps.labels next)
             adds.here
-            (subst (λ at. AreCarriedOut body called (here_of after) at others more last) adds.waiting_is rest));
+            (subst (λ at. LabelledSteps body called (here_of after) at others more last written.steps.labels next)
+            adds.waiting_is
+            (subst (λ (to : Emission). LabelledSteps body called (here_of after) waits others more last to.steps.labels
+            next) (sym same) rest)) in
+            (StepCarriedOut alone (are_kept kept adds.emits.written) left.0,
+            (
+              written.steps.labels,
+              are_labels_kept called kept before.emission.steps.labels written.steps.labels adds.emits.written
+              adds.emits.labels,
+              left.1,
+            ));
         called = subst (λ (to : Emission). HasAll before.emission.is_called.items to.is_called.items) same
             adds.emits.called;
         notes =
@@ -110,8 +161,10 @@ module _ (body : Body) (waiting : Option Facts) (before after : Generator) where
   statement_carried number adds plan = record {
     list = adds.list;
     writes = adds.writes;
-    followed = λ called others more last wider rest.
-        StatementCarriedOut (statement_kept wider adds.written) rest;
+    followed = λ called others more last next wider rest.
+        let first =
+        labelled_statement_kept called wider before.emission.steps.labels after.emission.steps.labels adds.written in
+        (StatementCarriedOut first.0 rest.0, (after.emission.steps.labels, first.1, rest.1));
     called = adds.called;
     notes = adds.notes;
     plan = plan;
@@ -125,8 +178,10 @@ module _ (body : Body) (waiting : Option Facts) (before after : Generator) where
   list_carried list adds plan = record {
     list = adds.list;
     writes = adds.writes;
-    followed = λ called others more last wider rest.
-        ListCarriedOut (list_kept wider adds.written) rest;
+    followed = λ called others more last next wider rest.
+        let first =
+        labelled_list_kept called wider before.emission.steps.labels after.emission.steps.labels adds.written in
+        (ListCarriedOut first.0 rest.0, (after.emission.steps.labels, first.1, rest.1));
     called = adds.called;
     notes = adds.notes;
     plan = plan;
@@ -155,10 +210,12 @@ pub record IsCarrying
     (body : Body) (before now : Generator) (waiting : Option Facts) (start index : ℕ) : Type 0 where
   pub list : List Item
   pub writes : Writes before.emission.writer now.emission.writer list
-  pub left : (called : List Bool) (more : List Item) (last : Here)
+  pub left : (called : List Bool) (more : List Item) (last : Here) (next : ℕ)
       → HasAll now.emission.is_called.items called
-      → AreCarriedOut body called (here_of now) waiting (drop index now.plan.list.items) more last
-      → AreCarriedOut body called (here_of before) None (drop start before.plan.list.items) (list ++ more) last
+      → LabelledSteps body called (here_of now) waiting (drop index now.plan.list.items) more last
+      now.emission.steps.labels next
+      → LabelledSteps body called (here_of before) None (drop start before.plan.list.items) (list ++ more) last
+      before.emission.steps.labels next
   pub called : HasAll before.emission.is_called.items now.emission.is_called.items
   pub notes : NotesCalled body.tree.now before.emission.is_called.items now.emission.is_called.items list
   pub plan : now.plan.list.items ≡ before.plan.list.items
@@ -168,7 +225,7 @@ pub carrying_begins : (body : Body) (before : Generator) (start : ℕ)
 carrying_begins body before start = record {
   list = [];
   writes = writes_nothing before.emission.writer;
-  left = λ called more last wider rest. rest;
+  left = λ called more last next wider rest. rest;
   called = has_itself before.emission.is_called.items;
   notes = λ routine given. inl given;
   plan = refl;
@@ -186,15 +243,18 @@ module _ (body : Body) (before now : Generator) (waiting : Option Facts) (start 
         list = so_far.list ++ carries.list;
         writes = writes_then before.emission.writer now.emission.writer next.emission.writer so_far.list
             carries.list so_far.writes carries.writes;
-        left = λ called more last wider rest.
-            subst (λ all. AreCarriedOut body called (here_of before) None (drop start before.plan.list.items) all last)
+        left = λ called more last end wider rest.
+            subst (λ all. LabelledSteps body called (here_of before) None (drop start before.plan.list.items) all last
+            before.emission.steps.labels end)
             (sym (append_assoc so_far.list carries.list more))
-            (so_far.left called (carries.list ++ more) last
+            (so_far.left called (carries.list ++ more) last end
             (λ routine given. wider routine (carries.called routine given))
-            (subst (λ left. AreCarriedOut body called (here_of now) waiting left (carries.list ++ more) last)
+            (subst (λ left. LabelledSteps body called (here_of now) waiting left (carries.list ++ more) last
+            now.emission.steps.labels end)
             (sym (left_is steps index step is))
-            (carries.followed called (drop (index + 1) steps) more last wider
-            (subst (λ at. AreCarriedOut body called (here_of next) waits (drop (index + 1) at) more last)
+            (carries.followed called (drop (index + 1) steps) more last end wider
+            (subst (λ at. LabelledSteps body called (here_of next) waits (drop (index + 1) at) more last
+            next.emission.steps.labels end)
             carries.plan rest))));
         called = λ routine given. carries.called routine (so_far.called routine given);
         notes =
@@ -210,9 +270,9 @@ module _ (body : Body) (before now : Generator) (waiting : Option Facts) (start 
   none_passed so_far none = record {
     list = so_far.list;
     writes = so_far.writes;
-    left = λ called more last wider rest.
-        so_far.left called more last wider
-        (subst (λ left. AreCarriedOut body called (here_of now) waiting left more last)
+    left = λ called more last next wider rest.
+        so_far.left called more last next wider
+        (subst (λ left. LabelledSteps body called (here_of now) waiting left more last now.emission.steps.labels next)
         (sym (none_is now.plan.list.items index none)) rest);
     called = so_far.called;
     notes = so_far.notes;
@@ -230,21 +290,23 @@ module _ (body : Body) (before now : Generator) (waiting : Option Facts) (start 
       let steps : List Planned = drop start before.plan.list.items in
       let none : drop index now.plan.list.items ≡ [] =
       drop_all index now.plan.list.items (omega (arith, ap length so_far.plan, done)) in
-      let written : AreCarriedOut body called (here_of before) None steps so_far.list (here_of now) =
-      subst (λ all. AreCarriedOut body called (here_of before) None steps all (here_of now))
+      let label : ℕ = before.emission.steps.labels in
+      let next : ℕ = now.emission.steps.labels in
+      let written : LabelledSteps body called (here_of before) None steps so_far.list (here_of now) label next =
+      subst (λ all. LabelledSteps body called (here_of before) None steps all (here_of now) label next)
       (append-nil so_far.list)
-      (so_far.left called [] (here_of now) (has_itself called)
-      (subst (λ left. AreCarriedOut body called (here_of now) waiting left [] (here_of now)) (sym none)
-      NoneCarriedOut)) in
+      (so_far.left called [] (here_of now) next (has_itself called)
+      (subst (λ left. LabelledSteps body called (here_of now) waiting left [] (here_of now) next next) (sym none)
+      (NoneCarriedOut, refl))) in
       record {
         list = so_far.list;
         writes = subst (λ (to : Emission). Writes before.emission.writer to.writer so_far.list) (sym emission)
             so_far.writes;
         written =
-            subst (λ goes. AreCarriedOut body after.emission.is_called.items (here_of before) None steps so_far.list
-            (record { facts = after.emission.facts; goes_on = goes })) (sym goes_on)
-            (subst (λ (to : Emission). AreCarriedOut body to.is_called.items (here_of before) None steps so_far.list
-            (record { facts = to.facts; goes_on = now.goes_on })) (sym emission) written);
+            subst (λ goes. LabelledSteps body after.emission.is_called.items (here_of before) None steps so_far.list
+            (record { facts = after.emission.facts; goes_on = goes }) label after.emission.steps.labels) (sym goes_on)
+            (subst (λ (to : Emission). LabelledSteps body to.is_called.items (here_of before) None steps so_far.list
+            (record { facts = to.facts; goes_on = now.goes_on }) label to.steps.labels) (sym emission) written);
         called = subst (λ (to : Emission). HasAll before.emission.is_called.items to.is_called.items) (sym emission)
             so_far.called;
         notes =
@@ -255,60 +317,73 @@ module _ (body : Body) (before now : Generator) (waiting : Option Facts) (start 
       }
 
 -- a statement is carried out by the steps that are planned for it
-pub statement_added : (body : Body) (number : StatementNumber) (statement : TreeStatement) (label : ℕ)
+pub statement_added : (body : Body) (number : StatementNumber) (statement : TreeStatement)
     (before ready after : Generator)
     → slice_get body.tree.now.statements.items number.index ≡ Some statement
     → ready.emission ≡ record (before.emission) { steps = ready.emission.steps }
+    → ready.emission.steps.labels ≡ label_after before.emission.steps.labels
+    (statement_labels body (knowing (site_of body) before.emission.facts) statement)
     → ready.goes_on ≡ true
     → ready.plan.list.items ≡ before.plan.list.items
-    ++ statement_steps body (knowing (site_of body) before.emission.facts) statement label
+    ++ statement_steps body (knowing (site_of body) before.emission.facts) statement before.emission.steps.labels
     → AddsPlanned body (drop (length before.plan.list.items) ready.plan.list.items) ready after
     → AddsStatement body number before after
-statement_added body number statement label before ready after at emission goes_on plan adds =
+statement_added body number statement before ready after at emission labels goes_on plan adds =
+    let label : ℕ = before.emission.steps.labels in
+    let next : ℕ = after.emission.steps.labels in
     let steps : List Planned = statement_steps body (knowing (site_of body) before.emission.facts) statement label in
     let called : List Bool = after.emission.is_called.items in
     let left : drop (length before.plan.list.items) ready.plan.list.items ≡ steps =
     ap (drop (length before.plan.list.items)) plan
     ∙ drop_at before.plan.list.items steps (length before.plan.list.items) refl in
-    let written : AreCarriedOut body called (here_of ready) None steps adds.list (here_of after) =
-    subst (λ all. AreCarriedOut body called (here_of ready) None all adds.list (here_of after)) left adds.written in
+    let here : Here = record { facts = before.emission.facts; goes_on = true } in
+    let from : ℕ =
+    label_after label (statement_labels body (knowing (site_of body) before.emission.facts) statement) in
+    let written : LabelledSteps body called here None steps adds.list (here_of after) from next =
+    subst (λ first. LabelledSteps body called here None steps adds.list (here_of after) first next) labels
+    (subst (λ (from : Emission). LabelledSteps body called (record { facts = from.facts; goes_on = true }) None
+    steps adds.list (here_of after) ready.emission.steps.labels next) emission
+    (subst (λ goes. LabelledSteps body called (record { facts = ready.emission.facts; goes_on = goes }) None
+    steps adds.list (here_of after) ready.emission.steps.labels next) goes_on
+    (subst (λ all. LabelledSteps body called (here_of ready) None all adds.list (here_of after)
+    ready.emission.steps.labels next) left adds.written))) in
     record {
       list = adds.list;
       writes = subst (λ (from : Emission). Writes from.writer after.emission.writer adds.list) emission adds.writes;
-      written = StatementPlanned label at
-          (subst (λ (from : Emission). AreCarriedOut body called (record { facts = from.facts; goes_on = true }) None
-          steps adds.list (here_of after)) emission
-          (subst (λ goes. AreCarriedOut body called (record { facts = ready.emission.facts; goes_on = goes }) None
-          steps adds.list (here_of after)) goes_on written));
+      written = (StatementPlanned label at written.0, (refl, written.1));
       called = subst (λ (from : Emission). HasAll from.is_called.items called) emission adds.called;
       notes = subst (λ (from : Emission). NotesCalled body.tree.now from.is_called.items called adds.list) emission
           adds.notes;
     }
 
-pub statement_added_if : (body : Body) (number : StatementNumber) (statement : TreeStatement) (label start : ℕ)
+pub statement_added_if : (body : Body) (number : StatementNumber) (statement : TreeStatement) (start : ℕ)
     (before ready after : Generator) {E : Type 0} (result : Result (Unit {0}) E)
     → slice_get body.tree.now.statements.items number.index ≡ Some statement
     → ready.emission ≡ record (before.emission) { steps = ready.emission.steps }
+    → ready.emission.steps.labels ≡ label_after before.emission.steps.labels
+    (statement_labels body (knowing (site_of body) before.emission.facts) statement)
     → ready.goes_on ≡ true
     → ready.plan.list.items ≡ before.plan.list.items
-    ++ statement_steps body (knowing (site_of body) before.emission.facts) statement label
+    ++ statement_steps body (knowing (site_of body) before.emission.facts) statement before.emission.steps.labels
     → start ≡ length before.plan.list.items
     → OnOk result (AddsPlanned body (drop start ready.plan.list.items) ready after)
     → OnOk result (AddsStatement body number before after)
-statement_added_if body number statement label start before ready after (Ok done) at emission goes_on plan begins adds =
-    statement_added body number statement label before ready after at emission goes_on plan
+statement_added_if body number statement start before ready after (Ok done) at emission labels goes_on plan begins adds =
+    statement_added body number statement before ready after at emission labels goes_on plan
     (subst (λ from. AddsPlanned body (drop from ready.plan.list.items) ready after) begins adds)
-statement_added_if body number statement label start before ready after (Err fault) at emission goes_on plan begins adds =
+statement_added_if body number statement start before ready after (Err fault) at emission labels goes_on plan begins
+    adds =
     adds
 
 -- The statements of a list are being written; those from an index on are left.
 pub record IsListing (body : Body) (range : Range) (before now : Generator) (index : ℕ) : Type 0 where
   pub list : List Item
   pub writes : Writes before.emission.writer now.emission.writer list
-  pub left : (called : List Bool) (more : List Item) (last : Here)
+  pub left : (called : List Bool) (more : List Item) (last : Here) (next : ℕ)
       → HasAll now.emission.is_called.items called
-      → AreAllCarriedOut body called (here_of now) (range.first + index) (range.count - index) more last
-      → IsListCarriedOut body called before.emission.facts range (list ++ more) last
+      → LabelledStatements body called (here_of now) (range.first + index) (range.count - index) more last
+      now.emission.steps.labels next
+      → LabelledList body called before.emission.facts range (list ++ more) last before.emission.steps.labels next
   pub called : HasAll before.emission.is_called.items now.emission.is_called.items
   pub notes : NotesCalled body.tree.now before.emission.is_called.items now.emission.is_called.items list
   pub plan : now.plan.list.items ≡ before.plan.list.items
@@ -321,12 +396,15 @@ module _ (body : Body) (range : Range) (before now : Generator) where
       subst (λ (to : Generator). IsListing body range before to 0) (sym same) (record {
         list = [];
         writes = writes_nothing before.emission.writer;
-        left = λ called more last wider rest.
-            ListPlanned
-            (subst (λ at. AreAllCarriedOut body called (record { facts = before.emission.facts; goes_on = true }) at
-            range.count more last) first
-            (subst (λ at. AreAllCarriedOut body called (record { facts = before.emission.facts; goes_on = true })
-            (range.first + 0) at more last) count rest));
+        left = λ called more last next wider rest.
+            let label : ℕ = before.emission.steps.labels in
+            let all : LabelledStatements body called (record { facts = before.emission.facts; goes_on = true })
+            range.first range.count more last label next =
+            subst (λ at. LabelledStatements body called (record { facts = before.emission.facts; goes_on = true }) at
+            range.count more last label next) first
+            (subst (λ at. LabelledStatements body called (record { facts = before.emission.facts; goes_on = true })
+            (range.first + 0) at more last label next) count rest) in
+            (ListPlanned all.0, all.1);
         called = has_itself before.emission.is_called.items;
         notes = λ routine given. inl given;
         plan = refl;
@@ -346,16 +424,22 @@ module _ (body : Body) (range : Range) (before now : Generator) where
           list = so_far.list ++ adds.list;
           writes = writes_then before.emission.writer now.emission.writer next.emission.writer so_far.list
               adds.list so_far.writes adds.writes;
-          left = λ called more last wider rest.
-              subst (λ all. IsListCarriedOut body called before.emission.facts range all last)
+          left = λ called more last end wider rest.
+              let first =
+              labelled_statement_kept called wider now.emission.steps.labels next.emission.steps.labels adds.written in
+              let others : LabelledStatements body called (here_of next) (suc (range.first + index))
+              (range.count - (index + 1)) more last next.emission.steps.labels end =
+              subst (λ first. LabelledStatements body called (here_of next) first (range.count - (index + 1)) more last
+              next.emission.steps.labels end)
+              following rest in
+              subst (λ all. LabelledList body called before.emission.facts range all last before.emission.steps.labels
+              end)
               (sym (append_assoc so_far.list adds.list more))
-              (so_far.left called (adds.list ++ more) last
+              (so_far.left called (adds.list ++ more) last end
               (λ routine given. wider routine (adds.called routine given))
-              (subst (λ count. AreAllCarriedOut body called (here_of now) (range.first + index) count
-              (adds.list ++ more) last) (sym one_more)
-              (MoreStatements at (statement_kept wider adds.written)
-              (subst (λ first. AreAllCarriedOut body called (here_of next) first (range.count - (index + 1)) more last)
-              following rest))));
+              (subst (λ count. LabelledStatements body called (here_of now) (range.first + index) count
+              (adds.list ++ more) last now.emission.steps.labels end) (sym one_more)
+              (MoreStatements at first.0 others.0, (next.emission.steps.labels, first.1, others.1))));
           called = λ routine given. adds.called routine (so_far.called routine given);
           notes =
               notes_then body.tree.now before.emission.is_called.items now.emission.is_called.items
@@ -366,16 +450,19 @@ module _ (body : Body) (range : Range) (before now : Generator) where
     pub listing_ends : range.count ≤ index → AddsList body range before now
     listing_ends done =
         let called : List Bool = now.emission.is_called.items in
+        let next : ℕ = now.emission.steps.labels in
         let none : range.count - index ≡ 0 = omega (arith, done) in
         record {
           list = so_far.list;
           writes = so_far.writes;
           written =
-              subst (λ all. IsListCarriedOut body called before.emission.facts range all (here_of now))
+              subst (λ all. LabelledList body called before.emission.facts range all (here_of now)
+              before.emission.steps.labels next)
               (append-nil so_far.list)
-              (so_far.left called [] (here_of now) (has_itself called)
-              (subst (λ count. AreAllCarriedOut body called (here_of now) (range.first + index) count [] (here_of now))
-              (sym none) NoStatements));
+              (so_far.left called [] (here_of now) next (has_itself called)
+              (subst (λ count. LabelledStatements body called (here_of now) (range.first + index) count [] (here_of now)
+              next next)
+              (sym none) (NoStatements, refl)));
           called = so_far.called;
           notes = so_far.notes;
         }

@@ -11,16 +11,20 @@ use Rattle.treecode.specs.declared.procedure.ProcedureKind.{ProcedureKind}
 use Rattle.treecode.specs.declared.procedure.ProcedureKind.TheVariants as kinds
 use Rattle.treecode.specs.declared.procedure.TreeProcedure.{TreeProcedure}
 use Rattle.steps8080.specs.Externals.{Extends, entry}
+use Rattle.steps8080.specs.Facts.{no_facts}
+use Rattle.steps8080.specs.Step.{label_after}
 use Rattle.steps8080.specs.Writer.{Written, Writes, in_front}
 use Rattle.steps8080.proofs.Numbered.{items_stay, writes_nothing, writes_then}
 use Rattle.exprgen8080.specs.Emission.{has_routine, index_of_routine, module_routine_label}
 use Rattle.exprgen8080.specs.Emitted.{HasAll, IsEmpty, NotesCalled}
 use Rattle.exprgen8080.proofs.Emitting.{has_itself, none_noted, notes_then}
 use Rattle.codegen8080.specs.declared.generator.Generator.{Generator}
-use Rattle.codegen8080.specs.Modules.{AreCodeOf, AreRoutines, IsCodeOf, IsCodeOfMain, IsCodeOfRoutine, IsCodeWritten, IsProcedureCode, all_routines, content_items, contents_items, has_main}
-use Rattle.codegen8080.specs.internal.Bodies.{AddsCalled, AddsCodeOfMain, AddsMain, AddsOwnCode, AddsProcedure, AddsProcedures, AddsRoutineIf, AddsRoutines}
+use Rattle.codegen8080.specs.Labelled.{LabelledList, LabelledSteps}
+use Rattle.codegen8080.specs.Modules.{AreRoutines, IsCodeOfRoutine, IsCodeWritten, IsMainCode, IsMainLabelled, IsOwnCode, IsProcedureCode, IsProcedureLabelled, all_routines, content_items, contents_items, has_main}
+use Rattle.codegen8080.specs.Procedures.{entry_labels, entry_steps}
+use Rattle.codegen8080.specs.internal.Bodies.{AddsCalled, AddsCodeOfMain, AddsMain, AddsOwnCode, AddsProcedure, AddsProcedures, AddsRoutineIf, AddsRoutines, LabelledCode, LabelledCodeOfMain, LabelledEnd, LabelledProcedure, LabelledProcedures}
 use Rattle.codegen8080.proofs.BodyParts.{end_kept}
-use Rattle.codegen8080.proofs.Driving.{all_kept, list_kept}
+use Rattle.codegen8080.proofs.Driving.{labelled_list_kept, labelled_steps_kept}
 
 -- all of a list are as many as it has
 pub take_all : {A : Type 0} (list : List A) (count : ℕ) → count ≡ length list → take count list ≡ list
@@ -72,58 +76,90 @@ putting_ends before now whole putting =
 
 -- The code of a procedure where more routines are called.
 module _ (tree : TreeModule) (called wider : List Bool) (more : HasAll called wider) where
-  own_kept : (number : ℕ) (procedure : TreeProcedure) (list : List Item)
-      → IsProcedureCode tree called number procedure list
-      → IsProcedureCode tree wider number procedure list
-  own_kept number procedure list is = record {
-    body = is.body;
-    tree_is = is.tree_is;
-    procedure_is = is.procedure_is;
-    frame = is.frame;
-    first = is.first;
-    beginning = is.beginning;
-    statements = is.statements;
-    ending = is.ending;
-    entered = is.entered;
-    last = is.last;
-    begins = all_kept more is.begins;
-    written = list_kept more is.written;
-    ends = end_kept is.body called wider is.last procedure.reaches_its_end is.ending more is.ends;
-    list_is = is.list_is;
-  }
+  own_kept : (number : ℕ) (procedure : TreeProcedure) (list : List Item) (label next : ℕ)
+      → LabelledProcedure tree called number procedure list label next
+      → LabelledProcedure tree wider number procedure list label next
+  own_kept number procedure list label next both =
+      let is : IsProcedureCode tree called number procedure list = both.0 in
+      let labels : IsProcedureLabelled is label next = both.1 in
+      let begins : LabelledSteps is.body wider (record { facts = no_facts; goes_on = true }) None
+      (entry_steps is.body is.first) is.beginning is.entered (label_after is.first (entry_labels is.body)) labels.begun =
+      labelled_steps_kept wider more (label_after is.first (entry_labels is.body)) labels.begun
+      (is.begins, labels.begins) in
+      let written : LabelledList is.body wider is.entered.facts procedure.body is.statements is.last labels.begun
+      labels.ended =
+      labelled_list_kept wider more labels.begun labels.ended (is.written, labels.written) in
+      let ends : LabelledEnd is.body wider is.last procedure.reaches_its_end is.ending labels.ended next =
+      end_kept is.body called wider is.last procedure.reaches_its_end is.ending labels.ended next more
+      (is.ends, labels.ends) in
+      let code : IsProcedureCode tree wider number procedure list = record {
+        body = is.body;
+        tree_is = is.tree_is;
+        procedure_is = is.procedure_is;
+        frame = is.frame;
+        first = is.first;
+        beginning = is.beginning;
+        statements = is.statements;
+        ending = is.ending;
+        entered = is.entered;
+        last = is.last;
+        begins = begins.0;
+        written = written.0;
+        ends = ends.0;
+        list_is = is.list_is;
+      } in
+      (
+        code,
+        record {
+          begun = labels.begun;
+          ended = labels.ended;
+          named = labels.named;
+          first = labels.first;
+          begins = begins.1;
+          written = written.1;
+          ends = ends.1;
+        },
+      )
 
-  kind_kept : (number : ℕ) (procedure : TreeProcedure) (kind : ProcedureKind) (list : List Item)
-      → IsCodeOf tree called number procedure kind list
-      → IsCodeOf tree wider number procedure kind list
-  kind_kept number procedure (kinds.External name) list is = is
-  kind_kept number procedure kinds.Static list is = own_kept number procedure list is
-  kind_kept number procedure kinds.Reentrant list is = own_kept number procedure list is
+  kind_kept : (number : ℕ) (procedure : TreeProcedure) (kind : ProcedureKind) (list : List Item) (label next : ℕ)
+      → LabelledCode tree called number procedure kind list label next
+      → LabelledCode tree wider number procedure kind list label next
+  kind_kept number procedure (kinds.External name) list label next is = is
+  kind_kept number procedure kinds.Static list label next is = own_kept number procedure list label next is
+  kind_kept number procedure kinds.Reentrant list label next is = own_kept number procedure list label next is
 
   -- and that of a main program
-  main_kept : (start : ℕ) (is_there : Bool) (list : List Item)
-      → IsCodeOfMain tree called start is_there list
-      → IsCodeOfMain tree wider start is_there list
-  main_kept start true list is = record {
-    body = is.body;
-    tree_is = is.tree_is;
-    procedure_is = is.procedure_is;
-    frame = is.frame;
-    statements = is.statements;
-    last = is.last;
-    written = list_kept more is.written;
-    list_is = is.list_is;
-  }
-  main_kept start false list is = is
+  main_kept : (start : ℕ) (is_there : Bool) (list : List Item) (label next : ℕ)
+      → LabelledCodeOfMain tree called start is_there list label next
+      → LabelledCodeOfMain tree wider start is_there list label next
+  main_kept start true list label next both =
+      let is : IsMainCode tree called start list = both.0 in
+      let labels : IsMainLabelled is label next = both.1 in
+      let written : LabelledList is.body wider no_facts tree.main.body is.statements is.last
+      (label_after label tree.main.label_count) next =
+      labelled_list_kept wider more (label_after label tree.main.label_count) next (is.written, labels.written) in
+      let code : IsMainCode tree wider start list = record {
+        body = is.body;
+        tree_is = is.tree_is;
+        procedure_is = is.procedure_is;
+        frame = is.frame;
+        statements = is.statements;
+        last = is.last;
+        written = written.0;
+        list_is = is.list_is;
+      } in
+      (code, record { named = labels.named; written = written.1 })
+  main_kept start false list label next is = is
 
 -- Procedures are being added; some are left, of which the first has this number.
 pub record AreBeingPut
     (tree : TreeModule) (before now : Generator) (number : ℕ) (whole left : List TreeProcedure) : Type 0 where
   pub list : List Item
   pub writes : Writes before.emission.writer now.emission.writer list
-  pub left_is : (called : List Bool) (more : List Item)
+  pub left_is : (called : List Bool) (more : List Item) (next : ℕ)
       → HasAll now.emission.is_called.items called
-      → AreCodeOf tree called number left more
-      → AreCodeOf tree called 0 whole (list ++ more)
+      → LabelledProcedures tree called number left more now.emission.steps.labels next
+      → LabelledProcedures tree called 0 whole (list ++ more) before.emission.steps.labels next
   pub called : HasAll before.emission.is_called.items now.emission.is_called.items
   pub notes : NotesCalled tree before.emission.is_called.items now.emission.is_called.items list
 
@@ -133,7 +169,7 @@ pub procedures_begin :
 procedures_begin tree before whole = record {
   list = [];
   writes = writes_nothing before.emission.writer;
-  left_is = λ called more wider rest. rest;
+  left_is = λ called more next wider rest. rest;
   called = has_itself before.emission.is_called.items;
   notes = λ routine given. inl given;
 }
@@ -149,16 +185,19 @@ procedures_go_on tree before now next number following whole procedure others fo
   list = putting.list ++ adds.list;
   writes = writes_then before.emission.writer now.emission.writer next.emission.writer putting.list adds.list
       putting.writes adds.writes;
-  left_is = λ called more wider rest.
-      subst (AreCodeOf tree called 0 whole) (sym (append_assoc putting.list adds.list more))
-      (putting.left_is called (adds.list ++ more)
-      (λ routine given. wider routine (adds.called routine given)) (
-        adds.list,
-        more,
-        kind_kept tree next.emission.is_called.items called wider number procedure procedure.kind adds.list adds.written,
-        subst (λ at. AreCodeOf tree called at others more) (follows ∙ add-one number) rest,
-        refl,
-      ));
+  left_is = λ called more end wider rest.
+      let label : ℕ = now.emission.steps.labels in
+      let middle : ℕ = next.emission.steps.labels in
+      let first : LabelledCode tree called number procedure procedure.kind adds.list label middle =
+      kind_kept tree next.emission.is_called.items called wider number procedure procedure.kind adds.list label middle
+      adds.written in
+      let left : LabelledProcedures tree called (suc number) others more middle end =
+      subst (λ at. LabelledProcedures tree called at others more middle end) (follows ∙ add-one number) rest in
+      subst (λ all. LabelledProcedures tree called 0 whole all before.emission.steps.labels end)
+      (sym (append_assoc putting.list adds.list more))
+      (putting.left_is called (adds.list ++ more) end
+      (λ routine given. wider routine (adds.called routine given))
+      ((adds.list, more, first.0, left.0, refl), (middle, first.1, left.1)));
   called = λ routine given. adds.called routine (putting.called routine given);
   notes =
       notes_then tree before.emission.is_called.items now.emission.is_called.items next.emission.is_called.items
@@ -188,8 +227,12 @@ procedures_end tree before now number whole putting = record {
   list = putting.list;
   writes = putting.writes;
   written =
-      subst (AreCodeOf tree now.emission.is_called.items 0 whole) (append-nil putting.list)
-      (putting.left_is now.emission.is_called.items [] (has_itself now.emission.is_called.items) refl);
+      subst
+      (λ all. LabelledProcedures tree now.emission.is_called.items 0 whole all before.emission.steps.labels
+      now.emission.steps.labels)
+      (append-nil putting.list)
+      (putting.left_is now.emission.is_called.items [] now.emission.steps.labels
+      (has_itself now.emission.is_called.items) (refl, refl));
   called = putting.called;
   notes = putting.notes;
 }
@@ -214,8 +257,10 @@ main_there tree start before after (Ok done) there adds = record {
   list = adds.list;
   writes = adds.writes;
   written =
-      subst (λ is_there. IsCodeOfMain tree after.emission.is_called.items start is_there adds.list) (sym there)
-      adds.written;
+      subst
+      (λ is_there. LabelledCodeOfMain tree after.emission.is_called.items start is_there adds.list
+      before.emission.steps.labels after.emission.steps.labels)
+      (sym there) adds.written;
   called = adds.called;
   notes = adds.notes;
 }
@@ -228,7 +273,10 @@ no_main_there tree start before none = record {
   list = [];
   writes = writes_nothing before.emission.writer;
   written =
-      subst (λ is_there. IsCodeOfMain tree before.emission.is_called.items start is_there []) (sym none) refl;
+      subst
+      (λ is_there. LabelledCodeOfMain tree before.emission.is_called.items start is_there []
+      before.emission.steps.labels before.emission.steps.labels)
+      (sym none) (refl, refl);
   called = has_itself before.emission.is_called.items;
   notes = λ routine given. inl given;
 }
@@ -238,25 +286,45 @@ pub own_code_added :
     (tree : TreeModule) (start : ℕ) (before ready between after : Generator)
     → Writes before.emission.writer ready.emission.writer (contents_items tree.constants.items)
     → ready.emission.is_called ≡ before.emission.is_called
+    → start ≡ before.emission.steps.labels
+    → ready.emission.steps.labels ≡ label_after before.emission.steps.labels 1
     → AddsCodeOfMain tree start ready between
     → AddsProcedures tree 0 tree.procedures.items between after
     → AddsOwnCode tree start before after
-own_code_added tree start before ready between after constants same main procedures = record {
+own_code_added tree start before ready between after constants same start_is taken main procedures =
+  let begun : ℕ = between.emission.steps.labels in
+  let next : ℕ = after.emission.steps.labels in
+  let kept : LabelledCodeOfMain tree after.emission.is_called.items start (has_main tree) main.list
+  (label_after start 1) begun =
+  main_kept tree between.emission.is_called.items after.emission.is_called.items procedures.called start
+  (has_main tree) main.list (label_after start 1) begun
+  (subst
+  (λ at. LabelledCodeOfMain tree between.emission.is_called.items start (has_main tree) main.list at begun)
+  (taken ∙ ap (λ at. label_after at 1) (sym start_is)) main.written) in
+  let code : IsOwnCode tree after.emission.is_called.items start
+  (contents_items tree.constants.items ++ (main.list ++ procedures.list)) = record {
+    main = main.list;
+    procedures = procedures.list;
+    main_is = kept.0;
+    procedures_are = procedures.written.0;
+    list_is = refl;
+  } in
+  record {
   list = contents_items tree.constants.items ++ (main.list ++ procedures.list);
   writes =
       writes_then before.emission.writer ready.emission.writer after.emission.writer
       (contents_items tree.constants.items) (main.list ++ procedures.list) constants
       (writes_then ready.emission.writer between.emission.writer after.emission.writer main.list procedures.list
       main.writes procedures.writes);
-  written = record {
-    main = main.list;
-    procedures = procedures.list;
-    main_is =
-        main_kept tree between.emission.is_called.items after.emission.is_called.items procedures.called start
-        (has_main tree) main.list main.written;
-    procedures_are = procedures.written;
-    list_is = refl;
-  };
+  written = (
+    code,
+    λ given. record {
+      begun = begun;
+      start_is = start_is ∙ given;
+      main = kept.1;
+      procedures = procedures.written.1;
+    },
+  );
   called =
       subst (λ table. HasAll table after.emission.is_called.items)
       (ap (λ (flags : _). flags.items) same)
@@ -464,7 +532,9 @@ code_written tree start before between called written after none own called_is w
       own = own.list;
       made = own.writes.made;
       listed = routines.list;
-      own_is = own.written;
+      own_is = own.written.0;
+      next_label = between.emission.steps.labels;
+      labels = own.written.1 none.labels;
       same =
           items_stay between.emission.writer after own.list own.writes.made routines.labels routines.externals
           own.writes.same;

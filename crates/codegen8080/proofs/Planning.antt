@@ -3,6 +3,7 @@ use Rattle.std.proofs.Common.{◌≡◌, ℕ, suc, ◌+◌, ◌-◌, ◌<◌, �
 use Rattle.std.specs.Prelude.{min}
 use Rattle.treecode.specs.declared.procedure.Parameter.{Parameter}
 use Rattle.steps8080.specs.declared.facts.Facts.{Facts}
+use Rattle.steps8080.specs.Step.{label_after}
 use Rattle.statements8080.specs.declared.plan.Plan.{Plan}
 use Rattle.statements8080.specs.declared.plan.Planned.{Planned}
 use Rattle.statements8080.specs.Plans.{PlanAdds, PlanAddsWithLabels}
@@ -22,6 +23,16 @@ none_taken before after list adds = record {
   where
     add_none : (n : ℕ) → n + 0 ≡ n
     add_none n = omega arith
+
+-- the first label that is not taken is the next one
+pub next_is_free : (labels : ℕ) → labels < 4294967296 → label_after labels 0 ≡ labels
+next_is_free labels few = omega (arith, few)
+
+-- labels that a plan takes from that one on are taken
+pub labels_are_taken : (labels taken count : ℕ)
+    → min taken 4294967295 ≡ min (0 + count) 4294967295
+    → label_after (label_after labels 0) taken ≡ label_after labels count
+labels_are_taken labels taken count same = omega (arith, same)
 
 module _ (parameters : List Parameter) where
   popped_more : (left : ℕ) → 0 < left

@@ -12,19 +12,21 @@ use Rattle.statements8080.specs.declared.body.Body.{Body}
 use Rattle.statements8080.specs.declared.plan.Planned.{Planned}
 use Rattle.codegen8080.specs.declared.generator.Generator.{Generator}
 use Rattle.codegen8080.specs.declared.meeting.Here.{Here}
-use Rattle.codegen8080.specs.Generated.{AreCarriedOut, IsCarriedOut, IsListCarriedOut, carried_steps, here_after, site_of, waiting_after}
+use Rattle.codegen8080.specs.Generated.{carried_steps, here_after, site_of, waiting_after}
+use Rattle.codegen8080.specs.Labelled.{LabelledList, LabelledStatement, LabelledSteps}
 
 -- where the code of a generator ends
 abbrev pub here_of : Generator → Here
 here_of generator = record { facts = generator.emission.facts; goes_on = generator.goes_on }
 
--- Items of a module are added that are code of some kind, by the routines that are called.
+-- Items of a module are added that are code of some kind, by the routines that are called and by the labels that it takes.
 pub record AddsCode
-    (tree : TreeModule) (IsCode : (called : List Bool) → List Item → Type 0) (before after : Generator) :
-    Type 0 where
+    (tree : TreeModule) (IsCode : (called : List Bool) → List Item → (label next : ℕ) → Type 0)
+    (before after : Generator) : Type 0 where
   pub list : List Item
   pub writes : Writes before.emission.writer after.emission.writer list
-  pub written : IsCode after.emission.is_called.items list
+  pub written :
+      IsCode after.emission.is_called.items list before.emission.steps.labels after.emission.steps.labels
   pub called : HasAll before.emission.is_called.items after.emission.is_called.items
   pub notes : NotesCalled tree before.emission.is_called.items after.emission.is_called.items list
 
@@ -32,19 +34,25 @@ pub record AddsCode
 abbrev pub AddsStatement : Body → StatementNumber → (before after : Generator) → Type 0
 AddsStatement body number before after =
     AddsCode body.tree.now
-    (λ called list. IsCarriedOut body called before.emission.facts number list (here_of after)) before after
+    (λ called list label next.
+    LabelledStatement body called before.emission.facts number list (here_of after) label next)
+    before after
 
 -- that of a list
 abbrev pub AddsList : Body → Range → (before after : Generator) → Type 0
 AddsList body range before after =
     AddsCode body.tree.now
-    (λ called list. IsListCarriedOut body called before.emission.facts range list (here_of after)) before after
+    (λ called list label next.
+    LabelledList body called before.emission.facts range list (here_of after) label next)
+    before after
 
 -- that of planned steps
 abbrev pub AddsPlanned : Body → List Planned → (before after : Generator) → Type 0
 AddsPlanned body planned before after =
     AddsCode body.tree.now
-    (λ called list. AreCarriedOut body called (here_of before) None planned list (here_of after)) before after
+    (λ called list label next.
+    LabelledSteps body called (here_of before) None planned list (here_of after) label next)
+    before after
 
 -- the code of a step that holds no statement is added, and what waits after it
 pub record AddsStep

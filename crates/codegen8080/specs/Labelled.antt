@@ -49,3 +49,32 @@ abbrev mutual
   AreAllLabelled NoStatements label next = next ≡ label
   AreAllLabelled (MoreStatements found first others) label next =
       (middle : ℕ) × IsStatementLabelled first label middle × AreAllLabelled others middle next
+
+-- planned steps, a statement, a list and so many statements with these labels
+abbrev pub LabelledSteps :
+    (body : Body) (called : List Bool) (here : Here) (waiting : Option Facts) (list : List Planned)
+    (items : List Item) (last : Here) (label next : ℕ)
+    → Type 0
+LabelledSteps body called here waiting list items last label next =
+    (code : AreCarriedOut body called here waiting list items last) × AreStepsLabelled code label next
+
+abbrev pub LabelledStatement :
+    (body : Body) (called : List Bool) (facts : Facts) (number : StatementNumber) (items : List Item) (last : Here)
+    (label next : ℕ)
+    → Type 0
+LabelledStatement body called facts number items last label next =
+    (code : IsCarriedOut body called facts number items last) × IsStatementLabelled code label next
+
+abbrev pub LabelledList :
+    (body : Body) (called : List Bool) (facts : Facts) (range : Range) (items : List Item) (last : Here)
+    (label next : ℕ)
+    → Type 0
+LabelledList body called facts range items last label next =
+    (code : IsListCarriedOut body called facts range items last) × IsListLabelled code label next
+
+abbrev pub LabelledStatements :
+    (body : Body) (called : List Bool) (here : Here) (first count : ℕ) (items : List Item) (last : Here)
+    (label next : ℕ)
+    → Type 0
+LabelledStatements body called here first count items last label next =
+    (code : AreAllCarriedOut body called here first count items last) × AreAllLabelled code label next

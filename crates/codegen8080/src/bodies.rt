@@ -1,13 +1,13 @@
 //! The code of procedures and of the main program.
 
 ghost use Rattle.std.specs.Prelude.{◌≡◌, ◌++◌, IfOk, OnOk};
-ghost use Rattle.steps8080.specs.Step.{label_after};
+ghost use Rattle.steps8080.specs.Step.{label_after, label_of};
 ghost use Rattle.codegen8080.specs.Modules.{IsFrameOf};
-ghost use Rattle.codegen8080.specs.Procedures.{entry_steps};
+ghost use Rattle.codegen8080.specs.Procedures.{entry_labels, entry_steps};
 ghost use Rattle.codegen8080.specs.internal.Bodies.{AddsEnd, AddsEntry, AddsMain, AddsOwn, AddsProcedure};
 
 use crate::carrying::site_of;
-use crate::generator::Generator;
+use crate::generator::{Generator, hold_labels};
 use crate::procedures::{plan_end, plan_entry};
 use asm8080::WordForm;
 use exprgen8080::{LabelNumber, Step};
@@ -25,7 +25,7 @@ fn frame_of(alloc: Global, procedure: &TreeProcedure) -> Result<FramePlan, Alloc
     frame_plan(alloc, procedure)
 }
 
-// A body with labels of the code for its own.
+// A body with the next labels of the code for its own.
 fn body_of<'a>(
     generator: &mut Generator,
     tree: &'a TreeModule,
@@ -35,6 +35,9 @@ fn body_of<'a>(
     ensures tree { result.tree.now ≡ tree.now }
     ensures procedure { result.procedure.now ≡ procedure.now }
     ensures frame { result.frame.now ≡ frame.now }
+    ensures first { result.first_label ≡ label_of generator.old.emission.steps.labels }
+    ensures labels { generator.new.emission.steps.labels
+        ≡ label_after generator.old.emission.steps.labels procedure.now.label_count }
     ensures emission { generator.new.emission
         ≡ record (generator.old.emission) { steps = generator.new.emission.steps } }
 {
@@ -47,14 +50,18 @@ fn body_of<'a>(
     }
 }
 
-// Plans how a procedure begins, with labels that no other code has.
+// Plans how a procedure begins, with the next labels.
+#[tactic(auto, using(crate::proofs::Planning::next_is_free, crate::proofs::Planning::labels_are_taken))]
 fn plan_next_entry(generator: &mut Generator, body: &Body<'_>) -> Result<(), AllocError>
     ensures plan { OnOk result (generator.new.plan.list.items ≡ generator.old.plan.list.items
-        ++ entry_steps body.now (label_after generator.old.emission.steps.labels 0)) }
+        ++ entry_steps body.now generator.old.emission.steps.labels) }
+    ensures labels { OnOk result (generator.new.emission.steps.labels
+        ≡ label_after generator.old.emission.steps.labels (entry_labels body.now)) }
     ensures emission { generator.new.emission
         ≡ record (generator.old.emission) { steps = generator.new.emission.steps } }
     ensures goes_on { generator.new.goes_on ≡ generator.old.goes_on }
 {
+    hold_labels(generator.emission.steps.labels);
     let first = generator.emission.steps.labels(0);
     generator.plan.take_labels_from(first);
     plan_entry(body, &mut generator.plan)?;

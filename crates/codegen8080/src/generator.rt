@@ -7,7 +7,7 @@ ghost use Rattle.exprgen8080.specs.Emitted.{IsEmpty};
 ghost use Rattle.exprgen8080.specs.Emission.{knowing};
 ghost use Rattle.codegen8080.specs.Driven.{AddsList, AddsPlanned, AddsStatement, AddsStep, here_of};
 ghost use Rattle.codegen8080.specs.Generated.{HoldsNoStatement, site_of};
-ghost use Rattle.codegen8080.specs.Statements.{statement_steps};
+ghost use Rattle.codegen8080.specs.Statements.{statement_labels, statement_steps};
 ghost use Rattle.codegen8080.specs.internal.Carrying.{CarriesOut};
 
 use crate::carrying::{carry, site_of};
@@ -23,6 +23,13 @@ pub(crate) struct Generator {
     pub emission: Emission,
     pub plan: Plan,
     pub goes_on: bool,
+}
+
+// Tells that a number of labels has 32 bits.
+pub(crate) fn hold_labels(labels: u32)
+    ensures { labels < 4294967296 }
+{
+    let _ = labels;
 }
 
 // The statement of an index in a list, which is to number below a bound. Fails where it does not.
@@ -105,15 +112,19 @@ impl Generator {
         Ok(waiting_after(here, waiting, step))
     }
 
-    // Plans a statement, with labels that no other code has.
+    // Plans a statement, with the next labels.
+    #[tactic(auto, using(crate::proofs::Planning::next_is_free, crate::proofs::Planning::labels_are_taken))]
     fn plan_next(&mut self, body: &Body<'_>, statement: Statement) -> Result<(), AllocError>
         ensures plan { OnOk result (self.new.plan.list.items ≡ self.old.plan.list.items
             ++ statement_steps body.now (knowing (site_of body.now) self.old.emission.facts) statement
-            (label_after self.old.emission.steps.labels 0)) }
+            self.old.emission.steps.labels) }
+        ensures labels { OnOk result (self.new.emission.steps.labels ≡ label_after self.old.emission.steps.labels
+            (statement_labels body.now (knowing (site_of body.now) self.old.emission.facts) statement)) }
         ensures emission { self.new.emission
             ≡ record (self.old.emission) { steps = self.new.emission.steps } }
         ensures goes_on { self.new.goes_on ≡ self.old.goes_on }
     {
+        hold_labels(self.emission.steps.labels);
         let site = self.emission.site(&site_of(body));
         let first = self.emission.steps.labels(0);
         self.plan.take_labels_from(first);

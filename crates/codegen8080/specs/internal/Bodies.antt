@@ -1,63 +1,119 @@
 -- What is added for the parts of a module's code.
-use Rattle.std.specs.Prelude.{◌≡◌, ℕ, Bool, true, false, List, [], ◌∷◌, ◌++◌, None, slice_index_or}
+use Rattle.std.specs.Prelude.{◌≡◌, ℕ, Bool, true, false, List, [], ◌∷◌, ◌++◌, None, length, slice_index_or}
 use Rattle.asm8080.specs.declared.item.Item.{Item}
 use Rattle.runtime8080.specs.declared.routine.Routine.{Routine}
 use Rattle.runtime8080.specs.declared.routine.Routine.TheVariants as names
 use Rattle.treecode.specs.declared.module.TreeModule.{TreeModule}
+use Rattle.treecode.specs.declared.procedure.ProcedureKind.{ProcedureKind}
 use Rattle.treecode.specs.declared.procedure.TreeProcedure.{TreeProcedure}
 use Rattle.steps8080.specs.Externals.{Extends}
+use Rattle.steps8080.specs.Step.{label_after}
 use Rattle.steps8080.specs.Writer.{Written, WritesRoutine}
 use Rattle.exprgen8080.specs.Emission.{module_routine_label}
 use Rattle.statements8080.specs.declared.body.Body.{Body}
 use Rattle.codegen8080.specs.declared.generator.Generator.{Generator}
+use Rattle.codegen8080.specs.declared.meeting.Here.{Here}
 use Rattle.codegen8080.specs.Driven.{AddsCode, here_of}
-use Rattle.codegen8080.specs.Generated.{AreCarriedOut}
-use Rattle.codegen8080.specs.Modules.{AreCodeOf, AreRoutines, IsCodeOf, IsCodeOfMain, IsEndCode, IsMainCode, IsOwnCode, IsProcedureCode, has_main}
-use Rattle.codegen8080.specs.Procedures.{entry_steps}
+use Rattle.codegen8080.specs.Labelled.{LabelledSteps}
+use Rattle.codegen8080.specs.Modules.{AreCodeOf, AreProceduresLabelled, AreRoutines, IsCodeLabelled, IsCodeOf, IsCodeOfMain, IsCodeOfMainLabelled, IsEndCode, IsEndLabelled, IsMainCode, IsMainLabelled, IsOwnCode, IsOwnLabelled, IsProcedureCode, IsProcedureLabelled, has_main}
+use Rattle.codegen8080.specs.Procedures.{entry_labels, entry_steps}
 
--- code of the beginning of a procedure, with labels from any number on
+-- the code of the end of a procedure, where it is reached, with these labels
+abbrev pub LabelledEnd :
+    (body : Body) (called : List Bool) (here : Here) (is_reached : Bool) (items : List Item) (label next : ℕ) → Type 0
+LabelledEnd body called here is_reached items label next =
+    (code : IsEndCode body called here is_reached items)
+    × IsEndLabelled body called here is_reached items code label next
+
+-- that of a main program, and where there is one
+abbrev pub LabelledMain :
+    (tree : TreeModule) (called : List Bool) (start : ℕ) (items : List Item) (label next : ℕ) → Type 0
+LabelledMain tree called start items label next =
+    (code : IsMainCode tree called start items) × IsMainLabelled code label next
+
+abbrev pub LabelledCodeOfMain :
+    (tree : TreeModule) (called : List Bool) (start : ℕ) (is_there : Bool) (items : List Item) (label next : ℕ) → Type 0
+LabelledCodeOfMain tree called start is_there items label next =
+    (code : IsCodeOfMain tree called start is_there items)
+    × IsCodeOfMainLabelled tree called start is_there items code label next
+
+-- that of a procedure which is not EXTERNAL, of any, and of procedures one after another
+abbrev pub LabelledProcedure :
+    (tree : TreeModule) (called : List Bool) (number : ℕ) (procedure : TreeProcedure) (items : List Item)
+    (label next : ℕ)
+    → Type 0
+LabelledProcedure tree called number procedure items label next =
+    (code : IsProcedureCode tree called number procedure items) × IsProcedureLabelled code label next
+
+abbrev pub LabelledCode :
+    (tree : TreeModule) (called : List Bool) (number : ℕ) (procedure : TreeProcedure) (kind : ProcedureKind)
+    (items : List Item) (label next : ℕ)
+    → Type 0
+LabelledCode tree called number procedure kind items label next =
+    (code : IsCodeOf tree called number procedure kind items)
+    × IsCodeLabelled tree called number procedure kind items code label next
+
+abbrev pub LabelledProcedures :
+    (tree : TreeModule) (called : List Bool) (number : ℕ) (procedures : List TreeProcedure) (items : List Item)
+    (label next : ℕ)
+    → Type 0
+LabelledProcedures tree called number procedures items label next =
+    (code : AreCodeOf tree called number procedures items)
+    × AreProceduresLabelled tree called number procedures items code label next
+
+-- code of the beginning of a procedure, with the next labels
 abbrev pub AddsEntry : Body → (before after : Generator) → Type 0
 AddsEntry body before after =
     AddsCode body.tree.now
-    (λ called list.
-    (first : ℕ)
-    × AreCarriedOut body called (here_of before) None (entry_steps body first) list (here_of after))
+    (λ called list label next.
+    LabelledSteps body called (here_of before) None (entry_steps body label) list (here_of after)
+    (label_after label (entry_labels body)) next)
     before after
 
 -- and of its end, where that is reached
 abbrev pub AddsEnd : Body → (before after : Generator) → Type 0
 AddsEnd body before after =
     AddsCode body.tree.now
-    (λ called list. IsEndCode body called (here_of before) body.procedure.now.reaches_its_end list) before after
+    (λ called list label next.
+    LabelledEnd body called (here_of before) body.procedure.now.reaches_its_end list label next)
+    before after
 
 -- of a whole procedure, which is not EXTERNAL, or of any
 abbrev pub AddsOwn : TreeModule → (number : ℕ) → TreeProcedure → (before after : Generator) → Type 0
 AddsOwn tree number procedure before after =
-    AddsCode tree (λ called list. IsProcedureCode tree called number procedure list) before after
+    AddsCode tree (λ called list label next. LabelledProcedure tree called number procedure list label next) before after
 
 abbrev pub AddsProcedure : TreeModule → (number : ℕ) → TreeProcedure → (before after : Generator) → Type 0
 AddsProcedure tree number procedure before after =
-    AddsCode tree (λ called list. IsCodeOf tree called number procedure procedure.kind list) before after
+    AddsCode tree
+    (λ called list label next. LabelledCode tree called number procedure procedure.kind list label next)
+    before after
 
 -- of procedures one after another
 abbrev pub AddsProcedures : TreeModule → (number : ℕ) → List TreeProcedure → (before after : Generator) → Type 0
 AddsProcedures tree number procedures before after =
-    AddsCode tree (λ called list. AreCodeOf tree called number procedures list) before after
+    AddsCode tree (λ called list label next. LabelledProcedures tree called number procedures list label next) before after
 
 -- and of a main program
 abbrev pub AddsMain : TreeModule → (start : ℕ) → (before after : Generator) → Type 0
 AddsMain tree start before after =
-    AddsCode tree (λ called list. IsMainCode tree called start list) before after
+    AddsCode tree (λ called list label next. LabelledMain tree called start list label next) before after
 
 -- where there is one
 abbrev pub AddsCodeOfMain : TreeModule → (start : ℕ) → (before after : Generator) → Type 0
 AddsCodeOfMain tree start before after =
-    AddsCode tree (λ called list. IsCodeOfMain tree called start (has_main tree) list) before after
+    AddsCode tree
+    (λ called list label next. LabelledCodeOfMain tree called start (has_main tree) list label next)
+    before after
 
--- of all of a module but the routines
+-- of all of a module but the routines, where the labels of its procedures and of the routines are taken
 abbrev pub AddsOwnCode : TreeModule → (start : ℕ) → (before after : Generator) → Type 0
 AddsOwnCode tree start before after =
-    AddsCode tree (λ called list. IsOwnCode tree called start list) before after
+    AddsCode tree
+    (λ called list label next.
+    (code : IsOwnCode tree called start list)
+    × (label ≡ label_after (length tree.procedures.items) 9 → IsOwnLabelled code next))
+    before after
 
 -- a routine is added where the table says so
 abbrev pub AddsRoutineIf :

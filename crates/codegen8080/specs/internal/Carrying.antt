@@ -1,5 +1,5 @@
 -- Code of planned steps that others follow.
-use Rattle.std.specs.Prelude.{◌≡◌, Bool, List, ◌∷◌, ◌++◌, Option}
+use Rattle.std.specs.Prelude.{◌≡◌, ℕ, Bool, List, ◌∷◌, ◌++◌, Option}
 use Rattle.asm8080.specs.declared.item.Item.{Item}
 use Rattle.steps8080.specs.declared.facts.Facts.{Facts}
 use Rattle.steps8080.specs.Writer.{Writes}
@@ -9,7 +9,7 @@ use Rattle.statements8080.specs.declared.plan.Planned.{Planned}
 use Rattle.codegen8080.specs.declared.generator.Generator.{Generator}
 use Rattle.codegen8080.specs.declared.meeting.Here.{Here}
 use Rattle.codegen8080.specs.Driven.{here_of}
-use Rattle.codegen8080.specs.Generated.{AreCarriedOut}
+use Rattle.codegen8080.specs.Labelled.{LabelledSteps}
 
 -- the code of a step is added: with that of others after it, it is that of all
 pub record CarriesOut
@@ -18,10 +18,11 @@ pub record CarriesOut
   pub list : List Item
   pub writes : Writes before.emission.writer after.emission.writer list
   pub followed :
-      (called : List Bool) (others : List Planned) (more : List Item) (last : Here)
+      (called : List Bool) (others : List Planned) (more : List Item) (last : Here) (next : ℕ)
       → HasAll after.emission.is_called.items called
-      → AreCarriedOut body called (here_of after) waits others more last
-      → AreCarriedOut body called (here_of before) waiting (step ∷ others) (list ++ more) last
+      → LabelledSteps body called (here_of after) waits others more last after.emission.steps.labels next
+      → LabelledSteps body called (here_of before) waiting (step ∷ others) (list ++ more) last
+      before.emission.steps.labels next
   pub called : HasAll before.emission.is_called.items after.emission.is_called.items
   pub notes : NotesCalled body.tree.now before.emission.is_called.items after.emission.is_called.items list
   pub plan : after.plan.list.items ≡ before.plan.list.items

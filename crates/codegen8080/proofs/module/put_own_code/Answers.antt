@@ -1,4 +1,6 @@
-use Rattle.std.proofs.Common.{refl, subst}
+use Rattle.std.proofs.Common.{refl, ap, subst}
+use Rattle.steps8080.specs.declared.step.LabelNumber.{LabelNumber}
+use Rattle.steps8080.specs.declared.step.Steps.{Steps}
 use Rattle.steps8080.specs.Writer.{Writes}
 use Rattle.exprgen8080.specs.declared.emission.Emission.{Emission}
 use Rattle.codegen8080.specs.declared.generator.Generator.{Generator}
@@ -19,7 +21,8 @@ returns c =
     (subst
     (λ contents. Writes c.args.generator.now.emission.writer c.put_contents.new.writer (contents_items contents))
     c.as_slice.ensures.value c.in_ok-put_contents.ensures)
-    refl c.in_ok-put_main_if_any.ensures
+    refl (ap (λ (label : LabelNumber). label.index) c.label-start.ensures.label)
+    (ap (λ (steps : Steps). steps.labels) c.label-start.ensures.taken) c.in_ok-put_main_if_any.ensures
     (subst
     (λ procedures. AddsProcedures c.args.tree.now 0 procedures c.put_main_if_any.new.generator
     c.put_procedures.new.generator)

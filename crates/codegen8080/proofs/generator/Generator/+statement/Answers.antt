@@ -2,7 +2,6 @@ use Rattle.std.proofs.Common.{refl, sym, subst, ◌∙◌, arith, true}
 use Rattle.statements8080.specs.declared.plan.Planned.{Planned}
 use Rattle.codegen8080.specs.internal.Carrying.{CarriesOut}
 use Rattle.codegen8080.proofs.Driving.{carrying_ends, list_carried, listing_begins, listing_ends, none_passed, statement_added_if, statement_carried, statement_passed, step_carried_if, step_passed}
-use Rattle.steps8080.specs.Step.{label_after}
 use Rattle.codegen8080.specs.declared.generator.Generator.{Generator}
 use Rattle.codegen8080.proofs.generator.Generator.+statement.Goals.{planned-in-Some+in_ok-waiting, planned-in_default}
 use Rattle.codegen8080.proofs.generator.Generator.+statement.Goals as goal
@@ -65,8 +64,8 @@ planned-returns-clause-code t c =
 pub statement-returns-clause-code : goal.statement-returns-clause-code
 statement-returns-clause-code t c =
     let ready : Generator = record (c.plan_next.new.self) { goes_on = true } in
-    statement_added_if c.args.body.now c.args.number c.in-Some.statement
-    (label_after c.args.self.now.emission.steps.labels 0) c.count-start.result c.args.self.now ready
+    statement_added_if c.args.body.now c.args.number c.in-Some.statement c.count-start.result c.args.self.now ready
     c.planned.new.self c.planned.result (sym c.statement.ensures ∙ c.in-Some.is)
-    c.in_ok-plan_next.ensures.emission refl c.in_ok-plan_next.ensures.plan c.count-start.ensures
+    c.in_ok-plan_next.ensures.emission c.in_ok-plan_next.ensures.labels refl c.in_ok-plan_next.ensures.plan
+    c.count-start.ensures
     c.planned.ensures.code
