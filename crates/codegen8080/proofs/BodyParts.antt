@@ -1,5 +1,5 @@
 -- The code of procedures and of main programs, from that of their parts.
-use Rattle.std.proofs.Common.{◌≡◌, ℕ, inl, inr, Bool, true, false, List, [], ◌∷◌, ◌++◌, length, None, Result, Ok, Err, OnOk, drop, refl, sym, ap, subst, ◌∙◌}
+use Rattle.std.proofs.Common.{◌≡◌, ◌⊎◌, ℕ, inl, inr, Bool, true, false, List, [], ◌∷◌, ◌++◌, length, None, Result, Ok, Err, OnOk, drop, refl, sym, ap, subst, ◌∙◌}
 use Rattle.std.proofs.lemmas.List.{drop_at}
 use Rattle.std.specs.Prelude.{IfOk}
 use Rattle.isa8080.specs.declared.instr.Instr.{Instr}
@@ -35,7 +35,7 @@ use Rattle.codegen8080.specs.Driven.{AddsCode, AddsList, AddsPlanned, here_of}
 use Rattle.codegen8080.specs.Labelled.{LabelledList, LabelledSteps}
 use Rattle.codegen8080.specs.Modules.{IsFrameOf, IsMainCode, IsProcedureCode}
 use Rattle.codegen8080.specs.Procedures.{end_steps, entry_labels, entry_steps}
-use Rattle.codegen8080.specs.internal.Bodies.{AddsEnd, AddsEntry, AddsMain, AddsOwn, LabelledEnd}
+use Rattle.codegen8080.specs.internal.Bodies.{AddsEnd, AddsEntry, AddsMain, AddsOwn, AddsProcedure, LabelledCode, LabelledEnd}
 use Rattle.codegen8080.proofs.Driving.{labelled_list_kept, labelled_steps_kept}
 
 -- the plan of a frame has what is said of it by the kind of the procedure
@@ -422,3 +422,45 @@ main_added tree label body site last before begun labelled ready listed after tr
           (alone_noted last.tree.now body.tree.now listed.emission.is_called.items called halts.list (items.Plain Hlt)
           (λ routine. refl) (plain_is halts.written) halts.notes)))));
     }
+
+-- no code is added for a procedure that is EXTERNAL
+pub external_added :
+    (tree : TreeModule) (number name : ℕ) (procedure : TreeProcedure) (before : Generator)
+    → procedure.kind ≡ kinds.External name
+    → AddsProcedure tree number procedure before before
+external_added tree number name procedure before kind = record {
+  list = [];
+  writes = writes_nothing before.emission.writer;
+  written =
+      subst
+      (λ at. LabelledCode tree before.emission.is_called.items number procedure at [] before.emission.steps.labels
+      before.emission.steps.labels)
+      (sym kind) (refl, refl);
+  called = has_itself before.emission.is_called.items;
+  notes = λ routine given. inl given;
+}
+
+-- and its own for any other
+pub procedure_added :
+    (tree : TreeModule) (number : ℕ) (procedure : TreeProcedure) (before after : Generator) {E : Type 0}
+    (result : Result (Unit {0}) E)
+    → (procedure.kind ≡ kinds.Static) ⊎ (procedure.kind ≡ kinds.Reentrant)
+    → OnOk result (AddsOwn tree number procedure before after)
+    → OnOk result (AddsProcedure tree number procedure before after)
+procedure_added tree number procedure before after (Ok done) kind adds =
+    let called : List Bool = after.emission.is_called.items in
+    let label : ℕ = before.emission.steps.labels in
+    let next : ℕ = after.emission.steps.labels in
+    record {
+      list = adds.list;
+      writes = adds.writes;
+      written = elim kind [
+        | inl static ↦
+            subst (λ at. LabelledCode tree called number procedure at adds.list label next) (sym static) adds.written
+        | inr reentrant ↦
+            subst (λ at. LabelledCode tree called number procedure at adds.list label next) (sym reentrant) adds.written
+      ];
+      called = adds.called;
+      notes = adds.notes;
+    }
+procedure_added tree number procedure before after (Err fault) kind adds = adds

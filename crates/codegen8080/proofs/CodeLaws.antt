@@ -74,8 +74,7 @@ mutual
       (λ depth.
       code_of_planned body depth (code_of_statement body depth) (here_after here waiting known step)
       (waiting_after here waiting step) list labels.0)
-      rest (planned_are_code labels.0 next others labels.2)) in
-      (
+      rest (planned_are_code labels.0 next others labels.2)) in (
         found.0,
         λ extra. alone_is body (found.0 + extra) here waiting step list label alone ∙ found.1 extra,
       )

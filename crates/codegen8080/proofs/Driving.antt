@@ -47,9 +47,10 @@ module _ {body : Body} {called : List Bool} (wider : List Bool) (more : HasAll c
         → LabelledSteps body wider here waiting steps items last label next
     steps_kept NoneCarriedOut label next labels = (NoneCarriedOut, labels)
     steps_kept (StepCarriedOut alone first others) label next labels =
-        let kept = steps_kept others labels.0 next labels.2 in
-        (StepCarriedOut alone (are_kept more first) kept.0,
-        (labels.0, are_labels_kept wider more label labels.0 first labels.1, kept.1))
+        let kept = steps_kept others labels.0 next labels.2 in (
+          StepCarriedOut alone (are_kept more first) kept.0,
+          (labels.0, are_labels_kept wider more label labels.0 first labels.1, kept.1),
+        )
     steps_kept (StatementCarriedOut first others) label next labels =
         let one = statement_kept first label labels.0 labels.1 in
         let kept = steps_kept others labels.0 next labels.2 in
@@ -128,14 +129,15 @@ module _ (body : Body) (waiting : Option Facts) (before after : Generator) where
             (subst (λ at. LabelledSteps body called (here_of after) at others more last written.steps.labels next)
             adds.waiting_is
             (subst (λ (to : Emission). LabelledSteps body called (here_of after) waits others more last to.steps.labels
-            next) (sym same) rest)) in
-            (StepCarriedOut alone (are_kept kept adds.emits.written) left.0,
-            (
-              written.steps.labels,
-              are_labels_kept called kept before.emission.steps.labels written.steps.labels adds.emits.written
-              adds.emits.labels,
-              left.1,
-            ));
+            next) (sym same) rest)) in (
+              StepCarriedOut alone (are_kept kept adds.emits.written) left.0,
+              (
+                written.steps.labels,
+                are_labels_kept called kept before.emission.steps.labels written.steps.labels adds.emits.written
+                    adds.emits.labels,
+                left.1,
+              ),
+            );
         called = subst (λ (to : Emission). HasAll before.emission.is_called.items to.is_called.items) same
             adds.emits.called;
         notes =

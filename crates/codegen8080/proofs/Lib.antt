@@ -2,6 +2,7 @@ pub mod KeptParts
 pub mod KeptSegments
 pub mod NewNames
 pub mod Planning
+pub mod CodeLaws
 pub mod Driving
 pub mod BodyParts
 pub mod ModuleParts

@@ -107,8 +107,7 @@ module _ (tree : TreeModule) (called wider : List Bool) (more : HasAll called wi
         written = written.0;
         ends = ends.0;
         list_is = is.list_is;
-      } in
-      (
+      } in (
         code,
         record {
           begun = labels.begun;
@@ -292,50 +291,50 @@ pub own_code_added :
     → AddsProcedures tree 0 tree.procedures.items between after
     → AddsOwnCode tree start before after
 own_code_added tree start before ready between after constants same start_is taken main procedures =
-  let begun : ℕ = between.emission.steps.labels in
-  let next : ℕ = after.emission.steps.labels in
-  let kept : LabelledCodeOfMain tree after.emission.is_called.items start (has_main tree) main.list
-  (label_after start 1) begun =
-  main_kept tree between.emission.is_called.items after.emission.is_called.items procedures.called start
-  (has_main tree) main.list (label_after start 1) begun
-  (subst
-  (λ at. LabelledCodeOfMain tree between.emission.is_called.items start (has_main tree) main.list at begun)
-  (taken ∙ ap (λ at. label_after at 1) (sym start_is)) main.written) in
-  let code : IsOwnCode tree after.emission.is_called.items start
-  (contents_items tree.constants.items ++ (main.list ++ procedures.list)) = record {
-    main = main.list;
-    procedures = procedures.list;
-    main_is = kept.0;
-    procedures_are = procedures.written.0;
-    list_is = refl;
-  } in
-  record {
-  list = contents_items tree.constants.items ++ (main.list ++ procedures.list);
-  writes =
-      writes_then before.emission.writer ready.emission.writer after.emission.writer
-      (contents_items tree.constants.items) (main.list ++ procedures.list) constants
-      (writes_then ready.emission.writer between.emission.writer after.emission.writer main.list procedures.list
-      main.writes procedures.writes);
-  written = (
-    code,
-    λ given. record {
-      begun = begun;
-      start_is = start_is ∙ given;
-      main = kept.1;
-      procedures = procedures.written.1;
-    },
-  );
-  called =
-      subst (λ table. HasAll table after.emission.is_called.items)
-      (ap (λ (flags : _). flags.items) same)
-      (λ routine given. procedures.called routine (main.called routine given));
-  notes =
-      notes_then tree before.emission.is_called.items ready.emission.is_called.items after.emission.is_called.items
-      (contents_items tree.constants.items) (main.list ++ procedures.list)
-      (none_noted tree before.emission ready.emission (contents_items tree.constants.items) same)
-      (notes_then tree ready.emission.is_called.items between.emission.is_called.items
-      after.emission.is_called.items main.list procedures.list main.notes procedures.notes);
-}
+    let begun : ℕ = between.emission.steps.labels in
+    let next : ℕ = after.emission.steps.labels in
+    let kept : LabelledCodeOfMain tree after.emission.is_called.items start (has_main tree) main.list
+    (label_after start 1) begun =
+    main_kept tree between.emission.is_called.items after.emission.is_called.items procedures.called start
+    (has_main tree) main.list (label_after start 1) begun
+    (subst
+    (λ at. LabelledCodeOfMain tree between.emission.is_called.items start (has_main tree) main.list at begun)
+    (taken ∙ ap (λ at. label_after at 1) (sym start_is)) main.written) in
+    let code : IsOwnCode tree after.emission.is_called.items start
+    (contents_items tree.constants.items ++ (main.list ++ procedures.list)) = record {
+      main = main.list;
+      procedures = procedures.list;
+      main_is = kept.0;
+      procedures_are = procedures.written.0;
+      list_is = refl;
+    } in
+    record {
+      list = contents_items tree.constants.items ++ (main.list ++ procedures.list);
+      writes =
+          writes_then before.emission.writer ready.emission.writer after.emission.writer
+          (contents_items tree.constants.items) (main.list ++ procedures.list) constants
+          (writes_then ready.emission.writer between.emission.writer after.emission.writer main.list procedures.list
+          main.writes procedures.writes);
+      written = (
+        code,
+        λ given. record {
+          begun = begun;
+          start_is = start_is ∙ given;
+          main = kept.1;
+          procedures = procedures.written.1;
+        },
+      );
+      called =
+          subst (λ table. HasAll table after.emission.is_called.items)
+          (ap (λ (flags : _). flags.items) same)
+          (λ routine given. procedures.called routine (main.called routine given));
+      notes =
+          notes_then tree before.emission.is_called.items ready.emission.is_called.items after.emission.is_called.items
+          (contents_items tree.constants.items) (main.list ++ procedures.list)
+          (none_noted tree before.emission ready.emission (contents_items tree.constants.items) same)
+          (notes_then tree ready.emission.is_called.items between.emission.is_called.items
+          after.emission.is_called.items main.list procedures.list main.notes procedures.notes);
+    }
 
 -- The code of a routine where code has more labels.
 routine_kept :
