@@ -1,7 +1,6 @@
 -- The code of statements as it is written step by step.
-use Rattle.std.proofs.Common.{◌≡◌, ℕ, suc, ◌+◌, ◌-◌, ◌≤◌, ◌<◌, inl, Bool, true, false, List, [], ◌∷◌, ◌++◌, length, Option, Some, None, Result, Ok, Err, OnOk, slice_get, drop, take, refl, sym, ap, subst, ◌∙◌, arith, append_assoc, append-nil}
-use Rattle.std.proofs.lemmas.List.{drop_at, drop_all, drop_more, take_at}
-use Rattle.std.proofs.lemmas.Option.{get_or_from_slice_get, slice_get_within}
+use Rattle.std.proofs.Common.{◌≡◌, ℕ, suc, ◌+◌, ◌-◌, ◌≤◌, ◌<◌, inl, Bool, true, List, [], ◌++◌, length, Option, Some, None, Result, Ok, Err, OnOk, slice_get, drop, refl, sym, ap, subst, ◌∙◌, arith, append_assoc, append-nil}
+use Rattle.std.proofs.lemmas.List.{drop_at, drop_all}
 use Rattle.std.specs.Prelude.{IfOk}
 use Rattle.asm8080.specs.declared.item.Item.{Item}
 use Rattle.treecode.specs.declared.lists.Range.{Range}
@@ -14,7 +13,7 @@ use Rattle.steps8080.specs.Writer.{Writes}
 use Rattle.steps8080.proofs.Numbered.{writes_nothing, writes_then}
 use Rattle.sites8080.specs.declared.site.Site.{Site}
 use Rattle.exprgen8080.specs.declared.emission.Emission.{Emission}
-use Rattle.exprgen8080.specs.Emission.{AreWritten, knowing}
+use Rattle.exprgen8080.specs.Emission.{knowing}
 use Rattle.exprgen8080.specs.Emitted.{EmitsSteps, HasAll, NotesCalled}
 use Rattle.exprgen8080.proofs.Emitting.{are_kept, are_labels_kept, emits_then, has_itself, left_is, none_is, notes_then}
 use Rattle.statements8080.specs.declared.body.Body.{Body}
@@ -22,7 +21,7 @@ use Rattle.statements8080.specs.declared.plan.Planned.{Planned}
 use Rattle.statements8080.specs.declared.plan.Planned.TheVariants as planned
 use Rattle.codegen8080.specs.declared.generator.Generator.{Generator}
 use Rattle.codegen8080.specs.declared.meeting.Here.{Here}
-use Rattle.codegen8080.specs.Driven.{AddsCode, AddsList, AddsPlanned, AddsStatement, AddsStep, here_of}
+use Rattle.codegen8080.specs.Driven.{AddsList, AddsPlanned, AddsStatement, AddsStep, here_of}
 use Rattle.codegen8080.specs.Generated.{AreAllCarriedOut, AreCarriedOut, HoldsNoStatement, IsCarriedOut, IsListCarriedOut, ListCarriedOut, ListPlanned, MoreStatements, NoStatements, NoneCarriedOut, StatementCarriedOut, StatementPlanned, StepCarriedOut, carried_steps, here_after, site_of, waiting_after}
 use Rattle.codegen8080.specs.Labelled.{AreAllLabelled, AreStepsLabelled, IsListLabelled, IsStatementLabelled, LabelledList, LabelledStatement, LabelledStatements, LabelledSteps}
 use Rattle.codegen8080.specs.Statements.{statement_labels, statement_steps}

@@ -1,11 +1,10 @@
 -- How procedures take their arguments and how they return.
-use Rattle.std.specs.Prelude.{ℕ, zero, suc, ◌+◌, ◌-◌, ◌/◌, ◌%◌, min, Bool, true, false, ◌&&◌, if◌then◌else◌, nat_eq, nat_le, slice_get, take, length, List, [], ◌∷◌, ◌++◌, Option, Some, None, replicate}
+use Rattle.std.specs.Prelude.{ℕ, zero, suc, ◌+◌, ◌-◌, ◌/◌, ◌%◌, min, Bool, true, false, if◌then◌else◌, nat_eq, nat_le, slice_get, take, length, List, [], ◌∷◌, ◌++◌, Option, Some, None, replicate}
 use Rattle.isa8080.specs.declared.instr.Condition.TheVariants.{NotZero}
 use Rattle.isa8080.specs.declared.instr.Instr.{Instr}
 use Rattle.isa8080.specs.declared.instr.Instr.TheVariants.{Dad, Dcr, Inx, Lxi, Mvi, Pchl, Pop, Push, Ret, Sphl, Xchg, Xthl}
 use Rattle.isa8080.specs.declared.instr.Operand.TheVariants.{Of}
 use Rattle.isa8080.specs.declared.instr.Pair.TheVariants.{De, Hl, Sp}
-use Rattle.isa8080.specs.declared.instr.Register.{Register}
 use Rattle.isa8080.specs.declared.instr.Register.TheVariants.{B}
 use Rattle.isa8080.specs.declared.instr.StackPair.{StackPair}
 use Rattle.isa8080.specs.declared.instr.StackPair.TheVariants.{Psw, StackBc, StackDe, StackHl}

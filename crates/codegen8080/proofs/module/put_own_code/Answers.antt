@@ -3,7 +3,6 @@ use Rattle.steps8080.specs.declared.step.LabelNumber.{LabelNumber}
 use Rattle.steps8080.specs.declared.step.Steps.{Steps}
 use Rattle.steps8080.specs.Writer.{Writes}
 use Rattle.exprgen8080.specs.declared.emission.Emission.{Emission}
-use Rattle.codegen8080.specs.declared.generator.Generator.{Generator}
 use Rattle.codegen8080.specs.Modules.{contents_items}
 use Rattle.codegen8080.specs.internal.Bodies.{AddsProcedures}
 use Rattle.codegen8080.proofs.ModuleParts.{own_code_added}
