@@ -64,6 +64,18 @@ pub struct Emission {
     pub is_called: Vec<bool>,
 }
 
+// The rank of a part, which is to be below another one. Fails where it is not.
+fn rank_below(site: &Site<'_>, part: Part, rank: u64) -> Result<u64, AllocError>
+    ensures { IfOk result (λ below. below < rank) }
+{
+    let below = site.rank(part.task);
+    if below < rank {
+        Ok(below)
+    } else {
+        Err(AllocError)
+    }
+}
+
 impl Emission {
     /// No code of a module. The first labels are those of its procedures and of the routines.
     pub fn new(alloc: Global, tree: &TreeModule) -> Result<Emission, AllocError>
@@ -247,20 +259,8 @@ impl Emission {
     pub fn emit(&mut self, site: &Site<'_>, part: Part) -> Result<(), AllocError>
         ensures { OnOk result (Emits site.now part self.old self.new) }
     {
-        let rank = self.site(site).rank(part.task);
+        let rank = site.rank(part.task);
         self.emit_ranked(site, part, rank)
-    }
-
-    // The rank of a part, which is to be below another one. Fails where it is not.
-    fn rank_below(&self, site: &Site<'_>, part: Part, rank: u64) -> Result<u64, AllocError>
-        ensures { IfOk result (λ below. below < rank) }
-    {
-        let below = self.site(site).rank(part.task);
-        if below < rank {
-            Ok(below)
-        } else {
-            Err(AllocError)
-        }
     }
 
     // Adds the code of a step. A part is to rank below this.
@@ -271,7 +271,7 @@ impl Emission {
     {
         match step {
             Step::Part(part) => {
-                let below = self.rank_below(site, part, rank)?;
+                let below = rank_below(site, part, rank)?;
                 self.emit_ranked(site, part, below)
             }
             step => self.step(site.tree, step),

@@ -3,7 +3,7 @@
 ghost use Rattle.std.specs.Prelude.{◌≡◌, ◌<◌};
 ghost use Rattle.treecode.specs.declared.expression.ExpressionForm.TheVariants.{Assignment};
 ghost use Rattle.treecode.specs.Queries.{inside};
-ghost use Rattle.treecode.specs.internal.Stored.{form_of, known_of, reference_of, subscript_of, traits_in};
+ghost use Rattle.treecode.specs.internal.Stored.{form_of, keeps_in, reference_of, subscript_of, traits_in};
 ghost use Rattle.treecode.specs.internal.Words.{FormIsWord};
 
 use crate::expression::{Expression, ExpressionForm, ExpressionNumber};
@@ -81,26 +81,26 @@ pub(crate) enum StoredForm {
     Input(u8),
 }
 
-/// A value that is known but for where things lie, if one is.
+/// Which registers are kept.
 #[derive(Clone, Copy)]
-pub(crate) enum StoredValue {
-    Unknown,
-    Number(u16),
-    Code(u16),
-    Data(u16),
-    External { offset: u16, name: u32 },
+pub(crate) enum StoredKeeps {
+    Neither,
+    OnlyA,
+    OnlyDe,
+    Both,
 }
 
-/// What is known of an expression.
+/// What is known of an expression. Its value is `known` where it `is_known`.
 #[derive(Clone, Copy)]
 pub(crate) struct StoredTraits {
-    known: StoredValue,
+    known: Place,
     height: u16,
     scalar: ScalarType,
+    is_known: bool,
     is_quiet: bool,
     stores_nothing: bool,
     is_free: bool,
-    keeps: Keeps,
+    keeps: StoredKeeps,
 }
 
 /// An expression in less memory.
@@ -122,28 +122,29 @@ impl Model for StoredExpression {
     ghost view = { λ stored. record { form = form_of stored.form; traits = traits_in stored.traits } };
 }
 
-impl StoredValue {
-    fn of(known: Option<Place>) -> StoredValue
-        ensures { known_of result ≡ known }
+impl StoredKeeps {
+    fn of(keeps: Keeps) -> StoredKeeps
+        ensures { keeps_in result ≡ keeps }
     {
-        match known {
-            None => StoredValue::Unknown,
-            Some(Place::Number(number)) => StoredValue::Number(number),
-            Some(Place::Code(offset)) => StoredValue::Code(offset),
-            Some(Place::Data(offset)) => StoredValue::Data(offset),
-            Some(Place::External { offset, name }) => StoredValue::External { offset, name },
+        match (keeps.a, keeps.de) {
+            (false, false) => StoredKeeps::Neither,
+            (true, false) => StoredKeeps::OnlyA,
+            (false, true) => StoredKeeps::OnlyDe,
+            (true, true) => StoredKeeps::Both,
         }
     }
 
-    fn known(self) -> Option<Place>
-        ensures { result ≡ known_of self }
+    fn keeps(self) -> Keeps
+        ensures { result ≡ keeps_in self }
     {
         match self {
-            StoredValue::Unknown => None,
-            StoredValue::Number(number) => Some(Place::Number(number)),
-            StoredValue::Code(offset) => Some(Place::Code(offset)),
-            StoredValue::Data(offset) => Some(Place::Data(offset)),
-            StoredValue::External { offset, name } => Some(Place::External { offset, name }),
+            StoredKeeps::Neither => Keeps {
+                a: false,
+                de: false,
+            },
+            StoredKeeps::OnlyA => Keeps { a: true, de: false },
+            StoredKeeps::OnlyDe => Keeps { a: false, de: true },
+            StoredKeeps::Both => Keeps { a: true, de: true },
         }
     }
 }
@@ -152,14 +153,19 @@ impl StoredTraits {
     fn of(traits: Traits) -> StoredTraits
         ensures { traits_in result ≡ traits }
     {
+        let (known, is_known) = match traits.known {
+            Some(place) => (place, true),
+            None => (Place::Number(0), false),
+        };
         StoredTraits {
-            known: StoredValue::of(traits.known),
+            known,
             height: traits.height,
             scalar: traits.scalar,
+            is_known,
             is_quiet: traits.is_quiet,
             stores_nothing: traits.stores_nothing,
             is_free: traits.is_free,
-            keeps: traits.keeps,
+            keeps: StoredKeeps::of(traits.keeps),
         }
     }
 
@@ -167,13 +173,17 @@ impl StoredTraits {
         ensures { result ≡ traits_in self }
     {
         Traits {
-            known: self.known.known(),
+            known: if self.is_known {
+                Some(self.known)
+            } else {
+                None
+            },
             height: self.height,
             scalar: self.scalar,
             is_quiet: self.is_quiet,
             stores_nothing: self.stores_nothing,
             is_free: self.is_free,
-            keeps: self.keeps,
+            keeps: self.keeps.keeps(),
         }
     }
 }

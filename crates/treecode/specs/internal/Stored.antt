@@ -1,20 +1,19 @@
 -- Expressions as a module keeps them.
-use Rattle.std.specs.Prelude.{Option, Some, None}
+use Rattle.std.specs.Prelude.{true, false, if◌then◌else◌, Option, Some, None}
 use Rattle.treecode.specs.declared.expression.ExpressionForm.{ExpressionForm}
 use Rattle.treecode.specs.declared.expression.ExpressionForm.TheVariants as forms
-use Rattle.treecode.specs.declared.place.Place.{Place}
-use Rattle.treecode.specs.declared.place.Place.TheVariants as places
 use Rattle.treecode.specs.declared.reference.Reference.{Reference}
 use Rattle.treecode.specs.declared.reference.Subscript.{Subscript}
 use Rattle.treecode.specs.declared.reference.Target.TheVariants.{Stored, Sent}
+use Rattle.treecode.specs.declared.stored.StoredKeeps.{StoredKeeps}
+use Rattle.treecode.specs.declared.stored.StoredKeeps.TheVariants as kept
 use Rattle.treecode.specs.declared.stored.StoredForm.{StoredForm}
 use Rattle.treecode.specs.declared.stored.StoredForm.TheVariants as stored
 use Rattle.treecode.specs.declared.stored.StoredReference.{StoredReference}
 use Rattle.treecode.specs.declared.stored.StoredSubscript.{StoredSubscript}
 use Rattle.treecode.specs.declared.stored.StoredSubscript.TheVariants.{Whole, Element}
 use Rattle.treecode.specs.declared.stored.StoredTraits.{StoredTraits}
-use Rattle.treecode.specs.declared.stored.StoredValue.{StoredValue}
-use Rattle.treecode.specs.declared.stored.StoredValue.TheVariants as values
+use Rattle.treecode.specs.declared.traits.Keeps.{Keeps}
 use Rattle.treecode.specs.declared.traits.Traits.{Traits}
 
 -- a subscript, if there is one
@@ -46,22 +45,21 @@ form_of (stored.Function function operand) = forms.Function function operand
 form_of (stored.Shift function value count) = forms.Shift function value count
 form_of (stored.Input port) = forms.Input port
 
--- a value that is known, if one is
-abbrev pub known_of : StoredValue → Option Place
-known_of values.Unknown = None
-known_of (values.Number number) = Some (places.Number number)
-known_of (values.Code offset) = Some (places.Code offset)
-known_of (values.Data offset) = Some (places.Data offset)
-known_of (values.External offset name) = Some (places.External offset name)
+-- the registers that are kept
+abbrev pub keeps_in : StoredKeeps → Keeps
+keeps_in kept.Neither = record { a = false; de = false }
+keeps_in kept.OnlyA = record { a = true; de = false }
+keeps_in kept.OnlyDe = record { a = false; de = true }
+keeps_in kept.Both = record { a = true; de = true }
 
 -- what is known of an expression
 abbrev pub traits_in : StoredTraits → Traits
 traits_in traits = record {
-  known = known_of traits.known;
+  known = if traits.is_known then Some traits.known else None;
   height = traits.height;
   scalar = traits.scalar;
   is_quiet = traits.is_quiet;
   stores_nothing = traits.stores_nothing;
   is_free = traits.is_free;
-  keeps = traits.keeps;
+  keeps = keeps_in traits.keeps;
 }
