@@ -118,7 +118,8 @@ impl Generator {
         ensures plan { OnOk result (self.new.plan.list.items ≡ self.old.plan.list.items
             ++ statement_steps body.now (knowing (site_of body.now) self.old.emission.facts) statement
             self.old.emission.steps.labels) }
-        ensures labels { OnOk result (self.new.emission.steps.labels ≡ label_after self.old.emission.steps.labels
+        ensures labels { OnOk result (self.new.emission.steps.labels
+            ≡ label_after self.old.emission.steps.labels
             (statement_labels body.now (knowing (site_of body.now) self.old.emission.facts) statement)) }
         ensures emission { self.new.emission
             ≡ record (self.old.emission) { steps = self.new.emission.steps } }
