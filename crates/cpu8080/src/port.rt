@@ -1,4 +1,4 @@
-//! IN and OUT.
+//! IN and OUT. They stay functions of their own, so that the machine's loop is the same code with all kinds of ports.
 
 ghost use Rattle.std.specs.Prelude.{◌≡◌, OnOk, OnErr};
 ghost use Rattle.mem80.specs.Memory.{byte_at};
@@ -10,6 +10,7 @@ use mem80::Memory;
 use ports::{PortFault, Ports};
 
 /// IN: reads the port whose number is at a place into the accumulator.
+#[inline(never)]
 pub fn input<P: Ports>(
     place: u16,
     registers: &mut MachineRegisters,
@@ -40,6 +41,7 @@ pub fn input<P: Ports>(
 }
 
 /// OUT: writes the accumulator to the port whose number is at a place.
+#[inline(never)]
 pub fn output<P: Ports>(
     place: u16,
     registers: &MachineRegisters,
