@@ -1,21 +1,31 @@
 -- What is carried out with labels counted in its order is the code that the function gives, so that there is only one.
-use Rattle.std.proofs.Common.{◌≡◌, ℕ, suc, ◌+◌, Bool, List, [], ◌∷◌, Option, Some, None, option_and_then, option_map, refl, sym, ap, subst, ◌∙◌}
+use Rattle.std.proofs.Common.{◌≡◌, ℕ, suc, ◌+◌, Bool, List, [], ◌∷◌, Option, Some, None, option_and_then, option_map, refl, sym, ap, subst, ◌∙◌, true, false, ◌++◌}
+use Rattle.isa8080.specs.declared.instr.Instr.TheVariants.{Hlt}
+use Rattle.isa8080.specs.declared.instr.Pair.TheVariants.{Sp}
 use Rattle.asm8080.specs.declared.item.Item.{Item}
+use Rattle.asm8080.specs.declared.item.Item.TheVariants as its
+use Rattle.asm8080.specs.declared.item.WordForm.TheVariants.{LoadPair}
 use Rattle.treecode.specs.declared.lists.Range.{Range}
+use Rattle.treecode.specs.declared.module.TreeModule.{TreeModule}
+use Rattle.treecode.specs.declared.procedure.TreeProcedure.{TreeProcedure}
 use Rattle.treecode.specs.declared.statement.Statement.{Statement}
 use Rattle.treecode.specs.declared.statement.StatementNumber.{StatementNumber}
 use Rattle.steps8080.specs.declared.facts.Facts.{Facts}
+use Rattle.steps8080.specs.Facts.{no_facts}
 use Rattle.steps8080.specs.Step.{label_after}
-use Rattle.exprgen8080.specs.Code.{Code, IsFound, code_of_part, code_of_steps}
+use Rattle.steps8080.specs.Writer.{stack_end_item}
+use Rattle.exprgen8080.specs.Code.{Code, IsFoundDeep, code_of_part, code_of_steps}
 use Rattle.exprgen8080.specs.Emission.{knowing}
 use Rattle.exprgen8080.proofs.CodeLaws.{found_deeper, found_map, found_then, steps_are_code}
 use Rattle.statements8080.specs.declared.body.Body.{Body}
 use Rattle.statements8080.specs.declared.plan.Planned.{Planned}
 use Rattle.statements8080.specs.declared.plan.Planned.TheVariants as planned
 use Rattle.codegen8080.specs.declared.meeting.Here.{Here}
-use Rattle.codegen8080.specs.Code.{IsCodeOfAll, IsCodeOfPlanned, IsCodeOfStatement, StatementCode, before_code, code_of_all, code_of_planned, code_of_statement, reached}
-use Rattle.codegen8080.specs.Generated.{AreAllCarriedOut, AreCarriedOut, HoldsNoStatement, IsCarriedOut, IsListCarriedOut, ListCarriedOut, ListPlanned, MoreStatements, NoneCarriedOut, NoStatements, StatementCarriedOut, StatementPlanned, StepCarriedOut, carried_steps, here_after, site_of, waiting_after}
+use Rattle.codegen8080.specs.Code.{IsCodeOfMainProgram, IsCodeOfPlanned, IsCodeOfProcedure, IsCodeOfStatement, IsCodeOfStatements, StatementCode, before_code, code_of_end, code_of_list, code_of_list_of, code_of_main, code_of_planned, code_of_procedure, code_of_statement, code_of_statements, code_of_steps_of}
+use Rattle.codegen8080.specs.Generated.{AreAllCarriedOut, AreCarriedOut, HoldsNoStatement, IsCarriedOut, IsListCarriedOut, ListCarriedOut, ListPlanned, MoreStatements, NoneCarriedOut, NoStatements, StatementCarriedOut, StatementPlanned, StepCarriedOut, arriving, carried_steps, here_after, site_of, waiting_after}
 use Rattle.codegen8080.specs.Labelled.{AreAllLabelled, AreStepsLabelled, IsListLabelled, IsStatementLabelled}
+use Rattle.codegen8080.specs.Modules.{IsEndCode, IsEndLabelled, IsMainCode, IsMainLabelled, IsProcedureCode, IsProcedureLabelled}
+use Rattle.codegen8080.specs.Procedures.{entry_labels, entry_steps}
 use Rattle.codegen8080.specs.Statements.{statement_labels, statement_steps}
 
 -- the code of a step that is no statement and no list of such is that of its steps, before that of others
@@ -44,7 +54,7 @@ alone_is body depth here waiting (planned.Reaches goes_on) others label alone = 
 alone_is body depth here waiting (planned.Jumped is_the_only_one) others label alone = refl
 
 mutual
-  unfolding code_of_planned code_of_all code_of_statement
+  unfolding code_of_planned code_of_statements code_of_statement
 
   pub planned_are_code :
       {body : Body} {called : List Bool} {here last : Here} {waiting : Option Facts} {list : List Planned}
@@ -99,7 +109,7 @@ mutual
       let rest : StatementCode = record { items = more; here = last; label = next } in
       found_then
       (λ depth.
-      code_of_all body.tree.now (code_of_statement body depth) (reached here.facts) range.first range.count label)
+      code_of_statements body.tree.now (code_of_statement body depth) (arriving (Some here.facts)) range.first range.count label)
       (λ depth found.
       option_map (before_code found.items)
       (code_of_planned body depth (code_of_statement body depth) found.here waiting list found.label))
@@ -122,11 +132,11 @@ mutual
       found_deeper (λ depth. code_of_statement body depth facts number label) code
       (subst
       (λ read.
-      IsFound
+      IsFoundDeep
       (λ depth.
       option_and_then
       (λ (is : Statement).
-      code_of_planned body depth (code_of_statement body depth) (reached facts) None
+      code_of_planned body depth (code_of_statement body depth) (arriving (Some facts)) None
       (statement_steps body (knowing (site_of body) facts) is label)
       (label_after label (statement_labels body (knowing (site_of body) facts) is)))
       read)
@@ -134,7 +144,7 @@ mutual
       (sym found)
       (subst
       (λ first.
-      IsCodeOfPlanned body (reached facts) None
+      IsCodeOfPlanned body (arriving (Some facts)) None
       (statement_steps body (knowing (site_of body) facts) statement first) after code)
       labels.0 (planned_are_code after next steps labels.1)))
 
@@ -143,7 +153,7 @@ mutual
       (label next : ℕ)
       → (written : IsListCarriedOut body called facts range items last)
       → IsListLabelled written label next
-      → IsCodeOfAll body (reached facts) range.first range.count label
+      → IsCodeOfStatements body (arriving (Some facts)) range.first range.count label
       (record { items = items; here = last; label = next })
   list_is_code label next (ListPlanned all) labels = all_are_code label next all labels
 
@@ -151,7 +161,7 @@ mutual
       {body : Body} {called : List Bool} {here last : Here} {first count : ℕ} {items : List Item} (label next : ℕ)
       → (written : AreAllCarriedOut body called here first count items last)
       → AreAllLabelled written label next
-      → IsCodeOfAll body here first count label (record { items = items; here = last; label = next })
+      → IsCodeOfStatements body here first count label (record { items = items; here = last; label = next })
   all_are_code {here = here} label next NoStatements labels =
       (0, λ extra. ap (λ at. Some (record { items = []; here = here; label = at })) (sym labels))
   all_are_code {body = body} {here = here} {last = last} {first = first} label next
@@ -161,14 +171,14 @@ mutual
       let rest : StatementCode = record { items = more; here = last; label = next } in
       subst
       (λ read.
-      IsFound
+      IsFoundDeep
       (λ depth.
       option_and_then
       (λ (at : StatementNumber).
       option_and_then
       (λ (made : StatementCode).
       option_map (before_code made.items)
-      (code_of_all body.tree.now (code_of_statement body depth) made.here (suc first) count made.label))
+      (code_of_statements body.tree.now (code_of_statement body depth) made.here (suc first) count made.label))
       (code_of_statement body depth here.facts at label))
       read)
       (before_code items rest))
@@ -176,9 +186,154 @@ mutual
       (found_then (λ depth. code_of_statement body depth here.facts number label)
       (λ depth made.
       option_map (before_code made.items)
-      (code_of_all body.tree.now (code_of_statement body depth) made.here (suc first) count made.label))
+      (code_of_statements body.tree.now (code_of_statement body depth) made.here (suc first) count made.label))
       one (before_code items rest)
       (statement_is_code label labels.0 is labels.1)
       (found_map (before_code items)
-      (λ depth. code_of_all body.tree.now (code_of_statement body depth) middle (suc first) count labels.0)
+      (λ depth. code_of_statements body.tree.now (code_of_statement body depth) middle (suc first) count labels.0)
       rest (all_are_code labels.0 next others labels.2)))
+
+-- What is written for the end of a procedure is its code.
+end_is_code :
+    (body : Body) (called : List Bool) (here : Here) (is_reached : Bool) (items : List Item) (label next : ℕ)
+    → (code : IsEndCode body called here is_reached items)
+    → IsEndLabelled body called here is_reached items code label next
+    → (last : Here)
+    × IsFoundDeep (λ depth. code_of_end body depth is_reached here label)
+    (record { items = items; here = last; label = next })
+end_is_code body called here true items label next code labels = (code.0, planned_are_code label next code.1 labels)
+end_is_code body called here false items label next code labels = (
+  here,
+  (
+    0,
+    λ extra.
+        ap (λ at. Some (record { items = []; here = here; label = at })) (sym labels)
+        ∙ ap (λ all. Some (record { items = all; here = here; label = next })) (sym code),
+  ),
+)
+
+-- What is written for a procedure is its code.
+pub procedure_is_code :
+    {tree : TreeModule} {called : List Bool} {number : ℕ} {procedure : TreeProcedure} {items : List Item}
+    (label next : ℕ)
+    → (code : IsProcedureCode tree called number procedure items)
+    → IsProcedureLabelled code label next
+    → (last : Here)
+    × IsCodeOfProcedure code.body number label (record { items = items; here = last; label = next })
+unfolding code_of_procedure
+procedure_is_code {tree = tree} {called = called} {number = number} {procedure = procedure} {items = items} label next code
+    labels =
+    let body : Body = code.body in
+    let start : ℕ = label_after label body.procedure.now.label_count in
+    let first : code.first ≡ start =
+    labels.first ∙ ap (λ (own : TreeProcedure). label_after label own.label_count) (sym code.procedure_is) in
+    let ending =
+    end_is_code body called code.last procedure.reaches_its_end code.ending labels.ended next code.ends labels.ends in
+    let begun : StatementCode = record { items = code.beginning; here = code.entered; label = labels.begun } in
+    let listed : StatementCode = record { items = code.statements; here = code.last; label = labels.ended } in
+    let ended : StatementCode = record { items = code.ending; here = ending.0; label = next } in
+    let begins :
+    IsFoundDeep
+    (λ depth.
+    code_of_steps_of body depth (arriving (Some no_facts)) (entry_steps body start)
+    (label_after start (entry_labels body)))
+    begun =
+    subst
+    (λ at.
+    IsFoundDeep
+    (λ depth.
+    code_of_steps_of body depth (arriving (Some no_facts)) (entry_steps body at) (label_after at (entry_labels body)))
+    begun)
+    first
+    (planned_are_code (label_after code.first (entry_labels body)) labels.begun code.begins labels.begins) in
+    let lists : IsFoundDeep (λ depth. code_of_list_of body depth code.entered.facts labels.begun) listed =
+    subst
+    (λ (own : TreeProcedure).
+    IsFoundDeep
+    (λ depth.
+    code_of_list body.tree.now (code_of_statement body depth) code.entered.facts own.body labels.begun)
+    listed)
+    (sym code.procedure_is) (list_is_code labels.begun labels.ended code.written labels.written) in
+    let ends :
+    IsFoundDeep
+    (λ depth. code_of_end body depth body.procedure.now.reaches_its_end code.last labels.ended) ended =
+    subst
+    (λ (own : TreeProcedure).
+    IsFoundDeep (λ depth. code_of_end body depth own.reaches_its_end code.last labels.ended) ended)
+    (sym code.procedure_is) ending.1 in (
+      ending.0,
+      subst
+          (λ all. IsCodeOfProcedure body number label (record { items = all; here = ending.0; label = next }))
+          (sym code.list_is)
+          (found_map (before_code (its.Mark number ∷ []))
+          (λ depth.
+          option_and_then
+          (λ (beginning : StatementCode).
+          option_map (before_code beginning.items)
+          (option_and_then
+          (λ (statements : StatementCode).
+          option_map (before_code statements.items)
+          (code_of_end body depth body.procedure.now.reaches_its_end statements.here statements.label))
+          (code_of_list_of body depth beginning.here.facts beginning.label)))
+          (code_of_steps_of body depth (arriving (Some no_facts)) (entry_steps body start)
+          (label_after start (entry_labels body))))
+          (before_code code.beginning (before_code code.statements ended))
+          (found_then
+          (λ depth.
+          code_of_steps_of body depth (arriving (Some no_facts)) (entry_steps body start)
+          (label_after start (entry_labels body)))
+          (λ depth beginning.
+          option_map (before_code beginning.items)
+          (option_and_then
+          (λ (statements : StatementCode).
+          option_map (before_code statements.items)
+          (code_of_end body depth body.procedure.now.reaches_its_end statements.here statements.label))
+          (code_of_list_of body depth beginning.here.facts beginning.label)))
+          begun (before_code code.beginning (before_code code.statements ended)) begins
+          (found_map (before_code code.beginning)
+          (λ depth.
+          option_and_then
+          (λ (statements : StatementCode).
+          option_map (before_code statements.items)
+          (code_of_end body depth body.procedure.now.reaches_its_end statements.here statements.label))
+          (code_of_list_of body depth code.entered.facts labels.begun))
+          (before_code code.statements ended)
+          (found_then (λ depth. code_of_list_of body depth code.entered.facts labels.begun)
+          (λ depth statements.
+          option_map (before_code statements.items)
+          (code_of_end body depth body.procedure.now.reaches_its_end statements.here statements.label))
+          listed (before_code code.statements ended) lists
+          (found_map (before_code code.statements)
+          (λ depth. code_of_end body depth body.procedure.now.reaches_its_end code.last labels.ended) ended ends))))),
+    )
+
+-- What is written for a main program is its code.
+pub main_is_code :
+    {tree : TreeModule} {called : List Bool} {start : ℕ} {items : List Item} (label next : ℕ)
+    → (code : IsMainCode tree called start items)
+    → IsMainLabelled code label next
+    → IsCodeOfMainProgram code.body start label (record { items = items; here = code.last; label = next })
+unfolding code_of_main
+main_is_code {tree = tree} {start = start} {items = items} label next code labels =
+    let body : Body = code.body in
+    let listed : StatementCode = record { items = code.statements; here = code.last; label = next } in
+    let lists :
+    IsFoundDeep
+    (λ depth. code_of_list_of body depth no_facts (label_after label body.procedure.now.label_count)) listed =
+    subst
+    (λ (own : TreeProcedure).
+    IsFoundDeep
+    (λ depth.
+    code_of_list body.tree.now (code_of_statement body depth) no_facts own.body (label_after label own.label_count))
+    listed)
+    (sym code.procedure_is)
+    (list_is_code (label_after label tree.main.label_count) next code.written labels.written) in
+    subst
+    (λ all. IsCodeOfMainProgram body start label (record { items = all; here = code.last; label = next }))
+    (sym code.list_is)
+    (found_map
+    (λ (statements : StatementCode).
+    record statements {
+      items = its.Mark start ∷ stack_end_item (LoadPair Sp) ∷ (statements.items ++ (its.Plain Hlt ∷ []));
+    })
+    (λ depth. code_of_list_of body depth no_facts (label_after label body.procedure.now.label_count)) listed lists)

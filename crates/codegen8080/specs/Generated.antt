@@ -174,7 +174,8 @@ mutual
         → AreCarriedOut body called middle waiting others more last
         → AreCarriedOut body called here waiting (planned.List list ∷ others) (first ++ more) last
 
-  -- a statement, whose steps are planned where this is known, with labels from any number on
+  -- a statement, whose steps are planned where this is known, with labels from a number on: which one,
+  -- `IsStatementLabelled` says
   pub data IsCarriedOut (body : Body) (called : List Bool) :
       Facts → StatementNumber → List Item → Here → Type 0 where
     StatementPlanned : {facts : Facts} {number : StatementNumber} {statement : TreeStatement}

@@ -1,6 +1,6 @@
 -- What the object module of a module is: the items of its code and of its data, how these are bytes of its segments, and
 -- its names.
-use Rattle.std.specs.Prelude.{◌≡◌, ℕ, suc, nat_lt, Bool, true, false, if◌then◌else◌, List, [], ◌∷◌, ◌++◌, flat_map, length, Option, Some, None, slice_get}
+use Rattle.std.specs.Prelude.{◌≡◌, ℕ, suc, nat_lt, Bool, true, false, if◌then◌else◌, List, [], ◌∷◌, ◌++◌, flat_map, Option, Some, None, slice_get}
 use Rattle.isa8080.specs.declared.instr.Instr.TheVariants.{Hlt}
 use Rattle.isa8080.specs.declared.instr.Pair.TheVariants.{Sp}
 use Rattle.object_modules.specs.declared.segment.Alignment.TheVariants.{Byte as OnByte}
@@ -35,7 +35,7 @@ use Rattle.steps8080.specs.Externals.{Extends, entry}
 use Rattle.steps8080.specs.Facts.{no_facts}
 use Rattle.steps8080.specs.Step.{label_after, label_of}
 use Rattle.steps8080.specs.Writer.{Written, address_items, numbered, place_of_label, stack_end_item, use_name}
-use Rattle.exprgen8080.specs.Emission.{call_routine, has_routine, module_label_of_routine}
+use Rattle.exprgen8080.specs.Emission.{call_routine, first_label, has_routine, module_label_of_routine}
 use Rattle.statements8080.specs.declared.body.Body.{Body}
 use Rattle.codegen8080.specs.declared.meeting.Here.{Here}
 use Rattle.codegen8080.specs.Generated.{AreCarriedOut, IsListCarriedOut}
@@ -109,7 +109,7 @@ pub record IsProcedureCode
   pub ends : IsEndCode body called last procedure.reaches_its_end ending
   pub list_is : list ≡ items.Mark number ∷ (beginning ++ (statements ++ ending))
 
--- one that is not EXTERNAL
+-- that of any; an EXTERNAL one has none
 abbrev pub IsCodeOf :
     TreeModule → (called : List Bool) → (number : ℕ) → TreeProcedure → ProcedureKind → List Item → Type 0
 IsCodeOf tree called number procedure (kinds.External name) list = list ≡ []
@@ -168,7 +168,7 @@ pub record IsProcedureLabelled
   pub ends :
       IsEndLabelled code.body called code.last procedure.reaches_its_end code.ending code.ends ended next
 
--- of one that is not EXTERNAL
+-- of any: an EXTERNAL one has no code, and takes no label
 abbrev pub IsCodeLabelled :
     (tree : TreeModule) (called : List Bool) (number : ℕ) (procedure : TreeProcedure) (kind : ProcedureKind)
     (items : List Item)
@@ -193,7 +193,7 @@ pub record IsOwnLabelled
     {tree : TreeModule} {called : List Bool} {start : ℕ} {items : List Item}
     (code : IsOwnCode tree called start items) (next : ℕ) : Type 0 where
   pub begun : ℕ
-  pub start_is : start ≡ label_after (length tree.procedures.items) 9
+  pub start_is : start ≡ first_label tree
   pub main : IsCodeOfMainLabelled tree called start (has_main tree) code.main code.main_is (label_after start 1) begun
   pub procedures :
       AreProceduresLabelled tree called 0 tree.procedures.items code.procedures code.procedures_are begun next

@@ -1,4 +1,5 @@
--- Which steps the code of a statement has.
+-- Which steps the code of a statement has. What is not said here stands in Assignments, Branches, Cases, Iterations and Moves
+-- of statements8080.
 use Rattle.std.specs.Prelude.{ℕ, false, List, [], ◌∷◌, ◌++◌, Option, Some}
 use Rattle.isa8080.specs.declared.instr.Instr.TheVariants.{Hlt}
 use Rattle.asm8080.specs.declared.item.WordForm.TheVariants.{Jump}
@@ -43,19 +44,32 @@ return_of_steps body value =
 
 -- the steps of a statement, where its labels follow each other from this one on
 unfoldable pub statement_steps : Body → Site → Statement → (first : ℕ) → List Planned
+-- the place of a label of the source
 statement_steps body site (Label label) first = mark (body_label body label) ∷ []
+-- nothing
 statement_steps body site Null first = []
+-- the value comes into A or HL, and from there to each target
 statement_steps body site (Assignment targets value) first = assignment_steps body site targets value
+-- the arguments are passed, and the procedure is called
 statement_steps body site (Call procedure arguments) first = part (tasks.Call procedure arguments) 0 ∷ []
+-- bytes are copied, by the routine for that
 statement_steps body site (Move count source destination) first = move_steps site count source destination
+-- the value comes into A or HL, and the procedure returns
 statement_steps body site (Return value) first = return_of_steps body value
+-- the machine halts
 statement_steps body site Halt first = halt_steps
+-- a jump to the place of a label
 statement_steps body site (Goto label) first = goto_steps (body_label body label)
+-- a jump by the condition over the first part, and one over the other
 statement_steps body site (If condition then_part else_part) first =
     if_steps body site condition then_part else_part first
+-- the statements one after another
 statement_steps body site (Do list) first = ListOf list ∷ []
+-- a test by which the code goes around the statements, and a jump back
 statement_steps body site (While condition list) first = while_steps site condition list first
+-- a counter, a test of it, the statements, a step, and a jump back
 statement_steps body site (Iterate head list) first = iteration_steps body site head list first
+-- a jump by a table of jumps to the statement that is chosen
 statement_steps body site (Case choice list) first = case_steps body site choice list first
 
 -- how many labels that takes

@@ -7,10 +7,10 @@ ghost use Rattle.codegen8080.specs.Procedures.{entry_labels, entry_steps};
 ghost use Rattle.codegen8080.specs.internal.Bodies.{AddsEnd, AddsEntry, AddsMain, AddsOwn, AddsProcedure};
 
 use crate::carrying::site_of;
-use crate::generator::{Generator, hold_labels};
+use crate::generator::Generator;
 use crate::procedures::{plan_end, plan_entry};
 use asm8080::WordForm;
-use exprgen8080::{LabelNumber, Step};
+use exprgen8080::{LabelNumber, Step, hold_labels};
 use frames::{FramePlan, plan as frame_plan};
 use isa8080::{Instr, Pair};
 use statements8080::Body;

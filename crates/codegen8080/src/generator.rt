@@ -13,7 +13,7 @@ ghost use Rattle.codegen8080.specs.internal.Carrying.{CarriesOut};
 use crate::carrying::{carry, site_of};
 use crate::meeting::{Here, here_after, waiting_after};
 use crate::statements::plan_statement;
-use exprgen8080::{Emission, Facts};
+use exprgen8080::{Emission, Facts, hold_labels};
 use statements8080::{Body, Plan, Planned};
 use std::alloc::{AllocError, Global};
 use treecode::{Range, Statement, StatementNumber, TreeModule};
@@ -23,13 +23,6 @@ pub(crate) struct Generator {
     pub emission: Emission,
     pub plan: Plan,
     pub goes_on: bool,
-}
-
-// Tells that a number of labels has 32 bits.
-pub(crate) fn hold_labels(labels: u32)
-    ensures { labels < 4294967296 }
-{
-    let _ = labels;
 }
 
 // The statement of an index in a list, which is to number below a bound. Fails where it does not.

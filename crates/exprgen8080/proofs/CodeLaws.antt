@@ -8,7 +8,7 @@ use Rattle.steps8080.specs.declared.step.Step.TheVariants as steps
 use Rattle.steps8080.specs.Step.{label_after}
 use Rattle.sites8080.specs.declared.site.Site.{Site}
 use Rattle.exprgen8080.specs.declared.emission.Emission.{Emission}
-use Rattle.exprgen8080.specs.Code.{AddsCodeOfPart, Code, IsCodeOfPart, IsCodeOfSteps, IsFound, code_of_part, code_of_steps, in_front}
+use Rattle.exprgen8080.specs.Code.{AddsCodeOfPart, Code, IsCodeOfPart, IsCodeOfSteps, IsFoundDeep, code_of_part, code_of_steps, in_front}
 use Rattle.exprgen8080.specs.Emission.{AreWritten, IsWritten, NoneWritten, PlainWritten, WordWritten, JumpWritten, MarkWritten, RoutineWritten, CallWritten, TestWritten, HoldsWritten, ChangeWritten, PartWritten, Planned, knowing}
 use Rattle.exprgen8080.specs.Emitted.{Emits, after_step, step_items}
 use Rattle.exprgen8080.specs.Forms.{task_labels, task_steps}
@@ -17,9 +17,9 @@ use Rattle.exprgen8080.specs.Labelled.{AreLabelled, IsLabelled}
 -- What is found by a function of what is found, and by one that looks one deeper.
 pub found_then : {A B : Type 0} (first_at : (depth : ℕ) → Option A) (then_at : (depth : ℕ) → A → Option B)
     (first : A) (found : B)
-    → IsFound first_at first
-    → IsFound (λ depth. then_at depth first) found
-    → IsFound (λ depth. option_and_then (then_at depth) (first_at depth)) found
+    → IsFoundDeep first_at first
+    → IsFoundDeep (λ depth. then_at depth first) found
+    → IsFoundDeep (λ depth. option_and_then (then_at depth) (first_at depth)) found
 found_then first_at then_at first found is then =
     let same_first : (extra : ℕ) → is.0 + (then.0 + extra) ≡ is.0 + then.0 + extra = λ extra. omega arith in
     let same_then : (extra : ℕ) → then.0 + (is.0 + extra) ≡ is.0 + then.0 + extra = λ extra. omega arith in (
@@ -31,20 +31,20 @@ found_then first_at then_at first found is then =
     )
 
 pub found_map : {A B : Type 0} (made : A → B) (first_at : (depth : ℕ) → Option A) (first : A)
-    → IsFound first_at first
-    → IsFound (λ depth. option_map made (first_at depth)) (made first)
+    → IsFoundDeep first_at first
+    → IsFoundDeep (λ depth. option_map made (first_at depth)) (made first)
 found_map made first_at first is = (is.0, λ extra. ap (option_map made) (is.1 extra))
 
 pub found_deeper : {A : Type 0} (found_at : (depth : ℕ) → Option A) (found : A)
-    → IsFound (λ depth. found_at (suc depth)) found
-    → IsFound found_at found
+    → IsFoundDeep (λ depth. found_at (suc depth)) found
+    → IsFoundDeep found_at found
 found_deeper found_at found is =
     let deeper : (extra : ℕ) → suc (is.0 + extra) ≡ suc is.0 + extra = λ extra. omega arith in
     (suc is.0, λ extra. subst (λ depth. found_at depth ≡ Some found) (deeper extra) (is.1 extra))
 
 -- There is one at most.
 pub one_is_found : {A : Type 0} (found_at : (depth : ℕ) → Option A) (one other : A)
-    → IsFound found_at one → IsFound found_at other → one ≡ other
+    → IsFoundDeep found_at one → IsFoundDeep found_at other → one ≡ other
 one_is_found found_at one other is also =
     let deep : (first second : ℕ) → first + second ≡ second + first = λ first second. omega arith in
     some_is one other
@@ -56,7 +56,7 @@ one_is_found found_at one other is also =
 -- the code of a step before that of others
 grown : (site : Site) (step : Step) (facts last : Facts) (others : List Step) (more : List Item) (label next : ℕ)
     → IsCodeOfSteps site (after_step facts step) others label (record { items = more; facts = last; label = next })
-    → IsFound
+    → IsFoundDeep
     (λ depth. option_map (in_front (step_items site.tree.now facts step))
     (code_of_steps site.tree.now (code_of_part site depth) (after_step facts step) others label))
     (record { items = step_items site.tree.now facts step ++ more; facts = last; label = next })
@@ -128,7 +128,7 @@ mutual
       found_deeper (λ depth. code_of_part site depth facts part label) code
       (subst
       (λ first.
-      IsFound
+      IsFoundDeep
       (λ depth.
       code_of_steps site.tree.now (code_of_part site depth) facts (task_steps (knowing site facts) part first) after)
       code)
@@ -140,7 +140,6 @@ pub emitted_is_code :
     → Emits site part before after
     → AddsCodeOfPart site part before after
 emitted_is_code site part before after emits = record {
-  list = emits.list;
-  writes = emits.writes;
+  emits = emits;
   is_code = part_is_code before.steps.labels after.steps.labels emits.written emits.labels;
 }

@@ -7,11 +7,10 @@ use Rattle.steps8080.specs.declared.step.Part.{Part}
 use Rattle.steps8080.specs.declared.step.Step.{Step}
 use Rattle.steps8080.specs.declared.step.Step.TheVariants as steps
 use Rattle.steps8080.specs.Step.{label_after}
-use Rattle.steps8080.specs.Writer.{Writes}
 use Rattle.sites8080.specs.declared.site.Site.{Site}
 use Rattle.exprgen8080.specs.declared.emission.Emission.{Emission}
 use Rattle.exprgen8080.specs.Emission.{knowing}
-use Rattle.exprgen8080.specs.Emitted.{after_step, step_items}
+use Rattle.exprgen8080.specs.Emitted.{Emits, after_step, step_items}
 use Rattle.exprgen8080.specs.Forms.{task_labels, task_steps}
 
 -- items, what is known of the registers after them, and the first label that they leave
@@ -26,17 +25,17 @@ in_front items code = record code { items = items ++ code.items }
 
 -- The code of steps, by that of their parts: the items of each step, or the code of the part that it is.
 unfoldable pub code_of_steps :
-    TreeModule → (code_of_part : Facts → Part → (label : ℕ) → Option Code)
+    TreeModule → (code_of : Facts → Part → (label : ℕ) → Option Code)
     → Facts → List Step → (label : ℕ) → Option Code
-code_of_steps tree code_of_part facts [] label = Some (record { items = []; facts = facts; label = label })
-code_of_steps tree code_of_part facts (steps.Part part ∷ others) label =
+code_of_steps tree code_of facts [] label = Some (record { items = []; facts = facts; label = label })
+code_of_steps tree code_of facts (steps.Part part ∷ others) label =
     option_and_then
     (λ (first : Code).
-    option_map (in_front first.items) (code_of_steps tree code_of_part first.facts others first.label))
-    (code_of_part facts part label)
-code_of_steps tree code_of_part facts (step ∷ others) label =
+    option_map (in_front first.items) (code_of_steps tree code_of first.facts others first.label))
+    (code_of facts part label)
+code_of_steps tree code_of facts (step ∷ others) label =
     option_map (in_front (step_items tree facts step))
-    (code_of_steps tree code_of_part (after_step facts step) others label)
+    (code_of_steps tree code_of (after_step facts step) others label)
 
 -- The code of a part, where parts stand in each other at most so deep: that of its steps, whose labels come first.
 unfoldable pub code_of_part : Site → (depth : ℕ) → Facts → Part → (label : ℕ) → Option Code
@@ -45,22 +44,21 @@ code_of_part site (suc depth) facts part label =
     code_of_steps site.tree.now (code_of_part site depth) facts
     (task_steps (knowing site facts) part label) (label_after label (task_labels (knowing site facts) part))
 
--- What a function gives that looks so deep, where it looks deep enough.
-abbrev pub IsFound : {A : Type 0} → (found_at : (depth : ℕ) → Option A) → A → Type 0
-IsFound found_at found = (depth : ℕ) × ((extra : ℕ) → found_at (depth + extra) ≡ Some found)
+-- what a function gives at a depth and at every greater one
+abbrev pub IsFoundDeep : {A : Type 0} → (found_at : (depth : ℕ) → Option A) → A → Type 0
+IsFoundDeep found_at found = (depth : ℕ) × ((extra : ℕ) → found_at (depth + extra) ≡ Some found)
 
 -- the code of a part, and of steps
 abbrev pub IsCodeOfPart : Site → Facts → Part → (label : ℕ) → Code → Type 0
-IsCodeOfPart site facts part label code = IsFound (λ depth. code_of_part site depth facts part label) code
+IsCodeOfPart site facts part label code = IsFoundDeep (λ depth. code_of_part site depth facts part label) code
 
 abbrev pub IsCodeOfSteps : Site → Facts → List Step → (label : ℕ) → Code → Type 0
 IsCodeOfSteps site facts list label code =
-    IsFound (λ depth. code_of_steps site.tree.now (code_of_part site depth) facts list label) code
+    IsFoundDeep (λ depth. code_of_steps site.tree.now (code_of_part site depth) facts list label) code
 
--- Items are added to code that are the code of a part, with the first labels that are not taken.
+-- The items that are added to code for a part are the code of that, with the first labels that are not taken.
 pub record AddsCodeOfPart (site : Site) (part : Part) (before after : Emission) : Type 0 where
-  pub list : List Item
-  pub writes : Writes before.writer after.writer list
+  pub emits : Emits site part before after
   pub is_code :
       IsCodeOfPart site before.facts part before.steps.labels
-      (record { items = list; facts = after.facts; label = after.steps.labels })
+      (record { items = emits.list; facts = after.facts; label = after.steps.labels })

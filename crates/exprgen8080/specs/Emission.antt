@@ -40,6 +40,10 @@ index_of_routine routines.RotateLeft = 6
 index_of_routine routines.RotateRight = 7
 index_of_routine routines.Move = 8
 
+-- the first label that is no entry's: after those of the procedures of a module, and of the routines
+abbrev pub first_label : TreeModule → ℕ
+first_label tree = label_after (length tree.procedures.items) 9
+
 -- the label of a routine of an index, after those of the procedures of the module
 abbrev pub module_routine_label : TreeModule → (index : ℕ) → LabelNumber
 module_routine_label tree index = label_of (label_after (length tree.procedures.items) index)
@@ -133,7 +137,7 @@ mutual
         → AreWritten site called middle others more last
         → AreWritten site called facts (steps.Part part ∷ others) (first ++ more) last
 
-  -- a part, whose steps are planned where this is known, with labels from any number on
+  -- a part, whose steps are planned where this is known, with labels from a number on: which one, `IsLabelled` says
   pub data IsWritten (site : Site) (called : List Bool) : Facts → Part → List Item → Facts → Type 0 where
     Planned : {facts last : Facts} {part : Part} {list : List Item} (label : ℕ)
         → AreWritten site called facts (task_steps (knowing site facts) part label) list last

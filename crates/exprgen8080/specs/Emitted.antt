@@ -10,11 +10,10 @@ use Rattle.steps8080.specs.declared.step.Part.{Part}
 use Rattle.steps8080.specs.declared.step.Step.{Step}
 use Rattle.steps8080.specs.declared.step.Step.TheVariants as steps
 use Rattle.steps8080.specs.Facts.{after, after_form, after_word, no_facts, with_facts, without_memory}
-use Rattle.steps8080.specs.Step.{label_after}
 use Rattle.steps8080.specs.Writer.{Writes, jump_item, word_item}
 use Rattle.sites8080.specs.declared.site.Site.{Site}
 use Rattle.exprgen8080.specs.declared.emission.Emission.{Emission}
-use Rattle.exprgen8080.specs.Emission.{AreWritten, IsWritten, after_test, call_routine, has_routine, module_call_items, module_label_of_routine, test_items}
+use Rattle.exprgen8080.specs.Emission.{AreWritten, IsWritten, after_test, call_routine, first_label, has_routine, module_call_items, module_label_of_routine, test_items}
 use Rattle.exprgen8080.specs.Labelled.{AreLabelled, IsLabelled}
 
 -- a table of routines that has all that another one has
@@ -103,6 +102,6 @@ pub record IsEmpty (tree : TreeModule) (emission : Emission) : Type 0 where
     externals = replicate (length tree.externals.items) None;
   }
   pub steps : emission.steps.list.items ≡ []
-  pub labels : emission.steps.labels ≡ label_after (length tree.procedures.items) 9
+  pub labels : emission.steps.labels ≡ first_label tree
   pub facts : emission.facts ≡ no_facts
   pub called : emission.is_called.items ≡ replicate 9 false

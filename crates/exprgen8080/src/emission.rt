@@ -31,8 +31,8 @@ pub const ROUTINES: [Routine; 9] = [
     Routine::Move,
 ];
 
-// Tells that a number of labels has 32 bits, and does nothing.
-fn hold_labels(labels: u32)
+/// Tells that a number of labels has 32 bits, and does nothing.
+pub fn hold_labels(labels: u32)
     ensures { labels < 4294967296 }
 {
     let _ = labels;

@@ -1,5 +1,5 @@
 -- What is added for the parts of a module's code.
-use Rattle.std.specs.Prelude.{◌≡◌, ℕ, Bool, true, false, List, [], ◌∷◌, ◌++◌, None, length, slice_index_or}
+use Rattle.std.specs.Prelude.{◌≡◌, ℕ, Bool, true, false, List, [], ◌∷◌, ◌++◌, None, slice_index_or}
 use Rattle.asm8080.specs.declared.item.Item.{Item}
 use Rattle.runtime8080.specs.declared.routine.Routine.{Routine}
 use Rattle.runtime8080.specs.declared.routine.Routine.TheVariants as names
@@ -9,7 +9,7 @@ use Rattle.treecode.specs.declared.procedure.TreeProcedure.{TreeProcedure}
 use Rattle.steps8080.specs.Externals.{Extends}
 use Rattle.steps8080.specs.Step.{label_after}
 use Rattle.steps8080.specs.Writer.{Written, WritesRoutine}
-use Rattle.exprgen8080.specs.Emission.{module_routine_label}
+use Rattle.exprgen8080.specs.Emission.{first_label, module_routine_label}
 use Rattle.statements8080.specs.declared.body.Body.{Body}
 use Rattle.codegen8080.specs.declared.generator.Generator.{Generator}
 use Rattle.codegen8080.specs.declared.meeting.Here.{Here}
@@ -112,7 +112,7 @@ AddsOwnCode tree start before after =
     AddsCode tree
     (λ called list label next.
     (code : IsOwnCode tree called start list)
-    × (label ≡ label_after (length tree.procedures.items) 9 → IsOwnLabelled code next))
+    × (label ≡ first_label tree → IsOwnLabelled code next))
     before after
 
 -- a routine is added where the table says so
