@@ -1,4 +1,4 @@
-use Rattle.std.proofs.Common.{◌<◌, length}
+use Rattle.std.proofs.Common.{rules, ◌<◌, length}
 use Rattle.program_sources.specs.Programs.{texts_of}
 use Rattle.tool.proofs.CompiledLemmas.{all_compiled, cause_of_all, goes_on, none_without_fault, one_more_without_fault, order_of_all, passed, past_texts, text_at, within_texts}
 use Rattle.tool.proofs.compiled.compile_all.Goals as goal
@@ -34,3 +34,6 @@ pub returns-in_err-one-clause-order : goal.returns-in_err-one-clause-order
 returns-in_err-one-clause-order c =
     order_of_all (texts_of c.args.sources.now) c.loop-file.file _ c.from_residual.result c.in_err-one.field-0.0
     (passed c.from_residual.result c.in_err-one.field-0.0 c.from_residual.ensures.1) c.in_err-one.ensures.refused c.loop-file.invariant.read
+
+pub returns-in_err-push-clause-refused : goal.returns-in_err-push-clause-refused
+returns-in_err-push-clause-refused c plan = search rules
