@@ -7,6 +7,7 @@ use Rattle.exprgen8080.specs.declared.emission.Emission.{Emission}
 use Rattle.exprgen8080.specs.Emission.{IsWritten}
 use Rattle.exprgen8080.specs.Emitted.{Emits, NotesCalled}
 use Rattle.exprgen8080.specs.Labelled.{IsLabelled}
+use Rattle.exprgen8080.proofs.CodeLaws.{part_is_code}
 use Rattle.task_meaning.proofs.CarriedOut.{emitted_does}
 use Rattle.expression_code.specs.Doing.{CodeDoes}
 
@@ -16,8 +17,10 @@ pub code_does :
     → Emits site part before after
     → CodeDoes site part before after
 code_does site part before after emits = record {
-  list = emits.list;
-  writes = emits.writes;
+  code = record {
+    emits = emits;
+    is_code = part_is_code before.steps.labels after.steps.labels emits.written emits.labels;
+  };
   does = λ context from to same sound called there.
       let code :
       (written : IsWritten context.site after.is_called.items before.facts part emits.list after.facts)

@@ -2,8 +2,6 @@
 #![tactic(auto)]
 
 ghost use Rattle.std.specs.Prelude.{IfOk};
-ghost use Rattle.exprgen8080.specs.Code.{AddsCodeOfPart};
-ghost use Rattle.exprgen8080.specs.Emitted.{Emits};
 ghost use Rattle.expression_code.specs.Doing.{CodeDoes};
 
 use exprgen8080::Emission;
@@ -15,9 +13,7 @@ use steps8080::Part;
 /// site, as the task of the part says. Wherever that stands the machine does what the expression or location means, if calls
 /// of all procedures do with less of the budget. A refusal drops the code.
 pub fn emit_expression(code: Emission, site: &Site<'_>, part: Part) -> Result<Emission, AllocError>
-    ensures emitted { IfOk result (λ after. Emits site.now part code after) }
-    ensures code { IfOk result (λ after. AddsCodeOfPart site.now part code after) }
-    ensures does { IfOk result (λ after. CodeDoes site.now part code after) }
+    ensures { IfOk result (λ after. CodeDoes site.now part code after) }
 {
     exprgen8080::emit_expression(code, site, part)
 }
