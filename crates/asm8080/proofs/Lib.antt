@@ -8,3 +8,13 @@ pub mod Assemblies
 pub mod Segments
 pub mod Places
 pub mod Parts
+pub mod Steps
+pub mod Spending
+pub mod Straight
+pub mod Loops
+pub mod Kept
+pub mod Calls
+pub mod Stack
+pub mod FirstItems
+pub mod Example
+pub mod Worked

@@ -15,7 +15,7 @@ use Rattle.asm8080.specs.declared.item.WordForm.{WordForm}
 use Rattle.asm8080.specs.declared.item.WordForm.TheVariants.{Jump, JumpWhere}
 use Rattle.asm8080.specs.Items.{instruction_with, word_of}
 use Rattle.asm8080.specs.Standing.{AgreesIn, size_of_instruction}
-use Rattle.machine_runs.proofs.FirstItems.{plain_item_step, word_item_step}
+use Rattle.asm8080.proofs.FirstItems.{plain_item_step, word_item_step}
 use Rattle.code_meaning.specs.Landing.{Does, at_place}
 use Rattle.code_meaning.specs.Activations.{Activation, IsThere, LiesWell}
 use Rattle.code_meaning.proofs.Landing.{after_step, after_paid_step}

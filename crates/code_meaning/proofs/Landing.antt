@@ -6,8 +6,8 @@ use Rattle.isa8080.specs.Step.{step_of, state_after}
 use Rattle.isa8080.specs.declared.registers.Status.TheVariants.{Running}
 use Rattle.asm8080.specs.Runs.{Comes}
 use Rattle.asm8080.proofs.RunLaws.{comes_on}
-use Rattle.machine_runs.proofs.Steps.{step_then}
-use Rattle.machine_runs.proofs.Spending.{same_after}
+use Rattle.asm8080.proofs.Steps.{step_then}
+use Rattle.asm8080.proofs.Spending.{same_after}
 use Rattle.code_meaning.specs.Landing.{Lands, IsLeft, Told, Does}
 
 paid_on :

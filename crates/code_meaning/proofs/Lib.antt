@@ -8,3 +8,4 @@ pub mod Access
 pub mod ByteResults
 pub mod Sequences
 pub mod Lawful
+pub mod Facts

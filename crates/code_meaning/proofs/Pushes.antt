@@ -3,7 +3,7 @@ use Rattle.std.proofs.Common.{◌≡◌, ℕ, ◌+◌, ◌-◌, ◌<◌, ◌≤�
 use Rattle.mem80.specs.declared.memory.TheConstants.{MEMORY_SIZE}
 use Rattle.isa8080.specs.State.{HoldBytes, Registers, high_byte, low_byte, wrap}
 use Rattle.asm8080.specs.Standing.{Keeps}
-use Rattle.machine_runs.proofs.Calls.{IsPushed, pushed, pushed_is_memory, pushed_is_pushed, pushed_keeps}
+use Rattle.asm8080.proofs.Calls.{IsPushed, pushed, pushed_is_memory, pushed_is_pushed, pushed_keeps}
 use Rattle.code_meaning.specs.Activations.{Activation, FrameLies, IsReady, LiesWell, Owns, Shares}
 use Rattle.code_meaning.proofs.Owning.{keeps_all, keeps_both, keeps_wider, owns_more, pushed_is_not_owned}
 

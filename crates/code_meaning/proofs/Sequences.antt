@@ -3,7 +3,7 @@ use Rattle.std.proofs.Common.{◌≡◌, ℕ, ◌+◌, ◌<◌, ◌≤◌, List,
 use Rattle.asm8080.specs.declared.item.Item.{Item}
 use Rattle.asm8080.specs.declared.item.Item.TheVariants.{Plain, WithWord, Byte, Address, Gap, Mark}
 use Rattle.asm8080.specs.Items.{Layout, Stands, size_of, size_of_items}
-use Rattle.machine_runs.proofs.Kept.{stands_size}
+use Rattle.asm8080.proofs.Kept.{stands_size}
 use Rattle.code_meaning.specs.Activations.{Activation, IsThere}
 
 -- where the first ones end

@@ -7,7 +7,7 @@ use Rattle.asm8080.specs.declared.item.Reference.{Reference}
 use Rattle.asm8080.specs.declared.item.WordForm.{WordForm}
 use Rattle.asm8080.specs.Items.{Stands}
 use Rattle.asm8080.specs.Standing.{AgreesIn, size_of_instruction}
-use Rattle.machine_runs.proofs.Kept.{stands_in}
+use Rattle.asm8080.proofs.Kept.{stands_in}
 use Rattle.code_meaning.specs.Activations.{Activation, IsThere, LiesWell}
 
 -- items stand in a memory that has the code

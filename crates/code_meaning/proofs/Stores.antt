@@ -8,7 +8,7 @@ use Rattle.meaning.specs.Outcomes.{Program}
 use Rattle.meaning.specs.Access.{is_declared, is_constant, frame_bytes}
 use Rattle.isa8080.specs.State.{Registers}
 use Rattle.asm8080.specs.Standing.{AgreesIn, Keeps}
-use Rattle.machine_runs.proofs.Kept.{byte_kept, byte_put, memory_put}
+use Rattle.asm8080.proofs.Kept.{byte_kept, byte_put, memory_put}
 use Rattle.code_meaning.specs.Activations.{Activation, FrameLies, IsReady, IsVariable, LiesWell, Owns, Shares}
 use Rattle.code_meaning.proofs.Owning.{keeps_both}
 

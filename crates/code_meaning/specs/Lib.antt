@@ -1,3 +1,5 @@
 pub mod Landing
 pub mod Activations
 pub mod Computing
+pub mod Holding
+pub mod Asking

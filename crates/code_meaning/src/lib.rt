@@ -1,2 +1,2 @@
-//! What it means that code on the 8080 does what its source says: words, and laws of parts of a run. Nothing here runs.
+//! What it means that code does what its source says, and what is known of registers where it stands.
 #![tactic(auto)]

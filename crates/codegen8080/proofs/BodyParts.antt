@@ -21,7 +21,7 @@ use Rattle.steps8080.specs.Facts.{no_facts}
 use Rattle.steps8080.specs.Step.{label_after, label_of}
 use Rattle.steps8080.specs.Writer.{Writes, stack_end_item}
 use Rattle.steps8080.proofs.Numbered.{writes_nothing, writes_then}
-use Rattle.sites8080.specs.declared.site.Site.{Site}
+use Rattle.steps8080.specs.declared.sites.site.Site.{Site}
 use Rattle.exprgen8080.specs.declared.emission.Emission.{Emission}
 use Rattle.exprgen8080.specs.Emission.{AreWritten, call_routine, MarkWritten, NoneWritten, PlainWritten}
 use Rattle.exprgen8080.specs.Emitted.{EmitsSteps, HasAll, NotesCalled}

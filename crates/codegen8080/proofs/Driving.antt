@@ -11,7 +11,7 @@ use Rattle.steps8080.specs.declared.step.Step.{Step}
 use Rattle.steps8080.specs.Step.{label_after}
 use Rattle.steps8080.specs.Writer.{Writes}
 use Rattle.steps8080.proofs.Numbered.{writes_nothing, writes_then}
-use Rattle.sites8080.specs.declared.site.Site.{Site}
+use Rattle.steps8080.specs.declared.sites.site.Site.{Site}
 use Rattle.exprgen8080.specs.declared.emission.Emission.{Emission}
 use Rattle.exprgen8080.specs.Emission.{knowing}
 use Rattle.exprgen8080.specs.Emitted.{EmitsSteps, HasAll, NotesCalled}

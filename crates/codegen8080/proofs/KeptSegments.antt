@@ -21,7 +21,7 @@ use Rattle.object_modules.specs.Stored.{IsStored, are_longest, fixes_ascend, is_
 use Rattle.object_modules.specs.Text.{Run, before_runs, runs_from}
 use Rattle.object_modules.specs.internal.Joining.{run_at, with_run, with_runs}
 use Rattle.object_modules.proofs.StoredRuns.{content_with, found, found_is, same_over}
-use Rattle.object_merges.proofs.RunsJoined.{runs_append}
+use Rattle.object_laws.proofs.Merges.RunsJoined.{runs_append}
 use Rattle.asm8080.specs.Assembled.{Assembled, Assembles, FitsSegment, fixed_bytes, places_of, segment_of, set_bytes}
 use Rattle.asm8080.specs.Items.{Assembly}
 use Rattle.asm8080.proofs.Segments.{and_true, places_length, run_places, runs_longest, set_length, set_well, valid_bytes}

@@ -20,8 +20,8 @@ use Rattle.steps8080.specs.declared.step.Task.TheVariants as tasks
 use Rattle.steps8080.specs.Facts.{is_at, no_facts, same_location}
 use Rattle.steps8080.specs.Instructions.{copy, load}
 use Rattle.steps8080.specs.Step.{part}
-use Rattle.sites8080.specs.declared.site.Site.{Site}
-use Rattle.sites8080.specs.Queries.{location_of}
+use Rattle.steps8080.specs.declared.sites.site.Site.{Site}
+use Rattle.steps8080.specs.Queries.{location_of}
 use Rattle.exprgen8080.specs.Emission.{AreWritten, knowing}
 use Rattle.statements8080.specs.declared.body.Body.{Body}
 use Rattle.statements8080.specs.declared.plan.Planned.{Planned}

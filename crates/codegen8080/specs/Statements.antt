@@ -10,7 +10,7 @@ use Rattle.treecode.specs.declared.statement.Statement.{Statement}
 use Rattle.treecode.specs.declared.statement.Statement.TheVariants.{Label, Null, Assignment, Call, Move, Return, Halt, Goto, If, Do, While, Iterate, Case}
 use Rattle.steps8080.specs.declared.step.LabelNumber.{LabelNumber}
 use Rattle.steps8080.specs.declared.step.Task.TheVariants as tasks
-use Rattle.sites8080.specs.declared.site.Site.{Site}
+use Rattle.steps8080.specs.declared.sites.site.Site.{Site}
 use Rattle.statements8080.specs.declared.body.Body.{Body}
 use Rattle.statements8080.specs.declared.plan.Planned.{Planned}
 use Rattle.statements8080.specs.declared.plan.Planned.TheVariants.{List as ListOf, Reaches}

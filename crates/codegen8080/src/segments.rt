@@ -39,7 +39,7 @@ fn add_after(runs: &mut Vec<Run>, last: Run, run: Run) -> Result<(), AllocError>
 }
 
 // Adds a run after others, to the last of them where it begins at its end.
-#[tactic(auto, using(object_merges::proofs::RunsJoined::with_run_last))]
+#[tactic(auto, using(object_laws::proofs::Merges::RunsJoined::with_run_last))]
 fn add_run(runs: &mut Vec<Run>, run: Run) -> Result<(), AllocError>
     ensures { OnOk result (runs.new.items ≡ with_run runs.old.items run) }
 {

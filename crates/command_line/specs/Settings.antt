@@ -10,7 +10,7 @@ use Rattle.failure.specs.declared.Failure.{Failure}
 use Rattle.failure.specs.declared.Failure.TheVariants.{Fault, Memory}
 use Rattle.command_line.specs.Command.{PlanWanted, ProgramWanted}
 use Rattle.command_line.specs.declared.values.InputByte.{InputByte}
-use Rattle.plans.specs.declared.Plan.{Plan}
+use Rattle.mem80.specs.declared.plan.Plan.{Plan}
 use Rattle.command_line.specs.declared.values.Settings.{Settings}
 use Rattle.command_line.specs.declared.values.ValueFault.{ValueFault}
 

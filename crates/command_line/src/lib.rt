@@ -7,10 +7,10 @@ mod orders;
 mod reading;
 mod values;
 
+pub use mem80::Plan;
 pub use orders::{
     Action, CompileOrder, LinkOrder, NeedOrder, Order, PlaceAction, PlaceOrder, PlanTexts,
     ProgramOrder,
 };
-pub use plans::Plan;
 pub use reading::{LineFault, command};
 pub use values::{InputByte, Settings, ValueFault};

@@ -17,7 +17,7 @@ ghost use Rattle.command_line.specs.internal.Reads.{if_read, in_front};
 
 use crate::orders::{NeedOrder, PlaceOrder, PlanTexts, ProgramOrder};
 use failure::Failure;
-use plans::Plan;
+use mem80::Plan;
 use std::alloc::{AllocError, Global};
 use thiserror::Error;
 

@@ -1,16 +1,16 @@
 -- The need of sources, printed or not.
 use Rattle.std.proofs.Common.{◌≡◌, ◌⊎◌, ℕ, List, Bor, Err, Ok, Option, codes, inl, inr, map, subst}
 use Rattle.clap.specs.Walk.{texts}
-use Rattle.files.specs.Files.{Directory}
-use Rattle.answers.specs.Reading.{HasFiles}
-use Rattle.answers.specs.Refusals.{Tells, refusal_line}
-use Rattle.answers.specs.declared.endings.Ending.{Ending}
-use Rattle.answers.specs.declared.endings.Ending.TheVariants.{Done, Refused, WrongLine}
+use Rattle.host.specs.Files.{Directory}
+use Rattle.host.specs.Reading.{HasFiles}
+use Rattle.host.specs.Refusals.{Tells, refusal_line}
+use Rattle.host.specs.declared.endings.Ending.{Ending}
+use Rattle.host.specs.declared.endings.Ending.TheVariants.{Done, Refused, WrongLine}
 use Rattle.command_line.specs.Command.{NeedWanted, wants_need}
 use Rattle.command_line.specs.Settings.{plan_read}
-use Rattle.plans.specs.declared.Plan.{Plan}
-use Rattle.need_command.specs.Printing.{PrintsNeed, StopsNeed, TellsNoNeed}
-use Rattle.program_commands.specs.Refusing.{RefusesFor}
+use Rattle.mem80.specs.declared.plan.Plan.{Plan}
+use Rattle.commands.specs.Printing.{PrintsNeed, StopsNeed, TellsNoNeed}
+use Rattle.commands.specs.Refusing.{RefusesFor}
 use Rattle.commands.specs.Needing.{PrintsNeedOf, RefusesNeedOf}
 use Rattle.commands.specs.Orders.{PrintsNeedWanted, RefusesNeed, TellsText}
 

@@ -1,10 +1,10 @@
 -- Files after a command line was carried out.
 use Rattle.std.proofs.Common.{◌≡◌, ◌≤◌, ◌⊎◌, ℕ, List, [], ◌∷◌, Ok, Option, None, Some, inl, inr, refl, subst, arith}
-use Rattle.files.specs.Files.{Directory, KeepsFiles}
-use Rattle.answers.specs.Endings.{status_of}
-use Rattle.answers.specs.Refusals.{TellsRefusal}
-use Rattle.answers.specs.declared.endings.Ending.{Ending}
-use Rattle.answers.specs.declared.endings.Ending.TheVariants.{Done, Refused, WrongLine, Limit, Stopped, Outside}
+use Rattle.host.specs.Files.{Directory, KeepsFiles}
+use Rattle.host.specs.Endings.{status_of}
+use Rattle.host.specs.Refusals.{TellsRefusal}
+use Rattle.host.specs.declared.endings.Ending.{Ending}
+use Rattle.host.specs.declared.endings.Ending.TheVariants.{Done, Refused, WrongLine, Limit, Stopped, Outside}
 use Rattle.command_line.specs.Command.{Wanted, wants_compile, wants_link, wants_need, wants_place, wants_program}
 use Rattle.command_line.specs.Settings.{only_file}
 use Rattle.object_commands.proofs.FilesWritten.{kept_others}

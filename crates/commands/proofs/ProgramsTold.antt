@@ -1,16 +1,16 @@
 -- What was printed of programs, and why not.
 use Rattle.std.proofs.Common.{◌≡◌, ℕ, List, [], ◌∷◌, Ok, None, Option, Some, inl, inr, sym, subst, ◌∙◌}
-use Rattle.files.specs.Files.{Directory}
-use Rattle.answers.specs.Endings.{status_of}
-use Rattle.answers.specs.Refusals.{TellsRefusal}
-use Rattle.answers.specs.declared.endings.Ending.{Ending}
-use Rattle.answers.specs.declared.endings.Ending.TheVariants.{Refused, WrongLine}
+use Rattle.host.specs.Files.{Directory}
+use Rattle.host.specs.Endings.{status_of}
+use Rattle.host.specs.Refusals.{TellsRefusal}
+use Rattle.host.specs.declared.endings.Ending.{Ending}
+use Rattle.host.specs.declared.endings.Ending.TheVariants.{Refused, WrongLine}
 use Rattle.command_line.specs.Command.{CompileWanted, PlaceWanted, ProgramWanted, Wanted, wants_compile}
 use Rattle.command_line.specs.Settings.{Values, only_file, plan_read, values_read}
-use Rattle.plans.specs.declared.Plan.{Plan}
-use Rattle.program_commands.specs.Refusing.{RefusesCompiling, RunsOut}
-use Rattle.program_commands.specs.Running.{PrintsFiles, PrintsProgram}
-use Rattle.program_commands.proofs.Printed.{stays_written}
+use Rattle.mem80.specs.declared.plan.Plan.{Plan}
+use Rattle.commands.specs.Refusing.{RefusesCompiling, RunsOut}
+use Rattle.commands.specs.Running.{PrintsFiles, PrintsProgram}
+use Rattle.commands.proofs.Printed.{stays_written}
 use Rattle.commands.specs.Orders.{RefusesAsWanted, RefusesByWords, RefusesPlaced, RunsAsWanted, RunsByWords, StopsPlaced}
 use Rattle.commands.proofs.OrdersKept.{not_refused, not_wrong}
 

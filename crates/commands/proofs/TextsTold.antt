@@ -2,15 +2,15 @@
 use Rattle.std.proofs.Common.{◌≡◌, ◌⊎◌, ℕ, List, Err, Ok, Option, Some, codes, inl, inr, refl, subst, arith}
 use Rattle.clap.specs.Words.{Kinds, kind_of}
 use Rattle.clap.specs.declared.error.ErrorKind.TheVariants.{DisplayHelp, DisplayVersion}
-use Rattle.answers.specs.Endings.{status_of}
-use Rattle.answers.specs.Refusals.{Tells, refusal_line}
-use Rattle.answers.specs.declared.endings.Ending.{Ending}
-use Rattle.answers.specs.declared.endings.Ending.TheVariants.{Done, Refused, WrongLine, Limit, Stopped, Outside}
+use Rattle.host.specs.Endings.{status_of}
+use Rattle.host.specs.Refusals.{Tells, refusal_line}
+use Rattle.host.specs.declared.endings.Ending.{Ending}
+use Rattle.host.specs.declared.endings.Ending.TheVariants.{Done, Refused, WrongLine, Limit, Stopped, Outside}
 use Rattle.command_line.specs.Command.{IsFaultOf, PlaceWanted, Wanted, wants_place}
 use Rattle.command_line.specs.Settings.{Read, ◌>>=◌, only_file, plan_read}
 use Rattle.command_line.specs.declared.reading.LineFault.{LineFault}
 use Rattle.command_line.specs.declared.reading.LineFault.TheVariants.{Help, Version, Wrong}
-use Rattle.plans.specs.declared.Plan.{Plan}
+use Rattle.mem80.specs.declared.plan.Plan.{Plan}
 use Rattle.commands.specs.Orders.{AsksHelpAtMost, RefusesNoText, TellsText, TellsTextByWords}
 use Rattle.commands.specs.internal.LineFaults.{IsWrong}
 

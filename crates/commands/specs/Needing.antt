@@ -1,8 +1,8 @@
 -- What is printed of the need of sources, and where it is not.
 use Rattle.std.specs.Prelude.{ℕ, List, Option}
-use Rattle.files.specs.Files.{Directory}
-use Rattle.answers.specs.Reading.{HasFiles}
-use Rattle.need_command.specs.Printing.{PrintsNeed, StopsNeed, TellsNoNeed}
+use Rattle.host.specs.Files.{Directory}
+use Rattle.host.specs.Reading.{HasFiles}
+use Rattle.commands.specs.Printing.{PrintsNeed, StopsNeed, TellsNoNeed}
 
 -- the files of these names have texts, and the line that tells the need of their program was written
 pub record PrintsNeedOf (files : Option Directory) (names : List (List ℕ)) (old new : Option (List ℕ)) :

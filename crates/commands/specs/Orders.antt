@@ -4,8 +4,8 @@ use Rattle.std.specs.Io.KnownBytes.{Keeps}
 use Rattle.clap.specs.Words.{IsAmong, Kinds, Text}
 use Rattle.clap.specs.declared.error.ErrorKind.{ErrorKind}
 use Rattle.clap.specs.declared.error.ErrorKind.TheVariants.{DisplayHelp, DisplayVersion}
-use Rattle.files.specs.Files.{Directory, KeepsFiles}
-use Rattle.answers.specs.Refusals.{Tells, TellsRefusal, refusal_line}
+use Rattle.host.specs.Files.{Directory, KeepsFiles}
+use Rattle.host.specs.Refusals.{Tells, TellsRefusal, refusal_line}
 use Rattle.command_line.specs.Command.{NeedWanted, PlaceWanted, Wanted, wants_compile, wants_link, wants_need}
 use Rattle.command_line.specs.Command.{wants_place, wants_program}
 use Rattle.command_line.specs.Settings.{Read, ◌>>=◌, only_file, plan_read, values_read}
@@ -13,11 +13,11 @@ use Rattle.command_line.specs.declared.orders.PlaceAction.{PlaceAction}
 use Rattle.command_line.specs.declared.orders.PlaceAction.TheVariants.{Locate, Hex}
 use Rattle.object_commands.specs.Linking.{KeepsOthers, LinksFiles, StopsLinking}
 use Rattle.object_commands.specs.Placing.{PrintsHex, PrintsPlaces, StopsHex, StopsPlaces}
-use Rattle.program_commands.specs.Compiling.{CompilesFile, StopsCompiling}
-use Rattle.program_commands.specs.Refusing.{RefusesCompiling, RefusesFor, RefusesProgram, RunsOut}
-use Rattle.program_commands.specs.Running.{PrintsProgram}
+use Rattle.commands.specs.Compiling.{CompilesFile, StopsCompiling}
+use Rattle.commands.specs.Refusing.{RefusesCompiling, RefusesFor, RefusesProgram, RunsOut}
+use Rattle.commands.specs.Running.{PrintsProgram}
 use Rattle.commands.specs.Needing.{PrintsNeedOf, RefusesNeedOf}
-use Rattle.plans.specs.declared.Plan.{Plan}
+use Rattle.mem80.specs.declared.plan.Plan.{Plan}
 
 -- an order to compile or to link changes no file but the one that it names, and others change none
 abbrev pub ChangesAsWanted : Wanted → Option Directory → Option Directory → Type 0

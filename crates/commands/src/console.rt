@@ -1,25 +1,24 @@
 //! Carrying out a command line.
 
 ghost use Rattle.std.specs.Prelude.{◌≡◌, ◌≤◌, []};
-ghost use Rattle.answers.specs.Endings.{status_of};
-ghost use Rattle.answers.specs.Refusals.{TellsOther, TellsRefusal};
+ghost use Rattle.host.specs.Endings.{status_of};
+ghost use Rattle.host.specs.Refusals.{TellsOther, TellsRefusal};
 ghost use Rattle.clap.specs.Walk.{texts};
 ghost use Rattle.clap.specs.Words.{fault_of};
-ghost use Rattle.files.specs.Files.{KeepsFiles};
+ghost use Rattle.host.specs.Files.{KeepsFiles};
 ghost use Rattle.command_line.specs.Command.{plm_app, place_in, program_in, wanted_by, wanted_in, wants_place, wants_program};
-ghost use Rattle.program_commands.specs.Refusing.{RefusesProgram};
-ghost use Rattle.program_commands.specs.Running.{PrintsProgram};
+ghost use Rattle.commands.specs.Refusing.{RefusesProgram};
+ghost use Rattle.commands.specs.Running.{PrintsProgram};
 ghost use Rattle.commands.specs.Orders.{AsksHelpAtMost, ChangesAsWanted, ChangesByWords, PrintsAsWanted, PrintsByWords, PrintsWanted, RefusesAsWanted, RefusesByWords, RefusesNoText, RefusesPlaced, RunsAsWanted, RunsByWords, StopsAsWanted, StopsByWords, TellsText, TellsTextByWords, WritesAsWanted, WritesByWords, names_by_words, names_of};
 ghost use Rattle.commands.specs.internal.LineFaults.{IsWrong};
 
 use crate::needing::tell_need;
+use crate::programs::{carry_out_sources, compile_file};
 use crate::refusals::refuse_value;
-use answers::{Ending, refuse_memory, refuse_write};
 use command_line::{LineFault, Order, PlaceAction, PlaceOrder, ProgramOrder, command};
 use failure::Failure;
-use files::Files;
+use host::{Ending, Files, refuse_memory, refuse_write};
 use object_commands::{link_files, print_hex, print_places};
-use program_commands::{carry_out_sources, compile_file};
 use std::alloc::Global;
 use std::io::Write;
 
@@ -145,7 +144,7 @@ fn end_line<O: Write, E: Write>(fault: &LineFault, out: &mut O, err: &mut E) -> 
 }
 
 // Carries out an order.
-#[tactic(auto, using(crate::proofs::OrdersKept::kept_as_wanted, crate::proofs::OrdersKept::done_status, crate::proofs::OrdersKept::other_status, crate::proofs::ProgramsTold::refuses_compile, program_commands::proofs::Printed::stays_written))]
+#[tactic(auto, using(crate::proofs::OrdersKept::kept_as_wanted, crate::proofs::OrdersKept::done_status, crate::proofs::OrdersKept::other_status, crate::proofs::ProgramsTold::refuses_compile, crate::proofs::Printed::stays_written))]
 fn carry_out<F: Files, O: Write, E: Write>(
     alloc: Global,
     order: &Order,
@@ -186,7 +185,7 @@ fn carry_out<F: Files, O: Write, E: Write>(
 }
 
 // Carries out an order on an object file, once the values of its options are known.
-#[tactic(auto, using(answers::proofs::FilesRead::stays, crate::proofs::OrdersKept::told_of_only, crate::proofs::TextsTold::done_or_refused, crate::proofs::TextsTold::tells_plan, crate::proofs::TextsTold::tells_second, crate::proofs::NeedTold::is_done, crate::proofs::NeedTold::refused_not_done, crate::proofs::ProgramsTold::refuses_placed))]
+#[tactic(auto, using(host::proofs::FilesRead::stays, crate::proofs::OrdersKept::told_of_only, crate::proofs::TextsTold::done_or_refused, crate::proofs::TextsTold::tells_plan, crate::proofs::TextsTold::tells_second, crate::proofs::NeedTold::is_done, crate::proofs::NeedTold::refused_not_done, crate::proofs::ProgramsTold::refuses_placed))]
 fn carry_out_place<F: Files, O: Write, E: Write>(
     alloc: Global,
     order: &PlaceOrder,
@@ -227,7 +226,7 @@ fn carry_out_place<F: Files, O: Write, E: Write>(
 }
 
 // Carries out an order on sources, once the values of its options are known.
-#[tactic(auto, using(answers::proofs::FilesRead::stays))]
+#[tactic(auto, using(host::proofs::FilesRead::stays))]
 fn carry_out_program<F: Files, O: Write, E: Write>(
     alloc: Global,
     order: &ProgramOrder,

@@ -3,6 +3,9 @@
 
 mod console;
 mod needing;
+mod needs;
+mod printed_needs;
+mod programs;
 mod refusals;
 
 pub use console::run_command;

@@ -1,28 +1,27 @@
 //! How much of the stack sources need.
 
 ghost use Rattle.std.specs.Prelude.{◌≡◌, ◌⊎◌};
-ghost use Rattle.answers.specs.Refusals.{TellsOther, TellsRefusal};
-ghost use Rattle.files.specs.Files.{KeepsFiles};
-ghost use Rattle.program_sources.specs.Programs.{texts_of};
+ghost use Rattle.host.specs.Refusals.{TellsOther, TellsRefusal};
+ghost use Rattle.host.specs.Files.{KeepsFiles};
+ghost use Rattle.sources.specs.Programs.{texts_of};
 ghost use Rattle.command_line.specs.Command.{need_in, wants_need};
-ghost use Rattle.need_command.specs.Printing.{PrintsNeed, StopsNeed, TellsNoNeed};
-ghost use Rattle.program_commands.specs.Refusing.{RefusesFor};
+ghost use Rattle.commands.specs.Printing.{PrintsNeed, StopsNeed, TellsNoNeed};
+ghost use Rattle.commands.specs.Refusing.{RefusesFor};
 ghost use Rattle.commands.specs.Needing.{PrintsNeedOf, RefusesNeedOf};
 ghost use Rattle.commands.specs.Orders.{PrintsNeedWanted, RefusesNeed, TellsText};
 
+use crate::printed_needs::print_need;
+use crate::programs::sources_of;
 use crate::refusals::refuse_value;
-use answers::{Ending, read_files, refuse_file, refuse_memory};
 use command_line::NeedOrder;
 use failure::Failure;
-use files::Files;
-use need_command::print_need;
-use program_commands::sources_of;
-use program_sources::Source;
+use host::{Ending, Files, read_files, refuse_file, refuse_memory};
+use sources::Source;
 use std::alloc::Global;
 use std::io::Write;
 
 /// Prints how much of the stack the program of the sources of an order needs, once the plan beside them is one.
-#[tactic(auto, using(answers::proofs::FilesRead::stays, crate::proofs::NeedTold::done_or_refused, crate::proofs::NeedTold::is_done, crate::proofs::NeedTold::prints_wanted, crate::proofs::NeedTold::refuses_need, crate::proofs::NeedTold::tells_plan))]
+#[tactic(auto, using(host::proofs::FilesRead::stays, crate::proofs::NeedTold::done_or_refused, crate::proofs::NeedTold::is_done, crate::proofs::NeedTold::prints_wanted, crate::proofs::NeedTold::refuses_need, crate::proofs::NeedTold::tells_plan))]
 pub(crate) fn tell_need<F: Files, O: Write, E: Write>(
     alloc: Global,
     order: &NeedOrder,

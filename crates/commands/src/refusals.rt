@@ -1,10 +1,10 @@
 //! What commands print where values are refused.
 
 ghost use Rattle.std.specs.Prelude.{◌≡◌, codes};
-ghost use Rattle.answers.specs.Refusals.{Tells, TellsOther, refusal_line};
+ghost use Rattle.host.specs.Refusals.{Tells, TellsOther, refusal_line};
 
-use answers::{Ending, refuse};
 use command_line::ValueFault;
+use host::{Ending, refuse};
 use std::io::Write;
 
 /// Prints that an option has a text that is none of its values, or that a file is one too many.

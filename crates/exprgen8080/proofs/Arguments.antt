@@ -8,7 +8,7 @@ use Rattle.steps8080.specs.declared.step.Step.{Step}
 use Rattle.steps8080.specs.declared.step.Step.TheVariants.{CallProcedure}
 use Rattle.steps8080.specs.declared.step.Steps.{Steps}
 use Rattle.steps8080.specs.Step.{Adds}
-use Rattle.sites8080.specs.declared.site.Site.{Site}
+use Rattle.steps8080.specs.declared.sites.site.Site.{Site}
 use Rattle.exprgen8080.specs.Calls.{argument_steps, arguments_steps, call_steps, last_argument_steps, pushed_argument_steps}
 
 -- steps are those of a call, but for its arguments from this one on, and no label is taken

@@ -16,12 +16,12 @@ use Rattle.steps8080.specs.declared.step.Step.TheVariants.{CallRoutine, Plain}
 use Rattle.steps8080.specs.declared.step.Task.TheVariants as tasks
 use Rattle.steps8080.specs.Instructions.{clear_a, copy, low, with_memory, with_register}
 use Rattle.steps8080.specs.Step.{part}
-use Rattle.sites8080.specs.declared.site.Site.{Site}
-use Rattle.sites8080.specs.Queries.{is_free, may_exchange, number as number_of}
-use Rattle.sites8080.specs.Widths.{is_byte_in_register, low_number, operand_in_memory, power}
+use Rattle.steps8080.specs.declared.sites.site.Site.{Site}
+use Rattle.steps8080.specs.Queries.{is_free, may_exchange, number as number_of}
+use Rattle.steps8080.specs.Widths.{is_byte_in_register, low_number, operand_in_memory, power}
 use Rattle.operands8080.specs.Pairs.{pair_steps}
 use Rattle.operands8080.specs.Products.{byte_product_steps}
-use Rattle.relations8080.specs.Relations.{relation_value_steps}
+use Rattle.operands8080.specs.Relations.{relation_value_steps}
 use Rattle.exprgen8080.specs.declared.byte_operators.ByteForm.{ByteForm}
 use Rattle.exprgen8080.specs.declared.byte_operators.ByteForm.TheVariants.{RightInMemory, LeftInMemory, LeftFree, RightFree, Pushed}
 use Rattle.exprgen8080.specs.declared.byte_operators.Operands.{Operands}

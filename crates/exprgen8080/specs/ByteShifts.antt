@@ -17,10 +17,10 @@ use Rattle.steps8080.specs.declared.step.Step.TheVariants.{CallRoutine, Plain}
 use Rattle.steps8080.specs.declared.step.Task.TheVariants as tasks
 use Rattle.steps8080.specs.Instructions.{clear_a, copy, load, with_register}
 use Rattle.steps8080.specs.Step.{part, plain, repeat_steps}
-use Rattle.sites8080.specs.declared.site.Site.{Site}
-use Rattle.sites8080.specs.Site.{scalar}
-use Rattle.sites8080.specs.Queries.{is_free, known, may_exchange, number as number_of}
-use Rattle.sites8080.specs.Widths.{fits_byte, operand_in_memory}
+use Rattle.steps8080.specs.declared.sites.site.Site.{Site}
+use Rattle.steps8080.specs.Site.{scalar}
+use Rattle.steps8080.specs.Queries.{is_free, known, may_exchange, number as number_of}
+use Rattle.steps8080.specs.Widths.{fits_byte, operand_in_memory}
 use Rattle.exprgen8080.specs.declared.byte_shifts.Shifted.{Shifted}
 use Rattle.exprgen8080.specs.Halves.{high_byte_steps, low_of_word_steps}
 

@@ -23,9 +23,9 @@ use Rattle.steps8080.specs.declared.step.Step.TheVariants.{Plain, Word}
 use Rattle.steps8080.specs.declared.step.Task.TheVariants as tasks
 use Rattle.steps8080.specs.Instructions.{copy, low}
 use Rattle.steps8080.specs.Step.{part}
-use Rattle.sites8080.specs.declared.site.Site.{Site}
-use Rattle.sites8080.specs.Site.{expression, scalar}
-use Rattle.sites8080.specs.Queries.{known, memory}
+use Rattle.steps8080.specs.declared.sites.site.Site.{Site}
+use Rattle.steps8080.specs.Site.{expression, scalar}
+use Rattle.steps8080.specs.Queries.{known, memory}
 use Rattle.operands8080.specs.Loads.{byte_in_memory_steps}
 use Rattle.exprgen8080.specs.Halves.{byte_number_steps, high_byte_steps, low_of_word_steps}
 use Rattle.exprgen8080.specs.ByteOperators.{byte_binary_steps}

@@ -13,8 +13,8 @@ use Rattle.steps8080.specs.declared.step.Step.TheVariants.{CallProcedure, Plain}
 use Rattle.steps8080.specs.declared.step.Task.{Task}
 use Rattle.steps8080.specs.declared.step.Task.TheVariants as tasks
 use Rattle.steps8080.specs.Step.{part}
-use Rattle.sites8080.specs.declared.site.Site.{Site}
-use Rattle.sites8080.specs.Site.{scalar}
+use Rattle.steps8080.specs.declared.sites.site.Site.{Site}
+use Rattle.steps8080.specs.Site.{scalar}
 
 -- a value of a type into A or HL
 unfoldable pub value_task : ScalarType → ExpressionNumber → Task

@@ -25,7 +25,7 @@ use Rattle.steps8080.specs.declared.step.Step.TheVariants as steps
 use Rattle.steps8080.specs.Facts.{after, after_form, after_word, no_facts, with_facts, without_memory}
 use Rattle.steps8080.specs.Step.{label_after, label_of}
 use Rattle.steps8080.specs.Writer.{external_call_item, jump_item, word_item}
-use Rattle.sites8080.specs.declared.site.Site.{Site}
+use Rattle.steps8080.specs.declared.sites.site.Site.{Site}
 use Rattle.exprgen8080.specs.Forms.{task_steps}
 
 -- the routines in the order of their labels

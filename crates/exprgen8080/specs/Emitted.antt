@@ -11,7 +11,7 @@ use Rattle.steps8080.specs.declared.step.Step.{Step}
 use Rattle.steps8080.specs.declared.step.Step.TheVariants as steps
 use Rattle.steps8080.specs.Facts.{after, after_form, after_word, no_facts, with_facts, without_memory}
 use Rattle.steps8080.specs.Writer.{Writes, jump_item, word_item}
-use Rattle.sites8080.specs.declared.site.Site.{Site}
+use Rattle.steps8080.specs.declared.sites.site.Site.{Site}
 use Rattle.exprgen8080.specs.declared.emission.Emission.{Emission}
 use Rattle.exprgen8080.specs.Emission.{AreWritten, IsWritten, after_test, call_routine, first_label, has_routine, module_call_items, module_label_of_routine, test_items}
 use Rattle.exprgen8080.specs.Labelled.{AreLabelled, IsLabelled}

@@ -5,10 +5,10 @@ use Rattle.steps8080.specs.declared.step.Part.{Part}
 use Rattle.steps8080.specs.declared.step.Step.{Step}
 use Rattle.steps8080.specs.declared.step.Task.{Task}
 use Rattle.steps8080.specs.declared.step.Task.TheVariants as tasks
-use Rattle.sites8080.specs.declared.site.Site.{Site}
+use Rattle.steps8080.specs.declared.sites.site.Site.{Site}
 use Rattle.operands8080.specs.Addresses.{address_steps}
 use Rattle.operands8080.specs.Stores.{store_steps}
-use Rattle.relations8080.specs.Branches.{branch_labels, branch_steps}
+use Rattle.operands8080.specs.Branches.{branch_labels, branch_steps}
 use Rattle.exprgen8080.specs.Bytes.{byte_steps}
 use Rattle.exprgen8080.specs.Calls.{call_steps}
 use Rattle.exprgen8080.specs.Effects.{effects_steps}

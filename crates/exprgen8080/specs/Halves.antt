@@ -7,9 +7,9 @@ use Rattle.steps8080.specs.declared.step.Step.TheVariants.{Plain}
 use Rattle.steps8080.specs.declared.step.Task.TheVariants as tasks
 use Rattle.steps8080.specs.Instructions.{clear_a, copy, high, set}
 use Rattle.steps8080.specs.Step.{part}
-use Rattle.sites8080.specs.declared.site.Site.{Site}
-use Rattle.sites8080.specs.Queries.{number as number_of}
-use Rattle.sites8080.specs.Widths.{fits_byte, high_byte_in_memory}
+use Rattle.steps8080.specs.declared.sites.site.Site.{Site}
+use Rattle.steps8080.specs.Queries.{number as number_of}
+use Rattle.steps8080.specs.Widths.{fits_byte, high_byte_in_memory}
 use Rattle.operands8080.specs.Loads.{byte_in_memory_steps}
 
 -- a number into A

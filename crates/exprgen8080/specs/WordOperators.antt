@@ -19,9 +19,9 @@ use Rattle.steps8080.specs.declared.step.Step.TheVariants.{CallRoutine, Plain, W
 use Rattle.steps8080.specs.declared.step.Task.TheVariants as tasks
 use Rattle.steps8080.specs.Instructions.{clear_a, copy, high, low, set, with_register}
 use Rattle.steps8080.specs.Step.{extension_steps, part, plain}
-use Rattle.sites8080.specs.declared.site.Site.{Site}
-use Rattle.sites8080.specs.Queries.{is_free, known, may_exchange, number as number_of}
-use Rattle.sites8080.specs.Widths.{direct_word, fits_byte, is_word_in_hl, power}
+use Rattle.steps8080.specs.declared.sites.site.Site.{Site}
+use Rattle.steps8080.specs.Queries.{is_free, known, may_exchange, number as number_of}
+use Rattle.steps8080.specs.Widths.{direct_word, fits_byte, is_word_in_hl, power}
 use Rattle.operands8080.specs.declared.pairs.PairOrder.{PairOrder}
 use Rattle.operands8080.specs.declared.pairs.PairOrder.TheVariants.{LeftInHl, RightInHl}
 use Rattle.operands8080.specs.Addresses.{addition_steps}

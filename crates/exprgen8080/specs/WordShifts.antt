@@ -17,9 +17,9 @@ use Rattle.steps8080.specs.declared.step.Step.TheVariants.{CallRoutine, Plain, W
 use Rattle.steps8080.specs.declared.step.Task.TheVariants as tasks
 use Rattle.steps8080.specs.Instructions.{copy, set, with_register}
 use Rattle.steps8080.specs.Step.{extension_steps, part, plain, repeat_steps}
-use Rattle.sites8080.specs.declared.site.Site.{Site}
-use Rattle.sites8080.specs.Queries.{is_free, number as number_of}
-use Rattle.sites8080.specs.Widths.{fits_byte}
+use Rattle.steps8080.specs.declared.sites.site.Site.{Site}
+use Rattle.steps8080.specs.Queries.{is_free, number as number_of}
+use Rattle.steps8080.specs.Widths.{fits_byte}
 use Rattle.exprgen8080.specs.declared.byte_shifts.Shifted.{Shifted}
 use Rattle.exprgen8080.specs.Halves.{high_byte_steps}
 use Rattle.exprgen8080.specs.ByteShifts.{byte_shifted_right_steps, right_shift_steps}

@@ -17,9 +17,9 @@ use Rattle.steps8080.specs.declared.step.Step.{Step}
 use Rattle.steps8080.specs.declared.step.Task.TheVariants as tasks
 use Rattle.steps8080.specs.Instructions.{clear_a, copy, set, with_register}
 use Rattle.steps8080.specs.Step.{extension_steps, part, plain}
-use Rattle.sites8080.specs.declared.site.Site.{Site}
-use Rattle.sites8080.specs.Site.{expression}
-use Rattle.sites8080.specs.Queries.{known, memory}
+use Rattle.steps8080.specs.declared.sites.site.Site.{Site}
+use Rattle.steps8080.specs.Site.{expression}
+use Rattle.steps8080.specs.Queries.{known, memory}
 use Rattle.operands8080.specs.Addresses.{location_address_steps}
 use Rattle.operands8080.specs.Loads.{extended_byte_in_memory_steps, word_in_memory_steps}
 use Rattle.exprgen8080.specs.Bytes.{embedded_steps}

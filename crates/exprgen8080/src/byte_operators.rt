@@ -7,12 +7,10 @@ ghost use Rattle.exprgen8080.specs.ByteOperators.{added_steps, byte_binary_steps
 use crate::byte_shifts::plan_low_byte_shifted_right;
 use crate::halves::{plan_byte_number, plan_low_of_word};
 use isa8080::{Instr, Operand, Operation, Register, StackPair};
-use operands8080::{plan_byte_product, plan_pair};
-use relations8080::plan_relation_value;
+use operands8080::{plan_byte_product, plan_pair, plan_relation_value};
 use runtime8080::Routine;
-use sites8080::Site;
 use std::alloc::AllocError;
-use steps8080::{Step, Steps, Task, clear_a, copy, low, with_memory, with_register};
+use steps8080::{Site, Step, Steps, Task, clear_a, copy, low, with_memory, with_register};
 use treecode::{ExpressionNumber, Reference};
 use trees::BinaryOperator;
 

@@ -7,9 +7,8 @@ ghost use Rattle.exprgen8080.specs.ByteShifts.{by_number_steps, byte_routine, by
 use crate::halves::{plan_high_byte, plan_low_of_word};
 use isa8080::{Instr, Operation, Pair, Register, StackPair};
 use runtime8080::Routine;
-use sites8080::Site;
 use std::alloc::AllocError;
-use steps8080::{Step, Steps, Task, clear_a, copy, load, repeat, with_register};
+use steps8080::{Site, Step, Steps, Task, clear_a, copy, load, repeat, with_register};
 use treecode::{ExpressionNumber, Reference};
 use trees::ScalarType;
 use typed_trees::ShiftFunction;

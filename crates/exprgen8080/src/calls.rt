@@ -5,9 +5,8 @@ ghost use Rattle.steps8080.specs.Step.{Adds};
 ghost use Rattle.exprgen8080.specs.Calls.{call_steps, last_argument_steps, pushed_argument_steps};
 
 use isa8080::{Instr, StackPair};
-use sites8080::Site;
 use std::alloc::AllocError;
-use steps8080::{Step, Steps, Task};
+use steps8080::{Site, Step, Steps, Task};
 use treecode::{ExpressionNumber, Range};
 use trees::ScalarType;
 

@@ -7,9 +7,8 @@ ghost use Rattle.exprgen8080.specs.Effects.{both_effects_steps, effects_steps, f
 use crate::bytes::plan_embedded;
 use crate::calls::plan_call;
 use isa8080::Instr;
-use sites8080::Site;
 use std::alloc::AllocError;
-use steps8080::{Steps, Task};
+use steps8080::{Site, Steps, Task};
 use treecode::{ExpressionForm, ExpressionNumber, Reference, Subscript};
 
 // What a subscript, if there is one, does.

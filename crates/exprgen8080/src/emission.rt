@@ -13,9 +13,8 @@ use crate::forms::plan_task;
 use asm8080::WordForm;
 use isa8080::{Instr, Operand, Operation, Register};
 use runtime8080::Routine;
-use sites8080::Site;
 use std::alloc::{AllocError, Global};
-use steps8080::{Facts, LabelNumber, Part, Step, Steps, Writer};
+use steps8080::{Facts, LabelNumber, Part, Site, Step, Steps, Writer};
 use treecode::{Place, ProcedureKind, TreeModule};
 
 /// The routines, in the order of their labels.

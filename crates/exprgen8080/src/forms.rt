@@ -8,11 +8,9 @@ use crate::bytes::plan_byte;
 use crate::calls::plan_call;
 use crate::effects::plan_effects;
 use crate::words::plan_word;
-use operands8080::{plan_address, plan_store};
-use relations8080::plan_branch;
-use sites8080::Site;
+use operands8080::{plan_address, plan_branch, plan_store};
 use std::alloc::AllocError;
-use steps8080::{Part, Steps, Task};
+use steps8080::{Part, Site, Steps, Task};
 
 /// The steps that carry out a task. What is known of the registers at the site is used for the first step alone.
 #[tactic(auto, unfolding(crate::specs::Forms::task_steps, crate::specs::Forms::task_labels, crate::specs::Forms::steps_of, crate::specs::Forms::labels_of), using(crate::proofs::Parts::none_taken))]

@@ -6,9 +6,8 @@ ghost use Rattle.exprgen8080.specs.Halves.{byte_number_steps, high_byte_steps, l
 
 use isa8080::Register;
 use operands8080::plan_byte_in_memory;
-use sites8080::Site;
 use std::alloc::AllocError;
-use steps8080::{Steps, Task, clear_a, copy, high, set};
+use steps8080::{Site, Steps, Task, clear_a, copy, high, set};
 use treecode::ExpressionNumber;
 
 /// A number into A.

@@ -16,6 +16,8 @@ mod words;
 pub use byte_operators::{ByteForm, Operands};
 pub use byte_shifts::Shifted;
 pub use emission::{Emission, ROUTINES, emit_expression, hold_labels, routine_label};
-pub use sites8080::{Base, Located, Site, reference_after};
-pub use steps8080::{Externals, Facts, Finished, LabelNumber, Part, Step, Steps, Task, Writer};
+pub use steps8080::{
+    Base, Externals, Facts, Finished, LabelNumber, Located, Part, Site, Step, Steps, Task, Writer,
+    reference_after,
+};
 pub use word_operators::Simple;

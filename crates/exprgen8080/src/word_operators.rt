@@ -11,9 +11,10 @@ use asm8080::WordForm;
 use isa8080::{Instr, Operation, Pair, Register};
 use operands8080::{PairOrder, plan_addition, plan_pair, plan_pair_in_order, plan_product};
 use runtime8080::Routine;
-use sites8080::Site;
 use std::alloc::AllocError;
-use steps8080::{Step, Steps, Task, clear_a, copy, high, low, plan_extension, set, with_register};
+use steps8080::{
+    Site, Step, Steps, Task, clear_a, copy, high, low, plan_extension, set, with_register,
+};
 use treecode::{ExpressionNumber, Place};
 use trees::BinaryOperator;
 

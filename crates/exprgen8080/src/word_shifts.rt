@@ -9,9 +9,8 @@ use crate::halves::plan_high_byte;
 use asm8080::WordForm;
 use isa8080::{Instr, Operation, Pair, Register, StackPair};
 use runtime8080::Routine;
-use sites8080::Site;
 use std::alloc::AllocError;
-use steps8080::{Step, Steps, Task, copy, plan_extension, repeat, set, with_register};
+use steps8080::{Site, Step, Steps, Task, copy, plan_extension, repeat, set, with_register};
 use treecode::{ExpressionNumber, Place};
 use typed_trees::ShiftFunction;
 

@@ -1,8 +1,11 @@
-//! Why a call that takes memory gave no value.
+//! Why a call gave no value: a fault, out of memory, or a writer that failed.
 #![tactic(auto)]
+
+mod writing;
 
 use std::alloc::{AllocError, AllocFailed};
 use std::fmt;
+pub use writing::{WriteFault, write_bytes, write_some};
 
 /// Why a call that takes memory gave no value. Each crate has faults of its own, `F`, with a number and a line, and
 /// none of them speaks of memory.

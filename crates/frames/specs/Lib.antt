@@ -1,3 +1,4 @@
 pub mod Frames
 pub mod Charges
 pub mod internal
+pub mod Calls

@@ -1,4 +1,4 @@
-//! The frames of REENTRANT procedures, and what a call of a procedure takes of the stack.
+//! Frames of REENTRANT procedures, and laws of the frames of procedures.
 #![tactic(auto)]
 
 mod charging;

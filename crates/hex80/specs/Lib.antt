@@ -2,7 +2,7 @@ pub use Rattle.failure.specs.Failure
 pub use Rattle.mem80.specs.Range
 pub use Rattle.mem80.specs.Pieces
 pub use Rattle.mem80.specs.Sums
-pub use Rattle.writing.specs.Writing
+pub use Rattle.failure.specs.Writing
 pub mod Numbers
 pub mod Lines
 pub mod Spelling

@@ -1,7 +1,7 @@
 -- What a writer has of the text of pieces.
 use Rattle.std.specs.Prelude.{◌≡◌, ℕ, List, Option}
 use Rattle.std.specs.Io.KnownBytes.{Appends}
-use Rattle.writing.specs.Writing.{AppendsBeginning}
+use Rattle.failure.specs.Writing.{AppendsBeginning}
 use Rattle.mem80.specs.declared.range.Piece.{Piece}
 use Rattle.mem80.specs.Pieces.{byte_in}
 use Rattle.hex80.specs.Lines.{IsTextOf}

@@ -1,1 +1,2 @@
 pub mod MainModules
+pub mod Contents

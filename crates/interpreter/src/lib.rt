@@ -1,6 +1,7 @@
 //! The interpreter of PL/M-80 programs: it carries out what they mean.
 #![tactic(auto)]
 
+mod contents;
 mod main_module;
 mod program;
 

@@ -9,8 +9,8 @@ ghost use Rattle.declared.specs.Access.{HasTable, modules_in};
 ghost use Rattle.meaning.specs.Run.{source_run};
 ghost use Rattle.stack_machine.specs.Runs.{FaultCounts, stop_of};
 
+use crate::contents::fill;
 use crate::main_module::main_module;
-use contents::fill;
 use join::Joined;
 use mem80::Memory;
 use placing::Placement;

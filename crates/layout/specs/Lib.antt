@@ -8,3 +8,4 @@ pub mod StartingMemory
 pub mod Segments
 pub mod Views
 pub mod internal
+pub mod Sound

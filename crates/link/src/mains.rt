@@ -4,11 +4,12 @@ ghost use Rattle.std.specs.Prelude.{◌≡◌, ◌==◌, length, slice_get};
 ghost use Rattle.std.specs.Option.{option_map};
 ghost use Rattle.object_modules.specs.Displacements.{linked_modules};
 ghost use Rattle.object_modules.specs.Merge.{main_modules};
-ghost use Rattle.object_merges.proofs.MergeValid.{main_of};
-ghost use Rattle.link.specs.Views.{main_view};
+ghost use Rattle.object_laws.proofs.Merges.MergeValid.{main_of};
+ghost use Rattle.link.specs.internal.Views.{main_view};
 
-use crate::placed::Placed;
-use object_modules::{Name, ObjectModule, Segment};
+use crate::files::{ObjectFile, name_of};
+use crate::placed::PlacedFile;
+use object_modules::{Name, Segment};
 
 /// The name of a main module, and its start in a merge.
 #[derive(Clone, Copy)]
@@ -17,14 +18,14 @@ pub(crate) struct MainModule {
     pub(crate) start: u16,
 }
 
-/// Whether just one module has a start.
+/// Whether just one file spells a module with a start.
 #[tactic(auto, using(link_laws::proofs::MainPasses::mains_begun, link_laws::proofs::MainPasses::main_passed, link_laws::proofs::MainPasses::main_first, link_laws::proofs::MainPasses::main_again, link_laws::proofs::MainPasses::mains_ended))]
-pub(crate) fn has_one_main(modules: &[ObjectModule]) -> bool
-    ensures { result ≡ (length (main_modules (linked_modules modules.now)) == 1) }
+pub(crate) fn has_one_main(files: &[ObjectFile<'_>]) -> bool
+    ensures { result ≡ (length (main_modules (linked_modules files.now)) == 1) }
 {
     let mut found = false;
-    for module in modules {
-        if module.start().is_some() {
+    for file in files {
+        if file.start().is_some() {
             if found {
                 return false;
             }
@@ -34,20 +35,19 @@ pub(crate) fn has_one_main(modules: &[ObjectModule]) -> bool
     found
 }
 
-// A module as a main module, if it is one.
-fn main_in(placed: &Placed) -> Option<MainModule>
+// The module of a file as a main module, if it is one.
+fn main_in(placed: &PlacedFile<'_>) -> Option<MainModule>
     ensures { option_map main_view result ≡ main_of placed.now }
 {
-    let start = placed.module().start()?;
-    let name = Name::from_text(placed.name())?;
+    let start = placed.file().start()?;
     Some(MainModule {
-        name,
+        name: name_of(placed.file().name()),
         start: start.wrapping_add(placed.start(Segment::Code)),
     })
 }
 
 /// The first main module.
-pub(crate) fn first_main(placed: &[Placed]) -> Option<MainModule>
+pub(crate) fn first_main(placed: &[PlacedFile<'_>]) -> Option<MainModule>
     ensures { option_map main_view result ≡ slice_get (main_modules placed.now) 0 }
 {
     for one in placed {

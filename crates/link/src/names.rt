@@ -1,37 +1,43 @@
-//! The public names of modules, by which external names are found.
+//! The public names of files, by which external names are found. Their characters stay in the files.
 
-ghost use Rattle.std.specs.Prelude.{◌≡◌, [], map, position, IfOk, OnOk, Ok, Err};
+ghost use Rattle.std.specs.Prelude.{◌≡◌, ◌++◌, ◌∷◌, [], IsTrue, length, map, not, position, if◌then◌else◌, IfOk, OnOk, Ok, Err};
+ghost use Rattle.std.specs.List.{list_all};
+ghost use Rattle.std.specs.Option.{option_map};
 ghost use Rattle.std.specs.Str.{bytes_eq};
-ghost use Rattle.indexmap.specs.IndexSet.{insert_key};
 ghost use Rattle.failure.specs.Failure.{IfFault};
+ghost use Rattle.symbols.specs.Names.{is_name};
 ghost use Rattle.object_modules.specs.Merge.{public_names};
-ghost use Rattle.object_modules.specs.Module.{is_among};
+ghost use Rattle.object_modules.specs.Module.{Public, is_among};
 ghost use Rattle.link_laws.specs.Faults.{refusal_of};
-ghost use Rattle.link_laws.specs.internal.Passes.{externals_of, gathered, missing_in, name_of};
+ghost use Rattle.link_laws.specs.internal.Passes.{externals_of, gathered, missing_in};
+ghost use Rattle.link_laws.specs.internal.Growing.{public_name};
 
+use crate::files::{ObjectFile, name_of};
 use failure::Failure;
 use indexmap::IndexSet;
 use link_laws::LinkFault;
-use object_modules::{Name, ObjectModule, OwnedPublic};
+use object_modules::Name;
+use objmod::Walk;
 use std::alloc::Global;
 use std::marker::Model;
 
 /// Names, each of them once, with numbers from 0 in the order in which they came.
-pub(crate) struct NameTable {
-    names: IndexSet<Name>,
+#[derive(Drop)]
+pub(crate) struct NameTable<'a> {
+    names: IndexSet<&'a [u8]>,
 }
 
-impl Model for NameTable {
-    ghost use Rattle.std.specs.Prelude.{ℕ, List};
+impl<'a> Model for NameTable<'a> {
+    ghost use Rattle.std.specs.Prelude.{ℕ, List, map};
 
     ghost Value = { List (List ℕ) };
 
-    ghost view = { λ table. table.names.keys };
+    ghost view = { λ table. map (λ key. key.now) table.names.keys };
 }
 
-impl NameTable {
+impl<'a> NameTable<'a> {
     // No names.
-    fn new(alloc: Global) -> NameTable
+    fn new(alloc: Global) -> NameTable<'a>
         ensures { result ≡ [] }
     {
         NameTable {
@@ -39,91 +45,96 @@ impl NameTable {
         }
     }
 
+    /// How many names there are.
+    pub(crate) fn count(&self) -> usize
+        ensures { result ≡ length self.now }
+    {
+        self.names.len()
+    }
+
     /// Whether a name is among them.
-    pub(crate) fn contains(&self, name: Name) -> bool
-        ensures { result ≡ is_among name self.now }
+    pub(crate) fn contains(&self, name: &'a [u8]) -> bool
+        ensures { result ≡ is_among name.now self.now }
     {
         self.names.contains(&name)
     }
 
     /// The number of a name.
-    pub(crate) fn number_of(&self, name: Name) -> Option<usize>
-        ensures { result ≡ position (bytes_eq name) self.now }
+    pub(crate) fn number_of(&self, name: &'a [u8]) -> Option<usize>
+        ensures { result ≡ position (bytes_eq name.now) self.now }
     {
         self.names.get_index_of(&name)
     }
 
-    // One more name.
-    fn insert(&mut self, name: Name) -> Result<(), Failure<LinkFault>>
-        ensures ok { OnOk result (self.new ≡ insert_key bytes_eq self.old name) }
+    // One more name. Tells whether it is a new one.
+    fn insert(&mut self, name: &'a [u8]) -> Result<bool, Failure<LinkFault>>
+        ensures new { IfOk result (λ is_new. is_new ≡ not (is_among name.now self.old)) }
+        ensures names { IfOk result (λ is_new. self.new
+            ≡ (if is_new then self.old ++ name.now ∷ [] else self.old)) }
         ensures err { IfFault result (λ _. ⊥) }
     {
-        self.names.insert(name)?;
-        Ok(())
+        let is_new = self.names.insert(name)?;
+        Ok(is_new)
     }
 
-    // The names of publics, each of them new.
-    #[tactic(auto, using(link_laws::proofs::NameLoops::name_repeated, link_laws::proofs::NameLoops::name_added, link_laws::proofs::NameLoops::names_ended))]
-    fn add(&mut self, publics: &[OwnedPublic]) -> Result<(), Failure<LinkFault>>
-        ensures ok { OnOk result (gathered self.old (map name_of publics.now) ≡ Ok self.new) }
+    // The names of the publics that a walk has not handed out yet, each of them new.
+    #[tactic(auto, using(link_laws::proofs::NameWalks::name_repeated, link_laws::proofs::NameWalks::name_added))]
+    fn add(&mut self, walk: &mut Walk<'a>) -> Result<(), Failure<LinkFault>>
+        requires { IsTrue (list_all is_name (map public_name walk.old.publics)) }
+        ensures ok { OnOk result (gathered self.old (map public_name walk.old.publics) ≡ Ok self.new) }
         ensures fault { IfFault result (λ fault.
-            gathered self.old (map name_of publics.now) ≡ Err (refusal_of fault)) }
+            gathered self.old (map public_name walk.old.publics) ≡ Err (refusal_of fault)) }
     {
-        for public in publics {
-            if self.contains(public.name) {
-                return Err(Failure::Fault(LinkFault::DuplicatePublic { name: public.name }));
+        while let Some(public) = walk.next_public() {
+            let is_new = self.insert(public.name)?;
+            if !is_new {
+                return Err(Failure::Fault(LinkFault::DuplicatePublic {
+                    name: name_of(public.name),
+                }));
             }
-            self.insert(public.name)?;
         }
         Ok(())
     }
 }
 
-/// The public names of modules, module by module; the first that stood already is a fault.
-pub(crate) fn public_names_of(
+/// The public names of files, file by file; the first that stood already is a fault.
+pub(crate) fn public_names_of<'a>(
     alloc: Global,
-    modules: &[ObjectModule],
-) -> Result<NameTable, Failure<LinkFault>>
-    ensures ok { IfOk result (λ table. gathered [] (public_names modules.now) ≡ Ok table) }
-    ensures fault { IfFault result (λ fault.
-        gathered [] (public_names modules.now) ≡ Err (refusal_of fault)) }
+    files: &[ObjectFile<'a>],
+) -> Result<NameTable<'a>, Failure<LinkFault>>
+    ensures ok { IfOk result (λ table. gathered [] (public_names files.now) ≡ Ok table) }
+    ensures fault { IfFault result (λ fault. gathered [] (public_names files.now) ≡ Err (refusal_of fault)) }
 {
     let mut table = NameTable::new(alloc);
-    for module in modules {
-        table.add(module.publics())?;
+    for file in files {
+        table.add(&mut file.walk())?;
     }
     Ok(table)
 }
 
-// The first of names that a table lacks.
-#[tactic(auto, using(link_laws::proofs::NameLoops::missing_found, link_laws::proofs::NameLoops::missing_passed, link_laws::proofs::NameLoops::missing_ended))]
-fn first_missing(table: &NameTable, names: &[Name]) -> Option<Name>
-    ensures { result ≡ missing_in table.now names.now }
+// The first of the external names that a walk has not handed out yet that a table lacks.
+#[tactic(auto, using(link_laws::proofs::NameWalks::missing_found, link_laws::proofs::NameWalks::missing_passed))]
+fn first_missing<'a>(table: &NameTable<'a>, walk: &mut Walk<'a>) -> Option<Name>
+    requires { IsTrue (list_all is_name walk.old.externals) }
+    ensures { result ≡ missing_in table.now walk.old.externals }
 {
-    for name in names {
-        if !table.contains(*name) {
-            return Some(*name);
+    while let Some(name) = walk.next_external() {
+        if !table.contains(name) {
+            return Some(name_of(name));
         }
     }
     None
 }
 
-/// The first external name of modules, module by module, that a table lacks.
+/// The first external name of files, file by file, that a table lacks.
 #[tactic(auto, using(link_laws::proofs::NameLoops::unresolved_found, link_laws::proofs::NameLoops::unresolved_passed, link_laws::proofs::NameLoops::unresolved_ended))]
-pub(crate) fn unresolved_in(table: &NameTable, modules: &[ObjectModule]) -> Option<Name>
-    ensures { result ≡ missing_in table.now (externals_of modules.now) }
+pub(crate) fn unresolved_in<'a>(table: &NameTable<'a>, files: &[ObjectFile<'a>]) -> Option<Name>
+    ensures { result ≡ missing_in table.now (externals_of files.now) }
 {
-    for module in modules {
-        if let Some(name) = first_missing(table, module.externals()) {
+    for file in files {
+        if let Some(name) = first_missing(table, &mut file.walk()) {
             return Some(name);
         }
     }
     None
-}
-
-// Written out, so that what it holds is let go here.
-impl Drop for NameTable {
-    fn drop(self) {
-        let NameTable { names: _ } = self;
-    }
 }

@@ -1,23 +1,23 @@
-//! Where the pieces of modules begin in their merge.
+//! Where the pieces of files begin in their merge.
 
-ghost use Rattle.std.specs.Prelude.{◌≡◌, ◌≤◌, All, false, true, map, sum_by, IfOk};
+ghost use Rattle.std.specs.Prelude.{◌≡◌, ◌≤◌, All, false, true, sum_by, IfOk};
 ghost use Rattle.failure.specs.Failure.{IfFault};
 ghost use Rattle.object_modules.specs.Displacements.{linked_modules, start_after};
 ghost use Rattle.object_modules.specs.Merge.{SegmentTooLong, some_segment_is_too_long};
 ghost use Rattle.object_modules.specs.Module.{IsObjectModule};
 ghost use Rattle.link_laws.specs.Faults.{refusal_of};
-ghost use Rattle.link.specs.Views.{start_view};
-ghost use Rattle.link_laws.specs.internal.Building.{starts_in};
 
-use crate::placed::{ModuleStart, Placed};
+use crate::files::ObjectFile;
+use crate::placed::{ModuleStart, PlacedFile};
 use failure::Failure;
 use link_laws::LinkFault;
-use object_modules::{Alignment, ObjectModule, SEGMENT_LIMIT, Segment};
-use std::alloc::{AllocError, Global};
+use object_modules::{Alignment, SEGMENT_LIMIT, Segment};
+use std::alloc::Global;
 
-/// Modules with the places of their pieces, and the length of the merged stack.
+/// Files with the places of their pieces, and the length of the merged stack.
+#[derive(Drop)]
 pub(crate) struct Pieces<'a> {
-    pub(crate) placed: Vec<Placed<'a>>,
+    pub(crate) placed: Vec<PlacedFile<'a>>,
     pub(crate) stack_length: u16,
 }
 
@@ -32,31 +32,31 @@ fn start_at(end: u32, alignment: Alignment) -> u32
     }
 }
 
-/// Where the pieces of modules begin, module by module; a segment of the merge that is too long is a fault.
+/// Where the pieces of files begin, file by file; a segment of the merge that is too long is a fault.
 pub(crate) fn pieces_of<'a>(
     alloc: Global,
-    modules: &'a [ObjectModule],
+    files: &[ObjectFile<'a>],
 ) -> Result<Pieces<'a>, Failure<LinkFault>>
-    ensures placed { IfOk result (λ pieces. pieces.placed.items ≡ linked_modules modules.now) }
+    ensures placed { IfOk result (λ pieces. pieces.placed.items ≡ linked_modules files.now) }
     ensures stack { IfOk result (λ pieces. pieces.stack_length
-        ≡ sum_by (λ object. object.stack_length) modules.now) }
-    ensures valid { IfOk result (λ _. All IsObjectModule modules.now) }
-    ensures fits { IfOk result (λ _.
-        some_segment_is_too_long modules.now (linked_modules modules.now) ≡ false) }
+        ≡ sum_by (λ object. object.stack_length) files.now) }
+    ensures valid { IfOk result (λ _. All IsObjectModule files.now) }
+    ensures fits { IfOk result (λ _. some_segment_is_too_long files.now (linked_modules files.now) ≡ false) }
     ensures fault { IfFault result (λ fault. refusal_of fault ≡ SegmentTooLong) }
     ensures too_long { IfFault result (λ _.
-        some_segment_is_too_long modules.now (linked_modules modules.now) ≡ true) }
+        some_segment_is_too_long files.now (linked_modules files.now) ≡ true) }
 {
     let mut placed = Vec::new(alloc);
     let mut code: u32 = 0;
     let mut data_end: u32 = 0;
     let mut stack: u32 = 0;
-    for module in modules {
-        let code_start = start_at(code, module.alignment(Segment::Code));
-        let data_start = start_at(data_end, module.alignment(Segment::Data));
-        code = code_start + module.length(Segment::Code) as u32;
-        data_end = data_start + module.length(Segment::Data) as u32;
-        stack += module.stack_length() as u32;
+    for file in files {
+        let code_start = start_at(code, file.alignment(Segment::Code));
+        let data_start = start_at(data_end, file.alignment(Segment::Data));
+        code = code_start + file.length(Segment::Code) as u32;
+        data_end = data_start + file.length(Segment::Data) as u32;
+        let stack_more = file.length(Segment::Stack);
+        stack += stack_more as u32;
         if code > SEGMENT_LIMIT {
             return Err(Failure::Fault(LinkFault::SegmentTooLong));
         }
@@ -70,33 +70,10 @@ pub(crate) fn pieces_of<'a>(
             code: code_start as u16,
             data_start: data_start as u16,
         };
-        placed.push(Placed::new(module, start))?;
+        placed.push(PlacedFile::new(file, start))?;
     }
     Ok(Pieces {
         placed,
         stack_length: stack as u16,
     })
-}
-
-/// Where the pieces of each module begin.
-pub(crate) fn starts_of(alloc: Global, placed: &[Placed]) -> Result<Vec<ModuleStart>, AllocError>
-    ensures { IfOk result (λ starts. map start_view starts.items ≡ starts_in placed.now) }
-{
-    let mut starts = Vec::new(alloc);
-    let mut rest = placed;
-    while let [one, more @ ..] = rest {
-        starts.push(one.starts())?;
-        rest = more;
-    }
-    Ok(starts)
-}
-
-// Written out, so that what these hold is let go here.
-impl<'a> Drop for Pieces<'a> {
-    fn drop(self) {
-        let Pieces {
-            placed: _,
-            stack_length: _,
-        } = self;
-    }
 }

@@ -1,12 +1,15 @@
-//! A module of a merge, and where its pieces begin there.
+//! A file of a merge, and where the pieces of its module begin there.
 
-ghost use Rattle.std.specs.Prelude.{◌≡◌, ◌+◌, ◌≤◌, IsTrue, length};
-ghost use Rattle.symbols.specs.Names.{is_name};
+ghost use Rattle.std.specs.Prelude.{◌≡◌, ◌+◌, ◌≤◌, length};
 ghost use Rattle.object_modules.specs.Displacements.{displacement_in};
 ghost use Rattle.object_modules.specs.Module.{IsObjectModule, length_of};
-ghost use Rattle.link.specs.Views.{start_view};
+ghost use Rattle.object_modules.specs.Walking.{module_by};
+ghost use Rattle.objmod.specs.internal.Keeping.{ContentsFit};
+ghost use Rattle.link.specs.internal.Views.{start_view};
 
-use object_modules::{ObjectModule, Segment};
+use crate::files::ObjectFile;
+use object_modules::Segment;
+use objmod::Walk;
 use std::marker::Model;
 
 /// Where the pieces of a module begin in those of a merge.
@@ -16,59 +19,73 @@ pub(crate) struct ModuleStart {
     pub(crate) data_start: u16,
 }
 
-/// A module, its name, and where its pieces begin in those of a merge.
-pub(crate) struct Placed<'a> {
-    module: &'a ObjectModule,
-    name: &'a [u8],
+impl ModuleStart {
+    ghost use Rattle.std.specs.Prelude.{◌≡◌};
+    ghost use Rattle.object_modules.specs.Displacements.{start_of};
+    ghost use Rattle.link.specs.internal.Views.{start_view};
+
+    /// Where the piece of a segment begins; 0 for the absolute one and the stack.
+    pub(crate) fn of(self, segment: Segment) -> u16
+        ensures { result ≡ start_of (start_view self) segment }
+    {
+        match segment {
+            Segment::Code => self.code,
+            Segment::Data => self.data_start,
+            Segment::Absolute | Segment::Stack => 0,
+        }
+    }
+}
+
+/// A file, and where the pieces of its module begin in those of a merge.
+#[derive(Drop)]
+pub(crate) struct PlacedFile<'a> {
+    file: ObjectFile<'a>,
     start: ModuleStart,
 }
 
-impl<'a> Model for Placed<'a> {
-    ghost use Rattle.std.specs.Prelude.{◌≡◌};
+impl<'a> Model for PlacedFile<'a> {
     ghost use Rattle.object_modules.specs.Displacements.{Linked};
-    ghost use Rattle.link.specs.Views.{start_view};
+    ghost use Rattle.link.specs.internal.Views.{start_view};
     ghost use Rattle.link_laws.specs.internal.Building.{Fits};
 
     ghost Value = { Linked };
 
-    ghost view = { λ placed. record { object = placed.module.now; start = start_view placed.start } };
+    ghost view = { λ placed. record { object = placed.file; start = start_view placed.start } };
 
-    ghost invariant = { λ placed. record {
-      named : placed.name.now ≡ placed.module.now.name;
-      fits : Fits (record { object = placed.module.now; start = start_view placed.start });
-    } };
+    ghost invariant = { λ placed. Fits (record { object = placed.file; start = start_view placed.start }) };
 }
 
-impl<'a> Placed<'a> {
-    /// A module with pieces that begin at a place and end within their segments.
-    pub(crate) fn new(object: &'a ObjectModule, start: ModuleStart) -> Placed<'a>
-        requires code { start.code + length object.now.code.places ≤ 65535 }
-        requires data_bytes { start.data_start + length object.now.data_places.places ≤ 65535 }
-        ensures object { result.object ≡ object.now }
+impl<'a> PlacedFile<'a> {
+    /// A file with pieces that begin at a place and end within their segments.
+    pub(crate) fn new(file: &ObjectFile<'a>, start: ModuleStart) -> PlacedFile<'a>
+        requires code { start.code + length file.now.code.places ≤ 65535 }
+        requires data_bytes { start.data_start + length file.now.data_places.places ≤ 65535 }
+        ensures object { result.object ≡ file.now }
         ensures start { result.start ≡ start_view start }
-        ensures valid { IsObjectModule object.now }
+        ensures valid { IsObjectModule file.now }
     {
-        Placed {
-            module: object,
-            name: object.name(),
+        PlacedFile {
+            file: file.again(),
             start,
         }
     }
 
-    /// The module.
-    pub(crate) fn module(&self) -> &'a ObjectModule
+    /// The file.
+    pub(crate) fn file(&self) -> &ObjectFile<'a>
         ensures same { result.now ≡ self.now.object }
         ensures valid { IsObjectModule self.now.object }
     {
-        self.module
+        &self.file
     }
 
-    /// The name of the module.
-    pub(crate) fn name(&self) -> &'a [u8]
-        ensures same { result.now ≡ self.now.object.name }
-        ensures valid { IsTrue (is_name result.now) }
+    /// A walk from the front of the file.
+    pub(crate) fn walk(&self) -> Walk<'a>
+        ensures told { self.now.object ≡ module_by result }
+        ensures fits { ContentsFit result }
+        ensures code { (self.now.start).code + result.code_length ≤ 65535 }
+        ensures data_bytes { (self.now.start).data_start + result.data_length ≤ 65535 }
     {
-        self.name
+        self.file.walk()
     }
 
     /// Where its pieces begin.
@@ -83,28 +100,13 @@ impl<'a> Placed<'a> {
         ensures start { result ≡ displacement_in self.now segment }
         ensures fits { result + length_of self.now.object segment ≤ 65535 }
     {
-        match segment {
-            Segment::Code => self.start.code,
-            Segment::Data => self.start.data_start,
-            Segment::Absolute | Segment::Stack => 0,
-        }
+        self.start.of(segment)
     }
 
     /// Where its piece of a segment ends.
     pub(crate) fn end(&self, segment: Segment) -> u16
         ensures { result ≡ displacement_in self.now segment + length_of self.now.object segment }
     {
-        self.start(segment) + self.module.length(segment)
-    }
-}
-
-// Written out, so that what it holds is let go here.
-impl<'a> Drop for Placed<'a> {
-    fn drop(self) {
-        let Placed {
-            module: _,
-            name: _,
-            start: _,
-        } = self;
+        self.start(segment) + self.file.length(segment)
     }
 }

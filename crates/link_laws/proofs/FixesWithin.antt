@@ -16,11 +16,11 @@ use Rattle.object_modules.specs.Runs.{bytes_of_run, fixes_of_run, fixes_in, runs
 use Rattle.object_modules.specs.Stored.{are_longest}
 use Rattle.object_modules.specs.Text.{Run, runs_from, fixes_from}
 use Rattle.object_modules.specs.internal.Joining.{before_fixes, place_fixes, run_end}
-use Rattle.object_merges.proofs.FixesOfPlaces.{fixes_step, runs_fixes}
-use Rattle.object_merges.proofs.MergeValid.{places_are}
-use Rattle.object_merges.proofs.PiecesByRuns.{Apart, AllBelow, AllPast, below_first, past_others, runs_apart}
-use Rattle.object_merges.proofs.PlacesKept.{AllFrom}
-use Rattle.object_merges.proofs.RunsMoved.{fixes_later, row_of, values_of}
+use Rattle.object_laws.proofs.Merges.FixesOfPlaces.{fixes_step, runs_fixes}
+use Rattle.object_laws.proofs.Merges.MergeValid.{places_are}
+use Rattle.object_laws.proofs.Merges.PiecesByRuns.{Apart, AllBelow, AllPast, below_first, past_others, runs_apart}
+use Rattle.object_laws.proofs.Merges.PlacesKept.{AllFrom}
+use Rattle.object_laws.proofs.Merges.RunsMoved.{fixes_later, row_of, values_of}
 use Rattle.link_laws.specs.internal.Building.{AreWithin, HaveTheirFixes}
 
 -- fixes after the first place are within what begins one place before

@@ -9,3 +9,12 @@ pub mod SegmentsMerged
 pub mod Linkings
 pub mod MainNames
 pub mod Pushed
+pub mod BytesInParts
+pub mod FixesByPlace
+pub mod RunsByContents
+pub mod ModuleTold
+pub mod PieceGrown
+pub mod AllGrown
+pub mod ContentsFitAt
+pub mod NameWalks
+pub mod PublicWalks

@@ -12,9 +12,9 @@ use Rattle.object_modules.specs.Displacements.{Linked, linked_modules, all_publi
 use Rattle.object_modules.specs.Merge.{LinkRefusal, UnresolvedExternal, SegmentTooLong, NotOneMain, HighByteMoves, main_modules, joined, public_names, some_segment_is_too_long, some_high_byte_moves, unless_refused, link_refusal, merge_of}
 use Rattle.object_modules.specs.Module.{Public, ObjectModule, IsObjectModule}
 use Rattle.object_modules.specs.Views.{AreKept, module_of_parts, owned_public_view}
-use Rattle.object_files.proofs.Accepted.{public_name}
-use Rattle.object_merges.proofs.MergedParts.{AreMerged, parts_merged, merged_kept}
-use Rattle.object_merges.proofs.MergeValid.{names_from}
+use Rattle.object_laws.proofs.Files.Accepted.{public_name}
+use Rattle.object_laws.proofs.Merges.MergedParts.{AreMerged, parts_merged, merged_kept}
+use Rattle.object_laws.proofs.Merges.MergeValid.{names_from}
 use Rattle.link_laws.specs.internal.Building.{AreJoined, stored_joined}
 use Rattle.link_laws.specs.internal.Passes.{externals_of, gathered, missing_in, name_of}
 use Rattle.link_laws.proofs.NameLoops.{views_named}

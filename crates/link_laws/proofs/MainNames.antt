@@ -6,7 +6,7 @@ use Rattle.std.proofs.lemmas.Bool.{and_parts, or_left, and_from, ne_eqb, leb-tru
 use Rattle.symbols.specs.Names.{is_name, is_name_character, name_of}
 use Rattle.object_modules.specs.declared.segment.Segment.TheVariants.{Code}
 use Rattle.object_modules.specs.Displacements.{Linked, displacement_in}
-use Rattle.object_merges.proofs.MergeValid.{main_of}
+use Rattle.object_laws.proofs.Merges.MergeValid.{main_of}
 
 between : (c low high : ℕ) → (nat_le low c && nat_le c high) ≡ true → (low ≤ c) × (c ≤ high)
 between c low high h =

@@ -5,8 +5,8 @@ use Rattle.std.proofs.lemmas.Bool.{ne_eqb}
 use Rattle.object_modules.specs.Displacements.{code_end, data_end, linked_after, linked_from, linked_modules}
 use Rattle.object_modules.specs.Merge.{main_modules}
 use Rattle.object_modules.specs.Module.{ObjectModule}
-use Rattle.object_merges.proofs.MergeValid.{main_of, mains_are}
-use Rattle.object_merges.proofs.RunsJoined.{same_test}
+use Rattle.object_laws.proofs.Merges.MergeValid.{main_of, mains_are}
+use Rattle.object_laws.proofs.Merges.RunsJoined.{same_test}
 use Rattle.link_laws.specs.internal.Passes.{one_main}
 use Rattle.link_laws.proofs.NameLoops.{at_item, at_end}
 

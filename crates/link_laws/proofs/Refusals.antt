@@ -8,7 +8,7 @@ use Rattle.omf80.specs.Records.{first_that_holds}
 use Rattle.object_modules.specs.Displacements.{linked_modules, all_publics}
 use Rattle.object_modules.specs.Merge.{LinkRefusal, DuplicatePublic, UnresolvedExternal, SegmentTooLong, NotOneMain, HighByteMoves, main_modules, repeated_after, public_names, unresolved, some_segment_is_too_long, some_high_byte_moves, link_refusal}
 use Rattle.object_modules.specs.Module.{ObjectModule, is_among}
-use Rattle.object_files.proofs.Accepted.{Alike, any_moved}
+use Rattle.object_laws.proofs.Files.Accepted.{Alike, any_moved}
 use Rattle.link_laws.specs.internal.Passes.{gathered, externals_of, missing_in}
 
 -- what the first name that is repeated makes of names that are gathered

@@ -8,10 +8,10 @@ use Rattle.object_modules.specs.Module.{SetByte, Public, places_of, words_are_wh
 use Rattle.object_modules.specs.Runs.{bytes_of_run, fixes_in, runs_of}
 use Rattle.object_modules.specs.Text.{runs_from}
 use Rattle.object_modules.specs.internal.Joining.{with_runs, place_fixes, fix_kept}
-use Rattle.object_merges.proofs.FixesOfPlaces.{runs_fixes}
-use Rattle.object_merges.proofs.MovedValid.{moved_length}
-use Rattle.object_merges.proofs.PiecesByRuns.{runs_apart, runs_placed}
-use Rattle.object_merges.proofs.PiecesJoined.{with_piece, joined_step, run_placed, runs_with_piece, fixes_with_piece}
+use Rattle.object_laws.proofs.Merges.FixesOfPlaces.{runs_fixes}
+use Rattle.object_laws.proofs.Merges.MovedValid.{moved_length}
+use Rattle.object_laws.proofs.Merges.PiecesByRuns.{runs_apart, runs_placed}
+use Rattle.object_laws.proofs.Merges.PiecesJoined.{with_piece, joined_step, run_placed, runs_with_piece, fixes_with_piece}
 use Rattle.link_laws.specs.internal.Building.{piece_runs, piece_fixes, runs_joined, end_joined}
 
 -- the piece of a segment of a module

@@ -7,8 +7,8 @@ use Rattle.object_modules.specs.declared.segment.Alignment.TheVariants.{Byte, Pa
 use Rattle.object_modules.specs.declared.segment.Segment.TheVariants.{Code, Data}
 use Rattle.object_modules.specs.Displacements.{Linked, start_after, code_end, data_end, linked_after, linked_from, linked_modules, all_publics}
 use Rattle.object_modules.specs.Module.{Places, ObjectModule, IsObjectModule, is_page}
-use Rattle.object_merges.proofs.MergedParts.{merged_code, merged_data}
-use Rattle.object_merges.proofs.PlacesKept.{stored_of}
+use Rattle.object_laws.proofs.Merges.MergedParts.{merged_code, merged_data}
+use Rattle.object_laws.proofs.Merges.PlacesKept.{stored_of}
 use Rattle.link_laws.specs.internal.Building.{alignment_joined, begins_a_page, stored_joined}
 use Rattle.link_laws.proofs.FixesWithin.{whole_places}
 use Rattle.link_laws.proofs.SegmentLaws.{Follow, all_runs, all_fixes, all_length}

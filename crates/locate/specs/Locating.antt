@@ -5,7 +5,7 @@ use Rattle.mem80.specs.declared.range.Piece.{Piece}
 use Rattle.mem80.specs.Pieces.{AreLongestRuns, are_runs, EndsInMemory}
 use Rattle.object_modules.specs.Module.{ObjectModule}
 use Rattle.object_modules.specs.Image.{Plan, Symbol, Image, PlacementRefusal, ExternalLeft, NoStart, PassesMemory, SegmentsMeet, PageBroken, HighByteBroken, image_of}
-use Rattle.plans.specs.declared.Plan.{Plan as CodePlan}
+use Rattle.mem80.specs.declared.plan.Plan.{Plan as CodePlan}
 use Rattle.locate.specs.declared.absolute.Symbol.{Symbol as CodeSymbol}
 use Rattle.locate.specs.declared.fault.LocateFault.{LocateFault}
 use Rattle.locate.specs.declared.fault.LocateFault.TheVariants as faults

@@ -11,5 +11,5 @@ mod walk;
 
 pub use absolute::{Absolute, Symbol};
 pub use fault::LocateFault;
+pub use mem80::Plan;
 pub use placed::locate;
-pub use plans::Plan;

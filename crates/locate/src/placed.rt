@@ -16,9 +16,8 @@ use crate::plan::base;
 use crate::putting::add_segment;
 use crate::refusals::refusal;
 use failure::Failure;
-use mem80::{MEMORY_SIZE, Piece};
+use mem80::{MEMORY_SIZE, Piece, Plan};
 use object_modules::{ObjectModule, OwnedPublic, Segment};
-use plans::Plan;
 use std::alloc::{AllocError, Global};
 
 // Puts the runs of a segment of a module after other pieces.

@@ -4,8 +4,8 @@ ghost use Rattle.std.specs.Prelude.{◌≡◌};
 ghost use Rattle.object_modules.specs.Image.{base_of, gain_at};
 ghost use Rattle.locate.specs.Locating.{plan_view};
 
+use mem80::Plan;
 use object_modules::{Segment, Target};
-use plans::Plan;
 
 /// What the offsets of a segment are counted from; for the stack the address just past it.
 pub(crate) fn base(plan: &Plan, segment: Segment) -> u16

@@ -6,9 +6,8 @@ ghost use Rattle.locate.specs.Locating.{plan_view};
 ghost use Rattle.locate.specs.internal.Putting.{LieInMemory, joined, pieces_from, with_piece, with_pieces};
 
 use crate::walk::moved_bytes;
-use mem80::{Bytes, Piece};
+use mem80::{Bytes, Piece, Plan};
 use object_modules::{Fix, Run};
-use plans::Plan;
 use std::alloc::{AllocError, Global};
 
 // A piece and the bytes of the next as one.

@@ -12,9 +12,8 @@ ghost use Rattle.locate.specs.internal.Images.{breaks_high};
 
 use crate::fault::LocateFault;
 use crate::plan::{base, gain};
-use mem80::{MEMORY_SIZE, Range, overlap};
+use mem80::{MEMORY_SIZE, Plan, Range, overlap};
 use object_modules::{Alignment, Fix, FixKind, ObjectModule, Segment};
-use plans::Plan;
 
 // Where code, data and stack would lie.
 #[derive(Clone, Copy)]

@@ -9,9 +9,8 @@ ghost use Rattle.locate.specs.internal.Fixing.{after_first, carry_by, first_at, 
 ghost use Rattle.locate.specs.internal.Views.{carry_view, walk_view};
 
 use crate::plan::gain;
-use mem80::MEMORY_SIZE;
+use mem80::{MEMORY_SIZE, Plan};
 use object_modules::{Fix, FixKind, Run};
-use plans::Plan;
 use std::alloc::{AllocError, Global};
 
 // The first byte of a word as it was, and what the word gains.

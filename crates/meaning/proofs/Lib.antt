@@ -10,3 +10,4 @@ pub mod LastingStatements
 pub mod Runs
 pub mod Staying
 pub mod LabelPlaces
+pub mod Powers

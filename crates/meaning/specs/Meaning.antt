@@ -4,7 +4,7 @@
 --
 -- All trees have a meaning here, also those that no source has: where an object, a list, a callee or a
 -- parameter is not there, or a body is left by a jump, a number is 0 and nothing is done. A program that is
--- built of texts takes no such case: so says `TakesNoDefault` of `meant_programs`, case by case.
+-- built of texts takes no such case: so says `TakesNoDefault` of `meaning_laws`, case by case.
 use Rattle.std.specs.Prelude.{◌≡◌, ℕ, zero, suc, ◌+◌, ◌<◌, ◌-◌, ◌*◌, ◌%◌, ◌==◌, Bool, true, false, ◌&&◌, nat_le, nat_lt, List, [], ◌∷◌, ◌++◌, replicate, map, slice_get, slice_index, Option, Some, None, option_map, if◌then◌else◌}
 use Rattle.std.specs.Option.{option_map_or, option_and_then}
 use Rattle.mem80.specs.declared.memory.TheConstants.{MEMORY_SIZE}

@@ -1,5 +1,5 @@
 -- Runs of a program with a budget. Without a main program, or where that returns or jumps out, a run has ended:
--- `TakesNoDefault` of `meant_programs` says that this is never so, in programs as `Meaning` says.
+-- `TakesNoDefault` of `meaning_laws` says that this is never so, in programs as `Meaning` says.
 use Rattle.std.specs.Prelude.{◌≢◌, ℕ, suc, List, [], position, find}
 use Rattle.std.specs.Option.{option_map_or}
 use Rattle.ports.specs.declared.event.Event.{Event}

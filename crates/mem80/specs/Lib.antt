@@ -2,3 +2,4 @@ pub mod Memory
 pub mod Range
 pub mod Pieces
 pub mod Sums
+pub mod Plans

@@ -5,3 +5,4 @@ pub mod BuiltIns
 pub mod Uses
 pub mod Events
 pub mod internal
+pub mod Binding

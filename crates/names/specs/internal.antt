@@ -1,2 +1,4 @@
 pub mod Numbering
 pub mod Parts
+pub mod Walks
+pub mod Examples

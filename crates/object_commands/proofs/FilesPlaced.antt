@@ -1,11 +1,11 @@
 -- Object files that are read and placed.
 use Rattle.std.proofs.Common.{◌≡◌, ℕ, List, Option, None, Some, inl, inr, refl, subst}
 use Rattle.std.specs.Io.KnownBytes.{Appends, Keeps}
-use Rattle.writing.specs.Writing.{AppendsBeginning}
-use Rattle.files.specs.Files.{Directory, HasFile}
+use Rattle.failure.specs.Writing.{AppendsBeginning}
+use Rattle.host.specs.Files.{Directory, HasFile}
 use Rattle.hex80.specs.Texts.{BeginsText, WritesText}
 use Rattle.locate.specs.Locating.{Absolute, IsPlaced, plan_view}
-use Rattle.plans.specs.declared.Plan.{Plan}
+use Rattle.mem80.specs.declared.plan.Plan.{Plan}
 use Rattle.object_modules.specs.Module.{ObjectModule}
 use Rattle.object_modules.specs.Spelling.{Spells}
 use Rattle.object_commands.specs.Placing.{PlacesFile, PrintsHex, PrintsPlaces, StopsHex, StopsPlaces, places_text}

@@ -7,12 +7,12 @@ use Rattle.std.proofs.lemmas.Grind.{common_steps}
 use Rattle.std.proofs.lemmas.Slice.Eq.{bytes_eq-Decides}
 use Rattle.std.proofs.Math.Seq.{take-add, take-length}
 use Rattle.std.proofs.lemmas.List.{take-append-drop}
-use Rattle.files.specs.Files.{BeginsFile, ChangesFiles, Directory, GrowsFile, KeepsFiles, with_file}
+use Rattle.host.specs.Files.{BeginsFile, ChangesFiles, Directory, GrowsFile, KeepsFiles, with_file}
 use Rattle.object_modules.specs.Text.{text_of}
-use Rattle.link_records.specs.Streams.{Merges, WritesMerge}
-use Rattle.writing.specs.Writing.{IsBeginning}
-use Rattle.answers.specs.Reading.{HasFiles}
-use Rattle.answers.proofs.FilesRead.{stays_on}
+use Rattle.link.specs.Streams.{Merges, WritesMerge}
+use Rattle.failure.specs.Writing.{IsBeginning}
+use Rattle.host.specs.Reading.{HasFiles}
+use Rattle.host.proofs.FilesRead.{stays_on}
 use Rattle.object_commands.specs.Linking.{KeepsOthers, LinksFiles, MergesTo, StopsLinking, StopsWriting}
 
 decided : (t : Bool) (P : Type 0) → Decides t P → P → t ≡ true

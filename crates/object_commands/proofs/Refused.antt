@@ -1,8 +1,8 @@
 -- What is printed where object files are refused: the line of no file that can't be read or written.
 use Rattle.std.proofs.Common.{◌≡◌, ℕ, true, List, Option, refl, ap, subst, ◌∙◌}
-use Rattle.files.specs.Files.{Directory}
-use Rattle.answers.specs.Refusals.{Tells, TellsOther, TellsRefusal, refusal_line}
-use Rattle.answers.proofs.LinesPrinted.{is_other, tells_no_file, tells_other}
+use Rattle.host.specs.Files.{Directory}
+use Rattle.host.specs.Refusals.{Tells, TellsOther, TellsRefusal, refusal_line}
+use Rattle.host.proofs.LinesPrinted.{is_other, tells_no_file, tells_other}
 use Rattle.object_modules.specs.declared.fault.Fault.{Fault}
 use Rattle.object_modules.specs.declared.fault.Fault.TheVariants.{Truncated, WrongSum, WrongLength, UnknownType, OutOfOrder, WrongBody, ContentMisplaced, FixMisplaced, WrongAlignment}
 use Rattle.object_modules.specs.Numbers.{number_of}

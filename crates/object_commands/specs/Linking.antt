@@ -1,12 +1,12 @@
 -- What linking makes of files.
 use Rattle.std.specs.Prelude.{◌≡◌, ◌⊎◌, ℕ, false, List, Option, None, Some}
 use Rattle.std.specs.Str.{bytes_eq}
-use Rattle.writing.specs.Writing.{IsBeginning}
-use Rattle.files.specs.Files.{ChangesFiles, Directory, KeepsFiles, with_file}
+use Rattle.failure.specs.Writing.{IsBeginning}
+use Rattle.host.specs.Files.{ChangesFiles, Directory, KeepsFiles, with_file}
 use Rattle.object_modules.specs.Module.{ObjectModule}
 use Rattle.object_modules.specs.Text.{text_of}
-use Rattle.link_records.specs.Streams.{Merges}
-use Rattle.answers.specs.Reading.{HasFiles}
+use Rattle.link.specs.Streams.{Merges}
+use Rattle.host.specs.Reading.{HasFiles}
 
 -- known files other than the one of this name stay as they were
 abbrev pub KeepsOthers : Option Directory → Option Directory → List ℕ → Type 0

@@ -3,12 +3,12 @@ use Rattle.std.specs.Prelude.{◌⊎◌, ℕ, ◌/◌, ◌%◌, List, [], ◌∷
 use Rattle.std.specs.Fmt.{decimal}
 use Rattle.std.specs.Io.KnownBytes.{Appends, Keeps}
 use Rattle.std.specs.List.{flat_map}
-use Rattle.writing.specs.Writing.{AppendsBeginning}
-use Rattle.files.specs.Files.{Directory, HasFile}
+use Rattle.failure.specs.Writing.{AppendsBeginning}
+use Rattle.host.specs.Files.{Directory, HasFile}
 use Rattle.hex80.specs.Lines.{digits_of}
 use Rattle.hex80.specs.Texts.{BeginsText, WritesText}
 use Rattle.locate.specs.Locating.{Absolute, IsPlaced, plan_view}
-use Rattle.plans.specs.declared.Plan.{Plan}
+use Rattle.mem80.specs.declared.plan.Plan.{Plan}
 use Rattle.object_modules.specs.declared.segment.Segment.TheVariants.{Code, Data}
 use Rattle.object_modules.specs.Image.{Symbol}
 use Rattle.object_modules.specs.Module.{ObjectModule, length_of}

@@ -1,15 +1,14 @@
 //! Object files that are linked.
 
 ghost use Rattle.std.specs.Prelude.{◌≡◌, ◌⊎◌, [], ◌∷◌, ◌++◌, IfOk, map};
-ghost use Rattle.answers.specs.Refusals.{TellsOther, TellsRefusal};
+ghost use Rattle.host.specs.Refusals.{TellsOther, TellsRefusal};
 ghost use Rattle.object_commands.specs.Linking.{KeepsOthers, LinksFiles, MergesTo, StopsLinking};
 
 use crate::refusals::{refuse_link_at, refuse_object};
 use crate::writing_files::write_file;
-use answers::{Ending, read_files, refuse_file, refuse_memory, refuse_output};
 use failure::Failure;
-use files::Files;
-use link_records::{LinkFault, StreamFault, link_records};
+use host::{Ending, Files, read_files, refuse_file, refuse_memory, refuse_output};
+use link::{LinkFault, StreamFault, link_records};
 use std::alloc::{AllocError, Global};
 use std::io::Write;
 

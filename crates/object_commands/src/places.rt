@@ -6,8 +6,8 @@ ghost use Rattle.locate.specs.Locating.{symbol_view};
 ghost use Rattle.object_commands.specs.Placing.{places_text, range_line, start_line, symbol_line};
 
 use locate::{Absolute, Symbol};
+use mem80::Plan;
 use object_modules::{ObjectModule, Segment};
-use plans::Plan;
 use std::alloc::Global;
 use std::io;
 use std::io::Write;

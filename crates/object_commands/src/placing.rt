@@ -1,23 +1,21 @@
 //! Object files that are placed in memory.
 
 ghost use Rattle.std.specs.Prelude.{◌≡◌, ◌⊎◌, ◌∷◌, [], IfErr, IfOk, OnErr, OnOk};
-ghost use Rattle.files.specs.Files.{KeepsFiles};
-ghost use Rattle.answers.specs.Refusals.{TellsRefusal};
+ghost use Rattle.host.specs.Files.{KeepsFiles};
+ghost use Rattle.host.specs.Refusals.{TellsRefusal};
 ghost use Rattle.object_commands.specs.Placing.{PlacesFile, PrintsHex, PrintsPlaces, StopsHex, StopsPlaces};
 
 use crate::places::lines_of;
 use crate::refusals::{refuse_object, refuse_place};
-use answers::{Ending, refuse_file, refuse_memory, refuse_output};
-use failure::Failure;
-use files::Files;
+use failure::{Failure, write_bytes};
 use hex80::write_hex;
+use host::{Ending, Files, refuse_file, refuse_memory, refuse_output};
 use locate::{Absolute, locate};
+use mem80::Plan;
 use object_modules::ObjectModule;
 use objmod::read;
-use plans::Plan;
 use std::alloc::Global;
 use std::io::Write;
-use writing::write_bytes;
 
 // An object file that was placed.
 #[derive(Drop)]

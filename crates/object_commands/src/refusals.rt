@@ -1,15 +1,15 @@
 //! What commands on object files print where these are refused.
 
 ghost use Rattle.std.specs.Prelude.{◌≡◌, codes};
-ghost use Rattle.answers.specs.Refusals.{Tells, TellsOther, refusal_line};
+ghost use Rattle.host.specs.Refusals.{Tells, TellsOther, refusal_line};
 ghost use Rattle.object_modules.specs.Numbers.{number_of};
 ghost use Rattle.object_modules.specs.Merge.{link_number};
 ghost use Rattle.object_modules.specs.Image.{placement_number};
 ghost use Rattle.link_laws.specs.Faults as merging;
 ghost use Rattle.locate.specs.Locating as locating;
 
-use answers::{Ending, refuse, refuse_name};
-use link_records::LinkFault;
+use host::{Ending, refuse, refuse_name};
+use link::LinkFault;
 use locate::LocateFault;
 use object_modules::Fault;
 use std::io::Write;

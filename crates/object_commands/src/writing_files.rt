@@ -1,11 +1,11 @@
 //! Files that are written whole.
 
 ghost use Rattle.std.specs.Prelude.{◌≡◌, ◌<◌, length, IfErr, OnOk, OnErr};
-ghost use Rattle.files.specs.Files.{ChangesFiles, Counts, with_file};
+ghost use Rattle.host.specs.Files.{ChangesFiles, Counts, with_file};
 ghost use Rattle.object_commands.specs.Linking.{StopsWriting};
 
 use failure::Failure;
-use files::{FileFault, Files};
+use host::{FileFault, Files};
 
 /// Writes a file from its beginning. After a failure all files are as before, or it has a beginning of the bytes and the
 /// others are as before.

@@ -14,10 +14,10 @@ use Rattle.object_modules.specs.Before.{content_end, end_by_content, entries_of,
 use Rattle.object_modules.specs.Rules.{are_accepted}
 use Rattle.object_modules.specs.Spelling.{FixedContent, fixed_contents}
 use Rattle.object_modules.specs.Walking.{Walking, WalksOver, walk_over}
-use Rattle.object_files.proofs.Accepted.{both_fit, no_entries}
-use Rattle.object_files.proofs.Bytes.{InRange, parts_range}
-use Rattle.object_files.proofs.Contents.{Ascend, Follow, contents_ascend}
-use Rattle.object_files.proofs.FixesOfContents.{begins_at, word_at, clash}
+use Rattle.object_laws.proofs.Files.Accepted.{both_fit, no_entries}
+use Rattle.object_laws.proofs.Files.Bytes.{InRange, parts_range}
+use Rattle.object_laws.proofs.Files.Contents.{Ascend, Follow, contents_ascend}
+use Rattle.object_laws.proofs.Files.FixesOfContents.{begins_at, word_at, clash}
 use Rattle.objmod.specs.internal.Keeping.{AllFit, Clear, ContentsFit, Placed, SegmentFits, fix_at, is_in}
 
 -- where no word begins right before a fix, the second bytes of words are clear

@@ -5,9 +5,9 @@ use Rattle.object_modules.specs.Module.{IsObjectModule, ObjectModule}
 use Rattle.object_modules.specs.Spelling.{Spells}
 use Rattle.object_modules.specs.Text.{text_of, with_publics_in_order}
 use Rattle.object_modules.specs.Walking.{Walking, WalksOver, module_by}
-use Rattle.object_files.proofs.Valid.{spelled_is_object}
-use Rattle.object_files.proofs.Walks.{module_is}
-use Rattle.object_texts.proofs.WrittenAgain.{more_not_read, written_read}
+use Rattle.object_laws.proofs.Files.Valid.{spelled_is_object}
+use Rattle.object_laws.proofs.Files.Walks.{module_is}
+use Rattle.object_laws.proofs.Texts.WrittenAgain.{more_not_read, written_read}
 use Rattle.objmod.specs.internal.Keeping.{ContentsFit}
 use Rattle.objmod.proofs.ContentsFit.{contents_fit}
 

@@ -9,6 +9,6 @@ pub use object_modules::{
     Alignment, Fault, Fix, FixKind, ModuleParts, Name, ObjectModule, OwnedPublic, PublicName, Run,
     SEGMENT_LIMIT, Segment, SegmentBytes, Target,
 };
-pub use object_walks::{Content, Walk, walk};
-pub use object_writer::write;
+pub use object_reading::{Content, Walk, walk};
+pub use object_writing::write;
 pub use reading::{ReadFault, read, read_from};

@@ -12,7 +12,7 @@ ghost use Rattle.objmod.specs.Streams.{HasReadFault, ReadsModule, TakesSome};
 use crate::parts::read_parts;
 use failure::Failure;
 use object_modules::{Fault, ObjectModule};
-use object_walks::{Walk, walk};
+use object_reading::{Walk, walk};
 use std::alloc::{AllocError, Global};
 use std::io;
 use std::io::Read;
@@ -55,7 +55,7 @@ fn module_of_walk(alloc: Global, walk: &mut Walk<'_>) -> Result<ObjectModule, Al
 }
 
 /// The module that a file spells.
-#[tactic(auto, using(crate::proofs::ReadFiles::walk_valid, crate::proofs::ReadFiles::walk_fits, crate::proofs::ReadFiles::told_spells, object_texts::proofs::WrittenAgain::written_not_refused, object_texts::proofs::WrittenAgain::more_is_out_of_order))]
+#[tactic(auto, using(crate::proofs::ReadFiles::walk_valid, crate::proofs::ReadFiles::walk_fits, crate::proofs::ReadFiles::told_spells, object_laws::proofs::Texts::WrittenAgain::written_not_refused, object_laws::proofs::Texts::WrittenAgain::more_is_out_of_order))]
 pub fn read(alloc: Global, bytes: &[u8]) -> Result<ObjectModule, Failure<Fault>>
     ensures spelled { IfOk result (λ object. Spells bytes.now object) }
     ensures fault { IfFault result (λ fault. HasFirstFault bytes.now fault) }

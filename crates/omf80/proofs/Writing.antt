@@ -7,8 +7,8 @@ use Rattle.std.proofs.KnownBytes.{Appends-trans}
 use Rattle.mem80.specs.Sums.{checksum_of}
 use Rattle.mem80.proofs.Sums.{fold_append}
 use Rattle.omf80.specs.Records.{word_bytes, record_bytes}
-use Rattle.writing.specs.Writing.{AppendsBeginning}
-use Rattle.writing.proofs.WritingLemmas.{beginning_after}
+use Rattle.failure.specs.Writing.{AppendsBeginning}
+use Rattle.failure.proofs.WritingLemmas.{beginning_after}
 
 -- the front of a record with a body of a size: its type and its length
 abbrev pub heading_bytes : (type size : ℕ) → List ℕ

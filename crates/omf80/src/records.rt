@@ -5,16 +5,15 @@ ghost use Rattle.std.specs.Io.KnownBytes.{Appends};
 ghost use Rattle.mem80.specs.Sums.{checksum_of};
 ghost use Rattle.omf80.specs.Records.{BeginsWith, kind_of_type, record_fault, first_body, record_end, record_bytes, stated_length, word_bytes};
 ghost use Rattle.omf80.specs.Views.{record_view};
-ghost use Rattle.writing.specs.Writing.{AppendsBeginning};
+ghost use Rattle.failure.specs.Writing.{AppendsBeginning};
 
 use crate::fault::Fault;
 use crate::kind::{BODY_LIMIT, HEADING_SIZE, LENGTH_LIMIT, RecordKind};
 use crate::record::Record;
 use byteorder::{ByteOrder, LittleEndian};
-use failure::Failure;
+use failure::{Failure, WriteFault, write_bytes};
 use std::io::Write;
 use std::marker::Model;
-use writing::{WriteFault, write_bytes};
 
 /// The records of a file, from its front. Contracts see the bytes that are left.
 #[derive(Drop)]

@@ -18,13 +18,13 @@ use Rattle.steps8080.specs.declared.step.Step.TheVariants.{Holds, Plain, Word}
 use Rattle.steps8080.specs.Step.{plain, repeat_steps}
 use Rattle.steps8080.specs.Facts.{before, is_at, no_facts}
 use Rattle.steps8080.specs.Instructions.{copy, load}
-use Rattle.sites8080.specs.declared.queries.Base.{Base}
-use Rattle.sites8080.specs.declared.queries.Base.TheVariants as bases
-use Rattle.sites8080.specs.declared.queries.Located.{Located}
-use Rattle.sites8080.specs.declared.site.Site.{Site}
-use Rattle.sites8080.specs.Queries.{keeps, located}
-use Rattle.sites8080.specs.Site.{distance}
-use Rattle.sites8080.specs.Widths.{unknown}
+use Rattle.steps8080.specs.declared.sites.queries.Base.{Base}
+use Rattle.steps8080.specs.declared.sites.queries.Base.TheVariants as bases
+use Rattle.steps8080.specs.declared.sites.queries.Located.{Located}
+use Rattle.steps8080.specs.declared.sites.site.Site.{Site}
+use Rattle.steps8080.specs.Queries.{keeps, located}
+use Rattle.steps8080.specs.Site.{distance}
+use Rattle.steps8080.specs.Widths.{unknown}
 use Rattle.operands8080.specs.Products.{product_steps}
 
 -- what is to be taken from 65536 to add a number

@@ -13,9 +13,9 @@ use Rattle.steps8080.specs.declared.step.Task.TheVariants.{Address}
 use Rattle.steps8080.specs.Facts.{before, byte_for_l, byte_from_hl, is_at}
 use Rattle.steps8080.specs.Instructions.{copy, load, set}
 use Rattle.steps8080.specs.Step.{part, plain}
-use Rattle.sites8080.specs.declared.site.Site.{Site}
-use Rattle.sites8080.specs.Queries.{location_of}
-use Rattle.sites8080.specs.Site.{distance}
+use Rattle.steps8080.specs.declared.sites.site.Site.{Site}
+use Rattle.steps8080.specs.Queries.{location_of}
+use Rattle.steps8080.specs.Site.{distance}
 use Rattle.operands8080.specs.Addresses.{hold_word_steps, location_address_steps, location_word_steps, word_at_hl_steps}
 
 -- the word at the stack pointer into HL

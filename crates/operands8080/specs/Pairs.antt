@@ -12,9 +12,9 @@ use Rattle.steps8080.specs.declared.step.Step.TheVariants.{Plain, Word}
 use Rattle.steps8080.specs.declared.step.Task.TheVariants as tasks
 use Rattle.steps8080.specs.Instructions.{copy, set}
 use Rattle.steps8080.specs.Step.{part, plain}
-use Rattle.sites8080.specs.declared.site.Site.{Site}
-use Rattle.sites8080.specs.Queries.{is_free, keeps, known, may_exchange}
-use Rattle.sites8080.specs.Widths.{fits_byte, is_word_in_hl}
+use Rattle.steps8080.specs.declared.sites.site.Site.{Site}
+use Rattle.steps8080.specs.Queries.{is_free, keeps, known, may_exchange}
+use Rattle.steps8080.specs.Widths.{fits_byte, is_word_in_hl}
 use Rattle.operands8080.specs.declared.pairs.Choices.{Choices}
 use Rattle.operands8080.specs.declared.pairs.PairForm.{PairForm}
 use Rattle.operands8080.specs.declared.pairs.PairForm.TheVariants.{RightKnown, LeftKnown, RightKeeps, LeftKeeps, RightFree, LeftFree, Pushed}

@@ -7,9 +7,8 @@ ghost use Rattle.operands8080.specs.Addresses.{addition_steps, address_steps, ba
 use crate::products::plan_product;
 use asm8080::WordForm;
 use isa8080::{Instr, Pair, Register, StackPair};
-use sites8080::{Base, Site};
 use std::alloc::AllocError;
-use steps8080::{Facts, Step, Steps, before, copy, is_at, load, repeat};
+use steps8080::{Base, Facts, Site, Step, Steps, before, copy, is_at, load, repeat};
 use treecode::{Location, Place, Reference, Subscript};
 
 // Adds a number to HL. A and DE are kept.

@@ -7,9 +7,8 @@ ghost use Rattle.operands8080.specs.Loads.{byte_in_memory_steps, byte_to_l_steps
 use crate::addresses::{hold_word, plan_location_address, plan_location_word, plan_word_at_hl};
 use asm8080::WordForm;
 use isa8080::{Instr, Register, StackPair};
-use sites8080::Site;
 use std::alloc::AllocError;
-use steps8080::{Steps, Task, before, copy, is_at, load, set};
+use steps8080::{Site, Steps, Task, before, copy, is_at, load, set};
 use treecode::{Location, Reference};
 
 // The word at the stack pointer into HL.

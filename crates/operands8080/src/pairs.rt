@@ -6,9 +6,8 @@ ghost use Rattle.operands8080.specs.Pairs.{any_order, choices_of, form_steps, is
 
 use asm8080::WordForm;
 use isa8080::{Instr, Pair, Register, StackPair};
-use sites8080::Site;
 use std::alloc::AllocError;
-use steps8080::{Steps, Task, copy, set};
+use steps8080::{Site, Steps, Task, copy, set};
 use treecode::{ExpressionNumber, Place};
 
 /// Which of two operands is in HL. The other one is in DE.

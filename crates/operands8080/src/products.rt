@@ -6,9 +6,8 @@ ghost use Rattle.operands8080.specs.Products.{bit_steps, byte_product_steps, cha
 
 use asm8080::WordForm;
 use isa8080::{Instr, Operation, Pair, Register};
-use sites8080::power_of_two;
 use std::alloc::AllocError;
-use steps8080::{Steps, Task, clear_a, copy, repeat, set, with_register};
+use steps8080::{Steps, Task, clear_a, copy, power_of_two, repeat, set, with_register};
 use treecode::{ExpressionNumber, Place};
 
 // Whether a bit of a number is 1.

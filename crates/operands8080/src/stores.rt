@@ -6,9 +6,8 @@ ghost use Rattle.operands8080.specs.Stores.{address_beside_a_steps, address_besi
 
 use asm8080::WordForm;
 use isa8080::{Instr, Operand, Pair, Register, StackPair};
-use sites8080::Site;
 use std::alloc::AllocError;
-use steps8080::{Facts, Step, Steps, Task, copy, plan_extension};
+use steps8080::{Facts, Site, Step, Steps, Task, copy, plan_extension};
 use treecode::{Keeps, Location, Reference, Target};
 use trees::ScalarType;
 

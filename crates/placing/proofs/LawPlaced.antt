@@ -17,7 +17,7 @@ use Rattle.layout.specs.Storage.{data_bytes}
 use Rattle.layout.specs.Placement.{ModulePlacement, Placement, PieceKind, StaticPiece, ConstantPiece, AtPiece, PlacedPiece, EndsInMemory, pieces_of_module, is_constant_piece, has_own_place}
 use Rattle.layout.specs.Lawful.{HasAddresses, LiesWhereAtSays, LiesIn, AreDisjoint, IsLawful}
 use Rattle.layout.specs.Placing.{Plan, PassesMemory, RangesOverlap, ObjectMisplaced, code_range, data_range, stack_range, bases_from, placement_by, passes_memory, overlaps, segment_too_large, past_memory, overlapping, is_misplaced, placed_objects, first_misplaced, placing_refusal}
-use Rattle.plans.specs.declared.Plan.{Plan as CodePlan}
+use Rattle.mem80.specs.declared.plan.Plan.{Plan as CodePlan}
 use Rattle.placing.specs.Segments.{HoldsConstants, HaveStorage}
 use Rattle.placing.specs.Views.{plan_view}
 use Rattle.placing.proofs.LawLists.{each_filter, none_found, pairs_all}

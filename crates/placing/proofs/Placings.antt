@@ -18,7 +18,7 @@ use Rattle.layout.specs.Storage.{Storage, data_bytes, storage_with}
 use Rattle.layout.specs.Views.{layout_view}
 use Rattle.placing.specs.declared.fault.Fault.{Fault}
 use Rattle.placing.specs.declared.placement.ModulePlacement.{ModulePlacement as CodeModulePlacement}
-use Rattle.plans.specs.declared.Plan.{Plan as CodePlan}
+use Rattle.mem80.specs.declared.plan.Plan.{Plan as CodePlan}
 use Rattle.placing.specs.declared.ranges.Ranges.{Ranges}
 use Rattle.placing.specs.Views.{module_placement_view, plan_view, refusal_of}
 use Rattle.placing.specs.internal.Placings.{placements_from, code_placements, data_sizes, layout_sizes, range_refusal, name_of_misplaced}

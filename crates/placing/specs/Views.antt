@@ -4,7 +4,7 @@ use Rattle.placing.specs.declared.fault.Fault.{Fault}
 use Rattle.placing.specs.declared.fault.Fault.TheVariants as faults
 use Rattle.placing.specs.declared.placement.ModulePlacement.{ModulePlacement as CodeModulePlacement}
 use Rattle.placing.specs.declared.placement.Placement.{Placement as CodePlacement}
-use Rattle.plans.specs.declared.Plan.{Plan as CodePlan}
+use Rattle.mem80.specs.declared.plan.Plan.{Plan as CodePlan}
 use Rattle.layout.specs.Placement.{ModulePlacement, Placement}
 use Rattle.layout.specs.Placing.{Plan, PlacingRefusal, SegmentTooLarge, PassesMemory, RangesOverlap, ObjectMisplaced}
 

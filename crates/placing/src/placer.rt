@@ -21,7 +21,7 @@ use crate::ranges::{range_fault, ranges_by};
 use failure::Failure;
 use join::Joined;
 use layout::Layout;
-use plans::Plan;
+use mem80::Plan;
 use std::alloc::Global;
 
 /// Places a program by a plan. Each of its modules has the storage that is given for it, and a code segment of the length

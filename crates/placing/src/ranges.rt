@@ -8,8 +8,7 @@ ghost use Rattle.placing.specs.internal.Placings.{layout_sizes, range_refusal};
 
 use crate::fault::Fault;
 use layout::{Layout, SEGMENT_LIMIT};
-use mem80::{MEMORY_SIZE, Range, overlap};
-use plans::Plan;
+use mem80::{MEMORY_SIZE, Plan, Range, overlap};
 
 /// Where code, data and stack lie.
 #[derive(Clone, Copy)]

@@ -3,7 +3,7 @@
 #![tactic(auto)]
 
 use commands::run_command;
-use files::HostFiles;
+use host::HostFiles;
 use std::io::Write;
 use std::process::ExitCode;
 use std::{env, io, rt};

@@ -1,9 +1,8 @@
 //! What the names of a source are bound to, and a name that binding alone refuses.
 
 use crate::bytes::beginning;
-use binding::bind;
 use failure::Failure;
-use names::{Binding, BuiltIn, Entity};
+use names::{Binding, BuiltIn, Entity, bind};
 use std::alloc::Global;
 use std::test::Fail;
 use syntax::parse;

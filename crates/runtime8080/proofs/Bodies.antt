@@ -8,9 +8,9 @@ use Rattle.ports.specs.declared.event.Event.{Event}
 use Rattle.isa8080.specs.State.{HoldBytes, Registers, State, high_byte, wrap}
 use Rattle.asm8080.specs.Runs.{Comes}
 use Rattle.asm8080.specs.Standing.{Keeps, below}
-use Rattle.machine_runs.proofs.Steps.{at, returned, step_then}
-use Rattle.machine_runs.proofs.Kept.{Alike}
-use Rattle.machine_runs.proofs.Calls.{called, pushed, pushed_is_memory, pushed_is_pushed, pushed_keeps, returned_is}
+use Rattle.asm8080.proofs.Steps.{at, returned, step_then}
+use Rattle.asm8080.proofs.Kept.{Alike}
+use Rattle.asm8080.proofs.Calls.{called, pushed, pushed_is_memory, pushed_is_pushed, pushed_keeps, returned_is}
 use Rattle.runtime8080.specs.declared.routine.Routine.{Routine}
 use Rattle.runtime8080.specs.declared.routine.Routine.TheVariants as routines
 use Rattle.runtime8080.specs.Routines.{CALL_BYTES, Computes, HasReturned, Leaves, MayCall, Returns, memory_after, most_steps}

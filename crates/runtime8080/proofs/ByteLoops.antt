@@ -2,8 +2,8 @@
 use Rattle.std.proofs.Common.{◌≡◌, ℕ, zero, suc, ◌+◌, ◌%◌, ◌<◌, List, refl, ap, ◌∙◌, arith}
 use Rattle.isa8080.specs.declared.instr.Instr.{Instr}
 use Rattle.isa8080.specs.State.{HoldBytes, Registers}
-use Rattle.machine_runs.proofs.Straight.{effect}
-use Rattle.machine_runs.proofs.Loops.{counted, once_counted, turns_below, turns_counted}
+use Rattle.asm8080.proofs.Straight.{effect}
+use Rattle.asm8080.proofs.Loops.{counted, once_counted, turns_below, turns_counted}
 use Rattle.runtime8080.proofs.Bits.{times}
 
 -- straight code changes A by a function, of the other registers none, and flags

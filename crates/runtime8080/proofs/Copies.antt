@@ -9,7 +9,7 @@ use Rattle.mem80.specs.Memory.{IsMemory, byte_at}
 use Rattle.mem80.proofs.MemoryLemmas.{byte_small}
 use Rattle.mem80.specs.Range.{IsIn}
 use Rattle.isa8080.specs.State.{wrap}
-use Rattle.machine_runs.proofs.Kept.{byte_kept, byte_put, memory_put}
+use Rattle.asm8080.proofs.Kept.{byte_kept, byte_put, memory_put}
 use Rattle.runtime8080.specs.Routines.{BlockMisses, copied}
 
 wrapped_small : (n : ℕ) → wrap n < MEMORY_SIZE

@@ -6,7 +6,7 @@ use Rattle.asm8080.specs.declared.item.Item.{Item}
 use Rattle.asm8080.specs.declared.item.Item.TheVariants.{Plain, WithWord, Byte, Address, Gap, Mark}
 use Rattle.asm8080.specs.Items.{BindsNew, KnowsLabels, is_bound, marks}
 use Rattle.asm8080.proofs.ItemLemmas.{bound_more}
-use Rattle.machine_runs.proofs.Loops.{not_equal}
+use Rattle.asm8080.proofs.Loops.{not_equal}
 use Rattle.runtime8080.specs.Routines.{HasOwnLabels}
 use Rattle.runtime8080.specs.declared.parts.Part.{Part}
 use Rattle.runtime8080.specs.declared.parts.Part.TheVariants.{Here}

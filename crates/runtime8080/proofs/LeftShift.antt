@@ -18,10 +18,10 @@ use Rattle.asm8080.specs.declared.item.Reference.TheVariants.{AtLabel}
 use Rattle.asm8080.specs.declared.item.Item.{Item}
 use Rattle.asm8080.specs.declared.item.Item.TheVariants.{Plain, WithWord, Mark}
 use Rattle.asm8080.specs.Items.{Layout, Stands}
-use Rattle.machine_runs.proofs.Steps.{goes_past, jumps_where, returned, returns}
-use Rattle.machine_runs.proofs.Straight.{effect, past, steps_of, straight}
-use Rattle.machine_runs.proofs.Loops.{counted, loop_before, steps_below, tested_before, turns_below, word_is}
-use Rattle.machine_runs.proofs.Kept.{stands_size, stands_still}
+use Rattle.asm8080.proofs.Steps.{goes_past, jumps_where, returned, returns}
+use Rattle.asm8080.proofs.Straight.{effect, past, steps_of, straight}
+use Rattle.asm8080.proofs.Loops.{counted, loop_before, steps_below, tested_before, turns_below, word_is}
+use Rattle.asm8080.proofs.Kept.{stands_size, stands_still}
 use Rattle.runtime8080.specs.declared.routine.Routine.TheVariants as routines
 use Rattle.runtime8080.specs.Routines.{IsRoutine}
 use Rattle.runtime8080.specs.internal.Listings.{shift_left_address}

@@ -20,10 +20,10 @@ use Rattle.asm8080.specs.declared.item.Item.{Item}
 use Rattle.asm8080.specs.declared.item.Item.TheVariants.{Plain, WithWord, Mark}
 use Rattle.asm8080.specs.Items.{Layout, Stands}
 use Rattle.asm8080.specs.Runs.{Comes}
-use Rattle.machine_runs.proofs.Steps.{at, does, goes_past, jumps_where, returned, returns}
-use Rattle.machine_runs.proofs.Straight.{effect, straight}
-use Rattle.machine_runs.proofs.Loops.{not_zero, word_is}
-use Rattle.machine_runs.proofs.Kept.{byte_kept, memory_put, stands_size, stands_still}
+use Rattle.asm8080.proofs.Steps.{at, does, goes_past, jumps_where, returned, returns}
+use Rattle.asm8080.proofs.Straight.{effect, straight}
+use Rattle.asm8080.proofs.Loops.{not_zero, word_is}
+use Rattle.asm8080.proofs.Kept.{byte_kept, memory_put, stands_size, stands_still}
 use Rattle.runtime8080.specs.Routines.{BlockMisses, copied}
 use Rattle.runtime8080.proofs.Copies.{first_missed, others_missed}
 

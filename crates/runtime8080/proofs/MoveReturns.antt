@@ -18,11 +18,11 @@ use Rattle.asm8080.specs.declared.item.Item.TheVariants.{Plain, WithWord, Mark}
 use Rattle.asm8080.specs.Items.{Layout, Stands}
 use Rattle.asm8080.specs.Runs.{Comes}
 use Rattle.asm8080.specs.Standing.{below}
-use Rattle.machine_runs.proofs.Steps.{at, goes_past, jumps_where, returned, returns, step_then}
-use Rattle.machine_runs.proofs.Straight.{effect, straight}
-use Rattle.machine_runs.proofs.Loops.{not_zero, word_is}
-use Rattle.machine_runs.proofs.Kept.{stands_size, stands_still}
-use Rattle.machine_runs.proofs.Calls.{IsPushed, called, pushed, pushed_is_memory, pushed_is_pushed, returned_is}
+use Rattle.asm8080.proofs.Steps.{at, goes_past, jumps_where, returned, returns, step_then}
+use Rattle.asm8080.proofs.Straight.{effect, straight}
+use Rattle.asm8080.proofs.Loops.{not_zero, word_is}
+use Rattle.asm8080.proofs.Kept.{stands_size, stands_still}
+use Rattle.asm8080.proofs.Calls.{IsPushed, called, pushed, pushed_is_memory, pushed_is_pushed, returned_is}
 use Rattle.runtime8080.specs.declared.routine.Routine.TheVariants as routines
 use Rattle.runtime8080.specs.Routines.{BlockMisses, IsRoutine, CALL_BYTES, copied}
 use Rattle.runtime8080.specs.internal.Listings.{move_bytes}

@@ -20,9 +20,9 @@ use Rattle.asm8080.specs.declared.item.Item.TheVariants.{Plain, WithWord, Mark}
 use Rattle.asm8080.specs.Items.{Layout, Stands}
 use Rattle.asm8080.specs.Runs.{Comes}
 use Rattle.asm8080.proofs.RunLaws.{comes_on}
-use Rattle.machine_runs.proofs.Steps.{at, goes_past, jumps_where}
-use Rattle.machine_runs.proofs.Straight.{effect, straight}
-use Rattle.machine_runs.proofs.Loops.{counted_out, counts_on, one_less_is, word_is}
+use Rattle.asm8080.proofs.Steps.{at, goes_past, jumps_where}
+use Rattle.asm8080.proofs.Straight.{effect, straight}
+use Rattle.asm8080.proofs.Loops.{counted_out, counts_on, one_less_is, word_is}
 use Rattle.runtime8080.proofs.Quotients.{Quotient, QuotientBit, no_bits, one_bit_more}
 use Rattle.runtime8080.proofs.Turns.{no_steps}
 

@@ -20,10 +20,10 @@ use Rattle.asm8080.specs.declared.item.Item.{Item}
 use Rattle.asm8080.specs.declared.item.Item.TheVariants.{Plain, WithWord, Mark}
 use Rattle.asm8080.specs.Items.{Layout, Stands}
 use Rattle.asm8080.specs.Runs.{Comes}
-use Rattle.machine_runs.proofs.Steps.{at, goes_past, jumps_where, returned, returns, returns_where, stays_here}
-use Rattle.machine_runs.proofs.Straight.{effect, past, plain, steps_of, straight}
-use Rattle.machine_runs.proofs.Loops.{not_equal, not_zero, one_less_is, word_is}
-use Rattle.machine_runs.proofs.Kept.{stands_size, stands_still}
+use Rattle.asm8080.proofs.Steps.{at, goes_past, jumps_where, returned, returns, returns_where, stays_here}
+use Rattle.asm8080.proofs.Straight.{effect, past, plain, steps_of, straight}
+use Rattle.asm8080.proofs.Loops.{not_equal, not_zero, one_less_is, word_is}
+use Rattle.asm8080.proofs.Kept.{stands_size, stands_still}
 use Rattle.runtime8080.specs.declared.routine.Routine.TheVariants as routines
 use Rattle.runtime8080.specs.Routines.{IsRoutine}
 use Rattle.runtime8080.specs.internal.Listings.{shift_right_address}

@@ -15,10 +15,10 @@ use Rattle.asm8080.specs.declared.item.Item.{Item}
 use Rattle.asm8080.specs.declared.item.Item.TheVariants.{Plain, Mark}
 use Rattle.asm8080.specs.Items.{Layout, Stands}
 use Rattle.asm8080.specs.Standing.{size_of_instruction}
-use Rattle.machine_runs.proofs.Steps.{returned, returns, returns_where, stays_here}
-use Rattle.machine_runs.proofs.Straight.{effect, past, plain, steps_of, straight, touch_registers}
-use Rattle.machine_runs.proofs.Loops.{loop_after, not_zero, steps_counted, tested_after, turns_counted}
-use Rattle.machine_runs.proofs.Kept.{stands_still}
+use Rattle.asm8080.proofs.Steps.{returned, returns, returns_where, stays_here}
+use Rattle.asm8080.proofs.Straight.{effect, past, plain, steps_of, straight, touch_registers}
+use Rattle.asm8080.proofs.Loops.{loop_after, not_zero, steps_counted, tested_after, turns_counted}
+use Rattle.asm8080.proofs.Kept.{stands_still}
 use Rattle.meaning.specs.Values.{turned}
 use Rattle.runtime8080.specs.declared.routine.Routine.{Routine}
 use Rattle.runtime8080.specs.declared.routine.Routine.TheVariants as routines

@@ -2,7 +2,7 @@
 use Rattle.std.proofs.Common.{◌≡◌, ℕ, zero, suc, ◌-◌, ◌<◌, Bool, true, false, not, nat_lt, Option, Some, None, refl, sym, ◌∙◌, ap, arith}
 use Rattle.std.proofs.lemmas.Bool.{lt-ltb}
 use Rattle.treecode.specs.declared.expression.ExpressionNumber.{ExpressionNumber}
-use Rattle.sites8080.specs.declared.site.Site.{Site}
+use Rattle.steps8080.specs.declared.sites.site.Site.{Site}
 use Rattle.statements8080.specs.Branches.{has_one_jump, has_one_jump_within, inner, may_jump_twice}
 
 -- what is said of a condition by what is inside it

@@ -20,9 +20,9 @@ use Rattle.treecode.specs.declared.reference.Target.TheVariants.{Stored, Sent}
 use Rattle.treecode.specs.Queries.{source, target as target_at}
 use Rattle.steps8080.specs.declared.step.Task.TheVariants as tasks
 use Rattle.steps8080.specs.Instructions.{high, low}
-use Rattle.sites8080.specs.declared.site.Site.{Site}
-use Rattle.sites8080.specs.Site.{expression, scalar}
-use Rattle.sites8080.specs.Queries.{is_free, is_quiet, keeps_of_address, location_of, number}
+use Rattle.steps8080.specs.declared.sites.site.Site.{Site}
+use Rattle.steps8080.specs.Site.{expression, scalar}
+use Rattle.steps8080.specs.Queries.{is_free, is_quiet, keeps_of_address, location_of, number}
 use Rattle.statements8080.specs.declared.assignment.TargetTypes.{TargetTypes}
 use Rattle.statements8080.specs.declared.assignment.TargetTypes.TheVariants.{Bytes, Words, Mixed}
 use Rattle.statements8080.specs.declared.body.Body.{Body}

@@ -16,9 +16,9 @@ use Rattle.treecode.specs.Queries.{statement}
 use Rattle.steps8080.specs.declared.step.LabelNumber.{LabelNumber}
 use Rattle.steps8080.specs.declared.step.Task.TheVariants as tasks
 use Rattle.steps8080.specs.Step.{label_of}
-use Rattle.sites8080.specs.declared.site.Site.{Site}
-use Rattle.sites8080.specs.Site.{expression}
-use Rattle.sites8080.specs.Queries.{number}
+use Rattle.steps8080.specs.declared.sites.site.Site.{Site}
+use Rattle.steps8080.specs.Site.{expression}
+use Rattle.steps8080.specs.Queries.{number}
 use Rattle.statements8080.specs.declared.body.Body.{Body}
 use Rattle.statements8080.specs.declared.branching.TheConstants.{LOOKED_THROUGH}
 use Rattle.statements8080.specs.declared.plan.Planned.{Planned}

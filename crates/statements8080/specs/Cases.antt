@@ -17,9 +17,9 @@ use Rattle.steps8080.specs.declared.step.LabelNumber.{LabelNumber}
 use Rattle.steps8080.specs.declared.step.Task.TheVariants as tasks
 use Rattle.steps8080.specs.Instructions.{copy, set}
 use Rattle.steps8080.specs.Step.{label_of}
-use Rattle.sites8080.specs.declared.site.Site.{Site}
-use Rattle.sites8080.specs.Site.{scalar}
-use Rattle.sites8080.specs.Queries.{number}
+use Rattle.steps8080.specs.declared.sites.site.Site.{Site}
+use Rattle.steps8080.specs.Site.{scalar}
+use Rattle.steps8080.specs.Queries.{number}
 use Rattle.statements8080.specs.declared.body.Body.{Body}
 use Rattle.statements8080.specs.declared.plan.Planned.{Planned}
 use Rattle.statements8080.specs.declared.plan.Planned.TheVariants.{JumpOn, Reaches, Statement}

@@ -8,8 +8,8 @@ use Rattle.treecode.specs.declared.statement.Iteration.{Iteration}
 use Rattle.steps8080.specs.declared.facts.Facts.{Facts}
 use Rattle.steps8080.specs.Facts.{no_facts}
 use Rattle.steps8080.specs.Instructions.{low}
-use Rattle.sites8080.specs.declared.site.Site.{Site}
-use Rattle.sites8080.specs.Queries.{location_of, number, place_in_memory}
+use Rattle.steps8080.specs.declared.sites.site.Site.{Site}
+use Rattle.steps8080.specs.Queries.{location_of, number, place_in_memory}
 use Rattle.statements8080.specs.declared.iteration.Counter.{Counter}
 use Rattle.statements8080.specs.Bodies.{whole}
 

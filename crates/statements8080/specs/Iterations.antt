@@ -19,9 +19,9 @@ use Rattle.steps8080.specs.declared.step.LabelNumber.{LabelNumber}
 use Rattle.steps8080.specs.declared.step.Task.TheVariants as tasks
 use Rattle.steps8080.specs.Instructions.{copy, high, load, low, set, with_memory, with_register}
 use Rattle.steps8080.specs.Step.{label_of}
-use Rattle.sites8080.specs.declared.site.Site.{Site}
-use Rattle.sites8080.specs.Site.{scalar}
-use Rattle.sites8080.specs.Queries.{known, number}
+use Rattle.steps8080.specs.declared.sites.site.Site.{Site}
+use Rattle.steps8080.specs.Site.{scalar}
+use Rattle.steps8080.specs.Queries.{known, number}
 use Rattle.statements8080.specs.declared.body.Body.{Body}
 use Rattle.statements8080.specs.declared.bound.Test.{Test}
 use Rattle.statements8080.specs.declared.iteration.Counter.{Counter}

@@ -9,8 +9,8 @@ use Rattle.treecode.specs.declared.expression.ExpressionNumber.{ExpressionNumber
 use Rattle.treecode.specs.declared.place.Place.{Place}
 use Rattle.steps8080.specs.declared.step.Step.TheVariants.{CallRoutine}
 use Rattle.steps8080.specs.declared.step.Task.TheVariants as tasks
-use Rattle.sites8080.specs.declared.site.Site.{Site}
-use Rattle.sites8080.specs.Queries.{keeps, known}
+use Rattle.steps8080.specs.declared.sites.site.Site.{Site}
+use Rattle.steps8080.specs.Queries.{keeps, known}
 use Rattle.statements8080.specs.declared.plan.Planned.{Planned}
 use Rattle.statements8080.specs.declared.plan.Planned.TheVariants.{Code}
 use Rattle.statements8080.specs.Plans.{part, plain, word}

@@ -9,9 +9,9 @@ use Rattle.treecode.specs.declared.place.Location.{Location}
 use Rattle.treecode.specs.declared.reference.Reference.{Reference}
 use Rattle.treecode.specs.declared.reference.Subscript.{Subscript}
 use Rattle.steps8080.specs.Facts.{same_location}
-use Rattle.sites8080.specs.declared.site.Site.{Site}
-use Rattle.sites8080.specs.Site.{expression}
-use Rattle.sites8080.specs.Queries.{location_of, number}
+use Rattle.steps8080.specs.declared.sites.site.Site.{Site}
+use Rattle.steps8080.specs.Site.{expression}
+use Rattle.steps8080.specs.Queries.{location_of, number}
 
 -- where the scalar lies that an expression of a form is the value of, with its type
 abbrev pub scalar_of_form : Site → ExpressionForm → ScalarType → Option (Location × ScalarType)

@@ -18,9 +18,9 @@ use Rattle.steps8080.specs.declared.step.LabelNumber.{LabelNumber}
 use Rattle.steps8080.specs.declared.step.Task.TheVariants as tasks
 use Rattle.steps8080.specs.Facts.{no_facts}
 use Rattle.steps8080.specs.Instructions.{copy, high, low, with_memory, with_register}
-use Rattle.sites8080.specs.declared.site.Site.{Site}
-use Rattle.sites8080.specs.Site.{expression, scalar}
-use Rattle.sites8080.specs.Queries.{direct, number}
+use Rattle.steps8080.specs.declared.sites.site.Site.{Site}
+use Rattle.steps8080.specs.Site.{expression, scalar}
+use Rattle.steps8080.specs.Queries.{direct, number}
 use Rattle.statements8080.specs.declared.bound.Test.{Test}
 use Rattle.statements8080.specs.declared.bound.Test.TheVariants as tests
 use Rattle.statements8080.specs.declared.iteration.Counter.{Counter}

@@ -1,3 +1,4 @@
 pub mod Labels
 pub mod Numbered
 pub mod Refused
+pub mod Kept

@@ -4,3 +4,7 @@ pub mod Step
 pub mod Externals
 pub mod Writer
 pub mod internal
+pub mod Site
+pub mod Queries
+pub mod Widths
+pub mod Questions

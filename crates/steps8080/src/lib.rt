@@ -1,9 +1,10 @@
-//! Code as it is planned and as it is written: steps, labels, and what is known of the registers.
+//! The steps that code is planned in, the writer that makes code of them, and what is known where code stands.
 #![tactic(auto)]
 
 mod externals;
 mod facts;
 mod instructions;
+mod sites;
 mod step;
 mod writer;
 
@@ -11,6 +12,10 @@ pub use externals::Externals;
 pub use facts::{Facts, before, is_at};
 pub use instructions::{
     clear_a, copy, high, load, low, plan_extension, repeat, set, with_memory, with_register,
+};
+pub use sites::{
+    Base, Comparison, Inquiry, Located, NumberQuestion, Question, Relation, Site, power_of_two,
+    reference_after, relation_of,
 };
 pub use step::{LabelNumber, Part, Step, Steps, Task};
 pub use writer::{Finished, Writer};

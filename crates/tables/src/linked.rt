@@ -4,10 +4,10 @@
 
 use crate::block::Block;
 use crate::memory_files::MemoryFiles;
-use answers::read_files;
 use command_line::{Action, Order, PlanTexts, ProgramOrder, command};
 use commands::run_command;
 use hex80::write_hex;
+use host::read_files;
 use std::alloc::Global;
 use std::fmt::Write;
 use tool::{Built, Plan, Source, build};

@@ -59,7 +59,7 @@ use assemblies::print_assemblies;
 use block::{Answer, Block};
 use codes::print_codes;
 use damage::print_damage;
-use files::HostFiles;
+use host::HostFiles;
 use interpreting::print_programs;
 use linked::{Linked, linked_image};
 use merging::print_merges;

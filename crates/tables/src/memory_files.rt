@@ -5,7 +5,7 @@ ghost use Rattle.ports.specs.Events.{CountsFailure};
 
 use crate::texts::Bytes;
 use failure::Failure;
-use files::{FileFault, Files};
+use host::{FileFault, Files};
 use std::alloc::Global;
 
 // A file of this name can't be begun.

@@ -5,7 +5,7 @@ use crate::calls::{Tally, tally_of};
 use crate::page::Page;
 use asm8080::{Code, CodeBytes, Fault};
 use failure::Failure;
-use files::Files;
+use host::Files;
 use isa8080::{Instr, decode};
 use runtime8080::{Routine, emit_routine};
 use std::alloc::Global;

@@ -11,17 +11,17 @@ use Rattle.failure.specs.declared.Failure.TheVariants.{Fault, Memory}
 use Rattle.typed_trees.specs.TypedTrees.{TypedModule}
 use Rattle.object_modules.specs.Module.{ObjectModule}
 use Rattle.layout.specs.Storage.{Storage, storage_with}
-use Rattle.plans.specs.declared.Plan.{Plan}
-use Rattle.frontend.specs.Causes.{HasReadCause}
-use Rattle.frontend.specs.Reading.{IsSourceOf}
+use Rattle.mem80.specs.declared.plan.Plan.{Plan}
+use Rattle.sources.specs.Causes.{HasReadCause}
+use Rattle.sources.specs.Reading.{IsSourceOf}
 use Rattle.treecode.specs.declared.module.TreeModule.{TreeModule}
 use Rattle.treecode.specs.Lowered.{IsLowered}
 use Rattle.codegen8080.specs.declared.fault.Fault as code_fault
-use Rattle.module_code.specs.Modules.{IsSoundTreeCode, MakesNone, OfItsModule}
-use Rattle.module_code.specs.Typed.{IsSoundlyMade}
-use Rattle.source_facts.specs.Sound.{IsSoundlyTyped}
-use Rattle.program_sources.specs.declared.sources.Source as declared_source
-use Rattle.program_sources.specs.Programs.{text_of, texts_of}
+use Rattle.generation.specs.Modules.{IsSoundTreeCode, MakesNone, OfItsModule}
+use Rattle.generation.specs.Typed.{IsSoundlyMade}
+use Rattle.sources.specs.Sound.{IsSoundlyTyped}
+use Rattle.sources.specs.declared.sources.Source as declared_source
+use Rattle.sources.specs.Programs.{text_of, texts_of}
 use Rattle.tool.specs.declared.compiled.Compiled.{Compiled}
 use Rattle.tool.specs.declared.fault.ToolFault.{ToolFault}
 use Rattle.tool.specs.declared.fault.ToolFault.TheVariants.{TooManySources, Source, Code, Program, Link, Locate}

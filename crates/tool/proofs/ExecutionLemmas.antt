@@ -1,8 +1,8 @@
 -- What a run of the machine says of its source.
 use Rattle.std.proofs.Common.{◌≡◌, ℕ, List, Option, sym, ap, ◌∙◌, subst}
 use Rattle.std.specs.Io.KnownBytes.{Appends}
-use Rattle.report.specs.Report.{report_of}
-use Rattle.printed_runs.specs.Printing.{PrintsRun, end_word}
+use Rattle.printing.specs.Report.{report_of}
+use Rattle.printing.specs.Printing.{PrintsRun, end_word}
 use Rattle.tool.specs.Printed.{PrintsEnded}
 use Rattle.ports.specs.declared.event.Event.{Event}
 use Rattle.ports.specs.Events.{IsBeginning}
@@ -17,7 +17,7 @@ use Rattle.meaning.specs.Outcomes.{Ended}
 use Rattle.meaning.specs.Run.{Run}
 use Rattle.locate.specs.Locating.{Absolute}
 use Rattle.tool.specs.Execution.{started, IsFaithful}
-use Rattle.module_code.specs.Agreement.{Agrees}
+use Rattle.generation.specs.Agreement.{Agrees}
 use Rattle.tool.specs.Image.{machine_run}
 
 module _ (image : Absolute) (memory : List ℕ) (script : List (List ℕ)) (events : List Event) (failures : ℕ) (source : ℕ → Run) (agrees : Agrees source (machine_run image memory script events)) where

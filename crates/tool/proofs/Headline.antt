@@ -9,12 +9,12 @@ use Rattle.layout.specs.Placing.{placement_by}
 use Rattle.meaning.specs.Run.{source_run}
 use Rattle.isa8080.specs.Step.{initial_registers, initial_state, state_after}
 use Rattle.placing.specs.Views.{plan_view}
-use Rattle.plans.specs.declared.Plan.{Plan}
+use Rattle.mem80.specs.declared.plan.Plan.{Plan}
 use Rattle.locate.specs.Locating.{Absolute, loaded}
-use Rattle.module_code.specs.Agreement.{Agrees}
-use Rattle.module_code.specs.internal.Programs.{AreLoaded}
-use Rattle.module_code.specs.Typed.{AreSoundlyMade}
-use Rattle.module_code.proofs.Programs.{make_the_program}
+use Rattle.generation.specs.Agreement.{Agrees}
+use Rattle.generation.specs.internal.Programs.{AreLoaded}
+use Rattle.generation.specs.Typed.{AreSoundlyMade}
+use Rattle.generation.proofs.Programs.{make_the_program}
 use Rattle.tool.specs.Headline.{DoesWhatItSays}
 use Rattle.tool.specs.Image.{machine_run}
 use Rattle.tool.specs.Made.{IsImageOfObjects, StartsAsItsSource, code_lengths}

@@ -4,10 +4,10 @@ use Rattle.object_modules.specs.Image.{Image, PlacementRefusal, image_of}
 use Rattle.object_modules.specs.Merge.{LinkRefusal, merge_of}
 use Rattle.object_modules.specs.Module.{ObjectModule}
 use Rattle.placing.specs.Views as of_placement
-use Rattle.plans.specs.declared.Plan.{Plan}
+use Rattle.mem80.specs.declared.plan.Plan.{Plan}
 use Rattle.locate.specs.Loading.{GivesItsImage}
 use Rattle.locate.specs.Locating.{Absolute, IsPlaced, plan_view}
-use Rattle.module_code.specs.internal.Names.{HaveImage}
+use Rattle.generation.specs.internal.Names.{HaveImage}
 use Rattle.tool.specs.Made.{IsImageOfObjects}
 use Rattle.tool.specs.internal.Merged.{GivesImageOfObjects}
 

@@ -17,20 +17,20 @@ use Rattle.layout.specs.Storage.{storage_with}
 use Rattle.layout.specs.Views.{layout_view}
 use Rattle.object_modules.specs.Module.{ObjectModule, length_of}
 use Rattle.object_modules.specs.declared.segment.Segment.TheVariants as segments
-use Rattle.plans.specs.declared.Plan.{Plan}
+use Rattle.mem80.specs.declared.plan.Plan.{Plan}
 use Rattle.placing.specs.Segments.{HaveStorage}
 use Rattle.placing.specs.Views as of_placement
-use Rattle.frontend.specs.declared.read.ReadFault.{ReadFault}
-use Rattle.frontend.specs.declared.read.ReadFault.TheVariants as read_faults
-use Rattle.frontend.specs.Causes.{HasReadCause}
+use Rattle.sources.specs.declared.read.ReadFault.{ReadFault}
+use Rattle.sources.specs.declared.read.ReadFault.TheVariants as read_faults
+use Rattle.sources.specs.Causes.{HasReadCause}
 use Rattle.locate.specs.Locating.{Absolute}
-use Rattle.module_code.specs.Bounded.{AreWithinBounds}
-use Rattle.module_code.specs.Typed.{AreSoundlyMade}
-use Rattle.module_code.proofs.Programs.{make_the_program, numbers_fit}
-use Rattle.module_code.specs.internal.Names.{HaveImage}
-use Rattle.program_sources.specs.declared.fault.ProgramFault.TheVariants as program_faults
-use Rattle.program_sources.specs.declared.placed.Placed.{Placed}
-use Rattle.program_sources.specs.Programs.{AreSourcesOf, IsPlacedBy, IsProgramOf, program_modules, text_of}
+use Rattle.generation.specs.Bounded.{AreWithinBounds}
+use Rattle.generation.specs.Typed.{AreSoundlyMade}
+use Rattle.generation.proofs.Programs.{make_the_program, numbers_fit}
+use Rattle.generation.specs.internal.Names.{HaveImage}
+use Rattle.sources.specs.declared.fault.ProgramFault.TheVariants as program_faults
+use Rattle.sources.specs.declared.placed.Placed.{Placed}
+use Rattle.sources.specs.Programs.{AreSourcesOf, IsPlacedBy, IsProgramOf, program_modules, text_of}
 use Rattle.tool.specs.declared.compiled.Compiled.{Compiled}
 use Rattle.tool.specs.declared.fault.ToolFault.{ToolFault}
 use Rattle.tool.specs.declared.fault.ToolFault.TheVariants.{TooManySources, Source, Code, Program, Link, Locate}

@@ -6,21 +6,21 @@ use Rattle.typed_trees.specs.Jumps.{JumpsAreSound}
 use Rattle.typed_trees.specs.Storable.{IsStorable}
 use Rattle.typed_trees.specs.TypedTrees.{TypedModule}
 use Rattle.typed_trees.specs.WellTyped.{IsWellTyped}
-use Rattle.tree_numbers.specs.Numbers.{NumbersFitInModule}
+use Rattle.typed_trees.specs.Numbers.{NumbersFitInModule}
 use Rattle.layout.specs.Joined.{IsJoined}
 use Rattle.layout.specs.Lawful.{IsLawful}
 use Rattle.layout.specs.Placement.{Placement, pieces_of}
 use Rattle.layout.specs.Placing.{placement_by, placing_refusal}
 use Rattle.join.specs.declared.joined.Joined.{Joined}
 use Rattle.placing.specs.declared.placement.ByteKind.{ByteKind}
-use Rattle.plans.specs.declared.Plan.{Plan}
+use Rattle.mem80.specs.declared.plan.Plan.{Plan}
 use Rattle.placing.specs.Tables.{IsTableOf}
 use Rattle.placing.specs.Views.{plan_view}
 use Rattle.object_modules.specs.Module.{ObjectModule}
 use Rattle.locate.specs.Locating.{Absolute}
-use Rattle.module_code.specs.Bounded.{AreWithinBounds}
-use Rattle.module_code.specs.Typed.{AreSoundlyMade}
-use Rattle.program_sources.specs.Programs.{program_modules}
+use Rattle.generation.specs.Bounded.{AreWithinBounds}
+use Rattle.generation.specs.Typed.{AreSoundlyMade}
+use Rattle.sources.specs.Programs.{program_modules}
 use Rattle.tool.specs.Headline.{DoesWhatItSays}
 use Rattle.tool.specs.Made.{IsImageOfObjects, StartsAsItsSource, code_lengths}
 

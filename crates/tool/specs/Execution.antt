@@ -9,7 +9,7 @@ use Rattle.cpu8080.specs.Machine.{Machine}
 use Rattle.meaning.specs.Outcomes.{Ended}
 use Rattle.meaning.specs.Run.{Run, source_run}
 use Rattle.locate.specs.Locating.{Absolute, loaded}
-use Rattle.program_sources.specs.Programs.{program_modules}
+use Rattle.sources.specs.Programs.{program_modules}
 use Rattle.tool.specs.Construction.{Construction}
 
 -- the machine at its start: an image loaded into a memory, and ports with a script, events and a count of

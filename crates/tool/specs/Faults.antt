@@ -1,14 +1,14 @@
 -- What a fault of sources is reported as.
 use Rattle.std.specs.Prelude.{ℕ, List, Option, None, Some, codes}
 use Rattle.codegen8080.specs.Faults as of_code
-use Rattle.frontend.specs.Faults as of_source
+use Rattle.sources.specs.Faults as of_source
 use Rattle.object_modules.specs.Image.{placement_number}
 use Rattle.object_modules.specs.Merge.{link_number}
 use Rattle.link_laws.specs.Faults as of_linking
 use Rattle.link_laws.specs.declared.fault.LinkFault.{LinkFault}
 use Rattle.link_laws.specs.declared.fault.LinkFault.TheVariants as link_faults
 use Rattle.locate.specs.Locating as of_locating
-use Rattle.program_sources.specs.Faults as of_program
+use Rattle.sources.specs.ProgramFaults as of_program
 use Rattle.tool.specs.declared.fault.ToolFault.{ToolFault}
 use Rattle.tool.specs.declared.fault.ToolFault.TheVariants.{TooManySources, Source, Code, Program, Link, Locate}
 

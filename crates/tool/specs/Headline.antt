@@ -7,7 +7,7 @@ use Rattle.typed_trees.specs.TypedTrees.{TypedModule}
 use Rattle.layout.specs.Placement.{Placement}
 use Rattle.meaning.specs.Run.{source_run, NeverOutside}
 use Rattle.locate.specs.Locating.{Absolute}
-use Rattle.module_code.specs.Agreement.{Agrees}
+use Rattle.generation.specs.Agreement.{Agrees}
 use Rattle.tool.specs.Image.{machine_run}
 
 -- the image does what the program says, from every memory and with every script and all events before it, where

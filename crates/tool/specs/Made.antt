@@ -2,13 +2,13 @@
 use Rattle.std.specs.Prelude.{◌≡◌, ℕ, List, map, Ok}
 use Rattle.mem80.specs.Memory.{IsMemory}
 use Rattle.typed_trees.specs.TypedTrees.{TypedModule}
-use Rattle.frontend.specs.Reading.{IsSourceOf}
+use Rattle.sources.specs.Reading.{IsSourceOf}
 use Rattle.object_modules.specs.Merge.{merge_of}
 use Rattle.object_modules.specs.Module.{ObjectModule, length_of}
 use Rattle.object_modules.specs.declared.segment.Segment.TheVariants.{Code}
 use Rattle.locate.specs.Locating.{Absolute, IsPlaced, loaded, plan_view}
-use Rattle.plans.specs.declared.Plan.{Plan}
-use Rattle.module_code.specs.Typed.{IsSoundlyMade}
+use Rattle.mem80.specs.declared.plan.Plan.{Plan}
+use Rattle.generation.specs.Typed.{IsSoundlyMade}
 use Rattle.layout.specs.Placement.{AgreesOnDeclared, Placement}
 use Rattle.layout.specs.StartingMemory.{starting_memory}
 

@@ -1,7 +1,7 @@
 -- What is printed of a run of a built program.
 use Rattle.std.specs.Prelude.{◌≡◌, ℕ, List, Option, codes}
 use Rattle.std.specs.Io.KnownBytes.{Appends}
-use Rattle.report.specs.Report.{report_of}
+use Rattle.printing.specs.Report.{report_of}
 use Rattle.meaning.specs.Outcomes.{Ended}
 use Rattle.meaning.specs.Run.{Run}
 

@@ -8,15 +8,15 @@ use Rattle.join.specs.Views as of_joining
 use Rattle.object_modules.specs.Module.{ObjectModule}
 use Rattle.placing.specs.declared.fault.Fault as placing_fault
 use Rattle.placing.specs.Views as of_placement
-use Rattle.plans.specs.declared.Plan.{Plan}
-use Rattle.frontend.specs.Causes.{HasReadCause}
-use Rattle.frontend.specs.Reading.{IsSourceOf}
-use Rattle.module_code.specs.Bounded.{AreWithinBounds, IsNotMade}
-use Rattle.module_code.specs.Typed.{AreSoundlyMade}
-use Rattle.program_sources.specs.declared.fault.ProgramFault.{ProgramFault}
-use Rattle.program_sources.specs.declared.fault.ProgramFault.TheVariants.{Join, Placement}
-use Rattle.program_sources.specs.declared.sources.TheConstants.{MOST_SOURCES}
-use Rattle.program_sources.specs.Programs.{AreSourcesOf, IsProgramOf, text_of}
+use Rattle.mem80.specs.declared.plan.Plan.{Plan}
+use Rattle.sources.specs.Causes.{HasReadCause}
+use Rattle.sources.specs.Reading.{IsSourceOf}
+use Rattle.generation.specs.Bounded.{AreWithinBounds, IsNotMade}
+use Rattle.generation.specs.Typed.{AreSoundlyMade}
+use Rattle.sources.specs.declared.fault.ProgramFault.{ProgramFault}
+use Rattle.sources.specs.declared.fault.ProgramFault.TheVariants.{Join, Placement}
+use Rattle.sources.specs.declared.sources.TheConstants.{MOST_SOURCES}
+use Rattle.sources.specs.Programs.{AreSourcesOf, IsProgramOf, text_of}
 use Rattle.tool.specs.declared.fault.ToolFault.{ToolFault}
 use Rattle.tool.specs.declared.fault.ToolFault.TheVariants.{TooManySources, Source, Code, Program, Link, Locate}
 use Rattle.codegen8080.specs.declared.fault.Fault as code_fault

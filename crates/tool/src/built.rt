@@ -7,10 +7,10 @@ ghost use Rattle.tool.specs.internal.Inside.{construction_with};
 
 use join::Joined;
 use locate::Absolute;
+use mem80::Plan;
 use object_modules::ObjectModule;
 use placing::Placement;
-use plans::Plan;
-use program_sources::Placed;
+use sources::Placed;
 use std::marker::Model;
 
 /// A program, where it lies, the object module of each of its modules, and its image.

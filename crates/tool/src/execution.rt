@@ -3,20 +3,19 @@
 ghost use Rattle.std.specs.Prelude.{◌≡◌, IfOk, OnErr};
 ghost use Rattle.meaning.specs.Run.{NeverOutside};
 ghost use Rattle.cpu8080.specs.Runs.{IsRun};
-ghost use Rattle.printed_runs.specs.Printing.{BeginsRun, PrintsRun};
-ghost use Rattle.module_code.specs.Agreement.{Agrees};
+ghost use Rattle.printing.specs.Printing.{BeginsRun, PrintsRun};
+ghost use Rattle.generation.specs.Agreement.{Agrees};
 ghost use Rattle.tool.specs.Execution.{IsFaithful, source_of, started};
 ghost use Rattle.tool.specs.Image.{machine_run};
 ghost use Rattle.tool.specs.Printed.{PrintsEnded};
 
 use crate::built::Built;
 use cpu8080::{End, Machine};
-use failure::Failure;
+use failure::{Failure, WriteFault};
 use mem80::Memory;
 use ports::{Ports, Script};
-use printed_runs::print_machine;
+use printing::print_machine;
 use std::io::Write;
-use writing::WriteFault;
 
 // A machine at its start: with the image of a program loaded into a memory, and these ports.
 pub(crate) fn machine_of<P: Ports>(built: &Built, memory: Memory, ports: P) -> Machine<P>

@@ -1,9 +1,8 @@
 //! Why sources are refused.
 
-use frontend::ReadFault;
 use link_laws::LinkFault;
 use locate::LocateFault;
-use program_sources::{MOST_SOURCES, ProgramFault};
+use sources::{MOST_SOURCES, ProgramFault, ReadFault};
 use thiserror::Error;
 use trees::Name;
 

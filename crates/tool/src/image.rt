@@ -3,16 +3,16 @@
 ghost use Rattle.std.specs.Prelude.{IfOk};
 ghost use Rattle.failure.specs.Failure.{IfFault};
 ghost use Rattle.placing.specs.Views.{plan_view};
-ghost use Rattle.module_code.specs.internal.Names.{HaveImage};
+ghost use Rattle.generation.specs.internal.Names.{HaveImage};
 ghost use Rattle.tool.specs.Made.{IsImageOfObjects};
 ghost use Rattle.tool.specs.internal.Merged.{GivesImageOfObjects};
 
 use crate::fault::ToolFault;
 use failure::Failure;
-use link::link;
+use link_modules::link;
 use locate::{Absolute, locate};
+use mem80::Plan;
 use object_modules::ObjectModule;
-use plans::Plan;
 use std::alloc::Global;
 
 /// The image of a program: that of the merge of its object modules, which have one at the plan. Put into a memory it gives

@@ -26,3 +26,4 @@ pub mod PlacedLaws
 pub mod FrameVariables
 pub mod Words
 pub mod Below
+pub mod HomeWords

@@ -7,3 +7,4 @@ pub mod Contents
 pub mod Lowered
 pub mod Resolved
 pub mod internal
+pub mod HomeWords

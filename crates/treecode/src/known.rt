@@ -12,7 +12,7 @@ use crate::expression::{ExpressionForm, ExpressionNumber};
 use crate::module::TreeModule;
 use crate::place::{Home, Place};
 use crate::reference::{Reference, Subscript};
-use operators::{binary, convert, shift, unary, unary_function};
+use meaning::{binary, convert, shift, unary, unary_function};
 use trees::{BinaryOperator, ScalarType};
 use typed_trees::UnaryFunction;
 

@@ -18,7 +18,7 @@ use crate::lowering::Lowering;
 use crate::reference::Target;
 use crate::statement::{Iteration, Statement, StatementNumber};
 use layout::Layout;
-use operators::holds;
+use meaning::holds;
 use std::alloc::AllocError;
 use typed_trees::{
     TypedAssignment, TypedCase, TypedExpression, TypedIf, TypedIterate, TypedIteration, TypedList,

@@ -4,3 +4,4 @@ pub mod MemberTable
 pub mod Heights
 pub mod WellTypedExamples
 pub mod Inside
+pub mod Loops

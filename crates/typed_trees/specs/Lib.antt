@@ -11,3 +11,4 @@ pub mod internal
 pub mod Storable
 pub mod Frames
 pub mod Globals
+pub mod Numbers

@@ -6,6 +6,7 @@ mod expression;
 mod limits;
 mod members;
 mod module;
+mod numbers;
 mod parts;
 mod statement;
 
@@ -14,6 +15,7 @@ pub use expression::{TypedExpression, TypedReference, TypedSubscript, TypedTarge
 pub use limits::{CODE_BYTES, CODE_BYTES_FOR_WEIGHT, FRAME_LIMIT, OBJECT_LIMIT, PARAMETER_LIMIT};
 pub use members::{FoundMember, Members};
 pub use module::{Home, ObjectType, Typed, TypedObject, TypedProcedure};
+pub use numbers::hold_numbers;
 pub use parts::{
     AtAddress, ConstantItem, GlobalItem, InitialValue, Measure, NumberOrigin, ShiftFunction,
     TypedMember, UnaryFunction, Visibility,

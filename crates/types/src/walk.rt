@@ -11,7 +11,7 @@ ghost use Rattle.typed_trees.specs.Globals.{ListsGlobals};
 ghost use Rattle.typed_trees.specs.Jumps.{JumpsAreSound};
 ghost use Rattle.typed_trees.specs.Storable.{IsStorable};
 ghost use Rattle.typed_trees.specs.WellTyped.{IsWellTyped};
-ghost use Rattle.tree_numbers.specs.Numbers.{NumbersFitInModule};
+ghost use Rattle.typed_trees.specs.Numbers.{NumbersFitInModule};
 ghost use Rattle.typing.specs.Untyped.{GivesBack};
 ghost use Rattle.typing.specs.Typing.{alone, cases, declaration, declarations, else_part, entered, kind, left, main_procedure, module_with, statements, typing_of};
 ghost use Rattle.typing.specs.Results.{Answers, Gives, Leaves};
@@ -25,12 +25,11 @@ use crate::procedures::{Inside, check_body, parameter_objects};
 use crate::statement_nodes;
 use failure::Failure;
 use std::alloc::Global;
-use tree_numbers::hold_numbers;
 use trees::{
     Block as BlockTree, Declaration, DoCase, DoWhile, IfThen, IterativeDo, Module, Name, Place,
     Procedure, Statement, StatementKind,
 };
-use typed_trees::{Typed, TypedList, TypedProcedure, TypedStatement, Visibility};
+use typed_trees::{Typed, TypedList, TypedProcedure, TypedStatement, Visibility, hold_numbers};
 use typing::Fault;
 
 impl Checker {

@@ -22,8 +22,8 @@ use Rattle.typing.specs.Blocks.{Owner, TheModule, OfProcedure, Block, Progress, 
 use Rattle.typing.specs.Items.{TypedItem, base_of, typed_base, extents_of, typed_type, check_linkage, typed_at, typed_contents, is_data, home_with_values, object_named, with_typed_object, with_objects, typed_item}
 use Rattle.typing.specs.Procedures.{visibility_of}
 use Rattle.typing.proofs.Kept.{Gives, then_more, gives_ok, gives_after, in_turn, required}
-use Rattle.typing.proofs.Storable.{enumerate_more}
-use Rattle.typing.proofs.TypesKept.{Heading, headings}
+use Rattle.typing.proofs.Storage.Storable.{enumerate_more}
+use Rattle.typing.proofs.Types.TypesKept.{Heading, headings}
 
 -- the number of a procedure that is PUBLIC or EXTERNAL, by its heading
 abbrev pub global_heading : ℕ × Heading → Option ℕ

@@ -22,7 +22,7 @@ use Rattle.typing.specs.Expressions.{expression}
 use Rattle.typing.specs.Blocks.{Owner, TheModule, OfProcedure, Progress}
 use Rattle.typing.specs.Statements.{with_constants, value, destinations, assignment, moved, call_bound, call, return_with, return_from, goto_bound, goto, counter_bound, step, iteration}
 use Rattle.typing.proofs.Steps.{then, then_any}
-use Rattle.typing.proofs.KnownLabels.{IsLabelAround, AreAround}
+use Rattle.typing.proofs.Jumps.KnownLabels.{IsLabelAround, AreAround}
 
 -- a place of a text, with the labels that are known there and the bodies around its own
 pub record IsIn (lists : List Names) (outer : List Body) (here : Here) : Type 0 where

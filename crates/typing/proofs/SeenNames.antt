@@ -18,8 +18,8 @@ use Rattle.typing.specs.Statements.{declare_labels}
 use Rattle.typing.specs.Procedures.{declare_parameters}
 use Rattle.typing.proofs.Kept.{Gives, then_more, gives_ok, gives_after}
 use Rattle.typing.proofs.Tables.{Implies, BodyFits, BodiesFit, entity_known, body_weaker, bodies_weaker, names_with-fit, numbered-fit, after_block-fits, after_list-fits, Keeps}
-use Rattle.typing.proofs.TypesKept.{and_more}
-use Rattle.typing.proofs.TypesOfReferences.{Sees}
+use Rattle.typing.proofs.Types.TypesKept.{and_more}
+use Rattle.typing.proofs.Types.TypesOfReferences.{Sees}
 
 -- what a block's statements stand in; and from where its names are seen, which is the main program where there is no frame
 abbrev pub within_of : Owner → Within

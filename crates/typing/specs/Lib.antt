@@ -14,3 +14,8 @@ pub mod Typing
 pub mod Untyped
 pub mod Results
 pub mod internal
+pub use Rattle.typed_trees.specs.Frames
+pub use Rattle.names.specs.Binding
+pub use Rattle.typing.specs.Typing
+pub mod Members
+pub mod NameFaults

@@ -1,4 +1,4 @@
-//! What the typing of PL/M-80 modules is, and why a module has none. The crates that type modules stand on it.
+//! What the typing of PL/M-80 modules is, why a module has none, and the laws of both.
 #![tactic(auto)]
 
 mod fault;

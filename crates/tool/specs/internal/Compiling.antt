@@ -7,13 +7,13 @@ use Rattle.typed_trees.specs.Views.{module_view}
 use Rattle.layout.specs.Storage.{storage_with}
 use Rattle.layout.specs.Views.{layout_view}
 use Rattle.layout.specs.Joined.{IsJoined}
-use Rattle.plans.specs.declared.Plan.{Plan}
+use Rattle.mem80.specs.declared.plan.Plan.{Plan}
 use Rattle.codegen8080.specs.declared.fault.Fault as code_fault
-use Rattle.frontend.specs.Causes.{HasReadCause}
-use Rattle.frontend.specs.Reading.{IsSourceOf}
-use Rattle.module_code.specs.Bounded.{IsNotMade}
-use Rattle.module_code.specs.Typed.{IsSoundlyMade}
-use Rattle.program_sources.specs.Programs.{HasProgramCause, program_modules}
+use Rattle.sources.specs.Causes.{HasReadCause}
+use Rattle.sources.specs.Reading.{IsSourceOf}
+use Rattle.generation.specs.Bounded.{IsNotMade}
+use Rattle.generation.specs.Typed.{IsSoundlyMade}
+use Rattle.sources.specs.Programs.{HasProgramCause, program_modules}
 use Rattle.tool.specs.declared.compiled.Compiled.{Compiled}
 use Rattle.tool.specs.declared.fault.ToolFault.{ToolFault}
 use Rattle.tool.specs.declared.fault.ToolFault.TheVariants.{Source, Code, Program, Link, Locate}

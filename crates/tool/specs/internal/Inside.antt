@@ -2,9 +2,9 @@
 use Rattle.std.specs.Prelude.{List}
 use Rattle.object_modules.specs.Module.{ObjectModule}
 use Rattle.locate.specs.Locating.{Absolute}
-use Rattle.plans.specs.declared.Plan.{Plan}
+use Rattle.mem80.specs.declared.plan.Plan.{Plan}
 use Rattle.placing.specs.Views.{placement_view}
-use Rattle.program_sources.specs.declared.placed.Placed.{Placed}
+use Rattle.sources.specs.declared.placed.Placed.{Placed}
 use Rattle.tool.specs.declared.built.Built.TheInside.{Inside}
 use Rattle.tool.specs.Construction.{Construction, IsConstruction}
 

@@ -2,7 +2,7 @@
 use Rattle.std.specs.Prelude.{◌≡◌, List, Ok}
 use Rattle.object_modules.specs.Merge.{merge_of}
 use Rattle.object_modules.specs.Module.{ObjectModule}
-use Rattle.plans.specs.declared.Plan.{Plan}
+use Rattle.mem80.specs.declared.plan.Plan.{Plan}
 use Rattle.locate.specs.Loading.{GivesItsImage}
 use Rattle.locate.specs.Locating.{Absolute, plan_view}
 

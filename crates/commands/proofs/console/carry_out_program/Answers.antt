@@ -1,6 +1,6 @@
 use Rattle.std.proofs.Common.{refl}
-use Rattle.answers.proofs.LinesPrinted.{tells_no_file}
-use Rattle.program_commands.proofs.Untold.{refuses_memory, refuses_values, runs_out}
+use Rattle.host.proofs.LinesPrinted.{tells_no_file}
+use Rattle.commands.proofs.Untold.{refuses_memory, refuses_values, runs_out}
 use Rattle.commands.proofs.ProgramsTold.{prints_program}
 use Rattle.commands.proofs.console.carry_out_program.Goals as goal
 

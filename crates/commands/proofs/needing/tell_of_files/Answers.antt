@@ -1,9 +1,9 @@
 use Rattle.std.proofs.Common.{refl, ap, ◌∙◌}
-use Rattle.answers.proofs.FilesRead.{stops_as}
-use Rattle.answers.proofs.LinesPrinted.{tells_file, tells_no_file}
-use Rattle.program_sources.specs.Programs.{texts_of}
-use Rattle.program_commands.proofs.Names.{stops_in_files}
-use Rattle.program_commands.proofs.Untold.{for_file, for_memory, for_reason}
+use Rattle.host.proofs.FilesRead.{stops_as}
+use Rattle.host.proofs.LinesPrinted.{tells_file, tells_no_file}
+use Rattle.sources.specs.Programs.{texts_of}
+use Rattle.commands.proofs.Names.{stops_in_files}
+use Rattle.commands.proofs.Untold.{for_file, for_memory, for_reason}
 use Rattle.commands.proofs.NeedTold.{prints_by, prints_need_of, refuses_need_of}
 use Rattle.commands.proofs.needing.tell_of_files.Goals as goal
 

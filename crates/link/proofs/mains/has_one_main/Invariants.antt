@@ -4,6 +4,6 @@ use Rattle.object_modules.specs.Merge.{main_modules}
 use Rattle.link_laws.specs.internal.Passes.{one_main}
 use Rattle.link.proofs.mains.has_one_main.Given as goal
 
-abbrev pub invariant-loop-module : goal.invariant-loop-module
-invariant-loop-module l =
-    one_main l.found (drop l.module-index l.modules) ≡ (length (main_modules (linked_modules l.modules)) == 1)
+abbrev pub invariant-loop-file : goal.invariant-loop-file
+invariant-loop-file l =
+    one_main l.found (drop l.file-index l.files) ≡ (length (main_modules (linked_modules l.files)) == 1)

@@ -1,6 +1,14 @@
-use Rattle.std.proofs.Common.{◌≡◌, drop}
+use Rattle.std.proofs.Common.{◌≡◌, true, length}
+use Rattle.std.specs.List.{list_all}
+use Rattle.symbols.specs.Names.{is_name}
 use Rattle.link_laws.specs.internal.Passes.{missing_in}
 use Rattle.link.proofs.names.first_missing.Given as goal
 
 abbrev pub invariant-loop-name : goal.invariant-loop-name
-invariant-loop-name l = missing_in l.table (drop l.name-index l.names) ≡ missing_in l.table l.names
+invariant-loop-name l = record {
+  rest : missing_in l.table l.walk.externals ≡ missing_in l.table l.fn.walk.externals;
+  valid : list_all is_name l.walk.externals ≡ true;
+}
+
+abbrev pub decreases-loop-name : goal.decreases-loop-name
+decreases-loop-name l = length l.walk.externals

@@ -2,6 +2,6 @@ use Rattle.std.proofs.Common.{◌≡◌, drop}
 use Rattle.link_laws.specs.internal.Passes.{externals_of, missing_in}
 use Rattle.link.proofs.names.unresolved_in.Given as goal
 
-abbrev pub invariant-loop-module : goal.invariant-loop-module
-invariant-loop-module l =
-    missing_in l.table (externals_of (drop l.module-index l.modules)) ≡ missing_in l.table (externals_of l.modules)
+abbrev pub invariant-loop-file : goal.invariant-loop-file
+invariant-loop-file l =
+    missing_in l.table (externals_of (drop l.file-index l.files)) ≡ missing_in l.table (externals_of l.files)

@@ -1,6 +1,6 @@
 use Rattle.std.proofs.Common.{refl}
-use Rattle.answers.proofs.FilesRead.{stops_alone}
-use Rattle.answers.proofs.LinesPrinted.{tells_file, tells_no_file}
+use Rattle.host.proofs.FilesRead.{stops_alone}
+use Rattle.host.proofs.LinesPrinted.{tells_file, tells_no_file}
 use Rattle.object_commands.proofs.placing.place_file.Goals as goal
 use Rattle.object_commands.proofs.FilesPlaced.{placed}
 

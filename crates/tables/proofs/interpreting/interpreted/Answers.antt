@@ -1,4 +1,4 @@
-use Rattle.program_commands.proofs.Interpreted.{has_table}
+use Rattle.commands.proofs.Interpreted.{has_table}
 use Rattle.tables.proofs.interpreting.interpreted.Goals as goal
 
 pub interpret-requires-clause-table : goal.interpret-requires-clause-table

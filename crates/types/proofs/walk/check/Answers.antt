@@ -7,12 +7,12 @@ use Rattle.typed_trees.specs.WellTyped.{IsWellTyped}
 use Rattle.typed_trees.specs.Views.{module_view}
 use Rattle.typing.specs.Typing.{typing_of}
 use Rattle.typing.specs.Untyped.{GivesBack}
-use Rattle.typing.proofs.JumpsLaw.{jumps_are_sound}
+use Rattle.typing.proofs.Jumps.JumpsLaw.{jumps_are_sound}
 use Rattle.typing.proofs.StatementsBack.{gives_back}
-use Rattle.typing.proofs.StorableStatements.{is_storable}
-use Rattle.typing.proofs.TypedLaws.{where_typed}
-use Rattle.typing.proofs.TypesOfStatements.{is_well_typed, globals_are_listed, frames_are_summed}
-use Rattle.typed_parameters.proofs.Walks.{parameters_fit}
+use Rattle.typing.proofs.Storage.StorableStatements.{is_storable}
+use Rattle.typing.proofs.Types.TypedLaws.{where_typed}
+use Rattle.typing.proofs.Types.TypesOfStatements.{is_well_typed, globals_are_listed, frames_are_summed}
+use Rattle.typing.proofs.Parameters.Walks.{parameters_fit}
 use Rattle.types.proofs.walk.check.Goals as goal
 
 pub returns-clause-given_back : goal.returns-clause-given_back

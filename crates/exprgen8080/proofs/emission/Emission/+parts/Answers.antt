@@ -1,6 +1,6 @@
 use Rattle.std.proofs.Common.{refl, sym, ap, subst, ◌∙◌, take}
 use Rattle.steps8080.specs.Step.{AddsWithLabels}
-use Rattle.sites8080.specs.declared.site.Site.{Site}
+use Rattle.steps8080.specs.declared.sites.site.Site.{Site}
 use Rattle.exprgen8080.specs.declared.emission.Emission.{Emission}
 use Rattle.exprgen8080.specs.Forms.{task_labels, task_steps}
 use Rattle.exprgen8080.proofs.Emitting.{IsWriting, none_passed, step_passed, writing_begins, writing_ends}

@@ -1,7 +1,15 @@
-use Rattle.std.proofs.Common.{◌≡◌, drop, map}
-use Rattle.link_laws.specs.internal.Passes.{gathered, name_of}
+use Rattle.std.proofs.Common.{◌≡◌, true, length, map}
+use Rattle.std.specs.List.{list_all}
+use Rattle.symbols.specs.Names.{is_name}
+use Rattle.link_laws.specs.internal.Passes.{gathered}
+use Rattle.link_laws.specs.internal.Growing.{public_name}
 use Rattle.link.proofs.names.NameTable.add.Given as goal
 
 abbrev pub invariant-loop-public : goal.invariant-loop-public
-invariant-loop-public l =
-    gathered l.self (map name_of (drop l.public-index l.publics)) ≡ gathered l.fn.self (map name_of l.publics)
+invariant-loop-public l = record {
+  rest : gathered l.self (map public_name l.walk.publics) ≡ gathered l.fn.self (map public_name l.fn.walk.publics);
+  valid : list_all is_name (map public_name l.walk.publics) ≡ true;
+}
+
+abbrev pub decreases-loop-public : goal.decreases-loop-public
+decreases-loop-public l = length l.walk.publics

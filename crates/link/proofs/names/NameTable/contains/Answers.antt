@@ -1,5 +1,10 @@
-use Rattle.symbols.proofs.Keys.{same_keys}
+use Rattle.std.proofs.Common.{ap, ◌∙◌}
+use Rattle.object_modules.specs.Module.{is_among}
+use Rattle.link_laws.proofs.NameWalks.{among_borrowed}
 use Rattle.link.proofs.names.NameTable.contains.Goals as goal
 
 pub returns : goal.returns
-returns c = rw (← c.self.view_is, ← same_keys) c.contains.ensures
+returns c =
+    c.contains.ensures
+    ∙ among_borrowed c.args.name.now c.self.inside.names.keys
+    ∙ ap (is_among c.args.name.now) c.self.view_is

@@ -1,5 +1,10 @@
-use Rattle.symbols.proofs.Keys.{same_keys}
+use Rattle.std.proofs.Common.{not, ap, ◌∙◌}
+use Rattle.object_modules.specs.Module.{is_among}
+use Rattle.link_laws.proofs.NameWalks.{among_borrowed}
 use Rattle.link.proofs.names.NameTable.insert.Goals as goal
 
-pub returns : goal.returns
-returns c = record { ok = rw (← c.self.view_is, ← same_keys) c.in_ok-insert.ensures.keys; err = tt }
+pub returns-clause-new : goal.returns-clause-new
+returns-clause-new c =
+    c.in_ok-is_new.ensures.added
+    ∙ ap not
+    (among_borrowed c.args.name.now c.self.inside.names.keys ∙ ap (is_among c.args.name.now) c.self.view_is)

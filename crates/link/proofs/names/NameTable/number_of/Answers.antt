@@ -1,5 +1,11 @@
-use Rattle.symbols.proofs.Keys.{same_keys}
+use Rattle.std.proofs.Common.{ap, ◌∙◌}
+use Rattle.std.specs.List.{position}
+use Rattle.std.specs.Str.{bytes_eq}
+use Rattle.link_laws.proofs.NameWalks.{position_borrowed}
 use Rattle.link.proofs.names.NameTable.number_of.Goals as goal
 
 pub returns : goal.returns
-returns c = rw (← c.self.view_is, ← same_keys) c.get_index_of.ensures.index
+returns c =
+    c.get_index_of.ensures.index
+    ∙ position_borrowed c.args.name.now c.self.inside.names.keys
+    ∙ ap (position (bytes_eq c.args.name.now)) c.self.view_is

@@ -1,0 +1,42 @@
+-- The worked program, computed at one place.
+use Rattle.std.proofs.Common.{refl}
+use Rattle.isa8080.specs.Step.{step_of, state_after}
+use Rattle.asm8080.specs.internal.Examples.{Counts}
+
+pub counts : Counts
+unfolding step_of state_after
+counts = record {
+  stands = (
+    (refl, (refl, (refl, tt))),
+    (
+      (refl, (refl, tt)),
+      (
+        refl,
+        (
+          (refl, (refl, (refl, tt))),
+          (
+            (refl, tt),
+            (
+              (refl, (refl, (refl, tt))),
+              (
+                (refl, tt),
+                (
+                  refl,
+                  (
+                    (refl, tt),
+                    (
+                      (refl, tt),
+                      refl,
+                    ),
+                  ),
+                ),
+              ),
+            ),
+          ),
+        ),
+      ),
+    ),
+  );
+  halted = refl;
+  counted = refl;
+}

@@ -1,7 +1,0 @@
-use Rattle.std.proofs.Common.{◌≡◌, drop}
-use Rattle.names.specs.Events.{see_all, declares_label}
-use Rattle.binding.specs.internal.Walks.{gives}
-use Rattle.binding.proofs.binder.Binder.labels.Given as goal
-
-abbrev pub invariant-loop-name : goal.invariant-loop-name
-invariant-loop-name l = gives (see_all declares_label (drop l.name-index l.names)) l.self ≡ gives (see_all declares_label l.names) l.initial.self

@@ -1,7 +1,0 @@
-use Rattle.std.proofs.Common.{◌≡◌, drop}
-use Rattle.names.specs.Events.{see_all, declares_parameter}
-use Rattle.binding.specs.internal.Walks.{gives}
-use Rattle.binding.proofs.binder.Binder.parameters.Given as goal
-
-abbrev pub invariant-loop-name : goal.invariant-loop-name
-invariant-loop-name l = gives (see_all declares_parameter (drop l.name-index l.names)) l.self ≡ gives (see_all declares_parameter l.names) l.initial.self

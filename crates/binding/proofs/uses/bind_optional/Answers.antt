@@ -1,6 +1,0 @@
-use Rattle.std.proofs.Common.{arith}
-use Rattle.binding.proofs.Walks.{bound_none}
-use Rattle.binding.proofs.uses.bind_optional.Goals as goal
-
-pub returns-in-None : goal.returns-in-None
-returns-in-None c = grind (arith, bound_none)

@@ -1,6 +1,0 @@
-use Rattle.std.proofs.Common.{arith}
-use Rattle.binding.proofs.Walks.{bound_none}
-use Rattle.binding.proofs.uses.bind_restricted.Goals as goal
-
-pub returns-in-Constant : goal.returns-in-Constant
-returns-in-Constant c = grind (arith, bound_none)

@@ -1,2 +1,0 @@
-pub mod Binding
-pub mod internal

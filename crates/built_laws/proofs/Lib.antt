@@ -1,0 +1,8 @@
+pub mod NeededRoom
+pub mod BuiltPrograms
+pub mod BuiltFiles
+pub mod PublicsInOrder
+pub mod Names
+pub mod Merges
+pub mod Runs
+pub mod FileImages

@@ -1,0 +1,2 @@
+//! Laws of built programs and of their object files.
+#![tactic(auto)]

@@ -1,3 +1,0 @@
-pub mod NeededRoom
-pub mod BuiltPrograms
-pub mod BuiltFiles

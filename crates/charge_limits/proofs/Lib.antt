@@ -1,3 +1,0 @@
-pub mod Heights
-pub mod Plain
-pub mod Charges

@@ -1,2 +1,0 @@
-//! How much of the stack the procedures of a typed module are charged at most. Nothing here runs.
-#![tactic(auto)]

@@ -1,2 +1,0 @@
--- What only proofs cite.
-pub mod Fits

@@ -1,2 +1,0 @@
-pub mod Heights
-pub mod internal

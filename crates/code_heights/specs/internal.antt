@@ -1,3 +1,0 @@
-pub mod Going
-pub mod Bodies
-pub mod Charges

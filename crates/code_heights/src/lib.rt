@@ -1,2 +1,0 @@
-//! Laws of how many bytes code pushes. Nothing here runs.
-#![tactic(auto)]

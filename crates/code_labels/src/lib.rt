@@ -1,2 +1,0 @@
-//! Laws of the labels of code: each that it goes to has its place in it. Nothing here runs.
-#![tactic(auto)]

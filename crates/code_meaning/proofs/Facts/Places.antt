@@ -1,0 +1,93 @@
+-- Addresses of places and locations that lie some bytes further on, and of those that are the same.
+use Rattle.std.proofs.Common.{◌≡◌, ℕ, ◌+◌, ◌%◌, ◌<◌, ◌==◌, true, false, true≢false, sym, ap, ◌∙◌, arith}
+use Rattle.std.proofs.lemmas.Bool.{eqb-true}
+use Rattle.mem80.specs.declared.memory.TheConstants.{MEMORY_SIZE}
+use Rattle.isa8080.specs.State.{wrap}
+use Rattle.asm8080.specs.Items.{Layout}
+use Rattle.asm8080.proofs.Segments.{left_true, right_true}
+use Rattle.object_modules.specs.declared.segment.Segment.TheVariants as segments
+use Rattle.object_modules.specs.declared.segment.Target.TheVariants as targets
+use Rattle.treecode.specs.declared.place.Place.{Place}
+use Rattle.treecode.specs.declared.place.Place.TheVariants.{Number, Code, Data, External}
+use Rattle.treecode.specs.declared.place.Location.{Location}
+use Rattle.treecode.specs.declared.place.Location.TheVariants.{Static, Frame}
+use Rattle.treecode.specs.Homes.{place_after, location_after}
+use Rattle.steps8080.specs.Facts.{before, same_place, same_location}
+use Rattle.code_meaning.specs.Activations.{Activation}
+use Rattle.code_meaning.specs.Holding.{Distances, location_at, place_at}
+
+moved : (offset more base : ℕ) → wrap ((offset + more) % 65536 + base) ≡ wrap (wrap (offset + base) + more)
+moved offset more base = omega arith
+
+moved_on : (base offset more : ℕ) → wrap (base + (offset + more) % 65536) ≡ wrap (wrap (base + offset) + more)
+moved_on base offset more = omega arith
+
+place_after_is :
+    (layout : Layout) (place : Place) (more : ℕ)
+    → place_at layout (place_after place more) ≡ wrap (place_at layout place + more)
+place_after_is layout (Number number) more = omega arith
+place_after_is layout (Code offset) more = moved offset more (layout.address_of (targets.InSegment segments.Code))
+place_after_is layout (Data offset) more = moved offset more (layout.address_of (targets.InSegment segments.Data))
+place_after_is layout (External offset name) more = moved offset more (layout.address_of (targets.External name))
+
+-- the address of what lies some bytes further on
+pub location_after_is :
+    (activation : Activation) (distance : Distances) (location : Location) (more : ℕ)
+    → location_at activation distance (location_after location more)
+    ≡ wrap (location_at activation distance location + more)
+location_after_is activation distance (Static place) more = place_after_is activation.layout place more
+location_after_is activation distance (Frame variable offset) more =
+    moved_on (activation.level + distance variable) offset more
+
+back_and_on : (address : ℕ) → address < MEMORY_SIZE → wrap (wrap (address + 65535) + 1) ≡ address
+back_and_on address small = omega (arith, small)
+
+-- one byte after what lies one byte before
+pub after_before :
+    (activation : Activation) (distance : Distances) (location : Location)
+    → location_at activation distance location < MEMORY_SIZE
+    → wrap (location_at activation distance (before location) + 1) ≡ location_at activation distance location
+after_before activation distance location small =
+    ap (λ n. wrap (n + 1)) (location_after_is activation distance location 65535)
+    ∙ back_and_on (location_at activation distance location) small
+
+pub never : {A : Type 0} → false ≡ true → A
+never {A = A} same = absurd (true≢false (sym same))
+
+same_places :
+    (layout : Layout) (one other : Place) → same_place one other ≡ true → place_at layout one ≡ place_at layout other
+same_places layout (Number one) (Number other) same = eqb-true one other same
+same_places layout (Number one) (Code other) same = never same
+same_places layout (Number one) (Data other) same = never same
+same_places layout (Number one) (External other name) same = never same
+same_places layout (Code one) (Number other) same = never same
+same_places layout (Code one) (Code other) same =
+    ap (λ n. place_at layout (Code n)) (eqb-true one other same)
+same_places layout (Code one) (Data other) same = never same
+same_places layout (Code one) (External other name) same = never same
+same_places layout (Data one) (Number other) same = never same
+same_places layout (Data one) (Code other) same = never same
+same_places layout (Data one) (Data other) same =
+    ap (λ n. place_at layout (Data n)) (eqb-true one other same)
+same_places layout (Data one) (External other name) same = never same
+same_places layout (External one name) (Number other) same = never same
+same_places layout (External one name) (Code other) same = never same
+same_places layout (External one name) (Data other) same = never same
+same_places layout (External one name) (External other other_name) same =
+    ap (λ n. place_at layout (External n name)) (eqb-true one other (left_true (one == other) (name == other_name) same))
+    ∙ ap (λ n. place_at layout (External other n))
+    (eqb-true name other_name (right_true (one == other) (name == other_name) same))
+
+-- locations that are the same have the same address
+pub same_locations :
+    (activation : Activation) (distance : Distances) (one other : Location)
+    → same_location one other ≡ true
+    → location_at activation distance one ≡ location_at activation distance other
+same_locations activation distance (Static one) (Static other) same = same_places activation.layout one other same
+same_locations activation distance (Static one) (Frame variable other) same = never same
+same_locations activation distance (Frame variable one) (Static other) same = never same
+same_locations activation distance (Frame variable one) (Frame other_variable other) same =
+    ap (λ n. location_at activation distance (Frame n one))
+    (eqb-true variable other_variable (left_true (variable == other_variable) (one == other) same))
+    ∙ ap (λ n. location_at activation distance (Frame other_variable n))
+    (eqb-true one other (right_true (variable == other_variable) (one == other) same))

@@ -1,2 +1,0 @@
-pub mod Weights
-pub mod internal

@@ -1,3 +1,0 @@
--- What only proofs cite.
-pub mod Sizes
-pub mod Parts

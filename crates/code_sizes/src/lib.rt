@@ -1,2 +1,0 @@
-//! Laws of how many bytes code takes. Nothing here runs.
-#![tactic(auto)]

@@ -1,0 +1,32 @@
+-- The need of sources, printed or not.
+use Rattle.std.proofs.Common.{◌≡◌, ℕ, List, Option, None, Some, inl, inr, refl, subst}
+use Rattle.std.specs.Io.KnownBytes.{Appends, Keeps}
+use Rattle.failure.specs.Writing.{AppendsBeginning}
+use Rattle.host.specs.Refusals.{Tells, memory_line, output_line}
+use Rattle.commands.specs.Needs.{HasCause, IsNeedText}
+use Rattle.commands.specs.declared.needs.fault.NeedFault.{NeedFault}
+use Rattle.commands.specs.NeedFaults.{fault_line}
+use Rattle.commands.specs.Printing.{PrintsNeed, StopsNeed, TellsNoNeed}
+
+pub prints_need : (texts : List (List ℕ)) (line written : List ℕ) (old new : Option (List ℕ)) → IsNeedText texts line → written ≡ line → Appends old new written → PrintsNeed texts old new
+prints_need texts line written old new need is printed = record { line = line; need = need; printed = subst (λ (l : List ℕ). Appends old new l) is printed }
+
+pub begins_need : (texts : List (List ℕ)) (line written : List ℕ) (old new : Option (List ℕ)) → IsNeedText texts line → written ≡ line → AppendsBeginning old new written → StopsNeed texts old new
+begins_need texts line written old new need is printed = inr (record { line = line; need = need; printed = subst (λ (l : List ℕ). AppendsBeginning old new l) is printed })
+
+-- a writer that nothing was sent to
+stays_written : (known : Option (List ℕ)) → Keeps known known
+stays_written None = tt
+stays_written (Some bytes) = refl
+
+pub no_need : (texts : List (List ℕ)) (known : Option (List ℕ)) → StopsNeed texts known known
+no_need texts known = inl (stays_written known)
+
+pub tells_cause : (names texts : List (List ℕ)) (fault : NeedFault) (old new : Option (List ℕ)) → HasCause fault texts → Tells (fault_line names fault) old new → TellsNoNeed names texts old new
+tells_cause names texts fault old new cause told = inl (record { fault = fault; cause = cause; told = told })
+
+pub tells_memory : (names texts : List (List ℕ)) (old new : Option (List ℕ)) → Tells memory_line old new → TellsNoNeed names texts old new
+tells_memory names texts old new told = inr (inl told)
+
+pub tells_output : (names texts : List (List ℕ)) (line : List ℕ) (old new : Option (List ℕ)) → IsNeedText texts line → Tells output_line old new → TellsNoNeed names texts old new
+tells_output names texts line old new need told = inr (inr (record { line = line; need = need; told = told }))

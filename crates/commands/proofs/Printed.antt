@@ -1,0 +1,223 @@
+-- What was printed of programs, step by step.
+use Rattle.std.proofs.Common.{◌≡◌, ℕ, ◌≤◌, Bool, true, false, List, [], ◌++◌, length, map, Bor, Option, None, Some, inl, inr, refl, sym, ap, subst, ◌∙◌, append-nil}
+use Rattle.std.specs.Io.KnownBytes.{Appends, Keeps}
+use Rattle.std.proofs.KnownBytes.{Appends-trans}
+use Rattle.failure.specs.Writing.{AppendsBeginning}
+use Rattle.failure.proofs.WritingLemmas.{beginning_after}
+use Rattle.clap.specs.Walk.{texts}
+use Rattle.mem80.specs.Memory.{zeros}
+use Rattle.ports.specs.declared.event.Event.{Event}
+use Rattle.ports.specs.Events.{IsBeginning}
+use Rattle.ports.specs.Session.{Session}
+use Rattle.host.specs.Files.{Directory}
+use Rattle.host.specs.Reading.{HasFiles}
+use Rattle.printing.specs.Report.{report_of}
+use Rattle.cpu8080.specs.Machine.{Machine}
+use Rattle.cpu8080.specs.Runs.{IsRun}
+use Rattle.cpu8080.specs.declared.machine.End.{End}
+use Rattle.printing.specs.Printing.{BeginsRun, PrintsRun, end_word}
+use Rattle.meaning.specs.Outcomes.{Stop}
+use Rattle.meaning.specs.Run.{Run, source_run}
+use Rattle.mem80.specs.declared.plan.Plan.{Plan}
+use Rattle.join.specs.declared.joined.Joined.{Joined}
+use Rattle.placing.specs.declared.placement.Placement.{Placement as CodePlacement}
+use Rattle.placing.specs.Views.{placement_view}
+use Rattle.command_line.specs.Command.{ProgramWanted}
+use Rattle.command_line.specs.Settings.{Values}
+use Rattle.command_line.specs.declared.orders.Action.{Action}
+use Rattle.command_line.specs.declared.orders.Action.TheVariants.{Run as ToRun, Interpret}
+use Rattle.sources.specs.declared.sources.TheConstants.{MOST_SOURCES}
+use Rattle.sources.specs.Programs.{IsProgramOf, program_modules}
+use Rattle.tool.specs.Construction.{Construction, IsConstruction}
+use Rattle.tool.specs.Execution.{source_of, started}
+use Rattle.commands.specs.Map.{map_if, map_of}
+use Rattle.commands.specs.Running.{DoesAs, GivesInput, PrintsFiles, PrintsMachine, PrintsMeaning, PrintsTexts, StopsBuilt, end_status, source_status, source_word}
+
+-- a writer that nothing was sent to
+pub stays_written : (known : Option (List ℕ)) → Keeps known known
+stays_written None = tt
+stays_written (Some bytes) = refl
+
+pub nothing_begun : (known : Option (List ℕ)) (bytes : List ℕ) → AppendsBeginning known known bytes
+nothing_begun None bytes = ([], (bytes, refl), tt)
+nothing_begun (Some sent) bytes = ([], (bytes, refl), sym (append-nil sent))
+
+pub nothing_stops : (action : Action) (before : List ℕ) (values : Values) (built : Construction) (known : Option (List ℕ)) → StopsBuilt action before values built known known
+unfolding StopsBuilt
+nothing_stops action before values built known = inl (nothing_begun known before)
+
+-- a run of an image that was printed, or a beginning of it
+module _ (values : Values) (built : Construction) (memory : List ℕ) (script : Session) (old new : Option (List ℕ)) (zeroed : memory ≡ zeros) (gives : GivesInput values.input script.script)
+    (none : script.events ≡ []) (unfailed : script.failures ≡ 0) where
+  same_start : started built.image memory script.script script.events script.failures ≡ started built.image zeros script.script [] 0
+  same_start =
+      ap (λ (m : List ℕ). started built.image m script.script script.events script.failures) zeroed
+      ∙ ap (λ (es : List Event). started built.image zeros script.script es script.failures) none
+      ∙ ap (λ (n : ℕ). started built.image zeros script.script [] n) unfailed
+
+  pub prints_machine : (end : End) (machine : Machine) → PrintsRun values.limit (started built.image memory script.script script.events script.failures) end machine old new
+      → PrintsMachine [] values built (end_status end) old new
+  prints_machine end machine ran = record {
+    script = script.script;
+    gives = gives;
+    end = end;
+    machine = machine;
+    run = subst (λ (start : Machine). IsRun values.limit start end machine) same_start ran.run;
+    ended = refl;
+    printed = ran.printed;
+  }
+
+  pub begins_machine : BeginsRun values.limit (started built.image memory script.script script.events script.failures) old new → StopsBuilt ToRun [] values built old new
+  unfolding StopsBuilt
+  begins_machine ran = inr (record {
+    script = script.script;
+    gives = gives;
+    end = ran.end;
+    machine = ran.machine;
+    run = subst (λ (start : Machine). IsRun values.limit start ran.end ran.machine) same_start ran.run;
+    printed = ran.printed;
+  })
+
+-- the meaning of a program that was printed, or a beginning of it
+module _ (values : Values) (built : Construction) (memory : List ℕ) (script : Session) (end : Option Stop) (events : List Event) (old new : Option (List ℕ)) (zeroed : memory ≡ zeros)
+    (gives : GivesInput values.input script.script) (none : script.events ≡ []) (does : DoesAs (source_of built memory script.script script.events values.limit) end events) where
+  same_run : DoesAs (source_of built zeros script.script [] values.limit) end events
+  same_run =
+      let same : source_of built memory script.script script.events values.limit ≡ source_of built zeros script.script [] values.limit =
+      ap (λ (m : List ℕ). source_of built m script.script script.events values.limit) zeroed
+      ∙ ap (λ (es : List Event). source_of built zeros script.script es values.limit) none in
+      subst (λ (run : Run). DoesAs run end events) same does
+
+  pub prints_meaning : Appends old new (report_of events (source_word end)) → PrintsMeaning [] values built (source_status end) old new
+  prints_meaning printed = record { script = script.script; gives = gives; end = end; events = events; does = same_run; ended = refl; printed = printed }
+
+  pub begins_meaning : (shown : List Event) (word : List ℕ) → shown ≡ events → word ≡ source_word end → AppendsBeginning old new (report_of shown word) → StopsBuilt Interpret [] values built old new
+  unfolding StopsBuilt
+  begins_meaning shown word are is printed =
+      let begun : AppendsBeginning old new (report_of events (source_word end)) = subst (λ (es : List Event). AppendsBeginning old new (report_of es (source_word end))) are
+      (subst (λ (w : List ℕ). AppendsBeginning old new (report_of shown w)) is printed) in
+      inr (record { script = script.script; gives = gives; end = end; events = events; does = same_run; printed = begun })
+
+module _ (before : List ℕ) (values : Values) (built : Construction) (a b c : Option (List ℕ)) where
+  -- after a text that was printed before
+  pub machine_after : (status : ℕ) → Appends a b before → PrintsMachine [] values built status b c → PrintsMachine before values built status a c
+  machine_after status first printed = record {
+    script = printed.script;
+    gives = printed.gives;
+    end = printed.end;
+    machine = printed.machine;
+    run = printed.run;
+    ended = printed.ended;
+    printed = Appends-trans a b c before _ first printed.printed;
+  }
+
+  pub meaning_after : (status : ℕ) → Appends a b before → PrintsMeaning [] values built status b c → PrintsMeaning before values built status a c
+  meaning_after status first printed = record {
+    script = printed.script;
+    gives = printed.gives;
+    end = printed.end;
+    events = printed.events;
+    does = printed.does;
+    ended = printed.ended;
+    printed = Appends-trans a b c before _ first printed.printed;
+  }
+
+-- what stops after a text that was printed before
+module _ (before : List ℕ) (values : Values) (built : Construction) (a b c : Option (List ℕ)) where
+  begun_after : (next : List ℕ) → Appends a b before → AppendsBeginning b c next → AppendsBeginning a c (before ++ next)
+  begun_after next first begun = beginning_after a b c before next (before ++ next) [] (ap (λ (l : List ℕ). before ++ l) (sym (append-nil next))) first begun
+
+  pub stops_after : (action : Action) → Appends a b before → StopsBuilt action [] values built b c → StopsBuilt action before values built a c
+  unfolding StopsBuilt
+  stops_after action first (inl begun) = inl (subst (λ (l : List ℕ). AppendsBeginning a c l) (append-nil before) (begun_after [] first begun))
+  stops_after ToRun first (inr begun) = inr (record {
+    script = begun.script;
+    gives = begun.gives;
+    end = begun.end;
+    machine = begun.machine;
+    run = begun.run;
+    printed = begun_after (report_of begun.machine.state.events (end_word begun.end)) first begun.printed;
+  })
+  stops_after Interpret first (inr begun) = inr (record {
+    script = begun.script;
+    gives = begun.gives;
+    end = begun.end;
+    events = begun.events;
+    does = begun.does;
+    printed = begun_after (report_of begun.events (source_word begun.end)) first begun.printed;
+  })
+
+-- after the map, where it is wanted
+module _ (wanted : Bool) (values : Values) (built : Construction) (a b c : Option (List ℕ)) (status : ℕ) where
+  pub machine_with_map : wanted ≡ true → Appends a b (map_of built) → PrintsMachine [] values built status b c → PrintsMachine (map_if wanted built) values built status a c
+  machine_with_map is_on first printed = rw is_on (machine_after (map_of built) values built a b c status first printed)
+
+  pub meaning_with_map : wanted ≡ true → Appends a b (map_of built) → PrintsMeaning [] values built status b c → PrintsMeaning (map_if wanted built) values built status a c
+  meaning_with_map is_on first printed = rw is_on (meaning_after (map_of built) values built a b c status first printed)
+
+  pub machine_alone : wanted ≡ false → PrintsMachine [] values built status a c → PrintsMachine (map_if wanted built) values built status a c
+  machine_alone is_off printed = rw is_off printed
+
+  pub meaning_alone : wanted ≡ false → PrintsMeaning [] values built status a c → PrintsMeaning (map_if wanted built) values built status a c
+  meaning_alone is_off printed = rw is_off printed
+
+-- the same of what was not printed whole
+module _ (action : Action) (wanted : Bool) (values : Values) (built : Construction) (a b c : Option (List ℕ)) where
+  pub map_stops : wanted ≡ true → AppendsBeginning a b (map_of built) → StopsBuilt action (map_if wanted built) values built a b
+  unfolding StopsBuilt
+  map_stops is_on begun = rw is_on (inl begun)
+
+  pub stops_with_map : wanted ≡ true → Appends a b (map_of built) → StopsBuilt action [] values built b c → StopsBuilt action (map_if wanted built) values built a c
+  stops_with_map is_on first stops = rw is_on (stops_after (map_of built) values built a b c action first stops)
+
+  pub stops_alone : wanted ≡ false → StopsBuilt action [] values built a c → StopsBuilt action (map_if wanted built) values built a c
+  stops_alone is_off stops = rw is_off stops
+
+-- the status of the ending is that of the end
+module _ (before : List ℕ) (values : Values) (built : Construction) (old new : Option (List ℕ)) (status of_end : ℕ) where
+  pub machine_status : status ≡ of_end → PrintsMachine before values built of_end old new → PrintsMachine before values built status old new
+  machine_status same printed = subst (λ (s : ℕ). PrintsMachine before values built s old new) (sym same) printed
+
+  pub meaning_status : status ≡ of_end → PrintsMeaning before values built of_end old new → PrintsMeaning before values built status old new
+  meaning_status same printed = subst (λ (s : ℕ). PrintsMeaning before values built s old new) (sym same) printed
+
+-- what a program of the interpreter does is what was built
+pub same_source : (built : Construction) (joined : Joined) (placement : CodePlacement) (plan : Plan) (memory : List ℕ) (script : List (List ℕ)) (events : List Event) (budget : ℕ)
+    → joined ≡ built.program → placement_view placement ≡ built.placement → plan ≡ built.plan
+    → source_run (program_modules joined) (placement_view placement) plan.stack_size memory script events budget ≡ source_of built memory script events budget
+same_source built joined placement plan memory script events budget same at planned =
+    ap (λ (program : Joined). source_run (program_modules program) (placement_view placement) plan.stack_size memory script events budget) same
+    ∙ ap (λ place. source_run (program_modules built.program) place plan.stack_size memory script events budget) at
+    ∙ ap (λ (by : Plan). source_run (program_modules built.program) built.placement by.stack_size memory script events budget) planned
+
+module _ (run source : Run) (same : run ≡ source) where
+  pub ends_so : (stop : Stop) (events : List Event) → run ≡ record { end = stop; events = events } → DoesAs source (Some stop) events
+  ends_so stop events means = sym same ∙ means
+
+  pub fails_so : (events : List Event) → IsBeginning events run.events → DoesAs source None events
+  fails_so events begins = subst (λ (r : Run). IsBeginning events r.events) same begins
+
+-- what was printed of a program that was built of texts
+module _ (with_map : Bool) (values : Values) (texts : List (List ℕ)) (built : Construction) (status : ℕ) (old new : Option (List ℕ)) (few : length texts ≤ MOST_SOURCES)
+    (program : IsProgramOf texts (program_modules built.program)) (plan : built.plan ≡ values.plan) (construction : IsConstruction built) where
+  pub run_of_texts : PrintsMachine (map_if with_map built) values built status old new → PrintsTexts ToRun with_map values texts status old new
+  run_of_texts printed = record { built = built; few = few; program = program; plan = plan; construction = construction; printed = printed }
+
+  pub meaning_of_texts : PrintsMeaning (map_if with_map built) values built status old new → PrintsTexts Interpret with_map values texts status old new
+  meaning_of_texts printed = record { built = built; few = few; program = program; plan = plan; construction = construction; printed = printed }
+
+-- the texts are those of files with these names
+pub prints_files : (files : Option Directory) (wanted : ProgramWanted) (values : Values) (names order : List (Bor (List ℕ))) (read used : List (List ℕ)) (status : ℕ) (old new : Option (List ℕ))
+    → names ≡ order → wanted.files ≡ texts order → HasFiles files (map (λ n. n.now) names) read → used ≡ read
+    → PrintsTexts wanted.action wanted.map values used status old new → PrintsFiles wanted values files status old new
+prints_files files wanted values names order read used status old new same wants has are printed = record {
+  texts = read;
+  read = subst (λ (l : List (List ℕ)). HasFiles files l read) (sym wants) (subst (λ (l : List (Bor (List ℕ))). HasFiles files (map (λ n. n.now) l) read) same has);
+  printed = subst (λ (l : List (List ℕ)). PrintsTexts wanted.action wanted.map values l status old new) are printed;
+}
+
+-- the action is this one
+pub by_action : (action this : Action) (with_map : Bool) (values : Values) (texts : List (List ℕ)) (status : ℕ) (old new : Option (List ℕ)) → action ≡ this
+    → PrintsTexts this with_map values texts status old new → PrintsTexts action with_map values texts status old new
+by_action action this with_map values texts status old new is printed =
+    subst (λ (a : Action). PrintsTexts a with_map values texts status old new) (sym is) printed

@@ -1,0 +1,6 @@
+use Rattle.std.proofs.Common.{codes, refl}
+use Rattle.host.proofs.LinesPrinted.{tells_other}
+use Rattle.commands.proofs.printed_needs.refusals.refuse_need.Goals as goal
+
+pub returns-in-TooManySources-clause-told : goal.returns-in-TooManySources-clause-told
+returns-in-TooManySources-clause-told g c = tells_other (codes "U1") (codes "-") 0 _ _ refl c.refuse.ensures.told

@@ -1,0 +1,45 @@
+//! What commands print where sources are refused.
+
+ghost use Rattle.std.specs.Prelude.{◌≡◌, map};
+ghost use Rattle.host.specs.Refusals.{Tells, TellsOther, refusal_line};
+ghost use Rattle.tool.specs.Faults.{file_of, line_of, number_of};
+ghost use Rattle.commands.specs.ProgramFaults.{fault_line, file_place};
+
+use crate::programs::loading::name_at;
+use host::{Ending, refuse_name};
+use std::io::Write;
+use tool::ToolFault;
+
+/// Prints why sources are refused: the number of the fault, the name that it tells of, or the file, or a dash, and the line.
+#[tactic(auto, using(crate::proofs::Refused::of_name, crate::proofs::Refused::of_file))]
+pub(crate) fn refuse_sources<E: Write>(fault: &ToolFault, files: &[&str], err: &mut E) -> Ending
+    ensures ending { result ≡ Ending.Refused }
+    ensures line { Tells (fault_line (map (λ name. name.now) files.now) fault.now)
+        (E.contents err.old) (E.contents err.new) }
+    ensures told { TellsOther (E.contents err.old) (E.contents err.new) }
+{
+    match fault.name() {
+        Some(name) => refuse_sources_at(fault, name.as_slice(), err),
+        None => refuse_sources_at(fault, place_of_file(fault, files).as_bytes(), err),
+    }
+}
+
+// Prints why sources are refused, with the name that is told of.
+fn refuse_sources_at<E: Write>(fault: &ToolFault, name: &[u8], err: &mut E) -> Ending
+    ensures ending { result ≡ Ending.Refused }
+    ensures line { Tells (refusal_line (number_of fault.now) name.now (line_of fault.now))
+        (E.contents err.old) (E.contents err.new) }
+    ensures told { TellsOther (E.contents err.old) (E.contents err.new) }
+{
+    refuse_name(fault.number(), name, fault.line(), err)
+}
+
+// The name of the file that a fault is in, or a dash.
+fn place_of_file<'a>(fault: &ToolFault, files: &[&'a str]) -> &'a str
+    ensures { result.now ≡ file_place (map (λ name. name.now) files.now) (file_of fault.now) }
+{
+    match fault.file() {
+        Some(file) => name_at(files, file),
+        None => "-",
+    }
+}

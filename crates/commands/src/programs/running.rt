@@ -1,0 +1,136 @@
+//! Runs of programs on the 8080.
+
+ghost use Rattle.std.specs.Prelude.{◌≡◌, [], IfOk, OnErr};
+ghost use Rattle.host.specs.Endings.{status_of};
+ghost use Rattle.host.specs.Refusals.{TellsOther};
+ghost use Rattle.command_line.specs.Command.{program_in};
+ghost use Rattle.command_line.specs.Settings.{values_in};
+ghost use Rattle.command_line.specs.declared.orders.Action.TheVariants.{Run};
+ghost use Rattle.sources.specs.Programs.{texts_of};
+ghost use Rattle.commands.specs.Map.{map_if};
+ghost use Rattle.commands.specs.Refusing.{RefusesTexts, TellsUnwritten};
+ghost use Rattle.commands.specs.Running.{PrintsMachine, PrintsTexts, StopsBuilt, end_status};
+
+use crate::programs::loading::script_of;
+use crate::programs::map::print_map;
+use crate::programs::refusals::refuse_sources;
+use command_line::{ProgramOrder, Settings};
+use cpu8080::End;
+use failure::{Failure, WriteFault};
+use host::{Ending, refuse_memory, refuse_output};
+use mem80::Memory;
+use std::alloc::Global;
+use std::io::Write;
+use tool::{Built, Source, build, print_run};
+
+/// Builds the program of sources, and runs its image on a memory of zeros.
+#[tactic(auto, using(crate::proofs::Untold::tells_memory))]
+pub(crate) fn run_sources<O: Write, E: Write>(
+    alloc: Global,
+    order: &ProgramOrder,
+    settings: &Settings,
+    sources: &[Source],
+    out: &mut O,
+    err: &mut E,
+) -> Ending
+    ensures not_wrong { result ≡ Ending.WrongLine → ⊥ }
+    ensures told { result ≡ Ending.Refused → TellsOther (E.contents err.old) (E.contents err.new) }
+    ensures refused { result ≡ Ending.Refused →
+        RefusesTexts Run order.now.map (values_in settings.now)
+        (program_in order.now).files (texts_of sources.now)
+        (E.contents err.old) (E.contents err.new) (O.contents out.old) (O.contents out.new) }
+    ensures quiet { (result ≡ Ending.Refused → ⊥) → E.contents err.new ≡ E.contents err.old }
+    ensures ran { (result ≡ Ending.Refused → ⊥) → PrintsTexts Run order.now.map
+        (values_in settings.now) (texts_of sources.now) (status_of result)
+        (O.contents out.old) (O.contents out.new) }
+{
+    match build(alloc, sources, &settings.plan) {
+        Ok(built) => run_built(alloc, order, settings, &built, out, err),
+        Err(Failure::Fault(fault)) => refuse_sources(&fault, order.files.as_slice(), err),
+        Err(Failure::Memory) => refuse_memory(err),
+    }
+}
+
+// Runs an image on a memory of zeros, and prints what it does.
+#[tactic(auto, using(crate::proofs::Printed::machine_status, crate::proofs::Untold::memory_unwritten, crate::proofs::Untold::output_unwritten))]
+fn run_built<O: Write, E: Write>(
+    alloc: Global,
+    order: &ProgramOrder,
+    settings: &Settings,
+    built: &Built,
+    out: &mut O,
+    err: &mut E,
+) -> Ending
+    ensures not_wrong { result ≡ Ending.WrongLine → ⊥ }
+    ensures told { result ≡ Ending.Refused → TellsOther (E.contents err.old) (E.contents err.new) }
+    ensures refused { result ≡ Ending.Refused → TellsUnwritten (E.contents err.old) (E.contents err.new) }
+    ensures stopped { result ≡ Ending.Refused → StopsBuilt Run (map_if order.now.map built.now)
+        (values_in settings.now) built.now (O.contents out.old) (O.contents out.new) }
+    ensures quiet { (result ≡ Ending.Refused → ⊥) → E.contents err.new ≡ E.contents err.old }
+    ensures ran { (result ≡ Ending.Refused → ⊥) → PrintsMachine (map_if order.now.map built.now)
+        (values_in settings.now) built.now (status_of result) (O.contents out.old) (O.contents out.new) }
+{
+    match print_built(alloc, order.map, settings, built, out) {
+        Ok(end) => ending_of(end),
+        Err(Failure::Fault(_)) => refuse_output(err),
+        Err(Failure::Memory) => refuse_memory(err),
+    }
+}
+
+// Prints the map of a program, where one is wanted, and then what its image does. After a failure a beginning of that was
+// printed.
+#[tactic(auto, using(crate::proofs::Printed::machine_with_map, crate::proofs::Printed::machine_alone, crate::proofs::Printed::map_stops, crate::proofs::Printed::stops_with_map, crate::proofs::Printed::stops_alone))]
+fn print_built<O: Write>(
+    alloc: Global,
+    map: bool,
+    settings: &Settings,
+    built: &Built,
+    out: &mut O,
+) -> Result<End, Failure<WriteFault>>
+    ensures ok { IfOk result (λ end. PrintsMachine (map_if map built.now) (values_in settings.now) built.now
+        (end_status end) (O.contents out.old) (O.contents out.new)) }
+    ensures err { OnErr result (StopsBuilt Run (map_if map built.now) (values_in settings.now) built.now
+        (O.contents out.old) (O.contents out.new)) }
+{
+    if map {
+        print_map(alloc, built, out)?;
+    }
+    let end = print_image(alloc, settings, built, out)?;
+    Ok(end)
+}
+
+// Prints what an image does on a memory of zeros. After a failure a beginning of that was printed.
+#[tactic(auto, using(crate::proofs::Printed::prints_machine, crate::proofs::Printed::nothing_stops))]
+fn print_image<O: Write>(
+    alloc: Global,
+    settings: &Settings,
+    built: &Built,
+    out: &mut O,
+) -> Result<End, Failure<WriteFault>>
+    ensures ok { IfOk result (λ end. PrintsMachine [] (values_in settings.now) built.now
+        (end_status end) (O.contents out.old) (O.contents out.new)) }
+    ensures err { OnErr result (StopsBuilt Run [] (values_in settings.now) built.now
+        (O.contents out.old) (O.contents out.new)) }
+{
+    let Ok(memory) = Memory::new(alloc) else {
+        return Err(Failure::Memory);
+    };
+    let Ok(script) = script_of(alloc, settings.input.as_slice()) else {
+        return Err(Failure::Memory);
+    };
+    let (end, _machine) = print_run(built, memory, script, settings.limit, out)?;
+    Ok(end)
+}
+
+// How a command ends whose run ended so.
+fn ending_of(end: End) -> Ending
+    ensures refused { result ≡ Ending.Refused → ⊥ }
+    ensures not_wrong { result ≡ Ending.WrongLine → ⊥ }
+    ensures status { status_of result ≡ end_status end }
+{
+    match end {
+        End::Halted => Ending::Done,
+        End::Illegal | End::PortFault => Ending::Stopped,
+        End::Limit => Ending::Limit,
+    }
+}

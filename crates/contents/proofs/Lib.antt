@@ -1,5 +1,0 @@
-pub mod Items
-pub mod Written
-pub mod Loops
-pub mod Pairs
-pub mod ModuleLoops

@@ -1,6 +1,0 @@
-use Rattle.std.proofs.Common.{◌≡◌, drop}
-use Rattle.layout.specs.StartingMemory.{written}
-use Rattle.contents.proofs.bytes.put_bytes.Given as goal
-
-abbrev pub invariant-loop-byte : goal.invariant-loop-byte
-invariant-loop-byte l = written l.memory l.address (drop l.byte-index l.bytes) ≡ written l.fn.memory l.start l.bytes

@@ -1,9 +1,0 @@
-use Rattle.std.proofs.Common.{arith}
-use Rattle.resolving.specs.Views.{program_view}
-use Rattle.contents.proofs.ModuleLoops.{modules_put}
-use Rattle.contents.proofs.modules.fill.Goals as goal
-
-pub returns : goal.returns
-returns c =
-    modules_put (program_view c.args.program.now) c.modules-placements.result.now c.args.memory.now c.loop-number_of_module.memory
-    c.loop-number_of_module.number_of_module c.modules-placements.ensures c.loop-number_of_module.invariant (omega arith)

@@ -1,5 +1,0 @@
-pub mod PublicsInOrder
-pub mod Names
-pub mod Merges
-pub mod Runs
-pub mod FileImages

@@ -1,9 +1,0 @@
-pub mod BytesInParts
-pub mod FixesByPlace
-pub mod RunsByContents
-pub mod ModuleTold
-pub mod PieceGrown
-pub mod AllGrown
-pub mod ContentsFitAt
-pub mod NameWalks
-pub mod PublicWalks

@@ -1,2 +1,0 @@
--- What the loops over the contents of files go by.
-pub mod Growing

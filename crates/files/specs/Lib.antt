@@ -1,3 +1,0 @@
-pub use Rattle.ports.specs.Events
-pub use Rattle.failure.specs.Failure
-pub mod Files

@@ -1,9 +1,0 @@
-pub use Rattle.failure.specs.Failure
-pub use Rattle.words.specs.Spelling
-pub use Rattle.literally.specs.Expansion
-pub use Rattle.grammar.specs.Derivation
-pub use Rattle.trees.specs.Trees
-pub mod Reading
-pub mod Causes
-pub mod Faults
-pub mod internal

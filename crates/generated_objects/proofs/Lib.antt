@@ -1,9 +1,0 @@
-pub mod Cells
-pub mod Placed
-pub mod Contents
-pub mod Words
-pub mod Listed
-pub mod Segments
-pub mod Names
-pub mod Objects
-pub mod Made

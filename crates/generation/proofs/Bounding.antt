@@ -1,0 +1,77 @@
+-- Object modules and refusals by the code bound.
+use Rattle.std.proofs.Common.{Result, Ok, Err, subst}
+use Rattle.failure.specs.declared.Failure.{Failure}
+use Rattle.failure.specs.declared.Failure.TheVariants as failures
+use Rattle.failure.specs.Failure.{IfFault}
+use Rattle.object_modules.specs.Module.{ObjectModule}
+use Rattle.typed_trees.specs.TypedTrees.{TypedModule}
+use Rattle.layout.specs.Storage.{Storage, storage_with}
+use Rattle.layout.specs.Sound.{IsSoundlyTyped}
+use Rattle.treecode.specs.declared.module.TreeModule.{TreeModule}
+use Rattle.treecode.specs.Lowered.{IsLowered}
+use Rattle.treecode_laws.proofs.Slots.{stored}
+use Rattle.codegen8080.specs.declared.fault.Fault.{Fault}
+use Rattle.codegen8080.specs.declared.fault.Fault.TheVariants.{TooLong}
+use Rattle.codegen8080.specs.Modules.{IsGenerated}
+use Rattle.codegen8080.specs.Refusals.{MayRefuse}
+use Rattle.measure_laws.specs.Sound.{IsSound}
+use Rattle.measure_laws.proofs.Bounds.Bounds.{code_is_within_its_bound, segment_is_within_its_bound, too_long_is_past_its_bound}
+use Rattle.generation.specs.Bounded.{IsPastBound, IsWithinBound}
+use Rattle.generation.specs.Modules.{MakesNone}
+
+-- what the size of code depends on
+pub sound_for_bounds : (typed : TypedModule) → IsSoundlyTyped typed → IsSound typed
+sound_for_bounds typed sound = record {
+  types = sound.types;
+  jumps = sound.jumps;
+  frames = sound.frames;
+  parameters = sound.parameters;
+  storable = sound.storable;
+}
+
+pub within_bound : (tree : TreeModule) (object : ObjectModule) → IsGenerated tree object → IsWithinBound tree object
+within_bound tree object is typed code =
+    segment_is_within_its_bound typed code.storage tree object code.sound code.lowered is
+
+past_bound : (tree : TreeModule) (fault : Fault) → MayRefuse tree fault → IsPastBound tree fault
+past_bound tree TooLong refused = λ typed code.
+    too_long_is_past_its_bound typed code.storage tree code.sound code.few code.lowered refused
+
+pub refusal_past_bound :
+    (tree : TreeModule) (result : Result ObjectModule (Failure Fault))
+    → IfFault result (λ fault. MayRefuse tree fault)
+    → IfFault result (λ fault. IsPastBound tree fault)
+refusal_past_bound tree (Ok object) is = tt
+refusal_past_bound tree (Err (failures.Fault fault)) is = past_bound tree fault is
+refusal_past_bound tree (Err failures.Memory) is = tt
+
+-- so no object module is made of the module
+not_made : (tree : TreeModule) (fault : Fault) → MayRefuse tree fault → MakesNone tree fault
+not_made tree fault refused = λ typed code.
+    let laid = stored typed code.storage code.laid_out in
+    let sound = sound_for_bounds typed code.sound in
+    let lowered : IsLowered typed (storage_with typed) tree =
+    subst (λ (storage : Storage). IsLowered typed storage tree) laid.storage_is code.lowered in
+    record {
+      tree = tree;
+      lowered = lowered;
+      refused = refused;
+      bound = λ start written is.
+          code_is_within_its_bound typed (storage_with typed) tree start written sound lowered is;
+      passes =
+          past_bound tree fault refused typed
+          (record {
+            storage = storage_with typed;
+            lowered = lowered;
+            sound = sound;
+            few = laid.data_fits;
+          });
+    }
+
+pub refusal_makes_none :
+    (tree : TreeModule) (result : Result ObjectModule (Failure Fault))
+    → IfFault result (λ fault. MayRefuse tree fault)
+    → IfFault result (λ fault. MakesNone tree fault)
+refusal_makes_none tree (Ok object) is = tt
+refusal_makes_none tree (Err (failures.Fault fault)) is = not_made tree fault is
+refusal_makes_none tree (Err failures.Memory) is = tt

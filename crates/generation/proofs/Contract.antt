@@ -1,0 +1,67 @@
+-- What is true of the object module of each module that tree code is.
+use Rattle.object_modules.specs.Module.{IsObjectModule, ObjectModule}
+use Rattle.treecode.specs.declared.module.TreeModule.{TreeModule}
+use Rattle.treecode.specs.Nodes.{NumbersAreWords, nodes_of}
+use Rattle.treecode.specs.HomeWords.{HomesAreWords}
+use Rattle.codegen8080.specs.Modules.{IsGenerated}
+use Rattle.treecode_laws.proofs.Slots.{stored}
+use Rattle.image_laws.specs.Objects.{IsObjectOf}
+use Rattle.image_laws.specs.Segments.{HasSegments}
+use Rattle.image_laws.specs.Names.{HasNames}
+use Rattle.program_laws.proofs.Names.{has_names}
+use Rattle.program_laws.proofs.Objects.{is_object_of}
+use Rattle.program_laws.proofs.Segments.{has_segments}
+use Rattle.program_laws.specs.OneModule.{DoesWhereItLies}
+use Rattle.program_laws.specs.Typed.{IsSoundlyMade}
+use Rattle.program_laws.proofs.OneModule.{generated_does}
+use Rattle.generation.specs.Modules.{OfItsModule}
+
+module _
+    (tree : TreeModule) (object : ObjectModule)
+    (numbers : NumbersAreWords (nodes_of tree))
+    (homes : HomesAreWords tree.homes.items)
+    (generated : IsGenerated tree object)
+    (valid : IsObjectModule object)
+  where
+    -- it is soundly made
+    pub soundly_made : OfItsModule tree IsSoundlyMade object
+    unfolding OfItsModule
+    soundly_made typed code = record {
+      made = record {
+        storage = code.storage;
+        tree = tree;
+        laid = record {
+          storable = code.sound.storable;
+          globals = code.sound.globals;
+          stored = stored typed code.storage code.laid_out;
+        };
+        lowered = code.lowered;
+        generated = generated;
+        valid = valid;
+      };
+      facts = code.sound;
+      words = record { numbers = numbers; homes = homes };
+    }
+
+    -- and so it does what the module says, and has its segments and its names
+    pub code_does : OfItsModule tree DoesWhereItLies object
+    unfolding OfItsModule
+    code_does typed code = generated_does typed object (soundly_made typed code)
+
+    pub object_is : OfItsModule tree IsObjectOf object
+    unfolding OfItsModule
+    object_is typed code =
+        let is = (soundly_made typed code).made in
+        is_object_of typed is.storage is.tree object is.laid is.lowered is.valid is.generated
+
+    pub segments_are : OfItsModule tree HasSegments object
+    unfolding OfItsModule
+    segments_are typed code =
+        let is = (soundly_made typed code).made in
+        has_segments typed is.storage is.tree object is.laid is.lowered is.valid is.generated
+
+    pub names_are : OfItsModule tree HasNames object
+    unfolding OfItsModule
+    names_are typed code =
+        let is = (soundly_made typed code).made in
+        has_names typed is.storage is.tree object is.laid is.lowered is.generated

@@ -1,0 +1,126 @@
+-- What is counted of the object module of a module: the bytes of its code segment, and those that its code pushes.
+use Rattle.std.proofs.Common.{◌≡◌, ℕ, suc, ◌+◌, ◌≤◌, Bool, true, false, List, [], ◌∷◌, length, Some, slice_get, refl, sym, subst, arith}
+use Rattle.object_modules.specs.declared.segment.Segment.TheVariants.{Code}
+use Rattle.object_modules.specs.Module.{ObjectModule, length_of}
+use Rattle.typed_trees.specs.TypedTrees.{TypedModule, TypedProcedure}
+use Rattle.asm8080.specs.declared.item.Item.{Item}
+use Rattle.treecode.specs.declared.module.TreeModule.{TreeModule}
+use Rattle.treecode.specs.declared.procedure.ProcedureKind.{ProcedureKind}
+use Rattle.treecode.specs.declared.procedure.ProcedureKind.TheVariants as kinds
+use Rattle.treecode.specs.declared.procedure.TreeProcedure.{TreeProcedure}
+use Rattle.codegen8080.specs.Modules.{AreCodeOf, IsCodeOf, IsCodeOfMain, IsGenerated, has_main}
+use Rattle.measure_laws.proofs.Trees.Bounds.{bound_is}
+use Rattle.measure_laws.proofs.Bounds.Bounds.{segment_is_within_its_bound}
+use Rattle.measure_laws.specs.internal.Charges.{PushesWithinCharges}
+use Rattle.measure_laws.proofs.Heights.Modules.{pushes_within_charges}
+use Rattle.generation.specs.Items.{BodiesPushWithinCharges, HasItems, MainPushes, ProcedurePushes, ProceduresPush}
+use Rattle.generation.specs.Modules.{IsCounted, OfItsModule}
+use Rattle.generation.proofs.Bounding.{sound_for_bounds}
+
+-- procedures and headings stand in the tables of a module from a number on
+abbrev StandFrom :
+    TreeModule → TypedModule → (number : ℕ) → List TreeProcedure → List TypedProcedure → Type 0
+StandFrom tree typed number procedures headings =
+    (index : ℕ) (procedure : TreeProcedure) (heading : TypedProcedure)
+    → slice_get procedures index ≡ Some procedure
+    → slice_get headings index ≡ Some heading
+    → (slice_get tree.procedures.items (number + index) ≡ Some procedure)
+    × (slice_get typed.procedures (number + index) ≡ Some heading)
+
+module _
+    (tree : TreeModule) (typed : TypedModule) (called : List Bool) (pushes : PushesWithinCharges typed tree)
+  where
+    procedure_pushes :
+        (number : ℕ) (procedure : TreeProcedure) (heading : TypedProcedure) (list : List Item)
+        → slice_get tree.procedures.items number ≡ Some procedure
+        → slice_get typed.procedures number ≡ Some heading
+        → (kind : ProcedureKind) (code : IsCodeOf tree called number procedure kind list)
+        → ProcedurePushes tree called number procedure heading kind list code
+    procedure_pushes number procedure heading list there stands (kinds.External name) code = tt
+    procedure_pushes number procedure heading list there stands kinds.Static code =
+        pushes.procedures called number procedure heading list there stands code
+    procedure_pushes number procedure heading list there stands kinds.Reentrant code =
+        pushes.procedures called number procedure heading list there stands code
+
+    procedures_push :
+        (number : ℕ) (procedures : List TreeProcedure) (headings : List TypedProcedure) (list : List Item)
+        → length procedures ≡ length headings
+        → StandFrom tree typed number procedures headings
+        → (code : AreCodeOf tree called number procedures list)
+        → ProceduresPush tree called number procedures headings list code
+    procedures_push number [] [] list same stand code = tt
+    procedures_push number [] (heading ∷ headings) list same stand code = absurd (omega (arith, same))
+    procedures_push number (procedure ∷ procedures) [] list same stand code = absurd (omega (arith, same))
+    procedures_push number (procedure ∷ procedures) (heading ∷ headings) list same stand code =
+        let here = stand 0 procedure heading refl refl in
+        let at : number + 0 ≡ number = omega arith in (
+          procedure_pushes number procedure heading code.0
+              (subst (λ (n : ℕ). slice_get tree.procedures.items n ≡ Some procedure) at here.0)
+              (subst (λ (n : ℕ). slice_get typed.procedures n ≡ Some heading) at here.1)
+              procedure.kind code.2,
+          procedures_push (suc number) procedures headings code.1 (omega (arith, same))
+              (λ index one other there stands.
+              let next = stand (suc index) one other there stands in
+              let further : number + suc index ≡ suc number + index = omega arith in (
+                subst (λ (n : ℕ). slice_get tree.procedures.items n ≡ Some one) further next.0,
+                subst (λ (n : ℕ). slice_get typed.procedures n ≡ Some other) further next.1,
+              ))
+              code.3,
+        )
+
+    main_pushes :
+        (start : ℕ) (is_there : Bool) (list : List Item) (code : IsCodeOfMain tree called start is_there list)
+        → MainPushes tree called start typed.main is_there list code
+    main_pushes start true list code = pushes.main called start list code
+    main_pushes start false list code = tt
+
+-- the items of the code of an object module
+has_items : (tree : TreeModule) (object : ObjectModule) → IsGenerated tree object → HasItems tree object
+has_items tree object is = record {
+  start = is.start_label;
+  code = is.code;
+  bytes = is.code_bytes;
+  to = is.to;
+  written = is.code_is;
+  segment = is.code_segment;
+}
+
+bodies_push :
+    (tree : TreeModule) (typed : TypedModule) (object : ObjectModule)
+    → length tree.procedures.items ≡ length typed.procedures
+    → PushesWithinCharges typed tree
+    → (items : HasItems tree object)
+    → BodiesPushWithinCharges tree typed object items
+bodies_push tree typed object same pushes items =
+    let own = items.written.own_is in
+    record {
+      procedures =
+          procedures_push tree typed items.written.called pushes 0 tree.procedures.items typed.procedures own.procedures
+          same
+          (λ index procedure heading there stands.
+          let none : 0 + index ≡ index = omega arith in (
+            subst (λ (n : ℕ). slice_get tree.procedures.items n ≡ Some procedure) (sym none) there,
+            subst (λ (n : ℕ). slice_get typed.procedures n ≡ Some heading) (sym none) stands,
+          ))
+          own.procedures_are;
+      main =
+          main_pushes tree typed items.written.called pushes items.start (has_main tree) own.main own.main_is;
+    }
+
+pub counted :
+    (tree : TreeModule) (object : ObjectModule)
+    → IsGenerated tree object
+    → OfItsModule tree (IsCounted tree) object
+unfolding OfItsModule
+counted tree object is typed code =
+    let bound = bound_is typed code.storage tree code.sound.parameters code.sound.storable code.laid_out code.lowered in
+    record {
+      size =
+          subst (λ (most : ℕ). length_of object Code ≤ most) (sym bound)
+          (segment_is_within_its_bound typed code.storage tree object (sound_for_bounds typed code.sound) code.lowered is);
+      bound = bound;
+      items = has_items tree object is;
+      pushes =
+          bodies_push tree typed object code.lowered.procedure_count
+          (pushes_within_charges typed code.storage tree code.sound.types code.sound.frames code.sound.parameters code.lowered);
+    }

@@ -1,0 +1,5 @@
+pub mod Bounding
+pub mod Contract
+pub mod Counting
+pub mod Programs
+pub mod Doing

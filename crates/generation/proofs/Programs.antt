@@ -1,0 +1,55 @@
+-- Object modules that are soundly made of the modules of a program make the program.
+use Rattle.std.specs.Prelude.{List, [], ◌∷◌}
+use Rattle.object_modules.specs.Module.{ObjectModule}
+use Rattle.typed_trees.specs.TypedTrees.{TypedModule}
+use Rattle.measure_laws.proofs.Bounds.Bounds.{segment_is_within_its_bound}
+use Rattle.program_laws.proofs.Made.{are_storable, as_many_lengths, each_holds_constants, have_image, hold_constants, is_in_memory}
+use Rattle.image_laws.proofs.Memory.Starting.{starts_as_its_source}
+use Rattle.typed_trees.specs.Numbers.{NumbersFitInModule}
+use Rattle.program_laws.specs.Typed.{AreSoundlyMade, IsSoundlyMade}
+use Rattle.program_laws.proofs.MadePrograms.{are_made, made_program_does}
+use Rattle.program_laws.proofs.OneModule.{generated_does}
+use Rattle.generation.specs.Bounded.{AreWithinBounds}
+use Rattle.generation.specs.internal.Programs.{MakeTheProgram}
+use Rattle.generation.proofs.Bounding.{sound_for_bounds}
+
+within_bounds :
+    (modules : List TypedModule) (objects : List ObjectModule)
+    → AreSoundlyMade modules objects
+    → AreWithinBounds modules objects
+within_bounds [] [] made = tt
+within_bounds [] (object ∷ objects) made = absurd made
+within_bounds (typed ∷ modules) [] made = absurd made
+within_bounds (typed ∷ modules) (object ∷ objects) made =
+    let is = made.0.made in (
+      (hold_constants (typed ∷ modules) (object ∷ objects) (are_made (typed ∷ modules) (object ∷ objects) made)).0,
+      segment_is_within_its_bound typed is.storage is.tree object (sound_for_bounds typed made.0.facts) is.lowered
+          is.generated,
+      within_bounds modules objects made.1,
+    )
+
+-- the numbers of a module have the width of a word
+pub numbers_fit :
+    (typed : TypedModule) (object : ObjectModule) → IsSoundlyMade typed object → NumbersFitInModule typed
+numbers_fit typed object made = (generated_does typed object made).numbers
+
+pub make_the_program :
+    (modules : List TypedModule) (objects : List ObjectModule)
+    → AreSoundlyMade modules objects
+    → MakeTheProgram modules objects
+make_the_program modules objects made =
+    let are = are_made modules objects made in
+    record {
+      lengths = as_many_lengths modules objects are;
+      bounds = within_bounds modules objects made;
+      constants = each_holds_constants modules objects are;
+      storable = are_storable modules objects are;
+      linked = λ plan joined may_lie. have_image plan modules objects joined are may_lie;
+      starts = λ plan merged image before after loaded.
+          starts_as_its_source plan modules objects merged image before after
+          (is_in_memory plan modules objects merged image before after loaded.joined are loaded.lawful loaded.merge
+          loaded.placed loaded.loaded loaded.size);
+      does = λ plan merged image before after script events registers loaded is_memory is_script bytes never.
+          made_program_does plan modules objects merged image before after loaded.joined made loaded.lawful loaded.merge
+          loaded.placed loaded.loaded loaded.size is_memory script events registers is_script bytes never;
+    }

@@ -1,0 +1,19 @@
+//! Code of one expression or location of the tree code, with what it does on the machine.
+#![tactic(auto)]
+
+ghost use Rattle.std.specs.Prelude.{IfOk};
+ghost use Rattle.generation.specs.Doing.{CodeDoes};
+
+use exprgen8080::Emission;
+use std::alloc::AllocError;
+use steps8080::{Part, Site};
+
+/// Takes code over and hands it back with the code of one expression or location of the tree code added, in a body with this
+/// site, as the task of the part says. Wherever that stands the machine does what the expression or location means, if calls
+/// of all procedures do with less of the budget. A refusal drops the code.
+#[tactic(auto, using(crate::proofs::Doing::code_does_if))]
+pub fn emit_expression(code: Emission, site: &Site<'_>, part: Part) -> Result<Emission, AllocError>
+    ensures { IfOk result (λ after. CodeDoes site.now part code after) }
+{
+    exprgen8080::emit_expression(code, site, part)
+}

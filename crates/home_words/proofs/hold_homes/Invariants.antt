@@ -1,9 +1,0 @@
-use Rattle.std.proofs.Common.{length}
-use Rattle.home_words.specs.HomeWords.{EachIsWord}
-use Rattle.home_words.proofs.hold_homes.Given as goal
-
-abbrev pub invariant-loop-rest : goal.invariant-loop-rest
-invariant-loop-rest l = EachIsWord l.rest → EachIsWord l.tree.homes.items
-
-abbrev pub decreases-loop-rest : goal.decreases-loop-rest
-decreases-loop-rest l = length l.rest

@@ -1,0 +1,6 @@
+use Rattle.std.proofs.Common.{codes, refl}
+use Rattle.host.proofs.LinesPrinted.{tells_other}
+use Rattle.host.proofs.endings.refuse_memory.Goals as goal
+
+pub returns-clause-told : goal.returns-clause-told
+returns-clause-told g c = tells_other (codes "MEMORY") (codes "-") 0 _ _ refl c.refuse.ensures.told

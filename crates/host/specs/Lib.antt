@@ -1,0 +1,8 @@
+pub use Rattle.ports.specs.Events
+pub use Rattle.failure.specs.Failure
+pub mod Files
+pub use Rattle.host.specs.Files
+pub use Rattle.failure.specs.Writing
+pub mod Endings
+pub mod Reading
+pub mod Refusals

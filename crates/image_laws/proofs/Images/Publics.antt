@@ -1,0 +1,147 @@
+-- Where the publics of the modules of a merge lie.
+use Rattle.std.proofs.Common.{◌≡◌, ℕ, ◌+◌, ◌%◌, Bool, true, false, cond, not, List, [], ◌∷◌, ◌++◌, All, map, Some, slice_get, Option, option_and_then, refl, ap, sym, subst, ◌∙◌, arith}
+use Rattle.std.specs.List.{AllByRecursion}
+use Rattle.std.specs.Str.{bytes_eq}
+use Rattle.std.proofs.lemmas.Bool.{and_parts, or_parts}
+use Rattle.std.proofs.lemmas.List.Elements.{All-from_recursion}
+use Rattle.std.proofs.lemmas.Slice.Eq.{bytes_eq-Decides}
+use Rattle.object_modules.specs.declared.segment.Target.TheVariants.{External}
+use Rattle.object_modules.specs.Displacements.{Linked, all_publics, displacement_in, linked_modules, public_moved, public_named, publics_moved}
+use Rattle.object_modules.specs.Image.{Plan, base_of}
+use Rattle.object_modules.specs.Merge.{public_names}
+use Rattle.object_modules.specs.Module.{Public, ObjectModule, are_new, is_among}
+use Rattle.object_laws.proofs.Files.Accepted.{public_name}
+use Rattle.object_laws.proofs.Merges.MergeValid.{merge_is, names_from, none_repeated}
+use Rattle.image_laws.specs.internal.InMemory.{PublicLies, PublicsLie, address_of_public, address_of_target, piece_base}
+
+not_true : (b : Bool) → not b ≡ true → b ≡ false
+not_true false h = refl
+not_true true h = absurd (let bad : false ≡ true = h in cc)
+
+among_fewer :
+    (name : List ℕ) (known : List (List ℕ)) (publics : List Public)
+    → AllByRecursion (λ (public : Public). is_among public.name (name ∷ known) ≡ false) publics
+    → AllByRecursion (λ (public : Public). is_among public.name known ≡ false) publics
+among_fewer name known [] all = tt
+among_fewer name known (public ∷ others) all = (
+  (or_parts (bytes_eq public.name name) (is_among public.name known) all.0).1,
+  among_fewer name known others all.1,
+)
+
+-- names that are new are not among those that are known
+new_names :
+    (known : List (List ℕ)) (publics : List Public) → are_new (map public_name publics) known ≡ true
+    → AllByRecursion (λ (public : Public). is_among public.name known ≡ false) publics
+new_names known [] h = tt
+new_names known (public ∷ others) h =
+    let cut =
+    and_parts (not (is_among public.name known))
+    (are_new (map public_name others) (public.name ∷ known)) h in (
+      not_true (is_among public.name known) cut.0,
+      among_fewer public.name known others (new_names (public.name ∷ known) others cut.1),
+    )
+
+same_name : (name : List ℕ) → bytes_eq name name ≡ true
+same_name name = (bytes_eq-Decides name name).1 refl
+
+-- each of publics with different names is the one that its name finds
+abbrev FindsItself : List Public → Public → Type 0
+FindsItself publics public = public_named publics public.name ≡ Some public
+
+name_differs :
+    (first : Public) (known : List (List ℕ)) (others : List Public)
+    → AllByRecursion (λ (other : Public). is_among other.name (first.name ∷ known) ≡ false) others
+    → AllByRecursion (λ (other : Public). bytes_eq other.name first.name ≡ false) others
+name_differs first known [] all = tt
+name_differs first known (other ∷ others) all = (
+  (or_parts (bytes_eq other.name first.name) (is_among other.name known) all.0).0,
+  name_differs first known others all.1,
+)
+
+found_after :
+    (first : Public) (publics others : List Public)
+    → AllByRecursion (λ (other : Public). bytes_eq other.name first.name ≡ false) others
+    → AllByRecursion (FindsItself publics) others
+    → AllByRecursion (FindsItself (first ∷ publics)) others
+found_after first publics [] differ all = tt
+found_after first publics (other ∷ others) differ all = (
+  ap (λ b. cond b (Some first) (public_named publics other.name)) differ.0 ∙ all.0,
+  found_after first publics others differ.1 all.1,
+)
+
+each_found :
+    (known : List (List ℕ)) (publics : List Public) → are_new (map public_name publics) known ≡ true
+    → AllByRecursion (FindsItself publics) publics
+each_found known [] h = tt
+each_found known (first ∷ others) h =
+    let cut =
+    and_parts (not (is_among first.name known)) (are_new (map public_name others) (first.name ∷ known)) h in (
+      ap (λ b. cond b (Some first) (public_named others first.name)) (same_name first.name),
+      found_after first others others
+          (name_differs first known others (new_names (first.name ∷ known) others cut.1))
+          (each_found (first.name ∷ known) others cut.1),
+    )
+
+-- Facts of all publics are facts of those of each module.
+by_parts :
+    {A : Type 0} (P : A → Type 0) (xs ys : List A) → AllByRecursion P (xs ++ ys)
+    → AllByRecursion P xs × AllByRecursion P ys
+by_parts P [] ys all = (tt, all)
+by_parts P (x ∷ xs) ys all =
+    let later = by_parts P xs ys all.1 in ((all.0, later.0), later.1)
+
+module _ (plan : Plan) (merged : ObjectModule) where
+  public_lies :
+      (linked : Linked) (public : Public) → FindsItself merged.publics (public_moved linked public)
+      → PublicLies plan merged linked public
+  public_lies linked public found =
+      let same :
+      (((public.offset + displacement_in linked public.segment) % 65536) + base_of plan public.segment)
+      % 65536
+      ≡ (piece_base plan linked.start public.segment + public.offset) % 65536 = omega arith in
+      record { named = found; address = ap (address_of_public plan) found ∙ same }
+
+  module_lies :
+      (linked : Linked) (publics : List Public)
+      → AllByRecursion (FindsItself merged.publics) (map (public_moved linked) publics)
+      → AllByRecursion (PublicLies plan merged linked) publics
+  module_lies linked [] all = tt
+  module_lies linked (public ∷ others) all =
+      (public_lies linked public all.0, module_lies linked others all.1)
+
+  modules_lie :
+      (linked : List Linked) → AllByRecursion (FindsItself merged.publics) (all_publics linked)
+      → AllByRecursion (λ (one : Linked). All (PublicLies plan merged one) (one.object).publics) linked
+  modules_lie [] all = tt
+  modules_lie (one ∷ others) all =
+      let cut = by_parts (FindsItself merged.publics) (publics_moved one) (all_publics others) all in (
+        All-from_recursion (PublicLies plan merged one) (one.object).publics
+            (module_lies one (one.object).publics cut.0),
+        modules_lie others cut.1,
+      )
+
+pub publics_lie : PublicsLie
+publics_lie objects merged plan made =
+    let merge = merge_is objects merged made in
+    let linked : List Linked = linked_modules objects in
+    let same : merged.publics ≡ all_publics linked =
+    ap (λ (object : ObjectModule). object.publics) merge.said in
+    let new : are_new (map public_name (all_publics linked)) [] ≡ true =
+    ap (λ names. are_new names []) (names_from 0 0 objects)
+    ∙ none_repeated [] (public_names objects) merge.repeated in
+    All-from_recursion (λ (one : Linked). All (PublicLies plan merged one) (one.object).publics) linked
+    (modules_lie plan merged linked
+    (subst (λ publics. AllByRecursion (FindsItself publics) (all_publics linked)) (sym same)
+    (each_found [] (all_publics linked) new)))
+
+-- so an external name of a module lies where the public of that name does, which another module has
+pub external_lies :
+    (plan : Plan) (merged : ObjectModule) (linked other : Linked) (number : ℕ) (public : Public)
+    → PublicLies plan merged other public
+    → slice_get (linked.object).externals number ≡ Some public.name
+    → address_of_target plan merged linked (External number)
+    ≡ (piece_base plan other.start public.segment + public.offset) % 65536
+external_lies plan merged linked other number public lies h =
+    ap (λ (name : Option (List ℕ)).
+    address_of_public plan (option_and_then (public_named merged.publics) name)) h
+    ∙ lies.address

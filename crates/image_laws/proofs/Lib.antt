@@ -1,0 +1,4 @@
+pub mod Images
+pub mod Programs
+pub mod Merges
+pub mod Memory

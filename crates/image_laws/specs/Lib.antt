@@ -1,0 +1,4 @@
+pub mod internal
+pub mod Objects
+pub mod Names
+pub mod Segments

@@ -1,0 +1,6 @@
+use Rattle.std.proofs.Common.{◌≡◌, drop}
+use Rattle.layout.specs.StartingMemory.{written}
+use Rattle.interpreter.proofs.contents.bytes.put_bytes.Given as goal
+
+abbrev pub invariant-loop-byte : goal.invariant-loop-byte
+invariant-loop-byte l = written l.memory l.address (drop l.byte-index l.bytes) ≡ written l.fn.memory l.start l.bytes

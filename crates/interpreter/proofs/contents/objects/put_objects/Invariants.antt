@@ -1,0 +1,14 @@
+use Rattle.std.proofs.Common.{◌≡◌, length, map, drop, zip}
+use Rattle.typed_trees.specs.Views.{object_view}
+use Rattle.layout.specs.StartingMemory.{contents_of_object}
+use Rattle.meaning.specs.Access.{address_of}
+use Rattle.resolving.specs.Views.{site_view}
+use Rattle.interpreter.specs.internal.Contents.{with_all}
+use Rattle.interpreter.proofs.contents.objects.put_objects.Given as goal
+
+abbrev pub invariant-loop-object : goal.invariant-loop-object
+invariant-loop-object l =
+    with_all l.memory (map (contents_of_object (address_of (site_view l.site)))
+    (zip (map object_view (drop (length l.yielded) l.objects)) (drop (length l.yielded) l.addresses)))
+    ≡ with_all l.fn.memory (map (contents_of_object (address_of (site_view l.site)))
+    (zip (map object_view l.objects) l.addresses))

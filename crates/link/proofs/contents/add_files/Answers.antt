@@ -1,0 +1,16 @@
+use Rattle.std.proofs.Common.{arith}
+use Rattle.object_modules.specs.declared.segment.Segment.TheVariants.{Code, Data}
+use Rattle.link_laws.proofs.AllGrown.{grown_step}
+use Rattle.link.proofs.contents.add_files.Goals as goal
+
+pub loop-one-preserved : goal.loop-one-preserved
+loop-one-preserved c = record {
+  code =
+      grown_step c.args.publics.now Code c.loop-one.code c.add_file.new.code _ c.args.placed.now
+      c.loop-one.one-index c.one-item.result c.loop-one.invariant.code (omega arith) c.one-item.is
+      c.in_ok-add_file.ensures.code;
+  data_bytes =
+      grown_step c.args.publics.now Data c.loop-one.data_bytes c.add_file.new.data_bytes _ c.args.placed.now
+      c.loop-one.one-index c.one-item.result c.loop-one.invariant.data_bytes (omega arith) c.one-item.is
+      c.in_ok-add_file.ensures.data_bytes;
+}

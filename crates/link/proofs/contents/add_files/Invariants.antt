@@ -1,0 +1,13 @@
+use Rattle.std.proofs.Common.{◌≡◌, drop}
+use Rattle.object_modules.specs.declared.segment.Segment.TheVariants.{Code, Data}
+use Rattle.link_laws.specs.internal.Growing.{all_grown}
+use Rattle.link.proofs.contents.add_files.Given as goal
+
+abbrev pub invariant-loop-one : goal.invariant-loop-one
+invariant-loop-one l = record {
+  code :
+      all_grown l.publics Code l.code (drop l.one-index l.placed) ≡ all_grown l.publics Code l.fn.code l.placed;
+  data_bytes :
+      all_grown l.publics Data l.data_bytes (drop l.one-index l.placed)
+      ≡ all_grown l.publics Data l.fn.data_bytes l.placed;
+}

@@ -1,0 +1,55 @@
+use Rattle.std.proofs.Common.{◌≡◌, true, Err, refl, ap, sym, ◌∙◌, rules}
+use Rattle.std.specs.List.{list_any}
+use Rattle.object_modules.specs.Displacements.{all_publics}
+use Rattle.object_modules.specs.Merge.{HighByteMoves, merge_of, some_high_byte_moves}
+use Rattle.link_laws.specs.Faults.{refusal_of}
+use Rattle.link_laws.specs.declared.fault.LinkFault.{LinkFault}
+use Rattle.link_laws.proofs.Linkings.{names_same, by_highs, none_refused, joined_merged, made_kept, made_merged, handed_on}
+use Rattle.link.proofs.merging.merge_placed.Goals as goal
+
+pub new-publics-requires : goal.new-publics-requires
+new-publics-requires c =
+    names_same c.args.files.now c.args.names.now c.in_ok-owned.owned.items c.requires.known
+    (c.in_ok-owned.ensures ∙ ap all_publics (c.as_slice-placed.ensures.value ∙ c.requires.placed))
+
+pub returns-in_err-code-clause-refused : goal.returns-in_err-code-clause-refused
+returns-in_err-code-clause-refused c =
+    handed_on c.from_residual-in_err-code.result c.still_segments.result c.in_err-code.field-0.0
+    (λ (fault : LinkFault). refusal_of fault ≡ HighByteMoves)
+    (λ (fault : LinkFault).
+    list_any (some_high_byte_moves c.new-publics.result) c.as_slice-placed.result.now ≡ true)
+    (λ (fault : LinkFault). merge_of c.args.files.now ≡ Err (refusal_of fault))
+    (search rules) c.in_err-code.was
+    (λ fault h k.
+    by_highs c.args.files.now c.args.names.now c.requires.known c.requires.resolved c.requires.fits c.requires.single
+    c.new-publics.result c.as_slice-placed.result.now _ (c.as_slice-placed.ensures.value ∙ c.requires.placed)
+    (c.new-publics.ensures ∙ c.in_ok-owned.ensures
+    ∙ ap all_publics (c.as_slice-placed.ensures.value ∙ c.requires.placed))
+    refl k ∙ ap Err (sym h))
+    c.still_segments.ensures.fault c.still_segments.ensures.moves
+
+pub from_parts-requires : goal.from_parts-requires
+from_parts-requires c =
+    let named = c.new-publics.ensures ∙ c.in_ok-owned.ensures
+    ∙ ap all_publics (c.as_slice-placed.ensures.value ∙ c.requires.placed) in
+    made_kept c.args.files.now c.parts_of-parts.result
+    (none_refused c.args.files.now c.args.names.now c.requires.known c.requires.resolved c.requires.fits
+    c.requires.single c.new-publics.result c.as_slice-placed.result.now _
+    (c.as_slice-placed.ensures.value ∙ c.requires.placed) named refl c.in_ok-code.ensures.still)
+    (joined_merged c.args.files.now c.new-publics.result c.args.pieces.now.placed.items
+    c.args.pieces.now.stack_length _ c.parts_of-parts.result c.parts_of-parts.ensures c.requires.placed named
+    c.requires.stack c.requires.main c.requires.valid)
+    c.requires.valid
+
+pub returns-clause-merged : goal.returns-clause-merged
+returns-clause-merged c =
+    let named = c.new-publics.ensures ∙ c.in_ok-owned.ensures
+    ∙ ap all_publics (c.as_slice-placed.ensures.value ∙ c.requires.placed) in
+    made_merged c.args.files.now c.parts_of-parts.result c.from_parts.result
+    (none_refused c.args.files.now c.args.names.now c.requires.known c.requires.resolved c.requires.fits
+    c.requires.single c.new-publics.result c.as_slice-placed.result.now _
+    (c.as_slice-placed.ensures.value ∙ c.requires.placed) named refl c.in_ok-code.ensures.still)
+    (joined_merged c.args.files.now c.new-publics.result c.args.pieces.now.placed.items
+    c.args.pieces.now.stack_length _ c.parts_of-parts.result c.parts_of-parts.ensures c.requires.placed named
+    c.requires.stack c.requires.main c.requires.valid)
+    c.from_parts.ensures

@@ -1,0 +1,111 @@
+-- Segments after the pieces of all modules: their runs, their fixes, and whether a high byte moves.
+use Rattle.std.proofs.Common.{◌≡◌, ℕ, ◌+◌, ◌<◌, Bool, true, false, ◌||◌, List, [], ◌∷◌, ◌++◌, length, drop, get_or, flat_map, refl, ap, sym, ◌∙◌}
+use Rattle.std.specs.List.{list_any}
+use Rattle.std.proofs.lemmas.List.{append_assoc, append-nil}
+use Rattle.object_modules.specs.declared.segment.Alignment.{Alignment}
+use Rattle.object_modules.specs.declared.segment.Segment.{Segment}
+use Rattle.object_modules.specs.declared.segment.Segment.TheVariants.{Code, Data}
+use Rattle.object_modules.specs.Displacements.{Linked}
+use Rattle.object_modules.specs.Merge.{some_high_byte_moves}
+use Rattle.object_modules.specs.Module.{Public}
+use Rattle.object_modules.specs.Runs.{fixes_in}
+use Rattle.object_modules.specs.Stored.{StoredSegment}
+use Rattle.object_laws.proofs.Merges.HighBytes.{high_byte_moves, high_moves_by_fixes}
+use Rattle.link_laws.specs.internal.Building.{alignment_joined, end_in, end_joined, piece_fixes, runs_joined, stored_joined}
+use Rattle.link_laws.proofs.NameLoops.{at_item}
+use Rattle.link_laws.specs.internal.Growing.{Grown, all_grown, grown_by, nothing_grown}
+
+-- a high byte of a segment of a module moves
+abbrev pub moves_in : List Public → Segment → Linked → Bool
+moves_in publics segment one = list_any (high_byte_moves publics one) (fixes_in one.object segment)
+
+module _ (publics : List Public) (segment : Segment) where
+  pub grown_runs :
+      (grown : Grown) (linked : List Linked)
+      → (all_grown publics segment grown linked).runs ≡ runs_joined publics segment grown.runs linked
+  grown_runs grown [] = refl
+  grown_runs grown (one ∷ others) = grown_runs (grown_by publics segment grown one) others
+
+  pub grown_fixes :
+      (grown : Grown) (linked : List Linked)
+      → (all_grown publics segment grown linked).fixes ≡ grown.fixes ++ flat_map (piece_fixes publics segment) linked
+  grown_fixes grown [] = sym (append-nil grown.fixes)
+  grown_fixes grown (one ∷ others) =
+      grown_fixes (grown_by publics segment grown one) others
+      ∙ append_assoc grown.fixes (piece_fixes publics segment one) (flat_map (piece_fixes publics segment) others)
+
+  or_assoc : (a b c : Bool) → ((a || b) || c) ≡ (a || (b || c))
+  or_assoc true b c = refl
+  or_assoc false b c = refl
+
+  or_false : (b : Bool) → b ≡ (b || false)
+  or_false true = refl
+  or_false false = refl
+
+  pub grown_moves :
+      (grown : Grown) (linked : List Linked)
+      → (all_grown publics segment grown linked).moves ≡ (grown.moves || list_any (moves_in publics segment) linked)
+  grown_moves grown [] = or_false grown.moves
+  grown_moves grown (one ∷ others) =
+      grown_moves (grown_by publics segment grown one) others
+      ∙ or_assoc grown.moves (moves_in publics segment one) (list_any (moves_in publics segment) others)
+
+-- a high byte of a module moves where one of the code or one of the data does
+either : (a b c d : Bool) → ((a || b) || (c || d)) ≡ ((a || c) || (b || d))
+either true b c d = refl
+either false true true d = refl
+either false true false d = refl
+either false false true d = refl
+either false false false d = refl
+
+pub some_moves :
+    (publics : List Public) (linked : List Linked)
+    → list_any (some_high_byte_moves publics) linked
+    ≡ (list_any (moves_in publics Code) linked || list_any (moves_in publics Data) linked)
+some_moves publics [] = refl
+some_moves publics (one ∷ others) =
+    ap (λ b. b || list_any (some_high_byte_moves publics) others) (high_moves_by_fixes publics one)
+    ∙ ap (λ b. (moves_in publics Code one || moves_in publics Data one) || b) (some_moves publics others)
+    ∙ either (moves_in publics Code one) (moves_in publics Data one) (list_any (moves_in publics Code) others)
+    (list_any (moves_in publics Data) others)
+
+-- a segment with what is made of all pieces is the one that is joined of these
+pub segment_grown :
+    (publics : List Public) (segment : Segment) (linked : List Linked) (grown : Grown) (size : ℕ)
+    (alignment : Alignment) (stored : StoredSegment)
+    → grown ≡ all_grown publics segment nothing_grown linked
+    → stored ≡ record { size = size; alignment = alignment; runs = grown.runs; fixes = grown.fixes }
+    → size ≡ end_joined (end_in segment) 0 linked → alignment ≡ alignment_joined segment linked
+    → stored ≡ stored_joined publics segment linked
+segment_grown publics segment linked grown size alignment stored made is ends begins =
+    let runs : grown.runs ≡ runs_joined publics segment [] linked =
+    ap (λ (g : Grown). g.runs) made ∙ grown_runs publics segment nothing_grown linked in
+    let fixes : grown.fixes ≡ flat_map (piece_fixes publics segment) linked =
+    ap (λ (g : Grown). g.fixes) made ∙ grown_fixes publics segment nothing_grown linked in
+    let same : ◌≡◌ {A = StoredSegment}
+    (record { size = size; alignment = alignment; runs = grown.runs; fixes = grown.fixes })
+    (stored_joined publics segment linked) =
+    λ i. record { size = ends i; alignment = begins i; runs = runs i; fixes = fixes i } in
+    is ∙ same
+
+-- a high byte of a merge moves where one of its code or one of its data does
+pub high_grown :
+    (publics : List Public) (linked : List Linked) (code data_bytes : Grown)
+    → code ≡ all_grown publics Code nothing_grown linked → data_bytes ≡ all_grown publics Data nothing_grown linked
+    → (code.moves || data_bytes.moves) ≡ list_any (some_high_byte_moves publics) linked
+high_grown publics linked code data_bytes made also =
+    ap (λ (g : Grown). g.moves || data_bytes.moves) made
+    ∙ ap (λ (g : Grown). (all_grown publics Code nothing_grown linked).moves || g.moves) also
+    ∙ ap (λ b. b || (all_grown publics Data nothing_grown linked).moves) (grown_moves publics Code nothing_grown linked)
+    ∙ ap (λ b. list_any (moves_in publics Code) linked || b) (grown_moves publics Data nothing_grown linked)
+    ∙ sym (some_moves publics linked)
+
+-- a piece more
+pub grown_step :
+    (publics : List Public) (segment : Segment) (grown new total : Grown) (linked : List Linked) (i : ℕ) (one : Linked)
+    → all_grown publics segment grown (drop i linked) ≡ total → i < length linked → one ≡ get_or linked i one
+    → new ≡ grown_by publics segment grown one → all_grown publics segment new (drop (i + 1) linked) ≡ total
+grown_step publics segment grown new total linked i one rest within is now =
+    ap (λ g. all_grown publics segment g (drop (i + 1) linked)) now
+    ∙ sym (at_item (all_grown publics segment grown) linked i one within is)
+    ∙ rest

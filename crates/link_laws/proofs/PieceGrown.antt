@@ -1,0 +1,187 @@
+-- A piece of a module, content by content, is the piece that is made of its runs and its fixes.
+use Rattle.std.proofs.Common.{◌≡◌, ℕ, ◌%◌, ◌==◌, Bool, true, false, cond, not, ◌||◌, List, [], ◌∷◌, ◌++◌, map, filter, filter_map, flat_map, slice_get, Option, Some, None, option_map, refl, ap, sym, ◌∙◌}
+use Rattle.std.specs.List.{list_any}
+use Rattle.std.specs.Option.{option_map_or, option_and_then, option_flatten}
+use Rattle.std.proofs.lemmas.List.{append_assoc, append-nil}
+use Rattle.std.proofs.lemmas.List.Folds.{list_any-append}
+use Rattle.std.proofs.lemmas.List.Elements.{filter_map-append}
+use Rattle.std.proofs.lemmas.Option.{slice_get-map}
+use Rattle.object_modules.specs.declared.segment.Fix.{Fix}
+use Rattle.object_modules.specs.declared.segment.FixKind.{FixKind}
+use Rattle.object_modules.specs.declared.segment.FixKind.TheVariants.{Low, High, Both}
+use Rattle.object_modules.specs.declared.segment.Segment.{Segment}
+use Rattle.object_modules.specs.declared.segment.Segment.TheVariants.{Code, Data}
+use Rattle.object_modules.specs.declared.segment.Target.{Target}
+use Rattle.object_modules.specs.declared.segment.Target.TheVariants.{InSegment, External}
+use Rattle.object_modules.specs.Displacements.{Linked, displacement_in, gain_in, public_named, start_of, target_kept, target_of_public}
+use Rattle.object_modules.specs.Module.{Public}
+use Rattle.object_modules.specs.Runs.{fixes_in, runs_of}
+use Rattle.object_modules.specs.Spelling.{FixedContent}
+use Rattle.object_modules.specs.Text.{Run}
+use Rattle.object_modules.specs.Walking.{Walking, module_by}
+use Rattle.object_modules.specs.internal.Joining.{fix_kept, runs_fixed, with_runs}
+use Rattle.object_laws.proofs.Merges.HighBytes.{gains_part, high_byte_moves}
+use Rattle.object_laws.proofs.Merges.FixesOfPlaces.{target_if_high}
+use Rattle.link_laws.specs.internal.Building.{piece_fixes, piece_runs}
+use Rattle.objmod.specs.internal.Keeping.{AllFit, ContentsFit, Placed, fixes_by_place, is_in, runs_kept}
+use Rattle.link_laws.specs.internal.Growing.{Grown, Resolved, gain_by, grown_by, grown_in, kept_by, moves_by, part_moves, resolved_in, with_content}
+use Rattle.link_laws.proofs.ModuleTold.{code_fixes, code_runs, data_fixes, data_runs}
+use Rattle.link_laws.proofs.RunsByContents.{runs_by_contents, runs_grown}
+
+-- What the external names of a module stand for.
+flat_named :
+    {A B : Type 0} (f : A → Option B) (found : Option A) → option_flatten (option_map f found) ≡ option_and_then f found
+flat_named f None = refl
+flat_named f (Some x) = refl
+
+module _ (publics : List Public) (one : Linked) where
+  meant_same :
+      (number : ℕ)
+      → option_flatten (slice_get (map (public_named publics) (one.object).externals) number)
+      ≡ option_and_then (public_named publics) (slice_get (one.object).externals number)
+  meant_same number =
+      ap option_flatten (slice_get-map (public_named publics) (one.object).externals number)
+      ∙ flat_named (public_named publics) (slice_get (one.object).externals number)
+
+  gain_at : (target : Target) → gain_by (resolved_in publics one) target ≡ gain_in publics one target
+  gain_at (InSegment segment) = refl
+  gain_at (External number) =
+      ap (λ (found : Option Public). option_map_or (λ (public : Public). public.offset) found 0) (meant_same number)
+
+  kept_at : (target : Target) → kept_by (resolved_in publics one) target ≡ target_kept publics one target
+  kept_at (InSegment segment) = refl
+  kept_at (External number) = ap (option_and_then target_of_public) (meant_same number)
+
+  pub gain_same : gain_by (resolved_in publics one) ≡ gain_in publics one
+  gain_same = λ i target. gain_at target i
+
+  pub kept_same : kept_by (resolved_in publics one) ≡ target_kept publics one
+  kept_same = λ i target. kept_at target i
+
+  part_at :
+      (kind : FixKind) (target : Target)
+      → part_moves (resolved_in publics one) kind target
+      ≡ option_map_or (gains_part publics one) (target_if_high kind target) false
+  part_at Low target = refl
+  part_at High target = ap (λ n. not (n % 256 == 0)) (gain_at target)
+  part_at Both target = refl
+
+  pub moves_same : moves_by (resolved_in publics one) ≡ high_byte_moves publics one
+  moves_same = λ i fix. part_at fix.kind fix.target i
+
+-- Contents of one segment, one after another.
+module _ (resolved : Resolved) (segment : Segment) where
+  abbrev grown_each : Grown → List FixedContent → Grown
+  grown_each grown [] = grown
+  grown_each grown (fixed ∷ others) = grown_each (with_content resolved segment grown fixed) others
+
+  grown_own :
+      (grown : Grown) (contents : List FixedContent)
+      → grown_in resolved segment grown contents ≡ grown_each grown (filter (is_in segment) contents)
+  grown_own grown [] = refl
+  grown_own grown (fixed ∷ others) = go (is_in segment fixed) (λ g. grown_own g others)
+    where
+      go : (b : Bool)
+          → ((g : Grown) → grown_in resolved segment g others ≡ grown_each g (filter (is_in segment) others))
+          → grown_in resolved segment (cond b (with_content resolved segment grown fixed) grown) others
+          ≡ grown_each grown (cond b (fixed ∷ filter (is_in segment) others) (filter (is_in segment) others))
+      go true later = later (with_content resolved segment grown fixed)
+      go false later = later grown
+
+  abbrev start_here : ℕ
+  start_here = start_of resolved.start segment
+
+  -- what contents make of a segment, part by part
+  abbrev grown_parts : Grown → List FixedContent → Grown
+  grown_parts grown contents = record {
+    runs = runs_grown start_here (gain_by resolved) grown.runs contents;
+    fixes = grown.fixes ++ filter_map (fix_kept start_here (kept_by resolved)) (flat_map fixes_by_place contents);
+    moves = grown.moves || list_any (moves_by resolved) (flat_map fixes_by_place contents);
+  }
+
+  grown_in_parts : (grown : Grown) (contents : List FixedContent) → grown_each grown contents ≡ grown_parts grown contents
+  grown_in_parts grown [] =
+      ap (λ fixes. record { runs = grown.runs; fixes = fixes; moves = grown.moves }) (sym (append-nil grown.fixes))
+      ∙ ap (λ moves. record { runs = grown.runs; fixes = grown.fixes ++ []; moves = moves }) (or_false grown.moves)
+    where
+      or_false : (b : Bool) → b ≡ (b || false)
+      or_false true = refl
+      or_false false = refl
+  grown_in_parts grown (fixed ∷ others) =
+      let own : List Fix = fixes_by_place fixed in
+      let later : List Fix = flat_map fixes_by_place others in
+      let runs : List (Run ℕ) =
+      runs_grown start_here (gain_by resolved) (with_content resolved segment grown fixed).runs others in
+      let keep = filter_map (fix_kept start_here (kept_by resolved)) in
+      grown_in_parts (with_content resolved segment grown fixed) others
+      ∙ ap (λ fixes. record {
+        runs = runs;
+        fixes = fixes;
+        moves = (grown.moves || list_any (moves_by resolved) own) || list_any (moves_by resolved) later;
+      })
+      (append_assoc grown.fixes (keep own) (keep later) ∙ ap (λ f. grown.fixes ++ f) (sym (kept_both own later)))
+      ∙ ap (λ moves. record { runs = runs; fixes = grown.fixes ++ keep (own ++ later); moves = moves })
+      (or_assoc grown.moves (list_any (moves_by resolved) own) (list_any (moves_by resolved) later)
+      ∙ ap (λ m. grown.moves || m) (sym (list_any-append (moves_by resolved) own later)))
+    where
+      or_assoc : (a b c : Bool) → ((a || b) || c) ≡ (a || (b || c))
+      or_assoc true b c = refl
+      or_assoc false b c = refl
+
+      kept_both :
+          (xs ys : List Fix)
+          → filter_map (fix_kept start_here (kept_by resolved)) (xs ++ ys)
+          ≡ filter_map (fix_kept start_here (kept_by resolved)) xs
+          ++ filter_map (fix_kept start_here (kept_by resolved)) ys
+      kept_both xs ys = filter_map-append (fix_kept start_here (kept_by resolved)) xs ys
+
+-- Together they are the piece that is made of the runs and the fixes of the segment.
+piece_is :
+    (publics : List Public) (segment : Segment) (one : Linked) (grown : Grown) (size : ℕ) (own : List FixedContent)
+    → Placed size 0 own → AllFit own → runs_of one.object segment ≡ runs_kept own
+    → fixes_in one.object segment ≡ flat_map fixes_by_place own
+    → grown_parts (resolved_in publics one) segment grown own ≡ grown_by publics segment grown one
+piece_is publics segment one grown size own placed fit runs fixes =
+    let by : ℕ = displacement_in one segment in
+    let gain : Target → ℕ = gain_by (resolved_in publics one) in
+    let kept : Target → Option Target = kept_by (resolved_in publics one) in
+    let listed : List Fix = flat_map fixes_by_place own in
+    let these_runs : runs_grown by gain grown.runs own ≡ with_runs grown.runs (piece_runs publics segment one) =
+    sym (runs_by_contents by gain grown.runs size 0 own placed fit)
+    ∙ ap (λ g. with_runs grown.runs (runs_fixed by g listed (runs_kept own))) (gain_same publics one)
+    ∙ ap (λ r. with_runs grown.runs (runs_fixed by (gain_in publics one) listed r)) (sym runs)
+    ∙ ap (λ f. with_runs grown.runs (runs_fixed by (gain_in publics one) f (runs_of one.object segment))) (sym fixes) in
+    let these_fixes : filter_map (fix_kept by kept) listed ≡ piece_fixes publics segment one =
+    ap (λ k. filter_map (fix_kept by k) listed) (kept_same publics one)
+    ∙ ap (filter_map (fix_kept by (target_kept publics one))) (sym fixes) in
+    let these_move :
+    list_any (moves_by (resolved_in publics one)) listed
+    ≡ list_any (high_byte_moves publics one) (fixes_in one.object segment) =
+    ap (λ m. list_any m listed) (moves_same publics one)
+    ∙ ap (list_any (high_byte_moves publics one)) (sym fixes) in
+    λ i. record {
+      runs = these_runs i;
+      fixes = grown.fixes ++ these_fixes i;
+      moves = grown.moves || these_move i;
+    }
+
+module _ (publics : List Public) (one : Linked) (walking : Walking) (resolved : Resolved) (fits : ContentsFit walking) (told : one.object ≡ module_by walking) (is : resolved ≡ resolved_in publics one) where
+  pub code_grown :
+      (grown : Grown) → grown_in resolved Code grown walking.contents ≡ grown_by publics Code grown one
+  code_grown grown =
+      let own : List FixedContent = filter (is_in Code) walking.contents in
+      ap (λ r. grown_in r Code grown walking.contents) is
+      ∙ grown_own (resolved_in publics one) Code grown walking.contents
+      ∙ grown_in_parts (resolved_in publics one) Code grown own
+      ∙ piece_is publics Code one grown walking.code_length own fits.code.placed fits.code.fit
+      (ap (λ o. runs_of o Code) told ∙ code_runs walking fits) (ap (λ o. fixes_in o Code) told ∙ code_fixes walking fits)
+
+  pub data_grown :
+      (grown : Grown) → grown_in resolved Data grown walking.contents ≡ grown_by publics Data grown one
+  data_grown grown =
+      let own : List FixedContent = filter (is_in Data) walking.contents in
+      ap (λ r. grown_in r Data grown walking.contents) is
+      ∙ grown_own (resolved_in publics one) Data grown walking.contents
+      ∙ grown_in_parts (resolved_in publics one) Data grown own
+      ∙ piece_is publics Data one grown walking.data_length own fits.data_bytes.placed fits.data_bytes.fit
+      (ap (λ o. runs_of o Data) told ∙ data_runs walking fits) (ap (λ o. fixes_in o Data) told ∙ data_fixes walking fits)

@@ -1,7 +1,0 @@
-use Rattle.std.proofs.Common.{◌≡◌, drop}
-use Rattle.link_laws.specs.internal.Passes.{externals_of, missing_in}
-use Rattle.link_records.proofs.names.unresolved_in.Given as goal
-
-abbrev pub invariant-loop-file : goal.invariant-loop-file
-invariant-loop-file l =
-    missing_in l.table (externals_of (drop l.file-index l.files)) ≡ missing_in l.table (externals_of l.files)

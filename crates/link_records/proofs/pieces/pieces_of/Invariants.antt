@@ -1,6 +1,0 @@
-use Rattle.std.proofs.Common.{drop}
-use Rattle.link_laws.proofs.StartLoops.{SoFar}
-use Rattle.link_records.proofs.pieces.pieces_of.Given as goal
-
-abbrev pub invariant-loop-file : goal.invariant-loop-file
-invariant-loop-file l = SoFar l.code l.data_end l.stack l.placed.items (drop l.file-index l.files) l.files

@@ -1,0 +1,103 @@
+-- A program that is joined has a main program, where its number says.
+use Rattle.std.proofs.Common.{◌≡◌, ℕ, suc, ◌+◌, ◌==◌, Bool, true, false, List, [], ◌∷◌, Option, Some, None, IsSomeAnd, cond, find, slice_get, if◌then◌else◌, refl, sym, ap, subst, ◌∙◌, arith, eqb-true}
+use Rattle.std.specs.Prelude.{count_by}
+use Rattle.std.specs.List.{position_from}
+use Rattle.std.specs.Option.{option_map_or, option_or}
+use Rattle.std.proofs.lemmas.Iterator.Adapters.{position_from-zero}
+use Rattle.std.proofs.lemmas.List.Sums.{sum_by-cons}
+use Rattle.std.proofs.lemmas.Option.{none-some}
+use Rattle.typed_trees.specs.TypedTrees.{TypedModule}
+use Rattle.layout.specs.Joined.{IsJoined, NotOneMain, declared_otherwise, is_main, join_refusal, not_one_main, public_twice, without_public}
+use Rattle.meaning.specs.Outcomes.{Program}
+use Rattle.meaning.specs.Run.{number_of_main}
+use Rattle.meaning_laws.specs.Meant.{HasMain, IsWhole}
+
+none_of_two : {A : Type 0} (first second : Option A) → option_or first second ≡ None → (first ≡ None) × (second ≡ None)
+none_of_two None second none = (refl, none)
+none_of_two (Some value) second none = absurd (none-some value (sym none))
+
+main_counted : (modules : List TypedModule) → IsJoined modules → count_by is_main modules ≡ 1
+unfolding join_refusal
+main_counted modules joined =
+    let first = none_of_two (without_public modules)
+    (option_or (public_twice modules) (option_or (declared_otherwise modules) (not_one_main modules))) joined in
+    let second = none_of_two (public_twice modules) (option_or (declared_otherwise modules) (not_one_main modules))
+    first.1 in
+    let third = none_of_two (declared_otherwise modules) (not_one_main modules) second.1 in
+    by (count_by is_main modules == 1) refl third.1
+  where
+    by : (one : Bool) → (count_by is_main modules == 1) ≡ one → (if one then None else Some NotOneMain) ≡ None
+        → count_by is_main modules ≡ 1
+    by true e none = eqb-true (count_by is_main modules) 1 e
+    by false e none = absurd (none-some NotOneMain (sym none))
+
+-- one for what is counted
+abbrev one_if : Bool → ℕ
+one_if test = cond test 1 0
+
+-- where there is none, none is counted
+none_counted : (modules : List TypedModule) → find is_main modules ≡ None → count_by is_main modules ≡ 0
+none_counted [] none = refl
+none_counted (first ∷ others) none =
+    by (is_main first) refl none (none_counted others)
+    (sum_by-cons (λ (typed : TypedModule). one_if (is_main typed)) first others)
+  where
+    by : (test : Bool) → is_main first ≡ test → find is_main (first ∷ others) ≡ None
+        → (find is_main others ≡ None → count_by is_main others ≡ 0)
+        → count_by is_main (first ∷ others) ≡ one_if (is_main first) + count_by is_main others
+        → count_by is_main (first ∷ others) ≡ 0
+    by true is none rest count =
+        let found : Some first ≡ None =
+        sym (ap (λ (test : Bool). cond test (Some first) (find is_main others)) is) ∙ none in
+        absurd (none-some first (sym found))
+    by false is none rest count =
+        let next : find is_main others ≡ None =
+        sym (ap (λ (test : Bool). cond test (Some first) (find is_main others)) is) ∙ none in
+        let here : one_if (is_main first) ≡ 0 = ap one_if is in
+        let more = rest next in
+        omega (arith, count, here, more)
+
+-- the first that is main, and its number
+found_at : {A : Type 0} (from : ℕ) (modules : List TypedModule) (main : TypedModule)
+    → find is_main modules ≡ Some main
+    → ((at : ℕ) → position_from is_main from modules ≡ Some (from + at) → slice_get modules at ≡ Some main → A) → A
+found_at from [] main found then_is = absurd (none-some main found)
+found_at {A} from (first ∷ others) main found then_is =
+    by (is_main first) refl found (λ next then_later. found_at (from + 1) others main next then_later)
+  where
+    by : (test : Bool) → is_main first ≡ test → find is_main (first ∷ others) ≡ Some main
+        → (find is_main others ≡ Some main
+        → ((at : ℕ) → position_from is_main (from + 1) others ≡ Some (from + 1 + at)
+        → slice_get others at ≡ Some main → A) → A)
+        → A
+    by true is found rest =
+        then_is 0
+        (ap (λ (test : Bool). cond test (Some from) (position_from is_main (from + 1) others)) is
+        ∙ ap (λ (n : ℕ). Some n) (omega arith))
+        (sym (ap (λ (test : Bool). cond test (Some first) (find is_main others)) is) ∙ found)
+    by false is found rest =
+        rest (sym (ap (λ (test : Bool). cond test (Some first) (find is_main others)) is) ∙ found)
+        (λ at place there.
+        then_is (suc at)
+        (ap (λ (test : Bool). cond test (Some from) (position_from is_main (from + 1) others)) is ∙ place
+        ∙ ap (λ (n : ℕ). Some n) (omega arith))
+        there)
+
+pub main_is_there : (program : Program) → IsWhole program → HasMain program.modules
+main_is_there program whole = by (find is_main program.modules) refl
+  where
+    by : (entry : Option TypedModule) → find is_main program.modules ≡ entry
+        → IsSomeAnd entry
+        (λ (main : TypedModule). slice_get program.modules (number_of_main program.modules) ≡ Some main)
+    by None none =
+        let one = main_counted program.modules whole.joined in
+        let nothing = none_counted program.modules none in
+        absurd (omega (arith, one, nothing))
+    by (Some main) found =
+        found_at 0 program.modules main found
+        (λ at place there.
+        let counted : number_of_main program.modules ≡ 0 + at =
+        ap (λ (entry : Option ℕ). option_map_or (λ (number : ℕ). number) entry 0)
+        (position_from-zero is_main program.modules ∙ place) in
+        let number : number_of_main program.modules ≡ at = omega (arith, counted) in
+        subst (λ (number : ℕ). slice_get program.modules number ≡ Some main) (sym number) there)

@@ -1,0 +1,5 @@
+pub mod Meant
+pub mod Named
+pub mod Places
+pub mod Defaults
+pub mod Publics

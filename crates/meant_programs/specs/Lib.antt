@@ -1,4 +1,0 @@
-pub mod Meant
-pub mod Named
-pub mod Places
-pub mod Defaults

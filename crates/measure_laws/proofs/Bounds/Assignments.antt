@@ -1,0 +1,260 @@
+-- Assignments.
+use Rattle.std.proofs.Common.{◌≡◌, ℕ, ◌+◌, ◌-◌, ◌<◌, ◌≤◌, Bool, true, false, if◌then◌else◌, is_some, nat_eq, nat_lt, List, [], ◌∷◌, sum_by, Option, Some, None, refl, sym, ap, subst, ◌∙◌, arith}
+use Rattle.std.proofs.lemmas.Bool.{eqb-true}
+use Rattle.std.proofs.lemmas.List.Sums.{sum_by-cons}
+use Rattle.trees.specs.declared.declaration.ScalarType.{ScalarType}
+use Rattle.trees.specs.declared.declaration.ScalarType.TheVariants.{Byte, Address}
+use Rattle.typed_trees.specs.TypedTrees.{SentTo, StoredIn, TypedExpression, TypedModule, TypedTarget}
+use Rattle.typed_trees.specs.WellTyped.{TypesHoldInTarget, TypesHoldInTargets, Within}
+use Rattle.typed_trees.specs.Weight.{weight_of_expression, weight_of_storing, weight_of_target}
+use Rattle.layout.specs.Storage.{Storage}
+use Rattle.treecode.specs.declared.expression.ExpressionNumber.{ExpressionNumber}
+use Rattle.treecode.specs.declared.lists.Range.{Range}
+use Rattle.treecode.specs.declared.reference.Target.{Target}
+use Rattle.treecode.specs.Lowered.{AreTargets, IsExpression, IsExpressionIn, IsSent, IsStored, IsTarget, MoreTargets, NoTargets}
+use Rattle.treecode.specs.Nodes.{nodes_of}
+use Rattle.treecode.specs.Queries.{target as target_at}
+use Rattle.steps8080.specs.declared.facts.Facts.{Facts}
+use Rattle.steps8080.specs.declared.step.Task.TheVariants as tasks
+use Rattle.steps8080.specs.declared.sites.site.Site.{Site}
+use Rattle.steps8080.specs.Queries.{known, number}
+use Rattle.steps8080.specs.Site.{expression, scalar}
+use Rattle.exprgen8080.specs.Emission.{knowing}
+use Rattle.statements8080.specs.declared.body.Body.{Body}
+use Rattle.statements8080.specs.declared.plan.Planned.{Planned}
+use Rattle.statements8080.specs.Assignments.{any_target, assignment_steps, each_at, each_steps, from_type, several_by, several_steps, single_steps, store_at, stores_steps, takes_byte, takes_word, together_steps, types_by, value_steps}
+use Rattle.statements8080.specs.Plans.{part, steps_from}
+use Rattle.codegen8080.specs.Generated.{site_of}
+use Rattle.measure_laws.specs.internal.Sizes.{PartsFit, bytes_for}
+use Rattle.measure_laws.specs.internal.Fits.{StepsFit}
+use Rattle.measure_laws.proofs.Bounds.Fitting.{both_fit, less_fits, none_fit}
+use Rattle.measure_laws.proofs.Bounds.KnownValues.{known_byte_fits, known_word_fits}
+use Rattle.measure_laws.proofs.Bounds.Parts.{byte_fits, store_fits, target_weighs, weight_beside, word_fits}
+use Rattle.measure_laws.proofs.Bounds.Singles.{ValueFits, single_fits}
+use Rattle.measure_laws.proofs.Bounds.Targets.{EachFits, none_passes, targets_fit}
+use Rattle.measure_laws.proofs.Bounds.Ranges.{item_there}
+
+-- a number is known wherever the code stands
+pub number_anywhere :
+    (site : Site) (facts : Facts) (value : ExpressionNumber) → number (knowing site facts) value ≡ number site value
+unfolding number known expression
+number_anywhere site facts value = refl
+
+pub known_value_fits :
+    {body : Body} {called : List Bool} (value : ExpressionNumber) (given : ℕ)
+    → number (site_of body) value ≡ Some given
+    → ValueFits body called value 3
+known_value_fits value given is = record {
+  as_byte = known_byte_fits value given 0 is;
+  as_word = known_word_fits value given 0 is;
+}
+
+-- the target of a value that is there in a type
+abbrev pub retyped : TypedTarget → ScalarType → TypedTarget
+retyped (StoredIn from to reference) there = StoredIn there to reference
+retyped (SentTo from port) there = SentTo there port
+
+retyped_is :
+    (body : Body) (storage : Storage) (bound : ℕ) (target : Target) (tree : TypedTarget) (there : ScalarType)
+    → IsTarget (nodes_of body.tree.now) storage bound target tree
+    → IsTarget (nodes_of body.tree.now) storage bound (from_type target there) (retyped tree there)
+retyped_is body storage bound _ _ there (IsStored is) = IsStored is
+retyped_is body storage bound _ _ there IsSent = IsSent
+
+-- none of the targets weighs more by a type that is there: a BYTE where all take bytes, an ADDRESS where all take words,
+-- and the type of the value
+byte_lighter :
+    (body : Body) (storage : Storage) (bound : ℕ) (target : Target) (tree : TypedTarget)
+    → IsTarget (nodes_of body.tree.now) storage bound target tree
+    → takes_word target ≡ false
+    → weight_beside (retyped tree Byte) ≤ weight_beside tree
+byte_lighter body storage bound _ _ (IsStored {to = Byte} is) no_word = omega arith
+byte_lighter body storage bound _ _ (IsStored {to = Address} is) no_word = let never : ⊥ = cc in absurd never
+byte_lighter body storage bound _ _ IsSent no_word = omega arith
+
+word_lighter :
+    (body : Body) (storage : Storage) (bound : ℕ) (target : Target) (tree : TypedTarget)
+    → IsTarget (nodes_of body.tree.now) storage bound target tree
+    → takes_byte target ≡ false
+    → weight_beside (retyped tree Address) ≤ weight_beside tree
+word_lighter body storage bound _ _ (IsStored {to = Byte} is) no_byte = let never : ⊥ = cc in absurd never
+word_lighter body storage bound _ _ (IsStored {to = Address} is) no_byte = omega arith
+word_lighter body storage bound _ _ IsSent no_byte = let never : ⊥ = cc in absurd never
+
+same_weighs :
+    (typed : TypedModule) (within : Within) (of there : ScalarType) (tree : TypedTarget)
+    → there ≡ of
+    → TypesHoldInTarget typed within of tree
+    → weight_beside (retyped tree there) ≤ weight_beside tree
+same_weighs typed within of there (StoredIn from to reference) same types =
+    let weighs = ap (λ (scalar : ScalarType). weight_of_storing scalar to) (same ∙ sym types.0) in
+    omega (arith, weighs)
+same_weighs typed within of there (SentTo from port) same types =
+    let weighs = ap (λ (scalar : ScalarType). weight_of_storing scalar Byte) (same ∙ sym types.0) in
+    omega (arith, weighs)
+
+module _
+    (body : Body) (called : List Bool) (storage : Storage) (parts : PartsFit (site_of body) storage called)
+  where
+    pub value_fits :
+        {bound : ℕ} {tree : TypedExpression} (value : ExpressionNumber)
+        → IsExpression (nodes_of body.tree.now) storage bound value.index tree
+        → ValueFits body called value (bytes_for (weight_of_expression tree))
+    value_fits value is = record {
+      as_byte = byte_fits body called storage parts value 0 is;
+      as_word = word_fits body called storage parts value 0 is;
+    }
+
+    module _ (typed : TypedModule) (within : Within) (of : ScalarType) where
+      -- each target gets a value as if it were the only one
+      each_fits :
+          (site : Site) (targets : Range) (value : ExpressionNumber)
+          → ValueFits body called value 3
+          → EachFits body called storage typed within of targets (each_at body site targets value)
+      each_fits site targets value fit bound index target tree less found is types =
+          let weighs = target_weighs tree in
+          subst (λ (given : Option Target). StepsFit body called
+          (elim given as (λ (one : Option Target). List Planned) [
+            | Some there ↦ single_steps body site there value
+            | None ↦ []
+          ]) (bytes_for (weight_of_target tree))) (sym found)
+          (less_fits (single_fits body called storage parts value 3 fit site is) (omega (arith, weighs)))
+
+      -- a value in a register goes to each target, which weighs no more by the type that is there
+      store_each_fits :
+          (targets : Range) (from : ScalarType)
+          → ((bound index : ℕ) (target : Target) (tree : TypedTarget)
+          → index < targets.count
+          → target_at body.tree.now targets index ≡ Some target
+          → IsTarget (nodes_of body.tree.now) storage bound target tree
+          → TypesHoldInTarget typed within of tree
+          → weight_beside (retyped tree from) ≤ weight_beside tree)
+          → EachFits body called storage typed within of targets (store_at body targets from)
+      store_each_fits targets from lighter bound index target tree less found is types =
+          let weighs = target_weighs tree in
+          let light = lighter bound index target tree less found is types in
+          subst (λ (given : Option Target). StepsFit body called
+          (elim given as (λ (one : Option Target). List Planned) [
+            | Some there ↦ part (tasks.Store (from_type there from) (nat_lt index (targets.count - 1))) 0 ∷ []
+            | None ↦ []
+          ]) (bytes_for (weight_of_target tree))) (sym found)
+          (less_fits
+          (store_fits body called storage parts (from_type target from) (nat_lt index (targets.count - 1)) 0
+          (retyped_is body storage bound target tree from is))
+          (omega (arith, weighs, light)))
+
+      module _
+          {trees : List TypedTarget} {tree : TypedExpression} (facts : Facts) (targets : Range)
+          (value : ExpressionNumber) (is : IsExpressionIn (nodes_of body.tree.now) storage value tree)
+          (are : AreTargets (nodes_of body.tree.now) storage targets.first targets.count trees)
+          (types : TypesHoldInTargets typed within of trees)
+        where
+          abbrev site : Site
+          site = knowing (site_of body) facts
+
+          abbrev most : ℕ
+          most = bytes_for (sum_by weight_of_target trees + weight_of_expression tree)
+
+          together_fits :
+              (from : ScalarType)
+              → ((bound index : ℕ) (target : Target) (one : TypedTarget)
+              → index < targets.count
+              → target_at body.tree.now targets index ≡ Some target
+              → IsTarget (nodes_of body.tree.now) storage bound target one
+              → TypesHoldInTarget typed within of one
+              → weight_beside (retyped one from) ≤ weight_beside one)
+              → StepsFit body called (together_steps body targets value from) most
+          together_fits from lighter = less_fits (both_fit (first from) stores) (omega arith)
+            where
+              first : (there : ScalarType) → StepsFit body called (value_steps value there) (bytes_for (weight_of_expression tree))
+              first Byte = byte_fits body called storage parts value 0 is
+              first Address = word_fits body called storage parts value 0 is
+
+              stores : StepsFit body called (stores_steps body targets from) (bytes_for (sum_by weight_of_target trees))
+              stores =
+                  targets_fit typed within of targets (store_at body targets from) (store_each_fits targets from lighter) 0
+                  (omega arith) (omega arith) are types
+
+          several_fits :
+              (bytes words : Bool)
+              → any_target takes_byte body targets 0 targets.count ≡ bytes
+              → any_target takes_word body targets 0 targets.count ≡ words
+              → scalar site value ≡ of
+              → StepsFit body called (several_by (types_by bytes words) body site targets value) most
+          several_fits bytes false has_bytes has_words type_is =
+              together_fits Byte
+              (λ bound index target one less found target_is held.
+              byte_lighter body storage bound target one target_is
+              (none_passes takes_word body targets 0 targets.count index target has_words (omega arith) (omega (arith, less)) found))
+          several_fits false true has_bytes has_words type_is =
+              together_fits Address
+              (λ bound index target one less found target_is held.
+              word_lighter body storage bound target one target_is
+              (none_passes takes_byte body targets 0 targets.count index target has_bytes (omega arith) (omega (arith, less)) found))
+          several_fits true true has_bytes has_words type_is = by (number site value) refl
+            where
+              each : (given : ℕ) → number site value ≡ Some given → StepsFit body called (each_steps body site targets value) most
+              each given is_number =
+                  less_fits
+                  (targets_fit typed within of targets (each_at body site targets value)
+                  (each_fits site targets value
+                  (known_value_fits value given (sym (number_anywhere (site_of body) facts value) ∙ is_number)))
+                  0 (omega arith) (omega arith) are types)
+                  (omega arith)
+
+              by :
+                  (found : Option ℕ) → number site value ≡ found
+                  → StepsFit body called
+                  (if is_some found then each_steps body site targets value
+                  else together_steps body targets value (scalar site value))
+                  most
+              by (Some given) is_number = each given is_number
+              by None is_number =
+                  together_fits (scalar site value)
+                  (λ bound index target one less found target_is held.
+                  same_weighs typed within of (scalar site value) one type_is held)
+
+          only_fits :
+              targets.count ≡ 1
+              → StepsFit body called (each_steps body site targets value) most
+          only_fits one = by targets.count trees are one refl
+            where
+              by :
+                  (count : ℕ) (some : List TypedTarget)
+                  → AreTargets (nodes_of body.tree.now) storage targets.first count some
+                  → count ≡ 1
+                  → targets.count ≡ count
+                  → StepsFit body called (steps_from (each_at body site targets value) 0 count)
+                  (bytes_for (sum_by weight_of_target some + weight_of_expression tree))
+              by _ _ NoTargets is_one same = absurd (omega (arith, is_one))
+              by _ _ (MoreTargets there target_is (MoreTargets more_there more_is more)) is_one same =
+                  absurd (omega (arith, is_one))
+              by _ _ (MoreTargets {target = target} {tree = one_tree} there target_is NoTargets) is_one same =
+                  let weighs = target_weighs one_tree in
+                  let sum = sum_by-cons weight_of_target one_tree [] in
+                  less_fits
+                  (both_fit
+                  (subst (λ (given : Option Target). StepsFit body called
+                  (elim given as (λ (g : Option Target). List Planned) [
+                    | Some found ↦ single_steps body site found value
+                    | None ↦ []
+                  ]) (bytes_for (weight_of_expression tree) + (64 + bytes_for (weight_beside one_tree))))
+                  (sym (item_there body.tree.now.targets.items targets 0 targets.first target (omega arith) (omega (arith, same)) there))
+                  (single_fits body called storage parts value (bytes_for (weight_of_expression tree)) (value_fits value is) site target_is))
+                  none_fit)
+                  (omega (arith, weighs, sum))
+
+          assigned_fits :
+              scalar site value ≡ of
+              → (one : Bool) → nat_eq targets.count 1 ≡ one
+              → StepsFit body called
+              (if one then each_steps body site targets value else several_steps body site targets value) most
+          assigned_fits type_is true is_one = only_fits (eqb-true targets.count 1 is_one)
+          assigned_fits type_is false is_one =
+              several_fits (any_target takes_byte body targets 0 targets.count)
+              (any_target takes_word body targets 0 targets.count) refl refl type_is
+
+          pub assignment_fits :
+              scalar site value ≡ of
+              → StepsFit body called (assignment_steps body site targets value) most
+          assignment_fits type_is = assigned_fits type_is (nat_eq targets.count 1) refl

@@ -1,0 +1,72 @@
+-- The code of a module takes at most its code bound, and its data as many bytes as its storage says. So it is refused for a
+-- length only where that bound passes what a segment may have.
+use Rattle.std.proofs.Common.{◌≡◌, ℕ, ◌+◌, ◌≤◌, Some, ap, sym, subst, arith}
+use Rattle.object_modules.specs.declared.segment.Segment.TheVariants.{Code}
+use Rattle.object_modules.specs.declared.segment.TheConstants.{SEGMENT_LIMIT}
+use Rattle.object_modules.specs.Module.{ObjectModule, length_of}
+use Rattle.typed_trees.specs.TypedTrees.{TypedModule}
+use Rattle.typed_trees.specs.Weight.{code_bound}
+use Rattle.layout.specs.Storage.{Storage, data_bytes}
+use Rattle.asm8080.specs.Items.{size_of_items}
+use Rattle.treecode.specs.declared.module.TreeModule.{TreeModule}
+use Rattle.treecode.specs.Lowered.{IsLowered}
+use Rattle.steps8080.specs.Writer.{Written, numbered}
+use Rattle.codegen8080.specs.declared.fault.Fault.TheVariants.{TooLong}
+use Rattle.codegen8080.specs.Modules.{IsCodeWritten, IsGenerated, contents_items}
+use Rattle.codegen8080.specs.Refusals.{CodeIsNone, DataAreNone, MayRefuse}
+use Rattle.measure_laws.proofs.Sizes.PartSizes.{part_size}
+use Rattle.measure_laws.specs.Sound.{IsSound}
+use Rattle.measure_laws.proofs.Bounds.Constants.{variables_fit}
+use Rattle.measure_laws.proofs.Bounds.Modules.{code_segment_fits, module_fits}
+use Rattle.measure_laws.proofs.Bounds.Numbering.{numbered_size}
+
+-- as it was written
+pub code_is_within_its_bound :
+    (typed : TypedModule) (storage : Storage) (tree : TreeModule) (start : ℕ) (written : Written)
+    → IsSound typed
+    → IsLowered typed storage tree
+    → IsCodeWritten tree start written
+    → size_of_items written.code.items ≤ code_bound typed
+code_is_within_its_bound typed storage tree start written sound lowered is =
+    module_fits typed storage tree start written sound lowered
+    (λ site called same. part_size site storage called) is
+
+-- and as the code segment of an object module
+pub segment_is_within_its_bound :
+    (typed : TypedModule) (storage : Storage) (tree : TreeModule) (object : ObjectModule)
+    → IsSound typed
+    → IsLowered typed storage tree
+    → IsGenerated tree object
+    → length_of object Code ≤ code_bound typed
+segment_is_within_its_bound typed storage tree object sound lowered is =
+    code_segment_fits typed storage tree object sound lowered
+    (λ site called same. part_size site storage called) is
+
+-- the data as they were written
+pub data_are_within_their_bytes :
+    (typed : TypedModule) (storage : Storage) (tree : TreeModule) (variables : Written)
+    → IsSound typed
+    → IsLowered typed storage tree
+    → numbered variables (contents_items tree.variables.items) ≡ Some variables.code.items
+    → size_of_items variables.code.items ≤ data_bytes typed.objects
+data_are_within_their_bytes typed storage tree variables sound lowered is =
+    let same = ap (λ given. size_of_items (contents_items given)) lowered.variables in
+    omega (
+      arith,
+      numbered_size variables (contents_items tree.variables.items) variables.code.items is,
+      same,
+      variables_fit typed tree.homes.items sound.storable,
+    )
+
+-- a module is refused for a length only where its code bound passes what a segment may have
+pub too_long_is_past_its_bound :
+    (typed : TypedModule) (storage : Storage) (tree : TreeModule)
+    → IsSound typed
+    → data_bytes typed.objects ≤ SEGMENT_LIMIT
+    → IsLowered typed storage tree
+    → MayRefuse tree TooLong
+    → SEGMENT_LIMIT + 1 ≤ code_bound typed
+too_long_is_past_its_bound typed storage tree sound few lowered (CodeIsNone start code written none) =
+    omega (arith, none, code_is_within_its_bound typed storage tree start code sound lowered written)
+too_long_is_past_its_bound typed storage tree sound few lowered (DataAreNone start code variables written is grown none) =
+    absurd (omega (arith, none, few, data_are_within_their_bytes typed storage tree variables sound lowered is))

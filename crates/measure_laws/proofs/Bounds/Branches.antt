@@ -1,0 +1,174 @@
+-- IF and DO WHILE.
+use Rattle.std.proofs.Common.{ℕ, ◌+◌, ◌%◌, Bool, true, false, if◌then◌else◌, nat_eq, nat_lt, List, [], ◌∷◌, Option, Some, None, refl, arith}
+use Rattle.isa8080.specs.declared.instr.Instr.TheVariants.{Nop}
+use Rattle.asm8080.specs.declared.item.WordForm.TheVariants.{Jump}
+use Rattle.treecode.specs.declared.expression.ExpressionNumber.{ExpressionNumber}
+use Rattle.treecode.specs.declared.lists.Range.{Range}
+use Rattle.treecode.specs.declared.statement.StatementNumber.{StatementNumber}
+use Rattle.steps8080.specs.declared.step.LabelNumber.{LabelNumber}
+use Rattle.steps8080.specs.Step.{label_of}
+use Rattle.steps8080.specs.declared.sites.site.Site.{Site}
+use Rattle.steps8080.specs.Queries.{number}
+use Rattle.statements8080.specs.declared.body.Body.{Body}
+use Rattle.statements8080.specs.declared.plan.Planned.{Planned}
+use Rattle.statements8080.specs.declared.plan.Planned.TheVariants.{Jumped, JumpOn, List as ListOf, Meet, Reaches, Statement, Turn}
+use Rattle.statements8080.specs.Branches.{both_steps, branch, computed_if_steps, forever_steps, goto_label, has_one_jump, if_steps, statement_if_any, tested_if_steps, tested_while_steps, then_steps, while_steps}
+use Rattle.statements8080.specs.Plans.{jump, mark, nth_label, plain}
+use Rattle.measure_laws.specs.internal.Fits.{StepsFit}
+use Rattle.measure_laws.proofs.Bounds.Fitting.{both_fit, less_fits, none_fit, then_fit}
+use Rattle.measure_laws.proofs.Bounds.Pieces.{plain_fits, plains_fit}
+
+-- a statement that need not be there
+abbrev pub AnyFits : (body : Body) (called : List Bool) → Option StatementNumber → (most : ℕ) → Type 0
+AnyFits body called None most = Unit {0}
+AnyFits body called (Some number) most = StepsFit body called (Statement number ∷ []) most
+
+module _
+    {body : Body} {called : List Bool} (site : Site) (condition : ExpressionNumber) (tested : ℕ)
+    (branches : (label : LabelNumber) (sense : Bool) → StepsFit body called (branch condition label sense ∷ []) tested)
+  where
+    module _
+        (then_part : StatementNumber) (chosen : ℕ) (then_fits : StepsFit body called (Statement then_part ∷ []) chosen)
+        (first : ℕ)
+      where
+        then_alone_fits :
+            StepsFit body called (then_steps site condition then_part first) (tested + chosen)
+        then_alone_fits =
+            less_fits
+            (then_fit (branches (label_of first) false)
+            (then_fit (plain_fits (Jumped (has_one_jump site condition)) refl)
+            (then_fit then_fits (plains_fit (Meet (label_of first) ∷ []) refl))))
+            (omega arith)
+
+        both_fits :
+            (else_part : StatementNumber) (other : ℕ)
+            → StepsFit body called (Statement else_part ∷ []) other
+            → StepsFit body called (both_steps site condition then_part else_part first) (tested + chosen + other + 3)
+        both_fits else_part other else_fits =
+            less_fits
+            (then_fit (branches (label_of first) false)
+            (then_fit (plain_fits (Jumped (has_one_jump site condition)) refl)
+            (then_fit then_fits
+            (then_fit (plain_fits (Turn (label_of first) (nth_label first 1)) refl)
+            (then_fit else_fits (plains_fit (Meet (nth_label first 1) ∷ []) refl))))))
+            (omega arith)
+
+        either_by_fits :
+            (else_part : StatementNumber) (other : ℕ)
+            → StepsFit body called (Statement else_part ∷ []) other
+            → (goes : Option LabelNumber)
+            → StepsFit body called
+            (elim goes as (λ (given : Option LabelNumber). List Planned) [
+              | Some label ↦ branch condition label false ∷ Statement then_part ∷ []
+              | None ↦ both_steps site condition then_part else_part first
+            ])
+            (tested + chosen + other + 3)
+        either_by_fits else_part other else_fits (Some label) =
+            less_fits (then_fit (branches label false) then_fits) (omega arith)
+        either_by_fits else_part other else_fits None = both_fits else_part other else_fits
+
+        computed_fits :
+            (else_part : Option StatementNumber) (other : ℕ)
+            → AnyFits body called else_part other
+            → StepsFit body called (computed_if_steps body site condition then_part else_part first)
+            (tested + chosen + other + 3)
+        computed_fits None other else_fits = less_fits then_alone_fits (omega arith)
+        computed_fits (Some else_part) other else_fits =
+            either_by_fits else_part other else_fits (goto_label body else_part)
+
+        any_fits :
+            (else_part : Option StatementNumber) (other : ℕ)
+            → AnyFits body called else_part other
+            → StepsFit body called (statement_if_any else_part) other
+        any_fits None other else_fits = less_fits none_fit (omega arith)
+        any_fits (Some else_part) other else_fits = else_fits
+
+        tested_by_fits :
+            (else_part : Option StatementNumber) (other : ℕ)
+            → AnyFits body called else_part other
+            → (goes : Option LabelNumber)
+            → StepsFit body called
+            (elim goes as (λ (given : Option LabelNumber). List Planned) [
+              | Some label ↦ branch condition label true ∷ statement_if_any else_part
+              | None ↦ computed_if_steps body site condition then_part else_part first
+            ])
+            (tested + chosen + other + 3)
+        tested_by_fits else_part other else_fits (Some label) =
+            less_fits (then_fit (branches label true) (any_fits else_part other else_fits)) (omega arith)
+        tested_by_fits else_part other else_fits None = computed_fits else_part other else_fits
+
+        known_fits :
+            (else_part : Option StatementNumber) (other : ℕ)
+            → AnyFits body called else_part other
+            → (holds : Bool)
+            → StepsFit body called (if holds then Statement then_part ∷ [] else statement_if_any else_part)
+            (tested + chosen + other + 3)
+        known_fits else_part other else_fits true = less_fits then_fits (omega arith)
+        known_fits else_part other else_fits false = less_fits (any_fits else_part other else_fits) (omega arith)
+
+        if_by_fits :
+            (else_part : Option StatementNumber) (other : ℕ)
+            → AnyFits body called else_part other
+            → (found : Option ℕ)
+            → StepsFit body called
+            (elim found as (λ (given : Option ℕ). List Planned) [
+              | Some known ↦
+                  if nat_eq (known % 2) 1 then Statement then_part ∷ [] else statement_if_any else_part
+              | None ↦ tested_if_steps body site condition then_part else_part first
+            ])
+            (tested + chosen + other + 3)
+        if_by_fits else_part other else_fits (Some known) = known_fits else_part other else_fits (nat_eq (known % 2) 1)
+        if_by_fits else_part other else_fits None =
+            tested_by_fits else_part other else_fits (goto_label body then_part)
+
+        pub if_fits :
+            (else_part : Option StatementNumber) (other : ℕ)
+            → AnyFits body called else_part other
+            → StepsFit body called (if_steps body site condition then_part else_part first)
+            (tested + chosen + other + 3)
+        if_fits else_part other else_fits = if_by_fits else_part other else_fits (number site condition)
+
+    module _ (list : Range) (within : ℕ) (list_fits : StepsFit body called (ListOf list ∷ []) within) (first : ℕ) where
+      forever_fits : StepsFit body called (forever_steps list first) (within + 6)
+      forever_fits =
+          less_fits
+          (then_fit (plain_fits (plain Nop) refl)
+          (then_fit (plain_fits (mark (label_of first)) refl)
+          (then_fit list_fits (plains_fit (JumpOn (label_of first) ∷ Reaches false ∷ []) refl))))
+          (omega arith)
+
+      jump_fits :
+          (more : Bool)
+          → StepsFit body called (if more then jump Jump (nth_label first 1) ∷ [] else []) 3
+      jump_fits true = plains_fit (jump Jump (nth_label first 1) ∷ []) refl
+      jump_fits false = less_fits none_fit (omega arith)
+
+      tested_while_fits : StepsFit body called (tested_while_steps condition list first) (tested + within + 6)
+      tested_while_fits =
+          less_fits
+          (both_fit (jump_fits (nat_lt 0 list.count))
+          (then_fit (plain_fits (mark (label_of first)) refl)
+          (then_fit list_fits
+          (then_fit (plain_fits (mark (nth_label first 1)) refl)
+          (then_fit (branches (label_of first) true) (plains_fit (Reaches true ∷ []) refl))))))
+          (omega arith)
+
+      known_while_fits :
+          (holds : Bool)
+          → StepsFit body called (if holds then forever_steps list first else []) (tested + within + 6)
+      known_while_fits true = less_fits forever_fits (omega arith)
+      known_while_fits false = less_fits none_fit (omega arith)
+
+      while_by_fits :
+          (found : Option ℕ)
+          → StepsFit body called
+          (elim found as (λ (given : Option ℕ). List Planned) [
+            | Some known ↦ if nat_eq (known % 2) 1 then forever_steps list first else []
+            | None ↦ tested_while_steps condition list first
+          ])
+          (tested + within + 6)
+      while_by_fits (Some known) = known_while_fits (nat_eq (known % 2) 1)
+      while_by_fits None = tested_while_fits
+
+      pub while_fits : StepsFit body called (while_steps site condition list first) (tested + within + 6)
+      while_fits = while_by_fits (number site condition)

@@ -1,0 +1,284 @@
+-- DO CASE.
+use Rattle.std.proofs.Common.{◌≡◌, ℕ, zero, suc, ◌+◌, ◌-◌, ◌*◌, ◌%◌, ◌<◌, ◌≤◌, Bool, true, false, if◌then◌else◌, nat_eq, nat_lt, List, [], ◌∷◌, ◌++◌, slice_get, Option, Some, None, refl, sym, ap, subst, ◌∙◌, arith}
+use Rattle.std.specs.Option.{option_and_then}
+use Rattle.std.proofs.lemmas.Bool.{eqb-false, eqb-true, ltb-true}
+use Rattle.std.proofs.lemmas.Option.{same_Some}
+use Rattle.isa8080.specs.declared.instr.Condition.TheVariants.{NoCarry}
+use Rattle.isa8080.specs.declared.instr.Instr.TheVariants.{AccumulateImmediate, Dad, Pchl, Xchg}
+use Rattle.isa8080.specs.declared.instr.Operation.TheVariants.{Compare}
+use Rattle.isa8080.specs.declared.instr.Pair.TheVariants.{De, Hl}
+use Rattle.isa8080.specs.declared.instr.Register.TheVariants.{A, D, E}
+use Rattle.asm8080.specs.declared.item.WordForm.TheVariants.{Jump, JumpWhere, LoadPair}
+use Rattle.trees.specs.declared.declaration.ScalarType.{ScalarType}
+use Rattle.trees.specs.declared.declaration.ScalarType.TheVariants.{Byte, Address}
+use Rattle.typed_trees.specs.Jumps.{ListsStandInCases}
+use Rattle.typed_trees.specs.TypedTrees.{TypedExpression, TypedStatements}
+use Rattle.typed_trees.specs.Weight.{weight_of_expression, weight_of_statement, weight_of_statements}
+use Rattle.layout.specs.Storage.{Storage}
+use Rattle.treecode.specs.declared.expression.ExpressionNumber.{ExpressionNumber}
+use Rattle.treecode.specs.declared.lists.Range.{Range}
+use Rattle.treecode.specs.declared.statement.StatementNumber.{StatementNumber}
+use Rattle.treecode.specs.Lowered.{IsExpressionIn}
+use Rattle.treecode.specs.Nodes.{nodes_of}
+use Rattle.treecode.specs.Queries.{item}
+use Rattle.steps8080.specs.declared.step.LabelNumber.{LabelNumber}
+use Rattle.steps8080.specs.declared.step.Task.TheVariants as tasks
+use Rattle.steps8080.specs.Instructions.{copy, set}
+use Rattle.steps8080.specs.Step.{label_of}
+use Rattle.steps8080.specs.declared.sites.site.Site.{Site}
+use Rattle.steps8080.specs.Site.{scalar}
+use Rattle.steps8080.specs.Queries.{number}
+use Rattle.statements8080.specs.declared.body.Body.{Body}
+use Rattle.statements8080.specs.declared.plan.Planned.{Planned}
+use Rattle.statements8080.specs.declared.plan.Planned.TheVariants.{JumpOn, Reaches, Statement}
+use Rattle.statements8080.specs.Cases.{case_steps, cases_end_steps, choice_at_steps, choice_steps, computed_case_steps, entry_of, into_table_steps, known_case_steps, number_in_de_steps, statement_at, statements_steps, table_at, table_steps}
+use Rattle.statements8080.specs.Plans.{all, jump, label_at, mark, nth_label, part, plain, steps_from}
+use Rattle.statements8080.specs.Tests.{less_steps}
+use Rattle.codegen8080.specs.Generated.{site_of}
+use Rattle.measure_laws.specs.internal.Sizes.{PartsFit, bytes_for}
+use Rattle.measure_laws.specs.internal.Fits.{StepsFit}
+use Rattle.measure_laws.proofs.Bounds.Fitting.{both_fit, less_fits, none_fit, then_fit}
+use Rattle.measure_laws.proofs.Bounds.Iterations.{less_steps_fit}
+use Rattle.measure_laws.proofs.Bounds.Lists.{AllFit, MoreFit, NoneFit, case_step_fits, no_label_weighs, statement_step_fits}
+use Rattle.measure_laws.proofs.Bounds.Parts.{byte_fits, effects_fit, word_fits}
+use Rattle.measure_laws.proofs.Bounds.Pieces.{plain_fits, plains_fit}
+use Rattle.measure_laws.proofs.Bounds.Ranges.{item_there}
+
+-- the jumps of a table, three bytes each
+table_from_fits :
+    {body : Body} {called : List Bool} (list : Range) (first end : LabelNumber) (index left : ℕ)
+    → StepsFit body called (steps_from (table_at body list first end) index left) (3 * left)
+unfolding table_at
+table_from_fits list first end index zero = less_fits none_fit (omega arith)
+table_from_fits {body = body} list first end index (suc left) =
+    less_fits
+    (then_fit
+    (plain_fits (jump Jump (entry_of body list index (label_at first index) end)) refl)
+    (table_from_fits list first end (suc index) left))
+    (omega arith)
+
+table_fits :
+    {body : Body} {called : List Bool} (list : Range) (first end : LabelNumber)
+    → StepsFit body called (table_steps body list first end) (3 * list.count)
+unfolding table_steps
+table_fits list first end = table_from_fits list first end 0 list.count
+
+-- a statement at its label, and the jump after it
+jump_on_fits :
+    {body : Body} {called : List Bool} (end : LabelNumber) (more : Bool)
+    → StepsFit body called (if more then JumpOn end ∷ [] else []) 3
+jump_on_fits end true = plains_fit (JumpOn end ∷ []) refl
+jump_on_fits end false = less_fits none_fit (omega arith)
+
+statement_if_own_fits :
+    {body : Body} {called : List Bool} (list : Range) (first end : LabelNumber) (index : ℕ) (found : StatementNumber)
+    (most : ℕ) (own : Bool)
+    → StepsFit body called (Statement found ∷ []) most
+    → StepsFit body called
+    (if own
+    then mark (label_at first index)
+    ∷ Statement found
+    ∷ (if nat_lt index (list.count - 1) then JumpOn end ∷ [] else [])
+    else [])
+    (most + 3)
+statement_if_own_fits list first end index found most true fit =
+    less_fits
+    (then_fit (plain_fits (mark (label_at first index)) refl)
+    (then_fit fit (jump_on_fits end (nat_lt index (list.count - 1)))))
+    (omega arith)
+statement_if_own_fits list first end index found most false fit = less_fits none_fit (omega arith)
+
+statement_at_fits :
+    {body : Body} {called : List Bool} (list : Range) (first end : LabelNumber) (index : ℕ) (found : StatementNumber)
+    (most : ℕ)
+    → item body.tree.now list index ≡ Some found
+    → StepsFit body called (Statement found ∷ []) most
+    → StepsFit body called (statement_at body list first end index) (most + 3)
+statement_at_fits {body = body} {called = called} list first end index found most is fit =
+    subst (λ (given : Option StatementNumber). StepsFit body called
+    (elim given as (λ (one : Option StatementNumber). List Planned) [
+      | Some there ↦
+          if nat_eq (entry_of body list index (label_at first index) end).index (label_at first index).index
+          then mark (label_at first index)
+          ∷ Statement there
+          ∷ (if nat_lt index (list.count - 1) then JumpOn end ∷ [] else [])
+          else []
+      | None ↦ []
+    ]) (most + 3)) (sym is)
+    (statement_if_own_fits list first end index found most
+    (nat_eq (entry_of body list index (label_at first index) end).index (label_at first index).index) fit)
+
+-- so many statements of a DO CASE leave five bytes free each
+record CasesFit (body : Body) (called : List Bool) (steps : List Planned) (count : ℕ) (trees : TypedStatements) : Type 0 where
+  pub most : ℕ
+  pub fit : StepsFit body called steps most
+  pub enough : most + 5 * count ≤ bytes_for (weight_of_statements trees)
+
+statements_from_fit :
+    {body : Body} {called : List Bool} {place left : ℕ} {trees : TypedStatements}
+    (list : Range) (first end : LabelNumber) (index : ℕ)
+    → place ≡ list.first + index
+    → index + left ≡ list.count
+    → ListsStandInCases trees
+    → AllFit body called place left trees
+    → CasesFit body called (steps_from (statement_at body list first end) index left) left trees
+statements_from_fit list first end index same count stand NoneFit =
+    record { most = 0; fit = none_fit; enough = omega arith }
+statements_from_fit {body = body} list first end index same count stand (MoreFit {first = place} {count = left} {number = number} {tree = tree} there fit others) =
+    let rest = statements_from_fit list first end (suc index) (omega (arith, same)) (omega (arith, count)) stand.2 others in
+    let weighs = no_label_weighs tree stand.0 in
+    let is : item body.tree.now list index ≡ Some number =
+    item_there body.tree.now.lists.items list index place number same (omega (arith, count)) there in
+    record {
+      most = bytes_for (weight_of_statement tree) - 8 + 3 + rest.most;
+      fit =
+          both_fit
+          (statement_at_fits list first end index number (bytes_for (weight_of_statement tree) - 8) is
+          (case_step_fits stand.0 fit))
+          rest.fit;
+      enough = omega (arith, weighs, rest.enough);
+    }
+
+-- one of the statements
+one_fits :
+    {body : Body} {called : List Bool} {first count : ℕ} {trees : TypedStatements}
+    → AllFit body called first count trees
+    → (place : ℕ) (found : StatementNumber)
+    → first ≤ place
+    → place < first + count
+    → slice_get body.tree.now.lists.items place ≡ Some found
+    → StepsFit body called (Statement found ∷ []) (bytes_for (weight_of_statements trees))
+one_fits NoneFit place found low high is = absurd (omega (arith, low, high))
+one_fits {body = body} {called = called} (MoreFit {first = first} {count = count} {number = number} {tree = tree} {others = more} there fit others) place found low high is =
+    by (nat_eq first place) refl
+    (λ above within. one_fits others place found above within is)
+  where
+    by :
+        (same : Bool) → nat_eq first place ≡ same
+        → (suc first ≤ place → place < suc first + count
+        → StepsFit body called (Statement found ∷ []) (bytes_for (weight_of_statements more)))
+        → StepsFit body called (Statement found ∷ []) (bytes_for (weight_of_statement tree + weight_of_statements more))
+    by true same further =
+        let place_is = eqb-true first place same in
+        let number_is : number ≡ found =
+        same_Some number found (sym there ∙ ap (λ (n : ℕ). slice_get body.tree.now.lists.items n) place_is ∙ is) in
+        less_fits
+        (subst (λ (n : StatementNumber). StepsFit body called (Statement n ∷ []) (bytes_for (weight_of_statement tree)))
+        number_is (statement_step_fits fit))
+        (omega arith)
+    by false differ further =
+        let other = eqb-false first place differ in
+        less_fits (further (omega (arith, low, other)) (omega (arith, high))) (omega arith)
+
+known_by_fits :
+    {body : Body} {called : List Bool} {trees : TypedStatements} (list : Range) (known : ℕ)
+    → AllFit body called list.first list.count trees
+    → (within : Bool) (found : Option StatementNumber)
+    → nat_lt known list.count ≡ within
+    → option_and_then (slice_get body.tree.now.lists.items) (if within then Some (list.first + known) else None) ≡ found
+    → StepsFit body called
+    (elim found as (λ (one : Option StatementNumber). List Planned) [
+      | Some there ↦ Statement there ∷ []
+      | None ↦ []
+    ]) (bytes_for (weight_of_statements trees))
+known_by_fits list known all within None test is = less_fits none_fit (omega arith)
+known_by_fits list known all true (Some found) test is =
+    let less = ltb-true known list.count test in
+    one_fits all (list.first + known) found (omega arith) (omega (arith, less)) is
+known_by_fits list known all false (Some found) test is = let never : ⊥ = cc in absurd never
+
+known_case_fits :
+    {body : Body} {called : List Bool} {trees : TypedStatements} (list : Range) (known : ℕ)
+    → AllFit body called list.first list.count trees
+    → StepsFit body called (known_case_steps body list known) (bytes_for (weight_of_statements trees))
+known_case_fits {body = body} list known all =
+    known_by_fits list known all (nat_lt known list.count) (item body.tree.now list known) refl refl
+
+-- the number comes into DE
+byte_bound_fits :
+    {body : Body} {called : List Bool} (count : ℕ) (end : LabelNumber) (few : Bool)
+    → StepsFit body called
+    (if few then plain (AccumulateImmediate Compare (count % 256)) ∷ jump (JumpWhere NoCarry) end ∷ [] else []) 6
+byte_bound_fits count end true =
+    plains_fit (plain (AccumulateImmediate Compare (count % 256)) ∷ jump (JumpWhere NoCarry) end ∷ []) refl
+byte_bound_fits count end false = less_fits none_fit (omega arith)
+
+word_bound_fits :
+    {body : Body} {called : List Bool} (count : ℕ) (end : LabelNumber) (few : Bool)
+    → StepsFit body called (if few then less_steps count ++ (jump (JumpWhere NoCarry) end ∷ []) else []) 15
+word_bound_fits count end true = both_fit (less_steps_fit count) (plains_fit (jump (JumpWhere NoCarry) end ∷ []) refl)
+word_bound_fits count end false = less_fits none_fit (omega arith)
+
+module _
+    (body : Body) (called : List Bool) (storage : Storage) (parts : PartsFit (site_of body) storage called)
+    {tree : TypedExpression} {trees : TypedStatements} (site : Site) (choice : ExpressionNumber)
+    (is : IsExpressionIn (nodes_of body.tree.now) storage choice tree) (list : Range)
+    (all_fit : AllFit body called list.first list.count trees) (stand : ListsStandInCases trees)
+  where
+    number_in_de_fits :
+        (kind : ScalarType) (count : ℕ) (end : LabelNumber)
+        → StepsFit body called (number_in_de_steps kind choice count end) (bytes_for (weight_of_expression tree) + 18)
+    unfolding number_in_de_steps
+    number_in_de_fits Byte count end =
+        less_fits
+        (then_fit (byte_fits body called storage parts choice 0 is)
+        (both_fit (byte_bound_fits count end (nat_lt count 256)) (plains_fit (all (copy E A ∷ set D 0 ∷ [])) refl)))
+        (omega arith)
+    number_in_de_fits Address count end =
+        less_fits
+        (then_fit (word_fits body called storage parts choice 0 is)
+        (both_fit (word_bound_fits count end (nat_lt count 65536)) (plains_fit (plain Xchg ∷ []) refl)))
+        (omega arith)
+
+    into_table_fits : (table : LabelNumber) → StepsFit body called (into_table_steps table) 15
+    unfolding into_table_steps
+    into_table_fits table =
+        less_fits
+        (then_fit (plain_fits (jump (LoadPair Hl) table) refl)
+        (both_fit (plains_fit (all (Dad De ∷ Dad De ∷ Dad De ∷ Pchl ∷ [])) refl) (plains_fit (mark table ∷ []) refl)))
+        (omega arith)
+
+    end_fits : (end : LabelNumber) → StepsFit body called (cases_end_steps end) 0
+    unfolding cases_end_steps
+    end_fits end = plains_fit (mark end ∷ Reaches true ∷ []) refl
+
+    statements_fit : (first end : LabelNumber) → CasesFit body called (statements_steps body list first end) list.count trees
+    unfolding statements_steps
+    statements_fit first end = statements_from_fit list first end 0 (omega arith) (omega arith) stand all_fit
+
+    choice_at_fits :
+        (table end own : LabelNumber)
+        → StepsFit body called (choice_at_steps body site choice list table end own)
+        (bytes_for (weight_of_expression tree) + bytes_for (weight_of_statements trees) + 33)
+    unfolding choice_at_steps
+    choice_at_fits table end own =
+        let cases = statements_fit own end in
+        less_fits
+        (both_fit (number_in_de_fits (scalar site choice) list.count end)
+        (both_fit (into_table_fits table) (both_fit (table_fits list own end) (both_fit cases.fit (end_fits end)))))
+        (omega (arith, cases.enough))
+
+    computed_by_fits :
+        (first : ℕ) (empty : Bool)
+        → StepsFit body called
+        (if empty then part (tasks.Effects choice) 0 ∷ [] else choice_steps body site choice list first)
+        (bytes_for (weight_of_expression tree) + bytes_for (weight_of_statements trees) + 33)
+    computed_by_fits first true = less_fits (effects_fit body called storage parts choice 0 is) (omega arith)
+    computed_by_fits first false = choice_at_fits (label_of first) (nth_label first 1) (nth_label first 2)
+
+    case_by_fits :
+        (first : ℕ) (found : Option ℕ)
+        → StepsFit body called
+        (elim found as (λ (one : Option ℕ). List Planned) [
+          | Some known ↦ known_case_steps body list known
+          | None ↦ computed_case_steps body site choice list first
+        ])
+        (bytes_for (weight_of_expression tree) + bytes_for (weight_of_statements trees) + 33)
+    case_by_fits first (Some known) = less_fits (known_case_fits list known all_fit) (omega arith)
+    case_by_fits first None = computed_by_fits first (nat_eq list.count 0)
+
+    pub case_fits :
+        (first : ℕ)
+        → StepsFit body called (case_steps body site choice list first)
+        (bytes_for (weight_of_expression tree) + bytes_for (weight_of_statements trees) + 33)
+    case_fits first = case_by_fits first (number site choice)

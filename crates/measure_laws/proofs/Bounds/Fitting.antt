@@ -1,0 +1,159 @@
+-- Planned steps fit where each of them does.
+use Rattle.std.proofs.Common.{◌≡◌, ℕ, ◌+◌, ◌≤◌, Bool, List, [], ◌∷◌, ◌++◌, Option, arith}
+use Rattle.isa8080.specs.declared.instr.Instr.{Instr}
+use Rattle.isa8080.specs.declared.instr.Instr.TheVariants.{Nop, Lxi, Stax, Ldax, Shld, Lhld, Sta, Lda, Inx, Dcx, Dad, Inr, Dcr, Mvi, Rlc, Rrc, Ral, Rar, Daa, Cma, Stc, Cmc, Mov, MovToMemory, Hlt, Accumulate, AccumulateImmediate, ReturnIf, JumpIf, CallIf, Ret, Jmp, Call, Rst, Pop, Push, Out, In, Xthl, Xchg, Pchl, Sphl, Di, Ei}
+use Rattle.asm8080.specs.declared.item.Item.{Item}
+use Rattle.asm8080.specs.Items.{size_of_items}
+use Rattle.asm8080.specs.Standing.{size_of_instruction}
+use Rattle.asm8080.proofs.Parts.{size_in_parts}
+use Rattle.steps8080.specs.declared.facts.Facts.{Facts}
+use Rattle.statements8080.specs.declared.body.Body.{Body}
+use Rattle.statements8080.specs.declared.plan.Planned.{Planned}
+use Rattle.codegen8080.specs.declared.meeting.Here.{Here}
+use Rattle.codegen8080.specs.Generated.{AreCarriedOut, ListCarriedOut, NoneCarriedOut, StatementCarriedOut, StepCarriedOut}
+use Rattle.measure_laws.specs.internal.Fits.{StepsFit}
+
+-- the code of steps that others follow
+record Parted
+    (body : Body) (called : List Bool) (here : Here) (waiting : Option Facts) (one other : List Planned)
+    (list : List Item) (last : Here) : Type 0 where
+  pub first : List Item
+  pub more : List Item
+  pub middle : Here
+  pub waits : Option Facts
+  pub begins : AreCarriedOut body called here waiting one first middle
+  pub goes_on : AreCarriedOut body called middle waits other more last
+  pub size : size_of_items list ≡ size_of_items first + size_of_items more
+
+parted :
+    {body : Body} {called : List Bool} (one other : List Planned)
+    {here last : Here} {waiting : Option Facts} {list : List Item}
+    → AreCarriedOut body called here waiting (one ++ other) list last
+    → Parted body called here waiting one other list last
+parted [] other {here = here} {waiting = waiting} {list = list} done = record {
+  first = [];
+  more = list;
+  middle = here;
+  waits = waiting;
+  begins = NoneCarriedOut;
+  goes_on = done;
+  size = omega arith;
+}
+parted (step ∷ one) other (StepCarriedOut {first = first} {more = more} ok written rest) =
+    let after = parted one other rest in
+    record {
+      first = first ++ after.first;
+      more = after.more;
+      middle = after.middle;
+      waits = after.waits;
+      begins = StepCarriedOut ok written after.begins;
+      goes_on = after.goes_on;
+      size = omega (arith, size_in_parts first more, size_in_parts first after.first, after.size);
+    }
+parted (step ∷ one) other (StatementCarriedOut {first = first} {more = more} done rest) =
+    let after = parted one other rest in
+    record {
+      first = first ++ after.first;
+      more = after.more;
+      middle = after.middle;
+      waits = after.waits;
+      begins = StatementCarriedOut done after.begins;
+      goes_on = after.goes_on;
+      size = omega (arith, size_in_parts first more, size_in_parts first after.first, after.size);
+    }
+parted (step ∷ one) other (ListCarriedOut {first = first} {more = more} done rest) =
+    let after = parted one other rest in
+    record {
+      first = first ++ after.first;
+      more = after.more;
+      middle = after.middle;
+      waits = after.waits;
+      begins = ListCarriedOut done after.begins;
+      goes_on = after.goes_on;
+      size = omega (arith, size_in_parts first more, size_in_parts first after.first, after.size);
+    }
+
+-- no steps
+pub no_size :
+    {body : Body} {called : List Bool} {here last : Here} {waiting : Option Facts} {list : List Item}
+    → AreCarriedOut body called here waiting [] list last
+    → size_of_items list ≤ 0
+no_size NoneCarriedOut = omega arith
+
+pub none_fit : {body : Body} {called : List Bool} → StepsFit body called [] 0
+none_fit = record { fits = λ done. no_size done }
+
+-- steps after others
+pub both_fit :
+    {body : Body} {called : List Bool} {one other : List Planned} {least most : ℕ}
+    → StepsFit body called one least
+    → StepsFit body called other most
+    → StepsFit body called (one ++ other) (least + most)
+both_fit {one = one} {other = other} first second = record {
+  fits = λ done.
+      let parts = parted one other done in
+      omega (arith, parts.size, first.fits parts.begins, second.fits parts.goes_on);
+}
+
+-- a step before others
+pub then_fit :
+    {body : Body} {called : List Bool} {step : Planned} {others : List Planned} {least most : ℕ}
+    → StepsFit body called (step ∷ []) least
+    → StepsFit body called others most
+    → StepsFit body called (step ∷ others) (least + most)
+then_fit first second = both_fit first second
+
+-- within more bytes too
+pub less_fits :
+    {body : Body} {called : List Bool} {steps : List Planned} {least most : ℕ}
+    → StepsFit body called steps least
+    → least ≤ most
+    → StepsFit body called steps most
+less_fits within less = record { fits = λ done. omega (arith, less, within.fits done) }
+
+-- no instruction has more than three bytes
+pub at_most_three : (i : Instr) → size_of_instruction i ≤ 3
+at_most_three Nop = omega arith
+at_most_three (Lxi pair word) = omega arith
+at_most_three (Stax pair) = omega arith
+at_most_three (Ldax pair) = omega arith
+at_most_three (Shld word) = omega arith
+at_most_three (Lhld word) = omega arith
+at_most_three (Sta word) = omega arith
+at_most_three (Lda word) = omega arith
+at_most_three (Inx pair) = omega arith
+at_most_three (Dcx pair) = omega arith
+at_most_three (Dad pair) = omega arith
+at_most_three (Inr operand) = omega arith
+at_most_three (Dcr operand) = omega arith
+at_most_three (Mvi operand value) = omega arith
+at_most_three Rlc = omega arith
+at_most_three Rrc = omega arith
+at_most_three Ral = omega arith
+at_most_three Rar = omega arith
+at_most_three Daa = omega arith
+at_most_three Cma = omega arith
+at_most_three Stc = omega arith
+at_most_three Cmc = omega arith
+at_most_three (Mov register operand) = omega arith
+at_most_three (MovToMemory register) = omega arith
+at_most_three Hlt = omega arith
+at_most_three (Accumulate operation operand) = omega arith
+at_most_three (AccumulateImmediate operation value) = omega arith
+at_most_three (ReturnIf condition) = omega arith
+at_most_three (JumpIf condition word) = omega arith
+at_most_three (CallIf condition word) = omega arith
+at_most_three Ret = omega arith
+at_most_three (Jmp word) = omega arith
+at_most_three (Call word) = omega arith
+at_most_three (Rst number) = omega arith
+at_most_three (Pop pair) = omega arith
+at_most_three (Push pair) = omega arith
+at_most_three (Out port) = omega arith
+at_most_three (In port) = omega arith
+at_most_three Xthl = omega arith
+at_most_three Xchg = omega arith
+at_most_three Pchl = omega arith
+at_most_three Sphl = omega arith
+at_most_three Di = omega arith
+at_most_three Ei = omega arith

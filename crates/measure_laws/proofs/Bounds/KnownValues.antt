@@ -1,0 +1,153 @@
+-- Values that are known take few bytes, whatever they weigh.
+use Rattle.std.proofs.Common.{◌≡◌, ℕ, ◌≤◌, ◌==◌, Bool, true, false, List, [], ◌∷◌, Option, Some, None, if◌then◌else◌, refl, ◌∙◌, arith}
+use Rattle.asm8080.specs.declared.item.Item.{Item}
+use Rattle.asm8080.specs.declared.item.WordForm.TheVariants.{LoadPair}
+use Rattle.asm8080.specs.Items.{size_of_items}
+use Rattle.isa8080.specs.declared.instr.Pair.TheVariants.{Hl}
+use Rattle.isa8080.specs.declared.instr.Register.TheVariants.{A}
+use Rattle.steps8080.specs.Instructions.{clear_a, low, set}
+use Rattle.isa8080.specs.declared.instr.Instr.TheVariants.{Dcx, Inx}
+use Rattle.treecode.specs.declared.expression.ExpressionNumber.{ExpressionNumber}
+use Rattle.treecode.specs.declared.place.Location.TheVariants.{Static}
+use Rattle.treecode.specs.declared.place.Place.{Place}
+use Rattle.treecode.specs.Homes.{location_after}
+use Rattle.treecode.specs.Queries.{place_number}
+use Rattle.steps8080.specs.declared.facts.Facts.{Facts}
+use Rattle.steps8080.specs.declared.step.Step.TheVariants as steps
+use Rattle.steps8080.specs.declared.step.Task.TheVariants as tasks
+use Rattle.steps8080.specs.Facts.{before, is_at}
+use Rattle.steps8080.specs.declared.sites.site.Site.{Site}
+use Rattle.steps8080.specs.Queries.{known, number}
+use Rattle.steps8080.specs.Site.{expression}
+use Rattle.operands8080.specs.Addresses.{hold_address_steps}
+use Rattle.exprgen8080.specs.Bytes.{byte_steps, known_byte_steps}
+use Rattle.exprgen8080.specs.Emission.{AreWritten, IsWritten, Planned as PartPlanned, knowing}
+use Rattle.exprgen8080.specs.Forms.{steps_of, task_steps}
+use Rattle.exprgen8080.specs.Halves.{byte_number_steps}
+use Rattle.exprgen8080.specs.Words.{word_steps}
+use Rattle.statements8080.specs.declared.body.Body.{Body}
+use Rattle.statements8080.specs.Plans.{part}
+use Rattle.codegen8080.specs.Generated.{site_of}
+use Rattle.measure_laws.specs.internal.Fits.{StepsFit}
+use Rattle.measure_laws.proofs.Bounds.Parts.{task_fits}
+use Rattle.measure_laws.proofs.Bounds.Pieces.{steps_within}
+
+-- where the number of an expression is known, so is its value
+pub record IsKnown (site : Site) (value : ExpressionNumber) (number : ℕ) : Type 0 where
+  pub place : Place
+  pub known_is : known site value ≡ Some place
+  pub number_is : place_number place ≡ Some number
+
+pub number_known :
+    (site : Site) (value : ExpressionNumber) (given : ℕ) → number site value ≡ Some given → IsKnown site value given
+unfolding number
+number_known site value given is = by (known site value) refl is
+  where
+    by :
+        (found : Option Place) → known site value ≡ found
+        → (elim found as (λ (one : Option Place). Option ℕ) [ Some place ↦ place_number place | None ↦ None ]) ≡ Some given
+        → IsKnown site value given
+    by (Some place) known_is number_is = record { place = place; known_is = known_is; number_is = number_is }
+    by None known_is number_is = let never : ⊥ = cc in absurd never
+
+-- the code of the address of a place
+address_if_within :
+    {site : Site} {called : List Bool} {facts last : Facts} {list : List Item} (place : Place) (pushed : ℕ)
+    (here earlier later : Bool)
+    → AreWritten site called facts
+    (if here then []
+    else if earlier then steps.Plain (Inx Hl) ∷ hold_address_steps (Static place)
+    else if later then steps.Plain (Dcx Hl) ∷ hold_address_steps (Static place)
+    else steps.Word (LoadPair Hl) place ∷ hold_address_steps (Static place)) list last
+    → size_of_items list ≤ 3
+address_if_within place pushed true earlier later written = let small = steps_within [] tt written in omega (arith, small)
+address_if_within place pushed false true later written =
+    let small = steps_within (steps.Plain (Inx Hl) ∷ hold_address_steps (Static place)) (tt, (tt, tt)) written in
+    omega (arith, small)
+address_if_within place pushed false false true written =
+    let small = steps_within (steps.Plain (Dcx Hl) ∷ hold_address_steps (Static place)) (tt, (tt, tt)) written in
+    omega (arith, small)
+address_if_within place pushed false false false written =
+    let small = steps_within (steps.Word (LoadPair Hl) place ∷ hold_address_steps (Static place)) (tt, (tt, tt)) written in
+    omega (arith, small)
+
+-- a known word
+known_word_within :
+    {site : Site} {called : List Bool} {facts last : Facts} {list : List Item} (at : Site) (value : ExpressionNumber)
+    (place : Place) (pushed : ℕ)
+    → known at value ≡ Some place
+    → AreWritten site called facts (word_steps at value pushed) list last
+    → size_of_items list ≤ 3
+unfolding word_steps
+known_word_within at value place pushed is written =
+    address_if_within place pushed (is_at at.facts.address_in_hl (Static place))
+    (is_at at.facts.address_in_hl (before (Static place)))
+    (is_at at.facts.address_in_hl (location_after (Static place) 1))
+    (rw (is, word_steps) at written)
+
+-- a known low byte
+number_within :
+    {site : Site} {called : List Bool} {facts last : Facts} {list : List Item} (number : ℕ) (is_zero : Bool)
+    → AreWritten site called facts
+    (if is_zero then steps.Plain clear_a ∷ [] else steps.Plain (set A number) ∷ []) list last
+    → size_of_items list ≤ 3
+number_within number true written =
+    let small = steps_within (steps.Plain clear_a ∷ []) (tt, tt) written in omega (arith, small)
+number_within number false written =
+    let small = steps_within (steps.Plain (set A number) ∷ []) (tt, tt) written in omega (arith, small)
+
+known_byte_within :
+    {site : Site} {called : List Bool} {facts last : Facts} {list : List Item} (at : Site) (value : ExpressionNumber)
+    (place : Place) (number pushed : ℕ)
+    → known at value ≡ Some place
+    → place_number place ≡ Some number
+    → AreWritten site called facts (byte_steps at value pushed) list last
+    → size_of_items list ≤ 3
+unfolding byte_steps known_byte_steps byte_number_steps
+known_byte_within at value place number pushed is number_is written =
+    number_within (low number) (low number == 0)
+    (rw (number_is, known_byte_steps) at (rw (is, byte_steps) at written))
+
+-- where the facts are others, a value is known by the same number
+known_anywhere :
+    (site : Site) (facts : Facts) (value : ExpressionNumber) → known (knowing site facts) value ≡ known site value
+unfolding known expression
+known_anywhere site facts value = refl
+
+pub known_word_fits :
+    {body : Body} {called : List Bool} (value : ExpressionNumber) (given pushed : ℕ)
+    → number (site_of body) value ≡ Some given
+    → StepsFit body called (part (tasks.Word value) pushed ∷ []) 3
+unfolding task_steps steps_of
+known_word_fits {body = body} {called = called} value given pushed is =
+    let there = number_known (site_of body) value given is in
+    task_fits (tasks.Word value) pushed 3
+    (λ facts last list written. by facts there.place (known_anywhere (site_of body) facts value ∙ there.known_is) written)
+  where
+    by :
+        (facts : Facts) {last : Facts} {list : List Item} (place : Place)
+        → known (knowing (site_of body) facts) value ≡ Some place
+        → IsWritten (site_of body) called facts (record { task = tasks.Word value; pushed = pushed }) list last
+        → size_of_items list ≤ 3
+    by facts place known_is (PartPlanned label written) =
+        known_word_within (knowing (site_of body) facts) value place pushed known_is written
+
+pub known_byte_fits :
+    {body : Body} {called : List Bool} (value : ExpressionNumber) (given pushed : ℕ)
+    → number (site_of body) value ≡ Some given
+    → StepsFit body called (part (tasks.Byte value) pushed ∷ []) 3
+unfolding task_steps steps_of
+known_byte_fits {body = body} {called = called} value given pushed is =
+    let there = number_known (site_of body) value given is in
+    task_fits (tasks.Byte value) pushed 3
+    (λ facts last list written.
+    by facts there.place (known_anywhere (site_of body) facts value ∙ there.known_is) there.number_is written)
+  where
+    by :
+        (facts : Facts) {last : Facts} {list : List Item} (place : Place)
+        → known (knowing (site_of body) facts) value ≡ Some place
+        → place_number place ≡ Some given
+        → IsWritten (site_of body) called facts (record { task = tasks.Byte value; pushed = pushed }) list last
+        → size_of_items list ≤ 3
+    by facts place known_is number_is (PartPlanned label written) =
+        known_byte_within (knowing (site_of body) facts) value place given pushed known_is number_is written

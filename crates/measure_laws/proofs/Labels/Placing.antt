@@ -1,0 +1,40 @@
+-- The labels that the code of a soundly typed module goes to have their places.
+use Rattle.std.specs.Prelude.{◌≡◌, ℕ, Bool, List, Some, slice_get}
+use Rattle.typed_trees.specs.Jumps.{BodyIsSound}
+use Rattle.typed_trees.specs.TypedTrees.{TypedModule, TypedProcedure}
+use Rattle.layout.specs.Storage.{Storage}
+use Rattle.asm8080.specs.declared.item.Item.{Item}
+use Rattle.treecode.specs.declared.module.TreeModule.{TreeModule}
+use Rattle.treecode.specs.Lowered.{IsLowered, labels_numbered_in_list}
+use Rattle.codegen8080.specs.Modules.{IsOwnCode}
+use Rattle.procedure_laws.proofs.Labels.{main_label_has_one_number, procedure_label_has_one_number}
+use Rattle.measure_laws.specs.Sound.{IsSound}
+use Rattle.measure_laws.proofs.Bounds.Constants.{holds_at}
+use Rattle.measure_laws.specs.internal.Modules.{LabelsHavePlaces}
+use Rattle.measure_laws.proofs.Labels.Modules.{own_code_goes}
+use Rattle.measure_laws.proofs.Labels.Statements.{LabelsDiffer}
+
+-- no label of a body has two numbers
+body_differs :
+    (typed : TypedModule) (procedure : TypedProcedure) (index : ℕ)
+    → IsSound typed
+    → slice_get typed.procedures index ≡ Some procedure
+    → LabelsDiffer (labels_numbered_in_list procedure.body)
+body_differs typed procedure index sound there =
+    procedure_label_has_one_number typed index procedure sound.jumps
+    (holds_at (λ (given : TypedProcedure). BodyIsSound given.body) typed.procedures index procedure
+    sound.jumps.procedures there).stands there
+
+main_differs : (typed : TypedModule) → IsSound typed → LabelsDiffer (labels_numbered_in_list typed.main.body)
+main_differs typed sound = main_label_has_one_number typed sound.jumps
+
+-- each label that its own code goes to is bound there, or is that of a routine that it calls
+pub labels_have_places :
+    (typed : TypedModule) (storage : Storage) (tree : TreeModule) (called : List Bool) (start : ℕ) (own : List Item)
+    → IsSound typed
+    → IsLowered typed storage tree
+    → IsOwnCode tree called start own
+    → LabelsHavePlaces tree called own
+labels_have_places typed storage tree called start own sound lowered is =
+    own_code_goes typed storage tree called start own lowered sound.jumps is
+    (λ procedure index there. body_differs typed procedure index sound there) (main_differs typed sound)

@@ -1,0 +1,5 @@
+pub mod Sizes
+pub mod Heights
+pub mod Bounds
+pub mod Labels
+pub mod Trees

@@ -1,0 +1,120 @@
+-- What is written for steps takes no more bytes than the steps do, where the code of each task does not.
+use Rattle.std.proofs.Common.{◌≡◌, ℕ, ◌+◌, ◌≤◌, Bool, true, false, List, [], ◌∷◌, ◌++◌, Option, Some, None, slice_get, if◌then◌else◌, arith}
+use Rattle.layout.specs.Storage.{Storage}
+use Rattle.asm8080.specs.declared.item.Item.{Item}
+use Rattle.asm8080.specs.declared.item.Item.TheVariants as items
+use Rattle.asm8080.specs.Items.{size_of_items}
+use Rattle.treecode.specs.declared.procedure.ProcedureKind.{ProcedureKind}
+use Rattle.treecode.specs.declared.procedure.ProcedureKind.TheVariants as kinds
+use Rattle.treecode.specs.declared.procedure.TreeProcedure.{TreeProcedure}
+use Rattle.steps8080.specs.declared.facts.Facts.{Facts}
+use Rattle.steps8080.specs.declared.step.Part.{Part}
+use Rattle.steps8080.specs.declared.step.Step.{Step}
+use Rattle.steps8080.specs.declared.sites.site.Site.{Site}
+use Rattle.exprgen8080.specs.Emission.{AreWritten, CallWritten, ChangeWritten, HoldsWritten, IsWritten, JumpWritten, MarkWritten, NoneWritten, PartWritten, PlainWritten, Planned, RoutineWritten, TestWritten, WordWritten, call_items, items_of_call, knowing, test_items, test_of_a}
+use Rattle.exprgen8080.specs.Forms.{task_steps}
+use Rattle.measure_laws.specs.internal.Sizes.{size_of_steps}
+use Rattle.measure_laws.specs.internal.Parts.{AreOfTrees, Fit, IsOfTree, size_of_task}
+
+size_of_kind : (procedure : ℕ) (kind : ProcedureKind) → size_of_items (items_of_call procedure kind) ≤ 3
+size_of_kind procedure kinds.Static = omega arith
+size_of_kind procedure kinds.Reentrant = omega arith
+size_of_kind procedure (kinds.External name) = omega arith
+
+pub size_of_call : (site : Site) (procedure : ℕ) → size_of_items (call_items site procedure) ≤ 3
+size_of_call site procedure = by (slice_get site.tree.now.procedures.items procedure)
+  where
+    by : (found : Option TreeProcedure)
+        → size_of_items (elim found [ Some one ↦ items_of_call procedure one.kind | None ↦ [] ]) ≤ 3
+    by (Some one) = size_of_kind procedure one.kind
+    by None = omega arith
+
+pub size_of_test : (facts : Facts) → size_of_items (test_items facts) ≤ 1
+size_of_test facts = by facts.zero_shows_a
+  where
+    by : (shows : Bool) → size_of_items (if shows then [] else items.Plain test_of_a ∷ []) ≤ 1
+    by true = omega arith
+    by false = omega arith
+
+pub items_joined :
+    (first others : List Item) → size_of_items (first ++ others) ≡ size_of_items first + size_of_items others
+items_joined [] others = omega arith
+items_joined (item ∷ first) others =
+    let more : size_of_items (first ++ others) ≡ size_of_items first + size_of_items others =
+    items_joined first others in
+    omega (arith, more)
+
+-- the code of each task that is of a tree fits, if it is written at all
+abbrev pub TasksFit : Site → Storage → (called : List Bool) → Type 0
+TasksFit site storage called =
+    (facts last : Facts) (part : Part) (list : List Item) (label : ℕ)
+    → IsOfTree site storage part.task
+    → AreWritten site called facts (task_steps (knowing site facts) part label) list last
+    → Fit site storage (task_steps (knowing site facts) part label) (size_of_task site part.task)
+
+mutual
+  -- the items of steps
+  pub steps_written :
+      (site : Site) (storage : Storage) (called : List Bool) {facts last : Facts} {planned : List Step}
+      {list : List Item}
+      → TasksFit site storage called
+      → AreOfTrees site storage planned
+      → AreWritten site called facts planned list last
+      → size_of_items list ≤ size_of_steps (size_of_task site) planned
+  steps_written site storage called fit are NoneWritten = omega arith
+  steps_written site storage called fit are (PlainWritten {others = others} {more = more} rest) =
+      let after : size_of_items more ≤ size_of_steps (size_of_task site) others =
+      steps_written site storage called fit are rest in
+      omega (arith, after)
+  steps_written site storage called fit are (WordWritten {others = others} {more = more} rest) =
+      let after : size_of_items more ≤ size_of_steps (size_of_task site) others =
+      steps_written site storage called fit are rest in
+      omega (arith, after)
+  steps_written site storage called fit are (JumpWritten {others = others} {more = more} rest) =
+      let after : size_of_items more ≤ size_of_steps (size_of_task site) others =
+      steps_written site storage called fit are rest in
+      omega (arith, after)
+  steps_written site storage called fit are (MarkWritten {others = others} {more = more} rest) =
+      let after : size_of_items more ≤ size_of_steps (size_of_task site) others =
+      steps_written site storage called fit are rest in
+      omega (arith, after)
+  steps_written site storage called fit are (RoutineWritten {others = others} {more = more} has rest) =
+      let after : size_of_items more ≤ size_of_steps (size_of_task site) others =
+      steps_written site storage called fit are rest in
+      omega (arith, after)
+  steps_written site storage called fit are (CallWritten {procedure = procedure} {others = others} {more = more} rest) =
+      let after : size_of_items more ≤ size_of_steps (size_of_task site) others =
+      steps_written site storage called fit are rest in
+      omega (arith, after, size_of_call site procedure, items_joined (call_items site procedure) more)
+  steps_written site storage called fit are (TestWritten {facts = facts} {others = others} {more = more} rest) =
+      let after : size_of_items more ≤ size_of_steps (size_of_task site) others =
+      steps_written site storage called fit are rest in
+      omega (arith, after, size_of_test facts, items_joined (test_items facts) more)
+  steps_written site storage called fit are (HoldsWritten {others = others} {more = more} rest) =
+      let after : size_of_items more ≤ size_of_steps (size_of_task site) others =
+      steps_written site storage called fit are rest in
+      omega (arith, after)
+  steps_written site storage called fit are (ChangeWritten {others = others} {more = more} rest) =
+      let after : size_of_items more ≤ size_of_steps (size_of_task site) others =
+      steps_written site storage called fit are rest in
+      omega (arith, after)
+  steps_written site storage called fit are (PartWritten {part = part} {others = others} {first = first} {more = more} one rest) =
+      let before : size_of_items first ≤ size_of_task site part.task =
+      part_written site storage called fit are.0 one in
+      let after : size_of_items more ≤ size_of_steps (size_of_task site) others =
+      steps_written site storage called fit are.1 rest in
+      omega (arith, before, after, items_joined first more)
+
+  -- the items of a part
+  pub part_written :
+      (site : Site) (storage : Storage) (called : List Bool) {facts last : Facts} {part : Part} {list : List Item}
+      → TasksFit site storage called
+      → IsOfTree site storage part.task
+      → IsWritten site called facts part list last
+      → size_of_items list ≤ size_of_task site part.task
+  part_written site storage called {facts = facts} {last = last} {part = part} {list = list} fit is (Planned label written) =
+      let planned : Fit site storage (task_steps (knowing site facts) part label) (size_of_task site part.task) =
+      fit facts last part list label is written in
+      let all : size_of_items list ≤ size_of_steps (size_of_task site) (task_steps (knowing site facts) part label) =
+      steps_written site storage called fit planned.parts written in
+      omega (arith, all, planned.small)

@@ -1,0 +1,54 @@
+-- Code of statements that takes no more bytes than its weight allows.
+use Rattle.std.specs.Prelude.{◌≡◌, ℕ, ◌+◌, ◌≤◌, Bool, List, Option}
+use Rattle.typed_trees.specs.TypedTrees.{TypedList, TypedStatement, LabelStatement}
+use Rattle.typed_trees.specs.Weight.{weight_of_list, weight_of_statement}
+use Rattle.layout.specs.Storage.{Storage}
+use Rattle.asm8080.specs.declared.item.Item.{Item}
+use Rattle.asm8080.specs.Items.{size_of_items}
+use Rattle.treecode.specs.declared.lists.Range.{Range}
+use Rattle.treecode.specs.declared.module.TreeModule.{TreeModule}
+use Rattle.treecode.specs.declared.statement.StatementNumber.{StatementNumber}
+use Rattle.steps8080.specs.declared.facts.Facts.{Facts}
+use Rattle.steps8080.specs.declared.sites.site.Site.{Site}
+use Rattle.statements8080.specs.declared.body.Body.{Body}
+use Rattle.statements8080.specs.declared.plan.Planned.{Planned}
+use Rattle.codegen8080.specs.declared.meeting.Here.{Here}
+use Rattle.codegen8080.specs.Generated.{AreCarriedOut, IsCarriedOut, IsListCarriedOut}
+use Rattle.measure_laws.specs.internal.Sizes.{PartsFit, bytes_for}
+
+-- the code of planned steps takes at most so many bytes, wherever it stands
+pub record StepsFit (body : Body) (called : List Bool) (steps : List Planned) (most : ℕ) : Type 0 where
+  pub fits :
+      {here last : Here} {waiting : Option Facts} {list : List Item}
+      → AreCarriedOut body called here waiting steps list last
+      → size_of_items list ≤ most
+
+-- how many bytes of those for its weight the code of a statement leaves free: for an entry in the table of a DO
+-- CASE, and for the jump after it
+abbrev pub SPARED_BY_STATEMENT : ℕ
+SPARED_BY_STATEMENT = 8
+
+-- a label weighs nothing, and leaves none
+abbrev pub spared_by : TypedStatement → ℕ
+spared_by (LabelStatement label) = 0
+spared_by statement = SPARED_BY_STATEMENT
+
+-- the code of a statement is not too long for its tree
+pub record StatementFits
+    (body : Body) (called : List Bool) (number : StatementNumber) (tree : TypedStatement) : Type 0 where
+  pub fits :
+      {before : Facts} {after : Here} {list : List Item}
+      → IsCarriedOut body called before number list after
+      → size_of_items list + spared_by tree ≤ bytes_for (weight_of_statement tree)
+
+-- and that of a list
+pub record ListFits (body : Body) (called : List Bool) (range : Range) (tree : TypedList) : Type 0 where
+  pub fits :
+      {before : Facts} {after : Here} {list : List Item}
+      → IsListCarriedOut body called before range list after
+      → size_of_items list ≤ bytes_for (weight_of_list tree)
+
+-- the code of the parts of expressions of a module is not too long for what it is of, wherever it stands
+abbrev pub AllPartsFit : TreeModule → Storage → Type 0
+AllPartsFit tree storage =
+    (site : Site) (called : List Bool) → site.tree.now ≡ tree → PartsFit site storage called

@@ -1,0 +1,85 @@
+-- The labels of planned steps: those that they go to, and those that they bind.
+use Rattle.std.specs.Prelude.{◌≡◌, ◌⊎◌, ℕ, Bool, List, [], ◌∷◌, Some}
+use Rattle.asm8080.specs.declared.item.Item.{Item}
+use Rattle.treecode.specs.declared.lists.Range.{Range}
+use Rattle.treecode.specs.declared.statement.StatementNumber.{StatementNumber}
+use Rattle.steps8080.specs.declared.facts.Facts.{Facts}
+use Rattle.steps8080.specs.declared.step.LabelNumber.{LabelNumber}
+use Rattle.steps8080.specs.declared.step.Step.TheVariants as steps
+use Rattle.steps8080.specs.declared.step.Task.{Task}
+use Rattle.steps8080.specs.declared.step.Task.TheVariants as tasks
+use Rattle.statements8080.specs.declared.body.Body.{Body}
+use Rattle.statements8080.specs.declared.plan.Planned.{Planned}
+use Rattle.statements8080.specs.declared.plan.Planned.TheVariants as planned
+use Rattle.statements8080.specs.Branches.{goto_label}
+use Rattle.codegen8080.specs.declared.meeting.Here.{Here}
+use Rattle.codegen8080.specs.Generated.{IsCarriedOut, IsListCarriedOut}
+use Rattle.measure_laws.specs.internal.Items.{ItemsBind, ItemsGo}
+
+-- a task goes to a label of these, if it is a jump by a condition, and something is true of what follows it
+abbrev pub TaskThen : (ok : ℕ → Type 0) → Task → Type 0 → Type 0
+TaskThen ok (tasks.Branch condition label sense) others = ok label.index × others
+TaskThen ok (tasks.Byte number) others = others
+TaskThen ok (tasks.Word number) others = others
+TaskThen ok (tasks.Effects number) others = others
+TaskThen ok (tasks.Address reference) others = others
+TaskThen ok (tasks.Store target is_wanted) others = others
+TaskThen ok (tasks.Call procedure arguments) others = others
+
+-- planned steps go to labels of these alone; the statements and the lists in them are of some kind
+abbrev pub PlanGoes :
+    (ok : ℕ → Type 0) → (statement : StatementNumber → Type 0) → (list : Range → Type 0) → List Planned → Type 0
+PlanGoes ok statement list [] = Unit {0}
+PlanGoes ok statement list (planned.Code (steps.Part part) ∷ others) =
+    TaskThen ok part.task (PlanGoes ok statement list others)
+PlanGoes ok statement list (planned.Code (steps.Jump form label) ∷ others) =
+    ok label.index × PlanGoes ok statement list others
+PlanGoes ok statement list (planned.Code (steps.Mark label) ∷ others) = PlanGoes ok statement list others
+PlanGoes ok statement list (planned.Code (steps.Plain i) ∷ others) = PlanGoes ok statement list others
+PlanGoes ok statement list (planned.Code (steps.Word form place) ∷ others) = PlanGoes ok statement list others
+PlanGoes ok statement list (planned.Code (steps.CallRoutine routine) ∷ others) = PlanGoes ok statement list others
+PlanGoes ok statement list (planned.Code (steps.CallProcedure procedure) ∷ others) = PlanGoes ok statement list others
+PlanGoes ok statement list (planned.Code steps.TestA ∷ others) = PlanGoes ok statement list others
+PlanGoes ok statement list (planned.Code (steps.Holds held) ∷ others) = PlanGoes ok statement list others
+PlanGoes ok statement list (planned.Code steps.MemoryChanged ∷ others) = PlanGoes ok statement list others
+PlanGoes ok statement list (planned.Statement number ∷ others) = statement number × PlanGoes ok statement list others
+PlanGoes ok statement list (planned.List range ∷ others) = list range × PlanGoes ok statement list others
+PlanGoes ok statement list (planned.LoadByte reference ∷ others) = PlanGoes ok statement list others
+PlanGoes ok statement list (planned.LoadWord reference ∷ others) = PlanGoes ok statement list others
+PlanGoes ok statement list (planned.Jumped alone ∷ others) = PlanGoes ok statement list others
+PlanGoes ok statement list (planned.JumpOn label ∷ others) = ok label.index × PlanGoes ok statement list others
+PlanGoes ok statement list (planned.Turn other end ∷ others) = ok end.index × PlanGoes ok statement list others
+PlanGoes ok statement list (planned.Meet label ∷ others) = PlanGoes ok statement list others
+PlanGoes ok statement list (planned.Again label facts is_entered ∷ others) = PlanGoes ok statement list others
+PlanGoes ok statement list (planned.Reaches goes_on ∷ others) = PlanGoes ok statement list others
+
+-- a label is bound by a planned step, by one of planned steps
+abbrev pub PlannedBinds : (label : ℕ) → Planned → Type 0
+PlannedBinds label (planned.Code (steps.Mark other)) = label ≡ other.index
+PlannedBinds label (planned.Code step) = ⊥
+PlannedBinds label (planned.Turn other end) = label ≡ other.index
+PlannedBinds label (planned.Meet other) = label ≡ other.index
+PlannedBinds label (planned.Again other facts is_entered) = label ≡ other.index
+PlannedBinds label step = ⊥
+
+abbrev pub PlanBinds : (label : ℕ) → List Planned → Type 0
+PlanBinds label [] = ⊥
+PlanBinds label (step ∷ others) = PlannedBinds label step ⊎ PlanBinds label others
+
+-- The code of a statement goes to labels of these, where those are among them that it binds; so does the jump that stands for
+-- it where it is a GOTO.
+pub record StatementGoes (ok : ℕ → Type 0) (body : Body) (called : List Bool) (number : StatementNumber) : Type 0 where
+  pub goes :
+      {facts : Facts} {last : Here} {list : List Item}
+      → IsCarriedOut body called facts number list last
+      → ((label : ℕ) → ItemsBind label list → ok label)
+      → ItemsGo ok list
+  pub goto : (label : LabelNumber) → goto_label body number ≡ Some label → ok label.index
+
+-- and so does that of a list
+pub record ListGoes (ok : ℕ → Type 0) (body : Body) (called : List Bool) (range : Range) : Type 0 where
+  pub goes :
+      {facts : Facts} {last : Here} {list : List Item}
+      → IsListCarriedOut body called facts range list last
+      → ((label : ℕ) → ItemsBind label list → ok label)
+      → ItemsGo ok list

@@ -1,4 +1,0 @@
-pub mod Bounding
-pub mod Contract
-pub mod Counting
-pub mod Programs

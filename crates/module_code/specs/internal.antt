@@ -1,3 +1,0 @@
--- What object modules of the modules of a program come to, which only proofs and private functions cite.
-pub use Rattle.program_merges.specs.internal.Names
-pub mod Programs

@@ -1,0 +1,35 @@
+use Rattle.std.proofs.Common.{List, rules}
+use Rattle.trees.specs.declared.identifier.Identifier.{Identifier}
+use Rattle.names.specs.Events.{see_all, declares_object}
+use Rattle.names.specs.internal.Walks.{gives}
+use Rattle.names.proofs.Loops.{goes_on, fails_within, ended, hands_on}
+use Rattle.names.proofs.Walks.{gives_turn, gives_nothing}
+use Rattle.names.proofs.binder.Binder.objects.Goals as goal
+
+pub loop-name-preserved : goal.loop-name-preserved
+loop-name-preserved c =
+    goes_on
+    (λ (name : Identifier) walk. gives (declares_object name) walk)
+    (λ (names : List Identifier) walk. gives (see_all declares_object names) walk)
+    (λ name names walk. gives_turn (declares_object name) (see_all declares_object names) walk)
+    c.args.names.now c.loop-name.name-index c.name-item.result c.loop-name.self c.object.new.self _
+    c.loop-name-test.true c.name-item.is c.loop-name.invariant c.in_ok-object.ensures
+
+pub returns-in_err-object : goal.returns-in_err-object
+returns-in_err-object c =
+    hands_on c.from_residual.result c.in_err-object.field-0.0 c.object.new.self _ (search rules)
+    (fails_within
+    (λ (name : Identifier) walk. gives (declares_object name) walk)
+    (λ (names : List Identifier) walk. gives (see_all declares_object names) walk)
+    (λ name names walk. gives_turn (declares_object name) (see_all declares_object names) walk)
+    c.args.names.now c.loop-name.name-index c.name-item.result c.loop-name.self _ _
+    c.loop-name-test.true c.name-item.is c.loop-name.invariant c.in_err-object.ensures)
+
+pub returns : goal.returns
+returns c =
+    ended
+    (λ (name : Identifier) walk. gives (declares_object name) walk)
+    (λ (names : List Identifier) walk. gives (see_all declares_object names) walk)
+    (λ name names walk. gives_turn (declares_object name) (see_all declares_object names) walk)
+    c.args.names.now c.loop-name.name-index c.loop-name.self _ _ c.loop-name-test.false c.loop-name.invariant
+    (gives_nothing c.loop-name.self)

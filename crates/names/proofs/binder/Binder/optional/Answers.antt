@@ -1,0 +1,8 @@
+use Rattle.names.proofs.Walks.{uses_done, walk_at}
+use Rattle.names.proofs.binder.Binder.optional.Goals as goal
+
+pub returns : goal.returns
+returns c =
+    rw (← c.self.view_is)
+    (uses_done c.bind_optional.result _ (walk_at c.self.inside.scopes c.self.inside.bindings.items)
+    c.bind_optional.new.bindings.items c.bind_optional.ensures)

@@ -1,0 +1,9 @@
+use Rattle.std.proofs.Common.{arith}
+use Rattle.names.proofs.Walks.{bound_cons_ok, fails_cons}
+use Rattle.names.proofs.uses.bind_call.Goals as goal
+
+pub returns-in_err-bind_name : goal.returns-in_err-bind_name
+returns-in_err-bind_name c = grind (arith, fails_cons)
+
+pub returns : goal.returns
+returns c = grind (arith, bound_cons_ok)

@@ -1,0 +1,6 @@
+use Rattle.std.proofs.Common.{arith}
+use Rattle.names.proofs.Walks.{bound_none}
+use Rattle.names.proofs.uses.bind_optional.Goals as goal
+
+pub returns-in-None : goal.returns-in-None
+returns-in-None c = grind (arith, bound_none)

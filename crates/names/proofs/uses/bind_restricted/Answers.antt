@@ -1,0 +1,6 @@
+use Rattle.std.proofs.Common.{arith}
+use Rattle.names.proofs.Walks.{bound_none}
+use Rattle.names.proofs.uses.bind_restricted.Goals as goal
+
+pub returns-in-Constant : goal.returns-in-Constant
+returns-in-Constant c = grind (arith, bound_none)

@@ -1,0 +1,11 @@
+use Rattle.std.proofs.Common.{◌≡◌, drop, map}
+use Rattle.std.specs.List.{flat_map}
+use Rattle.trees.specs.Views.{reference_tree}
+use Rattle.names.specs.Uses.{names_in_reference}
+use Rattle.names.specs.internal.Walks.{bound_at}
+use Rattle.names.proofs.uses.bind_targets.Given as goal
+
+abbrev pub invariant-loop-target : goal.invariant-loop-target
+invariant-loop-target l =
+    bound_at l.scopes (flat_map names_in_reference (map reference_tree (drop l.target-index l.targets))) l.bindings.items
+    ≡ bound_at l.scopes (flat_map names_in_reference (map reference_tree l.targets)) l.initial.bindings.items

@@ -1,2 +1,0 @@
-pub mod NeedsPrinted
-pub mod Refused

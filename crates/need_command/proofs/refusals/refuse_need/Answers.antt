@@ -1,6 +1,0 @@
-use Rattle.std.proofs.Common.{codes, refl}
-use Rattle.answers.proofs.LinesPrinted.{tells_other}
-use Rattle.need_command.proofs.refusals.refuse_need.Goals as goal
-
-pub returns-in-TooManySources-clause-told : goal.returns-in-TooManySources-clause-told
-returns-in-TooManySources-clause-told g c = tells_other (codes "U1") (codes "-") 0 _ _ refl c.refuse.ensures.told

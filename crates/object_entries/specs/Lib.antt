@@ -1,3 +1,0 @@
-pub mod Views
-pub mod Entries
-pub mod Fixes

@@ -1,2 +1,0 @@
--- What the judgement rests on, and nobody else.
-pub mod States

@@ -1,0 +1,3 @@
+pub mod Files
+pub mod Texts
+pub mod Merges

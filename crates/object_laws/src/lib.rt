@@ -1,0 +1,2 @@
+//! Laws of object files, of their written texts and of merges.
+#![tactic(auto)]

@@ -1,0 +1,84 @@
+-- Before anything is handed out, a walk tells what the parts of its file say.
+use Rattle.std.proofs.Common.{◌≡◌, ℕ, ◌≤◌, true, List, [], ◌∷◌, length, flat_map, refl, ap}
+use Rattle.std.specs.List.{AllByRecursion}
+use Rattle.object_modules.specs.declared.segment.Fix.{Fix}
+use Rattle.object_modules.specs.declared.segment.Segment.TheVariants.{Absolute}
+use Rattle.object_modules.specs.Before.{externals_of, leading_fixes}
+use Rattle.object_modules.specs.Parts.{Part, body_of}
+use Rattle.object_modules.specs.Rules.{is_accepted, are_accepted}
+use Rattle.object_modules.specs.Spelling.{fixed_contents, publics_of}
+use Rattle.object_modules.specs.Walking.{Walking, WalksOver, walk_over, parts_from, externals_left, publics_left, contents_left}
+use Rattle.object_modules.proofs.ReadBack.{both}
+use Rattle.object_laws.proofs.Files.FilesAgain.{limit_of}
+use Rattle.object_laws.proofs.Files.Walks.{parts_from_is}
+use Rattle.object_reading.specs.Entries.{AreParts}
+use Rattle.object_reading.specs.declared.judgement.header.Header.{Header}
+use Rattle.object_reading.specs.Judging.{IsJudged}
+use Rattle.object_reading.proofs.NextParts.{nothing_from}
+
+limits_of :
+    (before later : List Part) → are_accepted before later ≡ true
+    → AllByRecursion (λ part. length (body_of part) ≤ 1027) later
+limits_of before [] accepted = tt
+limits_of before (part ∷ later) accepted =
+    let t = both (is_accepted before part) (are_accepted (part ∷ before) later) accepted in
+    (limit_of before part t.0, limits_of (part ∷ before) later t.1)
+
+-- a file is parts, one after another
+pub parts_at_front : (bytes : List ℕ) (header : Header) → IsJudged bytes header → AreParts bytes
+parts_at_front bytes header j = record {
+  parts = j.parts;
+  spelled = (j.file).spelled;
+  limits = limits_of [] j.parts (j.file).accepted;
+}
+
+-- so are no bytes
+pub no_parts : AreParts []
+no_parts = record { parts = []; spelled = refl; limits = tt }
+
+-- what a walk tells once a file is judged, where these fixes are left
+abbrev pub told : (bytes : List ℕ) → Header → List Fix → Walking
+told bytes header fixes = record {
+  name = (header.name).now;
+  code_length = header.code_length;
+  code_alignment = header.code_alignment;
+  data_length = header.data_length;
+  data_alignment = header.data_alignment;
+  stack_length = header.stack_length;
+  start = header.start;
+  externals = externals_left [] bytes;
+  publics = publics_left Absolute [] bytes;
+  contents = contents_left bytes;
+  fixes = fixes;
+}
+
+told_is :
+    (bytes : List ℕ) (header : Header) (j : IsJudged bytes header) (fixes : List Fix) → fixes ≡ []
+    → told bytes header fixes ≡ walk_over j.parts
+unfolding walk_over
+told_is bytes header j fixes none =
+    let parts : parts_from bytes ≡ j.parts = parts_from_is bytes j.parts j.file in
+    let a : flat_map externals_of (parts_from bytes) ≡ flat_map externals_of j.parts = ap (flat_map externals_of) parts in
+    let b : flat_map publics_of (parts_from bytes) ≡ flat_map publics_of j.parts = ap (flat_map publics_of) parts in
+    let c : fixed_contents (parts_from bytes) ≡ fixed_contents j.parts = ap fixed_contents parts in
+    let name = j.name in
+    let code_length = j.code_length in
+    let code_alignment = j.code_alignment in
+    let data_length = j.data_length in
+    let data_alignment = j.data_alignment in
+    let stack_length = j.stack_length in
+    let start = j.start in
+    cc
+
+-- no fixes are left before a content is handed out
+no_fixes : leading_fixes Absolute (parts_from []) ≡ []
+no_fixes = ap (leading_fixes Absolute) nothing_from
+
+pub walks_over :
+    (bytes : List ℕ) (header : Header) → IsJudged bytes header
+    → WalksOver bytes (told bytes header (leading_fixes Absolute (parts_from [])))
+walks_over bytes header j = record {
+  parts = j.parts;
+  file = j.file;
+  from_the_front = told_is bytes header j (leading_fixes Absolute (parts_from [])) no_fixes;
+}

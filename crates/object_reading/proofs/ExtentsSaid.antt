@@ -1,0 +1,78 @@
+-- What is said of each segment, once all entries of a header are read.
+use Rattle.std.proofs.Common.{◌≡◌, true, false, List, refl, sym}
+use Rattle.object_modules.specs.declared.segment.Segment.{Segment}
+use Rattle.object_modules.specs.declared.segment.Segment.TheVariants.{Absolute, Code, Data, Stack}
+use Rattle.object_modules.specs.Before.{same_segment, length_in}
+use Rattle.object_modules.specs.Parts.{SegmentEntry}
+use Rattle.object_modules.specs.Rules.{ascend_from}
+use Rattle.object_modules.specs.Spelling.{alignment_with, alignment_in}
+use Rattle.object_reading.specs.declared.rules.extents.Extents.{Extents}
+use Rattle.object_reading.specs.Headers.{nothing_said, extents_with, extents_after}
+use Rattle.object_reading.proofs.HeaderLaws.{said_of}
+use Rattle.object_reading.proofs.KnownAfter.{never}
+
+-- an entry of another segment says nothing of this one
+code_stays :
+    (other : Segment) (entry : SegmentEntry) (extents : Extents) → same_segment other Code ≡ false
+    → ((extents_with other entry extents).code_length ≡ extents.code_length)
+    × ((extents_with other entry extents).code_alignment ≡ extents.code_alignment)
+code_stays Absolute entry extents e = (refl, refl)
+code_stays Code entry extents e = never (sym e)
+code_stays Data entry extents e = (refl, refl)
+code_stays Stack entry extents e = (refl, refl)
+
+data_stays :
+    (other : Segment) (entry : SegmentEntry) (extents : Extents) → same_segment other Data ≡ false
+    → ((extents_with other entry extents).data_length ≡ extents.data_length)
+    × ((extents_with other entry extents).data_alignment ≡ extents.data_alignment)
+data_stays Absolute entry extents e = (refl, refl)
+data_stays Code entry extents e = (refl, refl)
+data_stays Data entry extents e = never (sym e)
+data_stays Stack entry extents e = (refl, refl)
+
+stack_stays :
+    (other : Segment) (entry : SegmentEntry) (extents : Extents) → same_segment other Stack ≡ false
+    → (extents_with other entry extents).stack_length ≡ extents.stack_length
+stack_stays Absolute entry extents e = refl
+stack_stays Code entry extents e = refl
+stack_stays Data entry extents e = refl
+stack_stays Stack entry extents e = never (sym e)
+
+pub code_length_said :
+    (entries : List SegmentEntry) → ascend_from 0 entries ≡ true
+    → (extents_after entries nothing_said).code_length ≡ length_in entries Code
+code_length_said entries ascending =
+    said_of (λ (extents : Extents). extents.code_length) (λ (entry : SegmentEntry). entry.length) Code
+    (λ entry extents. refl) (λ other entry extents e. (code_stays other entry extents e).0) entries 0 nothing_said
+    ascending
+
+pub code_alignment_said :
+    (entries : List SegmentEntry) → ascend_from 0 entries ≡ true
+    → (extents_after entries nothing_said).code_alignment ≡ alignment_in entries Code
+code_alignment_said entries ascending =
+    said_of (λ (extents : Extents). extents.code_alignment) alignment_with Code
+    (λ entry extents. refl) (λ other entry extents e. (code_stays other entry extents e).1) entries 0 nothing_said
+    ascending
+
+pub data_length_said :
+    (entries : List SegmentEntry) → ascend_from 0 entries ≡ true
+    → (extents_after entries nothing_said).data_length ≡ length_in entries Data
+data_length_said entries ascending =
+    said_of (λ (extents : Extents). extents.data_length) (λ (entry : SegmentEntry). entry.length) Data
+    (λ entry extents. refl) (λ other entry extents e. (data_stays other entry extents e).0) entries 0 nothing_said
+    ascending
+
+pub data_alignment_said :
+    (entries : List SegmentEntry) → ascend_from 0 entries ≡ true
+    → (extents_after entries nothing_said).data_alignment ≡ alignment_in entries Data
+data_alignment_said entries ascending =
+    said_of (λ (extents : Extents). extents.data_alignment) alignment_with Data
+    (λ entry extents. refl) (λ other entry extents e. (data_stays other entry extents e).1) entries 0 nothing_said
+    ascending
+
+pub stack_length_said :
+    (entries : List SegmentEntry) → ascend_from 0 entries ≡ true
+    → (extents_after entries nothing_said).stack_length ≡ length_in entries Stack
+stack_length_said entries ascending =
+    said_of (λ (extents : Extents). extents.stack_length) (λ (entry : SegmentEntry). entry.length) Stack
+    (λ entry extents. refl) stack_stays entries 0 nothing_said ascending

@@ -1,0 +1,10 @@
+use Rattle.std.proofs.Common.{not, ap, ◌∙◌}
+use Rattle.object_modules.specs.Module.{is_among}
+use Rattle.object_reading.proofs.NewNames.{among_borrowed}
+use Rattle.object_reading.proofs.rules.names.NameSet.insert.Goals as goal
+
+pub returns-clause-new : goal.returns-clause-new
+returns-clause-new c =
+    c.in_ok-is_new.ensures.added
+    ∙ ap not
+    (among_borrowed c.args.name.now c.self.inside.keys.keys ∙ ap (is_among c.args.name.now) c.self.view_is)

@@ -1,0 +1,17 @@
+use Rattle.std.proofs.Common.{◌≡◌, length}
+use Rattle.object_modules.specs.Parts.{definition_bytes}
+use Rattle.object_modules.specs.Walking.{publics_left}
+use Rattle.object_reading.specs.Entries.{AreParts, AreEntries}
+use Rattle.object_reading.proofs.walks.cursor.publics_from.Given as goal
+
+abbrev pub invariant-loop-entries : goal.invariant-loop-entries
+invariant-loop-entries l = record {
+  left :
+      publics_left l.segment l.entries l.rest
+      ≡ publics_left l.initial.segment l.initial.entries l.initial.rest;
+  definitions : AreEntries definition_bytes l.entries;
+  after : AreParts l.rest;
+}
+
+abbrev pub decreases-loop-entries : goal.decreases-loop-entries
+decreases-loop-entries l = length l.rest

@@ -1,6 +1,0 @@
-pub mod Sequences
-pub mod Bodies
-pub mod Grouping
-pub mod Items
-pub mod Entries
-pub mod FixTexts

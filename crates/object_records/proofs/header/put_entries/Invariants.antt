@@ -1,9 +1,0 @@
-use Rattle.std.proofs.Common.{◌≡◌, ◌+◌, ◌*◌, ◌≤◌, ◌++◌, length, take, flat_map}
-use Rattle.object_records.specs.Contents.{listed_bytes}
-use Rattle.object_records.proofs.header.put_entries.Given as goal
-
-abbrev pub invariant-loop-entry : goal.invariant-loop-entry
-invariant-loop-entry l = record {
-  bytes : l.body ≡ l.initial.body ++ flat_map listed_bytes (take l.entry-index l.entries);
-  longer : length l.body ≤ length l.initial.body + 4 * l.entry-index;
-}

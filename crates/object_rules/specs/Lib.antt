@@ -1,5 +1,0 @@
-pub mod Headers
-pub mod Order
-pub mod NamesJudged
-pub mod Marks
-pub mod References

@@ -1,3 +1,0 @@
-pub mod NextParts
-pub mod NextFixes
-pub mod AtFront

@@ -1,3 +1,0 @@
-pub use Rattle.object_modules.specs.Walking
-pub use Rattle.object_entries.specs.Views
-pub mod internal

@@ -1,2 +1,0 @@
--- What proofs of walks speak of.
-pub mod Cursors

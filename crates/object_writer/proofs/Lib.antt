@@ -1,4 +1,0 @@
-pub mod Fixes
-pub mod Cutting
-pub mod Texts
-pub mod RunsLeft

@@ -1,6 +1,0 @@
-use Rattle.std.proofs.Common.{◌≡◌, ◌+◌, drop}
-use Rattle.object_writer.specs.internal.Cuts.{count_before}
-use Rattle.object_writer.proofs.cuts.fixes_before.Given as goal
-
-abbrev pub invariant-loop-count : goal.invariant-loop-count
-invariant-loop-count l = l.count + count_before (drop l.count l.fixes) l.place ≡ count_before l.fixes l.place

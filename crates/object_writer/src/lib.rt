@@ -1,8 +1,0 @@
-//! The one text of an object module, written.
-#![tactic(auto)]
-
-mod cuts;
-mod run;
-mod text;
-
-pub use text::write;

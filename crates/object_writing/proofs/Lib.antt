@@ -1,0 +1,10 @@
+pub mod Sequences
+pub mod Bodies
+pub mod Grouping
+pub mod Items
+pub mod Entries
+pub mod FixTexts
+pub mod Fixes
+pub mod Cutting
+pub mod Texts
+pub mod RunsLeft

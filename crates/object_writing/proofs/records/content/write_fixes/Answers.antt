@@ -1,0 +1,24 @@
+use Rattle.failure.proofs.WritingLemmas.{on_err}
+use Rattle.object_writing.proofs.Sequences.{first_begun, second_begun, last_of_three_begun, three, on_ok_then, on_err_then}
+use Rattle.object_writing.proofs.records.content.write_fixes.Goals as goal
+
+pub returns-in_err-write_fixes_to-clause-err : goal.returns-in_err-write_fixes_to-clause-err
+returns-in_err-write_fixes_to-clause-err g c =
+    on_err c.from_residual.result _ (first_begun _ _ _ _ c.in_err-write_fixes_to.ensures.err)
+
+pub returns-in_err-write_fixes_to-2-clause-err : goal.returns-in_err-write_fixes_to-2-clause-err
+returns-in_err-write_fixes_to-2-clause-err g c =
+    on_err c.from_residual-in_err-write_fixes_to-2.result _
+    (second_begun _ _ _ _ _ _ c.in_ok-write_fixes_to.ensures.ok c.in_err-write_fixes_to-2.ensures.err)
+
+pub returns-clause-ok : goal.returns-clause-ok
+returns-clause-ok g c =
+    on_ok_then c.write_others.result _ _ c.write_others.ensures.ok
+    (three (g.W.Write.contents c.args.out.now) (g.W.Write.contents c.write_fixes_to.new.out) (g.W.Write.contents c.write_fixes_to-2.new.out) (g.W.Write.contents c.write_others.new.out)
+    _ _ _ c.in_ok-write_fixes_to.ensures.ok c.in_ok-write_fixes_to-2.ensures.ok)
+
+pub returns-clause-err : goal.returns-clause-err
+returns-clause-err g c =
+    on_err_then c.write_others.result _ _ c.write_others.ensures.err
+    (last_of_three_begun (g.W.Write.contents c.args.out.now) (g.W.Write.contents c.write_fixes_to.new.out) (g.W.Write.contents c.write_fixes_to-2.new.out) (g.W.Write.contents c.write_others.new.out)
+    _ _ _ c.in_ok-write_fixes_to.ensures.ok c.in_ok-write_fixes_to-2.ensures.ok)

@@ -1,0 +1,13 @@
+use Rattle.std.proofs.Common.{ap, subst}
+use Rattle.failure.specs.Writing.{AppendsBeginning}
+use Rattle.failure.proofs.WritingLemmas.{on_err}
+use Rattle.object_writing.specs.Groups.{flushed}
+use Rattle.object_writing.proofs.Bodies.{sizes}
+use Rattle.object_writing.proofs.records.group.Group.add.Goals as goal
+
+pub returns-in_err-make_room-clause-err : goal.returns-in_err-make_room-clause-err
+returns-in_err-make_room-clause-err g c =
+    on_err c.from_residual.result _
+    (subst (AppendsBeginning _ _)
+    (ap (flushed c.args.self.now) (sizes c.args.first.now c.args.middle.now c.args.last.now))
+    c.in_err-make_room.ensures.err)

@@ -1,0 +1,13 @@
+use Rattle.std.proofs.Common.{sym, subst, arith, []}
+use Rattle.std.proofs.lemmas.Bool.{cond-true, lt-ltb}
+use Rattle.failure.specs.Writing.{AppendsBeginning}
+use Rattle.failure.proofs.WritingLemmas.{on_err}
+use Rattle.object_writing.specs.Groups.{group_bytes, room_of}
+use Rattle.object_writing.proofs.records.group.Group.make_room.Goals as goal
+
+pub returns-in_err-write-clause-err : goal.returns-in_err-write-clause-err
+returns-in_err-write-clause-err g c =
+    on_err c.from_residual.result _
+    (subst (AppendsBeginning _ _)
+    (sym (cond-true _ (group_bytes c.args.self.now) [] (lt-ltb (room_of c.args.self.now) c.args.size (omega arith))))
+    c.in_err-write.ensures.err)

@@ -1,0 +1,4 @@
+pub mod Fixes
+pub mod Named
+pub mod Cuts
+pub mod Texts

@@ -1,0 +1,11 @@
+-- Answers of questions that are known.
+use Rattle.std.specs.Prelude.{List, [], ◌∷◌}
+use Rattle.treecode.specs.declared.expression.ExpressionNumber.{ExpressionNumber}
+use Rattle.steps8080.specs.declared.step.Step.{Step}
+use Rattle.steps8080.specs.declared.step.Task.TheVariants.{Effects}
+use Rattle.steps8080.specs.Step.{part}
+use Rattle.operands8080.specs.declared.answers.Setting.{Setting}
+
+-- an operand is evaluated for what that does, where the answer is known
+abbrev pub known_steps : ExpressionNumber → Setting → List Step
+known_steps operand setting = part (Effects operand) setting.pushed ∷ []

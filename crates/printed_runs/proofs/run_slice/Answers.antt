@@ -1,7 +1,0 @@
-use Rattle.std.proofs.Common.{◌∙◌}
-use Rattle.printed_runs.proofs.RunLemmas.{longer}
-use Rattle.printed_runs.proofs.run_slice.Goals as goal
-
-pub write_from-requires : goal.write_from-requires
-write_from-requires g c =
-    rw (c.events-before.ensures.events ∙ c.ports.ensures.events) (longer c.args.limit c.args.machine.now c.run-end.new.self c.run-end.result c.run-end.ensures.run)

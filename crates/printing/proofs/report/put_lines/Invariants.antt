@@ -1,0 +1,10 @@
+use Rattle.std.proofs.Common.{◌≡◌, ◌≤◌, ◌*◌, take}
+use Rattle.std.specs.List.{flat_map}
+use Rattle.printing.specs.Report.{line_of}
+use Rattle.printing.proofs.report.put_lines.Given as goal
+
+abbrev pub invariant-loop-event : goal.invariant-loop-event
+invariant-loop-event l = record {
+  fits : l.end ≤ l.event-index * 10;
+  lines : take l.end l.text ≡ flat_map line_of (take l.event-index l.events);
+}

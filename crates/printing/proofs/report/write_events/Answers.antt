@@ -1,0 +1,28 @@
+use Rattle.std.proofs.Common.{subst, arith}
+use Rattle.std.specs.List.{flat_map}
+use Rattle.std.specs.Io.KnownBytes.{Appends}
+use Rattle.std.proofs.KnownBytes.{Appends-trans}
+use Rattle.std.proofs.Common.{take}
+use Rattle.std.proofs.lemmas.Grind.{common_steps}
+use Rattle.printing.specs.Report.{line_of}
+use Rattle.failure.proofs.WritingLemmas.{beginning_after, on_err}
+use Rattle.printing.proofs.ReportLemmas.{all_written, lines_more, lines_parts}
+use Rattle.printing.proofs.report.write_events.Goals as goal
+
+pub returns-in_err-write_group-clause-err : goal.returns-in_err-write_group-clause-err
+returns-in_err-write_group-clause-err g c =
+    let events = c.args.events.now in
+    on_err c.from_residual.result _ (beginning_after _ _ _ (flat_map line_of (take c.loop-at.at events)) _ _ _
+    (lines_parts events _ c.loop-at.at c.min-count.result (grind (arith, common_steps))) c.loop-at.invariant.written c.in_err-write_group.ensures.err)
+
+pub loop-at-preserved : goal.loop-at-preserved
+loop-at-preserved g c =
+    let events = c.args.events.now in
+    record {
+      fits = omega arith;
+      written = subst (Appends _ _) (lines_more events _ c.loop-at.at c.min-count.result (grind (arith, common_steps)))
+          (Appends-trans _ _ _ _ _ c.loop-at.invariant.written c.in_ok-write_group.ensures.ok);
+    }
+
+pub returns-clause-ok : goal.returns-clause-ok
+returns-clause-ok g c = all_written _ _ c.args.events.now c.loop-at.at (omega arith) c.loop-at.invariant.written

@@ -1,0 +1,14 @@
+use Rattle.std.proofs.Common.{length, take, ◌≤◌, ◌-◌}
+use Rattle.std.specs.List.{flat_map}
+use Rattle.std.specs.Io.KnownBytes.{Appends}
+use Rattle.printing.specs.Report.{line_of}
+use Rattle.printing.proofs.report.write_events.Given as goal
+
+abbrev pub invariant-loop-at : goal.invariant-loop-at
+invariant-loop-at g l = record {
+  fits : l.at ≤ length l.events;
+  written : Appends (g.W.Write.contents l.initial.out) (g.W.Write.contents l.out) (flat_map line_of (take l.at l.events));
+}
+
+abbrev pub decreases-loop-at : goal.decreases-loop-at
+decreases-loop-at g l = length l.events - l.at

@@ -1,7 +1,0 @@
-pub mod Entries
-pub mod Parameters
-pub mod Bytes
-pub mod Frames
-pub mod Homes
-pub mod Short
-pub mod Objects

@@ -1,0 +1,4 @@
+pub mod StaticReturns
+pub mod ReturnsDrop
+pub mod ReturnsOver
+pub mod ReturnsReentrant

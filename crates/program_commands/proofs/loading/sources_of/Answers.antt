@@ -1,8 +1,0 @@
-use Rattle.std.proofs.Common.{arith}
-use Rattle.object_commands.proofs.Lists.{item_added}
-use Rattle.program_commands.proofs.loading.sources_of.Goals as goal
-
-pub loop-text-preserved : goal.loop-text-preserved
-loop-text-preserved c =
-    item_added (λ s. s.text.now) (λ t. t.items) _ c.loop-text.sources.items _ _ c.args.texts.now c.loop-text.text-index c.text-item.result
-    c.loop-text.invariant (omega arith) c.text-item.is c.as_slice.ensures.value c.in_ok-push.ensures.items

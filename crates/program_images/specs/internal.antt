@@ -1,2 +1,0 @@
--- Object modules of programs, at the places that the placement has for them.
-pub mod AtPlans

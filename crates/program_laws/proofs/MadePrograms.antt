@@ -1,0 +1,146 @@
+-- A program whose object modules are made of its modules, linked, placed and loaded, does what its source does.
+use Rattle.std.proofs.Common.{◌≡◌, ℕ, zero, suc, List, [], ◌∷◌, Option, Some, None, Ok, length, refl, sym, subst, ◌∙◌}
+use Rattle.std.specs.Prelude.{slice_get}
+use Rattle.std.proofs.lemmas.Option.{none-some, same_Some}
+use Rattle.mem80.specs.declared.memory.TheConstants.{MEMORY_SIZE}
+use Rattle.mem80.specs.Memory.{IsMemory}
+use Rattle.ports.specs.declared.event.Event.{Event}
+use Rattle.ports.specs.Input.{IsScript}
+use Rattle.object_modules.specs.Image.{Image, image_of}
+use Rattle.object_modules.specs.Merge.{merge_of}
+use Rattle.object_modules.specs.Module.{ObjectModule}
+use Rattle.mem80.specs.Pieces.{IsLoaded}
+use Rattle.typed_trees.specs.TypedTrees.{TypedModule}
+use Rattle.layout.specs.Joined.{IsJoined}
+use Rattle.layout.specs.Lawful.{IsLawful}
+use Rattle.layout.specs.Placing.{Plan as PlacingPlan}
+use Rattle.meaning.specs.Run.{NeverOutside, source_run}
+use Rattle.isa8080.specs.State.{HoldBytes, Registers}
+use Rattle.isa8080.specs.Step.{running, state_after}
+use Rattle.image_laws.specs.internal.AtPlans.{plan_of}
+use Rattle.image_laws.specs.internal.ProgramInMemory.{IsInMemory, placement_of}
+use Rattle.image_laws.proofs.Memory.Modules.{is_linked}
+use Rattle.program_laws.specs.Made.{AreMadeOf}
+use Rattle.program_laws.proofs.Made.{is_in_memory}
+use Rattle.program_laws.specs.Agreement.{Agrees}
+use Rattle.program_laws.specs.internal.Entering.{ModulesAre}
+use Rattle.program_laws.specs.internal.Linked.{ModuleIs}
+use Rattle.program_laws.specs.Typed.{AreSoundlyMade, IsSoundlyMade}
+use Rattle.program_laws.proofs.Programs.{program_does}
+
+-- without what is known of their types and words
+pub are_made : (modules : List TypedModule) (objects : List ObjectModule)
+    → AreSoundlyMade modules objects
+    → AreMadeOf modules objects
+are_made [] [] made = tt
+are_made [] (object ∷ objects) made = absurd made
+are_made (typed ∷ modules) [] made = absurd made
+are_made (typed ∷ modules) (object ∷ objects) made = (made.0.made, are_made modules objects made.1)
+
+-- one of them
+record SoundAt (objects : List ObjectModule) (number : ℕ) (typed : TypedModule) : Type 0 where
+  object : ObjectModule
+  found : slice_get objects number ≡ Some object
+  sound : IsSoundlyMade typed object
+
+sound_at : (modules : List TypedModule) (objects : List ObjectModule) (number : ℕ) (typed : TypedModule)
+    → AreSoundlyMade modules objects
+    → slice_get modules number ≡ Some typed
+    → SoundAt objects number typed
+sound_at [] objects number typed made found = absurd (none-some typed found)
+sound_at (first ∷ modules) [] number typed made found = absurd made
+sound_at (first ∷ modules) (object ∷ objects) zero typed made found = record {
+  object = object;
+  found = refl;
+  sound = subst (λ (typed : TypedModule). IsSoundlyMade typed object) (same_Some first typed found) made.0;
+}
+sound_at (first ∷ modules) (object ∷ objects) (suc number) typed made found =
+    let rest = sound_at modules objects number typed made.1 found in
+    record { object = rest.object; found = rest.found; sound = rest.sound }
+
+module _
+    (plan : PlacingPlan) (modules : List TypedModule) (objects : List ObjectModule) (merged : ObjectModule)
+    (image : Image) (before after : List ℕ)
+    (made : AreSoundlyMade modules objects)
+    (is : IsInMemory plan modules objects merged image before after)
+  where
+    abbrev At : ℕ → Type 0
+    At number = ModuleIs plan modules objects merged before after number
+
+    module_at : (number : ℕ) (typed : TypedModule) → slice_get modules number ≡ Some typed → At number
+    module_at number typed found =
+        let sound = sound_at modules objects number typed made found in
+        let linked = is_linked plan modules objects merged image before after is number typed found in
+        record {
+          typed = typed;
+          found = found;
+          at = linked;
+          sound =
+              subst (IsSoundlyMade typed)
+              (same_Some sound.object linked.linked.object (sym sound.found ∙ linked.object_found)) sound.sound;
+        }
+
+    found_at : (number : ℕ) (found : Option TypedModule) → slice_get modules number ≡ found → Option (At number)
+    found_at number None there = None
+    found_at number (Some typed) there = Some (module_at number typed there)
+
+    all_at : (number : ℕ) (typed : TypedModule) (found : Option TypedModule) (there : slice_get modules number ≡ found)
+        → found ≡ Some typed
+        → (module_is : At number) × (found_at number found there ≡ Some module_is)
+    unfolding found_at
+    all_at number typed None there same = absurd (none-some typed same)
+    all_at number typed (Some other) there same = (module_at number other there, refl)
+
+    modules_are : ModulesAre plan modules objects merged before after
+    modules_are = record {
+      at = λ number. found_at number (slice_get modules number) refl;
+      all = λ number typed found. all_at number typed (slice_get modules number) refl found;
+    }
+
+    in_memory_does :
+        (script : List (List ℕ)) (events : List Event) (r : Registers)
+        → IsScript script
+        → IsMemory after
+        → HoldBytes r
+        → NeverOutside
+        (λ (budget : ℕ).
+        source_run modules (placement_of plan modules objects) (placement_of plan modules objects).stack.len before script events
+        budget)
+        → Agrees
+        (λ (budget : ℕ).
+        source_run modules (placement_of plan modules objects) (placement_of plan modules objects).stack.len before script events
+        budget)
+        (λ (steps : ℕ). state_after script steps (running (record r { pc = image.start }) after events))
+    in_memory_does script events r bytes is_memory registers never =
+        program_does plan modules objects merged image before after is script bytes is_memory modules_are events r registers never
+
+-- The machine performs exactly the port reads and writes of the source, in order and with the same values, and halts
+-- exactly if the source ends, for every starting memory and every script.
+pub made_program_does :
+    (plan : PlacingPlan) (modules : List TypedModule) (objects : List ObjectModule) (merged : ObjectModule)
+    (image : Image) (before after : List ℕ)
+    → IsJoined modules
+    → AreSoundlyMade modules objects
+    → IsLawful modules (placement_of plan modules objects)
+    → merge_of objects ≡ Ok merged
+    → image_of (plan_of plan) merged ≡ Ok image
+    → IsLoaded image.byte_at before after
+    → length before ≡ MEMORY_SIZE
+    → IsMemory after
+    → (script : List (List ℕ)) (events : List Event) (r : Registers)
+    → IsScript script
+    → HoldBytes r
+    → NeverOutside
+    (λ (budget : ℕ).
+    source_run modules (placement_of plan modules objects) (placement_of plan modules objects).stack.len before script events
+    budget)
+    → Agrees
+    (λ (budget : ℕ).
+    source_run modules (placement_of plan modules objects) (placement_of plan modules objects).stack.len before script events
+    budget)
+    (λ (steps : ℕ). state_after script steps (running (record r { pc = image.start }) after events))
+made_program_does plan modules objects merged image before after joined made lawful merge placed loaded size is_memory script events r bytes registers never =
+    in_memory_does plan modules objects merged image before after made
+    (is_in_memory plan modules objects merged image before after joined (are_made modules objects made) lawful merge
+    placed loaded size)
+    script events r bytes is_memory registers never

@@ -1,0 +1,272 @@
+-- A program on the machine does what its source does.
+use Rattle.std.proofs.Common.{◌≡◌, ℕ, suc, ◌+◌, ◌%◌, ◌<◌, ◌≤◌, Bool, true, false, not, cond, List, [], ◌∷◌, length, Option, Some, None, refl, sym, ap, subst, ◌∙◌, arith}
+use Rattle.std.specs.Prelude.{◌==◌, All, IfSome, slice_get, find, count_by, if◌then◌else◌}
+use Rattle.std.specs.List.{position_or_len}
+use Rattle.std.specs.Option.{option_map_or, option_or}
+use Rattle.std.proofs.lemmas.Bool.{eqb-true, lt-ltb}
+use Rattle.std.proofs.lemmas.List.Folds.{find_at}
+use Rattle.std.proofs.lemmas.List.Sums.{sum_by-cons}
+use Rattle.std.proofs.lemmas.Option.{same_Some}
+use Rattle.std.proofs.lemmas.List.Elements.{recursion_from_All}
+use Rattle.mem80.specs.Memory.{IsMemory}
+use Rattle.mem80.specs.declared.memory.TheConstants.{MEMORY_SIZE}
+use Rattle.object_modules.specs.declared.segment.Segment.TheVariants as segments
+use Rattle.object_modules.specs.Image.{Image}
+use Rattle.object_modules.specs.Module.{ObjectModule}
+use Rattle.ports.specs.declared.event.Event.{Event}
+use Rattle.ports.specs.Input.{IsScript}
+use Rattle.typed_trees.specs.TypedTrees.{TypedModule}
+use Rattle.layout.specs.Joined.{IsJoined, JoinRefusal, NotOneMain, declared_otherwise, is_main, join_refusal, not_one_main, public_twice, without_public}
+use Rattle.object_modules.specs.Displacements.{linked_modules}
+use Rattle.image_laws.specs.internal.InMemory.{StartsAt, piece_base}
+use Rattle.image_laws.proofs.Images.Starts.{main_starts}
+use Rattle.layout.specs.StartingMemory.{starting_memory}
+use Rattle.layout.proofs.Declared.{Decides-declared}
+use Rattle.layout.proofs.Segments.{of_all}
+use Rattle.layout.proofs.StartingBytes.{starts_as}
+use Rattle.image_laws.specs.internal.AtPlans.{plan_of}
+use Rattle.image_laws.specs.internal.ProgramInMemory.{IsInMemory, placement_of}
+use Rattle.image_laws.proofs.Memory.Starting.{starts_as_its_source}
+use Rattle.meaning.specs.Outcomes.{Program}
+use Rattle.code_meaning.specs.Activations.{Shares}
+use Rattle.isa8080.specs.State.{HoldBytes, Registers, wrap}
+use Rattle.task_laws.specs.ProgramTypes.{HasTypes}
+use Rattle.task_laws.proofs.Ranges.NumbersOfTrees.{IsTypedCode, has_types}
+use Rattle.meaning.specs.Access.{Surroundings}
+use Rattle.meaning.specs.Meaning.{later_by}
+use Rattle.procedure_laws.specs.OneModule.{AllCallsAreKnown, CallsFollow, ModuleDoes, around_in}
+use Rattle.procedure_laws.proofs.KnownCalls.{calls_known}
+use Rattle.program_laws.specs.OneModule.{start_place}
+use Rattle.program_laws.proofs.OneModule.{object_does, started}
+use Rattle.program_laws.proofs.Linked.{are_entered, lies_in_memory, program_of}
+use Rattle.program_laws.specs.internal.Entering.{ModulesAre, entries_of}
+use Rattle.program_laws.specs.internal.Linked.{ModuleIs, made_of, public_address, targets_of}
+use Rattle.layout.specs.Placing.{Plan as PlacingPlan}
+use Rattle.meaning.specs.Outcomes.{Gave, Onward, Stop, State as SourceState}
+use Rattle.meaning.specs.Run.{NeverOutside, Run, main_done, number_of_main, run_of, source_run}
+use Rattle.isa8080.specs.Step.{running, state_after}
+use Rattle.isa8080.specs.declared.registers.Status.{Status}
+use Rattle.isa8080.specs.State.{State}
+use Rattle.procedure_laws.specs.Main.{ComesTo as Arrived, EndsAs}
+use Rattle.code_meaning.specs.Landing.{IsLeft}
+use Rattle.program_laws.specs.Agreement.{Agrees}
+use Rattle.program_laws.specs.internal.Performing.{ComesTo, Performs}
+use Rattle.program_laws.proofs.Agreeing.{agrees}
+
+-- the first of a list that passes a test
+record FirstThat {X : Type 0} (passes : X → Bool) (all : List X) : Type 0 where
+  one : X
+  found : find passes all ≡ Some one
+  within : position_or_len passes all < length all
+  holds : passes one ≡ true
+
+none_more : (count : ℕ) → 0 + count ≡ count
+none_more count = omega arith
+
+first_that : {X : Type 0} (passes : X → Bool) (all : List X) → 1 ≤ count_by passes all → FirstThat passes all
+first_that passes [] some = absurd (omega (arith, some))
+first_that {X} passes (first ∷ others) some = by (passes first) refl (λ more. first_that passes others more)
+  where
+    by : (test : Bool) → passes first ≡ test → (1 ≤ count_by passes others → FirstThat passes others)
+        → FirstThat passes (first ∷ others)
+    by true is later = record {
+      one = first;
+      found = ap (λ (test : Bool). cond test (Some first) (find passes others)) is;
+      within =
+          subst (λ (test : Bool). cond (not test) (1 + position_or_len passes others) 0 < suc (length others)) (sym is)
+          (omega arith);
+      holds = is;
+    }
+    by false is later =
+        let counted : count_by passes (first ∷ others) ≡ count_by passes others =
+        sum_by-cons (λ x. cond (passes x) 1 0) first others
+        ∙ ap (λ (test : Bool). cond test 1 0 + count_by passes others) is
+        ∙ none_more (count_by passes others) in
+        let rest = later (omega (arith, some, counted)) in
+        let less = rest.within in
+        record {
+          one = rest.one;
+          found = ap (λ (test : Bool). cond test (Some first) (find passes others)) is ∙ rest.found;
+          within =
+              subst (λ (test : Bool). cond (not test) (1 + position_or_len passes others) 0 < suc (length others)) (sym is)
+              (omega (arith, less));
+          holds = rest.holds;
+        }
+
+-- what the machine comes to beside a run of the source
+came :
+    (script : List (List ℕ)) (least : ℕ) (start : State) (status : Status) (events : List Event)
+    → Arrived script least start (IsLeft status events)
+    → ComesTo script start least status events
+came script least start status events arrived = record {
+  count = arrived.count;
+  enough = arrived.enough;
+  status_is = ap (λ (state : State). state.status) (sym arrived.run) ∙ arrived.is_good.status_is;
+  events_are = ap (λ (state : State). state.events) (sym arrived.run) ∙ arrived.is_good.events_are;
+}
+
+performs :
+    (script : List (List ℕ)) (start : State) (budget : ℕ) (run : Run)
+    → EndsAs script budget start run.end run.events
+    → Performs script start budget run
+performs script start budget run ends = record {
+  ended = λ is. came script 0 start _ run.events
+      (subst (λ (stop : Stop). EndsAs script budget start stop run.events) is ends);
+  more = λ is. came script budget start _ run.events
+      (subst (λ (stop : Stop). EndsAs script budget start stop run.events) is ends);
+}
+
+-- joined modules have one main module
+one_main : (modules : List TypedModule) → IsJoined modules → count_by is_main modules ≡ 1
+unfolding join_refusal
+one_main modules joined =
+    by_count (count_by is_main modules == 1) refl
+    (last_none (declared_otherwise modules) (not_one_main modules)
+    (last_none (public_twice modules) (option_or (declared_otherwise modules) (not_one_main modules))
+    (last_none (without_public modules) (option_or (public_twice modules) (option_or (declared_otherwise modules) (not_one_main modules))) joined)))
+  where
+    last_none : (one other : Option JoinRefusal) → option_or one other ≡ None → other ≡ None
+    last_none None other is = is
+    last_none (Some refusal) other is = let bad : ⊥ = cc in absurd bad
+
+    by_count : (test : Bool) → (count_by is_main modules == 1) ≡ test
+        → (if test then None else Some NotOneMain) ≡ None
+        → count_by is_main modules ≡ 1
+    by_count true is none = eqb-true (count_by is_main modules) 1 is
+    by_count false is none = let bad : ⊥ = cc in absurd bad
+
+module _
+    (plan : PlacingPlan) (modules : List TypedModule) (objects : List ObjectModule) (merged : ObjectModule)
+    (image : Image) (before after : List ℕ) (is : IsInMemory plan modules objects merged image before after)
+    (script : List (List ℕ)) (bytes : IsScript script) (is_memory : IsMemory after)
+    (modules_are : ModulesAre plan modules objects merged before after)
+    (events : List Event) (r : Registers) (registers : HoldBytes r)
+  where
+    abbrev program : Program
+    program = program_of plan modules objects merged image before after is script
+
+    -- each module is typed, and it is tree code
+    typed_code : (number : ℕ) (typed : TypedModule) → slice_get modules number ≡ Some typed → IsTypedCode typed
+    typed_code number typed there =
+        let module_is = (modules_are.all number typed there).0 in
+        subst IsTypedCode (same_Some module_is.typed typed (sym module_is.found ∙ there)) (record {
+          types = module_is.sound.facts.types;
+          storage = (made_of module_is).storage;
+          tree = (made_of module_is).tree;
+          lowered = (made_of module_is).lowered;
+          numbers = module_is.sound.words.numbers;
+        })
+
+    types : HasTypes program
+    types = has_types program is.joined is.globals bytes typed_code
+
+    -- each module does what it says, by what calls do
+    does_at : (number : ℕ) (module_is : ModuleIs plan modules objects merged before after number)
+        → modules_are.at number ≡ Some module_is
+        → ModuleDoes program after (entries_of modules_are) number module_is.typed
+        (start_place (targets_of module_is) module_is.at.linked.object)
+        (AllCallsAreKnown program after (entries_of modules_are))
+    does_at number module_is at_is =
+        object_does program number module_is.typed module_is.at.linked.object (targets_of module_is)
+        (public_address plan merged) after module_is.sound
+        (lies_in_memory plan modules objects merged image before after is number module_is script types)
+        (entries_of modules_are)
+        (are_entered plan modules objects merged image before after is modules_are number module_is script at_is)
+
+    -- so all calls are known
+    all_known : (bound number : ℕ) → number ≤ bound
+        → AllCallsAreKnown program after (entries_of modules_are) (later_by bound) number
+    all_known bound =
+        calls_known program after (entries_of modules_are) bound
+        (λ number typed there.
+        let one = modules_are.all number typed there in
+        subst (λ (typed : TypedModule).
+        CallsFollow program after (entries_of modules_are) number typed bound
+        (AllCallsAreKnown program after (entries_of modules_are)))
+        (same_Some (one.0).typed typed (sym (one.0).found ∙ there)) ((does_at number one.0 one.1).calls bound))
+
+    shares : Shares program after (starting_memory modules (placement_of plan modules objects) before) after
+    shares = record {
+      is_memory = is_memory;
+      size = (starts_as modules (placement_of plan modules objects) before is.lawful is.storable is.size).size ∙ is.size;
+      declared = λ address declared.
+          starts_as_its_source plan modules objects merged image before after is address
+          ((Decides-declared modules (placement_of plan modules objects) address).0 declared);
+      code = λ address inside. refl;
+    }
+
+    -- where the image starts
+    starts : (number : ℕ) (module_is : ModuleIs plan modules objects merged before after number)
+        → is_main module_is.typed ≡ true
+        → image.start ≡ wrap (start_place (targets_of module_is) module_is.at.linked.object)
+    starts number module_is main =
+        let all : All (StartsAt (plan_of plan) image) (linked_modules objects) =
+        main_starts objects merged (plan_of plan) image is.placed.merge is.placed.placed in
+        let one : StartsAt (plan_of plan) image module_is.at.linked =
+        of_all (StartsAt (plan_of plan) image) (linked_modules objects) number module_is.at.linked
+        (recursion_from_All (StartsAt (plan_of plan) image) (linked_modules objects) all) module_is.at.found in
+        let start_is = started module_is.typed module_is.at.linked.object module_is.sound main in
+        subst (λ (start : Option ℕ). IfSome start (λ offset.
+        image.start ≡ (piece_base (plan_of plan) module_is.at.linked.start segments.Code + offset) % MEMORY_SIZE)) start_is one
+        ∙ ap (λ (start : Option ℕ).
+        wrap (option_map_or (λ offset. piece_base (plan_of plan) module_is.at.linked.start segments.Code + offset) start 0))
+        (sym start_is)
+
+    main : FirstThat is_main modules
+    main = first_that is_main modules (omega (arith, one_main modules is.joined))
+
+    main_at : slice_get modules (position_or_len is_main modules) ≡ Some main.one
+    main_at = sym (find_at is_main modules) ∙ main.found
+
+    number_is : number_of_main modules ≡ position_or_len is_main modules
+    number_is =
+        ap (λ (test : Bool). option_map_or (λ at. at) (if test then Some (position_or_len is_main modules) else None) 0)
+        (lt-ltb (position_or_len is_main modules) (length modules) main.within)
+
+    start_state : (budget : ℕ) → SourceState
+    start_state budget = record {
+      memory = starting_memory modules (placement_of plan modules objects) before;
+      frame = [];
+      events = events;
+      budget = budget;
+    }
+
+    abbrev runs : (budget : ℕ) → Run
+    runs budget =
+        source_run modules (placement_of plan modules objects) (placement_of plan modules objects).stack.len before script events
+        budget
+
+    -- what the main program is carried out in, by a number of its module
+    abbrev around : (number : ℕ) → Surroundings
+    around number = around_in program number (placement_of plan modules objects).stack.len
+
+    -- for each budget
+    each_run : (budget : ℕ)
+        → Performs script (running (record r { pc = image.start }) after events) budget (runs budget)
+    unfolding source_run start_state
+    each_run budget =
+        let number : ℕ = position_or_len is_main modules in
+        let one = modules_are.all number main.one main_at in
+        let module_is = one.0 in
+        let same : main.one ≡ module_is.typed = same_Some main.one module_is.typed (sym main_at ∙ module_is.found) in
+        let is_main_module : is_main module_is.typed ≡ true = subst (λ (typed : TypedModule). is_main typed ≡ true) same main.holds in
+        let ends = (does_at number module_is one.1).main budget (placement_of plan modules objects).stack.len
+        (start_state budget) r after is_main_module (all_known (suc budget) budget (omega arith)) refl refl (omega arith) shares registers in
+        let run_is : runs budget ≡ run_of (main_done budget module_is.typed (around number) (start_state budget)) =
+        ap (λ (found : Option TypedModule).
+        run_of (option_map_or (λ (typed : TypedModule). main_done budget typed (around (number_of_main modules)) (start_state budget))
+        found (Gave Onward (start_state budget)))) (main.found ∙ ap (λ (typed : TypedModule). Some typed) same)
+        ∙ ap (λ (at : ℕ). run_of (main_done budget module_is.typed (around at) (start_state budget))) number_is in
+        performs script (running (record r { pc = image.start }) after events) budget (runs budget)
+        (subst (λ (run : Run). EndsAs script budget (running (record r { pc = image.start }) after events) run.end run.events) (sym run_is)
+        (subst (λ (pc : ℕ).
+        EndsAs script budget (running (record r { pc = pc }) after events)
+        (run_of (main_done budget module_is.typed (around number) (start_state budget))).end
+        (run_of (main_done budget module_is.typed (around number) (start_state budget))).events)
+        (sym (starts number module_is is_main_module)) ends))
+
+    -- The image on the machine performs exactly the source's port reads and writes, and halts exactly if the source ends.
+    pub program_does :
+        NeverOutside runs
+        → Agrees runs (λ (steps : ℕ). state_after script steps (running (record r { pc = image.start }) after events))
+    program_does never = agrees script (running (record r { pc = image.start }) after events) runs each_run never

@@ -1,0 +1,5 @@
+pub mod Agreement
+pub mod Typed
+pub mod OneModule
+pub mod internal
+pub mod Made

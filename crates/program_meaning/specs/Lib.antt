@@ -1,4 +1,0 @@
-pub mod Agreement
-pub mod Typed
-pub mod OneModule
-pub mod internal

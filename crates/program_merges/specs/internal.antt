@@ -1,2 +1,0 @@
--- Object modules with the names of the modules of a program.
-pub mod Names

@@ -1,4 +1,0 @@
-pub mod Items
-pub mod Locations
-pub mod Walks
-pub mod Publics

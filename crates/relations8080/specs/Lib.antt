@@ -1,5 +1,0 @@
-pub mod Answers
-pub mod ByteRelations
-pub mod WordRelations
-pub mod Relations
-pub mod Branches

@@ -1,5 +1,0 @@
-use Rattle.sites8080.proofs.Kept.{is_free_is_kept}
-use Rattle.sites8080.proofs.site.Site.is_free.Goals as goal
-
-pub returns : goal.returns
-returns c = is_free_is_kept c.args.self.now c.args.number c.traits.result c.traits.ensures

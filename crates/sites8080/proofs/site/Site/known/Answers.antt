@@ -1,5 +1,0 @@
-use Rattle.sites8080.proofs.Kept.{known_is_kept}
-use Rattle.sites8080.proofs.site.Site.known.Goals as goal
-
-pub returns : goal.returns
-returns c = known_is_kept c.args.self.now c.args.number c.traits.result c.traits.ensures

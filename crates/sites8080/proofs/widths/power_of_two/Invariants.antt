@@ -1,6 +1,0 @@
-use Rattle.std.proofs.Common.{◌≡◌, ◌-◌}
-use Rattle.sites8080.specs.Widths.{power_from}
-use Rattle.sites8080.proofs.widths.power_of_two.Given as goal
-
-abbrev pub invariant-loop-power : goal.invariant-loop-power
-invariant-loop-power l = power_from (16 - l.power) l.power l.number ≡ power_from 16 0 l.number

@@ -1,4 +1,0 @@
-pub mod Site
-pub mod Queries
-pub mod Widths
-pub mod Questions

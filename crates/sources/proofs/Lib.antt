@@ -1,0 +1,3 @@
+pub mod ReadLemmas
+pub mod Programs
+pub mod SoundSources

@@ -1,0 +1,30 @@
+-- Every module that a source text is is soundly typed, and so are those of a program.
+use Rattle.std.specs.Prelude.{ℕ, List, [], ◌∷◌, All}
+use Rattle.std.proofs.lemmas.List.Elements.{All-cons, All-nil, All-weaker}
+use Rattle.typed_trees.specs.Globals.{ListsGlobals}
+use Rattle.typed_trees.specs.TypedTrees.{TypedModule}
+use Rattle.sources.specs.Reading.{IsSourceOf}
+use Rattle.sources.specs.Programs.{AreSourcesOf}
+use Rattle.layout.specs.Sound.{IsSoundlyTyped}
+use Rattle.typed_laws.proofs.Formed.{derived_is_soundly_typed}
+
+pub source_is_soundly_typed : (text : List ℕ) (typed : TypedModule) → IsSourceOf text typed → IsSoundlyTyped typed
+source_is_soundly_typed text typed source =
+    let read = source.typing.read in
+    derived_is_soundly_typed read.output source.typing.tree typed read.derived source.typing.typing
+
+pub sources_are_soundly_typed : (texts : List (List ℕ)) (modules : List TypedModule) → AreSourcesOf texts modules
+    → All IsSoundlyTyped modules
+sources_are_soundly_typed [] [] are = All-nil IsSoundlyTyped
+sources_are_soundly_typed [] (typed ∷ modules) are = absurd are
+sources_are_soundly_typed (text ∷ texts) [] are = absurd are
+sources_are_soundly_typed (text ∷ texts) (typed ∷ modules) are =
+    All-cons IsSoundlyTyped typed modules (source_is_soundly_typed text typed are.0)
+    (sources_are_soundly_typed texts modules are.1)
+
+-- and all their globals are listed
+pub sources_list_globals : (texts : List (List ℕ)) (modules : List TypedModule) → AreSourcesOf texts modules
+    → All ListsGlobals modules
+sources_list_globals texts modules are =
+    All-weaker IsSoundlyTyped ListsGlobals (λ typed sound. sound.globals) modules
+    (sources_are_soundly_typed texts modules are)

@@ -1,0 +1,13 @@
+pub use Rattle.failure.specs.Failure
+pub use Rattle.words.specs.Spelling
+pub use Rattle.literally.specs.Expansion
+pub use Rattle.grammar.specs.Derivation
+pub use Rattle.trees.specs.Trees
+pub mod Reading
+pub mod Causes
+pub mod Faults
+pub mod internal
+pub mod ProgramFaults
+pub mod Programs
+pub use Rattle.typed_laws.specs.Facts
+pub use Rattle.layout.specs.Sound

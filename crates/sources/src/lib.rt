@@ -1,0 +1,14 @@
+//! Sources of a program read, joined and placed.
+#![tactic(auto)]
+
+mod fault;
+mod placed;
+mod read;
+mod sources;
+
+pub use fault::ProgramFault;
+pub use mem80::Plan;
+pub use placed::{Placed, place_program};
+pub use read::{ReadFault, SourceModule, read_source};
+pub use sources::{MOST_SOURCES, Source};
+pub use words::LONGEST_SOURCE;

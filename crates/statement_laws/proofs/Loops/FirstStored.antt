@@ -1,0 +1,124 @@
+-- The variable of an iterative DO gets its first value, with a step to spare, and what is planned after it stands.
+use Rattle.std.proofs.Common.{◌≡◌, ℕ, true, List, ◌++◌, None, refl, sym, ap, subst, ◌∙◌}
+use Rattle.trees.specs.declared.declaration.ScalarType.{ScalarType}
+use Rattle.typed_trees.specs.ExpressionTypes.{type_of}
+use Rattle.typed_trees.specs.TypedTrees.{StoredIn}
+use Rattle.meaning.specs.Access.{Place as SourcePlace, write_scalar}
+use Rattle.meaning.specs.Meaning.{stored, value, write_variable}
+use Rattle.meaning.specs.Outcomes.{State as SourceState, Outcome, Gave, Stopped, then_do}
+use Rattle.meaning.specs.Values.{as_type}
+use Rattle.isa8080.specs.State.{Registers, State}
+use Rattle.treecode.specs.declared.lists.Range.{Range}
+use Rattle.treecode.specs.declared.reference.Target.TheVariants.{Stored}
+use Rattle.treecode.specs.declared.statement.Iteration.{Iteration}
+use Rattle.treecode.specs.Lowered.{IsStored}
+use Rattle.code_meaning.specs.Activations.{Arrives}
+use Rattle.code_meaning.specs.Landing.{Does, at_place}
+use Rattle.code_meaning.proofs.Landing.{gives}
+use Rattle.steps8080.specs.declared.facts.Facts.{Facts}
+use Rattle.steps8080.specs.declared.sites.site.Site.{Site}
+use Rattle.steps8080.specs.Site.{scalar}
+use Rattle.exprgen8080.specs.Emission.{knowing}
+use Rattle.statements8080.specs.declared.plan.Planned.{Planned}
+use Rattle.statements8080.specs.Assignments.{single_steps}
+use Rattle.statements8080.specs.Bodies.{whole}
+use Rattle.statements8080.specs.Counters.{counter_of}
+use Rattle.statements8080.specs.Iterations.{first_steps}
+use Rattle.codegen8080.specs.Generated.{site_of}
+use Rattle.task_laws.specs.Tasks.{Know}
+use Rattle.task_laws.proofs.Machine.Stages.{does_same, script_of}
+use Rattle.statement_laws.specs.Bodies.{BodyContext}
+use Rattle.statement_laws.proofs.Assignments.Assigned.{scalar_there}
+use Rattle.statement_laws.proofs.Assignments.Assignments.{single_does}
+use Rattle.statement_laws.proofs.Loops.Counted.{counted_does}
+use Rattle.statement_laws.proofs.Loops.CountedVariables.{whole_is, whole_tree, whole_types}
+use Rattle.statement_laws.proofs.Assignments.Firsts.{then_each}
+use Rattle.statement_laws.proofs.Loops.LoopEnds.{Iterates}
+use Rattle.statement_laws.proofs.Loops.LoopTurns.{Loop, StageAt}
+use Rattle.statement_laws.proofs.FirstSteps.{Stand, going}
+
+-- the first value is stored
+abbrev pub first_stored : {at : BodyContext} → Loop at → SourceState → Outcome (Unit {0})
+first_stored {at = at} loop s =
+    then_do (value at.context.later at.context.activation.around (loop.head).first s)
+    (λ number t. write_variable at.context.activation.around loop.head (as_type (loop.head).scalar number) t)
+
+-- what is reached by the store of the first value
+abbrev pub FirstArrives :
+    {at : BodyContext} → Loop at → (place : ℕ) → Facts → SourceState → State → Type 0
+FirstArrives {at = at} loop place facts u end =
+    Arrives at.context.activation at.context.activation.level loop.base place
+    (λ (given : Unit {0}) (r : Registers) (memory : List ℕ). Know at.context facts r memory) tt u end
+
+-- it is a place from which what is planned after the store stands
+pub record FirstThere
+    {at : BodyContext} (loop : Loop at) (others : List Planned) (found : Unit {0}) (u : SourceState) (end : State) :
+    Type 0 where
+  pub known : Facts
+  pub place : ℕ
+  pub stand : Stand at (going true known) None place others loop.after loop.to
+  pub arrives : FirstArrives loop place known u end
+
+nothing_more : (outcome : Outcome (Unit {0})) → outcome ≡ then_do outcome (λ _ u. Gave tt u)
+nothing_more (Gave found t) = refl
+nothing_more (Stopped why t) = refl
+
+pub first_stores :
+    {at : BodyContext} (loop : Loop at) (head : Iteration) (list : Range) (facts : Facts) (from : ℕ) (others : List Planned)
+    (s : SourceState) (r : Registers) (memory : List ℕ)
+    → Iterates at loop head list
+    → Stand at (going true facts) None from
+    (first_steps at.body (knowing (site_of at.body) facts) (counter_of (knowing (site_of at.body) facts) head) head.first ++ others)
+    loop.after loop.to
+    → StageAt at loop.need loop.base s facts r memory
+    → Does (script_of at.context) s.budget 1 (at_place from r memory s.events) (first_stored loop s) (FirstThere loop others)
+unfolding first_steps
+first_stores {at = at} loop head list facts from others s r memory iterates stand stage =
+    does_same _ is_stored
+    (single_does at iterates.sound facts loop.need loop.base head.first (loop.head).first (iterates.is).first iterates.first_types
+    iterates.first_fits (λ _ u. Gave tt u) (FirstThere loop others) others loop.after loop.to 0
+    (Stored (type_of (loop.head).first) (loop.head).scalar (whole (loop.head).variable))
+    (StoredIn (type_of (loop.head).first) (loop.head).scalar (whole_tree (loop.head).variable))
+    from (going true facts) s r memory
+    (counted_does at iterates.sound facts loop.need loop.base head.first (loop.head).first (iterates.is).first iterates.first_types
+    iterates.first_fits (λ _ u. Gave tt u) (FirstThere loop others) others loop.after loop.to)
+    refl stands
+    (IsStored (whole_is at.context 0 (loop.head).variable))
+    (refl, (iterates.counted).refers, whole_types at.context (loop.head).variable)
+    iterates.enough stage
+    (λ here place u now kept goes there next.
+    gives (record {
+      known = here.facts;
+      place = place;
+      stand =
+          subst (λ (goes_on : _). Stand at (going goes_on here.facts) None place others loop.after loop.to) goes there;
+      arrives = record { r = now; memory = kept; is_at = refl; ready = next.ready; holds = next.known };
+    })))
+  where
+    site : Site
+    site = knowing (site_of at.body) facts
+
+    planned_by : (from_type to_type : ScalarType) (variable : ℕ) → Type 0
+    planned_by from_type to_type variable =
+        Stand at (going true facts) None from
+        (single_steps at.body site (Stored from_type to_type (whole variable)) head.first ++ others) loop.after loop.to
+
+    stands : planned_by (type_of (loop.head).first) (loop.head).scalar (loop.head).variable
+    stands =
+        subst (λ (one : ScalarType). planned_by one (loop.head).scalar (loop.head).variable)
+        (scalar_there at iterates.sound facts head.first (loop.head).first (iterates.is).first)
+        (subst (λ (one : ScalarType). planned_by (scalar site head.first) one (loop.head).variable) (iterates.is).scalar
+        (subst (λ (one : ℕ). planned_by (scalar site head.first) head.scalar one) (iterates.is).variable stand))
+
+    is_stored : first_stored loop s
+        ≡ then_do (value at.context.later at.context.activation.around (loop.head).first s)
+        (λ n t. then_do
+        (stored at.context.later at.context.activation.around
+        (StoredIn (type_of (loop.head).first) (loop.head).scalar (whole_tree (loop.head).variable)) n t) (λ _ u. Gave tt u))
+    is_stored =
+        then_each (value at.context.later at.context.activation.around (loop.head).first s) _ _
+        (λ n t.
+        nothing_more (write_variable at.context.activation.around loop.head (as_type (loop.head).scalar n) t)
+        ∙ ap (λ (place : Outcome SourcePlace). then_do
+        (then_do place (λ (found : SourcePlace) (u : SourceState). write_scalar at.context.activation.around.program (loop.head).scalar found (as_type (loop.head).scalar n) u))
+        (λ _ u. Gave tt u)) (sym ((iterates.counted).means t)))

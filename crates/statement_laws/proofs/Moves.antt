@@ -1,0 +1,3 @@
+pub mod MovedBlocks
+pub mod MoveCalls
+pub mod Moves

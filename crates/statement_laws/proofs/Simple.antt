@@ -1,0 +1,138 @@
+-- Labels, null statements, calls, HALT, GOTO and DO.
+use Rattle.std.proofs.Common.{◌≡◌, ℕ, ◌+◌, ◌*◌, [], slice_get, Some, refl, sym, subst, ◌∙◌, arith}
+use Rattle.std.proofs.lemmas.Option.{same_Some}
+use Rattle.typed_trees.specs.Charge.{count_of_arguments, height_of_arguments, height_of_statement}
+use Rattle.typed_trees.specs.Jumps.{ListsStand}
+use Rattle.typed_trees.specs.TypedTrees.{TypedStatement, DoStatement}
+use Rattle.typed_trees.specs.WellTyped.{TypesHoldIn}
+use Rattle.meaning.specs.Meaning.{called_for, callee_in, done, values}
+use Rattle.meaning.specs.Outcomes.{Gave, Onward, Jumped}
+use Rattle.isa8080.specs.declared.instr.Instr.TheVariants.{Hlt}
+use Rattle.isa8080.specs.declared.registers.Status.TheVariants.{Halted}
+use Rattle.isa8080.specs.State.{State}
+use Rattle.asm8080.specs.declared.item.Reference.TheVariants.{AtLabel}
+use Rattle.asm8080.specs.declared.item.WordForm.TheVariants.{Jump}
+use Rattle.treecode.specs.declared.lists.Range.{Range}
+use Rattle.treecode.specs.declared.statement.Statement.{Statement}
+use Rattle.treecode.specs.declared.statement.Statement.TheVariants as statements
+use Rattle.treecode.specs.declared.statement.StatementNumber.{StatementNumber}
+use Rattle.treecode.specs.Lowered.{IsCall, IsDo, IsGoto, IsHalt, IsLabel, IsNull, IsStatementForm, IsStatementNode}
+use Rattle.code_meaning.specs.Landing.{Does, IsLeft, at_place}
+use Rattle.code_meaning.proofs.FirstItems.{plain_step, word_step}
+use Rattle.code_meaning.proofs.Landing.{after_step, landed, then_does}
+use Rattle.code_meaning.proofs.Facts.Changes.{no_facts_hold}
+use Rattle.steps8080.specs.declared.facts.Facts.{Facts}
+use Rattle.statements8080.specs.Bodies.{body_label}
+use Rattle.codegen8080.specs.declared.meeting.Here.{Here}
+use Rattle.codegen8080.specs.Statements.{statement_steps}
+use Rattle.task_laws.specs.Contexts.{nodes_in}
+use Rattle.task_laws.proofs.Machine.Effects.{then_again}
+use Rattle.task_laws.proofs.Machine.Stages.{does_same, has_less_room, script_of}
+use Rattle.statement_laws.specs.Bodies.{Behaves, BodyContext, IsSoundBody, Leaves}
+use Rattle.statement_laws.specs.Statements.{StatementDoes, StatementStands}
+use Rattle.statement_laws.proofs.FirstSteps.{ended, jump_first, list_first, mark_first, part_first, plain_first}
+use Rattle.statement_laws.proofs.Outcomes.{ends_onward, taking_does, to_label}
+
+-- code does what a statement of a form says
+abbrev pub FormDoes :
+    BodyContext → (before : Facts) → Statement → (from : ℕ) → (after : Here) → (to : ℕ) → Type 0
+FormDoes at before statement from after to =
+    (bound : ℕ) (tree : TypedStatement)
+    → IsStatementForm (nodes_in at.context) at.context.storage at.labels bound statement tree
+    → TypesHoldIn at.context.typed at.context.within tree
+    → ListsStand tree
+    → Behaves at before (2 + 2 * height_of_statement tree) from after to
+    (done at.context.later at.context.activation.around tree)
+
+-- where a statement has a form
+pub form_does :
+    (at : BodyContext) (before : Facts) (number : StatementNumber) (statement : Statement) (from : ℕ) (after : Here) (to : ℕ)
+    → slice_get (nodes_in at.context).statements number.index ≡ Some statement
+    → FormDoes at before statement from after to
+    → StatementDoes at before number from after to
+form_does at before number statement from after to there does bound tree (IsStatementNode {statement = found} below is form) =
+    does number.index tree
+    (subst (λ (one : Statement). IsStatementForm (nodes_in at.context) at.context.storage at.labels number.index one tree)
+    (same_Some found statement (sym is ∙ there)) form)
+
+-- a label is a place
+pub label_does :
+    (at : BodyContext) (before : Facts) (of label from : ℕ) (after : Here) (to : ℕ)
+    → StatementStands at before (statements.Label of) label from after to
+    → FormDoes at before (statements.Label of) from after to
+unfolding statement_steps
+label_does at before of label from after to stands bound _ (IsLabel names) types lists base s r memory below room ready known =
+    ends_onward (ended (mark_first stands).rest) refl
+    (record { below = below; room = room; ready = ready; known = no_facts_hold })
+
+-- nothing
+pub null_does :
+    (at : BodyContext) (before : Facts) (label from : ℕ) (after : Here) (to : ℕ)
+    → StatementStands at before statements.Null label from after to
+    → FormDoes at before statements.Null from after to
+unfolding statement_steps
+null_does at before label from after to stands bound _ IsNull types lists base s r memory below room ready known =
+    ends_onward (ended stands) refl (record { below = below; room = room; ready = ready; known = known })
+
+-- a call whose result is not wanted
+pub call_does :
+    (at : BodyContext) (before : Facts) (procedure : ℕ) (arguments : Range) (label from : ℕ) (after : Here) (to : ℕ)
+    → StatementStands at before (statements.Call procedure arguments) label from after to
+    → FormDoes at before (statements.Call procedure arguments) from after to
+unfolding statement_steps
+call_does at before procedure arguments label from after to stands bound _ (IsCall {trees = trees} are) types lists base s r memory below room ready known =
+    let first = part_first stands in
+    let later = at.context.later in
+    let around = at.context.activation.around in
+    does_same _ (sym (then_again (values later around trees s) (λ given t. called_for later (callee_in around procedure) given around t) (λ found t. Gave Onward t)))
+    (then_does
+    (first.does _ _ trees are types.0 types.1 at.context.activation.level base s r memory below (has_less_room (2 * (1 + count_of_arguments trees + height_of_arguments trees)) (omega arith) room) ready known tt)
+    (λ found t end arrives less.
+    subst (λ (there : State). Does (script_of at.context) t.budget 0 there (Gave Onward t) (Leaves at base to after s.budget))
+    (sym arrives.is_at)
+    (ends_onward (ended first.rest) refl
+    (record { below = omega (arith, less, below); room = room; ready = arrives.ready; known = (arrives.holds).known }))))
+
+-- HALT
+pub halt_does :
+    (at : BodyContext) (before : Facts) (label from : ℕ) (after : Here) (to : ℕ)
+    → IsSoundBody at
+    → StatementStands at before statements.Halt label from after to
+    → FormDoes at before statements.Halt from after to
+unfolding statement_steps
+halt_does at before label from after to sound stands bound _ IsHalt types lists base s r memory below room ready known =
+    let first = plain_first stands in
+    after_step
+    (plain_step (script_of at.context) at.context.activation Hlt [] from (from + 1) r memory s.events sound.sound.lies
+    ready.shares.code first.there)
+    (record { told = landed (script_of at.context) s.budget _ (IsLeft Halted s.events) (record { status_is = refl; events_are = refl }) })
+
+-- GOTO
+pub goto_does :
+    (at : BodyContext) (before : Facts) (of label from : ℕ) (after : Here) (to : ℕ)
+    → IsSoundBody at
+    → StatementStands at before (statements.Goto of) label from after to
+    → FormDoes at before (statements.Goto of) from after to
+unfolding statement_steps
+goto_does at before of label from after to sound stands bound _ (IsGoto {label = name} names) types lists base s r memory below room ready known =
+    let first = jump_first stands in
+    taking_does s (λ t. Gave (Jumped name) t)
+    (word_step (script_of at.context) at.context.activation Jump (AtLabel (body_label at.body of).index) [] from (from + 3) r
+    memory s.events sound.sound.lies ready.shares.code first.there)
+    refl refl
+    (λ one_less. to_label of name names (omega (arith, one_less)) ready)
+
+-- DO
+pub do_does :
+    (at : BodyContext) (before : Facts) (list : Range) (label from : ℕ) (after : Here) (to : ℕ)
+    → StatementStands at before (statements.Do list) label from after to
+    → FormDoes at before (statements.Do list) from after to
+unfolding statement_steps
+do_does at before list label from after to stands bound _ (IsDo {list = body} is) types lists base s r memory below room ready known =
+    let first = list_first stands in
+    let ends = ended first.rest in
+    subst (λ (last : Here). Does (script_of at.context) s.budget 0 (at_place from r memory s.events)
+    (done at.context.later at.context.activation.around (DoStatement body) s) (Leaves at base to last s.budget)) (sym ends.same)
+    (subst (λ (place : ℕ). Does (script_of at.context) s.budget 0 (at_place from r memory s.events)
+    (done at.context.later at.context.activation.around (DoStatement body) s) (Leaves at base place first.after s.budget)) (sym ends.place)
+    (first.does bound body is types lists base s r memory below room ready known))

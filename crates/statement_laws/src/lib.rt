@@ -1,0 +1,2 @@
+//! Laws: the code of statements does what they mean.
+#![tactic(auto)]

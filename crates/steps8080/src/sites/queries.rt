@@ -1,0 +1,358 @@
+//! What code asks of the tree, each in O(1).
+
+ghost use Rattle.std.specs.Prelude.{◌≡◌};
+ghost use Rattle.steps8080.specs.Queries.{are_same, base_after, base_of, direct, high_in_memory, is_at_hl, is_free, is_quiet, keeps, keeps_of_address, known, located, location_of, location_of_byte, may_exchange, memory, number as number_of, plain_in_memory, reference_after, same_low_byte, split, split_computed, split_sum, stores_nothing};
+
+use crate::sites::site::Site;
+use treecode::{
+    Expression, ExpressionForm, ExpressionNumber, Home, Keeps, Location, Place, Reference,
+    Subscript, keeps_of_address,
+};
+use trees::{BinaryOperator, ScalarType};
+use typed_trees::UnaryFunction;
+
+/// What the address of an object or a part of it counts from.
+#[derive(Clone, Copy)]
+pub enum Base {
+    /// A place that is known but for where things lie.
+    Static(Place),
+    /// So many bytes, modulo 65536, after the address that a scalar holds.
+    Based { pointer: Location, offset: u16 },
+    /// So many bytes after the start of a variable or parameter in the frame.
+    Frame { variable: u16, offset: u16 },
+}
+
+/// The address of an object or a part of it: its base, to which the computed subscripts are added, each times its stride.
+#[derive(Clone, Copy)]
+pub struct Located {
+    pub base: Base,
+    pub first: Option<Subscript>,
+    pub second: Option<Subscript>,
+}
+
+/// A subscript that is computed, and how many bytes of it are known.
+#[derive(Clone, Copy)]
+pub struct Split {
+    pub computed: Option<Subscript>,
+    pub offset: u16,
+}
+
+impl Base {
+    // The base so many bytes further on, modulo 65536.
+    fn after(self, distance: u16) -> Base
+        ensures { result ≡ base_after self distance }
+    {
+        match self {
+            Base::Static(place) => Base::Static(place.after(distance)),
+            Base::Based { pointer, offset } => Base::Based {
+                pointer,
+                offset: offset.wrapping_add(distance),
+            },
+            Base::Frame { variable, offset } => Base::Frame {
+                variable,
+                offset: offset.wrapping_add(distance),
+            },
+        }
+    }
+}
+
+// The base of an object.
+fn base_of(home: Home) -> Base
+    ensures { result ≡ base_of home }
+{
+    match home {
+        Home::Static(place) => Base::Static(place),
+        Home::Based(pointer) => Base::Based { pointer, offset: 0 },
+        Home::Frame(variable) => Base::Frame {
+            variable,
+            offset: 0,
+        },
+    }
+}
+
+// Whether there are two locations, and they are the same.
+fn same_location(first: Option<Location>, second: Option<Location>) -> bool
+    ensures { result ≡ are_same first second }
+{
+    match (first, second) {
+        (Some(first), Some(second)) => first == second,
+        _ => false,
+    }
+}
+
+/// A reference to what lies so many bytes further on.
+pub fn reference_after(reference: Reference, distance: u16) -> Reference
+    ensures { result ≡ reference_after reference distance }
+{
+    Reference {
+        offset: reference.offset.wrapping_add(distance),
+        ..reference
+    }
+}
+
+impl<'a> Site<'a> {
+    /// The value of an expression, where it is known but for where things lie. Exact in the type of the expression.
+    pub fn known(&self, number: ExpressionNumber) -> Option<Place>
+        ensures { result ≡ known self.now number }
+    {
+        self.tree.traits(number).known
+    }
+
+    /// The number that an expression is, where it is known and depends on nothing.
+    #[tactic(auto, unfolding(crate::specs::Queries::number))]
+    pub fn number(&self, number: ExpressionNumber) -> Option<u16>
+        ensures { result ≡ number_of self.now number }
+    {
+        match self.known(number) {
+            Some(place) => place.number(),
+            None => None,
+        }
+    }
+
+    /// Whether evaluating an expression changes nothing: it calls nothing, stores nothing and reads no port.
+    pub fn is_quiet(&self, number: ExpressionNumber) -> bool
+        ensures { result ≡ is_quiet self.now number }
+    {
+        self.tree.traits(number).is_quiet
+    }
+
+    /// Whether an expression calls nothing and stores nothing.
+    pub fn stores_nothing(&self, number: ExpressionNumber) -> bool
+        ensures { result ≡ stores_nothing self.now number }
+    {
+        self.tree.traits(number).stores_nothing
+    }
+
+    /// Whether the code that puts the low byte of an expression into A changes A and the flags alone.
+    pub fn is_free(&self, number: ExpressionNumber) -> bool
+        ensures { result ≡ is_free self.now number }
+    {
+        self.tree.traits(number).is_free
+    }
+
+    /// What the code that puts the value of an expression into HL keeps.
+    pub fn keeps(&self, number: ExpressionNumber) -> Keeps
+        ensures { result ≡ keeps self.now number }
+    {
+        self.tree.traits(number).keeps
+    }
+
+    /// What the code that puts the address of a part of an object into HL keeps.
+    #[tactic(auto, unfolding(crate::specs::Queries::keeps_of_address))]
+    pub fn keeps_of_address(&self, reference: &Reference) -> Keeps
+        ensures { result ≡ keeps_of_address self.now reference.now }
+    {
+        keeps_of_address(self.tree, reference)
+    }
+
+    /// Whether the second of two operands may be evaluated first, since nobody can tell: the first is known, or it changes
+    /// nothing and the second stores nothing.
+    #[tactic(auto, unfolding(crate::specs::Queries::may_exchange))]
+    pub fn may_exchange(&self, left: ExpressionNumber, right: ExpressionNumber) -> bool
+        ensures { result ≡ may_exchange self.now left right }
+    {
+        self.known(left).is_some() || self.is_quiet(left) && self.stores_nothing(right)
+    }
+
+    // A subscript with a sum or difference of a computed ADDRESS and a number, taken apart.
+    fn split_sum(
+        &self,
+        subscript: Subscript,
+        operator: BinaryOperator,
+        right: u16,
+        left: ExpressionNumber,
+    ) -> Option<Split>
+        ensures { result ≡ split_sum subscript operator right left }
+    {
+        let distance = right.wrapping_mul(subscript.stride);
+        let offset = match operator {
+            BinaryOperator::Add => distance,
+            BinaryOperator::Subtract => 0_u16.wrapping_sub(distance),
+            _ => return None,
+        };
+        Some(Split {
+            computed: Some(Subscript {
+                index: left,
+                stride: subscript.stride,
+            }),
+            offset,
+        })
+    }
+
+    // A computed subscript, and what of it is known.
+    #[tactic(auto, unfolding(crate::specs::Queries::split_computed))]
+    fn split_computed(&self, subscript: Subscript) -> Split
+        ensures { result ≡ split_computed self.now subscript }
+    {
+        let whole = Split {
+            computed: Some(subscript),
+            offset: 0,
+        };
+        let Some(expression) = self.expression(subscript.index) else {
+            return whole;
+        };
+        let ExpressionForm::Binary {
+            operands: ScalarType::Address,
+            operator,
+            left,
+            right,
+        } = expression.form
+        else {
+            return whole;
+        };
+        let split = match self.number(right) {
+            Some(right) => self.split_sum(subscript, operator, right, left),
+            None => None,
+        };
+        match split {
+            Some(split) => split,
+            None => whole,
+        }
+    }
+
+    // A subscript, if there is one, and what of it is known: numbers, and a number that is added to an ADDRESS or taken
+    // from it, are known.
+    #[tactic(auto, unfolding(crate::specs::Queries::split))]
+    fn split(&self, subscript: Option<Subscript>) -> Split
+        ensures { result ≡ split self.now subscript }
+    {
+        let Some(subscript) = subscript else {
+            return Split {
+                computed: None,
+                offset: 0,
+            };
+        };
+        match self.number(subscript.index) {
+            Some(index) => Split {
+                computed: None,
+                offset: index.wrapping_mul(subscript.stride),
+            },
+            None => self.split_computed(subscript),
+        }
+    }
+
+    /// What the address of an object or a part of it is made of.
+    #[tactic(auto, unfolding(crate::specs::Queries::located))]
+    pub fn located(&self, reference: &Reference) -> Located
+        ensures { result ≡ located self.now reference.now }
+    {
+        let first = self.split(reference.subscript);
+        let second = self.split(reference.member_subscript);
+        let base = base_of(self.tree.home(reference.object))
+            .after(reference.offset)
+            .after(first.offset)
+            .after(second.offset);
+        match first.computed {
+            Some(_) => Located {
+                base,
+                first: first.computed,
+                second: second.computed,
+            },
+            None => Located {
+                base,
+                first: second.computed,
+                second: None,
+            },
+        }
+    }
+
+    /// Where an object or a part of it lies, where neither a base nor a computed subscript has a part in it.
+    #[tactic(auto, unfolding(crate::specs::Queries::location_of))]
+    pub fn location_of(&self, reference: &Reference) -> Option<Location>
+        ensures { result ≡ location_of self.now reference.now }
+    {
+        let located = self.located(reference);
+        if located.first.is_some() {
+            return None;
+        }
+        match located.base {
+            Base::Static(place) => Some(Location::Static(place)),
+            Base::Frame { variable, offset } => Some(Location::Frame { variable, offset }),
+            Base::Based { .. } => None,
+        }
+    }
+
+    /// The place in memory of an object or a part of it, where it is known but for where things lie.
+    #[tactic(auto, unfolding(crate::specs::Queries::direct))]
+    pub fn direct(&self, reference: &Reference) -> Option<Place>
+        ensures { result ≡ direct self.now reference.now }
+    {
+        match self.location_of(reference) {
+            Some(Location::Static(place)) => Some(place),
+            Some(Location::Frame { .. }) | None => None,
+        }
+    }
+
+    // The part of memory that HIGH of an expression is, if it is one.
+    #[tactic(auto, unfolding(crate::specs::Queries::high_in_memory))]
+    fn high_in_memory(&self, operand: ExpressionNumber) -> Option<Reference>
+        ensures { result ≡ high_in_memory self.now operand }
+    {
+        match self.expression(operand) {
+            Some(
+                Expression {
+                    form: ExpressionForm::Value(reference),
+                    traits,
+                },
+            ) if matches!(traits.scalar, ScalarType::Address) => Some(reference_after(
+                reference, 1,
+            )),
+            _ => None,
+        }
+    }
+
+    // The part of memory that the low byte of an expression without LOW, DOUBLE and conversions around it is, if it is one.
+    #[tactic(auto, unfolding(crate::specs::Queries::plain_in_memory))]
+    fn plain_in_memory(&self, number: ExpressionNumber) -> Option<Reference>
+        ensures { result ≡ plain_in_memory self.now number }
+    {
+        match self.expression(number) {
+            Some(expression) => match expression.form {
+                ExpressionForm::Value(reference) => Some(reference),
+                ExpressionForm::Function {
+                    function: UnaryFunction::High,
+                    operand,
+                } => self.high_in_memory(operand),
+                _ => None,
+            },
+            None => None,
+        }
+    }
+
+    /// The expression inside LOW, DOUBLE or a conversion, which has the same low byte; else the expression itself.
+    #[tactic(auto, using(crate::proofs::Kept::same_low_byte_is_kept))]
+    pub fn same_low_byte(&self, number: ExpressionNumber) -> ExpressionNumber
+        ensures { result ≡ same_low_byte self.now number }
+    {
+        self.tree.same_low_byte(number)
+    }
+
+    /// The part of memory that holds the low byte of an expression, where the expression is a reference, or LOW, HIGH,
+    /// DOUBLE or a conversion of one.
+    #[tactic(auto, unfolding(crate::specs::Queries::memory))]
+    pub fn memory(&self, number: ExpressionNumber) -> Option<Reference>
+        ensures { result ≡ memory self.now number }
+    {
+        let inner = self.same_low_byte(self.same_low_byte(number));
+        self.plain_in_memory(inner)
+    }
+
+    // Where the low byte of an expression lies, where it lies in memory at a place without a computed part.
+    #[tactic(auto, unfolding(crate::specs::Queries::location_of_byte))]
+    fn location_of_byte(&self, number: ExpressionNumber) -> Option<Location>
+        ensures { result ≡ location_of_byte self.now number }
+    {
+        match self.memory(number) {
+            Some(reference) => self.location_of(&reference),
+            None => None,
+        }
+    }
+
+    /// Whether HL is known to hold the address of the low byte of an expression.
+    #[tactic(auto, unfolding(crate::specs::Queries::is_at_hl))]
+    pub fn is_at_hl(&self, number: ExpressionNumber) -> bool
+        ensures { result ≡ is_at_hl self.now number }
+    {
+        same_location(self.location_of_byte(number), self.facts.address_in_hl)
+    }
+}

@@ -1,0 +1,4 @@
+pub mod Jumps
+pub mod Branches
+pub mod Conditions
+pub mod BranchLaws

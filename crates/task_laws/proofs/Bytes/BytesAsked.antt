@@ -1,0 +1,184 @@
+-- What is asked here of other parts of the proof: where the low byte of an expression lies in memory, its address comes
+-- into HL by the code of the reference.
+use Rattle.std.proofs.Common.{◌≡◌, ℕ, ◌+◌, ◌*◌, ◌/◌, ◌%◌, ◌<◌, ◌==◌, ◌⊎◌, max, List, Bool, Some, true}
+use Rattle.mem80.specs.Memory.{byte_at}
+use Rattle.trees.specs.declared.declaration.ScalarType.{ScalarType}
+use Rattle.trees.specs.declared.declaration.ScalarType.TheVariants as scalars
+use Rattle.typed_trees.specs.Charge.{height_of}
+use Rattle.typed_trees.specs.ExpressionTypes.{type_of}
+use Rattle.typed_trees.specs.TypedTrees.{TypedExpression}
+use Rattle.typed_trees.specs.WellTyped.{TypesHold}
+use Rattle.meaning.specs.Outcomes.{State as SourceState, Outcome, Gave}
+use Rattle.meaning.specs.Values.{values_of}
+use Rattle.isa8080.specs.State.{Registers, word}
+use Rattle.treecode.specs.declared.expression.ExpressionNumber.{ExpressionNumber}
+use Rattle.treecode.specs.declared.place.Place.{Place}
+use Rattle.treecode.specs.declared.reference.Reference.{Reference}
+use Rattle.treecode.specs.Homes.{place_after}
+use Rattle.treecode.specs.Lowered.{IsExpression}
+use Rattle.steps8080.specs.declared.facts.Facts.{Facts}
+use Rattle.steps8080.specs.Queries.{keeps_of_address, memory}
+use Rattle.steps8080.specs.Widths.{direct_word, fits_byte}
+use Rattle.code_meaning.specs.Activations.{IsReady}
+use Rattle.code_meaning.specs.Holding.{IsSteady, place_at}
+use Rattle.operands8080.specs.declared.pairs.PairOrder.{PairOrder}
+use Rattle.operands8080.specs.declared.pairs.PairOrder.TheVariants.{LeftInHl, RightInHl}
+use Rattle.operands8080.specs.Pairs.{pair_order, pair_steps}
+use Rattle.operands8080.specs.declared.answers.Purpose.{Purpose}
+use Rattle.operands8080.specs.declared.answers.Purpose.TheVariants.{Branch, Value}
+use Rattle.operands8080.specs.declared.answers.Setting.{Setting}
+use Rattle.operands8080.specs.WordRelations.{high_byte_steps, word_is_zero_steps}
+use Rattle.treecode_laws.specs.internal.Evaluations.{GoesOutside}
+use Rattle.treecode_laws.proofs.Exchanging.{in_order}
+use Rattle.exprgen8080.specs.Emission.{knowing}
+use Rattle.task_laws.specs.Contexts.{Context, nodes_in}
+use Rattle.task_laws.specs.Steps.{StepsStand}
+use Rattle.task_laws.specs.Tasks.{AddressDoes, Carries, Know, Left, Nothing, PartDoes}
+use Rattle.task_laws.proofs.Machine.SiteNodes.{value_in}
+
+-- the low byte of a value lies at the address in HL; A is left alone where the tree says so
+pub record ByteIsAtHl
+    (context : Context) (after : Facts) (reference : Reference) (scalar : ScalarType)
+    (r : Registers) (memory : List ℕ) (found : ℕ) (now : Registers) (memory_now : List ℕ) : Type 0 where
+  pub is_there : byte_at memory_now (word now.h now.l) ≡ found % 256
+  pub small : found < values_of scalar
+  pub steady : IsSteady context.activation (word now.h now.l)
+  pub known : Know context after now memory_now
+  pub a : Left (keeps_of_address context.site reference).a r.a now.a
+
+abbrev pub LocatesBytes : Context → Type 0
+LocatesBytes context =
+    (known_there before after : Facts) (number : ExpressionNumber) (reference : Reference) (pushed from to bound : ℕ)
+    (tree : TypedExpression)
+    → memory (knowing context.site known_there) number ≡ Some reference
+    → AddressDoes context before reference pushed from after to
+    → IsExpression (nodes_in context) context.storage bound number.index tree
+    → TypesHold context.typed context.within tree
+    → Carries context before pushed (2 * height_of tree) 0 from to Nothing (value_in context tree)
+    (ByteIsAtHl context after reference (type_of tree))
+
+-- a value whose form shows that it is below 256 is
+abbrev pub FitsMeans : Context → Type 0
+FitsMeans context =
+    (known_there : Facts) (number : ExpressionNumber) (bound top found : ℕ) (tree : TypedExpression) (base : List ℕ)
+    (s t : SourceState) (r : Registers) (memory : List ℕ)
+    → IsExpression (nodes_in context) context.storage bound number.index tree
+    → TypesHold context.typed context.within tree
+    → IsReady context.activation top base s.memory s.frame r memory
+    → fits_byte (knowing context.site known_there) number ≡ true
+    → value_in context tree s ≡ Gave found t
+    → found < 256
+
+-- a value is one of its type
+abbrev pub ValuesFit : Context → Type 0
+ValuesFit context =
+    (number : ExpressionNumber) (bound top found : ℕ) (tree : TypedExpression) (base : List ℕ)
+    (s t : SourceState) (r : Registers) (memory : List ℕ)
+    → IsExpression (nodes_in context) context.storage bound number.index tree
+    → TypesHold context.typed context.within tree
+    → IsReady context.activation top base s.memory s.frame r memory
+    → value_in context tree s ≡ Gave found t
+    → found < values_of (type_of tree)
+
+-- two words lie in HL and DE
+abbrev pub PairLies : PairOrder → (v w : ℕ) → Registers → Type 0
+PairLies LeftInHl v w r =
+    (r.h ≡ v / 256) × (r.l ≡ v % 256) × (r.d ≡ w / 256) × (r.e ≡ w % 256)
+PairLies RightInHl v w r =
+    (r.h ≡ w / 256) × (r.l ≡ w % 256) × (r.d ≡ v / 256) × (r.e ≡ v % 256)
+
+pub record PairIsGiven
+    (context : Context) (after : Facts) (order : PairOrder) (r : Registers) (memory : List ℕ)
+    (found : ℕ × ℕ) (now : Registers) (memory_now : List ℕ) : Type 0 where
+  pub lies : PairLies order found.0 found.1 now
+  pub small : found.0 < 65536
+  pub other_small : found.1 < 65536
+  pub known : Know context after now memory_now
+
+-- the pair of the values of two operands
+abbrev pub pair_of_values : Context → (first second : TypedExpression) → SourceState → Outcome (ℕ × ℕ)
+pair_of_values context first second s =
+    in_order (value_in context first) (value_in context second) (λ v w u. Gave (v, w) u) s
+
+-- two operands come into HL and DE
+abbrev pub PairsGiven : Context → Type 0
+PairsGiven context =
+    (facts last : Facts) (left right : ExpressionNumber) (wants_left_in_hl : Bool) (pushed from to bound : ℕ)
+    (first second : TypedExpression)
+    → IsExpression (nodes_in context) context.storage bound left.index first
+    → TypesHold context.typed context.within first
+    → IsExpression (nodes_in context) context.storage bound right.index second
+    → TypesHold context.typed context.within second
+    → StepsStand context (PartDoes context) facts from
+    (pair_steps (knowing context.site facts) left right wants_left_in_hl pushed) last to
+    → Carries context facts pushed (2 + 2 * max (height_of first) (height_of second)) 0 from to Nothing
+    (pair_of_values context first second)
+    (PairIsGiven context last (pair_order (knowing context.site facts) left right wants_left_in_hl))
+
+-- the word that lies at a place in memory, where a state of the source is that of the machine
+pub record WordAtPlace
+    (context : Context) (place : Place) (memory : List ℕ) (s : SourceState) (outcome : Outcome ℕ) : Type 0 where
+  pub found : ℕ
+  pub is : outcome ≡ Gave found s
+  pub low : found % 256 ≡ byte_at memory (place_at context.activation.layout place)
+  pub high : found / 256 ≡ byte_at memory (place_at context.activation.layout (place_after place 1))
+  pub low_steady : IsSteady context.activation (place_at context.activation.layout place)
+  pub high_steady : IsSteady context.activation (place_at context.activation.layout (place_after place 1))
+
+abbrev pub WordsAtPlaces : Context → Type 0
+WordsAtPlaces context =
+    (known_there : Facts) (number : ExpressionNumber) (place : Place) (bound top : ℕ) (tree : TypedExpression)
+    (base : List ℕ) (s : SourceState) (r : Registers) (memory : List ℕ)
+    → IsExpression (nodes_in context) context.storage bound number.index tree
+    → TypesHold context.typed context.within tree
+    → direct_word (knowing context.site known_there) number ≡ Some place
+    → IsReady context.activation top base s.memory s.frame r memory
+    → WordAtPlace context place memory s (value_in context tree s) ⊎ GoesOutside (value_in context tree s)
+
+-- the high byte of a value is in A
+pub record HighIsGiven
+    (context : Context) (after : Facts) (r : Registers) (memory : List ℕ)
+    (found : ℕ) (now : Registers) (memory_now : List ℕ) : Type 0 where
+  pub a : now.a ≡ found / 256
+  pub known : Know context after now memory_now
+
+-- the high byte of an ADDRESS comes into A, where a relation asks for it
+abbrev pub HighBytesGiven : Context → Type 0
+HighBytesGiven context =
+    (facts last : Facts) (number : ExpressionNumber) (pushed from to bound : ℕ) (tree : TypedExpression)
+    → IsExpression (nodes_in context) context.storage bound number.index tree
+    → TypesHold context.typed context.within tree
+    → type_of tree ≡ scalars.Address
+    → StepsStand context (PartDoes context) facts from
+    (high_byte_steps (knowing context.site facts) number pushed) last to
+    → Carries context facts pushed (2 * height_of tree) 0 from to Nothing (value_in context tree)
+    (HighIsGiven context last)
+
+-- whether a value is 0 is shown
+pub record ZeroIsShown
+    (context : Context) (after : Facts) (purpose : Purpose) (r : Registers) (memory : List ℕ)
+    (found : ℕ) (now : Registers) (memory_now : List ℕ) : Type 0 where
+  pub flag : purpose ≡ Branch → now.flags.z ≡ (found == 0)
+  pub value : purpose ≡ Value → (now.a == 0) ≡ (found == 0)
+  pub known : Know context after now memory_now
+
+-- an ADDRESS is compared with 0
+abbrev pub ZerosShown : Context → Type 0
+ZerosShown context =
+    (facts last : Facts) (number : ExpressionNumber) (setting : Setting) (from to bound : ℕ) (tree : TypedExpression)
+    → IsExpression (nodes_in context) context.storage bound number.index tree
+    → TypesHold context.typed context.within tree
+    → type_of tree ≡ scalars.Address
+    → StepsStand context (PartDoes context) facts from
+    (word_is_zero_steps (knowing context.site facts) number setting) last to
+    → Carries context facts setting.pushed (2 * height_of tree) 0 from to Nothing (value_in context tree)
+    (ZeroIsShown context last setting.purpose)
+
+pub record BytesAsked (context : Context) : Type 0 where
+  pub locates : LocatesBytes context
+  pub fits : FitsMeans context
+  pub values_fit : ValuesFit context
+  pub pairs : PairsGiven context
+  pub places : WordsAtPlaces context
+  pub high_bytes : HighBytesGiven context
+  pub zeros : ZerosShown context

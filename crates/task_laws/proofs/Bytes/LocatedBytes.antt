@@ -1,0 +1,504 @@
+-- The low byte of an expression that lies in memory: it lies at the place of the part of an object that the tree names.
+use Rattle.std.proofs.Common.{◌≡◌, ◌&&◌, ℕ, ◌+◌, ◌*◌, ◌/◌, ◌%◌, ◌<◌, ◌≤◌, ◌⊎◌, inl, inr, List, Option, Some, refl, sym, ap, subst, ◌∙◌, arith}
+use Rattle.std.specs.Option.{option_and_then, option_map_or}
+use Rattle.mem80.specs.declared.memory.TheConstants.{MEMORY_SIZE}
+use Rattle.mem80.specs.Memory.{byte_at}
+use Rattle.trees.specs.declared.declaration.ScalarType.{ScalarType}
+use Rattle.trees.specs.declared.declaration.ScalarType.TheVariants.{Byte, Address}
+use Rattle.typed_trees.specs.declared.parts.UnaryFunction.TheVariants.{Low, High, Double}
+use Rattle.typed_trees.specs.Charge.{height_of, height_of_reference}
+use Rattle.typed_trees.specs.ExpressionTypes.{type_of}
+use Rattle.typed_trees.specs.TypedTrees.{BasedOn, ConversionNode, Elsewhere, FunctionNode, Home, InConstants, InData, InFrame, Nowhere, PartOf, Placed, TypedExpression, TypedReference, ValueNode}
+use Rattle.typed_trees.specs.WellTyped.{RefersToScalar, TypesHold, TypesHoldInReference}
+use Rattle.meaning.specs.Access.{InMemory, InTheFrame, Place, Surroundings, home_of, next_place, place_in, place_of, read_scalar}
+use Rattle.meaning.specs.Meaning.{Displacement, based_place, displacement}
+use Rattle.meaning.specs.Outcomes.{State as SourceState, Outcome, Gave, Stop, Stopped, then_do}
+use Rattle.meaning.specs.Values.{as_type, values_of}
+use Rattle.isa8080.specs.State.{Registers, State}
+use Rattle.treecode.specs.declared.expression.Expression.{Expression}
+use Rattle.treecode.specs.declared.expression.ExpressionForm.{ExpressionForm}
+use Rattle.treecode.specs.declared.expression.ExpressionForm.TheVariants as forms
+use Rattle.treecode.specs.declared.expression.ExpressionNumber.{ExpressionNumber}
+use Rattle.treecode.specs.declared.reference.Reference.{Reference}
+use Rattle.treecode.specs.Lowered.{IsBinary, IsCallOf, IsConstantList, IsConversion, IsEmbedded, IsExpression, IsForm, IsFunction, IsInput, IsLocation, IsNumber, IsReference, IsShift, IsUnary, IsValue}
+use Rattle.treecode.specs.Traits as traits
+use Rattle.code_meaning.specs.Landing.{Does, at_place}
+use Rattle.code_meaning.specs.Activations.{Arrives, IsReady}
+use Rattle.code_meaning.proofs.Landing.{gives}
+use Rattle.code_meaning.specs.Holding.{IsSteady}
+use Rattle.steps8080.specs.declared.facts.Facts.{Facts}
+use Rattle.treecode_laws.specs.internal.Evaluations.{GoesOutside}
+use Rattle.steps8080.specs.Queries.{memory, reference_after}
+use Rattle.exprgen8080.specs.Emission.{knowing}
+use Rattle.task_laws.specs.Contexts.{Context, IsSound, nodes_in}
+use Rattle.task_laws.specs.Tasks.{AddressIsGiven, IsReferred, address_on_machine}
+use Rattle.task_laws.proofs.Bytes.BytesAsked.{ByteIsAtHl, LocatesBytes}
+use Rattle.task_laws.proofs.Loads.BytesInMemory.{memory_same}
+use Rattle.task_laws.proofs.Bytes.ByteForms.{type_byte, type_small}
+use Rattle.task_laws.proofs.Places.Fitting.{gave_first, located_fits, refers_is_referred}
+use Rattle.task_laws.proofs.Places.Located.{located_in}
+use Rattle.task_laws.proofs.Stores.NextBytes.{next_part, reference_next}
+use Rattle.task_laws.proofs.Machine.Nodes.{NodeOf, node_of}
+use Rattle.task_laws.proofs.Relations.PlaceComparisons.{word_of_type}
+use Rattle.task_laws.proofs.Machine.Rules.{room_for}
+use Rattle.task_laws.proofs.Places.ReadPlaces.{HighIsAt, LowIsAt, WordIsAt, does_outside, scalar_found, then_outside, word_found}
+use Rattle.task_laws.proofs.Machine.SiteNodes.{value_in}
+use Rattle.task_laws.proofs.Machine.Stages.{does_same, then_does_where}
+
+memory_next : (start one offset two : ℕ) (s : SourceState)
+    → Gave (InMemory ((start + (one + (offset + 1) + two)) % MEMORY_SIZE)) s
+    ≡ Gave (InMemory (((start + (one + offset + two)) % MEMORY_SIZE + 1) % MEMORY_SIZE)) s
+memory_next start one offset two s = ap (λ (n : ℕ). Gave (InMemory n) s) (further start one offset two)
+  where
+    further : (start one offset two : ℕ)
+        → (start + (one + (offset + 1) + two)) % MEMORY_SIZE
+        ≡ ((start + (one + offset + two)) % MEMORY_SIZE + 1) % MEMORY_SIZE
+    further start one offset two = omega arith
+
+-- a part one byte further on lies at the next place
+based_next :
+    (home : Home) (around : Surroundings) (object one offset two : ℕ) (is_inside : _) (s : SourceState)
+    → based_place home around object (one + (offset + 1) + two) is_inside s
+    ≡ then_do (based_place home around object (one + offset + two) is_inside s)
+    (λ place t. Gave (next_place place) t)
+based_next (BasedOn base) around object one offset two is_inside s =
+    by (read_scalar around.program Address (place_of around base) s)
+  where
+    further : (start : ℕ) → (start + (one + (offset + 1) + two)) % MEMORY_SIZE
+        ≡ ((start + (one + offset + two)) % MEMORY_SIZE + 1) % MEMORY_SIZE
+    further start = omega arith
+
+    by : (outcome : Outcome ℕ)
+        → then_do outcome (λ start t. Gave (InMemory ((start + (one + (offset + 1) + two)) % MEMORY_SIZE)) t)
+        ≡ then_do (then_do outcome
+        (λ start t. Gave (InMemory ((start + (one + offset + two)) % MEMORY_SIZE)) t))
+        (λ place t. Gave (next_place place) t)
+    by (Gave start t) = ap (λ (n : ℕ). Gave (InMemory n) t) (further start)
+    by (Stopped why t) = refl
+based_next (InFrame procedure) around object one offset two is_inside s =
+    ap (λ (n : ℕ). Gave (InTheFrame object n is_inside) s) (further one offset two)
+  where
+    further : (one offset two : ℕ) → one + (offset + 1) + two ≡ one + offset + two + 1
+    further one offset two = omega arith
+based_next (InData values) around object one offset two is_inside s = memory_next (Rattle.meaning.specs.Access.address_of around object) one offset two s
+based_next (InConstants values) around object one offset two is_inside s = memory_next (Rattle.meaning.specs.Access.address_of around object) one offset two s
+based_next (Placed at) around object one offset two is_inside s = memory_next (Rattle.meaning.specs.Access.address_of around object) one offset two s
+based_next Elsewhere around object one offset two is_inside s = memory_next (Rattle.meaning.specs.Access.address_of around object) one offset two s
+based_next Nowhere around object one offset two is_inside s = memory_next (Rattle.meaning.specs.Access.address_of around object) one offset two s
+
+-- what follows two outcomes
+after_both :
+    {A B C D : Type 0} (first : Outcome A) (second : A → SourceState → Outcome B)
+    (one : A → B → SourceState → Outcome C)
+    (other : A → B → SourceState → Outcome D) (go : D → SourceState → Outcome C)
+    → ((a : A) (b : B) (u : SourceState) → one a b u ≡ then_do (other a b u) go)
+    → then_do first (λ a t. then_do (second a t) (λ b u. one a b u))
+    ≡ then_do (then_do first (λ a t. then_do (second a t) (λ b u. other a b u))) go
+after_both {B = B} {C = C} (Gave a t) second one other go same = by (second a t)
+  where
+    by : (outcome : Outcome B) → then_do outcome (λ b u. one a b u) ≡ then_do
+        (then_do outcome (λ b u. other a b u)) go
+    by (Gave b u) = same a b u
+    by (Stopped why u) = refl
+after_both (Stopped why t) second one other go same = refl
+
+pub located_next :
+    (context : Context) (part : TypedReference) (s : SourceState)
+    → located_in context (next_part part) s ≡ then_do (located_in context part s)
+    (λ place t. Gave (next_place place) t)
+located_next context (PartOf object subscript member offset member_subscript) s =
+    let around = context.activation.around in
+    after_both (displacement context.later around subscript s)
+    (λ (one : Displacement) t. displacement context.later around member_subscript t)
+    (λ (one two : Displacement) u. based_place (home_of around object) around object
+    (one.bytes + (offset + 1) + two.bytes) (one.is_inside && two.is_inside) u)
+    (λ (one two : Displacement) u. based_place (home_of around object) around object
+    (one.bytes + offset + two.bytes) (one.is_inside && two.is_inside) u)
+    (λ place t. Gave (next_place place) t)
+    (λ one two u. based_next (home_of around object) around object one.bytes offset two.bytes (one.is_inside && two.is_inside) u)
+
+same_both : {A : Type 0} {one other : A} {t u : SourceState} → Gave one t ≡ Gave other u → (one ≡ other)
+    × (t ≡ u)
+same_both same = (cc, cc)
+
+-- The low byte of an expression lies at a part of an object that lies at a reference.
+pub record ByteLies (context : Context) (reference : Reference) (tree : TypedExpression) : Type 0 where
+  pub bound : ℕ
+  pub part : TypedReference
+  pub is : IsReference (nodes_in context) context.storage bound reference part
+  pub referred : IsReferred context part
+  pub types : TypesHoldInReference context.typed context.within part
+  pub height : height_of_reference part ≤ height_of tree
+  pub gives :
+      (place : Place) (s u : SourceState) (top : ℕ) (base memory : List ℕ) (r : Registers)
+      → located_in context part s ≡ Gave place u
+      → IsReady context.activation top base u.memory u.frame r memory
+      → LowIsAt context (type_of tree) (address_on_machine context.activation place) memory u
+      (value_in context tree s)
+      ⊎ GoesOutside (value_in context tree s)
+  pub stops :
+      (why : Stop) (s u : SourceState)
+      → located_in context part s ≡ Stopped why u
+      → value_in context tree s ≡ Stopped why u
+
+-- the high byte of an ADDRESS that is read lies at the next part
+pub high_found :
+    {context : Context} (part : TypedReference) (place : Place) (s u : SourceState) (top : ℕ)
+    (base memory : List ℕ)
+    (r : Registers)
+    → IsSound context
+    → RefersToScalar context.typed context.within Address part
+    → located_in context (next_part part) s ≡ Gave place u
+    → IsReady context.activation top base u.memory u.frame r memory
+    → HighIsAt context (address_on_machine context.activation place) memory u
+    (value_in context (ValueNode Address part) s)
+    ⊎ GoesOutside (value_in context (ValueNode Address part) s)
+high_found {context = context} part place s u top base memory r sound refers same ready =
+    let program = context.activation.around.program in
+    let given = gave_first (located_in context part s) (λ place t. Gave (next_place place) t) place u
+    (sym (located_next context part s) ∙ same) in
+    let both = same_both given.next in
+    let value_is : value_in context (ValueNode Address part) s ≡ read_scalar program Address given.first given.t
+    = ap (λ (outcome : Outcome Place). then_do outcome (λ place t. read_scalar program Address place t)) given.is in
+    let ready_there : IsReady context.activation top base (given.t).memory (given.t).frame r memory
+    = subst (λ (t : SourceState). IsReady context.activation top base t.memory t.frame r memory) (sym both.1) ready in
+    subst (λ (outcome : Outcome ℕ). HighIsAt context (address_on_machine context.activation place) memory u outcome ⊎ GoesOutside outcome)
+    (sym value_is)
+    (by given.first given.t both.0 both.1 (word_found given.first given.t sound ready_there
+    (located_fits context Address part given.first s given.t sound refers given.is)))
+  where
+    by : (first : Place) (t : SourceState) → next_place first ≡ place → t ≡ u
+        → WordIsAt context first memory t (read_scalar context.activation.around.program Address first t)
+        ⊎ GoesOutside (read_scalar context.activation.around.program Address first t)
+        → HighIsAt context (address_on_machine context.activation place) memory u
+        (read_scalar context.activation.around.program Address first t)
+        ⊎ GoesOutside (read_scalar context.activation.around.program Address first t)
+    by first t there now (inr outside) = inr outside
+    by first t there now (inl found) =
+        inl (subst (λ (p : Place). HighIsAt context (address_on_machine context.activation p) memory u
+        (read_scalar context.activation.around.program Address first t)) there
+        (subst (λ (v : SourceState). HighIsAt context (address_on_machine context.activation (next_place first)) memory v
+        (read_scalar context.activation.around.program Address first t)) now found.high_is))
+
+pub high_stops :
+    (context : Context) (part : TypedReference) (why : Stop) (s u : SourceState)
+    → located_in context (next_part part) s ≡ Stopped why u
+    → value_in context (ValueNode Address part) s ≡ Stopped why u
+high_stops context part why s u same =
+    by (located_in context part s) (sym (located_next context part s) ∙ same)
+  where
+    by : (outcome : Outcome Place) → then_do outcome (λ place t. Gave (next_place place) t) ≡ Stopped why u
+        → then_do outcome (λ place t. read_scalar context.activation.around.program Address place t) ≡ Stopped
+        why u
+    by (Gave place t) is = absurd cc
+    by (Stopped reason t) is = cc
+
+next_referred : (context : Context) (part : TypedReference) → IsReferred context part → IsReferred context
+    (next_part part)
+next_referred context (PartOf _ _ _ _ _) is = is
+
+next_types : (context : Context) (part : TypedReference)
+    → TypesHoldInReference context.typed context.within part → TypesHoldInReference context.typed
+    context.within (next_part part)
+next_types context (PartOf _ _ _ _ _) is = is
+
+next_height : (part : TypedReference) → height_of_reference (next_part part) ≡ height_of_reference part
+next_height (PartOf _ _ _ _ _) = refl
+
+-- the parts of a reference one byte further on
+pub record NextLies (context : Context) (bound : ℕ) (reference : Reference) (part : TypedReference) : Type 0 where
+  pub is : IsReference (nodes_in context) context.storage bound (reference_after reference 1) (next_part part)
+  pub referred : IsReferred context (next_part part)
+  pub types : TypesHoldInReference context.typed context.within (next_part part)
+  pub height : height_of_reference (next_part part) ≡ height_of_reference part
+
+pub next_lies :
+    (context : Context) (bound : ℕ) (reference : Reference) (part : TypedReference)
+    → IsReference (nodes_in context) context.storage bound reference part
+    → RefersToScalar context.typed context.within Address part
+    → TypesHoldInReference context.typed context.within part
+    → NextLies context bound reference part
+next_lies context bound reference part is refers types = record {
+  is = reference_next (nodes_in context) context.storage bound reference part is;
+  referred = next_referred context part (refers_is_referred context Address part refers);
+  types = next_types context part types;
+  height = next_height part;
+}
+
+high_byte : (n : ℕ) → n < 65536 → n / 256 ≡ n / 256 % 256
+high_byte n small = omega (arith, small)
+
+high_small : (n : ℕ) → n < 65536 → n / 256 < 256
+high_small n small = omega (arith, small)
+
+module _ (context : Context) (sound : IsSound context) where
+  -- what is read
+  value_lies :
+      {bound : ℕ} {reference : Reference} (scalar : ScalarType) (part : TypedReference)
+      → IsReference (nodes_in context) context.storage bound reference part
+      → TypesHold context.typed context.within (ValueNode scalar part)
+      → ByteLies context reference (ValueNode scalar part)
+  value_lies {bound = bound} scalar part is types = record {
+    bound = bound;
+    part = part;
+    is = is;
+    referred = refers_is_referred context scalar part types.0;
+    types = types.1;
+    height = omega arith;
+    gives = λ place s u top base memory r same ready.
+        subst (λ (outcome : Outcome ℕ). LowIsAt context scalar (address_on_machine context.activation place) memory u outcome ⊎ GoesOutside outcome)
+        (sym (ap (λ (outcome : Outcome Place). then_do outcome (λ place t. read_scalar context.activation.around.program scalar place t)) same))
+        (scalar_found scalar place u sound ready (located_fits context scalar part place s u sound types.0 same));
+    stops = λ why s u same. ap (λ (outcome : Outcome Place). then_do outcome (λ place t. read_scalar context.activation.around.program scalar place t)) same;
+  }
+
+  -- its high byte
+  high_lies :
+      {bound : ℕ} {reference : Reference} (part : TypedReference)
+      → IsReference (nodes_in context) context.storage bound reference part
+      → TypesHold context.typed context.within (ValueNode Address part)
+      → ByteLies context (reference_after reference 1) (FunctionNode High (ValueNode Address part))
+  high_lies {bound = bound} {reference = reference} part is types =
+      let next = next_lies context bound reference part is types.0 types.1 in
+      let height_is = next.height in
+      record {
+        bound = bound;
+        part = next_part part;
+        is = next.is;
+        referred = next.referred;
+        types = next.types;
+        height = omega (arith, height_is);
+        gives = λ place s u top base memory r same ready.
+            by place u memory (value_in context (ValueNode Address part) s)
+            (high_found part place s u top base memory r sound types.0 same ready);
+        stops = λ why s u same. ap (λ (outcome : Outcome ℕ). then_do outcome (λ n t. Gave (n / 256) t)) (high_stops context part why s u same);
+      }
+    where
+      by : (place : Place) (u : SourceState) (memory : List ℕ) (outcome : Outcome ℕ)
+          → HighIsAt context (address_on_machine context.activation place) memory u outcome ⊎ GoesOutside
+          outcome
+          → LowIsAt context Byte (address_on_machine context.activation place) memory u
+          (then_do outcome (λ n t. Gave (n / 256) t))
+          ⊎ GoesOutside (then_do outcome (λ n t. Gave (n / 256) t))
+      by place u memory outcome (inl high) = inl (record {
+        found = high.found / 256;
+        is = ap (λ (given : Outcome ℕ). then_do given (λ n t. Gave (n / 256) t)) high.is;
+        low = high.high ∙ high_byte high.found high.small;
+        small = high_small high.found high.small;
+        steady = high.steady;
+      })
+      by place u memory outcome (inr outside) = inr (then_outside outcome _ outside)
+
+  -- a value whose low byte is that of another one
+  inside_lies :
+      {reference : Reference} (tree inside : TypedExpression) (f : ℕ → ℕ)
+      → height_of inside ≤ height_of tree
+      → ((s : SourceState) → value_in context tree s ≡ then_do (value_in context inside s)
+      (λ n t. Gave (f n) t))
+      → ((n : ℕ) → n < values_of (type_of inside) → n % 256 ≡ f n % 256)
+      → ((n : ℕ) → n < values_of (type_of inside) → f n < values_of (type_of tree))
+      → ByteLies context reference inside
+      → ByteLies context reference tree
+  inside_lies tree inside f lower means bytes small lies =
+      let height = lies.height in
+      record {
+        bound = lies.bound;
+        part = lies.part;
+        is = lies.is;
+        referred = lies.referred;
+        types = lies.types;
+        height = omega (arith, height, lower);
+        gives = λ place s u top base memory r same ready.
+            subst (λ (outcome : Outcome ℕ). LowIsAt context (type_of tree) (address_on_machine context.activation place) memory u outcome ⊎ GoesOutside outcome)
+            (sym (means s)) (by place u memory (value_in context inside s) (lies.gives place s u top base memory r same ready));
+        stops = λ why s u same. means s ∙ ap (λ (outcome : Outcome ℕ). then_do outcome (λ n t. Gave (f n) t)) (lies.stops why s u same);
+      }
+    where
+      by : (place : Place) (u : SourceState) (memory : List ℕ) (outcome : Outcome ℕ)
+          → LowIsAt context (type_of inside) (address_on_machine context.activation place) memory u outcome
+          ⊎ GoesOutside outcome
+          → LowIsAt context (type_of tree) (address_on_machine context.activation place) memory u
+          (then_do outcome (λ n t. Gave (f n) t))
+          ⊎ GoesOutside (then_do outcome (λ n t. Gave (f n) t))
+      by place u memory outcome (inl low) = inl (record {
+        found = f low.found;
+        is = ap (λ (given : Outcome ℕ). then_do given (λ n t. Gave (f n) t)) low.is;
+        low = low.low ∙ bytes low.found low.small;
+        small = small low.found low.small;
+        steady = low.steady;
+      })
+      by place u memory outcome (inr outside) = inr (then_outside outcome _ outside)
+
+  -- where a form tells a part of memory
+  abbrev LiesBy : (ExpressionForm → Option Reference) → Type 0
+  LiesBy tells =
+      (bound : ℕ) (form : ExpressionForm) (tree : TypedExpression) (reference : Reference)
+      → IsForm (nodes_in context) context.storage bound form tree
+      → TypesHold context.typed context.within tree
+      → tells form ≡ Some reference
+      → ByteLies context reference tree
+
+  same_some : {one other : Reference} → Some one ≡ Some other → one ≡ other
+  same_some same = cc
+
+  -- where its byte after it is one
+  after_lies :
+      (reference : Reference) (operand : ExpressionNumber) (tree : TypedExpression)
+      (node : NodeOf context operand tree)
+      → TypesHold context.typed context.within tree
+      → traits.byte_after node.found.traits.scalar node.found.form ≡ Some reference
+      → ByteLies context reference (FunctionNode High tree)
+  after_lies reference operand tree node types told =
+      by operand.index node.found.form node.found.traits.scalar tree types node.scalar node.form told
+    where
+      by : (bound : ℕ) (form : ExpressionForm) (scalar : ScalarType) (tree : TypedExpression)
+          → TypesHold context.typed context.within tree
+          → scalar ≡ type_of tree
+          → IsForm (nodes_in context) context.storage bound form tree
+          → traits.byte_after scalar form ≡ Some reference
+          → ByteLies context reference (FunctionNode High tree)
+      by bound _ Address tree types same (IsValue {scalar = Address} {reference = inner} {part = part} is) told =
+          subst (λ (given : Reference). ByteLies context given (FunctionNode High (ValueNode Address part))) (same_some told)
+          (high_lies part is types)
+      by bound _ Address tree types same (IsValue {scalar = Byte} is) told = absurd cc
+      by bound _ Address tree types same other told = absurd cc
+      by bound _ Byte tree types same other told = absurd cc
+
+  -- a form that is none of these itself
+  inner_lies : LiesBy (λ form. traits.memory_of_inner (nodes_in context) form)
+  inner_lies bound _ _ reference (IsValue {scalar = scalar} {part = part} is) types told =
+      subst (λ (given : Reference). ByteLies context given (ValueNode scalar part)) (same_some told) (value_lies scalar part is types)
+  inner_lies bound _ _ reference (IsFunction {function = High} {operand = operand} {tree = tree} is) types told =
+      let node = node_of {context = context} {number = operand} sound is in
+      after_lies reference operand tree node types
+      (sym (ap (λ (found : Option Expression). option_and_then
+      (λ (one : Expression). traits.byte_after one.traits.scalar one.form) found) node.is_there) ∙ told)
+  inner_lies bound _ _ reference (IsFunction {function = Low} is) types told = absurd cc
+  inner_lies bound _ _ reference (IsFunction {function = Double} is) types told = absurd cc
+  inner_lies bound _ _ reference other types told = absurd cc
+
+  conversion_inside :
+      {reference : Reference} (scalar : ScalarType) (tree : TypedExpression)
+      → ByteLies context reference tree
+      → ByteLies context reference (ConversionNode scalar tree)
+  conversion_inside scalar tree lies =
+      inside_lies (ConversionNode scalar tree) tree (as_type scalar) (omega arith) (λ s. refl)
+      (λ n small. type_byte scalar n) (λ n small. type_small scalar n) lies
+
+  low_inside :
+      {reference : Reference} (tree : TypedExpression)
+      → ByteLies context reference tree
+      → ByteLies context reference (FunctionNode Low tree)
+  low_inside tree lies =
+      inside_lies (FunctionNode Low tree) tree (λ n. n % 256) (omega arith) (λ s. refl)
+      (λ n small. omega arith) (λ n small. omega arith) lies
+
+  double_inside :
+      {reference : Reference} (tree : TypedExpression)
+      → ByteLies context reference tree
+      → ByteLies context reference (FunctionNode Double tree)
+  double_inside tree lies =
+      inside_lies (FunctionNode Double tree) tree (λ n. n) (omega arith) (λ s. refl)
+      (λ n small. refl) (λ n small. word_of_type (type_of tree) n small) lies
+
+  -- inside a conversion, LOW or DOUBLE too
+  deeper :
+      (tells : ExpressionForm → Option Reference)
+      → LiesBy tells
+      → LiesBy (λ form. tells (traits.same_low_byte (nodes_in context) form))
+  deeper tells lies bound _ _ reference (IsConversion {inner = inner} {scalar = scalar} {tree = tree} is) types told =
+      let node = node_of {context = context} {number = inner} sound is in
+      conversion_inside scalar tree
+      (lies inner.index node.found.form tree reference node.form types
+      (sym (ap (λ (found : Option Expression). tells (option_map_or (λ (one : Expression). one.form) found (forms.Conversion inner))) node.is_there) ∙ told))
+  deeper tells lies bound _ _ reference (IsFunction {function = Low} {operand = inner} {tree = tree} is) types told =
+      let node = node_of {context = context} {number = inner} sound is in
+      low_inside tree
+      (lies inner.index node.found.form tree reference node.form types
+      (sym (ap (λ (found : Option Expression). tells (option_map_or (λ (one : Expression). one.form) found (forms.Function Low inner))) node.is_there) ∙ told))
+  deeper tells lies bound _ _ reference (IsFunction {function = Double} {operand = inner} {tree = tree} is) types told =
+      let node = node_of {context = context} {number = inner} sound is in
+      double_inside tree
+      (lies inner.index node.found.form tree reference node.form types
+      (sym (ap (λ (found : Option Expression). tells (option_map_or (λ (one : Expression). one.form) found (forms.Function Double inner))) node.is_there) ∙ told))
+  deeper tells lies bound form tree reference (IsFunction {function = High} is) types told = lies bound form tree reference (IsFunction is) types told
+  deeper tells lies bound form tree reference IsNumber types told = lies bound form tree reference IsNumber types told
+  deeper tells lies bound form tree reference (IsValue is) types told = lies bound form tree reference (IsValue is) types told
+  deeper tells lies bound form tree reference (IsLocation is) types told = lies bound form tree reference (IsLocation is) types told
+  deeper tells lies bound form tree reference IsConstantList types told = lies bound form tree reference IsConstantList types told
+  deeper tells lies bound form tree reference (IsEmbedded to is) types told = lies bound form tree reference (IsEmbedded to is) types told
+  deeper tells lies bound form tree reference (IsUnary is) types told = lies bound form tree reference (IsUnary is) types told
+  deeper tells lies bound form tree reference (IsBinary one two) types told = lies bound form tree reference (IsBinary one two) types told
+  deeper tells lies bound form tree reference (IsCallOf given) types told = lies bound form tree reference (IsCallOf given) types told
+  deeper tells lies bound form tree reference (IsShift one two) types told = lies bound form tree reference (IsShift one two) types told
+  deeper tells lies bound form tree reference IsInput types told = lies bound form tree reference IsInput types told
+
+  -- what a site says is in memory lies there
+  pub byte_lies :
+      {bound : ℕ} {number : ExpressionNumber} {tree : TypedExpression} {reference : Reference} (facts : Facts)
+      → IsExpression (nodes_in context) context.storage bound number.index tree
+      → TypesHold context.typed context.within tree
+      → memory (knowing context.site facts) number ≡ Some reference
+      → ByteLies context reference tree
+  byte_lies {number = number} {tree = tree} {reference = reference} facts is types told =
+      let node = node_of {context = context} {number = number} sound is in
+      deeper (λ form. traits.memory_of_inner (nodes_in context) (traits.same_low_byte (nodes_in context) form))
+      (deeper (λ form. traits.memory_of_inner (nodes_in context) form) inner_lies)
+      number.index node.found.form tree reference node.form types
+      (sym (memory_same context sound facts node) ∙ told)
+
+-- what gives its place in a part, gives a value then
+pub where_located :
+    {A B : Type 0} {script : List (List ℕ)} {budget more : ℕ} {from : State} (outcome : Outcome A)
+    (other : Outcome B)
+    {Middle : A → SourceState → State → Type 0} {Good : B → SourceState → State → Type 0}
+    → Does script budget 0 from outcome Middle
+    → ((found : A) (t : SourceState) (end : State) → outcome ≡ Gave found t → Middle found t end
+    → t.budget ≤ budget
+    → Does script t.budget more end other Good)
+    → ((why : Stop) (t : SourceState) → outcome ≡ Stopped why t → other ≡ Stopped why t)
+    → Does script budget more from other Good
+where_located (Gave found t) other one rest stops = then_does_where (Gave found t) {go = λ found t. other} one rest
+where_located (Stopped why t) other one rest stops =
+    does_same (Stopped why t) (stops why t refl) (then_does_where (Stopped why t) {go = λ found t. other} one rest)
+
+-- the low byte of an expression lies at the address that comes into HL
+pub locates_bytes : (context : Context) → IsSound context → LocatesBytes context
+locates_bytes context sound known_there before after number reference pushed from to bound tree told does is types top base s r memory below room ready known asked =
+    let lies = byte_lies context sound known_there is types told in
+    let height = lies.height in
+    where_located (located_in context lies.part s) (value_in context tree s)
+    (does lies.bound lies.part lies.is lies.referred lies.types top base s r memory below
+    (room_for (2 * height_of_reference lies.part) (omega (arith, height)) room) ready known tt)
+    (λ place t end same given fewer.
+    let there : Registers = given.r in
+    subst (λ (state : State). Does context.activation.around.program.script t.budget 0 state (value_in context tree s)
+    (Arrives context.activation top base to (ByteIsAtHl context after reference (type_of tree) r memory))) (sym given.is_at)
+    (by place t there given.memory given.ready given.holds (lies.gives place s t top base given.memory there same given.ready)))
+    (λ why t same. lies.stops why s t same)
+  where
+    by : (place : Place) (t : SourceState) (there : Registers) (ended : List ℕ)
+        → IsReady context.activation top base t.memory t.frame there ended
+        → AddressIsGiven context after reference r memory place there ended
+        → LowIsAt context (type_of tree) (address_on_machine context.activation place) ended t
+        (value_in context tree s)
+        ⊎ GoesOutside (value_in context tree s)
+        → Does context.activation.around.program.script t.budget 0 (at_place to there ended t.events)
+        (value_in context tree s)
+        (Arrives context.activation top base to (ByteIsAtHl context after reference (type_of tree) r memory))
+    by place t there ended ready holds (inr outside) = does_outside (value_in context tree s) outside
+    by place t there ended ready holds (inl low) =
+        does_same (Gave low.found t) low.is
+        (gives (record {
+          r = there;
+          memory = ended;
+          is_at = refl;
+          ready = ready;
+          holds = record {
+            is_there = ap (byte_at ended) holds.hl ∙ low.low;
+            small = low.small;
+            steady = subst (λ (n : ℕ). IsSteady context.activation n) (sym holds.hl) low.steady;
+            known = holds.known;
+            a = holds.a;
+          };
+        }))

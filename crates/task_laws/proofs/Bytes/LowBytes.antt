@@ -1,0 +1,178 @@
+-- The low byte of values that come by way of HL, of calls and of ports.
+use Rattle.std.proofs.Common.{◌≡◌, ℕ, ◌*◌, ◌%◌, ◌<◌, true, List, [], ◌∷◌, ◌++◌, Some, refl, sym, subst, arith}
+use Rattle.trees.specs.declared.declaration.ScalarType.{ScalarType}
+use Rattle.trees.specs.declared.declaration.ScalarType.TheVariants as scalars
+use Rattle.typed_trees.specs.Charge.{height_of}
+use Rattle.typed_trees.specs.ExpressionTypes.{type_of}
+use Rattle.typed_trees.specs.TypedTrees.{CallNode, InputNode, TypedArguments, TypedExpression}
+use Rattle.typed_trees.specs.WellTyped.{Takes, TypesHold, TypesHoldInArguments}
+use Rattle.meaning.specs.Outcomes.{State as SourceState, Outcome, Gave}
+use Rattle.meaning.specs.Values.{values_of}
+use Rattle.isa8080.specs.declared.instr.Instr.TheVariants.{In}
+use Rattle.isa8080.specs.declared.instr.Register.TheVariants.{A, L}
+use Rattle.isa8080.specs.State.{Registers, State}
+use Rattle.treecode.specs.declared.expression.ExpressionNumber.{ExpressionNumber}
+use Rattle.treecode.specs.declared.lists.Range.{Range}
+use Rattle.treecode.specs.Lowered.{AreArguments, IsExpression}
+use Rattle.code_meaning.specs.Activations.{Arrives, IsReady}
+use Rattle.code_meaning.specs.Landing.{Does, at_place}
+use Rattle.code_meaning.proofs.Landing.{gives}
+use Rattle.steps8080.specs.declared.facts.Facts.{Facts}
+use Rattle.steps8080.specs.declared.step.Step.TheVariants.{Plain}
+use Rattle.steps8080.specs.Instructions.{copy}
+use Rattle.steps8080.specs.Queries.{is_free}
+use Rattle.exprgen8080.specs.Bytes.{low_of_value_steps}
+use Rattle.exprgen8080.specs.Calls.{call_steps}
+use Rattle.exprgen8080.specs.Emission.{knowing}
+use Rattle.exprgen8080.specs.Halves.{low_of_word_steps}
+use Rattle.task_laws.specs.Contexts.{Context, InRegister, IsSound, nodes_in}
+use Rattle.task_laws.specs.Steps.{StepsStand, PlainThere}
+use Rattle.task_laws.specs.Tasks.{ByteIsGiven, Know, PartDoes}
+use Rattle.task_laws.proofs.Branches.Branches.{given_itself}
+use Rattle.task_laws.proofs.Bytes.ByteCode.{ByteCarried, OfOne, at_last_instructions, byte_of_word, with_outcome}
+use Rattle.task_laws.proofs.Bytes.ByteForms.{byte_given}
+use Rattle.task_laws.proofs.Calls.Calls.{call_does}
+use Rattle.task_laws.proofs.Machine.EffectForms.{input_goes}
+use Rattle.task_laws.proofs.Ranges.Ranges.{ready_fits, value_fits}
+use Rattle.task_laws.proofs.Machine.Rules.{Parted, split}
+use Rattle.task_laws.proofs.Machine.SiteNodes.{value_in}
+use Rattle.task_laws.proofs.Machine.Stages.{Stage, at_end, gives_then, has_less_room, script_of}
+
+-- by way of HL
+pub low_word_law :
+    {context : Context} {facts last : Facts} {from to bound : ℕ} {tree : TypedExpression} (number : ExpressionNumber)
+    (pushed : ℕ)
+    → IsSound context
+    → IsExpression (nodes_in context) context.storage bound number.index tree
+    → TypesHold context.typed context.within tree
+    → (is_free context.site number ≡ true → ⊥)
+    → StepsStand context (PartDoes context) facts from (low_of_word_steps number pushed) last to
+    → ByteCarried context facts number tree pushed from last to
+unfolding low_of_word_steps
+low_word_law {context = context} {bound = bound} {tree = tree} number pushed sound is types not_free stand =
+    byte_of_word context sound itself (copy A L ∷ []) (λ h l. l) (tt, tt) (λ r h_small l_small. refl) not_free (λ v fits. refl) stand
+  where
+    itself : OfOne context number number tree tree (λ v. v) (values_of (type_of tree))
+    itself = record {
+      bound = bound;
+      node = is;
+      types = types;
+      fewer = omega arith;
+      means = λ t. given_itself (value_in context tree t);
+      fits = λ s u v source same. value_fits s sound is types source same;
+      small = λ v fits. fits;
+      free = λ free. free;
+    }
+
+-- the low byte of a value is in A
+pub record LowIsGiven
+    (context : Context) (after : Facts) (r : Registers) (memory : List ℕ) (found : ℕ) (now : Registers)
+    (memory_now : List ℕ) : Type 0 where
+  pub a : now.a ≡ found % 256
+  pub known : Know context after now memory_now
+
+-- and the value is one of its type
+pub low_given :
+    {context : Context} {last : Facts} {to bound : ℕ} {tree : TypedExpression} {top : ℕ} {base : List ℕ}
+    (number : ExpressionNumber) (from : ℕ) (s : SourceState) (r : Registers) (memory : List ℕ)
+    → IsSound context
+    → IsExpression (nodes_in context) context.storage bound number.index tree
+    → TypesHold context.typed context.within tree
+    → (is_free context.site number ≡ true → ⊥)
+    → IsReady context.activation top base s.memory s.frame r memory
+    → Does (script_of context) s.budget 0 (at_place from r memory s.events) (value_in context tree s)
+    (Arrives context.activation top base to (LowIsGiven context last r memory))
+    → Does (script_of context) s.budget 0 (at_place from r memory s.events) (value_in context tree s)
+    (Arrives context.activation top base to (ByteIsGiven context last number (type_of tree) r memory))
+low_given {context = context} {tree = tree} number from s r memory sound is types not_free ready does =
+    with_outcome (value_in context tree s) does
+    (λ found t end same arrives.
+    record {
+      r = arrives.r;
+      memory = arrives.memory;
+      is_at = arrives.is_at;
+      ready = arrives.ready;
+      holds = record {
+        a = arrives.holds.a;
+        small = value_fits s sound is types (ready_fits context s ready) same;
+        known = arrives.holds.known;
+        free = λ free. absurd (not_free free);
+      };
+    })
+
+-- INPUT
+pub input_law :
+    {context : Context} {facts last : Facts} {from to : ℕ} (number : ExpressionNumber) (port pushed : ℕ)
+    → IsSound context
+    → StepsStand context (PartDoes context) facts from (Plain (In port) ∷ []) last to
+    → ByteCarried context facts number (InputNode port) pushed from last to
+input_law {to = to} number port pushed sound (PlainThere there rest) top base s r memory below room ready known nothing =
+    input_goes port sound there (record { below = below; room = room; ready = ready; known = known })
+    (λ small next.
+    at_end rest next
+    (λ final.
+    byte_given to number _ (byte_itself _ small) small
+    (λ free. record { b = refl; c = refl; d = refl; e = refl; h = refl; l = refl; same_memory = refl }) final))
+  where
+    byte_itself : (n : ℕ) → n < 256 → n ≡ n % 256
+    byte_itself n small = omega (arith, small)
+
+-- the low byte of a value that is in A or HL, by its type
+low_of_value :
+    {A : Type 0} {context : Context} {top pushed need : ℕ} {base : List ℕ} {t : SourceState} {facts last : Facts}
+    {r : Registers} {memory : List ℕ} {from to budget more : ℕ} {outcome : Outcome A}
+    {Good : A → SourceState → State → Type 0} (scalar : ScalarType) (found : ℕ)
+    → IsSound context
+    → InRegister scalar found r
+    → StepsStand context (PartDoes context) facts from (low_of_value_steps scalar) last to
+    → Stage context top pushed need base t facts r memory
+    → ((now : Registers) → now.a ≡ found % 256
+    → Stage context top pushed need base t last now memory
+    → Does (script_of context) budget more (at_place to now memory t.events) outcome Good)
+    → Does (script_of context) budget more (at_place from r memory t.events) outcome Good
+unfolding low_of_value_steps
+low_of_value {r = r} scalars.Byte found sound there stand stage rest =
+    at_end stand stage (λ final. rest r (low_is r.a found there stage.ready.registers.a) final)
+  where
+    low_is : (a found : ℕ) → a ≡ found → a < 256 → a ≡ found % 256
+    low_is a found same small = omega (arith, same, small)
+low_of_value scalars.Address found sound there stand stage rest =
+    at_last_instructions (copy A L ∷ []) sound (tt, tt) stand stage (λ final. rest _ there.1 final)
+
+-- a call
+pub called_law :
+    {context : Context} {facts last : Facts} {from to bound bound_of : ℕ} {scalar : ScalarType} {trees : TypedArguments}
+    (number : ExpressionNumber) (procedure : ℕ) (range : Range) (pushed : ℕ)
+    → IsSound context
+    → AreArguments (nodes_in context) context.storage bound range.first range.count trees
+    → Takes context.typed procedure (Some scalar) trees
+    → TypesHoldInArguments context.typed context.within trees
+    → IsExpression (nodes_in context) context.storage bound_of number.index (CallNode procedure scalar trees)
+    → (is_free context.site number ≡ true → ⊥)
+    → StepsStand context (PartDoes context) facts from
+    (call_steps (knowing context.site facts) procedure range pushed ++ low_of_value_steps scalar) last to
+    → ByteCarried context facts number (CallNode procedure scalar trees) pushed from last to
+called_law {context = context} {facts = facts} {last = last} {from = from} {to = to} {bound = bound} {scalar = scalar} {trees = trees} number procedure range pushed sound are takes types is not_free stand top base s r memory below room ready known nothing =
+    low_given number from s r memory sound is (takes, types) not_free ready
+    (gives_then (value_in context (CallNode procedure scalar trees) s)
+    (call_does procedure range sound parts.first bound (Some scalar) trees are takes types top base s r memory
+    below (has_less_room _ (omega arith) room) ready known tt)
+    (λ found t end arrives spent.
+    subst (λ (state : State). Does (script_of context) t.budget 0 state (Gave found t)
+    (Arrives context.activation top base to (LowIsGiven context last r memory))) (sym arrives.is_at)
+    (low_of_value {top = top} {pushed = pushed} {need = 2 * height_of
+    (CallNode procedure scalar trees)} {base = base} {t = t}
+    scalar found sound arrives.holds.lies parts.second
+    (record { below = omega (arith, spent, below); room = room; ready = arrives.ready; known = arrives.holds.known })
+    (λ now a final.
+    gives (record {
+      r = now;
+      memory = arrives.memory;
+      is_at = refl;
+      ready = final.ready;
+      holds = record { a = a; known = final.known };
+    })))))
+  where
+    parts : Parted context (PartDoes context) facts from
+        (call_steps (knowing context.site facts) procedure range pushed) (low_of_value_steps scalar) last to
+    parts = split (call_steps (knowing context.site facts) procedure range pushed) (low_of_value_steps scalar) stand

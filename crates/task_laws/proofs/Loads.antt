@@ -1,0 +1,5 @@
+pub mod Loads
+pub mod ByteLoads
+pub mod DirectWords
+pub mod BytesInMemory
+pub mod ExtendedBytes

@@ -1,0 +1,137 @@
+-- Operations of a word in memory, at a known place, and the word in HL.
+use Rattle.std.proofs.Common.{◌≡◌, ℕ, ◌+◌, ◌-◌, ◌/◌, ◌%◌, ◌<◌, Bool, true, false, List, [], ◌∷◌, Option, Some, None, if◌then◌else◌, refl, sym, ◌∙◌, subst, arith}
+use Rattle.mem80.specs.Memory.{byte_at}
+use Rattle.trees.specs.declared.declaration.ScalarType.{ScalarType}
+use Rattle.trees.specs.declared.declaration.ScalarType.TheVariants.{Address}
+use Rattle.typed_trees.specs.Charge.{height_of}
+use Rattle.typed_trees.specs.ExpressionTypes.{type_of}
+use Rattle.meaning.specs.Outcomes.{State as SourceState, Gave}
+use Rattle.meaning.specs.Values.{values_of}
+use Rattle.isa8080.specs.declared.instr.Operation.{Operation}
+use Rattle.isa8080.specs.declared.instr.Operation.TheVariants.{Subtract, SubtractWithBorrow}
+use Rattle.isa8080.specs.declared.instr.Register.TheVariants.{A, H, L}
+use Rattle.isa8080.specs.State.{Registers}
+use Rattle.treecode.specs.declared.expression.ExpressionNumber.{ExpressionNumber}
+use Rattle.treecode.specs.declared.place.Place.{Place}
+use Rattle.treecode.specs.Homes.{place_after}
+use Rattle.treecode.specs.Traits.{keeps_none}
+use Rattle.code_meaning.specs.Landing.{Does, at_place}
+use Rattle.code_meaning.specs.Activations.{Arrives}
+use Rattle.code_meaning.specs.Holding.{IsSteady, place_at}
+use Rattle.steps8080.specs.declared.facts.Facts.{Facts}
+use Rattle.steps8080.specs.declared.step.Step.TheVariants.{Plain, Word}
+use Rattle.asm8080.specs.declared.item.WordForm.TheVariants.{LoadA}
+use Rattle.steps8080.specs.Instructions.{copy, with_register}
+use Rattle.steps8080.specs.declared.sites.site.Site.{Site}
+use Rattle.steps8080.specs.Queries.{keeps, may_exchange}
+use Rattle.steps8080.specs.Widths.{direct_word}
+use Rattle.operands8080.specs.declared.pairs.PairOrder.TheVariants.{RightInHl}
+use Rattle.exprgen8080.specs.declared.byte_operators.Operands.{Operands}
+use Rattle.exprgen8080.specs.Emission.{knowing}
+use Rattle.exprgen8080.specs.WordOperators.{left_word, with_word_steps}
+use Rattle.task_laws.specs.Contexts.{Context, IsSound}
+use Rattle.task_laws.specs.Steps.{StepsStand, PartThere, WordThere}
+use Rattle.task_laws.specs.Tasks.{PartDoes, WordIsGiven}
+use Rattle.task_laws.proofs.Bytes.BytesAsked.{WordAtPlace, WordsAtPlaces}
+use Rattle.task_laws.proofs.Words.PairedWords.{Makes, byte_instructions, difference_makes, kept_none}
+use Rattle.task_laws.proofs.Relations.PlaceComparisons.{read_then}
+use Rattle.task_laws.proofs.Machine.RegisterCode.{effect}
+use Rattle.task_laws.proofs.Ranges.Ranges.{ready_fits, value_fits}
+use Rattle.task_laws.proofs.Machine.SiteNodes.{does_exchanged, value_in}
+use Rattle.task_laws.proofs.Machine.Stages.{Stage, at_end, at_instructions, at_load_a, script_of}
+use Rattle.task_laws.proofs.Machine.Values.{HasWord, word_given, word_then}
+use Rattle.task_laws.proofs.Words.WordBinaries.{LeftWordDoes}
+use Rattle.task_laws.proofs.Words.WordForms.{difference_small}
+use Rattle.task_laws.proofs.Words.WordSums.{less_high}
+
+-- an operation of a word that was read and the one in HL
+module _
+    {context : Context} {top pushed need to : ℕ} {base : List ℕ} {last : Facts} (on_low on_high : Operation) (f : ℕ → ℕ → ℕ)
+    (number : ExpressionNumber) (sound : IsSound context) (makes : Makes (byte_instructions on_low on_high) f)
+    (none : keeps context.site number ≡ keeps_none) where
+  -- from the second byte on
+  second_half :
+      {facts : Facts} {from n : ℕ} {place : Place} (t : SourceState) (r now : Registers) (memory ended : List ℕ)
+      → n < 65536
+      → IsSteady context.activation (place_at context.activation.layout place)
+      → HasWord n (effect (with_register on_high H ∷ copy H A ∷ [])
+      (record now { a = byte_at ended (place_at context.activation.layout place) }))
+      → StepsStand context (PartDoes context) facts from
+      (Word LoadA place ∷ Plain (with_register on_high H) ∷ Plain (copy H A) ∷ []) last to
+      → Stage context top pushed need base t facts now ended
+      → Does (script_of context) t.budget 0 (at_place from now ended t.events) (Gave n t)
+      (Arrives context.activation top base to (WordIsGiven context last number Address r memory))
+  second_half t r now memory ended small steady made (WordThere there stand) stage =
+      at_load_a sound there steady stage
+      (λ loaded.
+      at_instructions (with_register on_high H ∷ copy H A ∷ []) [] sound (tt, (tt, tt)) stand loaded
+      (λ middle found ends next. at_end ends next
+      (λ final. word_given t small made (kept_none context number r _ none)
+      (record { ready = final.ready; known = final.known }))))
+
+  pub with_word_then :
+      {facts : Facts} {from : ℕ} (place : Place) (x y : ℕ) (t : SourceState) (r now : Registers) (memory ended : List ℕ)
+      → x < 65536
+      → y < 65536
+      → f x y < 65536
+      → x % 256 ≡ byte_at ended (place_at context.activation.layout place)
+      → x / 256 ≡ byte_at ended (place_at context.activation.layout (place_after place 1))
+      → IsSteady context.activation (place_at context.activation.layout place)
+      → IsSteady context.activation (place_at context.activation.layout (place_after place 1))
+      → HasWord y now
+      → StepsStand context (PartDoes context) facts from (with_word_steps place on_low on_high) last to
+      → Stage context top pushed need base t facts now ended
+      → Does (script_of context) t.budget 0 (at_place from now ended t.events) (Gave (f x y) t)
+      (Arrives context.activation top base to (WordIsGiven context last number Address r memory))
+  unfolding with_word_steps
+  with_word_then place x y t r now memory ended one two small low high steady next has (WordThere there stand) stage =
+      let lo : ℕ = byte_at ended (place_at context.activation.layout place) in
+      let hi : ℕ = byte_at ended (place_at context.activation.layout (place_after place 1)) in
+      let made = makes RightInHl x y (record now { d = hi; e = lo }) one two
+      (record { h = has.h; l = has.l; d = sym high; e = sym low }) in
+      at_load_a sound there steady stage
+      (λ loaded.
+      at_instructions (with_register on_low L ∷ copy L A ∷ [])
+      (Word LoadA (place_after place 1) ∷ Plain (with_register on_high H) ∷ Plain (copy H A) ∷ []) sound (tt, (tt, tt)) stand loaded
+      (λ middle found rest after. second_half t r _ memory ended small next (record { h = made.h; l = made.l }) rest after))
+
+-- the left operand stays in memory only where it is a word at a known place, and may come second
+left_word_is :
+    (site : Site) (operands : Operands) (place : Place) → left_word site operands ≡ Some place
+    → (direct_word site operands.left ≡ Some place) × (may_exchange site operands.left operands.right ≡ true)
+unfolding left_word
+left_word_is site operands place is = by (direct_word site operands.left) (may_exchange site operands.left operands.right) refl refl is
+  where
+    by : (found : Option Place) (may : Bool) → direct_word site operands.left ≡ found
+        → may_exchange site operands.left operands.right ≡ may
+        → elim found [
+          | Some one ↦ if may then Some one else None
+          | None ↦ None
+        ] ≡ Some place
+        → (direct_word site operands.left ≡ Some place) × (may_exchange site operands.left operands.right ≡ true)
+    by (Some one) true here allowed is = (here ∙ is, allowed)
+    by (Some one) false here allowed is = absurd cc
+    by None may here allowed is = absurd cc
+
+word_of : (n : ℕ) (scalar : ScalarType) → scalar ≡ Address → n < values_of scalar → n < 65536
+word_of n scalar same small = subst (λ (of : ScalarType). n < values_of of) same small
+
+-- a difference whose left operand is a word in memory
+pub left_words_do : (context : Context) → IsSound context → WordsAtPlaces context → LeftWordDoes context
+left_words_do context sound places facts last operands number place pushed top need from to base s r memory first second words is none less room height (PartThere part rest) going =
+    let left = left_word_is (knowing context.site facts) operands place is in
+    does_exchanged facts (λ x y u. Gave ((x + (65536 - y)) % 65536) u) s sound words.one.is words.two.is words.one.types
+    left.1
+    (word_then from s r memory part words.two.is words.two.types less room
+    (less_high (height_of first) (height_of second) need height) going
+    (λ y t now ended same fewer going_on given.
+    read_then (value_in context first t) (λ x u. Gave ((x + (65536 - y)) % 65536) u)
+    (places facts operands.left place words.one.bound top first base t now ended words.one.is words.one.types left.0 going_on.ready)
+    (λ (read : WordAtPlace context place ended t (value_in context first t)).
+    with_word_then Subtract SubtractWithBorrow (λ x y. (x + (65536 - y)) % 65536) number sound difference_makes none
+    place read.found y t r now memory ended
+    (word_of read.found (type_of first) words.one_is
+    (value_fits t sound words.one.is words.one.types (ready_fits context t going_on.ready) read.is))
+    (word_of y (type_of second) words.two_is given.small) (difference_small read.found y)
+    read.low read.high read.low_steady read.high_steady (record { h = given.h; l = given.l }) rest
+    (record { below = omega (arith, less, fewer); room = room; ready = going_on.ready; known = going_on.known }))))

@@ -1,0 +1,16 @@
+pub mod Rules
+pub mod PlaceWords
+pub mod Nodes
+pub mod RegisterCode
+pub mod Addresses
+pub mod RoutineCalls
+pub mod KnownOperands
+pub mod Values
+pub mod Written
+pub mod Stages
+pub mod SiteNodes
+pub mod Effects
+pub mod StoredValues
+pub mod KeptCode
+pub mod FreeForms
+pub mod EffectForms

@@ -1,0 +1,110 @@
+-- Expressions that are free: one that is a number is, and one that lies in memory is quiet.
+use Rattle.std.proofs.Common.{◌≡◌, ℕ, ◌+◌, ◌%◌, ◌&&◌, Bool, true, false, Option, Some, None, refl, sym, ap, ◌∙◌}
+use Rattle.std.specs.Prelude.{is_some, slice_get}
+use Rattle.std.specs.Option.{option_and_then, option_map_or}
+use Rattle.trees.specs.declared.declaration.ScalarType.{ScalarType}
+use Rattle.trees.specs.declared.declaration.ScalarType.TheVariants.{Byte, Address}
+use Rattle.typed_trees.specs.declared.parts.UnaryFunction.TheVariants.{High}
+use Rattle.typed_trees.specs.TypedTrees.{TypedExpression, TypedReference}
+use Rattle.layout.specs.Storage.{Storage}
+use Rattle.treecode.proofs.KeptValues.{node_traits}
+use Rattle.treecode_laws.proofs.QuietTrees.{false_is_true}
+use Rattle.treecode.specs.declared.expression.Expression.{Expression}
+use Rattle.treecode.specs.declared.expression.ExpressionForm.{ExpressionForm}
+use Rattle.treecode.specs.declared.expression.ExpressionForm.TheVariants as forms
+use Rattle.treecode.specs.declared.expression.ExpressionNumber.{ExpressionNumber}
+use Rattle.treecode.specs.declared.place.Place.{Place}
+use Rattle.treecode.specs.declared.place.Place.TheVariants.{Code, Data, External, Number}
+use Rattle.treecode.specs.declared.reference.Reference.{Reference}
+use Rattle.treecode.specs.declared.traits.Traits.{Traits}
+use Rattle.treecode.specs.Homes.{number_of_place}
+use Rattle.treecode.specs.Known.{known_number}
+use Rattle.treecode.specs.Lowered.{IsExpression, IsForm, IsNode, IsPart, IsReference, IsValue}
+use Rattle.treecode.specs.Nodes.{Nodes, home_at}
+use Rattle.treecode.specs.Traits.{KeepTraits, byte_after, distance_of, free_at, is_direct, is_free_form, is_free_of, is_quiet_form, known_of, number_at, place_of_reference, quiet_at, traits_of}
+use Rattle.task_laws.proofs.Machine.KeptCode.{index_known_quiet, known_of_entry, known_quiet, part_known_quiet, place_known, quiet_of_entry}
+
+both_true : (one other : Bool) → one ≡ true → other ≡ true → (one && other) ≡ true
+both_true one other first second = ap (λ b. b && other) first ∙ second
+
+-- a known number
+number_of : (found : Option Place) → is_some (known_number found) ≡ true → (place : Place)
+    × (found ≡ Some place) × (is_some (number_of_place place) ≡ true)
+number_of (Some (Number n)) is = (Number n, refl, refl)
+number_of (Some (Code offset)) is = false_is_true is
+number_of (Some (Data offset)) is = false_is_true is
+number_of (Some (External offset name)) is = false_is_true is
+number_of None is = false_is_true is
+
+module _ (nodes : Nodes) (storage : Storage) (keeps : KeepTraits nodes) where
+  pub free_of_entry : (number : ℕ) (expression : Expression) → slice_get nodes.expressions number ≡ Some
+      expression
+      → free_at nodes (record { index = number })
+      ≡ is_free_of nodes expression.traits.scalar (known_of nodes expression.traits.scalar expression.form)
+      expression.form
+  unfolding traits_of
+  free_of_entry number expression at = ap (λ (traits : Traits). traits.is_free) (node_traits nodes number expression keeps at)
+
+  -- a number is free
+  pub number_is_free :
+      {bound number : ℕ} {tree : TypedExpression}
+      → IsExpression nodes storage bound number tree
+      → is_some (number_at nodes (record { index = number })) ≡ true
+      → free_at nodes (record { index = number }) ≡ true
+  number_is_free (IsNode {number = number} {expression = expression} below at scalar form) some =
+      let known = number_of (known_of nodes expression.traits.scalar expression.form)
+      (ap (λ (found : Option Place). is_some (known_number found)) (sym (known_of_entry nodes storage keeps number expression at)) ∙ some) in
+      free_of_entry number expression at
+      ∙ ap (λ (found : Option Place). is_free_of nodes expression.traits.scalar found expression.form) known.1 ∙ known.2
+
+  -- what is not quiet is not known
+  pub not_known :
+      {bound number : ℕ} {tree : TypedExpression} (expression : Expression)
+      → IsExpression nodes storage bound number tree
+      → slice_get nodes.expressions number ≡ Some expression
+      → quiet_at nodes (record { index = number }) ≡ false
+      → free_at nodes (record { index = number }) ≡ true
+      → is_free_form nodes expression.traits.scalar expression.form ≡ true
+  not_known {number = number} expression node at loud free =
+      by (known_of nodes expression.traits.scalar expression.form) refl
+    where
+      by : (found : Option Place) → known_of nodes expression.traits.scalar expression.form ≡ found
+          → is_free_form nodes expression.traits.scalar expression.form ≡ true
+      by (Some place) is =
+          false_is_true (sym loud ∙ known_quiet nodes storage keeps node
+          (ap (λ (found : Option Place). is_some found) (known_of_entry nodes storage keeps number expression at ∙ is)))
+      by None is =
+          sym (ap (λ (found : Option Place). is_free_of nodes expression.traits.scalar found expression.form) is)
+          ∙ sym (free_of_entry number expression at) ∙ free
+
+  -- a value that lies at a known place in memory
+  pub value_is_quiet :
+      {bound : ℕ} {reference : Reference} {part : TypedReference}
+      → IsReference nodes storage bound reference part
+      → is_direct nodes (forms.Value reference) ≡ true
+      → is_quiet_form nodes (forms.Value reference) ≡ true
+  value_is_quiet part direct = part_known_quiet nodes storage keeps part direct
+
+  -- and the high byte of one
+  after_is_quiet :
+      {bound : ℕ} (scalar : ScalarType) (form : ExpressionForm) (tree : TypedExpression)
+      → IsForm nodes storage bound form tree
+      → option_map_or (λ (reference : Reference). is_some (place_of_reference nodes reference))
+      (byte_after scalar form) false ≡ true
+      → is_quiet_form nodes form ≡ true
+  after_is_quiet Address _ tree (IsValue (IsPart {object = object} {offset = offset} {first = first} {second = second} one two)) direct =
+      let both = place_known (home_at nodes.homes object) ((offset % 65536 + 1) % 65536) (distance_of nodes first) (distance_of nodes second) direct in
+      both_true _ _ (index_known_quiet nodes storage keeps one both.0) (index_known_quiet nodes storage keeps two both.1)
+  after_is_quiet Address _ tree other direct = false_is_true direct
+  after_is_quiet Byte _ tree other direct = false_is_true direct
+
+  pub high_is_quiet :
+      {bound : ℕ} {operand : ExpressionNumber} {tree : TypedExpression}
+      → IsExpression nodes storage bound operand.index tree
+      → is_direct nodes (forms.Function High operand) ≡ true
+      → quiet_at nodes operand ≡ true
+  high_is_quiet {operand = operand} (IsNode {tree = tree} {expression = expression} below at scalar form) direct =
+      quiet_of_entry nodes storage keeps operand.index expression at
+      ∙ after_is_quiet expression.traits.scalar expression.form tree form
+      (sym (ap (λ (found : Option Expression). option_map_or (λ (reference : Reference). is_some (place_of_reference nodes reference))
+      (option_and_then (λ (one : Expression). byte_after one.traits.scalar one.form) found) false) at) ∙ direct)

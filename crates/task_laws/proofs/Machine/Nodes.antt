@@ -1,0 +1,38 @@
+-- The node of a number: what stands in the tables where the expression of a number is a tree.
+use Rattle.std.proofs.Common.{◌≡◌, ℕ, Some, slice_get, ap, ◌∙◌}
+use Rattle.typed_trees.specs.ExpressionTypes.{type_of}
+use Rattle.typed_trees.specs.TypedTrees.{TypedExpression}
+use Rattle.treecode.specs.declared.expression.Expression.{Expression}
+use Rattle.treecode.specs.declared.expression.ExpressionNumber.{ExpressionNumber}
+use Rattle.treecode.specs.Lowered.{IsExpression, IsNode, IsForm}
+use Rattle.treecode.specs.Traits.{traits_of}
+use Rattle.steps8080.specs.declared.facts.Facts.{Facts}
+use Rattle.steps8080.specs.Site.{expression}
+use Rattle.exprgen8080.specs.Emission.{knowing}
+use Rattle.task_laws.specs.Contexts.{Context, IsSound, nodes_in}
+
+-- what is found at the number of a tree
+pub record NodeOf (context : Context) (number : ExpressionNumber) (tree : TypedExpression) : Type 0 where
+  pub found : Expression
+  pub is_there : slice_get (nodes_in context).expressions number.index ≡ Some found
+  pub at_site : (facts : Facts) → expression (knowing context.site facts) number ≡ Some found
+  pub scalar : found.traits.scalar ≡ type_of tree
+  pub traits : found.traits ≡ traits_of (nodes_in context) (type_of tree) found.form
+  pub form : IsForm (nodes_in context) context.storage number.index found.form tree
+
+pub node_of :
+    {context : Context} {bound : ℕ} {number : ExpressionNumber} {tree : TypedExpression}
+    → IsSound context
+    → IsExpression (nodes_in context) context.storage bound number.index tree
+    → NodeOf context number tree
+unfolding expression
+node_of {context = context} {number = number} sound (IsNode {expression = found} below there scalar form) = record {
+  found = found;
+  is_there = there;
+  at_site = λ facts. there;
+  scalar = scalar;
+  traits =
+      sound.lowered.traits number.index found there
+      ∙ ap (λ given. traits_of (nodes_in context) given found.form) scalar;
+  form = form;
+}

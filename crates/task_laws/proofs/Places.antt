@@ -1,0 +1,15 @@
+pub mod LocationWords
+pub mod Homes
+pub mod Reading
+pub mod Bases
+pub mod BaseCode
+pub mod Subscripts
+pub mod Products
+pub mod Strides
+pub mod SecondSubscripts
+pub mod Located
+pub mod Fitting
+pub mod LocationBytes
+pub mod StaticPlaces
+pub mod AddressLaws
+pub mod ReadPlaces

@@ -1,0 +1,199 @@
+-- What is read at places, on both sides: the bytes of the machine's memory, or the read goes outside the language.
+use Rattle.std.proofs.Common.{◌≡◌, ℕ, ◌+◌, ◌*◌, ◌/◌, ◌%◌, ◌<◌, ◌≤◌, ◌⊎◌, inl, inr, Bool, true, false, if◌then◌else◌, List, refl, sym, ap, ◌∙◌, arith}
+use Rattle.mem80.specs.Memory.{byte_at}
+use Rattle.mem80.proofs.MemoryLemmas.{byte_small}
+use Rattle.trees.specs.declared.declaration.ScalarType.{ScalarType}
+use Rattle.trees.specs.declared.declaration.ScalarType.TheVariants.{Byte, Address}
+use Rattle.typed_trees.specs.Sizes.{size_of_scalar}
+use Rattle.meaning.specs.declared.reason.Reason.TheVariants.{Byte as UndeclaredByte}
+use Rattle.meaning.specs.Outcomes.{State as SourceState, Ended, More, Outside, Outcome, Gave, Stopped, then_do}
+use Rattle.meaning.specs.Access.{Place, InMemory, InTheFrame, is_declared, next_place, read_byte, read_scalar}
+use Rattle.meaning.specs.Values.{values_of}
+use Rattle.isa8080.specs.State.{Registers, State, wrap}
+use Rattle.code_meaning.specs.Landing.{Does}
+use Rattle.code_meaning.specs.Activations.{IsReady}
+use Rattle.code_meaning.specs.Holding.{IsSteady}
+use Rattle.code_meaning.proofs.Facts.Steady.{declared_is_steady}
+use Rattle.treecode_laws.specs.internal.Evaluations.{GoesOutside}
+use Rattle.task_laws.specs.Contexts.{Context, IsSound}
+use Rattle.task_laws.specs.Tasks.{address_on_machine}
+use Rattle.task_laws.proofs.Places.Reading.{FitsIn, frame_is, of_frame}
+use Rattle.task_laws.proofs.Stores.WordWriting.{first_fits, second_fits}
+
+-- what goes outside is done by any machine
+pub does_outside :
+    {A : Type 0} {script : List (List ℕ)} {budget more : ℕ} {from : State}
+    {Good : A → SourceState → State → Type 0}
+    (outcome : Outcome A)
+    → GoesOutside outcome
+    → Does script budget more from outcome Good
+does_outside (Gave found t) is = absurd is
+does_outside (Stopped (Outside reason) t) is = record { told = tt }
+does_outside (Stopped Ended t) is = absurd is
+does_outside (Stopped More t) is = absurd is
+
+-- what comes first goes outside
+pub then_outside :
+    {A B : Type 0} (outcome : Outcome A) (go : A → SourceState → Outcome B)
+    → GoesOutside outcome
+    → GoesOutside (then_do outcome go)
+then_outside (Gave found t) go is = absurd is
+then_outside (Stopped (Outside reason) t) go is = tt
+then_outside (Stopped Ended t) go is = absurd is
+then_outside (Stopped More t) go is = absurd is
+
+-- a value was given without a change of the state, whose low byte lies at an address
+pub record LowIsAt
+    (context : Context) (scalar : ScalarType) (address : ℕ) (memory : List ℕ) (t : SourceState) (outcome : Outcome ℕ) : Type 0 where
+  pub found : ℕ
+  pub is : outcome ≡ Gave found t
+  pub low : byte_at memory address ≡ found % 256
+  pub small : found < values_of scalar
+  pub steady : IsSteady context.activation address
+
+-- and one whose high byte does
+pub record HighIsAt
+    (context : Context) (address : ℕ) (memory : List ℕ) (t : SourceState) (outcome : Outcome ℕ) : Type 0 where
+  pub found : ℕ
+  pub is : outcome ≡ Gave found t
+  pub high : byte_at memory address ≡ found / 256
+  pub small : found < 65536
+  pub steady : IsSteady context.activation address
+
+-- a byte that is read
+pub byte_found :
+    {context : Context} {top : ℕ} {base memory : List ℕ} {r : Registers} (place : Place) (t : SourceState)
+    → IsSound context
+    → IsReady context.activation top base t.memory t.frame r memory
+    → FitsIn context.activation 1 place
+    → (IsSteady context.activation (address_on_machine context.activation place)
+    × (read_byte context.activation.around.program place t ≡ Gave
+    (byte_at memory (address_on_machine context.activation place)) t))
+    ⊎ GoesOutside (read_byte context.activation.around.program place t)
+byte_found {context = context} {memory = memory} (InMemory address) t sound ready fits =
+    by_test (is_declared context.activation.around.program address) refl
+  where
+    by_test : (declared : Bool) → is_declared context.activation.around.program address ≡ declared
+        → (IsSteady context.activation address
+        × ((if declared then Gave (byte_at t.memory address) t else Stopped (Outside UndeclaredByte) t)
+        ≡ Gave (byte_at memory address) t))
+        ⊎ GoesOutside (if declared then Gave (byte_at t.memory address) t else Stopped
+        (Outside UndeclaredByte) t)
+    by_test true is = inl (declared_is_steady context.activation address sound.lies is, ap (λ (n : ℕ). Gave n t) (sym (ready.shares.declared address is)))
+    by_test false is = inr tt
+byte_found {context = context} {memory = memory} (InTheFrame object offset true) t sound ready fits =
+    let within : offset + 1 ≤ context.activation.size object = fits refl in
+    let less : offset < context.activation.size object = omega (arith, within) in
+    let is = frame_is context object offset sound less in
+    inl (
+      of_frame context.activation object offset (wrap (context.activation.level + context.activation.distance object + offset)) less is,
+      ap (λ (n : ℕ). Gave n t) (sym (ap (byte_at memory) is ∙ ready.frame_lies.bytes object offset less)),
+    )
+byte_found (InTheFrame object offset false) t sound ready fits = inr tt
+
+low_of : (low high : ℕ) → low < 256 → low ≡ (low + 256 * high) % 256
+low_of low high small = omega (arith, small)
+
+high_of : (low high : ℕ) → low < 256 → high ≡ (low + 256 * high) / 256
+high_of low high small = omega (arith, small)
+
+two_bytes : (low high : ℕ) → low < 256 → high < 256 → low + 256 * high < 65536
+two_bytes low high one two = omega (arith, one, two)
+
+itself : (n : ℕ) → n < 256 → n ≡ n % 256
+itself n small = omega (arith, small)
+
+-- an ADDRESS that is read, of which both bytes are steady
+pub record WordIsAt
+    (context : Context) (place : Place) (memory : List ℕ) (t : SourceState) (outcome : Outcome ℕ) : Type 0 where
+  pub low_is : LowIsAt context Address (address_on_machine context.activation place) memory t outcome
+  pub high_is : HighIsAt context (address_on_machine context.activation (next_place place)) memory t outcome
+
+pub word_found :
+    {context : Context} {top : ℕ} {base memory : List ℕ} {r : Registers} (place : Place) (t : SourceState)
+    → IsSound context
+    → IsReady context.activation top base t.memory t.frame r memory
+    → FitsIn context.activation 2 place
+    → WordIsAt context place memory t (read_scalar context.activation.around.program Address place t)
+    ⊎ GoesOutside (read_scalar context.activation.around.program Address place t)
+word_found {context = context} {memory = memory} place t sound ready fits =
+    by_first (byte_found place t sound ready (first_fits context.activation place fits))
+    (byte_found (next_place place) t sound ready (second_fits context.activation place fits))
+  where
+    here : ℕ
+    here = address_on_machine context.activation place
+
+    next : ℕ
+    next = address_on_machine context.activation (next_place place)
+
+    by_first :
+        (IsSteady context.activation here
+        × (read_byte context.activation.around.program place t ≡ Gave (byte_at memory here) t))
+        ⊎ GoesOutside (read_byte context.activation.around.program place t)
+        → (IsSteady context.activation next
+        × (read_byte context.activation.around.program (next_place place) t ≡ Gave (byte_at memory next) t))
+        ⊎ GoesOutside (read_byte context.activation.around.program (next_place place) t)
+        → WordIsAt context place memory t (read_scalar context.activation.around.program Address place t)
+        ⊎ GoesOutside (read_scalar context.activation.around.program Address place t)
+    by_first (inr outside) second = inr (then_outside (read_byte context.activation.around.program place t) _ outside)
+    by_first (inl first) (inr outside) =
+        inr (rw first.1 (then_outside (read_byte context.activation.around.program (next_place place) t) (λ high u. Gave (byte_at memory here + 256 * high) u) outside))
+    by_first (inl first) (inl second) =
+        let small = byte_small memory here ready.shares.is_memory in
+        let small_too = byte_small memory next ready.shares.is_memory in
+        let is : read_scalar context.activation.around.program Address place t ≡ Gave (byte_at memory here + 256 * byte_at memory next) t
+        = ap (λ (outcome : Outcome ℕ). then_do outcome
+        (λ low u. then_do (read_byte context.activation.around.program (next_place place) u) (λ high v. Gave (low + 256 * high) v))) first.1
+        ∙ ap (λ (outcome : Outcome ℕ). then_do outcome (λ high v. Gave (byte_at memory here + 256 * high) v)) second.1 in
+        inl (record {
+          low_is = record {
+            found = byte_at memory here + 256 * byte_at memory next;
+            is = is;
+            low = low_of (byte_at memory here) (byte_at memory next) small;
+            small = two_bytes (byte_at memory here) (byte_at memory next) small small_too;
+            steady = first.0;
+          };
+          high_is = record {
+            found = byte_at memory here + 256 * byte_at memory next;
+            is = is;
+            high = high_of (byte_at memory here) (byte_at memory next) small;
+            small = two_bytes (byte_at memory here) (byte_at memory next) small small_too;
+            steady = second.0;
+          };
+        })
+
+-- a scalar that is read
+pub scalar_found :
+    {context : Context} {top : ℕ} {base memory : List ℕ} {r : Registers} (scalar : ScalarType) (place : Place)
+    (t : SourceState)
+    → IsSound context
+    → IsReady context.activation top base t.memory t.frame r memory
+    → FitsIn context.activation (size_of_scalar scalar) place
+    → LowIsAt context scalar (address_on_machine context.activation place) memory t
+    (read_scalar context.activation.around.program scalar place t)
+    ⊎ GoesOutside (read_scalar context.activation.around.program scalar place t)
+scalar_found {context = context} {memory = memory} Byte place t sound ready fits =
+    by (byte_found place t sound ready fits)
+  where
+    here : ℕ
+    here = address_on_machine context.activation place
+
+    by : (IsSteady context.activation here
+        × (read_byte context.activation.around.program place t ≡ Gave (byte_at memory here) t))
+        ⊎ GoesOutside (read_byte context.activation.around.program place t)
+        → LowIsAt context Byte here memory t (read_byte context.activation.around.program place t)
+        ⊎ GoesOutside (read_byte context.activation.around.program place t)
+    by (inr outside) = inr outside
+    by (inl first) =
+        let small = byte_small memory here ready.shares.is_memory in
+        inl (record { found = byte_at memory here; is = first.1; low = itself (byte_at memory here) small; small = small; steady = first.0 })
+scalar_found {context = context} {memory = memory} Address place t sound ready fits =
+    by (word_found place t sound ready fits)
+  where
+    by : WordIsAt context place memory t (read_scalar context.activation.around.program Address place t)
+        ⊎ GoesOutside (read_scalar context.activation.around.program Address place t)
+        → LowIsAt context Address (address_on_machine context.activation place) memory t
+        (read_scalar context.activation.around.program Address place t)
+        ⊎ GoesOutside (read_scalar context.activation.around.program Address place t)
+    by (inl found) = inl found.low_is
+    by (inr outside) = inr outside

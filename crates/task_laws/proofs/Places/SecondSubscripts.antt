@@ -1,0 +1,158 @@
+-- The code that adds a second subscript to a first one, which waits in DE or on the stack.
+use Rattle.std.proofs.Common.{◌≡◌, ℕ, ◌+◌, ◌-◌, ◌*◌, ◌%◌, ◌<◌, ◌≤◌, Bool, true, false, if◌then◌else◌, List, [], ◌∷◌, ◌++◌, refl, sym, ap, ◌∙◌, arith}
+use Rattle.trees.specs.declared.declaration.ScalarType.TheVariants.{Address}
+use Rattle.typed_trees.specs.Charge.{height_of, height_of_reference}
+use Rattle.typed_trees.specs.ExpressionTypes.{type_of}
+use Rattle.typed_trees.specs.TypedTrees.{TypedExpression, NumberNode, ValueNode, LocationNode, ListNode, ConversionNode, AssignmentNode, UnaryNode, BinaryNode, CallNode, FunctionNode, ShiftNode, InputNode, TypedReference, PartOf}
+use Rattle.typed_trees.specs.WellTyped.{TypesHold}
+use Rattle.meaning.specs.Meaning.{value}
+use Rattle.meaning.specs.Outcomes.{State as SourceState, Outcome, then_do}
+use Rattle.isa8080.specs.declared.instr.Instr.TheVariants.{Dad, Pop, Push, Xchg}
+use Rattle.isa8080.specs.declared.instr.Pair.TheVariants.{De}
+use Rattle.isa8080.specs.declared.instr.StackPair.TheVariants.{StackDe, StackHl}
+use Rattle.isa8080.specs.State.{Registers, State, high_byte, low_byte, pushed_of, word, wrap}
+use Rattle.asm8080.proofs.Calls.{pushed as pushed_memory}
+use Rattle.treecode.specs.declared.expression.ExpressionNumber.{ExpressionNumber}
+use Rattle.treecode.specs.declared.reference.Subscript.{Subscript as IndexNode}
+use Rattle.treecode.specs.Lowered.{IsExpression}
+use Rattle.code_meaning.specs.Landing.{Does, at_place}
+use Rattle.code_meaning.specs.Activations.{HasRoom}
+use Rattle.steps8080.specs.declared.facts.Facts.{Facts}
+use Rattle.steps8080.specs.declared.step.Step.TheVariants.{Plain}
+use Rattle.steps8080.specs.Step.{plain}
+use Rattle.steps8080.specs.Queries.{keeps}
+use Rattle.steps8080.specs.Site.{expression}
+use Rattle.operands8080.specs.Addresses.{second_steps}
+use Rattle.operands8080.specs.Products.{product_steps}
+use Rattle.exprgen8080.specs.Emission.{knowing}
+use Rattle.task_laws.specs.Contexts.{Context, IsSound, nodes_in}
+use Rattle.task_laws.specs.Steps.{StepsStand, PlainThere}
+use Rattle.task_laws.specs.Tasks.{Left, PartDoes}
+use Rattle.task_laws.proofs.Machine.Rules.{GoesOn, more_pushed, pop_goes, push_goes, pushed_word_small, split}
+use Rattle.task_laws.proofs.Machine.RegisterCode.{registers_then}
+use Rattle.task_laws.proofs.Machine.Addresses.{back_together, registers_end}
+use Rattle.task_laws.proofs.Places.Products.{ProductIsGiven, ProductsDo, product_then}
+
+pub reference_height : (part : TypedReference) → 1 ≤ height_of_reference part
+reference_height (PartOf object one member offset two) = omega arith
+
+-- an expression is no lower than 1
+pub some_height : (tree : TypedExpression) → 1 ≤ height_of tree
+some_height (NumberNode scalar number origin) = omega arith
+some_height (ValueNode scalar reference) = reference_height reference
+some_height (LocationNode reference) = reference_height reference
+some_height (ListNode list) = omega arith
+some_height (ConversionNode scalar inner) = some_height inner
+some_height (AssignmentNode target inner) = omega arith
+some_height (UnaryNode scalar operator operand) = omega arith
+some_height (BinaryNode operands operator left right) = omega arith
+some_height (CallNode procedure scalar given) = omega arith
+some_height (FunctionNode function operand) = omega arith
+some_height (ShiftNode scalar function moved count) = omega arith
+some_height (InputNode port) = omega arith
+
+-- what is known of registers does not change what code keeps
+pub keeps_anywhere : (context : Context) (used : Facts) (of : ExpressionNumber)
+    → keeps (knowing context.site used) of ≡ keeps context.site of
+unfolding keeps expression
+keeps_anywhere context used of = refl
+
+sum_in_hl : (h l d e first second : ℕ) → word h l ≡ second % 65536 → word d e ≡ first
+    → wrap (word h l + word d e) ≡ wrap (first + second)
+sum_in_hl h l d e first second one two = omega (arith, one, two)
+
+both_bytes : (h l d e : ℕ) → d ≡ h → e ≡ l → word d e ≡ word h l
+both_bytes h l d e one two = omega (arith, one, two)
+
+popped_back : (n : ℕ) → word (high_byte n) (low_byte n) ≡ n
+popped_back n = omega arith
+
+high_enough : (height need : ℕ) → 2 + 2 * height ≤ need → 2 * height ≤ need
+high_enough height need is = omega (arith, is)
+
+pub second_then :
+    {B : Type 0} {more : ℕ} {go : ℕ → SourceState → Outcome B} {Good : B → SourceState → State → Type 0}
+    {context : Context} {facts last : Facts} {to pushed bound top need : ℕ} {base : List ℕ} {tree : TypedExpression}
+    (used : Facts) (second : IndexNode) (from : ℕ) (s : SourceState) (r : Registers) (memory : List ℕ)
+    → ProductsDo context
+    → second.stride < 65536
+    → IsSound context
+    → IsExpression (nodes_in context) context.storage bound (second.index).index tree
+    → TypesHold context.typed context.within tree
+    → type_of tree ≡ Address
+    → s.budget < context.number
+    → HasRoom context.activation top pushed need
+    → 2 + 2 * height_of tree ≤ need
+    → StepsStand context (PartDoes context) facts from (second_steps (knowing context.site used) second pushed) last to
+    → GoesOn context facts top base s.memory s.frame r memory
+    → ((n : ℕ) (t : SourceState) (now : Registers) (ended : List ℕ)
+    → t.budget ≤ s.budget
+    → GoesOn context last top base t.memory t.frame now ended
+    → word now.h now.l ≡ wrap (word r.h r.l + n * second.stride)
+    → Left (keeps context.site second.index).a r.a now.a
+    → Does context.activation.around.program.script t.budget more (at_place to now ended t.events) (go n t) Good)
+    → Does context.activation.around.program.script s.budget more (at_place from r memory s.events)
+    (then_do (value context.later context.activation.around tree s) go) Good
+second_then {more = more} {go = go} {Good = Good} {context = context} {facts = facts} {last = last} {to = to} {pushed = pushed} {bound = bound} {top = top} {need = need} {base = base} {tree = tree} used second from s r memory products small sound is types address less room high stand on rest =
+    by_test (keeps (knowing context.site used) second.index).de refl stand
+  where
+    by_test : (kept : Bool) → (keeps (knowing context.site used) second.index).de ≡ kept
+        → StepsStand context (PartDoes context) facts from
+        (if kept
+        then Plain Xchg ∷ product_steps second.index second.stride pushed ++ (Plain (Dad De) ∷ [])
+        else Plain (Push StackHl) ∷ product_steps second.index second.stride ((pushed + 2) % 65536)
+        ++ plain (Pop StackDe ∷ Dad De ∷ [])) last to
+        → Does context.activation.around.program.script s.budget more (at_place from r memory s.events)
+        (then_do (value context.later context.activation.around tree s) go) Good
+    by_test true kept stand =
+        let kept_here : (keeps context.site second.index).de ≡ true
+        = ap (λ (of : Rattle.treecode.specs.declared.traits.Keeps.Keeps). of.de) (sym (keeps_anywhere context used second.index)) ∙ kept in
+        let one : Registers = record r { h = r.d; l = r.e; d = r.h; e = r.l } in
+        registers_then (Xchg ∷ []) (product_steps second.index second.stride pushed ++ (Plain (Dad De) ∷ [])) r sound (tt, tt) stand on
+        (λ middle found stand on_one.
+        let parts = split (product_steps second.index second.stride pushed) (Plain (Dad De) ∷ []) stand in
+        product_then middle s one memory
+        (products found parts.found second.index second.stride pushed middle parts.middle small parts.first)
+        is types address less room (high_enough (height_of tree) need high) on_one
+        (λ n t now ended fewer on_now given.
+        registers_end (Dad De ∷ []) now sound (tt, tt) parts.second on_now
+        (λ on_sum. rest n t _ ended fewer on_sum
+        (back_together (word now.h now.l + word now.d now.e)
+        ∙ sum_in_hl now.h now.l now.d now.e (word r.h r.l) (n * second.stride) given.hl
+        (both_bytes r.h r.l now.d now.e (given.d kept_here) (given.e kept_here)))
+        given.a)))
+    by_test false kept (PlainThere there stand) =
+        let some = some_height tree in
+        let number : ℕ = pushed_of StackHl r in
+        let lower : Registers = record r { sp = wrap (top - 2) } in
+        let after : List ℕ = pushed_memory top number memory in
+        let parts = split (product_steps second.index second.stride ((pushed + 2) % 65536)) (plain (Pop StackDe ∷ Dad De ∷ [])) stand in
+        let two : 2 ≤ need = omega (arith, high) in
+        push_goes StackHl r sound there on two room
+        (λ on_lower.
+        product_then (from + 1) s lower after
+        (products facts parts.found second.index second.stride ((pushed + 2) % 65536) (from + 1) parts.middle small parts.first)
+        is types address less
+        (more_pushed (2 * height_of tree) sound.lies (omega (arith, some)) high room) (omega arith) on_lower
+        (λ n t now ended fewer on_now given.
+        popped n t now ended fewer on_now given parts.second))
+      where
+        popped : {found : Facts} {middle : ℕ} (n : ℕ) (t : SourceState) (now : Registers) (ended : List ℕ)
+            → t.budget ≤ s.budget
+            → GoesOn context found (top - 2) (pushed_memory top (pushed_of StackHl r) memory) t.memory t.frame now ended
+            → ProductIsGiven context found second.index second.stride (record r { sp = wrap (top - 2) })
+            (pushed_memory top (pushed_of StackHl r) memory) n now ended
+            → StepsStand context (PartDoes context) found middle (plain (Pop StackDe ∷ Dad De ∷ [])) last to
+            → Does context.activation.around.program.script t.budget more (at_place middle now ended t.events) (go n t) Good
+        popped {found = found} {middle = middle} n t now ended fewer on_now given (PlainThere there stand) =
+            let two : 2 ≤ need = omega (arith, high) in
+            let number : ℕ = pushed_of StackHl r in
+            let back : Registers = record now { d = high_byte number; e = low_byte number; sp = wrap top } in
+            pop_goes StackDe now sound there two room on.ready (pushed_word_small StackHl r on.ready.registers) on_now
+            (λ on_back.
+            registers_end (Dad De ∷ []) back sound (tt, tt) stand on_back
+            (λ on_sum. rest n t _ ended fewer on_sum
+            (back_together (word now.h now.l + word (high_byte number) (low_byte number))
+            ∙ sum_in_hl now.h now.l (high_byte number) (low_byte number) (word r.h r.l) (n * second.stride) given.hl
+            (popped_back number))
+            given.a))

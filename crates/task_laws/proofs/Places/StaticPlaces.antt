@@ -1,0 +1,80 @@
+-- Where the place of a part of an object is known from its node, its location is known at the site.
+use Rattle.std.proofs.Common.{◌≡◌, ℕ, ◌*◌, ◌%◌, true, Option, Some, None, is_some, refl, ap, ◌∙◌}
+use Rattle.std.proofs.lemmas.Bool.{false≢true}
+use Rattle.treecode.specs.declared.place.Home.{Home}
+use Rattle.treecode.specs.declared.place.Home.TheVariants as homes
+use Rattle.treecode.specs.declared.place.Location.{Location}
+use Rattle.treecode.specs.declared.place.Location.TheVariants.{Static}
+use Rattle.treecode.specs.declared.place.Place.{Place}
+use Rattle.treecode.specs.declared.reference.Reference.{Reference}
+use Rattle.treecode.specs.declared.reference.Subscript.{Subscript as IndexNode}
+use Rattle.treecode.specs.Known.{known_distance, place_of_part}
+use Rattle.treecode.specs.Nodes.{home_at}
+use Rattle.treecode.specs.Traits.{distance_of, number_at, place_of_reference}
+use Rattle.steps8080.specs.declared.facts.Facts.{Facts}
+use Rattle.steps8080.specs.declared.sites.queries.Base.{Base}
+use Rattle.steps8080.specs.declared.sites.queries.Split.{Split}
+use Rattle.steps8080.specs.Queries.{base_after, base_of, located, located_at, location_at, location_of, number as number_of, split, split_computed}
+use Rattle.exprgen8080.specs.Emission.{knowing}
+use Rattle.task_laws.specs.Contexts.{Context, nodes_in}
+use Rattle.task_laws.proofs.Machine.KeptCode.{place_known}
+use Rattle.task_laws.proofs.Machine.SiteNodes.{number_is}
+
+-- a subscript that is known is not computed
+not_computed :
+    (context : Context) (facts : Facts) (given : Option IndexNode)
+    → is_some (distance_of (nodes_in context) given) ≡ true
+    → (split (knowing context.site facts) given).computed ≡ None
+unfolding split
+not_computed context facts None some = refl
+not_computed context facts (Some subscript) some =
+    by (number_at (nodes_in context) subscript.index) some (number_is (knowing context.site facts) subscript.index)
+  where
+    by : (found : Option ℕ) → is_some (known_distance subscript.stride found) ≡ true
+        → number_of (knowing context.site facts) subscript.index ≡ found
+        → (elim (number_of (knowing context.site facts) subscript.index) as (λ (one : Option ℕ). Split) [
+          | Some index ↦ record { computed = None; offset = (index * subscript.stride) % 65536 }
+          | None ↦ split_computed (knowing context.site facts) subscript
+        ]).computed ≡ None
+    by (Some n) some is =
+        ap (λ (one : Option ℕ). (elim one as (λ (one : Option ℕ). Split) [
+          | Some index ↦ record { computed = None; offset = (index * subscript.stride) % 65536 }
+          | None ↦ split_computed (knowing context.site facts) subscript
+        ]).computed) is
+    by None some is = absurd (false≢true some)
+
+pub static_location :
+    (context : Context) (facts : Facts) (reference : Reference)
+    → is_some (place_of_reference (nodes_in context) reference) ≡ true
+    → (place : Place) × (location_of (knowing context.site facts) reference ≡ Some (Static place))
+unfolding location_of located
+static_location context facts reference some =
+    by_home (home_at (nodes_in context).homes reference.object) some
+  where
+    one : Split
+    one = split (knowing context.site facts) reference.subscript
+
+    two : Split
+    two = split (knowing context.site facts) reference.member_subscript
+
+    there : (home : Home) → (first second : Option IndexNode) → Option Location
+    there home first second =
+        let base : Base = base_after (base_after (base_after (base_of home) reference.offset) one.offset) two.offset in
+        elim (located_at base first second).first as (λ (found : Option IndexNode). Option Location) [
+          | Some subscript ↦ None
+          | None ↦ location_at (located_at base first second).base
+        ]
+
+    by_home : (home : Home)
+        → is_some (place_of_part home reference.offset (distance_of (nodes_in context) reference.subscript)
+        (distance_of (nodes_in context) reference.member_subscript)) ≡ true
+        → (place : Place) × (there home one.computed two.computed ≡ Some (Static place))
+    by_home (homes.Static place) some =
+        let both = place_known (homes.Static place) reference.offset (distance_of (nodes_in context) reference.subscript)
+        (distance_of (nodes_in context) reference.member_subscript) some in (
+          _,
+          ap (λ found. there (homes.Static place) found two.computed) (not_computed context facts reference.subscript both.0)
+              ∙ ap (λ found. there (homes.Static place) None found) (not_computed context facts reference.member_subscript both.1),
+        )
+    by_home (homes.Based base) some = absurd (false≢true some)
+    by_home (homes.Frame variable) some = absurd (false≢true some)

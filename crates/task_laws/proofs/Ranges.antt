@@ -1,0 +1,6 @@
+pub mod Ranges
+pub mod RangesOfBytes
+pub mod RangesOfTrees
+pub mod RangesOfStatements
+pub mod RangesOfCalls
+pub mod NumbersOfTrees

@@ -1,0 +1,390 @@
+-- Values of typed trees are of their types: along statements, as long as what calls, further turns and jumps give is.
+use Rattle.std.proofs.Common.{◌≡◌, ℕ, zero, suc, ◌+◌, ◌-◌, ◌%◌, ◌<◌, ◌==◌, Bool, true, false, nat_le, nat_lt, Option, Some, None, option_map, slice_get, if◌then◌else◌, refl, subst}
+use Rattle.std.specs.Prelude.{IfSome}
+use Rattle.mem80.specs.declared.memory.TheConstants.{MEMORY_SIZE}
+use Rattle.typed_trees.specs.ExpressionTypes.{type_of}
+use Rattle.typed_trees.specs.TypedTrees.{TypedExpression, TypedIteration, TypedStatement, LabelStatement, NullStatement, AssignmentStatement, CallStatement, MoveStatement, ReturnStatement, HaltStatement, GotoStatement, IfStatement, DoStatement, WhileStatement, IterateStatement, CaseStatement, TypedElse, NoElse, ElseStatement, TypedStatements, NoStatements, MoreStatements, TypedList, ListOf, TypedModule}
+use Rattle.typed_trees.specs.WellTyped.{IsReturned, TypesHold, TypesHoldIn, TypesHoldInElse, TypesHoldInList, TypesHoldInStatements, Within, WithinMain, WithinProcedure}
+use Rattle.meaning.specs.Access.{InMemory, Surroundings, place_of, read_byte, write_byte}
+use Rattle.meaning.specs.Meaning.{IterateTurn, Later, Turn, WhileTurn, after_turn, called_for, callee_in, caught_in, done, done_all, done_case, done_else, done_list, dropped, going_on, iterated, landed, moved, next_turn, read_variable, rest_from, rest_of, returned, step_value, stepped, stored_in_each, turn_of, value, values, write_variable}
+use Rattle.meaning.specs.Outcomes.{Flow, Gave, Jumped, More, Onward, Outcome, Returned, State, Stopped, taking_one, then_do}
+use Rattle.meaning.specs.Values.{as_type, is_true, values_of}
+use Rattle.task_laws.specs.Contexts.{SourceFits}
+use Rattle.typed_trees.specs.Numbers.{NumbersFit, NumbersFitIfSome, NumbersFitIn, NumbersFitInElse, NumbersFitInList, NumbersFitInStatements}
+use Rattle.task_laws.specs.ProgramTypes.{HasTypes}
+use Rattle.task_laws.proofs.Ranges.RangesOfBytes.{Gives, IsGiven, IsStopped, as_type_fits, byte_fits, gives_then, of_type, read_fits, scalar_fits, write_fits}
+use Rattle.task_laws.proofs.Ranges.RangesOfTrees.{CalleesAreHeaded, CallsGive, FlowFits, LaterFits, ReturnFits, TurnFits, calls_give, takes_fits, targets_fit, tree_fits, trees_fit}
+
+-- where a test decides
+pub either :
+    {A : Type 0} {Holds : A → State → Type 0} (test : Bool) (one other : Outcome A)
+    → Gives Holds one → Gives Holds other → Gives Holds (if test then one else other)
+either true one other first second = first
+either false one other first second = second
+
+-- where one is taken of the budget
+pub after_taking :
+    {A : Type 0} {Holds : A → State → Type 0} (around : Surroundings) (s : State) (go : State → Outcome A)
+    → SourceFits around s
+    → ((t : State) → SourceFits around t → Gives Holds (go t))
+    → Gives Holds (taking_one s go)
+after_taking {A = A} {Holds = Holds} around s go source rest =
+    either (s.budget == 0) (Stopped More s) (go (record s { budget = s.budget - 1 })) IsStopped
+    (rest (record s { budget = s.budget - 1 }) (record { memory = source.memory; frame = source.frame }))
+
+-- the statements of a list from one on
+dropped_types : (typed : TypedModule) (within : Within) (count : ℕ) (list : TypedStatements)
+    → TypesHoldInStatements typed within list
+    → TypesHoldInStatements typed within (dropped count list)
+dropped_types typed within zero list types = types
+dropped_types typed within (suc count) NoStatements types = types
+dropped_types typed within (suc count) (MoreStatements first others) types =
+    dropped_types typed within count others types.1
+
+dropped_numbers : (count : ℕ) (list : TypedStatements)
+    → NumbersFitInStatements list → NumbersFitInStatements (dropped count list)
+dropped_numbers zero list small = small
+dropped_numbers (suc count) NoStatements small = small
+dropped_numbers (suc count) (MoreStatements first others) small = dropped_numbers count others small.1
+
+-- the rest of a list from a label on has the types of the list
+rest_types :
+    (typed : TypedModule) (within : Within) (label : ℕ) (list : TypedList) (rest : TypedStatements)
+    → TypesHoldInList typed within list × NumbersFitInList list
+    → rest_from label list ≡ Some rest
+    → TypesHoldInStatements typed within rest × NumbersFitInStatements rest
+rest_types typed within label (ListOf first_label places statements) rest types is =
+    by (nat_le first_label label) (slice_get places (label - first_label)) is
+  where
+    by : (test : Bool) (place : Option ℕ)
+        → (if test then option_map (λ at. dropped at statements) place else None) ≡ Some rest
+        → TypesHoldInStatements typed within rest × NumbersFitInStatements rest
+    by true (Some place) same =
+        let found : dropped place statements ≡ rest = cc in (
+          subst (TypesHoldInStatements typed within) found (dropped_types typed within place statements types.0),
+          subst NumbersFitInStatements found (dropped_numbers place statements types.1),
+        )
+    by true None same = absurd cc
+    by false place same = absurd cc
+
+module _ (around : Surroundings) where
+  -- MOVE
+  pub moved_fits : (count from to : ℕ) (s : State) → SourceFits around s
+      → Gives (λ found t. SourceFits around t) (moved around.program count from to s)
+  moved_fits zero from to s source = IsGiven source
+  moved_fits (suc count) from to s source =
+      gives_then (read_byte around.program (InMemory (from % MEMORY_SIZE)) s)
+      (λ byte t.
+      then_do (write_byte around.program (InMemory (to % MEMORY_SIZE)) byte t)
+      (λ _ u. moved around.program count (from + 1) (to + 1) u))
+      (read_fits around (InMemory (from % MEMORY_SIZE)) s source)
+      (λ byte t one.
+      gives_then (write_byte around.program (InMemory (to % MEMORY_SIZE)) byte t)
+      (λ _ u. moved around.program count (from + 1) (to + 1) u)
+      (byte_fits around (InMemory (to % MEMORY_SIZE)) byte t one.0 one.1)
+      (λ _ u two. moved_fits count (from + 1) (to + 1) u two))
+
+  pub variable_fits : (head : TypedIteration) (s : State) → SourceFits around s
+      → Gives (λ n t. SourceFits around t) (read_variable around head s)
+  variable_fits head s source =
+      gives_weaker (read_variable around head s)
+      (scalar_fits around head.scalar (place_of around head.variable) s source)
+    where
+      gives_weaker : (outcome : Outcome ℕ)
+          → Gives (λ n t. (n < values_of head.scalar) × SourceFits around t) outcome
+          → Gives (λ n t. SourceFits around t) outcome
+      gives_weaker outcome (IsGiven both) = IsGiven both.1
+      gives_weaker outcome IsStopped = IsStopped
+
+module _ (later : Later) (fits : LaterFits later) (typed : TypedModule) (within : Within) (around : Surroundings)
+    (program : HasTypes around.program) (headed : CalleesAreHeaded typed around)
+    (here : slice_get around.program.modules around.number_of_module ≡ Some typed) where
+  -- what a part of a body gives
+  abbrev FlowIs : Outcome Flow → Type 0
+  FlowIs outcome = Gives (λ flow t. FlowFits within flow × SourceFits around t) outcome
+
+  calls : CallsGive later typed around
+  calls = calls_give later typed around fits program headed
+
+  value_is : (tree : TypedExpression) (s : State)
+      → TypesHold typed within tree → NumbersFit tree → SourceFits around s
+      → Gives (λ n t. (n < values_of (type_of tree)) × SourceFits around t) (value later around tree s)
+  value_is tree s types small source = tree_fits later typed within around program.script calls tree s types small source
+
+  -- what follows what a part leaves
+  after_fits : (turn : Turn) (flow : Flow) (s : State)
+      → TurnFits typed within turn
+      → FlowFits within flow × SourceFits around s
+      → FlowIs (after_turn later around turn flow s)
+  after_fits turn Onward s types both = fits.again typed within turn around s program here types both.1
+  after_fits turn (Returned found) s types both = IsGiven both
+  after_fits turn (Jumped label) s types both = IsGiven both
+
+  caught_fits : (list : TypedList) (flow : Flow) (s : State)
+      → TypesHoldInList typed within list × NumbersFitInList list
+      → FlowFits within flow × SourceFits around s
+      → FlowIs (caught_in later around list flow s)
+  caught_fits list Onward s types both = IsGiven both
+  caught_fits list (Returned found) s types both = IsGiven both
+  caught_fits list (Jumped label) s types both = by (rest_from label list) refl
+    where
+      by : (found : Option TypedStatements) → rest_from label list ≡ found
+          → FlowIs (landed later around list label found s)
+      by (Some rest) is =
+          fits.onto typed within list rest around s program here types
+          (rest_types typed within label list rest types is) both.1
+      by None is = IsGiven (tt, both.1)
+
+  goes_on : (flow : Flow) (go : State → Outcome Flow) (s : State)
+      → ((t : State) → SourceFits around t → FlowIs (go t))
+      → FlowFits within flow × SourceFits around s
+      → FlowIs (going_on flow go s)
+  goes_on Onward go s rest both = rest s both.1
+  goes_on (Returned found) go s rest both = IsGiven both
+  goes_on (Jumped label) go s rest both = IsGiven both
+
+  -- RETURN
+  returned_fits : (result : Option TypedExpression) (s : State)
+      → IsReturned typed within result → NumbersFitIfSome result → SourceFits around s
+      → FlowIs (returned later around result s)
+  returned_fits None s types small source = IsGiven (by within types, source)
+    where
+      by : (its : Within) → IsReturned typed its None → ReturnFits its 0
+      by (WithinProcedure number None) is = tt
+      by (WithinProcedure number (Some scalar)) is = absurd is
+      by WithinMain is = absurd is
+  returned_fits (Some tree) s types small source =
+      gives_then (value later around tree s) (λ n t. Gave (Returned n) t)
+      (value_is tree s (by within types).0 small source)
+      (λ n t one. IsGiven ((by within types).1 n one.0, one.1))
+    where
+      by : (its : Within) → IsReturned typed its (Some tree)
+          → TypesHold typed its tree × ((n : ℕ) → n < values_of (type_of tree) → ReturnFits its n)
+      by (WithinProcedure number None) is = absurd is
+      by (WithinProcedure number (Some scalar)) is = (is.0, λ n less. of_type (type_of tree) scalar n is.1 less)
+      by WithinMain is = absurd is
+
+  -- an iterative DO
+  step_fits : (step : Option TypedExpression) (s : State)
+      → IfSome step (TypesHold typed within) → NumbersFitIfSome step → SourceFits around s
+      → Gives (λ n t. SourceFits around t) (step_value later around step s)
+  step_fits None s types small source = IsGiven source
+  step_fits (Some tree) s types small source =
+      by (value later around tree s) (value_is tree s types small source)
+    where
+      by : (outcome : Outcome ℕ)
+          → Gives (λ n t. (n < values_of (type_of tree)) × SourceFits around t) outcome
+          → Gives (λ n t. SourceFits around t) outcome
+      by outcome (IsGiven both) = IsGiven both.1
+      by outcome IsStopped = IsStopped
+
+  stepped_fits : (head : TypedIteration) (body : TypedList) (flow : Flow) (s : State)
+      → TurnFits typed within (IterateTurn head body)
+      → FlowFits within flow × SourceFits around s
+      → FlowIs (stepped later around head body flow s)
+  stepped_fits head body Onward s types both =
+      gives_then (step_value later around head.step s)
+      (λ step t.
+      then_do (read_variable around head t)
+      (λ number u.
+      then_do (write_variable around head (as_type head.scalar (number + step)) u)
+      (λ _ v. next_turn later around head body (number + step) v)))
+      (step_fits head.step s ((types.0).0).3 ((types.0).1).2 both.1)
+      (λ step t one.
+      gives_then (read_variable around head t)
+      (λ number u.
+      then_do (write_variable around head (as_type head.scalar (number + step)) u)
+      (λ _ v. next_turn later around head body (number + step) v))
+      (variable_fits around head t one)
+      (λ number u two.
+      gives_then (write_variable around head (as_type head.scalar (number + step)) u)
+      (λ _ v. next_turn later around head body (number + step) v)
+      (write_fits around head.scalar (place_of around head.variable) (as_type head.scalar (number + step)) u
+      (as_type_fits around head.scalar (number + step)) two)
+      (λ _ v three.
+      either (nat_lt (number + step) (values_of head.scalar)) (later.again (IterateTurn head body) around v)
+      (Gave Onward v)
+      (fits.again typed within (IterateTurn head body) around v program here types three)
+      (IsGiven (tt, three)))))
+  stepped_fits head body (Returned found) s types both = IsGiven both
+  stepped_fits head body (Jumped label) s types both = IsGiven both
+
+  iterated_fits : (head : TypedIteration) (body : TypedList) (body_done : State → Outcome Flow) (s : State)
+      → TurnFits typed within (IterateTurn head body)
+      → ((v : State) → SourceFits around v → FlowIs (body_done v))
+      → SourceFits around s
+      → FlowIs (iterated later around head body body_done s)
+  iterated_fits head body body_done s types inside source =
+      gives_then (value later around head.last s)
+      (λ last t.
+      then_do (read_variable around head t)
+      (λ number u.
+      if nat_lt last number then Gave Onward u
+      else taking_one u (λ v. then_do (body_done v) (stepped later around head body))))
+      (value_is head.last s ((types.0).0).2 ((types.0).1).1 source)
+      (λ last t one.
+      gives_then (read_variable around head t)
+      (λ number u.
+      if nat_lt last number then Gave Onward u
+      else taking_one u (λ v. then_do (body_done v) (stepped later around head body)))
+      (variable_fits around head t one.1)
+      (λ number u two.
+      either (nat_lt last number) (Gave Onward u)
+      (taking_one u (λ v. then_do (body_done v) (stepped later around head body)))
+      (IsGiven (tt, two))
+      (after_taking around u (λ v. then_do (body_done v) (stepped later around head body)) two
+      (λ v less.
+      gives_then (body_done v) (stepped later around head body) (inside v less)
+      (λ flow w three. stepped_fits head body flow w types three)))))
+
+  mutual
+    pub statement_fits : (statement : TypedStatement) (s : State)
+        → TypesHoldIn typed within statement → NumbersFitIn statement → SourceFits around s
+        → FlowIs (done later around statement s)
+    statement_fits (LabelStatement label) s types small source = IsGiven (tt, source)
+    statement_fits NullStatement s types small source = IsGiven (tt, source)
+    statement_fits (AssignmentStatement targets tree) s types small source =
+        gives_then (value later around tree s)
+        (λ n t. then_do (stored_in_each later around targets n t) (λ _ u. Gave Onward u))
+        (value_is tree s types.0 small.0 source)
+        (λ n t one.
+        gives_then (stored_in_each later around targets n t) (λ _ u. Gave Onward u)
+        (targets_fit later typed within around program.script calls (type_of tree) targets t n types.1 small.1 one.1)
+        (λ _ u two. IsGiven (tt, two)))
+    statement_fits (CallStatement procedure trees) s types small source =
+        gives_then (values later around trees s)
+        (λ given t. then_do (called_for later (callee_in around procedure) given around t) (λ _ u. Gave Onward u))
+        (trees_fit later typed within around program.script calls trees s types.1 small source)
+        (λ given t one.
+        gives_then (called_for later (callee_in around procedure) given around t) (λ _ u. Gave Onward u)
+        (takes_fits later typed within around program.script calls procedure None trees given t types.0 one.0 one.1)
+        (λ found u two. IsGiven (tt, two.1)))
+    statement_fits (MoveStatement count source_tree destination) s types small source =
+        gives_then (value later around count s)
+        (λ bytes t.
+        then_do (value later around source_tree t)
+        (λ from u.
+        then_do (value later around destination u)
+        (λ to v. then_do (moved around.program bytes from to v) (λ _ w. Gave Onward w))))
+        (value_is count s (types.0).0 small.0 source)
+        (λ bytes t one.
+        gives_then (value later around source_tree t)
+        (λ from u.
+        then_do (value later around destination u)
+        (λ to v. then_do (moved around.program bytes from to v) (λ _ w. Gave Onward w)))
+        (value_is source_tree t (types.1).0 small.1 one.1)
+        (λ from u two.
+        gives_then (value later around destination u)
+        (λ to v. then_do (moved around.program bytes from to v) (λ _ w. Gave Onward w))
+        (value_is destination u (types.2).0 small.2 two.1)
+        (λ to v three.
+        gives_then (moved around.program bytes from to v) (λ _ w. Gave Onward w)
+        (moved_fits around bytes from to v three.1)
+        (λ _ w four. IsGiven (tt, four)))))
+    statement_fits (ReturnStatement result) s types small source = returned_fits result s types small source
+    statement_fits HaltStatement s types small source = IsStopped
+    statement_fits (GotoStatement label) s types small source =
+        after_taking around s (λ t. Gave (Jumped label) t) source (λ t less. IsGiven (tt, less))
+    statement_fits (IfStatement condition body otherwise) s types small source =
+        gives_then (value later around condition s)
+        (λ n t. if is_true n then done later around body t else done_else later around otherwise t)
+        (value_is condition s types.0 small.0 source)
+        (λ n t one.
+        either (is_true n) (done later around body t) (done_else later around otherwise t)
+        (statement_fits body t types.1 small.1 one.1)
+        (else_fits otherwise t types.2 small.2 one.1))
+    statement_fits (DoStatement body) s types small source = list_fits body s types small source
+    statement_fits (WhileStatement condition body) s types small source =
+        gives_then (value later around condition s)
+        (λ n t.
+        if is_true n
+        then taking_one t
+        (λ u. then_do (done_list later around body u) (after_turn later around (WhileTurn condition body)))
+        else Gave Onward t)
+        (value_is condition s types.0 small.0 source)
+        (λ n t one.
+        either (is_true n)
+        (taking_one t
+        (λ u. then_do (done_list later around body u) (after_turn later around (WhileTurn condition body))))
+        (Gave Onward t)
+        (after_taking around t
+        (λ u. then_do (done_list later around body u) (after_turn later around (WhileTurn condition body))) one.1
+        (λ u less.
+        gives_then (done_list later around body u) (after_turn later around (WhileTurn condition body))
+        (list_fits body u types.1 small.1 less)
+        (λ flow v two.
+        after_fits (WhileTurn condition body) flow v ((types.0, small.0), types.1, small.1) two)))
+        (IsGiven (tt, one.1)))
+    statement_fits (IterateStatement head body) s types small source =
+        gives_then (value later around head.first s)
+        (λ first t.
+        then_do (write_variable around head (as_type head.scalar first) t)
+        (λ _ u. iterated later around head body (λ v. done_list later around body v) u))
+        (value_is head.first s (types.0).1 (small.0).0 source)
+        (λ first t one.
+        gives_then (write_variable around head (as_type head.scalar first) t)
+        (λ _ u. iterated later around head body (λ v. done_list later around body v) u)
+        (write_fits around head.scalar (place_of around head.variable) (as_type head.scalar first) t
+        (as_type_fits around head.scalar first) one.1)
+        (λ _ u two.
+        iterated_fits head body (λ v. done_list later around body v) u ((types.0, small.0), types.1, small.1)
+        (λ v three. list_fits body v types.1 small.1 three) two))
+    statement_fits (CaseStatement choice statements) s types small source =
+        gives_then (value later around choice s) (λ n t. done_case later around statements n t)
+        (value_is choice s types.0 small.0 source)
+        (λ n t one. case_fits statements n t types.1 small.1 one.1)
+
+    else_fits : (otherwise : TypedElse) (s : State)
+        → TypesHoldInElse typed within otherwise → NumbersFitInElse otherwise → SourceFits around s
+        → FlowIs (done_else later around otherwise s)
+    else_fits NoElse s types small source = IsGiven (tt, source)
+    else_fits (ElseStatement statement) s types small source = statement_fits statement s types small source
+
+    case_fits : (statements : TypedStatements) (number : ℕ) (s : State)
+        → TypesHoldInStatements typed within statements → NumbersFitInStatements statements → SourceFits around s
+        → FlowIs (done_case later around statements number s)
+    case_fits NoStatements number s types small source = IsGiven (tt, source)
+    case_fits (MoreStatements first others) zero s types small source =
+        statement_fits first s types.0 small.0 source
+    case_fits (MoreStatements first others) (suc number) s types small source =
+        case_fits others number s types.1 small.1 source
+
+    pub statements_fit : (statements : TypedStatements) (s : State)
+        → TypesHoldInStatements typed within statements → NumbersFitInStatements statements → SourceFits around s
+        → FlowIs (done_all later around statements s)
+    statements_fit NoStatements s types small source = IsGiven (tt, source)
+    statements_fit (MoreStatements first others) s types small source =
+        gives_then (done later around first s) (λ flow t. going_on flow (λ u. done_all later around others u) t)
+        (statement_fits first s types.0 small.0 source)
+        (λ flow t one.
+        goes_on flow (λ u. done_all later around others u) t
+        (λ u inside. statements_fit others u types.1 small.1 inside) one)
+
+    pub list_fits : (list : TypedList) (s : State)
+        → TypesHoldInList typed within list → NumbersFitInList list → SourceFits around s
+        → FlowIs (done_list later around list s)
+    list_fits (ListOf first_label places statements) s types small source =
+        gives_then (done_all later around statements s)
+        (caught_in later around (ListOf first_label places statements))
+        (statements_fit statements s types small source)
+        (λ flow t one. caught_fits (ListOf first_label places statements) flow t (types, small) one)
+
+  -- a further turn of a loop
+  pub turn_fits : (turn : Turn) (s : State) → TurnFits typed within turn → SourceFits around s
+      → FlowIs (turn_of later turn around s)
+  turn_fits (WhileTurn condition body) s types source =
+      statement_fits (WhileStatement condition body) s ((types.0).0, types.1) ((types.0).1, types.2) source
+  turn_fits (IterateTurn head body) s types source =
+      iterated_fits head body (done_list later around body) s types
+      (λ v inside. list_fits body v types.1 types.2 inside) source
+
+  -- the rest of a list from a label on
+  pub rest_fits : (list : TypedList) (rest : TypedStatements) (s : State)
+      → TypesHoldInList typed within list × NumbersFitInList list
+      → TypesHoldInStatements typed within rest × NumbersFitInStatements rest
+      → SourceFits around s
+      → FlowIs (rest_of later list rest around s)
+  rest_fits list rest s types more source =
+      gives_then (done_all later around rest s) (caught_in later around list)
+      (statements_fit rest s more.0 more.1 source)
+      (λ flow t one. caught_fits list flow t types one)

@@ -1,0 +1,12 @@
+pub mod Answers
+pub mod ByteComparisons
+pub mod NumberComparisons
+pub mod WordFlags
+pub mod WordComparisons
+pub mod PlaceComparisons
+pub mod WordNumbers
+pub mod Relations
+pub mod RelationValues
+pub mod EqualityJumps
+pub mod EqualityRelations
+pub mod LowestBits

@@ -1,0 +1,10 @@
+pub mod Writing
+pub mod Stores
+pub mod StaticStores
+pub mod Sends
+pub mod WordWriting
+pub mod StoreRules
+pub mod NearStores
+pub mod StoreLaws
+pub mod NextBytes
+pub mod EmbeddedBytes

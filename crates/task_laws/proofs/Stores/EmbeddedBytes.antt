@@ -1,0 +1,108 @@
+-- The low byte of an assignment within an expression.
+use Rattle.std.proofs.Common.{◌≡◌, ℕ, ◌*◌, ◌/◌, ◌%◌, ◌<◌, true, false, List, [], ◌∷◌, refl, sym, ◌∙◌, subst, arith}
+use Rattle.std.proofs.lemmas.Bool.{false≢true}
+use Rattle.trees.specs.declared.declaration.ScalarType.TheVariants as scalars
+use Rattle.typed_trees.specs.Charge.{height_of}
+use Rattle.typed_trees.specs.ExpressionTypes.{type_of, type_of_target}
+use Rattle.typed_trees.specs.TypedTrees.{TypedExpression, TypedTarget, AssignmentNode}
+use Rattle.typed_trees.specs.WellTyped.{TypesHold, TypesHoldInTarget}
+use Rattle.meaning.specs.Meaning.{stored}
+use Rattle.meaning.specs.Outcomes.{State as SourceState, Ended, More, Outside, Outcome, Gave, Stopped}
+use Rattle.meaning.specs.Values.{values_of}
+use Rattle.isa8080.specs.declared.instr.Register.TheVariants.{A, L}
+use Rattle.isa8080.specs.State.{State}
+use Rattle.treecode.specs.declared.expression.ExpressionNumber.{ExpressionNumber}
+use Rattle.treecode.specs.declared.reference.Target.{Target}
+use Rattle.treecode.specs.Lowered.{IsExpression, IsTarget}
+use Rattle.steps8080.specs.declared.facts.Facts.{Facts}
+use Rattle.steps8080.specs.declared.step.Step.TheVariants.{Plain}
+use Rattle.steps8080.specs.declared.step.Task.TheVariants as tasks
+use Rattle.steps8080.specs.Instructions.{copy}
+use Rattle.steps8080.specs.Step.{part}
+use Rattle.code_meaning.specs.Landing.{Does, Lands}
+use Rattle.steps8080.specs.Queries.{is_free}
+use Rattle.task_laws.specs.Contexts.{Context, InRegister, IsSound, nodes_in}
+use Rattle.task_laws.specs.Steps.{StepsStand, PartThere, PlainThere}
+use Rattle.task_laws.specs.Tasks.{ByteIsGiven, Carries, IsStored, Nothing, PartDoes}
+use Rattle.task_laws.proofs.Relations.Answers.{low_is_all}
+use Rattle.task_laws.proofs.Bytes.ByteForms.{byte_given}
+use Rattle.task_laws.proofs.Machine.SiteNodes.{value_in}
+use Rattle.task_laws.proofs.Machine.Stages.{at_a, at_byte, at_carried, at_end, at_word}
+
+fewer_steps :
+    {script : List (List ℕ)} {budget left : ℕ} {from : State} {Good : State → Type 0}
+    → Lands script budget 1 from left Good → Lands script budget 0 from left Good
+fewer_steps lands =
+    let paid = lands.paid in
+    record { count = lands.count; end = lands.end; run = lands.run; paid = omega (arith, paid); spent = lands.spent; is_good = lands.is_good }
+
+-- a step to spare that is not wanted
+pub does_less :
+    {A : Type 0} {script : List (List ℕ)} {budget : ℕ} {from : State} (outcome : Outcome A)
+    {Good : A → SourceState → State → Type 0}
+    → Does script budget 1 from outcome Good
+    → Does script budget 0 from outcome Good
+does_less (Gave found t) does = record { told = fewer_steps does.told }
+does_less (Stopped Ended t) does = record { told = does.told }
+does_less (Stopped More t) does = record { told = does.told }
+does_less (Stopped (Outside reason) t) does = record { told = tt }
+
+module _
+    (context : Context) (facts last : Facts) (from to pushed bound : ℕ) (number inner : ExpressionNumber) (target : Target)
+    (inside : TypedExpression) (place : TypedTarget) (sound : IsSound context)
+    (node : IsExpression (nodes_in context) context.storage bound inner.index inside)
+    (types : TypesHold context.typed context.within inside)
+    (is_target : IsTarget (nodes_in context) context.storage bound target place)
+    (target_types : TypesHoldInTarget context.typed context.within (type_of inside) place)
+    (same_type : type_of_target place ≡ type_of inside)
+    (not_free : is_free context.site number ≡ false) where
+  -- a BYTE is assigned
+  pub embedded_byte :
+      type_of inside ≡ scalars.Byte
+      → StepsStand context (PartDoes context) facts from
+      (part (tasks.Byte inner) pushed ∷ part (tasks.Store target true) pushed ∷ []) last to
+      → Carries context facts pushed (2 * height_of (AssignmentNode place inside)) 0 from to Nothing
+      (value_in context (AssignmentNode place inside))
+      (ByteIsGiven context last number (type_of (AssignmentNode place inside)))
+  embedded_byte is_byte (PartThere does (PartThere stores ends)) top base s r memory below room ready known nothing =
+      at_byte _ _ _ does node types (omega arith) (record { below = below; room = room; ready = ready; known = known })
+      (λ v u now memory_now is given next.
+      let small : v < 256 = subst (λ scalar. v < values_of scalar) is_byte given.small in
+      at_carried {top = top} {need = 2 * height_of (AssignmentNode place inside)} {base = base} _ _ _
+      (λ top_there base_there u_there r_there memory_there below_there room_there ready_there known_there in_a.
+      does_less (stored context.later context.activation.around place v u_there)
+      (stores bound v (type_of inside) place is_target target_types given.small top_there base_there u_there r_there memory_there below_there room_there ready_there known_there in_a))
+      (omega arith)
+      (subst (λ scalar. InRegister scalar v now) (sym is_byte) (given.a ∙ low_is_all v small))
+      (λ found late memory_late (kept : IsStored context _ (type_of inside) true v now memory_now found late memory_late). kept.known) next
+      (λ found t late memory_late stored_is kept final_stage. at_end ends final_stage
+      (λ final.
+      let a : late.a ≡ v = subst (λ scalar. InRegister scalar v late) is_byte (kept.wanted refl) in
+      byte_given to number v (a ∙ sym (low_is_all v small)) (subst (λ scalar. v < values_of scalar) (sym same_type) given.small)
+      (λ free. absurd (false≢true (sym not_free ∙ free))) final)))
+
+  -- an ADDRESS is assigned
+  pub embedded_low_byte :
+      type_of inside ≡ scalars.Address
+      → StepsStand context (PartDoes context) facts from
+      (part (tasks.Word inner) pushed ∷ part (tasks.Store target true) pushed ∷ Plain (copy A L) ∷ []) last to
+      → Carries context facts pushed (2 * height_of (AssignmentNode place inside)) 0 from to Nothing
+      (value_in context (AssignmentNode place inside))
+      (ByteIsGiven context last number (type_of (AssignmentNode place inside)))
+  embedded_low_byte is_address (PartThere does (PartThere stores (PlainThere there ends))) top base s r memory below room ready known nothing =
+      at_word _ _ _ does node types (omega arith) (record { below = below; room = room; ready = ready; known = known })
+      (λ v u now memory_now is given next.
+      at_carried {top = top} {need = 2 * height_of (AssignmentNode place inside)} {base = base} _ _ _
+      (λ top_there base_there u_there r_there memory_there below_there room_there ready_there known_there in_hl.
+      does_less (stored context.later context.activation.around place v u_there)
+      (stores bound v (type_of inside) place is_target target_types given.small top_there base_there u_there r_there memory_there below_there room_there ready_there known_there in_hl))
+      (omega arith)
+      (subst (λ scalar. InRegister scalar v now) (sym is_address) (given.h, given.l))
+      (λ found late memory_late (kept : IsStored context _ (type_of inside) true v now memory_now found late memory_late). kept.known) next
+      (λ found t late memory_late stored_is kept final_stage.
+      let hl : (late.h ≡ v / 256) × (late.l ≡ v % 256) = subst (λ scalar. InRegister scalar v late) is_address (kept.wanted refl) in
+      at_a late.l late.flags sound final_stage there refl final_stage.ready.registers.l tt
+      (λ moved. at_end ends moved
+      (λ final.
+      byte_given to number v hl.1 (subst (λ scalar. v < values_of scalar) (sym same_type) given.small)
+      (λ free. absurd (false≢true (sym not_free ∙ free))) final))))

@@ -1,0 +1,88 @@
+-- Steps of stores: one of them is to spare.
+use Rattle.std.proofs.Common.{◌≡◌, ℕ, suc, ◌+◌, List, [], ◌∷◌, refl, subst, ◌∙◌, arith}
+use Rattle.meaning.specs.Outcomes.{State as SourceState, Ended, More, Outside, Outcome, Gave, Stopped}
+use Rattle.isa8080.specs.declared.instr.Instr.{Instr}
+use Rattle.isa8080.specs.State.{Registers, State, wrap}
+use Rattle.isa8080.specs.Act.{act}
+use Rattle.isa8080.specs.Step.{step_of}
+use Rattle.asm8080.specs.declared.item.Item.TheVariants as items
+use Rattle.asm8080.specs.Standing.{size_of_instruction}
+use Rattle.asm8080.proofs.Steps.{step_then}
+use Rattle.treecode.specs.declared.reference.Reference.{Reference}
+use Rattle.code_meaning.specs.Landing.{Does, Lands, at_place}
+use Rattle.code_meaning.specs.Activations.{IsThere}
+use Rattle.code_meaning.proofs.Landing.{after_step}
+use Rattle.code_meaning.proofs.FirstItems.{plain_step}
+use Rattle.code_meaning.specs.Asking.{Asks}
+use Rattle.code_meaning.proofs.Facts.After.{facts_after}
+use Rattle.steps8080.specs.declared.facts.Facts.{Facts}
+use Rattle.steps8080.specs.Facts.{after}
+use Rattle.steps8080.specs.Queries.{keeps_of_address}
+use Rattle.exprgen8080.specs.Emission.{knowing}
+use Rattle.task_laws.specs.Contexts.{Context, IsSound, distances_in}
+use Rattle.task_laws.specs.Tasks.{Know}
+use Rattle.task_laws.proofs.Machine.Rules.{GoesOn, bytes_at_place}
+
+-- a run with a step in front of it, which nothing of the budget pays for, has a step to spare
+lands_gaining :
+    (script : List (List ℕ)) (budget left : ℕ) (from to : State) (Good : State → Type 0)
+    → step_of script from ≡ to
+    → Lands script budget 0 to left Good
+    → Lands script budget 1 from left Good
+lands_gaining script budget left from to Good same lands =
+    let paid = lands.paid in
+    record {
+      count = suc lands.count;
+      end = lands.end;
+      run = step_then script lands.count from to lands.end same lands.run;
+      paid = omega (arith, paid);
+      spent = lands.spent;
+      is_good = lands.is_good;
+    }
+
+-- a step that makes one to spare
+pub gains :
+    {A : Type 0} {script : List (List ℕ)} {budget : ℕ} {from to : State} {outcome : Outcome A}
+    {Good : A → SourceState → State → Type 0}
+    → step_of script from ≡ to
+    → Does script budget 0 to outcome Good
+    → Does script budget 1 from outcome Good
+gains {script = script} {budget = budget} {from = from} {to = to} {outcome = Gave found t} {Good = Good} same does =
+    record { told = lands_gaining script budget t.budget from to (Good found t) same does.told }
+gains {script = script} {budget = budget} {from = from} {to = to} {outcome = Stopped Ended t} same does =
+    after_step same (record { told = does.told })
+gains {script = script} {budget = budget} {from = from} {to = to} {outcome = Stopped More t} same does =
+    after_step same (record { told = does.told })
+gains {outcome = Stopped (Outside reason) t} same does = record { told = tt }
+
+-- an instruction that makes a step to spare
+pub plain_gains :
+    {A : Type 0} {budget : ℕ} {outcome : Outcome A} {Good : A → SourceState → State → Type 0}
+    {context : Context} {facts : Facts} {top : ℕ} {base source : List ℕ} {frame : List (List ℕ)}
+    {memory : List ℕ} {events : List Rattle.ports.specs.declared.event.Event.Event} {i : Instr} {from : ℕ} (r now : Registers) (ended : List ℕ)
+    (events_after : List Rattle.ports.specs.declared.event.Event.Event)
+    → IsSound context
+    → IsThere context.activation (items.Plain i ∷ []) from (from + size_of_instruction i)
+    → GoesOn context facts top base source frame r memory
+    → Asks context.activation (distances_in context) facts i (record r { pc = wrap (from + size_of_instruction i) })
+    → act context.activation.around.program.script i (at_place (from + size_of_instruction i) r memory events)
+    ≡ at_place (from + size_of_instruction i) now ended events_after
+    → (Know context (after facts i) now ended
+    → Does context.activation.around.program.script budget 0
+    (at_place (from + size_of_instruction i) now ended events_after) outcome Good)
+    → Does context.activation.around.program.script budget 1 (at_place from r memory events) outcome Good
+plain_gains {budget = budget} {outcome = outcome} {Good = Good} {context = context} {facts = facts} {memory = memory} {events = events} {i = i} {from = from} r now ended events_after sound there on asks does rest =
+    let script = context.activation.around.program.script in
+    let place = from + size_of_instruction i in
+    let shares = on.ready.shares in
+    let known : Know context (after facts i) now ended
+    = subst (λ (s : State). Know context (after facts i) s.registers s.memory) does
+    (facts_after script context.activation (distances_in context) facts i (at_place place r memory events)
+    shares.is_memory (bytes_at_place (wrap place) r on.ready.registers) asks on.known) in
+    gains (plain_step script context.activation i [] from place r memory events sound.lies shares.code there ∙ does) (rest known)
+
+-- what is known of registers does not change what the code of an address keeps
+pub address_keeps_anywhere : (context : Context) (used : Facts) (reference : Reference)
+    → keeps_of_address (knowing context.site used) reference ≡ keeps_of_address context.site reference
+unfolding keeps_of_address
+address_keeps_anywhere context used reference = refl

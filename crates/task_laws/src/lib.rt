@@ -1,0 +1,2 @@
+//! Laws: the code of expressions does what they mean.
+#![tactic(auto)]

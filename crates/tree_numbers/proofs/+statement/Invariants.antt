@@ -1,8 +1,0 @@
-use Rattle.std.proofs.Common.{drop}
-use Rattle.typed_trees.specs.Views.{statements_view}
-use Rattle.tree_numbers.specs.Numbers.{NumbersFitInStatements}
-use Rattle.tree_numbers.proofs.+statement.Given as goal
-
-abbrev pub invariant-hold_statements-loop-statement : goal.invariant-hold_statements-loop-statement
-invariant-hold_statements-loop-statement l =
-    NumbersFitInStatements (statements_view (drop l.statement-index l.statements)) → NumbersFitInStatements (statements_view l.statements)

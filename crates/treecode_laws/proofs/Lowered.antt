@@ -1,0 +1,119 @@
+-- The segments of tree code are those of its module before that has its place.
+use Rattle.std.proofs.Common.{◌≡◌, ℕ, ◌+◌, ◌%◌, ◌<◌, length, Some, None, ap, sym, subst, List, ◌∙◌, arith}
+use Rattle.std.specs.Prelude.{slice_get}
+use Rattle.std.proofs.lemmas.Option.{none-some}
+use Rattle.mem80.specs.declared.memory.TheConstants.{MEMORY_SIZE}
+use Rattle.typed_trees.specs.TypedTrees.{TypedObject, TypedModule}
+use Rattle.typed_trees.specs.Weight.{constant_bytes}
+use Rattle.layout.specs.declared.slot.Segment.TheVariants.{Code, Data}
+use Rattle.layout.specs.Segments.{Places, Target, address_of_location, location_of, places_in}
+use Rattle.layout.specs.Storage.{Storage, data_bytes}
+use Rattle.layout.proofs.Resolving.{further}
+use Rattle.layout.proofs.Segments.{constants_length, data_length}
+use Rattle.treecode.specs.declared.module.ExternalName.{ExternalName}
+use Rattle.treecode.specs.declared.module.TreeModule.{TreeModule}
+use Rattle.treecode.specs.declared.place.Home.{Home}
+use Rattle.treecode.specs.declared.place.Place.{Place}
+use Rattle.treecode.specs.declared.place.Place.TheVariants as places
+use Rattle.treecode.specs.Contents.{constants_of, variables_of}
+use Rattle.treecode.specs.Homes.{externals_of, homes_of, number_of_place, place_after}
+use Rattle.treecode.specs.Lowered.{IsLowered}
+use Rattle.treecode.specs.Nodes.{home_at, nodes_of}
+use Rattle.treecode_laws.specs.internal.Places.{location_of_place, places_of_contents, KeepWords}
+use Rattle.treecode_laws.proofs.Contents.{constants_agree, data_agrees}
+use Rattle.treecode_laws.specs.Laid.{IsLaidOut}
+use Rattle.treecode_laws.proofs.Homes.{LiesAt, object_lies, place_further}
+
+-- the homes and names of tree code are those that its module gives
+as_module :
+    {A : Type 0} (typed : TypedModule) (storage : Storage) (tree : TreeModule)
+    (f : List ExternalName → List Home → A)
+    → IsLowered typed storage tree
+    → f tree.externals.items tree.homes.items ≡ f (externals_of typed) (homes_of typed storage)
+as_module typed storage tree f lowered =
+    ap (λ (names : List ExternalName). f names tree.homes.items) lowered.externals
+    ∙ ap (f (externals_of typed)) lowered.homes
+
+-- The code segment begins with the bytes that the module's begins with.
+pub code_is :
+    (typed : TypedModule) (storage : Storage) (tree : TreeModule)
+    → IsLaidOut typed storage
+    → KeepWords tree.constants.items
+    → IsLowered typed storage tree
+    → places_of_contents tree.externals.items tree.constants.items ≡ places_in typed Code
+code_is typed storage tree laid keep lowered =
+    ap (places_of_contents tree.externals.items) lowered.constants
+    ∙ as_module typed storage tree
+    (λ names starts. places_of_contents names (constants_of typed starts)) lowered
+    ∙ constants_agree typed storage laid
+    (subst KeepWords (lowered.constants ∙ ap (constants_of typed) lowered.homes) keep)
+
+-- The data segment has the bytes that the module's has.
+pub data_is :
+    (typed : TypedModule) (storage : Storage) (tree : TreeModule)
+    → IsLaidOut typed storage
+    → KeepWords tree.variables.items
+    → IsLowered typed storage tree
+    → places_of_contents tree.externals.items tree.variables.items ≡ places_in typed Data
+data_is typed storage tree laid keep lowered =
+    ap (places_of_contents tree.externals.items) lowered.variables
+    ∙ as_module typed storage tree
+    (λ names starts. places_of_contents names (variables_of typed starts)) lowered
+    ∙ data_agrees typed storage laid
+    (subst KeepWords (lowered.variables ∙ ap (variables_of typed) lowered.homes) keep)
+
+-- So both are as long as what they hold takes.
+pub code_length :
+    (typed : TypedModule) (storage : Storage) (tree : TreeModule)
+    → IsLaidOut typed storage
+    → KeepWords tree.constants.items
+    → IsLowered typed storage tree
+    → length (places_of_contents tree.externals.items tree.constants.items) ≡ constant_bytes typed
+code_length typed storage tree laid keep lowered =
+    ap (λ (bytes : Places). length bytes) (code_is typed storage tree laid keep lowered)
+    ∙ constants_length typed laid.storable
+
+pub data_length_is :
+    (typed : TypedModule) (storage : Storage) (tree : TreeModule)
+    → IsLaidOut typed storage
+    → KeepWords tree.variables.items
+    → IsLowered typed storage tree
+    → length (places_of_contents tree.externals.items tree.variables.items) ≡ data_bytes typed.objects
+data_length_is typed storage tree laid keep lowered =
+    ap (λ (bytes : Places). length bytes) (data_is typed storage tree laid keep lowered)
+    ∙ data_length typed laid.storable
+
+-- Each object lies where tree code has it.
+pub home_is :
+    (typed : TypedModule) (storage : Storage) (tree : TreeModule) (number : ℕ) (object : TypedObject)
+    → IsLaidOut typed storage
+    → IsLowered typed storage tree
+    → slice_get typed.objects number ≡ Some object
+    → LiesAt tree.externals.items object.home (home_at (nodes_of tree).homes number)
+    (location_of typed number)
+home_is typed storage tree number object laid lowered found =
+    subst (λ (names : List ExternalName).
+    LiesAt names object.home (home_at tree.homes.items number) (location_of typed number))
+    (sym lowered.externals)
+    (subst (λ (starts : List Home).
+    LiesAt (externals_of typed) object.home (home_at starts number) (location_of typed number))
+    (sym lowered.homes) (object_lies typed storage number object laid found))
+
+-- Where targets have their addresses, a place so many bytes further on has the address so many further on,
+-- modulo the size of memory, and what is no number has an address in memory.
+pub address_after :
+    (address_of : Target → ℕ) (names : List ExternalName) (place : Place) (distance : ℕ)
+    → address_of_location address_of (location_of_place names (place_after place distance))
+    ≡ (address_of_location address_of (location_of_place names place) + distance) % MEMORY_SIZE
+address_after address_of names place distance =
+    ap (address_of_location address_of) (place_further names place distance)
+    ∙ further address_of (location_of_place names place) distance
+
+pub address_below :
+    (address_of : Target → ℕ) (names : List ExternalName) (place : Place)
+    → number_of_place place ≡ None
+    → address_of_location address_of (location_of_place names place) < MEMORY_SIZE
+address_below address_of names (places.Number number) none = absurd (none-some number (sym none))
+address_below address_of names (places.Code offset) none = omega arith
+address_below address_of names (places.Data offset) none = omega arith
+address_below address_of names (places.External offset name) none = omega arith

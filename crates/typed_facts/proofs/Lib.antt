@@ -1,4 +1,0 @@
-pub mod Items
-pub mod Walks
-pub mod Facts
-pub mod Formed

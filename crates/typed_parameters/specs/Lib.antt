@@ -1,1 +1,0 @@
-pub use Rattle.typed_trees.specs.Frames

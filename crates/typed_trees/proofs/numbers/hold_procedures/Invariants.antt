@@ -1,0 +1,9 @@
+use Rattle.std.proofs.Common.{drop, map}
+use Rattle.std.specs.List.{AllByRecursion}
+use Rattle.typed_trees.specs.Views.{procedure_view}
+use Rattle.typed_trees.specs.Numbers.{NumbersFitInProcedure}
+use Rattle.typed_trees.proofs.numbers.hold_procedures.Given as goal
+
+abbrev pub invariant-loop-procedure : goal.invariant-loop-procedure
+invariant-loop-procedure l =
+    AllByRecursion NumbersFitInProcedure (map procedure_view (drop l.procedure-index l.procedures)) → AllByRecursion NumbersFitInProcedure (map procedure_view l.procedures)

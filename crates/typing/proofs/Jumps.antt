@@ -1,0 +1,4 @@
+pub mod KnownLabels
+pub mod LabelPlaces
+pub mod JumpsLaw
+pub mod JumpExamples

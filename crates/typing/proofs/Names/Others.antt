@@ -1,0 +1,222 @@
+-- Checks of which no name is a cause.
+use Rattle.std.proofs.Common.{ℕ, List, [], ◌∷◌, Option, Some, None}
+use Rattle.std.specs.Prelude.{nat_le, nat_lt, not, ◌&&◌, is_none, is_some, slice_get}
+use Rattle.trees.specs.declared.declaration.Dimension.{Dimension}
+use Rattle.trees.specs.declared.declaration.Dimension.TheVariants.{Count, Implied}
+use Rattle.trees.specs.declared.declaration.Linkage.{Linkage}
+use Rattle.trees.specs.declared.declaration.ScalarType.{ScalarType}
+use Rattle.trees.specs.declared.declaration.ScalarType.TheVariants.{Byte, Address}
+use Rattle.trees.specs.declared.identifier.Identifier.{Identifier}
+use Rattle.trees.specs.declared.identifier.Number.{Number}
+use Rattle.trees.specs.declared.identifier.Place.{Place}
+use Rattle.trees.specs.Trees.{ConstantTree, NumberConstant, StringConstant, StringTree, OffsetTree, ItemTree, HeadingTree, StatementTrees, NoStatements, MoreStatements}
+use Rattle.names.specs.declared.entity.Binding.{Binding}
+use Rattle.names.specs.declared.entity.Binding.TheVariants.{Declared}
+use Rattle.names.specs.declared.entity.Entity.{Entity}
+use Rattle.names.specs.declared.entity.Entity.TheVariants.{Object, Procedure, Label}
+use Rattle.names.specs.Environment.{Here}
+use Rattle.std.specs.Map.{lookup}
+use Rattle.std.specs.Str.{bytes_eq}
+use Rattle.typed_trees.specs.declared.limits.TheConstants.{FRAME_LIMIT}
+use Rattle.typed_trees.specs.declared.parts.InitialValue.{InitialValue}
+use Rattle.typed_trees.specs.declared.parts.Measure.{Measure}
+use Rattle.typed_trees.specs.declared.parts.Measure.TheVariants as measures
+use Rattle.typed_trees.specs.declared.parts.ShiftFunction.{ShiftFunction}
+use Rattle.typed_trees.specs.declared.parts.UnaryFunction.{UnaryFunction}
+use Rattle.typed_trees.specs.TypedTrees.{TypedArguments, NoArguments as NoTyped, MoreArguments as MoreTyped, Home, BasedOn, Elsewhere, Nowhere, InFrame, TypedObject}
+use Rattle.typing.specs.declared.fault.Cause.TheVariants.{WrongUse, MisplacedAttribute, WrongConstant, ConstantWritten, NoLocation, TooLarge, UnknownLabel as NoLabel}
+use Rattle.typing.specs.Constants.{moved_by, number_of_characters, number_of_constant, with_offsets}
+use Rattle.typing.specs.Expressions.{number_node}
+use Rattle.typing.specs.References.{Known, line_of, object_of, procedure_of, is_constant, is_writable, scalar_of}
+use Rattle.typing.specs.Functions.{Measured, measure_of, function_of, shift_of}
+use Rattle.typing.specs.Filling.{Reach, ThisModule, OtherModulesToo, RestrictedValue, ANumber, FromObject, with_address, static_bound, fill_scalar, fill_characters, fill_string, contents_as_listed}
+use Rattle.typing.specs.Items.{object_bound, names_parameter, is_group, line_of_item, extents_of, member_dimension, check_linkage, is_not_based, TypedItem, object_named, with_typed_object, with_objects, base_of}
+use Rattle.typing.specs.Blocks.{Block, Progress, line_of_linkage, is_module_level, is_external_linkage}
+use Rattle.typing.specs.Statements.{moved, goto_bound, counter_bound, line_of_statement}
+use Rattle.typing.specs.Procedures.{check_visibility, check_reentrant, parameter_object, parameter_objects, check_body}
+use Rattle.typing.proofs.Names.Meeting.{IsOther, meets_ok, meets_fault, after_other, other_required, other_found}
+
+-- that a cause is none of names is seen at once
+pub not_of_names : ⊥ → ⊥
+not_of_names never = never
+
+-- numbers
+pub constant-other : (constant : ConstantTree) → IsOther (number_of_constant constant)
+constant-other (NumberConstant number) = meets_ok tt tt
+constant-other (StringConstant string) =
+    other_found (number_of_characters string.characters) WrongConstant string.place.line not_of_names
+
+pub offsets-other : (sum : ℕ) (offsets : List OffsetTree) → IsOther (with_offsets sum offsets)
+offsets-other sum [] = meets_ok tt tt
+offsets-other sum (offset ∷ others) =
+    after_other (constant-other offset.constant) λ number _.
+    offsets-other (moved_by sum offset.sign number) others
+
+pub number-other : (constant : ConstantTree) → IsOther (number_node constant)
+number-other constant =
+    after_other (constant-other constant) λ number _.
+    meets_ok tt tt
+
+-- objects and procedures
+pub object-other : (known : Known) (name : Identifier) (number : ℕ) → IsOther (object_of known name number)
+object-other known name number = other_found (slice_get known.objects number) WrongUse (line_of name) not_of_names
+
+pub procedure-other : (known : Known) (name : Identifier) (number : ℕ) → IsOther (procedure_of known name number)
+procedure-other known name number = other_found (slice_get known.procedures number) WrongUse (line_of name) not_of_names
+
+pub writable-other : (object : TypedObject) (name : Identifier) → IsOther (is_writable object name)
+writable-other object name =
+    other_required (not (is_constant object.home)) ConstantWritten (line_of name) not_of_names
+
+-- functions
+pub measure-other : (measure : Measure) (measured : Measured) (line : ℕ) → IsOther (measure_of measure measured line)
+measure-other measures.Length measured line = other_found measured.dimension WrongUse line not_of_names
+measure-other measures.Last measured line =
+    after_other (other_found measured.dimension WrongUse line not_of_names) λ count _.
+    meets_ok tt tt
+measure-other measures.Size measured line = meets_ok tt tt
+
+pub function-other : (function : UnaryFunction) (line : ℕ) (values : TypedArguments)
+    → IsOther (function_of function line values)
+function-other function line (MoreTyped operand NoTyped) = meets_ok tt tt
+function-other function line values = meets_fault WrongUse line not_of_names
+
+pub shift-other : (function : ShiftFunction) (line : ℕ) (values : TypedArguments)
+    → IsOther (shift_of function line values)
+shift-other function line (MoreTyped value (MoreTyped count NoTyped)) = meets_ok tt tt
+shift-other function line values = meets_fault WrongUse line not_of_names
+
+pub moved-other : (line : ℕ) (values : TypedArguments) → IsOther (moved line values)
+moved-other line (MoreTyped count (MoreTyped source (MoreTyped destination NoTyped))) = meets_ok tt tt
+moved-other line values = meets_fault WrongUse line not_of_names
+
+-- restricted expressions and lists
+address-other : (reach : Reach) (home : Home) (number line : ℕ) → IsOther (with_address reach home number line)
+address-other reach (InFrame procedure) number line = meets_fault NoLocation line not_of_names
+address-other reach (BasedOn base) number line = meets_fault WrongConstant line not_of_names
+address-other ThisModule Elsewhere number line = meets_fault WrongConstant line not_of_names
+address-other OtherModulesToo Elsewhere number line = meets_ok tt tt
+address-other reach Nowhere number line = meets_fault WrongConstant line not_of_names
+address-other reach home number line = meets_ok tt tt
+
+pub static-other : (reach : Reach) (known : Known) (binding : Binding) (name : Identifier)
+    → IsOther (static_bound reach known binding name)
+static-other reach known (Declared (Object number)) name =
+    after_other (object-other known name number) λ object _.
+    address-other reach object.home number (line_of name)
+static-other reach known (Declared (Procedure number)) name = meets_fault NoLocation (line_of name) not_of_names
+static-other reach known binding name = meets_fault WrongUse (line_of name) not_of_names
+
+pub scalar-other : (line : ℕ) (scalars : List ScalarType) (value : RestrictedValue)
+    → IsOther (fill_scalar line scalars value)
+scalar-other line (Byte ∷ left) (ANumber number) =
+    after_other (other_required (nat_le number 255) WrongConstant line not_of_names) λ _ _.
+    meets_ok tt tt
+scalar-other line (Address ∷ left) (ANumber number) = meets_ok tt tt
+scalar-other line (Address ∷ left) (FromObject object offset) = meets_ok tt tt
+scalar-other line scalars value = meets_fault WrongConstant line not_of_names
+
+characters-other : (line : ℕ) (characters : List ℕ) (scalars : List ScalarType)
+    → IsOther (fill_characters line characters scalars)
+characters-other line [] scalars = meets_ok tt tt
+characters-other line (character ∷ others) (Byte ∷ left) =
+    after_other (characters-other line others left) λ filled _.
+    meets_ok tt tt
+characters-other line (character ∷ others) scalars = meets_fault WrongConstant line not_of_names
+
+pub string-other : (string : StringTree) (scalars : List ScalarType) → IsOther (fill_string string scalars)
+string-other string [] = characters-other string.place.line string.characters []
+string-other string (Byte ∷ left) = characters-other string.place.line string.characters (Byte ∷ left)
+string-other string (Address ∷ left) =
+    after_other
+    (other_found (number_of_characters string.characters) WrongConstant string.place.line not_of_names) λ number _.
+    meets_ok tt tt
+
+pub as_listed-other : (line used each : ℕ) (values : List InitialValue) → IsOther (contents_as_listed line used each values)
+as_listed-other line used each values =
+    after_other (other_required (nat_lt 0 used) WrongConstant line not_of_names) λ _ _.
+    meets_ok tt tt
+
+-- items
+pub bound-other : (binding : Binding) (line : ℕ) → IsOther (object_bound binding line)
+bound-other (Declared (Object number)) line = meets_ok tt tt
+bound-other binding line = meets_fault WrongUse line not_of_names
+
+pub extents-other : (block : Block) (item : ItemTree) (dimension : Option Dimension)
+    → IsOther (extents_of block item dimension)
+extents-other block item None = meets_ok tt tt
+extents-other block item (Some (Count number)) =
+    after_other (other_required (nat_le 1 number.value) WrongConstant number.place.line not_of_names) λ _ _.
+    after_other
+    (other_required (not (names_parameter block item.subject)) WrongUse number.place.line not_of_names) λ _ _.
+    meets_ok tt tt
+extents-other block item (Some Implied) =
+    after_other (other_required (not (names_parameter block item.subject)) WrongUse (line_of_item item) not_of_names) λ _ _.
+    after_other (other_required (not (is_group item.subject)) MisplacedAttribute (line_of_item item) not_of_names) λ _ _.
+    after_other (other_required (is_some item.value_list) WrongConstant (line_of_item item) not_of_names) λ _ _.
+    meets_ok tt tt
+
+pub dimension-other : (dimension : Option Number) → IsOther (member_dimension dimension)
+dimension-other None = meets_ok tt tt
+dimension-other (Some number) =
+    after_other (other_required (nat_le 1 number.value) WrongConstant number.place.line not_of_names) λ _ _.
+    meets_ok tt tt
+
+pub linkage-other : (block : Block) (item : ItemTree) (linkage : Option Linkage)
+    → IsOther (check_linkage block item linkage)
+linkage-other block item None = meets_ok tt tt
+linkage-other block item (Some linkage) =
+    other_required (is_module_level block && is_none (base_of item.subject)) MisplacedAttribute
+    (line_of_linkage linkage) not_of_names
+
+pub objects-other : (block : Block) (item : TypedItem) (names : List Identifier) (progress : Progress)
+    → IsOther (with_objects block item names progress)
+objects-other block item [] progress = meets_ok tt tt
+objects-other block item (name ∷ others) progress =
+    after_other
+    (other_required
+    (nat_le (with_typed_object item.linkage (object_named block item name.name) progress).frame FRAME_LIMIT)
+    TooLarge (line_of name) not_of_names) λ _ _.
+    objects-other block item others (with_typed_object item.linkage (object_named block item name.name) progress)
+
+-- statements
+pub goto-other : (line : ℕ) (binding : Binding) → IsOther (goto_bound line binding)
+goto-other line (Declared (Label label)) = meets_ok tt tt
+goto-other line binding = meets_fault NoLabel line not_of_names
+
+pub counter-other : (known : Known) (binding : Binding) (name : Identifier) → IsOther (counter_bound known binding name)
+counter-other known (Declared (Object number)) name =
+    after_other (object-other known name number) λ object _.
+    after_other (writable-other object name) λ _ _.
+    after_other
+    (other_required (is_none object.dimension && is_not_based object.home) WrongUse (line_of name) not_of_names) λ _ _.
+    after_other (other_found (scalar_of object.object_type) WrongUse (line_of name) not_of_names) λ scalar _.
+    meets_ok tt tt
+counter-other known binding name = meets_fault WrongUse (line_of name) not_of_names
+
+-- procedures
+pub visibility-other : (block : Block) (linkage : Option Linkage) → IsOther (check_visibility block linkage)
+visibility-other block None = meets_ok tt tt
+visibility-other block (Some linkage) =
+    other_required (is_module_level block) MisplacedAttribute (line_of_linkage linkage) not_of_names
+
+pub reentrant-other : (linkage : Option Linkage) (place : Option Place) → IsOther (check_reentrant linkage place)
+reentrant-other linkage None = meets_ok tt tt
+reentrant-other linkage (Some place) =
+    other_required (not (is_external_linkage linkage)) MisplacedAttribute place.line not_of_names
+
+parameter-other : (parameter : Identifier) (entity : Option Entity) → IsOther (parameter_object parameter entity)
+parameter-other parameter (Some (Object number)) = meets_ok tt tt
+parameter-other parameter entity = meets_fault WrongUse (line_of parameter) not_of_names
+
+pub parameters-other : (here : Here) (parameters : List Identifier) → IsOther (parameter_objects here parameters)
+parameters-other here [] = meets_ok tt tt
+parameters-other here (parameter ∷ others) =
+    after_other (parameter-other parameter (lookup (bytes_eq parameter.name) here.body.block)) λ object _.
+    after_other (parameters-other here others) λ rest _.
+    meets_ok tt tt
+
+pub body-other : (heading : HeadingTree) (body : StatementTrees) → IsOther (check_body heading body)
+body-other heading NoStatements = meets_ok tt tt
+body-other heading (MoreStatements first others) =
+    other_required (not (is_external_linkage heading.linkage)) MisplacedAttribute (line_of_statement first) not_of_names

@@ -1,0 +1,5 @@
+pub mod Storable
+pub mod StorableExpressions
+pub mod StorableObjects
+pub mod StorableStatements
+pub mod StorableExamples
