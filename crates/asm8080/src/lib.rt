@@ -1,4 +1,4 @@
-//! Code for the 8080 with labels, and the words in which its runs are spoken of.
+//! An assembler: 8080 code with labels, made into bytes and fixes; and definitions and laws of its runs.
 #![tactic(auto)]
 
 mod assembling;

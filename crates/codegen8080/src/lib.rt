@@ -1,4 +1,4 @@
-//! The code of modules.
+//! The code generator: the code of statements, procedures and modules, from tree code to an object module.
 #![tactic(auto, using(std::proofs::lemmas::List::append_assoc))]
 
 mod bodies;

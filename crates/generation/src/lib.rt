@@ -1,4 +1,4 @@
-//! Object modules of tree code, and code of single expressions, with what their code does.
+//! The object module of tree code, and the code of one expression, with contracts that say what the code does.
 #![tactic(auto)]
 
 mod expressions;

@@ -1,2 +1,2 @@
-//! Laws of what programs mean: names that bodies use are there, and values keep their types along a run.
+//! Laws of what programs mean: what a body names exists, no jump leaves a body, and only writable bytes change.
 #![tactic(auto)]

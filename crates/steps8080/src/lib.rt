@@ -1,4 +1,5 @@
-//! The steps that code is planned in, the writer that makes code of them, and what is known where code stands.
+//! The steps that code is planned in, the writer of their code, what is known of the registers, and what a planner asks
+//! of the tree.
 #![tactic(auto)]
 
 mod externals;

@@ -1,4 +1,4 @@
-//! The grammar of PL/M-80: from words to the tree of the module that they are.
+//! The parser of PL/M-80: from words to the tree of a module.
 #![tactic(auto)]
 
 mod declarations;

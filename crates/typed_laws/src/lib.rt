@@ -1,2 +1,2 @@
-//! Laws: a module that is typed, and so each that a source text is, is soundly typed.
+//! Laws: each typed module of a source is soundly typed, and its stack charges have a limit.
 #![tactic(auto)]

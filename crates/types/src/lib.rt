@@ -1,4 +1,4 @@
-//! The typing of PL/M-80 modules: names resolved, each expression with its type, each conversion written out.
+//! The type checker of PL/M-80 modules: from a tree to its typed module, or to its first fault.
 #![tactic(auto)]
 
 mod blocks;

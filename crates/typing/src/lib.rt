@@ -1,4 +1,4 @@
-//! What the typing of PL/M-80 modules is, why a module has none, and the laws of both.
+//! The typing of PL/M-80 modules as it is defined: the typed module of a tree, or its first fault; and its laws.
 #![tactic(auto)]
 
 mod fault;
