@@ -1,10 +1,10 @@
-//! Carries out the command lines of standard input over files in memory, and prints those that answer otherwise than is said
-//! of them. A block begins with the words of a command line after `$ `. Then come its files, each a line `@ NAME` and the
+//! Carries out the command lines of standard input over files in memory, and prints those whose answer is not the expected
+//! one. A block begins with the words of a command line after `$ `. Then come its files, each a line `@ NAME` and the
 //! lines of its text, where a last line that ends in `\` has no line feed, and `x ` stands before bytes in hexadecimal digits;
 //! then its files that are written, after `& ` in place of `@ `; then what is printed, a line after `> `, and as
 //! faults, a line after `! `; then how many calls of files failed, after `% `, where some did; then the exit status after
-//! `= `; and at last a line `====`. A line `* COUNT PIECE` of a text stands for so many pieces without an end, and `>* COUNT
-//! LINE` for so many lines of what is printed; `>?` and `!?` say only that something is printed. So no line of a text begins
+//! `= `; and at last a line `====`. A line `* COUNT PIECE` of a text stands for COUNT pieces without an end, and `>* COUNT
+//! LINE` for COUNT lines of what is printed; `>?` and `!?` say only that something is printed. So no line of a text begins
 //! with `$ `, `@ `, `& `, `x `, `% `, `= `, `* `, `>`, `!` or `damage `. Of the carriage returns that end a line the last one is
 //! no part of it.
 //! A file `closed.obj` can't be begun, and `broken.obj` takes three bytes.
@@ -21,7 +21,7 @@
 //! with many labels is; what calls answer that are made twice; and at last whether the document of the routines, the file `runtime.md` where the program runs, is as
 //! it is made here, or else that document.
 //! With the word `code` or `twice` it reads no standard input, and prints what code is alone, or the answers to calls that are made twice,
-//! for who refuses its allocations.
+//! for a test that refuses its allocations.
 //!
 //! What is said was written by hand from the rules of the language in `docs/definition.md`, of object files in
 //! `docs/object-format.md` and of the commands in `docs/commands.md`, or computed from them by other programs that share
