@@ -1,5 +1,5 @@
 //! Calls that are made twice, one right after the other: programs that are built and run, or built and interpreted, and object files that
-//! are merged. With one allocation refused at most one answer is another, and says so: `bench/refuse_allocations` refuses each.
+//! are merged. With one allocation refused at most one answer is another, and says so: `tools/refuse_allocations` refuses each.
 
 use crate::interpreting::{CALLS, word_of_end};
 use crate::objects::CALLING;
