@@ -270,7 +270,7 @@ fn judge(alloc: Global, text: &[u8]) -> Result<Vec<Piece>, Failure<Fault>>
 
 /// The pieces that a text spells, one for each data line in the order of the text, also for one without
 /// bytes. They can be written again by `write_hex`. Takes memory for these alone. The format is
-/// `docs/hex.md`.
+/// `docs/formats.md`.
 #[tactic(auto, using(crate::proofs::ReadLemmas::spelled_by, crate::proofs::ReadLemmas::faulty_by, crate::proofs::ReadLemmas::none_by, crate::proofs::Writable::read_writable))]
 pub fn read_hex(alloc: Global, text: &[u8]) -> Result<Vec<Piece>, Failure<Fault>>
     ensures spelled { IfOk result (λ pieces. Spells text.now pieces.items) }

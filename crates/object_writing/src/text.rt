@@ -114,7 +114,7 @@ fn write_rest<W: Write>(object: &ObjectModule, out: &mut W) -> Result<(), Failur
 
 /// Writes the one text of a module: header, external names, public names by segments, contents with their
 /// fixes, and the end. It spells the module, with its public names by segments. Takes no memory. After a failure the
-/// writer has a beginning of it. The format is `docs/object-format.md`.
+/// writer has a beginning of it. The format is `docs/formats.md`.
 #[tactic(auto, using(object_laws::proofs::Texts::WrittenAgain::text_spells))]
 pub fn write<W: Write>(object: &ObjectModule, out: &mut W) -> Result<(), Failure<WriteFault>>
     ensures ok { OnOk result (Appends (W.contents out.old) (W.contents out.new) (text_of object.now)) }

@@ -24,7 +24,7 @@
 //! for a test that refuses its allocations.
 //!
 //! What is said was written by hand from the rules of the language in `docs/definition.md`, of object files in
-//! `docs/object-format.md` and of the commands in `docs/commands.md`, or computed from them by other programs that share
+//! `docs/formats.md` and of the commands in `docs/commands.md`, or computed from them by other programs that share
 //! nothing with this one.
 #![tactic(auto)]
 
