@@ -1,28 +1,5 @@
 -- The code of items is what their assembly is to be: it stands wherever it is resolved.
-use Rattle.std.proofs.Common.{◌≡◌, ℕ, ◌+◌, ◌≤◌, Bool, true, false, cond, ◌&&◌, ◌||◌, nat_le, nat_lt, List, [], ◌∷◌, ◌++◌, length, map, replicate, Option, Some, None, option_map, unwrap_or, refl, sym, subst, ap, ◌∙◌, arith}
-use Rattle.std.specs.Prelude.{All}
-use Rattle.std.specs.List.{list_all}
-use Rattle.std.proofs.lemmas.Bool.{eq-eqb, le-leb, lt-ltb}
-use Rattle.std.proofs.lemmas.List.{length-append, length-replicate}
-use Rattle.std.proofs.lemmas.List.Elements.{All-head, All-tail}
-use Rattle.object_modules.specs.declared.segment.Fix.{Fix}
-use Rattle.object_modules.specs.declared.segment.Target.{Target}
-use Rattle.object_modules.specs.declared.segment.Target.TheVariants.{InSegment, External}
-use Rattle.object_modules.specs.declared.segment.Segment.TheVariants.{Code}
-use Rattle.object_modules.specs.Module.{is_target, words_are_whole}
-use Rattle.object_modules.specs.Rules.{fix_end}
-use Rattle.object_modules.specs.Stored.{fixes_ascend, is_in_a_run}
-use Rattle.object_modules.specs.Text.{runs_from}
-use Rattle.object_modules.specs.declared.segment.TheConstants.{SEGMENT_LIMIT}
-use Rattle.isa8080.specs.State.{wrap}
-use Rattle.asm8080.specs.declared.item.Reference.{Reference}
-use Rattle.asm8080.specs.declared.item.Reference.TheVariants.{AtLabel, AtTarget, AtNumber}
-use Rattle.asm8080.specs.declared.item.Item.{Item}
-use Rattle.asm8080.specs.declared.item.Item.TheVariants.{Plain, WithWord, Byte, Address, Gap, Mark}
-use Rattle.asm8080.specs.Standing.{BytesStand, SetBytesStand}
-use Rattle.asm8080.specs.Items.{Assembly, BoundOnce, IsAssembly, IsKnown, IsListed, KnowsLabels, Layout, ListsExternals, Stands, bytes_of_item, flags_of_item, flags_of_items, is_bound, is_set, marks, offset_of, size_of, size_of_items}
-use Rattle.asm8080.specs.Assembled.{AllBound, Assembles, fix_at, fixed_bytes, fixes_of_items, layout_at, place_in, target_of, with_fix}
-use Rattle.asm8080.specs.internal.Assembling.{bytes_of_items, code_of, layout_from, offset_in}
+use Rattle.asm8080.proofs.Prelude.{◌≡◌, ℕ, ◌+◌, ◌≤◌, Bool, true, false, cond, ◌&&◌, ◌||◌, nat_le, nat_lt, List, [], ◌∷◌, ◌++◌, length, map, replicate, Option, Some, None, option_map, unwrap_or, refl, sym, subst, ap, ◌∙◌, arith, All, list_all, eq-eqb, le-leb, lt-ltb, length-append, length-replicate, All-head, All-tail, Fix, Target, InSegment, External, Code, is_target, words_are_whole, fix_end, fixes_ascend, is_in_a_run, runs_from, SEGMENT_LIMIT, wrap, Reference, AtLabel, AtTarget, AtNumber, Item, Plain, WithWord, Byte, Address, Gap, Mark, BytesStand, SetBytesStand, Assembly, BoundOnce, IsAssembly, IsKnown, IsListed, KnowsLabels, Layout, ListsExternals, Stands, bytes_of_item, flags_of_item, flags_of_items, is_bound, is_set, marks, offset_of, size_of, size_of_items, AllBound, Assembles, fix_at, fixed_bytes, fixes_of_items, layout_at, place_in, target_of, with_fix, bytes_of_items, code_of, layout_from, offset_in}
 use Rattle.asm8080.proofs.Words.{item_length}
 use Rattle.asm8080.proofs.Fixing.{cells_are, cells_of_items, fixed_items, some_length, whole_items}
 use Rattle.asm8080.proofs.Filling.{items_filled}

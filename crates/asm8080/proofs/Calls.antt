@@ -1,15 +1,5 @@
 -- A call, and the return from it.
-use Rattle.std.proofs.Common.{◌≡◌, ◌≢◌, ℕ, ◌+◌, ◌-◌, ◌*◌, ◌%◌, ◌<◌, ◌≤◌, List, length, ap, ◌∙◌, arith, slice_set}
-use Rattle.std.proofs.lemmas.List.{length-set}
-use Rattle.mem80.specs.declared.memory.TheConstants.{MEMORY_SIZE}
-use Rattle.mem80.specs.Memory.{IsMemory, byte_at, word_at}
-use Rattle.ports.specs.declared.event.Event.{Event}
-use Rattle.isa8080.specs.declared.instr.Instr.TheVariants.{Call}
-use Rattle.isa8080.specs.declared.registers.Status.{Status}
-use Rattle.isa8080.specs.declared.registers.Status.TheVariants.{Running}
-use Rattle.isa8080.specs.State.{State, Registers, high_byte, low_byte, one_less, two_less, wrap}
-use Rattle.isa8080.specs.Step.{step_of}
-use Rattle.asm8080.specs.Standing.{InstructionStands, StackIsAt}
+use Rattle.asm8080.proofs.Prelude.{◌≡◌, ◌≢◌, ℕ, ◌+◌, ◌-◌, ◌*◌, ◌%◌, ◌<◌, ◌≤◌, List, length, ap, ◌∙◌, arith, slice_set, length-set, MEMORY_SIZE, IsMemory, byte_at, word_at, Event, Call, Status, Running, State, Registers, high_byte, low_byte, one_less, two_less, wrap, step_of, InstructionStands, StackIsAt}
 use Rattle.asm8080.proofs.Kept.{byte_kept, byte_put, memory_put}
 use Rattle.asm8080.proofs.Steps.{at, returned, step_is}
 

@@ -1,26 +1,5 @@
 -- The worked program, wherever it is placed: turn by turn.
-use Rattle.std.proofs.Common.{◌≡◌, ℕ, suc, ◌+◌, ◌-◌, ◌%◌, ◌<◌, ◌≤◌, ◌⊎◌, inl, inr, true, false, List, [], ◌∷◌, length, slice_set, refl, sym, subst, ap, ◌∙◌, arith}
-use Rattle.std.proofs.lemmas.List.{length-set}
-use Rattle.mem80.specs.declared.memory.TheConstants.{MEMORY_SIZE}
-use Rattle.mem80.specs.Memory.{byte_at}
-use Rattle.mem80.specs.Range.{IsIn}
-use Rattle.ports.specs.declared.event.Event.{Event}
-use Rattle.object_modules.specs.declared.segment.Target.TheVariants.{InSegment}
-use Rattle.object_modules.specs.declared.segment.Segment.TheVariants.{Code, Stack}
-use Rattle.isa8080.specs.declared.instr.Instr.TheVariants.{Dcr, Hlt, Inr, Lxi, Mvi, Ret}
-use Rattle.isa8080.specs.declared.instr.Operand.TheVariants.{Of}
-use Rattle.isa8080.specs.declared.instr.Register.TheVariants.{A, B}
-use Rattle.isa8080.specs.declared.instr.Pair.TheVariants.{Sp}
-use Rattle.isa8080.specs.declared.instr.Condition.TheVariants.{NotZero}
-use Rattle.isa8080.specs.State.{Registers, State, high_byte, holds, low_byte, wrap}
-use Rattle.asm8080.specs.declared.item.Item.{Item}
-use Rattle.asm8080.specs.declared.item.Item.TheVariants.{Plain, WithWord, Mark}
-use Rattle.asm8080.specs.declared.item.Reference.TheVariants.{AtLabel}
-use Rattle.asm8080.specs.declared.item.WordForm.TheVariants.{CallTo, JumpWhere}
-use Rattle.asm8080.specs.Assembled.{layout_at}
-use Rattle.asm8080.specs.Items.{Layout, Stands}
-use Rattle.asm8080.specs.Runs.{Comes}
-use Rattle.asm8080.specs.Standing.{Keeps, below}
+use Rattle.asm8080.proofs.Prelude.{◌≡◌, ℕ, suc, ◌+◌, ◌-◌, ◌%◌, ◌<◌, ◌≤◌, ◌⊎◌, inl, inr, true, false, List, [], ◌∷◌, length, slice_set, refl, sym, subst, ap, ◌∙◌, arith, length-set, MEMORY_SIZE, byte_at, IsIn, Event, InSegment, Code, Stack, Dcr, Hlt, Inr, Lxi, Mvi, Ret, Of, A, B, Sp, NotZero, Registers, State, high_byte, holds, low_byte, wrap, Item, Plain, WithWord, Mark, AtLabel, CallTo, JumpWhere, layout_at, Layout, Stands, Comes, Keeps, below}
 use Rattle.asm8080.proofs.RunLaws.{comes_on}
 use Rattle.asm8080.specs.Example.{CountsAnywhere, Ends, counting, counting_code}
 use Rattle.asm8080.proofs.Steps.{at, does, goes_past, jumps_where, step_is, step_then}

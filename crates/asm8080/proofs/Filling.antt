@@ -1,21 +1,5 @@
 -- All bytes of the fixes of items are set.
-use Rattle.std.proofs.Common.{◌≡◌, ℕ, ◌+◌, ◌≤◌, Bool, true, false, cond, ◌==◌, ◌&&◌, ◌||◌, nat_le, List, [], ◌∷◌, ◌++◌, length, map, replicate, Option, Some, None, refl, sym, subst, ap, ◌∙◌, arith}
-use Rattle.std.specs.List.{list_all}
-use Rattle.std.proofs.lemmas.Bool.{eq-eqb, eqb-true, le-leb, leb-true}
-use Rattle.std.proofs.lemmas.List.{length-replicate}
-use Rattle.object_modules.specs.declared.segment.Fix.{Fix}
-use Rattle.object_modules.specs.declared.segment.Segment.TheVariants.{Code}
-use Rattle.object_modules.specs.declared.segment.Target.{Target}
-use Rattle.object_modules.specs.Rules.{fix_end, is_within}
-use Rattle.object_modules.specs.Stored.{content_of_run, is_in_a_run}
-use Rattle.object_modules.specs.Text.{Run, before_runs, runs_from}
-use Rattle.object_modules.proofs.ReadBack.{both}
-use Rattle.isa8080.specs.Code.{bytes_of}
-use Rattle.isa8080.specs.State.{high_byte, low_byte}
-use Rattle.asm8080.specs.declared.item.Item.{Item}
-use Rattle.asm8080.specs.declared.item.Item.TheVariants.{Plain, WithWord, Byte, Address, Gap, Mark}
-use Rattle.asm8080.specs.Items.{Layout, word_of}
-use Rattle.asm8080.specs.Assembled.{fix_at, fixes_of_items, target_of, with_fix}
+use Rattle.asm8080.proofs.Prelude.{◌≡◌, ℕ, ◌+◌, ◌≤◌, Bool, true, false, cond, ◌==◌, ◌&&◌, ◌||◌, nat_le, List, [], ◌∷◌, ◌++◌, length, map, replicate, Option, Some, None, refl, sym, subst, ap, ◌∙◌, arith, list_all, eq-eqb, eqb-true, le-leb, leb-true, length-replicate, Fix, Code, Target, fix_end, is_within, content_of_run, is_in_a_run, Run, before_runs, runs_from, both, bytes_of, high_byte, low_byte, Item, Plain, WithWord, Byte, Address, Gap, Mark, Layout, word_of, fix_at, fixes_of_items, target_of, with_fix}
 use Rattle.asm8080.proofs.Words.{form_bytes, opcode}
 use Rattle.asm8080.proofs.Fixing.{cells_of_items, some_length}
 

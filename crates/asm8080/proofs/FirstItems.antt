@@ -1,20 +1,6 @@
 -- The step of a machine that comes to an item that is an instruction. Places count on past the end of memory, where the
 -- program counter begins at 0 again.
-use Rattle.std.proofs.Common.{◌≡◌, ℕ, ◌+◌, ◌-◌, ◌<◌, ◌≤◌, List, ◌∷◌, refl, ap, ◌∙◌, arith}
-use Rattle.mem80.specs.declared.memory.TheConstants.{MEMORY_SIZE}
-use Rattle.ports.specs.declared.event.Event.{Event}
-use Rattle.isa8080.specs.declared.instr.Instr.{Instr}
-use Rattle.isa8080.specs.declared.instr.Instr.TheVariants.{Pop, Push, Ret}
-use Rattle.isa8080.specs.declared.instr.StackPair.{StackPair}
-use Rattle.isa8080.specs.State.{Registers, pushed_of, with_popped, wrap}
-use Rattle.isa8080.specs.Act.{act}
-use Rattle.isa8080.specs.Step.{step_of}
-use Rattle.asm8080.specs.declared.item.Item.{Item}
-use Rattle.asm8080.specs.declared.item.Item.TheVariants.{Plain, WithWord}
-use Rattle.asm8080.specs.declared.item.Reference.{Reference}
-use Rattle.asm8080.specs.declared.item.WordForm.{WordForm}
-use Rattle.asm8080.specs.Items.{Layout, Stands, instruction_with, word_of}
-use Rattle.asm8080.specs.Standing.{InstructionStands, size_of_instruction}
+use Rattle.asm8080.proofs.Prelude.{◌≡◌, ℕ, ◌+◌, ◌-◌, ◌<◌, ◌≤◌, List, ◌∷◌, refl, ap, ◌∙◌, arith, MEMORY_SIZE, Event, Instr, Pop, Push, Ret, StackPair, Registers, pushed_of, with_popped, wrap, act, step_of, Item, Plain, WithWord, Reference, WordForm, Layout, Stands, instruction_with, word_of, InstructionStands, size_of_instruction}
 use Rattle.asm8080.proofs.Calls.{IsPushed, pushed}
 use Rattle.asm8080.proofs.Kept.{bytes_alike, size_with}
 use Rattle.asm8080.proofs.Stack.{pop_does, push_does, return_does}

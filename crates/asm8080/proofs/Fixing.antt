@@ -1,20 +1,5 @@
 -- The bytes of items with their fixes.
-use Rattle.std.proofs.Common.{◌≡◌, ℕ, zero, suc, ◌+◌, ◌<◌, ◌==◌, Bool, true, false, cond, List, [], ◌∷◌, ◌++◌, length, map, replicate, Option, Some, None, option_map, refl, sym, ap, ◌∙◌, arith}
-use Rattle.std.specs.List.{find}
-use Rattle.std.proofs.lemmas.List.{length-replicate}
-use Rattle.std.proofs.lemmas.Bool.{eq-eqb, ne_eqb}
-use Rattle.object_modules.specs.declared.segment.Fix.{Fix}
-use Rattle.object_modules.specs.declared.segment.FixKind.TheVariants.{Both}
-use Rattle.object_modules.specs.declared.segment.Target.{Target}
-use Rattle.object_modules.specs.Module.{Fixup, SetByte, words_are_whole}
-use Rattle.object_modules.specs.Runs.{fixup_at}
-use Rattle.isa8080.specs.State.{high_byte, low_byte}
-use Rattle.isa8080.specs.Code.{bytes_of}
-use Rattle.asm8080.specs.declared.item.Item.{Item}
-use Rattle.asm8080.specs.declared.item.Item.TheVariants.{Plain, WithWord, Byte, Address, Gap, Mark}
-use Rattle.asm8080.specs.Items.{Layout, bytes_of_item, flags_of_items, size_of, word_of}
-use Rattle.asm8080.specs.Assembled.{fix_at, fixed_bytes, fixes_of_items, set_bytes, target_of, with_fix}
-use Rattle.asm8080.specs.internal.Assembling.{bytes_of_items}
+use Rattle.asm8080.proofs.Prelude.{◌≡◌, ℕ, zero, suc, ◌+◌, ◌<◌, ◌==◌, Bool, true, false, cond, List, [], ◌∷◌, ◌++◌, length, map, replicate, Option, Some, None, option_map, refl, sym, ap, ◌∙◌, arith, find, length-replicate, eq-eqb, ne_eqb, Fix, Both, Target, Fixup, SetByte, words_are_whole, fixup_at, high_byte, low_byte, bytes_of, Item, Plain, WithWord, Byte, Address, Gap, Mark, Layout, bytes_of_item, flags_of_items, size_of, word_of, fix_at, fixed_bytes, fixes_of_items, set_bytes, target_of, with_fix, bytes_of_items}
 use Rattle.asm8080.proofs.Words.{form_bytes, item_length, opcode}
 
 -- a byte at which no fix begins, and the first byte of a word, which may count from a target

@@ -1,10 +1,5 @@
 -- What one item more at the end does.
-use Rattle.std.proofs.Common.{◌≡◌, ℕ, ◌<◌, ◌≤◌, ◌==◌, Bool, true, false, ◌||◌, List, [], ◌∷◌, ◌++◌, All, refl, sym, subst, ap, ◌∙◌, arith}
-use Rattle.std.proofs.lemmas.List.Elements.{All-head, All-tail, All-push}
-use Rattle.std.proofs.lemmas.Bool.{eqb-true, ne_eqb}
-use Rattle.asm8080.specs.declared.item.Item.{Item}
-use Rattle.asm8080.specs.declared.item.Item.TheVariants.{Plain, WithWord, Byte, Address, Gap, Mark}
-use Rattle.asm8080.specs.Items.{Assembly, BindsNew, BindsSame, BindsSameBut, BoundOnce, IsAssembly, KnowsLabels, is_bound, marks}
+use Rattle.asm8080.proofs.Prelude.{◌≡◌, ℕ, ◌<◌, ◌≤◌, ◌==◌, Bool, true, false, ◌||◌, List, [], ◌∷◌, ◌++◌, All, refl, sym, subst, ap, ◌∙◌, arith, All-head, All-tail, All-push, eqb-true, ne_eqb, Item, Plain, WithWord, Byte, Address, Gap, Mark, Assembly, BindsNew, BindsSame, BindsSameBut, BoundOnce, IsAssembly, KnowsLabels, is_bound, marks}
 
 neither : (here more : Bool) → here ≡ false → more ≡ false → (here || more) ≡ false
 neither false false h m = refl

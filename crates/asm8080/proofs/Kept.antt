@@ -1,17 +1,5 @@
 -- Code that stays where it stands, while a machine writes elsewhere.
-use Rattle.std.proofs.Common.{◌≡◌, ◌≢◌, ℕ, ◌+◌, ◌<◌, ◌≤◌, List, [], ◌∷◌, length, refl, sym, ap, ◌∙◌, arith, slice_set}
-use Rattle.std.proofs.lemmas.List.{length-set, get_or-set_same, get_or-set_other}
-use Rattle.std.proofs.lemmas.List.Elements.{All-set}
-use Rattle.mem80.specs.declared.memory.TheConstants.{MEMORY_SIZE}
-use Rattle.mem80.specs.declared.range.Range.{Range}
-use Rattle.mem80.specs.Memory.{IsMemory, byte_at}
-use Rattle.isa8080.specs.State.{wrap}
-use Rattle.asm8080.specs.declared.item.WordForm.{WordForm}
-use Rattle.asm8080.specs.declared.item.WordForm.TheVariants.{LoadPair, StoreHl, LoadHl, StoreA, LoadA, Jump, JumpWhere, CallTo, CallWhere}
-use Rattle.asm8080.specs.declared.item.Item.{Item}
-use Rattle.asm8080.specs.declared.item.Item.TheVariants.{Plain, WithWord, Byte, Address, Gap, Mark}
-use Rattle.asm8080.specs.Items.{Layout, Stands, bytes_of_item, size_of, size_of_items, instruction_with}
-use Rattle.asm8080.specs.Standing.{AgreesIn, BytesStand, size_of_instruction}
+use Rattle.asm8080.proofs.Prelude.{◌≡◌, ◌≢◌, ℕ, ◌+◌, ◌<◌, ◌≤◌, List, [], ◌∷◌, length, refl, sym, ap, ◌∙◌, arith, slice_set, length-set, get_or-set_same, get_or-set_other, All-set, MEMORY_SIZE, Range, IsMemory, byte_at, wrap, WordForm, LoadPair, StoreHl, LoadHl, StoreA, LoadA, Jump, JumpWhere, CallTo, CallWhere, Item, Plain, WithWord, Byte, Address, Gap, Mark, Layout, Stands, bytes_of_item, size_of, size_of_items, instruction_with, AgreesIn, BytesStand, size_of_instruction}
 
 -- a byte that is put elsewhere
 pub byte_kept :

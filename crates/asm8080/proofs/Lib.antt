@@ -1,3 +1,4 @@
+mod Prelude
 pub mod ItemLemmas
 pub mod RunLaws
 pub mod Words

@@ -1,20 +1,5 @@
 -- Loops of straight code that count E down.
-use Rattle.std.proofs.Common.{◌≡◌, ◌≢◌, ℕ, zero, suc, ◌+◌, ◌%◌, ◌<◌, ◌==◌, Bool, true, false, not, nat_le, List, [], ◌∷◌, refl, ap, ◌∙◌, arith}
-use Rattle.std.proofs.lemmas.Bool.{eqb-true, eq-eqb, le-leb, lt-leb}
-use Rattle.mem80.specs.declared.memory.TheConstants.{MEMORY_SIZE}
-use Rattle.ports.specs.declared.event.Event.{Event}
-use Rattle.isa8080.specs.declared.instr.Register.TheVariants.{E}
-use Rattle.isa8080.specs.declared.instr.Operand.TheVariants.{Of}
-use Rattle.isa8080.specs.declared.instr.Condition.TheVariants.{NotZero, Minus}
-use Rattle.isa8080.specs.declared.instr.Instr.{Instr}
-use Rattle.isa8080.specs.declared.instr.Instr.TheVariants.{Dcr, ReturnIf}
-use Rattle.isa8080.specs.State.{State, Registers, wrap}
-use Rattle.asm8080.specs.declared.item.WordForm.TheVariants.{Jump, JumpWhere}
-use Rattle.asm8080.specs.declared.item.Reference.TheVariants.{AtLabel}
-use Rattle.asm8080.specs.declared.item.Item.{Item}
-use Rattle.asm8080.specs.declared.item.Item.TheVariants.{Plain, WithWord}
-use Rattle.asm8080.specs.Items.{Layout, Stands}
-use Rattle.asm8080.specs.Runs.{Comes}
+use Rattle.asm8080.proofs.Prelude.{◌≡◌, ◌≢◌, ℕ, zero, suc, ◌+◌, ◌%◌, ◌<◌, ◌==◌, Bool, true, false, not, nat_le, List, [], ◌∷◌, refl, ap, ◌∙◌, arith, eqb-true, eq-eqb, le-leb, lt-leb, MEMORY_SIZE, Event, E, Of, NotZero, Minus, Instr, Dcr, ReturnIf, State, Registers, wrap, Jump, JumpWhere, AtLabel, Item, Plain, WithWord, Layout, Stands, Comes}
 use Rattle.asm8080.proofs.Steps.{at, goes_past, jumps, jumps_where, returned, returns_where, stays_here}
 use Rattle.asm8080.proofs.Straight.{does_to, effect, past, past_later, plain, stands_after, steps_of, straight, touch_registers}
 

@@ -1,19 +1,5 @@
 -- The bytes of items where targets have addresses.
-use Rattle.std.proofs.Common.{◌≡◌, ℕ, ◌+◌, ◌%◌, List, [], ◌∷◌, ◌++◌, map, replicate, Option, Some, None, option_map, refl, sym, ap, ◌∙◌}
-use Rattle.object_modules.specs.declared.segment.Target.{Target}
-use Rattle.object_modules.specs.declared.segment.Target.TheVariants.{InSegment}
-use Rattle.object_modules.specs.declared.segment.Segment.TheVariants.{Code}
-use Rattle.object_modules.specs.Module.{SetByte}
-use Rattle.object_modules.specs.Moving.{moved_after, second_byte_moved, value_after}
-use Rattle.isa8080.specs.State.{high_byte, low_byte, wrap}
-use Rattle.isa8080.specs.Code.{bytes_of}
-use Rattle.asm8080.specs.declared.item.Reference.{Reference}
-use Rattle.asm8080.specs.declared.item.Reference.TheVariants.{AtLabel, AtTarget, AtNumber}
-use Rattle.asm8080.specs.declared.item.Item.{Item}
-use Rattle.asm8080.specs.declared.item.Item.TheVariants.{Plain, WithWord, Byte, Address, Gap, Mark}
-use Rattle.asm8080.specs.Items.{word_of}
-use Rattle.asm8080.specs.Assembled.{fixed_bytes, fixes_of_items, resolved, target_of}
-use Rattle.asm8080.specs.internal.Assembling.{code_of, layout_from, offset_in}
+use Rattle.asm8080.proofs.Prelude.{◌≡◌, ℕ, ◌+◌, ◌%◌, List, [], ◌∷◌, ◌++◌, map, replicate, Option, Some, None, option_map, refl, sym, ap, ◌∙◌, Target, InSegment, Code, SetByte, moved_after, second_byte_moved, value_after, high_byte, low_byte, wrap, bytes_of, Reference, AtLabel, AtTarget, AtNumber, Item, Plain, WithWord, Byte, Address, Gap, Mark, word_of, fixed_bytes, fixes_of_items, resolved, target_of, code_of, layout_from, offset_in}
 use Rattle.asm8080.proofs.Words.{form_bytes, high_moved, label_moved, layout_moved, low_moved, opcode, target_moved}
 use Rattle.asm8080.proofs.Fixing.{cells_are, cells_of_items, fixed_items, plain, row_of, set_of_items, word_before}
 

@@ -1,12 +1,5 @@
 -- Code in parts: what stands of one after another, where a label is and where a jump goes.
-use Rattle.std.proofs.Common.{◌≡◌, ℕ, ◌+◌, Bool, true, false, ◌||◌, List, [], ◌∷◌, ◌++◌, refl, sym, subst, ap, ◌∙◌, arith}
-use Rattle.isa8080.specs.State.{wrap}
-use Rattle.asm8080.specs.declared.item.Item.{Item}
-use Rattle.asm8080.specs.declared.item.Item.TheVariants.{Plain, WithWord, Byte, Address, Gap, Mark}
-use Rattle.asm8080.specs.declared.item.Reference.TheVariants.{AtLabel}
-use Rattle.asm8080.specs.declared.item.WordForm.{WordForm}
-use Rattle.asm8080.specs.Standing.{InstructionStands}
-use Rattle.asm8080.specs.Items.{Layout, Stands, instruction_with, is_bound, marks, size_of, size_of_items}
+use Rattle.asm8080.proofs.Prelude.{◌≡◌, ℕ, ◌+◌, Bool, true, false, ◌||◌, List, [], ◌∷◌, ◌++◌, refl, sym, subst, ap, ◌∙◌, arith, wrap, Item, Plain, WithWord, Byte, Address, Gap, Mark, AtLabel, WordForm, InstructionStands, Layout, Stands, instruction_with, is_bound, marks, size_of, size_of_items}
 
 pub size_in_parts :
     (items others : List Item) → size_of_items (items ++ others) ≡ size_of_items items + size_of_items others

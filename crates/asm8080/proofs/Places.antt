@@ -1,19 +1,6 @@
 -- Tables of places, and what code is made by them.
-use Rattle.std.proofs.Common.{◌≡◌, ℕ, zero, suc, ◌+◌, ◌<◌, ◌≤◌, ◌==◌, Bool, true, false, cond, ◌||◌, List, [], ◌∷◌, ◌++◌, length, replicate, Option, Some, None, option_map, is_some, unwrap_or, slice_set, Ok, Err, refl, sym, subst, ap, ◌∙◌, arith}
-use Rattle.std.specs.Prelude.{All}
-use Rattle.std.proofs.Math.Path.{fun_ext}
-use Rattle.std.proofs.lemmas.Bool.{eq-eqb, eqb-true, ltb-true, lt-ltb}
-use Rattle.std.proofs.lemmas.List.{append_assoc, length-append, length-replicate}
-use Rattle.std.proofs.lemmas.List.Elements.{All-head, All-tail}
-use Rattle.object_modules.specs.declared.segment.Fix.{Fix}
-use Rattle.object_modules.specs.declared.segment.Target.{Target}
-use Rattle.object_modules.specs.declared.segment.TheConstants.{SEGMENT_LIMIT}
+use Rattle.asm8080.proofs.Prelude.{◌≡◌, ℕ, zero, suc, ◌+◌, ◌<◌, ◌≤◌, ◌==◌, Bool, true, false, cond, ◌||◌, List, [], ◌∷◌, ◌++◌, length, replicate, Option, Some, None, option_map, is_some, unwrap_or, slice_set, Ok, Err, refl, sym, subst, ap, ◌∙◌, arith, All, fun_ext, eq-eqb, eqb-true, ltb-true, lt-ltb, append_assoc, length-append, length-replicate, All-head, All-tail, Fix, Target, SEGMENT_LIMIT, Item, Plain, WithWord, Byte, Address, Gap, Mark, Assembly, BoundOnce, IsAssembly, KnowsLabels, Layout, bytes_of_item, flags_of_item, flags_of_items, is_bound, marks, offset_of, size_of, size_of_items, AllBound, Assembled, Assembles, FitsSegment, IsFinished, fixes_of_items, place_in, target_of, with_fix, all_placed, bytes_of_items, code_of, fixes_of_item, layout_from, no_code, offset_in, places_after, places_of, with_item, with_items, with_mark, with_places}
 use Rattle.asm8080.specs.declared.fault.Fault.TheVariants.{UnboundLabel, TooLong}
-use Rattle.asm8080.specs.declared.item.Item.{Item}
-use Rattle.asm8080.specs.declared.item.Item.TheVariants.{Plain, WithWord, Byte, Address, Gap, Mark}
-use Rattle.asm8080.specs.Items.{Assembly, BoundOnce, IsAssembly, KnowsLabels, Layout, bytes_of_item, flags_of_item, flags_of_items, is_bound, marks, offset_of, size_of, size_of_items}
-use Rattle.asm8080.specs.Assembled.{AllBound, Assembled, Assembles, FitsSegment, IsFinished, fixes_of_items, place_in, target_of, with_fix}
-use Rattle.asm8080.specs.internal.Assembling.{all_placed, bytes_of_items, code_of, fixes_of_item, layout_from, no_code, offset_in, places_after, places_of, with_item, with_items, with_mark, with_places}
 use Rattle.asm8080.proofs.Words.{item_length}
 use Rattle.asm8080.proofs.Assemblies.{assembles, flags_length}
 

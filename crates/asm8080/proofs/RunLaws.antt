@@ -1,9 +1,5 @@
 -- Runs after runs.
-use Rattle.std.proofs.Common.{ℕ, ◌+◌, ◌≤◌, List, sym, ap, ◌∙◌, arith}
-use Rattle.isa8080.specs.State.{State}
-use Rattle.isa8080.specs.Step.{state_after}
-use Rattle.isa8080.proofs.Endings.{state_after_sum}
-use Rattle.asm8080.specs.Runs.{Comes, Spends}
+use Rattle.asm8080.proofs.Prelude.{ℕ, ◌+◌, ◌≤◌, List, sym, ap, ◌∙◌, arith, State, state_after, state_after_sum, Comes, Spends}
 
 enough_on : (budget middle left j k : ℕ) → budget ≤ middle + j → middle ≤ left + k → budget ≤ left + (k + j)
 enough_on budget middle left j k h g = omega arith

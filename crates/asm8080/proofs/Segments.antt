@@ -1,27 +1,7 @@
 -- Code as the code segment of an object module: its places, what such a segment keeps to, and its bytes where it is
 -- placed.
-use Rattle.std.proofs.Common.{◌≡◌, ℕ, suc, ◌+◌, ◌-◌, ◌<◌, ◌≤◌, Bool, true, false, cond, not, ◌==◌, ◌&&◌, nat_lt, nat_le, List, [], ◌∷◌, length, map, find, Option, Some, None, option_map, slice_index, refl, sym, subst, ap, ◌∙◌, arith}
-use Rattle.std.specs.Prelude.{All}
-use Rattle.std.specs.List.{list_all, range_with_len}
-use Rattle.std.specs.Option.{option_map_or}
-use Rattle.std.proofs.lemmas.Bool.{eqb-true, eqb-false, lt-ltb, lt-leb, le-leb, le-ltb, leb-true, ltb-true}
-use Rattle.std.proofs.lemmas.List.Elements.{All-head, All-tail}
-use Rattle.object_modules.specs.declared.segment.Fix.{Fix}
-use Rattle.object_modules.specs.declared.segment.Segment.{Segment}
-use Rattle.object_modules.specs.declared.segment.Segment.TheVariants.{Code}
-use Rattle.object_modules.specs.declared.segment.TheConstants.{SEGMENT_LIMIT}
-use Rattle.object_modules.specs.Before.{is_empty, same_segment}
-use Rattle.object_modules.specs.Image.{Plan, gain_at, placed_bytes}
-use Rattle.object_modules.specs.Module.{Fixup, ObjectModule, SetByte, is_target, is_valid_byte, is_valid_segment, words_are_whole}
-use Rattle.object_modules.specs.Module.{places_of as module_places}
-use Rattle.object_modules.specs.Moving.{moved}
-use Rattle.object_modules.specs.Runs.{fixup_at}
-use Rattle.object_modules.specs.Spelling.{set_in}
-use Rattle.object_modules.specs.Stored.{IsStored, are_longest, places_stored}
-use Rattle.object_modules.specs.Text.{Run, before_runs, runs_from}
-use Rattle.object_modules.proofs.StoredRuns.{byte_in_run, content_with, found, found_is, run_at, same_over}
-use Rattle.asm8080.specs.Assembled.{Assembled, Assembles, fixed_bytes, places_of, resolved, segment_of, set_bytes}
-use Rattle.asm8080.specs.Items.{Assembly}
+use Rattle.asm8080.proofs.Prelude.{◌≡◌, ℕ, suc, ◌+◌, ◌-◌, ◌<◌, ◌≤◌, Bool, true, false, cond, not, ◌==◌, ◌&&◌, nat_lt, nat_le, List, [], ◌∷◌, length, map, find, Option, Some, None, option_map, slice_index, refl, sym, subst, ap, ◌∙◌, arith, All, list_all, range_with_len, option_map_or, eqb-true, eqb-false, lt-ltb, lt-leb, le-leb, le-ltb, leb-true, ltb-true, All-head, All-tail, Fix, Segment, Code, SEGMENT_LIMIT, is_empty, same_segment, Plan, gain_at, placed_bytes, Fixup, ObjectModule, SetByte, is_target, is_valid_byte, is_valid_segment, words_are_whole, module_places, moved, fixup_at, set_in, IsStored, are_longest, places_stored, Run, before_runs, runs_from, byte_in_run, content_with, found, found_is, run_at, same_over, Assembled, Assembles, fixed_bytes, resolved, segment_of, set_bytes, Assembly}
+use Rattle.asm8080.specs.Assembled.{places_of}
 
 pub and_true : (a b : Bool) → a ≡ true → b ≡ true → (a && b) ≡ true
 and_true true b h k = k

@@ -1,13 +1,5 @@
 -- Steps that are paid for and steps that are not, and the step that halts.
-use Rattle.std.proofs.Common.{◌≡◌, ℕ, suc, ◌+◌, ◌<◌, ◌≤◌, List, refl, arith}
-use Rattle.mem80.specs.declared.memory.TheConstants.{MEMORY_SIZE}
-use Rattle.ports.specs.declared.event.Event.{Event}
-use Rattle.isa8080.specs.declared.instr.Instr.TheVariants.{Hlt}
-use Rattle.isa8080.specs.declared.registers.Status.TheVariants.{Halted}
-use Rattle.isa8080.specs.State.{Registers, State, wrap}
-use Rattle.isa8080.specs.Step.{state_after, step_of}
-use Rattle.asm8080.specs.Runs.{Comes, Spends}
-use Rattle.asm8080.specs.Standing.{InstructionStands}
+use Rattle.asm8080.proofs.Prelude.{◌≡◌, ℕ, suc, ◌+◌, ◌<◌, ◌≤◌, List, refl, arith, MEMORY_SIZE, Event, Hlt, Halted, Registers, State, wrap, state_after, step_of, Comes, Spends, InstructionStands}
 use Rattle.asm8080.proofs.Steps.{at, step_is, step_then}
 
 one_enough : (n : ℕ) → suc n ≤ n + 1

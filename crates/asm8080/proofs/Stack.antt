@@ -1,13 +1,5 @@
 -- PUSH, POP and RET where the stack pointer is at a level, which is counted up to 65536.
-use Rattle.std.proofs.Common.{◌≡◌, ℕ, ◌+◌, ◌-◌, ◌≤◌, List, slice_set, refl, sym, ap, ◌∙◌, arith}
-use Rattle.mem80.specs.declared.memory.TheConstants.{MEMORY_SIZE}
-use Rattle.mem80.specs.Memory.{word_at}
-use Rattle.ports.specs.declared.event.Event.{Event}
-use Rattle.isa8080.specs.declared.instr.Instr.TheVariants.{Pop, Push, Ret}
-use Rattle.isa8080.specs.declared.instr.StackPair.{StackPair}
-use Rattle.isa8080.specs.declared.instr.StackPair.TheVariants.{StackBc, StackDe, StackHl, Psw}
-use Rattle.isa8080.specs.State.{Registers, high_byte, low_byte, pushed_of, two_less, with_popped, wrap}
-use Rattle.isa8080.specs.Act.{act}
+use Rattle.asm8080.proofs.Prelude.{◌≡◌, ℕ, ◌+◌, ◌-◌, ◌≤◌, List, slice_set, refl, sym, ap, ◌∙◌, arith, MEMORY_SIZE, word_at, Event, Pop, Push, Ret, StackPair, StackBc, StackDe, StackHl, Psw, Registers, high_byte, low_byte, pushed_of, two_less, with_popped, wrap, act}
 use Rattle.asm8080.proofs.Calls.{IsPushed, one_below, pushed, returned_is, two_below, up, word_pushed}
 use Rattle.asm8080.proofs.Steps.{at}
 

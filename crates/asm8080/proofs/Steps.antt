@@ -1,20 +1,6 @@
 -- A step where an instruction stands, and runs that begin with one.
-use Rattle.std.proofs.Common.{◌≡◌, ℕ, suc, ◌+◌, ◌*◌, ◌%◌, ◌<◌, true, false, if◌then◌else◌, List, [], ◌∷◌, length, refl, sym, ap, ◌∙◌, arith}
-use Rattle.mem80.specs.declared.memory.TheConstants.{MEMORY_SIZE}
-use Rattle.mem80.specs.Memory.{byte_at}
-use Rattle.ports.specs.declared.event.Event.{Event}
-use Rattle.isa8080.specs.declared.instr.Condition.{Condition}
-use Rattle.isa8080.specs.declared.instr.Instr.{Instr}
-use Rattle.isa8080.specs.declared.instr.Instr.TheVariants.{Lxi, Shld, Lhld, Sta, Lda, Mvi, AccumulateImmediate, JumpIf, CallIf, Jmp, Call, Out, In, Ret, ReturnIf}
-use Rattle.isa8080.specs.declared.registers.Status.TheVariants.{Running}
-use Rattle.isa8080.specs.State.{State, Registers, high_byte, holds, low_byte, wrap}
-use Rattle.isa8080.specs.Act.{act, return}
-use Rattle.isa8080.specs.Step.{advance, carry_out, next_word, running, state_after, step_by, step_of}
-use Rattle.isa8080.specs.Code.{form_of}
-use Rattle.isa8080.proofs.EncodingLemmas.{code_of, decodes, form_for}
-use Rattle.isa8080.proofs.Endings.{first_step}
-use Rattle.asm8080.specs.Runs.{Comes, Meets, effect_of}
-use Rattle.asm8080.specs.Standing.{BytesStand, InstructionStands, size_of_instruction}
+use Rattle.asm8080.proofs.Prelude.{◌≡◌, ℕ, suc, ◌+◌, ◌*◌, ◌%◌, ◌<◌, true, false, if◌then◌else◌, List, [], ◌∷◌, length, refl, sym, ap, ◌∙◌, arith, MEMORY_SIZE, byte_at, Event, Condition, Instr, Lxi, Shld, Lhld, Sta, Lda, Mvi, AccumulateImmediate, JumpIf, CallIf, Jmp, Call, Out, In, Ret, ReturnIf, Running, State, Registers, high_byte, holds, low_byte, wrap, act, return, advance, carry_out, next_word, running, state_after, step_by, step_of, form_of, decodes, form_for, first_step, Comes, Meets, effect_of, BytesStand, InstructionStands, size_of_instruction}
+use Rattle.isa8080.proofs.EncodingLemmas.{code_of}
 
 first_byte_is :
     (memory : List ℕ) (place : ℕ) (i : Instr)

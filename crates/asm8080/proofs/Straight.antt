@@ -1,20 +1,5 @@
 -- Straight code of instructions that touch registers alone.
-use Rattle.std.proofs.Common.{◌≡◌, ℕ, suc, ◌+◌, ◌<◌, ◌≤◌, Bool, true, false, ◌&&◌, List, [], ◌∷◌, refl, sym, arith, subst}
-use Rattle.mem80.specs.declared.memory.TheConstants.{MEMORY_SIZE}
-use Rattle.ports.specs.declared.event.Event.{Event}
-use Rattle.isa8080.specs.declared.instr.Register.TheVariants.{B}
-use Rattle.isa8080.specs.declared.instr.Operand.TheVariants.{Of}
-use Rattle.isa8080.specs.declared.instr.Pair.TheVariants.{Bc}
-use Rattle.isa8080.specs.declared.instr.Instr.{Instr}
-use Rattle.isa8080.specs.declared.instr.Instr.TheVariants.{Nop, Lxi, Inx, Dcx, Dad, Inr, Dcr, Mvi, Rlc, Rrc, Ral, Rar, Daa, Cma, Stc, Cmc, Mov, Accumulate, AccumulateImmediate, Xchg}
-use Rattle.isa8080.specs.State.{State, Registers}
-use Rattle.isa8080.specs.Act.{act}
-use Rattle.isa8080.specs.Step.{running}
-use Rattle.asm8080.specs.declared.item.Item.{Item}
-use Rattle.asm8080.specs.declared.item.Item.TheVariants.{Plain}
-use Rattle.asm8080.specs.Items.{Layout, Stands}
-use Rattle.asm8080.specs.Runs.{Comes}
-use Rattle.asm8080.specs.Standing.{size_of_instruction}
+use Rattle.asm8080.proofs.Prelude.{◌≡◌, ℕ, suc, ◌+◌, ◌<◌, ◌≤◌, Bool, true, false, ◌&&◌, List, [], ◌∷◌, refl, sym, arith, subst, MEMORY_SIZE, Event, B, Of, Bc, Instr, Nop, Lxi, Inx, Dcx, Dad, Inr, Dcr, Mvi, Rlc, Rrc, Ral, Rar, Daa, Cma, Stc, Cmc, Mov, Accumulate, AccumulateImmediate, Xchg, State, Registers, act, running, Item, Plain, Layout, Stands, Comes, size_of_instruction}
 use Rattle.asm8080.proofs.Steps.{at, does}
 
 -- an instruction touches registers and flags alone

@@ -1,17 +1,5 @@
 -- The words of items: their bytes, and what these become where targets have addresses.
-use Rattle.std.proofs.Common.{◌≡◌, ℕ, ◌+◌, ◌*◌, ◌/◌, ◌%◌, [], ◌∷◌, length, slice_index, refl, ap, ◌∙◌, arith}
-use Rattle.std.proofs.lemmas.List.{length-replicate}
-use Rattle.object_modules.specs.declared.segment.Target.{Target}
-use Rattle.object_modules.specs.declared.segment.Target.TheVariants.{InSegment}
-use Rattle.object_modules.specs.declared.segment.Segment.TheVariants.{Code}
-use Rattle.object_modules.specs.Moving.{second_byte_moved}
-use Rattle.isa8080.specs.State.{high_byte, low_byte, wrap}
-use Rattle.isa8080.specs.Code.{bytes_of}
-use Rattle.asm8080.specs.declared.item.WordForm.{WordForm}
-use Rattle.asm8080.specs.declared.item.WordForm.TheVariants.{LoadPair, StoreHl, LoadHl, StoreA, LoadA, Jump, JumpWhere, CallTo, CallWhere}
-use Rattle.asm8080.specs.declared.item.Item.{Item}
-use Rattle.asm8080.specs.declared.item.Item.TheVariants.{Plain, WithWord, Byte, Address, Gap, Mark}
-use Rattle.asm8080.specs.Items.{Layout, bytes_of_item, instruction_with, size_of, word_of}
+use Rattle.asm8080.proofs.Prelude.{◌≡◌, ℕ, ◌+◌, ◌*◌, ◌/◌, ◌%◌, [], ◌∷◌, length, slice_index, refl, ap, ◌∙◌, arith, length-replicate, Target, InSegment, Code, second_byte_moved, high_byte, low_byte, wrap, bytes_of, WordForm, LoadPair, StoreHl, LoadHl, StoreA, LoadA, Jump, JumpWhere, CallTo, CallWhere, Item, Plain, WithWord, Byte, Address, Gap, Mark, Layout, bytes_of_item, instruction_with, size_of, word_of}
 
 -- the first byte of a form
 abbrev pub opcode : WordForm → ℕ

@@ -1,6 +1,5 @@
 -- The worked program, computed at one place.
-use Rattle.std.proofs.Common.{refl}
-use Rattle.isa8080.specs.Step.{step_of, state_after}
+use Rattle.asm8080.proofs.Prelude.{refl, step_of, state_after}
 use Rattle.asm8080.specs.internal.Examples.{Counts}
 
 pub counts : Counts

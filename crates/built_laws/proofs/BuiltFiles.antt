@@ -1,13 +1,6 @@
 -- The object files of a program that is built give its image.
-use Rattle.std.specs.Prelude.{List, [], ◌∷◌, All}
-use Rattle.std.proofs.lemmas.List.Elements.{All-cons, All-nil}
-use Rattle.typed_trees.specs.TypedTrees.{TypedModule}
-use Rattle.object_modules.specs.Module.{IsObjectModule, ObjectModule}
-use Rattle.locate.specs.Locating.{plan_view}
+use Rattle.built_laws.proofs.Prelude.{List, [], ◌∷◌, All, All-cons, All-nil, TypedModule, IsObjectModule, ObjectModule, plan_view, program_modules, AreSoundlyMade, Construction, IsConstruction}
 use Rattle.built_laws.proofs.FileImages.{files_give_the_image}
-use Rattle.sources.specs.Programs.{program_modules}
-use Rattle.tool.specs.Typed.{AreSoundlyMade}
-use Rattle.tool.specs.Construction.{Construction, IsConstruction}
 use Rattle.built_laws.specs.BuiltFiles.{FilesGiveItsImage}
 
 -- object modules that are made of modules are valid

@@ -1,22 +1,10 @@
 -- What is true of each program that is built, and of each whose sources are read.
-use Rattle.std.proofs.Common.{ℕ, List, [], ◌∷◌}
-use Rattle.std.specs.Prelude.{All}
-use Rattle.std.proofs.lemmas.List.Elements.{All-cons, All-nil}
-use Rattle.object_modules.specs.Module.{ObjectModule}
-use Rattle.typed_trees.specs.TypedTrees.{TypedModule}
+use Rattle.built_laws.proofs.Prelude.{ℕ, List, [], ◌∷◌, All, All-cons, All-nil, ObjectModule, TypedModule, IsSourceOf, AreSourcesOf, IsProgramOf, program_modules, AreSoundlyMade, Construction, IsConstruction}
 use Rattle.layout.specs.Sound.{IsSoundlyTyped}
-use Rattle.sources.specs.Reading.{IsSourceOf}
-use Rattle.sources.specs.Programs.{AreSourcesOf, IsProgramOf, program_modules}
-use Rattle.tool.specs.Typed.{AreSoundlyMade}
 use Rattle.typed_laws.specs.Limits.{ChargesFit}
 use Rattle.typed_laws.proofs.Charges.{derived_charges_fit}
-use Rattle.meaning_laws.specs.Defaults.{TakesNoDefault}
-use Rattle.meaning_laws.specs.Meant.{IsWhole}
-use Rattle.meaning_laws.specs.Places.{IsPlaceable}
-use Rattle.meaning_laws.proofs.Defaults.{takes_no_default}
-use Rattle.meaning_laws.specs.Publics.{HasTree}
-use Rattle.meaning_laws.proofs.Publics.{all_placeable}
-use Rattle.tool.specs.Construction.{Construction, IsConstruction}
+use Rattle.meaning_laws.specs.{Defaults.{TakesNoDefault}, Meant.{IsWhole}, Places.{IsPlaceable}, Publics.{HasTree}}
+use Rattle.meaning_laws.proofs.{Defaults.{takes_no_default}, Publics.{all_placeable}}
 use Rattle.built_laws.specs.BuiltPrograms.{program_of}
 
 -- modules of which object modules are made are soundly typed

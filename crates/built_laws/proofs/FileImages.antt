@@ -1,22 +1,7 @@
 -- Files that were written of modules are linked, read and placed as the modules are.
-use Rattle.std.proofs.Common.{◌≡◌, ℕ, List, [], ◌∷◌, ◌++◌, map, All, Option, Some, None, Result, Ok, Err, refl, ap, sym, subst, ◌∙◌}
-use Rattle.std.specs.Prelude.{IsPermutation}
-use Rattle.std.specs.Io.KnownBytes.{Appends}
-use Rattle.std.specs.List.{AllByRecursion, AllZip}
-use Rattle.std.proofs.lemmas.List.Sorted.{IsPermutation-sym, IsPermutation-map}
+use Rattle.built_laws.proofs.Prelude.{◌≡◌, ℕ, List, [], ◌∷◌, ◌++◌, map, All, Option, Some, None, Result, Ok, Err, refl, ap, sym, subst, ◌∙◌, IsPermutation, Appends, AllByRecursion, AllZip, IsPermutation-sym, IsPermutation-map, Fault, Plan, Image, image_at, symbol_at, placed, placement_refusal, image_of, LinkRefusal, link_number, joined, unless_refused, link_refusal, merge_of, linked_modules, ObjectModule, IsObjectModule, Spells, text_of, with_publics_in_order, AreLongestRuns, text_spells, written_read, written_not_refused, unless_ok, by_recursion, merge_is_object, Absolute, IsPlaced}
 use Rattle.failure.specs.Writing.{AppendsBeginning}
-use Rattle.object_modules.specs.declared.fault.Fault.{Fault}
-use Rattle.object_modules.specs.Image.{Plan, Image, image_at, symbol_at, placed, placement_refusal, image_of}
-use Rattle.object_modules.specs.Merge.{LinkRefusal, link_number, joined, unless_refused, link_refusal, merge_of}
-use Rattle.object_modules.specs.Displacements.{linked_modules}
-use Rattle.object_modules.specs.Module.{ObjectModule, IsObjectModule}
-use Rattle.object_modules.specs.Spelling.{Spells}
-use Rattle.object_modules.specs.Text.{text_of, with_publics_in_order}
-use Rattle.mem80.specs.Pieces.{AreLongestRuns}
-use Rattle.object_laws.proofs.Texts.WrittenAgain.{text_spells, written_read, written_not_refused}
-use Rattle.object_laws.proofs.Merges.MergeValid.{unless_ok, by_recursion, merge_is_object}
 use Rattle.link.specs.Streams.{Merges, IsFirstFaulty, IsRefused}
-use Rattle.locate.specs.Locating.{Absolute, IsPlaced}
 use Rattle.built_laws.specs.FileImages.{files_of, LinkTo, IsSameImage, PlacesAs, FilesGiveTheImage, FilesAreRefused, FilesAreNotPlaced}
 use Rattle.built_laws.proofs.PublicsInOrder.{in_order, text_in_order, ordered_permutes}
 use Rattle.built_laws.proofs.Merges.{number_of, refused_again, merged_again, unless_err, refusal_is}

@@ -1,3 +1,4 @@
+mod Prelude
 pub mod NeededRoom
 pub mod BuiltPrograms
 pub mod BuiltFiles

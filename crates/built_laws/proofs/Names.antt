@@ -1,17 +1,6 @@
 -- Names, by how often each stands in a list: whether one is repeated, and which public it finds.
-use Rattle.std.proofs.Common.{◌≡◌, ℕ, ◌+◌, ◌≤◌, Bool, true, false, cond, ◌||◌, nat_lt, List, [], ◌∷◌, map, Option, Some, None, refl, ap, sym, ◌∙◌, arith}
-use Rattle.std.specs.Option.{option_or}
-use Rattle.std.specs.Str.{bytes_eq}
-use Rattle.std.proofs.lemmas.Bool.{lt-ltb}
-use Rattle.std.proofs.lemmas.Slice.Eq.{bytes_eq-Decides}
-use Rattle.object_modules.specs.declared.segment.Segment.{Segment}
-use Rattle.object_modules.specs.declared.segment.Segment.TheVariants.{Absolute, Code, Data, Stack}
-use Rattle.object_modules.specs.Before.{same_segment}
-use Rattle.object_modules.specs.Displacements.{public_named}
-use Rattle.object_modules.specs.Merge.{repeated_after}
-use Rattle.object_modules.specs.Module.{Public, is_among}
-use Rattle.object_modules.specs.Text.{publics_in_segment}
-use Rattle.object_laws.proofs.Files.Accepted.{public_name}
+use Rattle.built_laws.proofs.Prelude.{◌≡◌, ℕ, ◌+◌, ◌≤◌, Bool, true, false, cond, ◌||◌, nat_lt, List, [], ◌∷◌, map, Option, Some, None, refl, ap, sym, ◌∙◌, arith, option_or, bytes_eq, lt-ltb, bytes_eq-Decides, Segment, Code, Data, Stack, same_segment, public_named, repeated_after, Public, is_among, publics_in_segment, public_name}
+use Rattle.object_modules.specs.declared.segment.Segment.TheVariants.{Absolute}
 use Rattle.built_laws.proofs.PublicsInOrder.{SameBySegment, with_first}
 
 -- how often a name stands among names

@@ -1,19 +1,10 @@
 -- A program that is built with as much stack as it needs.
-use Rattle.std.proofs.Common.{◌≡◌, ℕ, ◌+◌, ◌<◌, ◌≤◌, List, Some, min, arith, refl, sym, ap, subst}
+use Rattle.built_laws.proofs.Prelude.{◌≡◌, ℕ, ◌+◌, ◌<◌, ◌≤◌, List, Some, min, arith, refl, sym, ap, subst, TypedModule, Absolute, program_modules, Construction, IsConstruction, DoesWhatItSays}
 use Rattle.ports.specs.declared.event.Event.{Event}
-use Rattle.typed_trees.specs.TypedTrees.{TypedModule}
-use Rattle.layout.specs.Placement.{Placement}
-use Rattle.layout.specs.Placing.{placement_by}
-use Rattle.meaning.specs.declared.reason.Reason.{Reason}
-use Rattle.meaning.specs.declared.reason.Reason.TheVariants.{Divide, Byte, Constant, Stack}
-use Rattle.meaning.specs.Outcomes.{Outside}
-use Rattle.meaning.specs.Run.{NeverOutside, source_run}
-use Rattle.locate.specs.Locating.{Absolute}
+use Rattle.layout.specs.{Placement.{Placement}, Placing.{placement_by}}
+use Rattle.meaning.specs.{declared.reason.Reason.{Reason, TheVariants.{Divide, Byte, Constant, Stack}}, Outcomes.{Outside}, Run.{NeverOutside, source_run}}
 use Rattle.placing.specs.Views.{plan_view}
-use Rattle.sources.specs.Programs.{program_modules}
 use Rattle.stack_need.specs.StackNeed.{IsEnough, TellsNeed}
-use Rattle.tool.specs.Construction.{Construction, IsConstruction}
-use Rattle.tool.specs.Headline.{DoesWhatItSays}
 use Rattle.built_laws.specs.NeededRoom.{DoesWhatItSaysWithRoom, NeverOutsideButForStack}
 
 -- with enough room, a program that goes outside for no other reason than the stack never goes outside

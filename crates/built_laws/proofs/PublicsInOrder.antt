@@ -1,19 +1,6 @@
 -- Publics in the order in which they are written: of each segment there are the same, in the same order.
-use Rattle.std.proofs.Common.{◌≡◌, ◌-◌, Bool, true, false, cond, nat_lt, List, [], ◌∷◌, ◌++◌, length, map, flat_map, refl, ap, sym, ◌∙◌}
-use Rattle.std.specs.Prelude.{filter, IsPermutation}
-use Rattle.std.specs.List.{list_all}
-use Rattle.std.proofs.lemmas.Bool.{and_parts}
-use Rattle.std.proofs.lemmas.List.{append-nil}
-use Rattle.std.proofs.lemmas.List.Elements.{filter-append}
-use Rattle.std.proofs.lemmas.List.Sorted.{IsPermutation-refl, IsPermutation-cons, IsPermutation-trans, IsPermutation-sym, IsPermutation-append, IsPermutation-middle}
-use Rattle.omf80.specs.declared.kind.TheConstants.{BODY_LIMIT}
-use Rattle.object_modules.specs.declared.segment.Segment.{Segment}
-use Rattle.object_modules.specs.declared.segment.Segment.TheVariants.{Absolute, Code, Data, Stack}
-use Rattle.object_modules.specs.Before.{same_segment}
-use Rattle.object_modules.specs.Displacements.{Linked, public_moved}
-use Rattle.object_modules.specs.Module.{Public, ObjectModule, is_valid_public, may_have_publics}
-use Rattle.object_modules.specs.Parts.{Definition, Part, PublicsPart, ModuleEndPart, EndOfFilePart, definition_bytes, part_bytes}
-use Rattle.object_modules.specs.Text.{header_for, external_parts, publics_in_segment, definition_of, public_parts, segment_parts, written_parts, text_of, with_publics_in_order, packed}
+use Rattle.built_laws.proofs.Prelude.{◌≡◌, ◌-◌, Bool, true, false, cond, nat_lt, List, [], ◌∷◌, ◌++◌, length, map, flat_map, refl, ap, sym, ◌∙◌, filter, IsPermutation, list_all, and_parts, append-nil, filter-append, IsPermutation-refl, IsPermutation-cons, IsPermutation-trans, IsPermutation-sym, IsPermutation-append, IsPermutation-middle, BODY_LIMIT, Segment, Code, Data, Stack, same_segment, Linked, public_moved, Public, ObjectModule, is_valid_public, may_have_publics, Definition, Part, PublicsPart, ModuleEndPart, EndOfFilePart, definition_bytes, part_bytes, header_for, external_parts, publics_in_segment, definition_of, public_parts, segment_parts, written_parts, text_of, with_publics_in_order, packed}
+use Rattle.object_modules.specs.declared.segment.Segment.TheVariants.{Absolute}
 
 -- of each segment the same publics, in the same order
 abbrev pub SameBySegment : (left right : List Public) → Type 0

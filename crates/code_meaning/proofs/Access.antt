@@ -1,14 +1,7 @@
 -- Bytes and scalars that are looked at and changed: a machine has to do so only where the program may.
-use Rattle.std.proofs.Common.{◌≡◌, ℕ, ◌+◌, ◌*◌, ◌/◌, ◌%◌, ◌<◌, ◌≤◌, Bool, true, false, if◌then◌else◌, List, slice_set, slice_index, refl, sym, ap, ◌∙◌, arith}
-use Rattle.mem80.specs.declared.memory.TheConstants.{MEMORY_SIZE}
-use Rattle.mem80.specs.Memory.{byte_at}
+use Rattle.code_meaning.proofs.Prelude.{◌≡◌, ℕ, ◌+◌, ◌*◌, ◌/◌, ◌%◌, ◌<◌, ◌≤◌, Bool, true, false, if◌then◌else◌, List, slice_set, slice_index, refl, sym, ap, ◌∙◌, arith, MEMORY_SIZE, byte_at, UndeclaredByte, Constant, Program, SourceState, Outside, Outcome, Gave, Stopped, then_do, InMemory, InTheFrame, frame_bytes, is_declared, is_constant, next_place, read_byte, read_scalar, write_byte, write_scalar, State, Does, IsVariable}
 use Rattle.trees.specs.declared.declaration.ScalarType.TheVariants.{Byte, Address}
-use Rattle.meaning.specs.declared.reason.Reason.TheVariants.{Byte as UndeclaredByte, Constant}
-use Rattle.meaning.specs.Outcomes.{Program, State as SourceState, Outside, Outcome, Gave, Stopped, then_do}
-use Rattle.meaning.specs.Access.{Place, InMemory, InTheFrame, frame_bytes, is_declared, is_constant, next_place, read_byte, read_scalar, write_byte, write_scalar}
-use Rattle.isa8080.specs.State.{State}
-use Rattle.code_meaning.specs.Landing.{Does}
-use Rattle.code_meaning.specs.Activations.{IsVariable}
+use Rattle.meaning.specs.Access.{Place}
 
 -- what is outside the language is done by any machine
 pub outside_does :

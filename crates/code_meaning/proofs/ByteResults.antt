@@ -1,9 +1,5 @@
 -- What the machine's operations on bytes give, in the words of the source's operators, and what the flags show then.
-use Rattle.std.proofs.Common.{◌≡◌, ◌≢◌, ℕ, ◌+◌, ◌-◌, ◌*◌, ◌/◌, ◌%◌, ◌<◌, ◌≤◌, ◌==◌, Bool, true, false, not, nat_lt, nat_le, if◌then◌else◌, refl, sym, ap, ◌∙◌, arith}
-use Rattle.std.proofs.lemmas.Bool.{ltb-true, ltb-false, lt-ltb, le-ltb, leb-true, leb-false, le-leb, lt-leb, eqb-true, eqb-false, eq-eqb, ne_eqb}
-use Rattle.isa8080.specs.declared.registers.Flags.{Flags}
-use Rattle.isa8080.specs.Flags.{bit}
-use Rattle.isa8080.specs.Arithmetic.{subtract_of, add_of, increment_of, decrement_of}
+use Rattle.code_meaning.proofs.Prelude.{◌≡◌, ◌≢◌, ℕ, ◌+◌, ◌-◌, ◌*◌, ◌/◌, ◌%◌, ◌<◌, ◌≤◌, ◌==◌, Bool, true, false, not, nat_lt, nat_le, if◌then◌else◌, refl, sym, ap, ◌∙◌, arith, ltb-true, ltb-false, lt-ltb, le-ltb, leb-true, leb-false, le-leb, lt-leb, eqb-true, eqb-false, eq-eqb, ne_eqb, Flags, bit, subtract_of, add_of, increment_of, decrement_of}
 
 -- a difference modulo 256
 pub difference_is :

@@ -1,23 +1,6 @@
 -- What a machine does that comes to an item: what the item does, and then what the machine does from there.
-use Rattle.std.proofs.Common.{◌≡◌, ℕ, suc, ◌+◌, true, false, if◌then◌else◌, List, ◌∷◌, ap, ◌∙◌}
+use Rattle.code_meaning.proofs.Prelude.{◌≡◌, ℕ, suc, ◌+◌, true, false, if◌then◌else◌, List, ◌∷◌, ap, ◌∙◌, SourceState, Outcome, Condition, Instr, Registers, State, holds, act, step_of, Item, Plain, WithWord, Reference, AtLabel, WordForm, Jump, JumpWhere, instruction_with, word_of, AgreesIn, size_of_instruction, plain_item_step, word_item_step, Does, at_place, Activation, IsThere, LiesWell}
 use Rattle.ports.specs.declared.event.Event.{Event}
-use Rattle.meaning.specs.Outcomes.{State as SourceState, Outcome}
-use Rattle.isa8080.specs.declared.instr.Condition.{Condition}
-use Rattle.isa8080.specs.declared.instr.Instr.{Instr}
-use Rattle.isa8080.specs.State.{Registers, State, holds}
-use Rattle.isa8080.specs.Act.{act}
-use Rattle.isa8080.specs.Step.{step_of}
-use Rattle.asm8080.specs.declared.item.Item.{Item}
-use Rattle.asm8080.specs.declared.item.Item.TheVariants.{Plain, WithWord}
-use Rattle.asm8080.specs.declared.item.Reference.{Reference}
-use Rattle.asm8080.specs.declared.item.Reference.TheVariants.{AtLabel}
-use Rattle.asm8080.specs.declared.item.WordForm.{WordForm}
-use Rattle.asm8080.specs.declared.item.WordForm.TheVariants.{Jump, JumpWhere}
-use Rattle.asm8080.specs.Items.{instruction_with, word_of}
-use Rattle.asm8080.specs.Standing.{AgreesIn, size_of_instruction}
-use Rattle.asm8080.proofs.FirstItems.{plain_item_step, word_item_step}
-use Rattle.code_meaning.specs.Landing.{Does, at_place}
-use Rattle.code_meaning.specs.Activations.{Activation, IsThere, LiesWell}
 use Rattle.code_meaning.proofs.Landing.{after_step, after_paid_step}
 use Rattle.code_meaning.proofs.Standing.{stands_now}
 

@@ -1,14 +1,5 @@
 -- How what a machine does follows what it did before.
-use Rattle.std.proofs.Common.{◌≡◌, ℕ, zero, suc, ◌+◌, ◌-◌, ◌<◌, ◌≤◌, ◌==◌, Bool, true, false, List, if◌then◌else◌, refl, sym, ap, ◌∙◌, arith}
-use Rattle.meaning.specs.Outcomes.{State as SourceState, Stop, Ended, More, Outside, Outcome, Gave, Stopped, then_do, taking_one}
-use Rattle.isa8080.specs.State.{State}
-use Rattle.isa8080.specs.Step.{step_of, state_after}
-use Rattle.isa8080.specs.declared.registers.Status.TheVariants.{Running}
-use Rattle.asm8080.specs.Runs.{Comes}
-use Rattle.asm8080.proofs.RunLaws.{comes_on}
-use Rattle.asm8080.proofs.Steps.{step_then}
-use Rattle.asm8080.proofs.Spending.{same_after}
-use Rattle.code_meaning.specs.Landing.{Lands, IsLeft, Told, Does}
+use Rattle.code_meaning.proofs.Prelude.{◌≡◌, ℕ, zero, suc, ◌+◌, ◌-◌, ◌<◌, ◌≤◌, ◌==◌, Bool, true, false, List, if◌then◌else◌, refl, sym, ap, ◌∙◌, arith, SourceState, Stop, Ended, More, Outside, Outcome, Gave, Stopped, then_do, taking_one, State, step_of, state_after, Running, Comes, comes_on, step_then, same_after, Lands, IsLeft, Told, Does}
 
 paid_on :
     (budget second more other left j k middle : ℕ)

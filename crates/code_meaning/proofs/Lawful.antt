@@ -1,10 +1,7 @@
 -- What a lawful placement gives an activation.
-use Rattle.std.proofs.Common.{◌≡◌, ℕ, ◌+◌, ◌<◌, ◌≤◌, Bool, true, false, List, refl, sym, ◌∙◌, arith}
-use Rattle.mem80.specs.declared.memory.TheConstants.{MEMORY_SIZE}
+use Rattle.code_meaning.proofs.Prelude.{◌≡◌, ℕ, ◌+◌, ◌<◌, ◌≤◌, Bool, true, false, List, refl, sym, ◌∙◌, arith, MEMORY_SIZE, Program, PlacementLies}
 use Rattle.layout.specs.Lawful.{IsLawful}
 use Rattle.layout.proofs.Declared.{declared_not_in_stack, writable_not_in_code}
-use Rattle.meaning.specs.Outcomes.{Program}
-use Rattle.code_meaning.specs.Activations.{PlacementLies}
 
 pub placement_lies :
     (program : Program)

@@ -1,3 +1,4 @@
+mod Prelude
 pub mod Landing
 pub mod Standing
 pub mod FirstItems

@@ -1,10 +1,5 @@
 -- What an activation may change, and what stays while it does.
-use Rattle.std.proofs.Common.{◌≡◌, ◌≢◌, ℕ, ◌+◌, ◌-◌, ◌<◌, ◌≤◌, ◌⊎◌, inl, inr, Bool, true, false, List, length, refl, sym, ◌∙◌, arith}
-use Rattle.mem80.specs.declared.memory.TheConstants.{MEMORY_SIZE}
-use Rattle.mem80.specs.Memory.{byte_at}
-use Rattle.meaning.specs.Access.{is_declared, is_constant}
-use Rattle.asm8080.specs.Standing.{Keeps}
-use Rattle.code_meaning.specs.Activations.{Activation, IsMine, IsVariable, LiesWell, Owns}
+use Rattle.code_meaning.proofs.Prelude.{◌≡◌, ◌≢◌, ℕ, ◌+◌, ◌-◌, ◌<◌, ◌≤◌, ◌⊎◌, inl, inr, Bool, true, false, List, length, refl, sym, ◌∙◌, arith, MEMORY_SIZE, byte_at, is_declared, is_constant, Keeps, Activation, IsMine, IsVariable, LiesWell, Owns}
 
 -- nothing changed
 pub keeps_all : (Own : ℕ → Type 0) (memory : List ℕ) → Keeps Own memory memory

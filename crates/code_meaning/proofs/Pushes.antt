@@ -1,10 +1,5 @@
 -- Words that are pushed, and are still there after others have run.
-use Rattle.std.proofs.Common.{◌≡◌, ℕ, ◌+◌, ◌-◌, ◌<◌, ◌≤◌, inl, inr, List, length, slice_set, refl, ◌∙◌, arith}
-use Rattle.mem80.specs.declared.memory.TheConstants.{MEMORY_SIZE}
-use Rattle.isa8080.specs.State.{HoldBytes, Registers, high_byte, low_byte, wrap}
-use Rattle.asm8080.specs.Standing.{Keeps}
-use Rattle.asm8080.proofs.Calls.{IsPushed, pushed, pushed_is_memory, pushed_is_pushed, pushed_keeps}
-use Rattle.code_meaning.specs.Activations.{Activation, FrameLies, IsReady, LiesWell, Owns, Shares}
+use Rattle.code_meaning.proofs.Prelude.{◌≡◌, ℕ, ◌+◌, ◌-◌, ◌<◌, ◌≤◌, inl, inr, List, length, slice_set, refl, ◌∙◌, arith, MEMORY_SIZE, HoldBytes, Registers, high_byte, low_byte, wrap, Keeps, IsPushed, pushed, pushed_is_memory, pushed_is_pushed, pushed_keeps, Activation, FrameLies, IsReady, LiesWell, Owns, Shares}
 use Rattle.code_meaning.proofs.Owning.{keeps_all, keeps_both, keeps_wider, owns_more, pushed_is_not_owned}
 
 -- bytes of the stack below a level may be written

@@ -1,10 +1,5 @@
 -- Items that stand one after another.
-use Rattle.std.proofs.Common.{◌≡◌, ℕ, ◌+◌, ◌<◌, ◌≤◌, List, [], ◌∷◌, ◌++◌, refl, sym, ap, ◌∙◌, arith}
-use Rattle.asm8080.specs.declared.item.Item.{Item}
-use Rattle.asm8080.specs.declared.item.Item.TheVariants.{Plain, WithWord, Byte, Address, Gap, Mark}
-use Rattle.asm8080.specs.Items.{Layout, Stands, size_of, size_of_items}
-use Rattle.asm8080.proofs.Kept.{stands_size}
-use Rattle.code_meaning.specs.Activations.{Activation, IsThere}
+use Rattle.code_meaning.proofs.Prelude.{◌≡◌, ℕ, ◌+◌, ◌<◌, ◌≤◌, List, [], ◌∷◌, ◌++◌, refl, sym, ap, ◌∙◌, arith, Item, Plain, WithWord, Byte, Address, Gap, Mark, Layout, Stands, size_of, size_of_items, stands_size, Activation, IsThere}
 
 -- where the first ones end
 pub record Parted (layout : Layout) (memory : List ℕ) (one other : List Item) (from to : ℕ) : Type 0 where

@@ -1,14 +1,5 @@
 -- Items that stand in the code as it was loaded stand in each memory that has that code.
-use Rattle.std.proofs.Common.{◌≡◌, ℕ, ◌+◌, List, ◌∷◌, arith}
-use Rattle.isa8080.specs.declared.instr.Instr.{Instr}
-use Rattle.asm8080.specs.declared.item.Item.{Item}
-use Rattle.asm8080.specs.declared.item.Item.TheVariants.{Plain, WithWord, Mark}
-use Rattle.asm8080.specs.declared.item.Reference.{Reference}
-use Rattle.asm8080.specs.declared.item.WordForm.{WordForm}
-use Rattle.asm8080.specs.Items.{Stands}
-use Rattle.asm8080.specs.Standing.{AgreesIn, size_of_instruction}
-use Rattle.asm8080.proofs.Kept.{stands_in}
-use Rattle.code_meaning.specs.Activations.{Activation, IsThere, LiesWell}
+use Rattle.code_meaning.proofs.Prelude.{◌≡◌, ℕ, ◌+◌, List, ◌∷◌, arith, Instr, Item, Plain, WithWord, Mark, Reference, WordForm, Stands, AgreesIn, size_of_instruction, stands_in, Activation, IsThere, LiesWell}
 
 -- items stand in a memory that has the code
 pub stands_now :

@@ -1,15 +1,5 @@
 -- An activation that is ready stays so when a variable, or a byte of its frame, is changed on both sides.
-use Rattle.std.proofs.Common.{◌≡◌, ◌≢◌, ℕ, ◌+◌, ◌-◌, ◌<◌, ◌≤◌, ◌==◌, ◌⊎◌, inl, inr, Bool, true, false, List, length, slice_set, refl, sym, ap, ◌∙◌, arith}
-use Rattle.std.proofs.lemmas.List.{length-set}
-use Rattle.std.proofs.lemmas.Bool.{eqb-true, eqb-false}
-use Rattle.mem80.specs.declared.memory.TheConstants.{MEMORY_SIZE}
-use Rattle.mem80.specs.Memory.{IsMemory, byte_at}
-use Rattle.meaning.specs.Outcomes.{Program}
-use Rattle.meaning.specs.Access.{is_declared, is_constant, frame_bytes}
-use Rattle.isa8080.specs.State.{Registers}
-use Rattle.asm8080.specs.Standing.{AgreesIn, Keeps}
-use Rattle.asm8080.proofs.Kept.{byte_kept, byte_put, memory_put}
-use Rattle.code_meaning.specs.Activations.{Activation, FrameLies, IsReady, IsVariable, LiesWell, Owns, Shares}
+use Rattle.code_meaning.proofs.Prelude.{◌≡◌, ◌≢◌, ℕ, ◌+◌, ◌-◌, ◌<◌, ◌≤◌, ◌==◌, ◌⊎◌, inl, inr, Bool, true, false, List, length, slice_set, refl, sym, ap, ◌∙◌, arith, length-set, eqb-true, eqb-false, MEMORY_SIZE, IsMemory, byte_at, Program, is_declared, is_constant, frame_bytes, Registers, AgreesIn, Keeps, byte_kept, byte_put, memory_put, Activation, FrameLies, IsReady, IsVariable, LiesWell, Owns, Shares}
 use Rattle.code_meaning.proofs.Owning.{keeps_both}
 
 -- a byte of one memory that is put in another at the same address

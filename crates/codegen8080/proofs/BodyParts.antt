@@ -1,41 +1,8 @@
 -- The code of procedures and of main programs, from that of their parts.
-use Rattle.std.proofs.Common.{◌≡◌, ◌⊎◌, ℕ, inl, inr, Bool, true, false, List, [], ◌∷◌, ◌++◌, length, None, Result, Ok, Err, OnOk, drop, refl, sym, ap, subst, ◌∙◌}
-use Rattle.std.proofs.lemmas.List.{drop_at}
-use Rattle.std.specs.Prelude.{IfOk}
-use Rattle.isa8080.specs.declared.instr.Instr.{Instr}
-use Rattle.isa8080.specs.declared.instr.Instr.TheVariants.{Hlt}
-use Rattle.isa8080.specs.declared.instr.Pair.TheVariants.{Sp}
-use Rattle.asm8080.specs.declared.item.Item.{Item}
+use Rattle.codegen8080.proofs.Prelude.{◌≡◌, ◌⊎◌, ℕ, inl, inr, Bool, true, false, List, [], ◌∷◌, ◌++◌, length, None, Result, Ok, Err, OnOk, drop, refl, sym, ap, subst, ◌∙◌, drop_at, IfOk, Instr, Hlt, Sp, Item, LoadPair, Routine, TreeModule, TreeProcedure, FramePlan, HasFrame, HasNothing, IsPlanOf, LiesApart, Facts, LabelNumber, no_facts, label_after, label_of, Writes, stack_end_item, writes_nothing, writes_then, Site, Emission, AreWritten, call_routine, MarkWritten, NoneWritten, PlainWritten, EmitsSteps, HasAll, NotesCalled, AreLabelled, has_itself, none_noted, notes_then, Body, Planned, Generator, Here, AddsCode, AddsList, AddsPlanned, here_of, LabelledList, LabelledSteps, IsFrameOf, IsMainCode, IsProcedureCode, end_steps, entry_labels, entry_steps, AddsEnd, AddsEntry, AddsMain, AddsOwn, AddsProcedure, LabelledCode, LabelledEnd}
 use Rattle.asm8080.specs.declared.item.Item.TheVariants as items
-use Rattle.asm8080.specs.declared.item.WordForm.TheVariants.{LoadPair}
-use Rattle.runtime8080.specs.declared.routine.Routine.{Routine}
-use Rattle.treecode.specs.declared.module.TreeModule.{TreeModule}
 use Rattle.treecode.specs.declared.procedure.ProcedureKind.TheVariants as kinds
-use Rattle.treecode.specs.declared.procedure.TreeProcedure.{TreeProcedure}
-use Rattle.frames.specs.declared.frame_plan.FramePlan.{FramePlan}
-use Rattle.frames.specs.Frames.{HasFrame, HasNothing, IsPlanOf, LiesApart}
-use Rattle.steps8080.specs.declared.facts.Facts.{Facts}
-use Rattle.steps8080.specs.declared.step.LabelNumber.{LabelNumber}
 use Rattle.steps8080.specs.declared.step.Step.TheVariants as steps
-use Rattle.steps8080.specs.Facts.{no_facts}
-use Rattle.steps8080.specs.Step.{label_after, label_of}
-use Rattle.steps8080.specs.Writer.{Writes, stack_end_item}
-use Rattle.steps8080.proofs.Numbered.{writes_nothing, writes_then}
-use Rattle.steps8080.specs.declared.sites.site.Site.{Site}
-use Rattle.exprgen8080.specs.declared.emission.Emission.{Emission}
-use Rattle.exprgen8080.specs.Emission.{AreWritten, call_routine, MarkWritten, NoneWritten, PlainWritten}
-use Rattle.exprgen8080.specs.Emitted.{EmitsSteps, HasAll, NotesCalled}
-use Rattle.exprgen8080.specs.Labelled.{AreLabelled}
-use Rattle.exprgen8080.proofs.Emitting.{has_itself, none_noted, notes_then}
-use Rattle.statements8080.specs.declared.body.Body.{Body}
-use Rattle.statements8080.specs.declared.plan.Planned.{Planned}
-use Rattle.codegen8080.specs.declared.generator.Generator.{Generator}
-use Rattle.codegen8080.specs.declared.meeting.Here.{Here}
-use Rattle.codegen8080.specs.Driven.{AddsCode, AddsList, AddsPlanned, here_of}
-use Rattle.codegen8080.specs.Labelled.{LabelledList, LabelledSteps}
-use Rattle.codegen8080.specs.Modules.{IsFrameOf, IsMainCode, IsProcedureCode}
-use Rattle.codegen8080.specs.Procedures.{end_steps, entry_labels, entry_steps}
-use Rattle.codegen8080.specs.internal.Bodies.{AddsEnd, AddsEntry, AddsMain, AddsOwn, AddsProcedure, LabelledCode, LabelledEnd}
 use Rattle.codegen8080.proofs.Driving.{labelled_list_kept, labelled_steps_kept}
 
 -- the plan of a frame has what is said of it by the kind of the procedure

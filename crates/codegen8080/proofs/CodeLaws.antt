@@ -1,32 +1,9 @@
 -- What is carried out with labels counted in its order is the code that the function gives, so that there is only one.
-use Rattle.std.proofs.Common.{◌≡◌, ℕ, suc, ◌+◌, Bool, List, [], ◌∷◌, Option, Some, None, option_and_then, option_map, refl, sym, ap, subst, ◌∙◌, true, false, ◌++◌}
-use Rattle.isa8080.specs.declared.instr.Instr.TheVariants.{Hlt}
-use Rattle.isa8080.specs.declared.instr.Pair.TheVariants.{Sp}
-use Rattle.asm8080.specs.declared.item.Item.{Item}
+use Rattle.codegen8080.proofs.Prelude.{◌≡◌, ℕ, suc, ◌+◌, Bool, List, [], ◌∷◌, Option, Some, None, option_and_then, option_map, refl, sym, ap, subst, ◌∙◌, true, false, ◌++◌, Hlt, Sp, Item, LoadPair, Range, TreeModule, TreeProcedure, Statement, StatementNumber, Facts, no_facts, label_after, stack_end_item, IsFoundDeep, code_of_part, code_of_steps, knowing, found_deeper, found_map, found_then, steps_are_code, Body, Planned, Here, AreAllCarriedOut, AreCarriedOut, HoldsNoStatement, IsCarriedOut, IsListCarriedOut, ListCarriedOut, ListPlanned, MoreStatements, NoneCarriedOut, NoStatements, StatementCarriedOut, StatementPlanned, StepCarriedOut, arriving, carried_steps, here_after, site_of, waiting_after, AreAllLabelled, AreStepsLabelled, IsListLabelled, IsStatementLabelled, IsEndCode, IsEndLabelled, IsMainCode, IsMainLabelled, IsProcedureCode, IsProcedureLabelled, entry_labels, entry_steps, statement_labels, statement_steps}
 use Rattle.asm8080.specs.declared.item.Item.TheVariants as its
-use Rattle.asm8080.specs.declared.item.WordForm.TheVariants.{LoadPair}
-use Rattle.treecode.specs.declared.lists.Range.{Range}
-use Rattle.treecode.specs.declared.module.TreeModule.{TreeModule}
-use Rattle.treecode.specs.declared.procedure.TreeProcedure.{TreeProcedure}
-use Rattle.treecode.specs.declared.statement.Statement.{Statement}
-use Rattle.treecode.specs.declared.statement.StatementNumber.{StatementNumber}
-use Rattle.steps8080.specs.declared.facts.Facts.{Facts}
-use Rattle.steps8080.specs.Facts.{no_facts}
-use Rattle.steps8080.specs.Step.{label_after}
-use Rattle.steps8080.specs.Writer.{stack_end_item}
-use Rattle.exprgen8080.specs.Code.{Code, IsFoundDeep, code_of_part, code_of_steps}
-use Rattle.exprgen8080.specs.Emission.{knowing}
-use Rattle.exprgen8080.proofs.CodeLaws.{found_deeper, found_map, found_then, steps_are_code}
-use Rattle.statements8080.specs.declared.body.Body.{Body}
-use Rattle.statements8080.specs.declared.plan.Planned.{Planned}
+use Rattle.exprgen8080.specs.Code.{Code}
 use Rattle.statements8080.specs.declared.plan.Planned.TheVariants as planned
-use Rattle.codegen8080.specs.declared.meeting.Here.{Here}
 use Rattle.codegen8080.specs.Code.{IsCodeOfMainProgram, IsCodeOfPlanned, IsCodeOfProcedure, IsCodeOfStatement, IsCodeOfStatements, StatementCode, before_code, code_of_end, code_of_list, code_of_list_of, code_of_main, code_of_planned, code_of_procedure, code_of_statement, code_of_statements, code_of_steps_of}
-use Rattle.codegen8080.specs.Generated.{AreAllCarriedOut, AreCarriedOut, HoldsNoStatement, IsCarriedOut, IsListCarriedOut, ListCarriedOut, ListPlanned, MoreStatements, NoneCarriedOut, NoStatements, StatementCarriedOut, StatementPlanned, StepCarriedOut, arriving, carried_steps, here_after, site_of, waiting_after}
-use Rattle.codegen8080.specs.Labelled.{AreAllLabelled, AreStepsLabelled, IsListLabelled, IsStatementLabelled}
-use Rattle.codegen8080.specs.Modules.{IsEndCode, IsEndLabelled, IsMainCode, IsMainLabelled, IsProcedureCode, IsProcedureLabelled}
-use Rattle.codegen8080.specs.Procedures.{entry_labels, entry_steps}
-use Rattle.codegen8080.specs.Statements.{statement_labels, statement_steps}
 
 -- the code of a step that is no statement and no list of such is that of its steps, before that of others
 alone_is :

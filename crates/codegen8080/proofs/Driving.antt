@@ -1,31 +1,6 @@
 -- The code of statements as it is written step by step.
-use Rattle.std.proofs.Common.{◌≡◌, ℕ, suc, ◌+◌, ◌-◌, ◌≤◌, ◌<◌, inl, Bool, true, List, [], ◌++◌, length, Option, Some, None, Result, Ok, Err, OnOk, slice_get, drop, refl, sym, ap, subst, ◌∙◌, arith, append_assoc, append-nil}
-use Rattle.std.proofs.lemmas.List.{drop_at, drop_all}
-use Rattle.std.specs.Prelude.{IfOk}
-use Rattle.asm8080.specs.declared.item.Item.{Item}
-use Rattle.treecode.specs.declared.lists.Range.{Range}
-use Rattle.treecode.specs.declared.statement.Statement.{Statement as TreeStatement}
-use Rattle.treecode.specs.declared.statement.StatementNumber.{StatementNumber}
-use Rattle.steps8080.specs.declared.facts.Facts.{Facts}
-use Rattle.steps8080.specs.declared.step.Step.{Step}
-use Rattle.steps8080.specs.Step.{label_after}
-use Rattle.steps8080.specs.Writer.{Writes}
-use Rattle.steps8080.proofs.Numbered.{writes_nothing, writes_then}
-use Rattle.steps8080.specs.declared.sites.site.Site.{Site}
-use Rattle.exprgen8080.specs.declared.emission.Emission.{Emission}
-use Rattle.exprgen8080.specs.Emission.{knowing}
-use Rattle.exprgen8080.specs.Emitted.{EmitsSteps, HasAll, NotesCalled}
-use Rattle.exprgen8080.proofs.Emitting.{are_kept, are_labels_kept, emits_then, has_itself, left_is, none_is, notes_then}
-use Rattle.statements8080.specs.declared.body.Body.{Body}
-use Rattle.statements8080.specs.declared.plan.Planned.{Planned}
+use Rattle.codegen8080.proofs.Prelude.{◌≡◌, ℕ, suc, ◌+◌, ◌-◌, ◌≤◌, ◌<◌, inl, Bool, true, List, [], ◌++◌, length, Option, Some, None, Result, Ok, Err, OnOk, slice_get, drop, refl, sym, ap, subst, ◌∙◌, arith, append_assoc, append-nil, drop_at, drop_all, IfOk, Item, Range, TreeStatement, StatementNumber, Facts, Step, label_after, Writes, writes_nothing, writes_then, Site, Emission, knowing, EmitsSteps, HasAll, NotesCalled, are_kept, are_labels_kept, emits_then, has_itself, left_is, none_is, notes_then, Body, Planned, Generator, Here, AddsList, AddsPlanned, AddsStatement, AddsStep, here_of, AreAllCarriedOut, AreCarriedOut, HoldsNoStatement, IsCarriedOut, IsListCarriedOut, ListCarriedOut, ListPlanned, MoreStatements, NoStatements, NoneCarriedOut, StatementCarriedOut, StatementPlanned, StepCarriedOut, carried_steps, here_after, site_of, waiting_after, AreAllLabelled, AreStepsLabelled, IsListLabelled, IsStatementLabelled, LabelledList, LabelledStatement, LabelledStatements, LabelledSteps, statement_labels, statement_steps, CarriesOut}
 use Rattle.statements8080.specs.declared.plan.Planned.TheVariants as planned
-use Rattle.codegen8080.specs.declared.generator.Generator.{Generator}
-use Rattle.codegen8080.specs.declared.meeting.Here.{Here}
-use Rattle.codegen8080.specs.Driven.{AddsList, AddsPlanned, AddsStatement, AddsStep, here_of}
-use Rattle.codegen8080.specs.Generated.{AreAllCarriedOut, AreCarriedOut, HoldsNoStatement, IsCarriedOut, IsListCarriedOut, ListCarriedOut, ListPlanned, MoreStatements, NoStatements, NoneCarriedOut, StatementCarriedOut, StatementPlanned, StepCarriedOut, carried_steps, here_after, site_of, waiting_after}
-use Rattle.codegen8080.specs.Labelled.{AreAllLabelled, AreStepsLabelled, IsListLabelled, IsStatementLabelled, LabelledList, LabelledStatement, LabelledStatements, LabelledSteps}
-use Rattle.codegen8080.specs.Statements.{statement_labels, statement_steps}
-use Rattle.codegen8080.specs.internal.Carrying.{CarriesOut}
 
 -- steps that may not be added, after others
 pub emits_after : (site : Site) (first second : List Step) (before between after : Emission)

@@ -1,18 +1,5 @@
 -- Items of a module that stand by the numbers that its code has for labels and names stand by the module's own.
-use Rattle.std.proofs.Common.{◌≡◌, ℕ, ◌+◌, List, [], ◌∷◌, Option, Some, None, option_map, unwrap_or, refl, sym, ap, subst, ◌∙◌}
-use Rattle.std.proofs.lemmas.Option.{none-some}
-use Rattle.isa8080.specs.State.{high_byte, low_byte, wrap}
-use Rattle.isa8080.specs.Code.{bytes_of}
-use Rattle.object_modules.specs.declared.segment.Target.{Target}
-use Rattle.object_modules.specs.declared.segment.Target.TheVariants.{InSegment, External}
-use Rattle.asm8080.specs.declared.item.Item.{Item}
-use Rattle.asm8080.specs.declared.item.Item.TheVariants.{Plain, WithWord, Byte, Address, Gap, Mark}
-use Rattle.asm8080.specs.declared.item.Reference.{Reference}
-use Rattle.asm8080.specs.declared.item.Reference.TheVariants.{AtLabel, AtTarget, AtNumber}
-use Rattle.asm8080.specs.Items.{Layout, Stands, instruction_with, word_of}
-use Rattle.asm8080.specs.Standing.{BytesStand}
-use Rattle.steps8080.specs.Externals.{entry}
-use Rattle.steps8080.specs.Writer.{Written, in_front, numbered, numbered_item, numbered_reference}
+use Rattle.codegen8080.proofs.Prelude.{◌≡◌, ℕ, ◌+◌, List, [], ◌∷◌, Option, Some, None, option_map, unwrap_or, refl, sym, ap, subst, ◌∙◌, none-some, high_byte, low_byte, wrap, bytes_of, Target, InSegment, External, Item, Plain, WithWord, Byte, Address, Gap, Mark, Reference, AtLabel, AtTarget, AtNumber, Layout, Stands, instruction_with, word_of, BytesStand, entry, Written, in_front, numbered, numbered_item, numbered_reference}
 use Rattle.codegen8080.proofs.ModuleParts.{same_item}
 
 -- a target by the number that code has for its name

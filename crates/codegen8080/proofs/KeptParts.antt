@@ -1,15 +1,6 @@
 -- Parts of modules that are kept.
-use Rattle.std.proofs.Common.{◌≡◌, ℕ, ◌<◌, List, length, map, sym, subst, ap, ◌∙◌, arith}
-use Rattle.std.specs.Prelude.{IfSome, IsTrue}
+use Rattle.codegen8080.proofs.Prelude.{◌≡◌, ℕ, ◌<◌, List, length, map, sym, subst, ap, ◌∙◌, arith, IfSome, IsTrue, is_name, ModuleParts, Code, Data, Public, is_valid_segment, places_stored, AreKept, owned_public_view, IsLinkage, Linkage, IsKept}
 use Rattle.mem80.specs.declared.memory.TheConstants.{MEMORY_SIZE}
-use Rattle.symbols.specs.Names.{is_name}
-use Rattle.object_modules.specs.declared.object.ModuleParts.{ModuleParts}
-use Rattle.object_modules.specs.declared.segment.Segment.TheVariants.{Code, Data}
-use Rattle.object_modules.specs.Module.{Public, is_valid_segment}
-use Rattle.object_modules.specs.Stored.{places_stored}
-use Rattle.object_modules.specs.Views.{AreKept, owned_public_view}
-use Rattle.codegen8080.specs.internal.Names.{IsLinkage, Linkage}
-use Rattle.codegen8080.specs.internal.Segments.{IsKept}
 
 pub parts_kept :
     (parts : ModuleParts) (linkage : Linkage) (count : ℕ)

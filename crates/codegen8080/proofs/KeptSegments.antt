@@ -1,33 +1,7 @@
 -- Code as a segment of an object module, with other targets of its fixes.
-use Rattle.std.proofs.Common.{◌≡◌, ℕ, suc, ◌+◌, ◌-◌, ◌<◌, ◌≤◌, Bool, true, false, cond, not, ◌==◌, ◌&&◌, ◌||◌, nat_lt, nat_le, List, [], ◌∷◌, ◌++◌, length, map, find, take, drop, Option, Some, None, option_map, slice_get, slice_index, slice_index_or, zero, if◌then◌else◌, refl, sym, ap, ◌∙◌, arith}
-use Rattle.std.specs.Prelude.{All, IsTrue}
-use Rattle.std.specs.List.{list_all, range_with_len, slice_range}
-use Rattle.std.specs.Option.{option_map_or, option_flatten}
-use Rattle.std.proofs.lemmas.Bool.{eq-eqb, le-leb}
-use Rattle.std.proofs.lemmas.List.{append-nil, append_assoc, map-append}
-use Rattle.object_modules.specs.declared.segment.Fix.{Fix}
-use Rattle.object_modules.specs.declared.segment.FixKind.{FixKind}
-use Rattle.object_modules.specs.declared.segment.Segment.{Segment}
-use Rattle.object_modules.specs.declared.segment.Segment.TheVariants.{Absolute, Code, Data, Stack}
-use Rattle.object_modules.specs.declared.segment.Target.{Target}
-use Rattle.object_modules.specs.declared.segment.Target.TheVariants.{InSegment, External}
-use Rattle.object_modules.specs.declared.segment.TheConstants.{SEGMENT_LIMIT}
-use Rattle.object_modules.specs.Before.{same_segment}
-use Rattle.object_modules.specs.Module.{Fixup, SetByte, begins_word, is_both, is_plain, is_target, is_valid_segment, words_are_whole}
-use Rattle.object_modules.specs.Runs.{fixup_at}
-use Rattle.object_modules.specs.Rules.{fix_end}
-use Rattle.object_modules.specs.Spelling.{set_in}
-use Rattle.object_modules.specs.Stored.{IsStored, are_longest, fixes_ascend, is_in_a_run, places_stored}
-use Rattle.object_modules.specs.Text.{Run, before_runs, runs_from}
-use Rattle.object_modules.specs.internal.Joining.{run_at, with_run, with_runs}
+use Rattle.codegen8080.proofs.Prelude.{◌≡◌, ℕ, suc, ◌+◌, ◌-◌, ◌<◌, ◌≤◌, Bool, true, false, cond, not, ◌==◌, ◌&&◌, ◌||◌, nat_lt, nat_le, List, [], ◌∷◌, ◌++◌, length, map, find, take, drop, Option, Some, None, option_map, slice_get, slice_index, slice_index_or, zero, if◌then◌else◌, refl, sym, ap, ◌∙◌, arith, All, IsTrue, list_all, range_with_len, slice_range, option_map_or, option_flatten, eq-eqb, le-leb, append-nil, append_assoc, map-append, Fix, FixKind, Segment, Absolute, Code, Data, Stack, Target, InSegment, External, SEGMENT_LIMIT, same_segment, Fixup, SetByte, begins_word, is_both, is_plain, is_target, is_valid_segment, words_are_whole, fixup_at, fix_end, set_in, IsStored, are_longest, fixes_ascend, is_in_a_run, places_stored, Run, before_runs, runs_from, run_at, with_run, with_runs, Assembled, Assembles, FitsSegment, fixed_bytes, places_of, segment_of, set_bytes, Assembly, and_true, places_length, run_places, runs_longest, set_length, set_well, valid_bytes, Finishes, Written, retargeted, with_targets, IsKept, KeepsFixes, listed_target, retarget}
 use Rattle.object_modules.proofs.StoredRuns.{content_with, found, found_is, same_over}
 use Rattle.object_laws.proofs.Merges.RunsJoined.{runs_append}
-use Rattle.asm8080.specs.Assembled.{Assembled, Assembles, FitsSegment, fixed_bytes, places_of, segment_of, set_bytes}
-use Rattle.asm8080.specs.Items.{Assembly}
-use Rattle.asm8080.proofs.Segments.{and_true, places_length, run_places, runs_longest, set_length, set_well, valid_bytes}
-use Rattle.steps8080.specs.Writer.{Finishes, Written}
-use Rattle.codegen8080.specs.Targets.{retargeted, with_targets}
-use Rattle.codegen8080.specs.internal.Segments.{IsKept, KeepsFixes, listed_target, retarget}
 
 -- what was assembled keeps its fixes
 pub assembled_keeps : (assembly : Assembly) (code : Assembled) → Assembles assembly code → KeepsFixes code

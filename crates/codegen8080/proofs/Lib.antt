@@ -1,3 +1,4 @@
+mod Prelude
 pub mod KeptParts
 pub mod KeptSegments
 pub mod NewNames

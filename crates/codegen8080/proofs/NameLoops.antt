@@ -1,13 +1,5 @@
 -- Names that are listed one by one.
-use Rattle.std.proofs.Common.{◌≡◌, ℕ, ◌-◌, ◌<◌, List, [], ◌∷◌, ◌++◌, Option, Some, None, length, take, drop, slice_get, refl, sym, ap, subst, ◌∙◌, arith, append_assoc, append-nil}
-use Rattle.std.proofs.lemmas.Option.{none-some}
-use Rattle.object_modules.specs.Module.{Public}
-use Rattle.asm8080.specs.Assembled.{Assembled}
-use Rattle.treecode.specs.declared.module.ExternalName.{ExternalName}
-use Rattle.treecode.specs.declared.module.PublicName.{PublicName}
-use Rattle.codegen8080.specs.Modules.{used_names}
-use Rattle.codegen8080.specs.internal.Listing.{AreListed, ArePublicsIn, HavePlaces, IsPlaceAfter, IsPublicIn, used_name}
-use Rattle.codegen8080.specs.internal.Names.{Linkage}
+use Rattle.codegen8080.proofs.Prelude.{◌≡◌, ℕ, ◌-◌, ◌<◌, List, [], ◌∷◌, ◌++◌, Option, Some, None, length, take, drop, slice_get, refl, sym, ap, subst, ◌∙◌, arith, append_assoc, append-nil, none-some, Public, Assembled, ExternalName, PublicName, used_names, AreListed, ArePublicsIn, HavePlaces, IsPlaceAfter, IsPublicIn, used_name, Linkage}
 use Rattle.codegen8080.proofs.ModuleParts.{same_item, take_all}
 
 -- Names are being listed; some numbers and names are left.

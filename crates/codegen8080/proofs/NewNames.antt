@@ -1,12 +1,6 @@
 -- Names, none of them twice, and one more.
-use Rattle.std.proofs.Common.{◌≡◌, ℕ, Bool, true, false, not, ◌||◌, List, [], ◌∷◌, ◌++◌, map, if◌then◌else◌, refl, sym, ap, ◌∙◌}
-use Rattle.std.specs.List.{list_all}
-use Rattle.std.specs.Str.{bytes_eq}
-use Rattle.asm8080.proofs.Segments.{and_true, left_true, right_true}
+use Rattle.codegen8080.proofs.Prelude.{◌≡◌, ℕ, Bool, true, false, not, ◌||◌, List, [], ◌∷◌, ◌++◌, map, if◌then◌else◌, refl, sym, ap, ◌∙◌, list_all, bytes_eq, and_true, left_true, right_true, is_name, Public, are_new, is_among, is_valid_public, IsLinkage, Linkage, names_of}
 use Rattle.indexmap.specs.IndexSet.{insert_key}
-use Rattle.symbols.specs.Names.{is_name}
-use Rattle.object_modules.specs.Module.{Public, are_new, is_among, is_valid_public}
-use Rattle.codegen8080.specs.internal.Names.{IsLinkage, Linkage, names_of}
 
 left_false : (a b : Bool) → (a || b) ≡ false → a ≡ false
 left_false true b h = h

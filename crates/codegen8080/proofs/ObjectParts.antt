@@ -1,28 +1,5 @@
 -- The object module of a module, from its parts.
-use Rattle.std.proofs.Common.{◌≡◌, ℕ, zero, suc, ◌+◌, ◌<◌, inl, inr, Bool, true, false, ◌&&◌, nat_lt, if◌then◌else◌, List, [], ◌∷◌, ◌++◌, length, map, Option, Some, None, slice_get, refl, sym, ap, subst, ◌∙◌, arith, append_assoc}
-use Rattle.std.proofs.lemmas.Bool.{lt-ltb}
-use Rattle.std.proofs.lemmas.Option.{none-some}
-use Rattle.std.specs.Prelude.{unwrap_or}
-use Rattle.object_modules.specs.declared.segment.Segment.{Segment}
-use Rattle.object_modules.specs.declared.segment.Segment.TheVariants.{Absolute, Code, Data, Stack}
-use Rattle.object_modules.specs.declared.segment.Target.{Target}
-use Rattle.object_modules.specs.declared.segment.Target.TheVariants.{InSegment, External}
-use Rattle.object_modules.specs.Module.{ObjectModule, Places, Public, is_movable}
-use Rattle.object_modules.specs.Stored.{places_stored}
-use Rattle.asm8080.specs.Assembled.{Assembled, segment_of}
-use Rattle.treecode.specs.declared.module.ExternalName.{ExternalName}
-use Rattle.treecode.specs.declared.module.PublicName.{PublicName}
-use Rattle.treecode.specs.declared.module.PublicPlace.{PublicPlace}
-use Rattle.treecode.specs.declared.module.PublicPlace.TheVariants.{Object, Procedure}
-use Rattle.treecode.specs.declared.module.TreeModule.{TreeModule}
-use Rattle.steps8080.specs.Externals.{Extends, entry}
-use Rattle.steps8080.specs.Writer.{Finishes, NumbersNames, Written, known_label, numbered, place_of_known, place_of_label}
-use Rattle.steps8080.proofs.Numbered.{use_either}
-use Rattle.codegen8080.specs.Modules.{AreTargets, ArePublicsOf, IsCodeWritten, IsGenerated, IsPublicOf, contents_items, has_main, used_names}
-use Rattle.codegen8080.specs.internal.Listing.{AreListed, ArePublicsIn, HavePlaces, IsMadeOf, IsPublicIn}
-use Rattle.codegen8080.specs.internal.Names.{Linkage}
-use Rattle.codegen8080.specs.Targets.{with_targets}
-use Rattle.codegen8080.specs.internal.Segments.{listed_target, retarget}
+use Rattle.codegen8080.proofs.Prelude.{◌≡◌, ℕ, zero, suc, ◌+◌, ◌<◌, inl, inr, Bool, true, false, ◌&&◌, nat_lt, if◌then◌else◌, List, [], ◌∷◌, ◌++◌, length, map, Option, Some, None, slice_get, refl, sym, ap, subst, ◌∙◌, arith, append_assoc, lt-ltb, none-some, unwrap_or, Segment, Absolute, Code, Data, Stack, Target, InSegment, External, ObjectModule, Places, Public, is_movable, places_stored, Assembled, segment_of, ExternalName, PublicName, PublicPlace, Object, Procedure, TreeModule, Extends, entry, Finishes, NumbersNames, Written, known_label, numbered, place_of_known, place_of_label, use_either, AreTargets, ArePublicsOf, IsCodeWritten, IsGenerated, IsPublicOf, contents_items, has_main, used_names, AreListed, ArePublicsIn, HavePlaces, IsMadeOf, IsPublicIn, Linkage, with_targets, listed_target, retarget}
 use Rattle.codegen8080.proofs.KeptSegments.{places_in}
 
 -- the label of a number is known by the table of known labels

@@ -1,15 +1,6 @@
 -- Steps that are planned.
-use Rattle.std.proofs.Common.{◌≡◌, ℕ, suc, ◌+◌, ◌-◌, ◌<◌, ◌≤◌, List, ◌++◌, sym, ap, subst, ◌∙◌, arith}
-use Rattle.std.specs.Prelude.{min}
-use Rattle.treecode.specs.declared.procedure.Parameter.{Parameter}
-use Rattle.steps8080.specs.declared.facts.Facts.{Facts}
-use Rattle.steps8080.specs.Step.{label_after}
-use Rattle.statements8080.specs.declared.plan.Plan.{Plan}
-use Rattle.statements8080.specs.declared.plan.Planned.{Planned}
-use Rattle.statements8080.specs.Plans.{PlanAdds, PlanAddsWithLabels}
-use Rattle.statements8080.specs.internal.Adding.{IsAdding}
+use Rattle.codegen8080.proofs.Prelude.{◌≡◌, ℕ, suc, ◌+◌, ◌-◌, ◌<◌, ◌≤◌, List, ◌++◌, sym, ap, subst, ◌∙◌, arith, min, Parameter, Facts, label_after, Plan, Planned, PlanAdds, PlanAddsWithLabels, IsAdding, known_at, known_from, popped_at, popped_from}
 use Rattle.statements8080.proofs.Adding.{adding_ends, adding_goes_on}
-use Rattle.codegen8080.specs.Procedures.{known_at, known_from, popped_at, popped_from}
 
 -- planners that take no label, as such that may take some
 pub none_taken : (before after : Plan) (list : List Planned)

@@ -1,17 +1,10 @@
 -- Refusals of code and of data are those of the module.
-use Rattle.std.proofs.Common.{◌≡◌, ℕ, Some, Result, Err, sym, subst}
-use Rattle.failure.specs.declared.Failure.{Failure}
+use Rattle.codegen8080.proofs.Prelude.{◌≡◌, ℕ, Some, Result, Err, sym, subst, CodeFault, IsFinished, TreeModule, Extends, Written, numbered, IsCodeWritten, contents_items}
+use Rattle.failure.specs.{declared.Failure.{Failure}, Failure.{IfFault}}
 use Rattle.failure.specs.declared.Failure.TheVariants as failures
-use Rattle.failure.specs.Failure.{IfFault}
-use Rattle.asm8080.specs.declared.fault.Fault.{Fault as CodeFault}
 use Rattle.asm8080.specs.declared.fault.Fault.TheVariants as code_faults
-use Rattle.asm8080.specs.Assembled.{IsFinished}
-use Rattle.treecode.specs.declared.module.TreeModule.{TreeModule}
-use Rattle.steps8080.specs.Externals.{Extends}
-use Rattle.steps8080.specs.Writer.{Written, numbered}
 use Rattle.codegen8080.specs.declared.fault.Fault.{Fault}
 use Rattle.codegen8080.specs.declared.fault.Fault.TheVariants as faults
-use Rattle.codegen8080.specs.Modules.{IsCodeWritten, contents_items}
 use Rattle.codegen8080.specs.Refusals.{CodeIsNone, DataAreNone, IsNoSegment, MayRefuse}
 
 -- code is not finished, since it is too long

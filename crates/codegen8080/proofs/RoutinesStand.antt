@@ -1,14 +1,5 @@
 -- The routines that are called stand where the code of a module stands.
-use Rattle.std.proofs.Common.{◌≡◌, ℕ, ◌+◌, ◌≤◌, ◌⊎◌, inl, inr, Bool, true, List, [], ◌∷◌, Option, unwrap_or, sym, ap, subst, ◌∙◌, arith, append-nil}
-use Rattle.asm8080.specs.declared.item.Item.{Item}
-use Rattle.asm8080.specs.Items.{Layout, Stands, size_of_items}
-use Rattle.asm8080.proofs.Parts.{stands_in_parts}
-use Rattle.runtime8080.specs.declared.routine.Routine.{Routine}
-use Rattle.runtime8080.specs.Routines.{IsRoutine, size_of_routine}
-use Rattle.treecode.specs.declared.module.TreeModule.{TreeModule}
-use Rattle.steps8080.specs.Writer.{Written}
-use Rattle.exprgen8080.specs.Emission.{has_routine, module_label_of_routine}
-use Rattle.codegen8080.specs.Modules.{AreRoutines, IsCodeOfRoutine}
+use Rattle.codegen8080.proofs.Prelude.{◌≡◌, ℕ, ◌+◌, ◌≤◌, ◌⊎◌, inl, inr, Bool, true, List, [], ◌∷◌, Option, unwrap_or, sym, ap, subst, ◌∙◌, arith, append-nil, Item, Layout, Stands, size_of_items, stands_in_parts, Routine, IsRoutine, size_of_routine, TreeModule, Written, has_routine, module_label_of_routine, AreRoutines, IsCodeOfRoutine}
 use Rattle.codegen8080.proofs.ItemsByName.{layout_by}
 
 -- a routine stands at its label, within code from one address to another

@@ -1,17 +1,5 @@
 -- What may come before the files: nothing, an option with its text, or a flag.
-use Rattle.std.proofs.Common.{◌≡◌, ◌∙◌, List, [], ◌∷◌, ◌++◌, Some, None, false, refl, ap, codes}
-use Rattle.std.specs.Prelude.{fold}
-use Rattle.std.specs.List.{AllByRecursion}
-use Rattle.clap.proofs.OnLiterals.{clap_on_literals}
-use Rattle.clap.specs.Words.{Kinds, Row, Shape, Text}
-use Rattle.clap.specs.Walk.{Held, Walk, idle, option, has_row, nothing_held, reading_by, settled, walk, walk_from, walked}
-use Rattle.clap.specs.Simple.{filled}
-use Rattle.clap.specs.Faults.{settle_fault, turn_fault, walk_fault}
-use Rattle.clap.specs.Kinds.{or_else}
-use Rattle.clap.specs.declared.parser.matches.ValueSource.TheVariants.{CommandLine}
-use Rattle.command_line.specs.declared.orders.PlaceAction.{PlaceAction}
-use Rattle.command_line.specs.declared.orders.PlaceAction.TheVariants.{Locate, Hex}
-use Rattle.command_line.specs.Command.{Code, DataBase, Input, IsBare, Limit, OfPlan, PlanOption, Stack, StackSize, ValueOption, flag_rule, option_name, option_words, plan_option_name}
+use Rattle.command_line.proofs.Prelude.{◌≡◌, ◌∙◌, List, [], ◌∷◌, ◌++◌, Some, None, false, refl, ap, codes, fold, AllByRecursion, clap_on_literals, Kinds, Row, Shape, Text, Held, Walk, idle, option, has_row, nothing_held, reading_by, settled, walk, walk_from, walked, filled, settle_fault, turn_fault, walk_fault, or_else, CommandLine, PlaceAction, Locate, Hex, Code, DataBase, Input, IsBare, Limit, OfPlan, PlanOption, Stack, StackSize, ValueOption, flag_rule, option_name, option_words, plan_option_name}
 use Rattle.command_line.proofs.Files.{all_done, bare_fault, bare_word, done_of, files_fault, files_filled, files_row, files_rows, files_walk, last_of, rows_more, state}
 use Rattle.command_line.proofs.Verbs.{Form, Located, Objects, Placed, Sources, form_of, leaf, rules}
 

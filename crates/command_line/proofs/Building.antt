@@ -1,9 +1,5 @@
 -- What an argument or a command more makes of a command that is being built.
-use Rattle.std.proofs.Common.{◌≡◌, ◌∙◌, ap₂, subst, false, Ok, Err, refl}
-use Rattle.std.specs.Prelude.{IfOk, Result}
-use Rattle.clap.specs.Words.{AddsArg, AddsSubcommand, App, Rule, rule_of, with_rule, with_subcommand}
-use Rattle.clap.specs.declared.builder.arg.Arg.{Arg}
-use Rattle.clap.specs.declared.builder.command.Command.{Command}
+use Rattle.command_line.proofs.Prelude.{◌≡◌, ◌∙◌, ap₂, subst, false, Ok, Err, refl, IfOk, Result, AddsArg, AddsSubcommand, App, Rule, rule_of, with_rule, with_subcommand, Arg, Command}
 use Rattle.command_line.specs.internal.Building.{Builds, IsBuilt}
 
 arg_of : {E : Type 0} (command : Command) (arg : Arg) (result : Result Command E) → IfOk result (AddsArg command arg) → arg.global ≡ false

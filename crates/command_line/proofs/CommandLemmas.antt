@@ -1,24 +1,6 @@
 -- From the matches of the subcommand to the order, and from an error to a failure.
-use Rattle.std.proofs.Common.{◌≡◌, ℕ, List, [], ◌∷◌, Option, Some, None, Bool, true, inl, inr, refl, sym, ap, subst, ◌∙◌, arith, Ok, Err}
-use Rattle.std.specs.Prelude.{IfOk, IsErrAnd, Result, option_map}
-use Rattle.std.specs.Str.{bytes_eq}
-use Rattle.std.specs.Bool.{Decides}
-use Rattle.std.proofs.lemmas.Grind.{common_steps}
-use Rattle.std.proofs.lemmas.Slice.Eq.{bytes_eq-Decides}
-use Rattle.clap.specs.Words.{IsAmong, Kinds, Row, Text, kind_of, subcommand_name_of, subcommand_rows_of}
-use Rattle.clap.specs.declared.ArgMatches.{ArgMatches}
-use Rattle.clap.specs.Kinds.{HasKind}
-use Rattle.clap.specs.declared.error.Error.{Error}
-use Rattle.clap.specs.declared.error.ErrorKind.{ErrorKind}
-use Rattle.clap.specs.declared.error.ErrorKind.TheVariants.{DisplayHelp, DisplayVersion, OutOfMemory}
-use Rattle.failure.specs.declared.Failure.{Failure}
-use Rattle.failure.specs.declared.Failure.TheVariants.{Fault, Memory}
-use Rattle.command_line.specs.declared.reading.LineFault.{LineFault}
+use Rattle.command_line.proofs.Prelude.{◌≡◌, ℕ, List, [], ◌∷◌, Option, Some, None, Bool, true, inl, inr, refl, sym, ap, subst, ◌∙◌, arith, Ok, Err, IfOk, IsErrAnd, Result, option_map, bytes_eq, Decides, common_steps, bytes_eq-Decides, IsAmong, Kinds, Row, Text, kind_of, subcommand_name_of, subcommand_rows_of, ArgMatches, HasKind, Error, ErrorKind, DisplayHelp, DisplayVersion, OutOfMemory, Failure, Fault, Memory, LineFault, IfFault, IsFaultOf, IsOrderOf, Wanted, Order, IsFailureFor}
 use Rattle.command_line.specs.declared.reading.LineFault.TheVariants.{Help, Version, Wrong}
-use Rattle.failure.specs.Failure.{IfFault}
-use Rattle.command_line.specs.Command.{IsFaultOf, IsOrderOf, Wanted}
-use Rattle.command_line.specs.declared.orders.Order.{Order}
-use Rattle.command_line.specs.internal.Errors.{IsFailureFor}
 use Rattle.command_line.proofs.Levels.{never}
 
 mapped_twice : {A B C : Type 0} (f : B → C) (g : A → B) (o : Option A) → option_map f (option_map g o) ≡ option_map (λ x. f (g x)) o

@@ -1,12 +1,5 @@
 -- The words of the command that compiles, a source and an object: they have no fault, and give what is wanted.
-use Rattle.std.proofs.Common.{◌≡◌, ◌∙◌, List, [], ◌∷◌, Some, None, false, refl, ap, codes}
-use Rattle.std.specs.Prelude.{fold}
-use Rattle.clap.specs.Words.{Kinds, Row, Text}
-use Rattle.clap.specs.Walk.{Walk, idle, nothing_held, reading_by, walk_from, walked}
-use Rattle.clap.specs.Faults.{defaults_fault, turn_fault, walk_fault}
-use Rattle.clap.specs.Kinds.{or_else}
-use Rattle.clap.specs.declared.parser.matches.ValueSource.TheVariants.{CommandLine}
-use Rattle.command_line.specs.Command.{IsBare, wants_compile}
+use Rattle.command_line.proofs.Prelude.{◌≡◌, ◌∙◌, List, [], ◌∷◌, Some, None, false, refl, ap, codes, fold, Kinds, Row, Text, Walk, idle, nothing_held, reading_by, walk_from, walked, defaults_fault, turn_fault, walk_fault, or_else, CommandLine, IsBare, wants_compile}
 use Rattle.command_line.proofs.Files.{bare_fault, bare_word, files_filled}
 use Rattle.command_line.proofs.Begins.{Ends, found_walk}
 use Rattle.command_line.proofs.Lines.{Line, line_of}

@@ -1,11 +1,5 @@
 -- Numbers that texts write.
-use Rattle.std.proofs.Common.{◌≡◌, ℕ, ◌<◌, ◌≤◌, ◌^◌, List, [], ◌∷◌, Bool, true, false, Ok, Err, length, slice_index, refl, sym, ◌∙◌, ap, arith}
-use Rattle.std.specs.Prelude.{◌==◌, ◌&&◌, nat_le, nat_lt, if◌then◌else◌}
-use Rattle.std.specs.Char.{digit_value, is_digit}
-use Rattle.std.specs.List.{list_all}
-use Rattle.std.specs.Str.Parse.{AllDigits, IsNumeral, digits_value, without_leading_plus}
-use Rattle.std.proofs.lemmas.Bool.{ltb-true, leb-true, lt-ltb, eqb-true, le-leb}
-use Rattle.command_line.specs.Settings.{Read, is_decimal, number_to}
+use Rattle.command_line.proofs.Prelude.{◌≡◌, ℕ, ◌<◌, ◌≤◌, ◌^◌, List, [], ◌∷◌, Bool, true, false, Ok, Err, length, slice_index, refl, sym, ◌∙◌, ap, arith, ◌==◌, ◌&&◌, nat_le, nat_lt, if◌then◌else◌, digit_value, is_digit, list_all, AllDigits, IsNumeral, digits_value, without_leading_plus, ltb-true, leb-true, lt-ltb, eqb-true, le-leb, Read, is_decimal, number_to}
 
 all_digits : (t : List ℕ) → AllDigits 10 t → list_all (λ c. is_digit c 10) t ≡ true
 all_digits [] d = refl

@@ -1,16 +1,5 @@
 -- The words after a command: bare files, after an option or none. They have no fault, and give the files.
-use Rattle.std.proofs.Common.{◌≡◌, ◌∙◌, ℕ, List, [], ◌∷◌, ◌++◌, Some, None, Bool, true, false, refl, ap, codes, append_assoc}
-use Rattle.std.specs.Prelude.{fold, ◌==◌, ◌||◌}
-use Rattle.std.specs.List.{AllByRecursion}
-use Rattle.std.specs.Str.{bytes_eq}
-use Rattle.clap.specs.Lexer.{long_of, short_of, strip_byte}
-use Rattle.clap.specs.Words.{Kinds, Row, Rule, Shape, Text}
-use Rattle.clap.specs.Walk.{Held, Waiting, Walk, idle, option, positional, has_row, nothing_held, plain_word, reading_by, rows_after, settled, walk, walk_from, walked, with_default, with_values, word_met}
-use Rattle.clap.specs.Simple.{filled, with_index}
-use Rattle.clap.specs.Faults.{check_fault, defaults_fault, level_fault, settle_fault, turn_fault, walk_fault, word_fault}
-use Rattle.clap.specs.Kinds.{or_else}
-use Rattle.clap.specs.declared.parser.matches.ValueSource.TheVariants.{CommandLine}
-use Rattle.command_line.specs.Command.{IsBare, files_rule}
+use Rattle.command_line.proofs.Prelude.{◌≡◌, ◌∙◌, ℕ, List, [], ◌∷◌, ◌++◌, Some, None, Bool, true, false, refl, ap, codes, append_assoc, fold, ◌==◌, ◌||◌, AllByRecursion, bytes_eq, long_of, short_of, strip_byte, Kinds, Row, Rule, Shape, Text, Held, Waiting, Walk, idle, option, positional, has_row, nothing_held, plain_word, reading_by, rows_after, settled, walk, walk_from, walked, with_default, with_values, word_met, filled, with_index, check_fault, defaults_fault, level_fault, settle_fault, turn_fault, walk_fault, word_fault, or_else, CommandLine, IsBare, files_rule}
 use Rattle.command_line.proofs.Verbs.{Form, Located, Objects, Placed, Sources, leaf, rules}
 
 abbrev pub files_filled : Rule

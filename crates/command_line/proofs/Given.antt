@@ -1,16 +1,5 @@
 -- Command lines of one option at most: they have no fault, and give what is wanted.
-use Rattle.std.proofs.Common.{◌≡◌, ◌∙◌, List, [], ◌∷◌, ◌++◌, Some, Ok, Err, codes, sym, arith, true}
-use Rattle.clap.specs.Kinds.{HasKind}
-use Rattle.clap.specs.Words.{Text, fault_of}
-use Rattle.clap.specs.declared.error.Error.{Error}
-use Rattle.failure.specs.declared.Failure.{Failure}
-use Rattle.command_line.specs.declared.orders.Action.{Action}
-use Rattle.command_line.specs.declared.orders.Order.{Order}
-use Rattle.command_line.specs.declared.orders.PlaceAction.{PlaceAction}
-use Rattle.command_line.specs.declared.orders.PlaceAction.TheVariants.{Locate}
-use Rattle.command_line.specs.declared.reading.LineFault.{LineFault}
-use Rattle.command_line.specs.internal.Errors.{IsFailureFor}
-use Rattle.command_line.specs.Command.{Gives, IsBare, Orders, OrdersCompile, OrdersFiles, OrdersLink, OrdersMap, OrdersNeed, OrdersPlace, OrdersPlaceText, OrdersText, PlanOption, ValueOption, Wanted, name_of_action, name_of_place_action, option_name, option_words, plan_option_name, plm_app, usual, usual_place, usual_plan, wanted_by, wanted_in, wants_compile, wants_link, wants_need, wants_place, wants_program, with_plan_text, with_text}
+use Rattle.command_line.proofs.Prelude.{◌≡◌, ◌∙◌, List, [], ◌∷◌, ◌++◌, Some, Ok, Err, codes, sym, arith, true, HasKind, Text, fault_of, Error, Failure, Action, Order, PlaceAction, Locate, LineFault, IsFailureFor, Gives, IsBare, Orders, OrdersCompile, OrdersFiles, OrdersLink, OrdersMap, OrdersNeed, OrdersPlace, OrdersPlaceText, OrdersText, PlanOption, ValueOption, Wanted, name_of_action, name_of_place_action, option_name, option_words, plan_option_name, plm_app, usual, usual_place, usual_plan, wanted_by, wanted_in, wants_compile, wants_link, wants_need, wants_place, wants_program, with_plan_text, with_text}
 use Rattle.command_line.proofs.Begins.{ends_by, flag_begins, map_flag, need_flag, of_place, of_program, option_begins, option_row, out, plain_begins, rows_of_flag}
 use Rattle.command_line.proofs.Lines.{Line, link_line, map_line, need_line, option_line, place_line, place_option_line, plain_line}
 use Rattle.command_line.proofs.Verbs.{Located, Objects, Sources, Verb, compile, form_of, link, name_of, place, program}

@@ -1,11 +1,5 @@
 -- The bytes of an input, one after another.
-use Rattle.std.proofs.Common.{◌≡◌, ℕ, ◌<◌, List, [], ◌∷◌, ◌++◌, Option, Some, None, Bool, true, false, length, refl, ◌∙◌, ap, append_assoc, arith, ◌-◌, ◌≤◌, take, drop, get_or, map, Bor}
-use Rattle.std.specs.Prelude.{◌==◌, option_and_then, option_map}
-use Rattle.std.proofs.lemmas.List.{append-nil}
-use Rattle.std.proofs.Math.Seq.{take-length}
-use Rattle.clap.specs.Words.{Text}
-use Rattle.command_line.specs.Settings.{byte_of, bytes_for, group_bytes, groups_bytes}
-use Rattle.command_line.specs.internal.Reads.{if_read, in_front}
+use Rattle.command_line.proofs.Prelude.{◌≡◌, ℕ, ◌<◌, List, [], ◌∷◌, ◌++◌, Option, Some, None, Bool, true, false, length, refl, ◌∙◌, ap, append_assoc, arith, ◌-◌, ◌≤◌, take, drop, get_or, map, Bor, ◌==◌, option_and_then, option_map, append-nil, take-length, Text, byte_of, bytes_for, group_bytes, groups_bytes, if_read, in_front}
 use Rattle.command_line.specs.declared.values.InputByte.{InputByte}
 
 in_front_twice : (before bytes : List InputByte) (found : Option (List InputByte)) → in_front (before ++ bytes) found ≡ in_front before (in_front bytes found)

@@ -1,11 +1,5 @@
 -- A level of a command line without a fault: none of its parts has one.
-use Rattle.std.proofs.Common.{◌≡◌, List, [], ◌∷◌, Some, None, Bool, true, false, ◌⊎◌, inl, inr, refl}
-use Rattle.std.specs.Prelude.{find}
-use Rattle.clap.specs.Words.{Kinds, Rule, Shape, Text}
-use Rattle.clap.specs.Walk.{Names, walk, walk_from, Held, finished, settled}
-use Rattle.clap.specs.Faults.{level_fault, defaults_fault, walk_fault, check_fault, settle_fault}
-use Rattle.clap.specs.Kinds.{or_else}
-use Rattle.clap.specs.declared.error.ErrorKind.{ErrorKind}
+use Rattle.command_line.proofs.Prelude.{◌≡◌, List, [], ◌∷◌, Some, None, Bool, true, false, ◌⊎◌, inl, inr, refl, find, Kinds, Rule, Shape, Text, Names, walk, walk_from, Held, finished, settled, level_fault, defaults_fault, walk_fault, check_fault, settle_fault, or_else, ErrorKind}
 
 pub never : (k : ErrorKind) (ks : Kinds) → k ∷ ks ≡ [] → ⊥
 never k ks e = cc

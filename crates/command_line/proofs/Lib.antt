@@ -1,3 +1,4 @@
+mod Prelude
 pub mod Levels
 pub mod CommandLemmas
 pub mod Building

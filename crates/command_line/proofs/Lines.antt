@@ -1,13 +1,5 @@
 -- Words of one option at most, after a command: they have no fault, and give what is wanted.
-use Rattle.std.proofs.Common.{◌≡◌, ◌∙◌, List, [], ◌∷◌, ◌++◌, true, false, refl, ap, codes}
-use Rattle.std.specs.Prelude.{fold}
-use Rattle.clap.specs.Words.{Row, Text}
-use Rattle.clap.specs.Walk.{nothing_held, rows_after, with_default}
-use Rattle.clap.specs.Faults.{check_fault, defaults_fault, level_fault}
-use Rattle.command_line.specs.declared.orders.Action.{Action}
-use Rattle.command_line.specs.declared.orders.PlaceAction.{PlaceAction}
-use Rattle.command_line.specs.declared.orders.PlaceAction.TheVariants.{Locate, Hex}
-use Rattle.command_line.specs.Command.{Code, DataBase, Input, Limit, OfPlan, PlanOption, Stack, StackSize, ValueOption, Wanted, option_words, plan_option_name, option_name, usual, usual_place, usual_plan, wants_link, wants_need, wants_place, wants_program, with_plan_text, with_text}
+use Rattle.command_line.proofs.Prelude.{◌≡◌, ◌∙◌, List, [], ◌∷◌, ◌++◌, true, false, refl, ap, codes, fold, Row, Text, nothing_held, rows_after, with_default, check_fault, defaults_fault, level_fault, Action, PlaceAction, Locate, Hex, Code, DataBase, Input, Limit, OfPlan, PlanOption, Stack, StackSize, ValueOption, Wanted, option_words, plan_option_name, option_name, usual, usual_place, usual_plan, wants_link, wants_need, wants_place, wants_program, with_plan_text, with_text}
 use Rattle.command_line.proofs.Files.{files_row, level_of, rows_of_level}
 use Rattle.command_line.proofs.Begins.{Ends, map_flag, need_flag, of_place, of_program, option_row, out, rows_of_flag}
 use Rattle.command_line.proofs.Verbs.{Located, Objects, Sources, Verb, form_of, leaf, leaf_of, link, name_of, place, program, rules_of, wanted_of}

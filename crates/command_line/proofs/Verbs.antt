@@ -1,11 +1,5 @@
 -- The commands, by the form of their arguments.
-use Rattle.std.proofs.Common.{List, [], codes}
-use Rattle.clap.specs.Words.{Row, Rule, Shape, Text}
-use Rattle.clap.specs.Simple.{built_leaf, new_shape}
-use Rattle.command_line.specs.declared.orders.Action.{Action}
-use Rattle.command_line.specs.declared.orders.PlaceAction.{PlaceAction}
-use Rattle.command_line.specs.declared.orders.PlaceAction.TheVariants.{Locate, Hex}
-use Rattle.command_line.specs.Command.{Wanted, compile_app, compile_of, link_app, link_of, locate_app, located_of, name_of_action, name_of_place_action, place_app, place_of, program_app, program_of, wants_compile, wants_link, wants_place, wants_program}
+use Rattle.command_line.proofs.Prelude.{List, [], codes, Row, Rule, Shape, Text, built_leaf, new_shape, Action, PlaceAction, Locate, Hex, Wanted, compile_app, compile_of, link_app, link_of, locate_app, located_of, name_of_action, name_of_place_action, place_app, place_of, program_app, program_of, wants_compile, wants_link, wants_place, wants_program}
 
 -- what the files of a command are
 pub data Form : Type 0 where

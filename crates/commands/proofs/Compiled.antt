@@ -1,15 +1,5 @@
 -- Sources that are compiled to object files.
-use Rattle.std.proofs.Common.{◌≡◌, ℕ, List, [], ◌∷◌, Option, None, Some, inl, inr, refl, subst}
-use Rattle.host.specs.Files.{ChangesFiles, Directory, HasFile, KeepsFiles, with_file}
-use Rattle.object_modules.specs.Module.{ObjectModule}
-use Rattle.object_modules.specs.Text.{text_of}
-use Rattle.failure.specs.Writing.{IsBeginning}
-use Rattle.host.specs.Reading.{StopsAt}
-use Rattle.host.proofs.FilesRead.{stays_on}
-use Rattle.object_commands.specs.Linking.{StopsWriting}
-use Rattle.object_commands.proofs.FilesWritten.{kept_then_written}
-use Rattle.tool.specs.Made.{IsCompiledTo}
-use Rattle.commands.specs.Compiling.{CompilesFile, CompilesTo, StopsCompiling}
+use Rattle.commands.proofs.Prelude.{◌≡◌, ℕ, List, [], ◌∷◌, Option, None, Some, inl, inr, refl, subst, ChangesFiles, Directory, HasFile, KeepsFiles, with_file, ObjectModule, text_of, IsBeginning, StopsAt, stays_on, StopsWriting, kept_then_written, IsCompiledTo, CompilesFile, CompilesTo, StopsCompiling}
 
 -- the command stopped at its source, or at its object once that was read
 pub stops_at_source : (files : Option Directory) (name out : List ℕ) → StopsAt files (name ∷ out ∷ []) name

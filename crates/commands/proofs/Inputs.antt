@@ -1,8 +1,5 @@
 -- Inputs, and the scripts that give them.
-use Rattle.std.proofs.Common.{◌≡◌, ℕ, zero, suc, ◌==◌, ◌<◌, ◌≤◌, Bool, true, false, List, [], ◌∷◌, ◌++◌, length, get_or, drop, refl, sym, ap, ◌∙◌, append_assoc, append-nil, arith}
-use Rattle.ports.specs.Input.{AddsByte, queue_of}
-use Rattle.command_line.specs.declared.values.InputByte.{InputByte}
-use Rattle.commands.specs.Running.{GivesInput, bytes_to}
+use Rattle.commands.proofs.Prelude.{◌≡◌, ℕ, zero, suc, ◌==◌, ◌<◌, ◌≤◌, Bool, true, false, List, [], ◌∷◌, ◌++◌, length, get_or, drop, refl, sym, ap, ◌∙◌, append_assoc, append-nil, arith, AddsByte, queue_of, InputByte, GivesInput, bytes_to}
 
 -- what the queues of a script give, and then what is left of the input, is the input
 pub record PutSoFar (input left : List InputByte) (script : List (List ℕ)) : Type 0 where

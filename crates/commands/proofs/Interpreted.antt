@@ -1,13 +1,6 @@
 -- What the interpreter asks of a program that was built.
-use Rattle.std.proofs.Common.{◌≡◌, All, subst, sym}
-use Rattle.typed_trees.specs.Jumps.{JumpsAreSound}
-use Rattle.layout.specs.Placement.{pieces_of}
-use Rattle.join.specs.declared.joined.Joined.{Joined}
+use Rattle.commands.proofs.Prelude.{◌≡◌, All, subst, sym, JumpsAreSound, pieces_of, Joined, IsTableOf, placement_view, program_modules, Construction, IsConstruction}
 use Rattle.placing.specs.declared.placement.Placement.{Placement}
-use Rattle.placing.specs.Tables.{IsTableOf}
-use Rattle.placing.specs.Views.{placement_view}
-use Rattle.sources.specs.Programs.{program_modules}
-use Rattle.tool.specs.Construction.{Construction, IsConstruction}
 
 -- the table of the placement is of the program
 pub has_table : (built : Construction) (joined : Joined) (placement : Placement) → IsConstruction built → joined ≡ built.program → placement_view placement ≡ built.placement → placement.kinds.value ≡ built.kinds

@@ -1,3 +1,4 @@
+mod Prelude
 pub mod OrdersKept
 pub mod NeedTold
 pub mod TextsTold

@@ -1,21 +1,5 @@
 -- The lines of a map.
-use Rattle.std.proofs.Common.{◌≡◌, ℕ, ◌+◌, ◌-◌, ◌^◌, ◌<◌, ◌≤◌, true, List, [], ◌∷◌, ◌++◌, length, get_or, drop, map, zip, Option, Some, Result, OnOk, IfSome, codes, decimal, refl, sym, ap, subst, ◌∙◌, append_assoc, append-nil, arith}
-use Rattle.std.specs.Fmt.{◌++?◌, digits, format_spec, digits_output, styled_digits_output}
-use Rattle.std.specs.List.{flat_map}
-use Rattle.std.specs.Io.KnownBytes.{Appends}
-use Rattle.typed_trees.specs.declared.module.Typed.{Typed}
-use Rattle.typed_trees.specs.Views.{module_view}
-use Rattle.layout.specs.Placement.{ModulePlacement, Placement}
-use Rattle.join.specs.declared.joined.Joined.{Joined}
-use Rattle.join.specs.Views.{modules_of}
-use Rattle.placing.specs.declared.placement.ModulePlacement.{ModulePlacement as CodeModulePlacement}
-use Rattle.placing.specs.declared.placement.Placement.{Placement as CodePlacement}
-use Rattle.placing.specs.Views.{module_placement_view, placement_view}
-use Rattle.object_commands.specs.Placing.{address_digits}
-use Rattle.object_commands.proofs.Lines.{hole_is}
-use Rattle.sources.specs.Programs.{program_modules}
-use Rattle.tool.specs.Construction.{Construction}
-use Rattle.commands.specs.Map.{map_line, map_of, map_text}
+use Rattle.commands.proofs.Prelude.{◌≡◌, ℕ, ◌+◌, ◌-◌, ◌^◌, ◌<◌, ◌≤◌, true, List, [], ◌∷◌, ◌++◌, length, get_or, drop, map, zip, Option, Some, Result, OnOk, IfSome, codes, decimal, refl, sym, ap, subst, ◌∙◌, append_assoc, append-nil, arith, ◌++?◌, digits, format_spec, digits_output, styled_digits_output, flat_map, Appends, Typed, module_view, ModulePlacement, Placement, Joined, modules_of, CodeModulePlacement, CodePlacement, module_placement_view, placement_view, address_digits, hole_is, program_modules, Construction, map_line, map_of, map_text}
 
 five_parts : (a b c d e : List ℕ) → a ++ (b ++ (c ++ (d ++ e))) ≡ a ++ b ++ c ++ d ++ e
 five_parts a b c d e = sym (append_assoc (a ++ b ++ c) d e ∙ append_assoc (a ++ b) c (d ++ e) ∙ append_assoc a b (c ++ (d ++ e)))

@@ -1,25 +1,9 @@
 -- Sources that are read one by one, and the need of their program.
-use Rattle.std.proofs.Common.{◌≡◌, Err, Ok, ℕ, ◌+◌, ◌<◌, ◌≤◌, List, [], ◌∷◌, ◌++◌, Option, length, drop, get_or, map, arith, sym, ap, ◌∙◌, subst, add-one, append-nil, append_assoc, refl, ⊎_elim}
-use Rattle.std.specs.Prelude.{IsErrAnd, Result}
-use Rattle.std.proofs.Math.ListN.{drop_of_length-le}
-use Rattle.std.proofs.Math.Seq.{drop-cons}
-use Rattle.std.proofs.lemmas.Bool.{cases_lt}
-use Rattle.std.proofs.lemmas.List.{get_or-map, length-map}
-use Rattle.failure.specs.Failure.{IfFault}
-use Rattle.failure.specs.declared.Failure.{Failure}
-use Rattle.failure.specs.declared.Failure.TheVariants.{Fault, Memory}
-use Rattle.typed_trees.specs.TypedTrees.{TypedModule}
-use Rattle.typed_trees.specs.declared.module.Typed.{Typed}
-use Rattle.typed_trees.specs.Views.{module_view}
-use Rattle.layout.specs.Joined.{IsJoined}
-use Rattle.sources.specs.Reading.{IsSourceOf}
+use Rattle.commands.proofs.Prelude.{◌≡◌, Err, Ok, ℕ, ◌+◌, ◌<◌, ◌≤◌, List, [], ◌∷◌, ◌++◌, Option, length, drop, get_or, map, arith, sym, ap, ◌∙◌, subst, add-one, append-nil, append_assoc, refl, ⊎_elim, IsErrAnd, Result, drop_of_length-le, drop-cons, cases_lt, get_or-map, length-map, IfFault, Failure, Fault, Memory, TypedModule, Typed, module_view, IsJoined, IsSourceOf, MOST_SOURCES, AreSourcesOf, texts_of, NeedFault, HasCause, IsNeedOf, IsNeedText, IsReadable, need_line}
 use Rattle.sources.specs.declared.sources.Source as declared_source
-use Rattle.sources.specs.declared.sources.TheConstants.{MOST_SOURCES}
-use Rattle.sources.specs.Programs.{AreSourcesOf, text_of, texts_of}
+use Rattle.sources.specs.Programs.{text_of}
 use Rattle.stack_need.specs.StackNeed.{TellsNeed}
-use Rattle.commands.specs.declared.needs.fault.NeedFault.{NeedFault}
 use Rattle.commands.specs.declared.needs.fault.NeedFault.TheVariants.{TooManySources, Source, Join}
-use Rattle.commands.specs.Needs.{HasCause, IsNeedOf, IsNeedText, IsReadable, need_line}
 use Rattle.commands.specs.internal.Reading.{IsFirstFault, IsOfJoining, IsOfSource, IsUnread}
 
 -- the texts before this place are sources of modules

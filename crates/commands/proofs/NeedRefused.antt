@@ -1,7 +1,5 @@
 -- What is printed where sources are refused: the line of no file that can't be read.
-use Rattle.std.proofs.Common.{◌≡◌, ℕ, true, List, Option, refl, ap, ◌∙◌}
-use Rattle.host.specs.Refusals.{Tells, TellsOther, refusal_line}
-use Rattle.host.proofs.LinesPrinted.{is_other, tells_other}
+use Rattle.commands.proofs.Prelude.{◌≡◌, ℕ, true, List, Option, refl, ap, ◌∙◌, Tells, TellsOther, refusal_line, is_other, tells_other, ReadFault}
 use Rattle.words.specs.Fault as of_words
 use Rattle.words.specs.declared.fault.Fault as word_fault
 use Rattle.words.specs.declared.fault.Fault.TheVariants as word_faults
@@ -15,7 +13,6 @@ use Rattle.typing.specs.Faults as of_typing
 use Rattle.typing.specs.declared.fault.Cause.{Cause}
 use Rattle.typing.specs.declared.fault.Cause.TheVariants as causes
 use Rattle.sources.specs.Faults as of_source
-use Rattle.sources.specs.declared.read.ReadFault.{ReadFault}
 use Rattle.sources.specs.declared.read.ReadFault.TheVariants as read_faults
 use Rattle.join.specs.Views as of_joining
 use Rattle.join.specs.declared.fault.Fault as join_fault

@@ -1,18 +1,6 @@
 -- The need of sources, printed or not.
-use Rattle.std.proofs.Common.{◌≡◌, ◌⊎◌, ℕ, List, Bor, Err, Ok, Option, codes, inl, inr, map, subst}
-use Rattle.clap.specs.Walk.{texts}
-use Rattle.host.specs.Files.{Directory}
-use Rattle.host.specs.Reading.{HasFiles}
-use Rattle.host.specs.Refusals.{Tells, refusal_line}
-use Rattle.host.specs.declared.endings.Ending.{Ending}
-use Rattle.host.specs.declared.endings.Ending.TheVariants.{Done, Refused, WrongLine}
-use Rattle.command_line.specs.Command.{NeedWanted, wants_need}
-use Rattle.command_line.specs.Settings.{plan_read}
-use Rattle.mem80.specs.declared.plan.Plan.{Plan}
-use Rattle.commands.specs.Printing.{PrintsNeed, StopsNeed, TellsNoNeed}
-use Rattle.commands.specs.Refusing.{RefusesFor}
+use Rattle.commands.proofs.Prelude.{◌≡◌, ◌⊎◌, ℕ, List, Bor, Err, Ok, Option, codes, inl, inr, map, subst, texts, Directory, HasFiles, Tells, refusal_line, Ending, Done, Refused, WrongLine, NeedWanted, wants_need, plan_read, Plan, PrintsNeed, StopsNeed, TellsNoNeed, RefusesFor, PrintsNeedWanted, RefusesNeed, TellsText}
 use Rattle.commands.specs.Needing.{PrintsNeedOf, RefusesNeedOf}
-use Rattle.commands.specs.Orders.{PrintsNeedWanted, RefusesNeed, TellsText}
 
 pub done_or_refused : (ending : Ending) → (ending ≡ Done) ⊎ (ending ≡ Refused) → ending ≡ WrongLine → ⊥
 done_or_refused ending (inl done) wrong = cc

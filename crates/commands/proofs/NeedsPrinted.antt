@@ -1,12 +1,6 @@
 -- The need of sources, printed or not.
-use Rattle.std.proofs.Common.{◌≡◌, ℕ, List, Option, None, Some, inl, inr, refl, subst}
-use Rattle.std.specs.Io.KnownBytes.{Appends, Keeps}
-use Rattle.failure.specs.Writing.{AppendsBeginning}
-use Rattle.host.specs.Refusals.{Tells, memory_line, output_line}
-use Rattle.commands.specs.Needs.{HasCause, IsNeedText}
-use Rattle.commands.specs.declared.needs.fault.NeedFault.{NeedFault}
+use Rattle.commands.proofs.Prelude.{◌≡◌, ℕ, List, Option, None, Some, inl, inr, refl, subst, Appends, Keeps, AppendsBeginning, Tells, memory_line, output_line, HasCause, IsNeedText, NeedFault, PrintsNeed, StopsNeed, TellsNoNeed}
 use Rattle.commands.specs.NeedFaults.{fault_line}
-use Rattle.commands.specs.Printing.{PrintsNeed, StopsNeed, TellsNoNeed}
 
 pub prints_need : (texts : List (List ℕ)) (line written : List ℕ) (old new : Option (List ℕ)) → IsNeedText texts line → written ≡ line → Appends old new written → PrintsNeed texts old new
 prints_need texts line written old new need is printed = record { line = line; need = need; printed = subst (λ (l : List ℕ). Appends old new l) is printed }

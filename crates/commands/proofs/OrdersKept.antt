@@ -1,14 +1,5 @@
 -- Files after a command line was carried out.
-use Rattle.std.proofs.Common.{◌≡◌, ◌≤◌, ◌⊎◌, ℕ, List, [], ◌∷◌, Ok, Option, None, Some, inl, inr, refl, subst, arith}
-use Rattle.host.specs.Files.{Directory, KeepsFiles}
-use Rattle.host.specs.Endings.{status_of}
-use Rattle.host.specs.Refusals.{TellsRefusal}
-use Rattle.host.specs.declared.endings.Ending.{Ending}
-use Rattle.host.specs.declared.endings.Ending.TheVariants.{Done, Refused, WrongLine, Limit, Stopped, Outside}
-use Rattle.command_line.specs.Command.{Wanted, wants_compile, wants_link, wants_need, wants_place, wants_program}
-use Rattle.command_line.specs.Settings.{only_file}
-use Rattle.object_commands.proofs.FilesWritten.{kept_others}
-use Rattle.commands.specs.Orders.{ChangesAsWanted, ChangesByWords, WritesAsWanted, WritesByWords, PrintsAsWanted, PrintsByWords, StopsAsWanted, StopsByWords, names_by_words, names_of}
+use Rattle.commands.proofs.Prelude.{◌≡◌, ◌≤◌, ◌⊎◌, ℕ, List, [], ◌∷◌, Ok, Option, None, Some, inl, inr, refl, subst, arith, Directory, KeepsFiles, status_of, TellsRefusal, Ending, Done, Refused, WrongLine, Limit, Stopped, Outside, Wanted, wants_compile, wants_link, wants_need, wants_place, wants_program, only_file, kept_others, ChangesAsWanted, ChangesByWords, WritesAsWanted, WritesByWords, PrintsAsWanted, PrintsByWords, StopsAsWanted, StopsByWords, names_by_words, names_of}
 
 -- where no file changed, none changed but what was wanted
 pub kept_as_wanted : (wanted : Wanted) (old new : Option Directory) → KeepsFiles old new → ChangesAsWanted wanted old new

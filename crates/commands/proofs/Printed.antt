@@ -1,37 +1,9 @@
 -- What was printed of programs, step by step.
-use Rattle.std.proofs.Common.{◌≡◌, ℕ, ◌≤◌, Bool, true, false, List, [], ◌++◌, length, map, Bor, Option, None, Some, inl, inr, refl, sym, ap, subst, ◌∙◌, append-nil}
-use Rattle.std.specs.Io.KnownBytes.{Appends, Keeps}
-use Rattle.std.proofs.KnownBytes.{Appends-trans}
-use Rattle.failure.specs.Writing.{AppendsBeginning}
-use Rattle.failure.proofs.WritingLemmas.{beginning_after}
-use Rattle.clap.specs.Walk.{texts}
-use Rattle.mem80.specs.Memory.{zeros}
-use Rattle.ports.specs.declared.event.Event.{Event}
+use Rattle.commands.proofs.Prelude.{◌≡◌, ℕ, ◌≤◌, Bool, true, false, List, [], ◌++◌, length, map, Bor, Option, None, Some, inl, inr, refl, sym, ap, subst, ◌∙◌, append-nil, Appends, Keeps, Appends-trans, AppendsBeginning, beginning_after, texts, zeros, Event, Session, Directory, HasFiles, Plan, Joined, CodePlacement, placement_view, ProgramWanted, Values, Action, ToRun, Interpret, MOST_SOURCES, IsProgramOf, program_modules, Construction, IsConstruction, source_of, started, map_if, map_of, DoesAs, GivesInput, PrintsFiles, PrintsMachine, PrintsMeaning, PrintsTexts, StopsBuilt, end_status, source_status, source_word}
 use Rattle.ports.specs.Events.{IsBeginning}
-use Rattle.ports.specs.Session.{Session}
-use Rattle.host.specs.Files.{Directory}
-use Rattle.host.specs.Reading.{HasFiles}
-use Rattle.printing.specs.Report.{report_of}
-use Rattle.cpu8080.specs.Machine.{Machine}
-use Rattle.cpu8080.specs.Runs.{IsRun}
-use Rattle.cpu8080.specs.declared.machine.End.{End}
-use Rattle.printing.specs.Printing.{BeginsRun, PrintsRun, end_word}
-use Rattle.meaning.specs.Outcomes.{Stop}
-use Rattle.meaning.specs.Run.{Run, source_run}
-use Rattle.mem80.specs.declared.plan.Plan.{Plan}
-use Rattle.join.specs.declared.joined.Joined.{Joined}
-use Rattle.placing.specs.declared.placement.Placement.{Placement as CodePlacement}
-use Rattle.placing.specs.Views.{placement_view}
-use Rattle.command_line.specs.Command.{ProgramWanted}
-use Rattle.command_line.specs.Settings.{Values}
-use Rattle.command_line.specs.declared.orders.Action.{Action}
-use Rattle.command_line.specs.declared.orders.Action.TheVariants.{Run as ToRun, Interpret}
-use Rattle.sources.specs.declared.sources.TheConstants.{MOST_SOURCES}
-use Rattle.sources.specs.Programs.{IsProgramOf, program_modules}
-use Rattle.tool.specs.Construction.{Construction, IsConstruction}
-use Rattle.tool.specs.Execution.{source_of, started}
-use Rattle.commands.specs.Map.{map_if, map_of}
-use Rattle.commands.specs.Running.{DoesAs, GivesInput, PrintsFiles, PrintsMachine, PrintsMeaning, PrintsTexts, StopsBuilt, end_status, source_status, source_word}
+use Rattle.printing.specs.{Report.{report_of}, Printing.{BeginsRun, PrintsRun, end_word}}
+use Rattle.cpu8080.specs.{Machine.{Machine}, Runs.{IsRun}, declared.machine.End.{End}}
+use Rattle.meaning.specs.{Outcomes.{Stop}, Run.{Run, source_run}}
 
 -- a writer that nothing was sent to
 pub stays_written : (known : Option (List ℕ)) → Keeps known known

@@ -1,17 +1,6 @@
 -- What was printed of programs, and why not.
-use Rattle.std.proofs.Common.{◌≡◌, ℕ, List, [], ◌∷◌, Ok, None, Option, Some, inl, inr, sym, subst, ◌∙◌}
-use Rattle.host.specs.Files.{Directory}
-use Rattle.host.specs.Endings.{status_of}
-use Rattle.host.specs.Refusals.{TellsRefusal}
-use Rattle.host.specs.declared.endings.Ending.{Ending}
-use Rattle.host.specs.declared.endings.Ending.TheVariants.{Refused, WrongLine}
-use Rattle.command_line.specs.Command.{CompileWanted, PlaceWanted, ProgramWanted, Wanted, wants_compile}
-use Rattle.command_line.specs.Settings.{Values, only_file, plan_read, values_read}
-use Rattle.mem80.specs.declared.plan.Plan.{Plan}
-use Rattle.commands.specs.Refusing.{RefusesCompiling, RunsOut}
-use Rattle.commands.specs.Running.{PrintsFiles, PrintsProgram}
+use Rattle.commands.proofs.Prelude.{◌≡◌, ℕ, List, [], ◌∷◌, Ok, None, Option, Some, inl, inr, sym, subst, ◌∙◌, Directory, status_of, TellsRefusal, Ending, Refused, WrongLine, CompileWanted, PlaceWanted, ProgramWanted, Wanted, wants_compile, Values, only_file, plan_read, values_read, Plan, RefusesCompiling, RunsOut, PrintsFiles, PrintsProgram, RefusesAsWanted, RefusesByWords, RefusesPlaced, RunsAsWanted, RunsByWords, StopsPlaced}
 use Rattle.commands.proofs.Printed.{stays_written}
-use Rattle.commands.specs.Orders.{RefusesAsWanted, RefusesByWords, RefusesPlaced, RunsAsWanted, RunsByWords, StopsPlaced}
 use Rattle.commands.proofs.OrdersKept.{not_refused, not_wrong}
 
 -- the values are those that are written

@@ -1,18 +1,5 @@
 -- Texts of the command line that are refused.
-use Rattle.std.proofs.Common.{◌≡◌, ◌⊎◌, ℕ, List, Err, Ok, Option, Some, codes, inl, inr, refl, subst, arith}
-use Rattle.clap.specs.Words.{Kinds, kind_of}
-use Rattle.clap.specs.declared.error.ErrorKind.TheVariants.{DisplayHelp, DisplayVersion}
-use Rattle.host.specs.Endings.{status_of}
-use Rattle.host.specs.Refusals.{Tells, refusal_line}
-use Rattle.host.specs.declared.endings.Ending.{Ending}
-use Rattle.host.specs.declared.endings.Ending.TheVariants.{Done, Refused, WrongLine, Limit, Stopped, Outside}
-use Rattle.command_line.specs.Command.{IsFaultOf, PlaceWanted, Wanted, wants_place}
-use Rattle.command_line.specs.Settings.{Read, ◌>>=◌, only_file, plan_read}
-use Rattle.command_line.specs.declared.reading.LineFault.{LineFault}
-use Rattle.command_line.specs.declared.reading.LineFault.TheVariants.{Help, Version, Wrong}
-use Rattle.mem80.specs.declared.plan.Plan.{Plan}
-use Rattle.commands.specs.Orders.{AsksHelpAtMost, RefusesNoText, TellsText, TellsTextByWords}
-use Rattle.commands.specs.internal.LineFaults.{IsWrong}
+use Rattle.commands.proofs.Prelude.{◌≡◌, ◌⊎◌, ℕ, List, Err, Ok, Option, Some, codes, inl, inr, refl, subst, arith, Kinds, kind_of, DisplayHelp, DisplayVersion, status_of, Tells, refusal_line, Ending, Done, Refused, WrongLine, Limit, Stopped, Outside, IsFaultOf, PlaceWanted, Wanted, wants_place, Read, ◌>>=◌, only_file, plan_read, LineFault, Help, Version, Wrong, Plan, AsksHelpAtMost, RefusesNoText, TellsText, TellsTextByWords, IsWrong}
 
 pub text_by_words : (found : Option Wanted) (wanted : Wanted) (old new : Option (List ℕ)) → found ≡ Some wanted → TellsText wanted old new → TellsTextByWords found old new
 text_by_words found wanted old new e told = rw e told

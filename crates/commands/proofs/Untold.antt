@@ -1,29 +1,7 @@
 -- Why sources were not run or interpreted, or not compiled.
-use Rattle.std.proofs.Common.{◌≡◌, ℕ, ◌<◌, ◌≤◌, Bool, List, [], ◌∷◌, Bor, Err, Ok, Option, Result, inl, inr, length, map, refl, subst, sym, ⊎_elim}
-use Rattle.std.proofs.lemmas.Bool.{cases_lt}
-use Rattle.std.proofs.lemmas.List.{length-map}
-use Rattle.clap.specs.Walk.{texts}
-use Rattle.ports.specs.Events.{CountsFailure}
-use Rattle.failure.specs.declared.Failure.{Failure}
-use Rattle.failure.specs.declared.Failure.TheVariants.{Fault}
-use Rattle.host.specs.Files.{Directory, HasFile}
-use Rattle.host.specs.Reading.{HasFiles, StopsAt}
-use Rattle.host.specs.Refusals.{Tells, file_line, memory_line, output_line}
-use Rattle.command_line.specs.Command.{CompileWanted, ProgramWanted}
-use Rattle.command_line.specs.Settings.{Values, values_read}
-use Rattle.command_line.specs.declared.orders.Action.{Action}
+use Rattle.commands.proofs.Prelude.{◌≡◌, ℕ, ◌<◌, ◌≤◌, Bool, List, [], ◌∷◌, Bor, Err, Ok, Option, Result, inl, inr, length, map, refl, subst, sym, ⊎_elim, cases_lt, length-map, texts, CountsFailure, Failure, Fault, Directory, HasFile, HasFiles, StopsAt, Tells, file_line, memory_line, output_line, CompileWanted, ProgramWanted, Values, values_read, Action, MOST_SOURCES, IsProgramOf, program_modules, texts_of, Construction, IsConstruction, IsInOrder, IsRefusedAlone, ToolFault, TooManySources, CompilesTo, fault_line, map_if, RefusesCompiling, RefusesFiles, RefusesFor, RefusesProgram, RefusesTexts, RunsOut, TellsUnwritten, StopsBuilt}
 use Rattle.sources.specs.declared.sources.Source.{Source}
-use Rattle.sources.specs.declared.sources.TheConstants.{MOST_SOURCES}
-use Rattle.sources.specs.Programs.{IsProgramOf, program_modules, texts_of}
-use Rattle.tool.specs.Construction.{Construction, IsConstruction}
-use Rattle.tool.specs.Sources.{HasCause, IsInOrder, IsRefusedAlone}
-use Rattle.tool.specs.declared.fault.ToolFault.{ToolFault}
-use Rattle.tool.specs.declared.fault.ToolFault.TheVariants.{TooManySources}
-use Rattle.commands.specs.Compiling.{CompilesTo}
-use Rattle.commands.specs.ProgramFaults.{fault_line}
-use Rattle.commands.specs.Map.{map_if}
-use Rattle.commands.specs.Refusing.{RefusesCompiling, RefusesFiles, RefusesFor, RefusesProgram, RefusesTexts, RunsOut, TellsUnwritten}
-use Rattle.commands.specs.Running.{StopsBuilt}
+use Rattle.tool.specs.Sources.{HasCause}
 use Rattle.commands.proofs.Printed.{stays_written}
 
 pub memory_unwritten : (old new : Option (List ℕ)) → Tells memory_line old new → TellsUnwritten old new

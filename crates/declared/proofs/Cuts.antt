@@ -1,9 +1,5 @@
 -- Bytes cut into pieces: a byte of a piece is a byte of the whole.
-use Rattle.std.proofs.Common.{◌≡◌, ℕ, zero, suc, ◌+◌, ◌-◌, ◌<◌, ◌≤◌, min, List, [], ◌∷◌, length, take, drop, get_or, set, replicate, refl, ap, sym, ◌∙◌, arith}
-use Rattle.std.proofs.lemmas.List.{length-take, drop-drop, set_past, take-set-le, drop-set-lt, drop-set-add, take-replicate, drop-replicate}
-use Rattle.std.proofs.Math.Seq.{take-set-lt}
-use Rattle.declared.specs.Frames.{zeroed}
-use Rattle.declared.specs.internal.Cuts.{cut, total}
+use Rattle.declared.proofs.Prelude.{◌≡◌, ℕ, zero, suc, ◌+◌, ◌-◌, ◌<◌, ◌≤◌, min, List, [], ◌∷◌, length, take, drop, get_or, set, replicate, refl, ap, sym, ◌∙◌, arith, length-take, drop-drop, set_past, take-set-le, drop-set-lt, drop-set-add, take-replicate, drop-replicate, take-set-lt, zeroed, cut, total}
 
 taken_short : (size offset : ℕ) (bytes : List ℕ) → size ≤ offset → length (take size bytes) ≤ offset
 taken_short size offset bytes past = let is : length (take size bytes) ≡ min size (length bytes) = length-take size bytes in omega arith

@@ -1,12 +1,5 @@
 -- The bytes of the last frame, among those of all frames.
-use Rattle.std.proofs.Common.{◌≡◌, ℕ, zero, suc, ◌+◌, ◌-◌, ◌<◌, ◌≤◌, min, Bool, if◌then◌else◌, nat_lt, lt-ltb, le-ltb, List, [], ◌∷◌, ◌++◌, length, reverse, take, drop, get_or, set, slice_range, replicate, Option, Some, None, refl, ap, sym, subst, ◌∙◌, arith}
-use Rattle.std.proofs.lemmas.List.{drop-drop, get_or_past, take-set-le, drop-set-add, take_at, drop_at, reverse-append}
-use Rattle.std.proofs.Math.Decide.{dec_le}
-use Rattle.meaning.specs.Access.{frame_bytes}
-use Rattle.declared.specs.declared.frames.OpenFrame.{OpenFrame}
-use Rattle.declared.specs.Frames.{current_frame, frame_with_byte, with_current, zeroed}
-use Rattle.declared.specs.internal.Cuts.{cut, total}
-use Rattle.declared.specs.internal.Nesting.{sizes_of, open_frames, frames_in, AreNested, AreFrames}
+use Rattle.declared.proofs.Prelude.{◌≡◌, ℕ, zero, suc, ◌+◌, ◌-◌, ◌<◌, ◌≤◌, min, Bool, if◌then◌else◌, nat_lt, lt-ltb, le-ltb, List, [], ◌∷◌, ◌++◌, length, reverse, take, drop, get_or, set, slice_range, replicate, Option, Some, None, refl, ap, sym, subst, ◌∙◌, arith, drop-drop, get_or_past, take-set-le, drop-set-add, take_at, drop_at, reverse-append, dec_le, frame_bytes, OpenFrame, current_frame, frame_with_byte, with_current, zeroed, cut, total, sizes_of, open_frames, frames_in, AreNested, AreFrames}
 use Rattle.declared.proofs.Cuts.{piece_is, write_inside, write_outside, cut_zeros}
 
 -- what is known of the last frame

@@ -1,3 +1,4 @@
+mod Prelude
 pub mod TableKinds
 pub mod Meanings
 pub mod Cuts

@@ -1,16 +1,6 @@
 -- Reads and writes of memory and of frames are those of the meaning.
-use Rattle.std.proofs.Common.{◌≡◌, ℕ, ◌+◌, ◌*◌, ◌/◌, ◌%◌, ◌==◌, Bool, true, false, cond, List, [], ◌∷◌, map, replicate, Result, Ok, Err, refl, ap, ◌∙◌}
-use Rattle.trees.specs.declared.declaration.ScalarType.{ScalarType}
-use Rattle.trees.specs.declared.declaration.ScalarType.TheVariants.{Byte, Address}
-use Rattle.typed_trees.specs.TypedTrees.{Home, InData, InConstants, Placed, BasedOn, Elsewhere, Nowhere, InFrame, TypedObject, TypedModule}
-use Rattle.typed_trees.specs.Sizes.{size_of_object}
-use Rattle.meaning.specs.declared.reason.Reason.{Reason}
-use Rattle.meaning.specs.declared.reason.Reason.TheVariants.{Byte as UndeclaredByte, Constant}
-use Rattle.meaning.specs.Outcomes.{Program, State, Outside, Outcome, Gave, Stopped, then_do}
-use Rattle.meaning.specs.Access.{InMemory, InTheFrame, is_declared, is_constant, read_byte, write_byte, read_scalar, write_scalar}
-use Rattle.meaning.specs.Meaning.{is_frame_of, frame_of}
-use Rattle.declared.specs.Access.{is_declared_at, is_constant_at, byte_read, Written, written, refused, byte_written, next_address, number_of_bytes, scalar_read, then_write, scalar_written}
-use Rattle.declared.specs.Frames.{frame_object_by, frame_object, module_frames, size_in, zeroed_frame, current_frame, with_current, frame_scalar, frame_with_scalar}
+use Rattle.declared.proofs.Prelude.{◌≡◌, ℕ, ◌+◌, ◌*◌, ◌/◌, ◌%◌, ◌==◌, Bool, true, false, cond, List, [], ◌∷◌, map, replicate, Result, Ok, Err, refl, ap, ◌∙◌, Home, InData, InConstants, Placed, BasedOn, Elsewhere, Nowhere, InFrame, TypedObject, TypedModule, size_of_object, Reason, UndeclaredByte, Constant, Program, State, Outside, Outcome, Gave, Stopped, then_do, InMemory, InTheFrame, is_declared, is_constant, read_byte, write_byte, read_scalar, write_scalar, is_frame_of, frame_of, is_declared_at, is_constant_at, byte_read, Written, written, refused, byte_written, next_address, number_of_bytes, scalar_read, then_write, scalar_written, frame_object_by, frame_object, module_frames, size_in, zeroed_frame, current_frame, with_current, frame_scalar, frame_with_scalar}
+use Rattle.trees.specs.{declared.declaration.ScalarType.{ScalarType, TheVariants.{Byte, Address}}}
 
 -- a part of a run that answers so
 abbrev pub answered : {A : Type 0} → Result A Reason → State → Outcome A

@@ -1,10 +1,5 @@
 -- The sizes of the members of a structure, one after another.
-use Rattle.std.proofs.Common.{◌≡◌, ℕ, ◌+◌, ◌<◌, List, [], ◌∷◌, length, drop, get_or, Some, None, ap, sym, arith}
-use Rattle.std.specs.Prelude.{slice_get, sum_by}
-use Rattle.std.proofs.lemmas.List.Sums.{sum_by-drop_more}
-use Rattle.std.proofs.lemmas.Option.{get_or_from_slice_get, slice_get-get_or, slice_get_within}
-use Rattle.typed_trees.specs.declared.parts.TypedMember.{TypedMember}
-use Rattle.typed_trees.specs.Sizes.{size_of_member}
+use Rattle.declared.proofs.Prelude.{◌≡◌, ℕ, ◌+◌, ◌<◌, List, [], ◌∷◌, length, drop, get_or, Some, None, ap, sym, arith, slice_get, sum_by, sum_by-drop_more, get_or_from_slice_get, slice_get-get_or, slice_get_within, TypedMember, size_of_member}
 
 pub one_more :
     (members : List TypedMember) (position size sum whole : ℕ) (member : TypedMember)

@@ -1,13 +1,6 @@
 -- The slots of objects in frames, one more after another.
-use Rattle.std.proofs.Common.{◌≡◌, ◌≢◌, inl, inr, ℕ, zero, suc, ◌+◌, ◌<◌, ◌≤◌, ◌==◌, eqb, true, false, cond, List, [], ◌∷◌, ◌++◌, length, take, get_or, set, map, Option, Some, None, refl, ap, sym, subst, ◌∙◌, arith}
-use Rattle.std.specs.Option.{option_eq}
-use Rattle.std.proofs.lemmas.List.{length-append, length-set, get_or_append_left, get_or_push, get_or-set_same, get_or-set_other}
-use Rattle.std.proofs.lemmas.Bool.Decides.{nat_tests}
-use Rattle.std.proofs.lemmas.Bool.{cases_eq}
-use Rattle.std.proofs.Math.Decide.{dec_le}
+use Rattle.declared.proofs.Prelude.{◌≡◌, ◌≢◌, inl, inr, ℕ, zero, suc, ◌+◌, ◌<◌, ◌≤◌, ◌==◌, eqb, true, false, cond, List, [], ◌∷◌, ◌++◌, length, take, get_or, set, map, Option, Some, None, refl, ap, sym, subst, ◌∙◌, arith, option_eq, length-append, length-set, get_or_append_left, get_or_push, get_or-set_same, get_or-set_other, nat_tests, cases_eq, dec_le, ModuleFrames, is_procedure, size_in, sizes_in, total}
 use Rattle.declared.specs.declared.slots.ObjectSlot.{ObjectSlot}
-use Rattle.declared.specs.Frames.{ModuleFrames, is_procedure, size_in, sizes_in}
-use Rattle.declared.specs.internal.Cuts.{total}
 use Rattle.declared.specs.internal.Slots.{slot_view, slot_sizes, AreSlots}
 
 -- one more object

@@ -1,18 +1,9 @@
 -- What a table of kinds says of pieces.
-use Rattle.std.proofs.Common.{◌≡◌, ℕ, ◌<◌, ◌≤◌, ◌+◌, Bool, true, false, cond, List, [], ◌∷◌, get_or, Decides, refl, sym, subst, arith}
-use Rattle.std.specs.Prelude.{filter, ◌||◌, nat_le, nat_lt}
-use Rattle.std.specs.List.{list_any}
-use Rattle.std.proofs.lemmas.List.Folds.{Any-from_list_any, list_any-from_Any}
-use Rattle.std.proofs.lemmas.Bool.Decides.{nat_tests, Decides-and, Decides-ltb}
-use Rattle.mem80.specs.declared.memory.TheConstants.{MEMORY_SIZE}
-use Rattle.mem80.specs.Range.{IsIn}
-use Rattle.typed_trees.specs.TypedTrees.{TypedModule}
+use Rattle.declared.proofs.Prelude.{◌≡◌, ℕ, ◌<◌, ◌≤◌, ◌+◌, Bool, true, false, cond, List, [], ◌∷◌, get_or, Decides, refl, sym, subst, arith, filter, ◌||◌, nat_le, nat_lt, list_any, Any-from_list_any, list_any-from_Any, nat_tests, Decides-and, Decides-ltb, TypedModule, ByteKind, Undeclared, Writable, IsKind, IsTableOf, is_declared_at, is_constant_at}
+use Rattle.mem80.specs.{declared.memory.TheConstants.{MEMORY_SIZE}, Range.{IsIn}}
 use Rattle.layout.specs.Placement.{Placement, PlacedPiece, IsOneOf, holds_byte, is_constant_piece, pieces_of}
 use Rattle.layout.proofs.Declared.{Decides-one_of}
-use Rattle.placing.specs.declared.placement.ByteKind.{ByteKind}
-use Rattle.placing.specs.declared.placement.ByteKind.TheVariants.{Undeclared, Writable, Constant}
-use Rattle.placing.specs.Tables.{IsKind, IsTableOf}
-use Rattle.declared.specs.Access.{is_declared_at, is_constant_at}
+use Rattle.placing.specs.declared.placement.ByteKind.TheVariants.{Constant}
 use Rattle.declared.specs.internal.Kinds.{says_declared, says_constant}
 
 or_true : (a b : Bool) → b ≡ true → (a || b) ≡ true

@@ -1,11 +1,5 @@
 -- Files that are read one after another.
-use Rattle.std.proofs.Common.{◌≡◌, ℕ, suc, ◌+◌, ◌<◌, List, [], ◌∷◌, ◌++◌, Bor, length, get_or, take, drop, drop-cons, map, sym, ap, subst, ◌∙◌}
-use Rattle.std.specs.List.{AllZip}
-use Rattle.std.proofs.lemmas.List.{map-append, map_more, take-append-drop}
-use Rattle.std.proofs.lemmas.Slice.Zip.{all_zipped_more}
-use Rattle.object_modules.specs.declared.fault.Fault.{Fault}
-use Rattle.object_modules.specs.Module.{ObjectModule}
-use Rattle.object_modules.specs.Spelling.{HasFirstFault, Spells}
+use Rattle.example_objects.proofs.Prelude.{◌≡◌, ℕ, suc, ◌+◌, ◌<◌, List, [], ◌∷◌, ◌++◌, Bor, length, get_or, take, drop, drop-cons, map, sym, ap, subst, ◌∙◌, AllZip, map-append, map_more, take-append-drop, all_zipped_more, Fault, ObjectModule, HasFirstFault, Spells}
 use Rattle.example_objects.specs.Images.{FirstIsFaulty}
 
 -- the bytes of files, each

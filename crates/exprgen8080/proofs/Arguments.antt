@@ -1,14 +1,5 @@
 -- The arguments of a call one by one.
-use Rattle.std.proofs.Common.{◌≡◌, ℕ, suc, ◌+◌, ◌-◌, ◌%◌, ◌<◌, ◌≤◌, List, [], ◌∷◌, ◌++◌, Option, Some, None, Result, Ok, Err, OnOk, arith, ap, sym, ◌∙◌, append_assoc, refl}
-use Rattle.std.proofs.lemmas.List.{append-nil}
-use Rattle.treecode.specs.declared.expression.ExpressionNumber.{ExpressionNumber}
-use Rattle.treecode.specs.declared.lists.Range.{Range}
-use Rattle.treecode.specs.Queries.{argument}
-use Rattle.steps8080.specs.declared.step.Step.{Step}
-use Rattle.steps8080.specs.declared.step.Step.TheVariants.{CallProcedure}
-use Rattle.steps8080.specs.declared.step.Steps.{Steps}
-use Rattle.steps8080.specs.Step.{Adds}
-use Rattle.steps8080.specs.declared.sites.site.Site.{Site}
+use Rattle.exprgen8080.proofs.Prelude.{◌≡◌, ℕ, suc, ◌+◌, ◌-◌, ◌%◌, ◌<◌, ◌≤◌, List, [], ◌∷◌, ◌++◌, Option, Some, None, Result, Ok, Err, OnOk, arith, ap, sym, ◌∙◌, append_assoc, refl, append-nil, ExpressionNumber, Range, argument, Step, CallProcedure, Steps, Adds, Site}
 use Rattle.exprgen8080.specs.Calls.{argument_steps, arguments_steps, call_steps, last_argument_steps, pushed_argument_steps}
 
 -- steps are those of a call, but for its arguments from this one on, and no label is taken

@@ -1,18 +1,7 @@
 -- What is written with labels counted in its order is the code that the function gives, so that there is only one.
-use Rattle.std.proofs.Common.{◌≡◌, ℕ, suc, ◌+◌, Bool, List, [], ◌++◌, Option, Some, option_and_then, option_map, sym, ap, subst, ◌∙◌, arith}
-use Rattle.asm8080.specs.declared.item.Item.{Item}
-use Rattle.steps8080.specs.declared.facts.Facts.{Facts}
-use Rattle.steps8080.specs.declared.step.Part.{Part}
-use Rattle.steps8080.specs.declared.step.Step.{Step}
+use Rattle.exprgen8080.proofs.Prelude.{◌≡◌, ℕ, suc, ◌+◌, Bool, List, [], ◌++◌, Option, Some, option_and_then, option_map, sym, ap, subst, ◌∙◌, arith, Item, Facts, Part, Step, label_after, Site, Emission, AreWritten, IsWritten, NoneWritten, PlainWritten, WordWritten, JumpWritten, MarkWritten, RoutineWritten, CallWritten, TestWritten, HoldsWritten, ChangeWritten, PartWritten, Planned, knowing, Emits, after_step, step_items, task_labels, task_steps, AreLabelled, IsLabelled}
 use Rattle.steps8080.specs.declared.step.Step.TheVariants as steps
-use Rattle.steps8080.specs.Step.{label_after}
-use Rattle.steps8080.specs.declared.sites.site.Site.{Site}
-use Rattle.exprgen8080.specs.declared.emission.Emission.{Emission}
 use Rattle.exprgen8080.specs.Code.{AddsCodeOfPart, Code, IsCodeOfPart, IsCodeOfSteps, IsFoundDeep, code_of_part, code_of_steps, in_front}
-use Rattle.exprgen8080.specs.Emission.{AreWritten, IsWritten, NoneWritten, PlainWritten, WordWritten, JumpWritten, MarkWritten, RoutineWritten, CallWritten, TestWritten, HoldsWritten, ChangeWritten, PartWritten, Planned, knowing}
-use Rattle.exprgen8080.specs.Emitted.{Emits, after_step, step_items}
-use Rattle.exprgen8080.specs.Forms.{task_labels, task_steps}
-use Rattle.exprgen8080.specs.Labelled.{AreLabelled, IsLabelled}
 
 -- What is found by a function of what is found, and by one that looks one deeper.
 pub found_then : {A B : Type 0} (first_at : (depth : ℕ) → Option A) (then_at : (depth : ℕ) → A → Option B)

@@ -1,25 +1,8 @@
 -- The code of steps as it is written step by step.
-use Rattle.std.proofs.Common.{◌≡◌, ◌==◌, ◌||◌, ◌⊎◌, inl, inr, ℕ, ◌+◌, ◌≤◌, ◌<◌, zero, suc, Bool, true, false, set, slice_index_or, List, [], ◌∷◌, ◌++◌, length, Some, None, slice_get, drop, take, refl, sym, ap, subst, ◌∙◌, arith, append_assoc, append-nil}
-use Rattle.std.proofs.lemmas.List.Folds.{list_any-append}
-use Rattle.std.proofs.lemmas.List.{drop_at, drop_all, drop_more, take_at}
-use Rattle.std.proofs.lemmas.Option.{get_or_from_slice_get, slice_get_within}
-use Rattle.asm8080.specs.declared.item.Item.{Item}
-use Rattle.asm8080.specs.declared.item.WordForm.TheVariants.{CallTo}
+use Rattle.exprgen8080.proofs.Prelude.{◌≡◌, ◌==◌, ◌||◌, ◌⊎◌, inl, inr, ℕ, ◌+◌, ◌≤◌, ◌<◌, zero, suc, Bool, true, false, set, slice_index_or, List, [], ◌∷◌, ◌++◌, length, Some, None, slice_get, drop, take, refl, sym, ap, subst, ◌∙◌, arith, append_assoc, append-nil, list_any-append, drop_at, drop_all, drop_more, take_at, get_or_from_slice_get, slice_get_within, Item, CallTo, TreeModule, Facts, Part, Step, AddsWithLabels, label_after, Writes, jump_item, Site, Emission, AreWritten, IsWritten, NoneWritten, PlainWritten, WordWritten, JumpWritten, MarkWritten, RoutineWritten, CallWritten, TestWritten, HoldsWritten, ChangeWritten, PartWritten, Planned, call_items, call_routine, calls_label, has_routine, module_label_of_routine, module_routine_label, index_of_routine, knowing, test_items, AddsItems, Emits, EmitsSteps, HasAll, IsAlone, NotesCalled, NotesOnly, after_step, step_items, task_labels, task_steps, AreLabelled, IsLabelled}
 use Rattle.runtime8080.specs.declared.routine.Routine.{Routine}
-use Rattle.treecode.specs.declared.module.TreeModule.{TreeModule}
-use Rattle.steps8080.specs.declared.facts.Facts.{Facts}
-use Rattle.steps8080.specs.declared.step.Part.{Part}
-use Rattle.steps8080.specs.declared.step.Step.{Step}
 use Rattle.steps8080.specs.declared.step.Step.TheVariants as steps
-use Rattle.steps8080.specs.Step.{AddsWithLabels, label_after}
-use Rattle.steps8080.specs.Writer.{Writes, jump_item}
 use Rattle.steps8080.proofs.Numbered.{either_true, is_itself, writes_nothing, writes_then}
-use Rattle.steps8080.specs.declared.sites.site.Site.{Site}
-use Rattle.exprgen8080.specs.declared.emission.Emission.{Emission}
-use Rattle.exprgen8080.specs.Emission.{AreWritten, IsWritten, NoneWritten, PlainWritten, WordWritten, JumpWritten, MarkWritten, RoutineWritten, CallWritten, TestWritten, HoldsWritten, ChangeWritten, PartWritten, Planned, call_items, call_routine, calls_label, has_routine, module_label_of_routine, module_routine_label, index_of_routine, knowing, test_items}
-use Rattle.exprgen8080.specs.Emitted.{AddsItems, Emits, EmitsSteps, HasAll, IsAlone, NotesCalled, NotesOnly, after_step, step_items}
-use Rattle.exprgen8080.specs.Forms.{task_labels, task_steps}
-use Rattle.exprgen8080.specs.Labelled.{AreLabelled, IsLabelled}
 
 -- a table has all that it has
 pub has_itself : (called : List Bool) → HasAll called called

@@ -1,3 +1,4 @@
+mod Prelude
 pub mod Arguments
 pub mod Parts
 pub mod Emitting

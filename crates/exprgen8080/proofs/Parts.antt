@@ -1,8 +1,5 @@
 -- Planners that take no label, as such that may take some.
-use Rattle.std.proofs.Common.{List, ap}
-use Rattle.steps8080.specs.declared.step.Step.{Step}
-use Rattle.steps8080.specs.declared.step.Steps.{Steps}
-use Rattle.steps8080.specs.Step.{Adds, AddsWithLabels, label_after}
+use Rattle.exprgen8080.proofs.Prelude.{List, ap, Step, Steps, Adds, AddsWithLabels, label_after}
 
 pub none_taken : (before after : Steps) (list : List Step)
     → Adds before after list

@@ -1,17 +1,6 @@
 -- The bytes of the variables in a frame, counted object by object.
-use Rattle.std.proofs.Common.{◌≡◌, ℕ, zero, suc, ◌+◌, ◌*◌, ◌%◌, ◌≤◌, min, Bool, true, false, not, ◌&&◌, cond, if◌then◌else◌, List, [], ◌∷◌, map, slice_get, sum_by, Option, Some, None, refl, ap, sym, ◌∙◌, subst, le_trans, arith}
-use Rattle.std.specs.Prelude.{Any, option_map}
-use Rattle.std.proofs.lemmas.Bool.{true≢false}
-use Rattle.std.proofs.lemmas.List.Sums.{sum_by-cons}
-use Rattle.std.proofs.lemmas.Option.{none-some, same_Some, slice_get-get_or}
-use Rattle.trees.specs.declared.declaration.ScalarType.{ScalarType}
-use Rattle.trees.specs.declared.declaration.ScalarType.TheVariants.{Byte, Address}
-use Rattle.typed_trees.specs.TypedTrees.{Home, InData, InConstants, Placed, BasedOn, Elsewhere, Nowhere, InFrame, ObjectType, TypedObject, TypedProcedure, TypedModule}
-use Rattle.typed_trees.specs.Sizes.{size_of_scalar, count_of, size_of_element, size_of_object}
-use Rattle.typed_trees.specs.ObjectParts.{IsScalar}
-use Rattle.typed_trees.specs.Frames.{is_in_frame, variable_bytes, home_of_parameters, FrameFits, HasParameters, ParametersFit, FramesFit}
-use Rattle.treecode.specs.Homes.{lives_in_frame, frame_variable, parameter_number}
-use Rattle.frames.specs.Frames.{bytes_by_parameter, variable_bytes as bytes_of_frame}
+use Rattle.frames.proofs.Prelude.{◌≡◌, ℕ, zero, suc, ◌+◌, ◌*◌, ◌%◌, ◌≤◌, min, Bool, true, false, not, ◌&&◌, cond, if◌then◌else◌, List, [], ◌∷◌, map, slice_get, sum_by, Option, Some, None, refl, ap, sym, ◌∙◌, subst, le_trans, arith, Any, option_map, true≢false, sum_by-cons, none-some, same_Some, slice_get-get_or, ScalarType, Byte, Address, Home, InData, InConstants, Placed, BasedOn, Elsewhere, Nowhere, InFrame, ObjectType, TypedObject, TypedProcedure, TypedModule, size_of_scalar, count_of, size_of_element, size_of_object, IsScalar, is_in_frame, home_of_parameters, FrameFits, HasParameters, ParametersFit, FramesFit, lives_in_frame, frame_variable, parameter_number, bytes_by_parameter, bytes_of_frame}
+use Rattle.typed_trees.specs.Frames.{variable_bytes}
 use Rattle.frames.proofs.Entries.{in_frame, home_is, lives_there, entries}
 use Rattle.frames.proofs.Parameters.{has_parameters, frame_fits, none_found, typed_at, IsTyped, of_found, framed}
 

@@ -1,16 +1,5 @@
 -- One pass over a frame finds the distances of its plan.
-use Rattle.std.proofs.Common.{◌≡◌, ℕ, zero, suc, ◌+◌, ◌-◌, ◌*◌, ◌<◌, ◌≤◌, List, [], ◌∷◌, length, drop, take, Option, Some, None, refl, ap, sym, ◌∙◌, subst, arith, unwrap_or}
-use Rattle.std.specs.Prelude.{slice_get, slice_index_or}
-use Rattle.std.proofs.Math.ListN.{drop_of_length-le}
-use Rattle.std.proofs.lemmas.Option.{none-some, slice_get_within}
-use Rattle.trees.specs.declared.declaration.ScalarType.{ScalarType}
-use Rattle.typed_trees.specs.Sizes.{size_of_scalar}
-use Rattle.treecode.specs.declared.procedure.FrameVariable.{FrameVariable}
-use Rattle.treecode.specs.declared.procedure.Parameter.{Parameter}
-use Rattle.treecode.specs.declared.procedure.TreeProcedure.{TreeProcedure}
-use Rattle.frames.specs.declared.frame_plan.FramePlan.{FramePlan}
-use Rattle.frames.specs.Frames.{bytes_by_parameter, variable_bytes, distance_by_parameter, bytes_of_call, HasSize, parameter_distance, HasFrame, IsPlanOf}
-use Rattle.frames.specs.internal.Distances.{capped, capped_parameter, capped_distance, next_after, distances_from, IsFound}
+use Rattle.frames.proofs.Prelude.{◌≡◌, ℕ, zero, suc, ◌+◌, ◌-◌, ◌*◌, ◌<◌, ◌≤◌, List, [], ◌∷◌, length, drop, take, Option, Some, None, refl, ap, sym, ◌∙◌, subst, arith, unwrap_or, slice_get, slice_index_or, drop_of_length-le, none-some, slice_get_within, ScalarType, size_of_scalar, FrameVariable, Parameter, TreeProcedure, FramePlan, bytes_by_parameter, variable_bytes, distance_by_parameter, bytes_of_call, HasSize, parameter_distance, HasFrame, IsPlanOf, capped, capped_parameter, capped_distance, next_after, distances_from, IsFound}
 use Rattle.frames.proofs.Words.{parameter_is}
 
 -- after a pass over a frame its variables are counted

@@ -1,25 +1,7 @@
 -- A procedure of tree code has the frame of the typed procedure, and is charged as that.
-use Rattle.std.proofs.Common.{◌≡◌, ℕ, ◌+◌, ◌*◌, ◌%◌, ◌<◌, ◌≤◌, min, List, length, zip, slice_get, Option, Some, None, refl, ap, sym, ◌∙◌, subst, mod-eq_of_lt, arith}
-use Rattle.std.specs.Prelude.{option_map}
-use Rattle.std.proofs.lemmas.List.{length-map}
-use Rattle.std.proofs.lemmas.Option.{none-some, same_Some, slice_get-map, slice_get_within}
+use Rattle.frames.proofs.Prelude.{◌≡◌, ℕ, ◌+◌, ◌*◌, ◌%◌, ◌<◌, ◌≤◌, min, List, length, zip, slice_get, Option, Some, None, refl, ap, sym, ◌∙◌, subst, mod-eq_of_lt, arith, option_map, length-map, none-some, same_Some, slice_get-map, slice_get_within, ScalarType, Byte, Address, charge_of, height_of_list, InFrame, TypedObject, TypedProcedure, TypedModule, size_of_scalar, size_of_object, home_of_parameters, FramesFit, HasParameters, ParametersFit, Storage, FrameVariable, Parameter, TreeProcedure, frame_position, frame_variable, frame_variables, parameter_at, parameter_number, parameters_of, HasBody, IsProcedure, Nodes, charge_in, IsChargedAs, variable_bytes, HasSize, HasFrame}
 use Rattle.mem80.specs.declared.memory.TheConstants.{MEMORY_SIZE}
-use Rattle.trees.specs.declared.declaration.ScalarType.{ScalarType}
-use Rattle.trees.specs.declared.declaration.ScalarType.TheVariants.{Byte, Address}
-use Rattle.typed_trees.specs.Charge.{charge_of, height_of_list}
-use Rattle.typed_trees.specs.TypedTrees.{InFrame, TypedObject, TypedProcedure, TypedModule}
-use Rattle.typed_trees.specs.Sizes.{size_of_scalar, size_of_object}
-use Rattle.typed_trees.specs.Frames.{home_of_parameters, FramesFit, HasParameters, ParametersFit}
-use Rattle.layout.specs.Storage.{Storage}
 use Rattle.treecode.specs.declared.place.Home.{Home}
-use Rattle.treecode.specs.declared.procedure.FrameVariable.{FrameVariable}
-use Rattle.treecode.specs.declared.procedure.Parameter.{Parameter}
-use Rattle.treecode.specs.declared.procedure.TreeProcedure.{TreeProcedure}
-use Rattle.treecode.specs.Homes.{frame_position, frame_variable, frame_variables, parameter_at, parameter_number, parameters_of}
-use Rattle.treecode.specs.Lowered.{HasBody, IsProcedure}
-use Rattle.treecode.specs.Nodes.{Nodes}
-use Rattle.frames.specs.Charges.{charge_in, IsChargedAs}
-use Rattle.frames.specs.Frames.{variable_bytes, HasSize, HasFrame}
 use Rattle.frames.proofs.Entries.{entries, entry_at, IsEntry}
 use Rattle.frames.proofs.Parameters.{as_many, has_parameters, frame_fits, IsFramed, framed}
 use Rattle.frames.proofs.Bytes.{scalar_size, bytes_are}

@@ -1,15 +1,7 @@
 -- An object in the frame of a procedure begins where its number there says, and one in the data segment where its
 -- storage says.
-use Rattle.std.proofs.Common.{◌≡◌, ℕ, zero, suc, ◌+◌, ◌<◌, List, [], ◌∷◌, ◌++◌, length, slice_get, slice_index_or, get_or, None, Some, refl, ap, sym, ◌∙◌, arith}
-use Rattle.std.proofs.lemmas.List.{get_or_append_left, get_or_push, length_push}
-use Rattle.std.proofs.lemmas.Option.{none-some, same_Some}
-use Rattle.typed_trees.specs.TypedTrees.{Home as TypedHome, InData, InFrame, TypedObject, TypedModule}
-use Rattle.layout.specs.Storage.{Storage}
+use Rattle.frames.proofs.Prelude.{◌≡◌, ℕ, zero, suc, ◌+◌, ◌<◌, List, [], ◌∷◌, ◌++◌, length, slice_get, slice_index_or, get_or, None, Some, refl, ap, sym, ◌∙◌, arith, get_or_append_left, get_or_push, length_push, none-some, same_Some, TypedHome, InData, InFrame, TypedObject, TypedModule, Storage, Static, Frame, Number, frame_number, home_of_object, homes_from, homes_of, place_of_slot, home_at}
 use Rattle.treecode.specs.declared.place.Home.{Home}
-use Rattle.treecode.specs.declared.place.Home.TheVariants.{Static, Frame}
-use Rattle.treecode.specs.declared.place.Place.TheVariants.{Number}
-use Rattle.treecode.specs.Homes.{frame_number, home_of_object, homes_from, homes_of, place_of_slot}
-use Rattle.treecode.specs.Nodes.{home_at}
 
 -- where the object after those before begins
 abbrev next_home : TypedModule → Storage → (before : List Home) → TypedObject → Home

@@ -1,3 +1,4 @@
+mod Prelude
 pub mod Words
 pub mod Distances
 pub mod Places

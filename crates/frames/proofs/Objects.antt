@@ -1,25 +1,7 @@
 -- What a procedure of tree code takes of the stack, and where its objects lie there, in the words of the typed
 -- module that it is lowered from.
-use Rattle.std.proofs.Common.{◌≡◌, ℕ, ◌+◌, ◌<◌, ◌≤◌, Bool, min, if◌then◌else◌, List, length, slice_get, Option, Some, None, IsSomeAnd, refl, ap, sym, ◌∙◌, subst, arith}
-use Rattle.std.specs.Prelude.{option_map}
-use Rattle.std.specs.Option.{option_map_or}
-use Rattle.std.proofs.lemmas.Bool.{lt-ltb}
-use Rattle.std.proofs.lemmas.Option.{same_Some, slice_get-map, slice_get_within}
-use Rattle.typed_trees.specs.TypedTrees.{InFrame, TypedObject, TypedProcedure, TypedModule}
-use Rattle.typed_trees.specs.Sizes.{size_of_object}
-use Rattle.typed_trees.specs.Frames.{FramesFit, ParametersFit}
-use Rattle.layout.specs.Storage.{Storage}
-use Rattle.treecode.specs.declared.module.TreeModule.{TreeModule}
-use Rattle.treecode.specs.declared.procedure.FrameVariable.{FrameVariable}
-use Rattle.treecode.specs.declared.procedure.TreeProcedure.{TreeProcedure}
-use Rattle.treecode.specs.Homes.{frame_number, frame_position, frame_variable, frame_variables}
-use Rattle.treecode.specs.Lowered.{IsProcedure, IsLowered}
-use Rattle.treecode.specs.Nodes.{Nodes, nodes_of}
-use Rattle.frames.specs.declared.frame_plan.FramePlan.{FramePlan}
-use Rattle.frames.specs.Charges.{IsChargedAs}
-use Rattle.frames.specs.Frames.{bytes_of_call, distance_of, return_of, size_in, IsPlanOf, LiesApart}
+use Rattle.frames.proofs.Prelude.{◌≡◌, ℕ, ◌+◌, ◌<◌, ◌≤◌, Bool, min, if◌then◌else◌, List, length, slice_get, Option, Some, None, IsSomeAnd, refl, ap, sym, ◌∙◌, subst, arith, option_map, option_map_or, lt-ltb, same_Some, slice_get-map, slice_get_within, InFrame, TypedObject, TypedProcedure, TypedModule, size_of_object, FramesFit, ParametersFit, Storage, TreeModule, FrameVariable, TreeProcedure, frame_number, frame_position, frame_variable, frame_variables, IsProcedure, IsLowered, Nodes, nodes_of, FramePlan, IsChargedAs, bytes_of_call, distance_of, return_of, size_in, IsPlanOf, LiesApart, TakeBytes}
 use Rattle.frames.proofs.Places.{apart}
-use Rattle.layout.specs.Sound.{TakeBytes}
 use Rattle.frames.specs.Calls.{call_bytes}
 use Rattle.frames.specs.internal.Objects.{HasByte, place_of_byte, ObjectsLie, IsFramedAs}
 use Rattle.frames.proofs.Entries.{entries, stands_at}

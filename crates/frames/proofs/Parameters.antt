@@ -1,18 +1,6 @@
 -- Which objects of a module are parameters, and of which procedure.
-use Rattle.std.proofs.Common.{◌≡◌, ℕ, zero, suc, ◌+◌, ◌<◌, ◌==◌, Bool, true, false, if◌then◌else◌, List, [], ◌∷◌, length, zip, slice_get, get_or, Option, Some, None, IsSomeAnd, refl, ap, sym, ◌∙◌, subst, arith}
-use Rattle.std.specs.Prelude.{All}
-use Rattle.std.specs.List.{enumerate_from}
-use Rattle.std.proofs.lemmas.Bool.{eqb-true, eq-eqb}
-use Rattle.std.proofs.lemmas.List.Elements.{All-get_or}
-use Rattle.std.proofs.lemmas.List.FromFn.{length-enumerate_from, get_or-enumerate_from}
-use Rattle.std.proofs.lemmas.Option.{none-some, same_Some, slice_get_within, get_or_from_slice_get}
-use Rattle.trees.specs.declared.declaration.ScalarType.{ScalarType}
-use Rattle.typed_trees.specs.declared.parts.Visibility.{Visibility}
+use Rattle.frames.proofs.Prelude.{◌≡◌, ℕ, zero, suc, ◌+◌, ◌<◌, ◌==◌, Bool, true, false, if◌then◌else◌, List, [], ◌∷◌, length, zip, slice_get, get_or, Option, Some, None, IsSomeAnd, refl, ap, sym, ◌∙◌, subst, arith, All, enumerate_from, eqb-true, eq-eqb, All-get_or, length-enumerate_from, get_or-enumerate_from, none-some, same_Some, slice_get_within, get_or_from_slice_get, ScalarType, Visibility, Home, InData, InConstants, Placed, BasedOn, Elsewhere, Nowhere, InFrame, TypedObject, TypedProcedure, TypedModule, IsScalar, home_of_parameters, IsParameter, AreParameters, FrameFits, FramesFit, HasParameters, ParametersFit, latest, parameter_from, parameter_number}
 use Rattle.typed_trees.specs.declared.parts.Visibility.TheVariants as visibilities
-use Rattle.typed_trees.specs.TypedTrees.{Home, InData, InConstants, Placed, BasedOn, Elsewhere, Nowhere, InFrame, TypedObject, TypedProcedure, TypedModule}
-use Rattle.typed_trees.specs.ObjectParts.{IsScalar}
-use Rattle.typed_trees.specs.Frames.{home_of_parameters, IsParameter, AreParameters, FrameFits, FramesFit, HasParameters, ParametersFit}
-use Rattle.treecode.specs.Homes.{latest, parameter_from, parameter_number}
 
 -- what holds of each item with its number holds of one
 pub numbered_at :

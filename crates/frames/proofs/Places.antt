@@ -1,13 +1,5 @@
 -- The bytes of a frame lie apart from each other and from the return address.
-use Rattle.std.proofs.Common.{◌≡◌, ◌⊎◌, inl, inr, ℕ, zero, suc, ◌+◌, ◌-◌, ◌<◌, ◌≤◌, List, [], ◌∷◌, length, take, Option, Some, None, refl, ap, sym, ◌∙◌, subst, arith, unwrap_or}
-use Rattle.std.specs.Prelude.{slice_get}
-use Rattle.std.specs.Option.{option_map_or}
-use Rattle.std.proofs.lemmas.Option.{none-some, slice_get_within}
-use Rattle.treecode.specs.declared.procedure.FrameVariable.{FrameVariable}
-use Rattle.treecode.specs.declared.procedure.Parameter.{Parameter}
-use Rattle.treecode.specs.declared.procedure.TreeProcedure.{TreeProcedure}
-use Rattle.frames.specs.declared.frame_plan.FramePlan.{FramePlan}
-use Rattle.frames.specs.Frames.{bytes_by_parameter, variable_bytes, return_distance, word_distance, parameter_distance, distance_by_parameter, bytes_of_call, HasSize, HasFrame, distance_of, IsPlanOf, size_in, LiesApart}
+use Rattle.frames.proofs.Prelude.{◌≡◌, ◌⊎◌, inl, inr, ℕ, zero, suc, ◌+◌, ◌-◌, ◌<◌, ◌≤◌, List, [], ◌∷◌, length, take, Option, Some, None, refl, ap, sym, ◌∙◌, subst, arith, unwrap_or, slice_get, option_map_or, none-some, slice_get_within, FrameVariable, Parameter, TreeProcedure, FramePlan, bytes_by_parameter, variable_bytes, return_distance, word_distance, parameter_distance, distance_by_parameter, bytes_of_call, HasSize, HasFrame, distance_of, IsPlanOf, size_in, LiesApart}
 use Rattle.frames.proofs.Words.{words_apart, word_after, word_within, word_off_return, return_after, return_within, in_word}
 
 -- the variables before one, and that one, are among all

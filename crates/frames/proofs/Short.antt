@@ -1,14 +1,6 @@
 -- A frame holds so few objects that their numbers there fit 16 bits.
-use Rattle.std.proofs.Common.{◌≡◌, ℕ, zero, suc, ◌+◌, ◌<◌, ◌≤◌, ◌==◌, Bool, true, false, not, ◌||◌, cond, if◌then◌else◌, List, [], ◌∷◌, length, slice_get, sum_by, Some, refl, ap, ◌∙◌, subst, arith}
-use Rattle.std.proofs.lemmas.Bool.{eqb-true, eq-eqb, ne_eqb}
-use Rattle.std.proofs.lemmas.List.Elements.{All-get_or}
-use Rattle.std.proofs.lemmas.List.Sums.{sum_by-cons}
-use Rattle.std.proofs.lemmas.Option.{none-some, same_Some, slice_get_within, get_or_from_slice_get}
-use Rattle.typed_trees.specs.TypedTrees.{InFrame, TypedObject, TypedProcedure, TypedModule}
-use Rattle.typed_trees.specs.Sizes.{size_of_object}
-use Rattle.typed_trees.specs.Frames.{variable_bytes, FrameFits, HasParameters}
-use Rattle.treecode.specs.Homes.{frame_position}
-use Rattle.layout.specs.Sound.{TakeBytes}
+use Rattle.frames.proofs.Prelude.{◌≡◌, ℕ, zero, suc, ◌+◌, ◌<◌, ◌≤◌, ◌==◌, Bool, true, false, not, ◌||◌, cond, if◌then◌else◌, List, [], ◌∷◌, length, slice_get, sum_by, Some, refl, ap, ◌∙◌, subst, arith, eqb-true, eq-eqb, ne_eqb, All-get_or, sum_by-cons, none-some, same_Some, slice_get_within, get_or_from_slice_get, InFrame, TypedObject, TypedProcedure, TypedModule, size_of_object, FrameFits, HasParameters, frame_position, TakeBytes}
+use Rattle.typed_trees.specs.Frames.{variable_bytes}
 use Rattle.frames.proofs.Entries.{in_frame, home_is, lives_there, entries, position_of, stands_at}
 use Rattle.frames.proofs.Bytes.{bytes_there, IsListed, listed}
 

@@ -1,10 +1,5 @@
 -- The words of parameters on the stack: where they lie, and that they lie apart.
-use Rattle.std.proofs.Common.{◌≡◌, ◌⊎◌, inl, inr, ℕ, zero, suc, ◌+◌, ◌*◌, ◌<◌, ◌≤◌, refl, arith}
-use Rattle.trees.specs.declared.declaration.ScalarType.{ScalarType}
-use Rattle.trees.specs.declared.declaration.ScalarType.TheVariants.{Byte, Address}
-use Rattle.typed_trees.specs.Sizes.{size_of_scalar}
-use Rattle.frames.specs.Frames.{return_distance, word_distance, parameter_distance}
-use Rattle.frames.specs.internal.Distances.{capped_parameter}
+use Rattle.frames.proofs.Prelude.{◌≡◌, ◌⊎◌, inl, inr, ℕ, zero, suc, ◌+◌, ◌*◌, ◌<◌, ◌≤◌, refl, arith, ScalarType, Byte, Address, size_of_scalar, return_distance, word_distance, parameter_distance, capped_parameter}
 
 -- a byte that is in two words is in one
 pub words_apart :

@@ -1,23 +1,8 @@
 -- Object modules and refusals by the code bound.
-use Rattle.std.proofs.Common.{Result, Ok, Err, subst}
-use Rattle.failure.specs.declared.Failure.{Failure}
+use Rattle.generation.proofs.Prelude.{Result, Ok, Err, subst, ObjectModule, TypedModule, TreeModule, IsLowered, stored, Fault, TooLong, IsGenerated, MayRefuse, IsSound, code_is_within_its_bound, segment_is_within_its_bound, too_long_is_past_its_bound, IsPastBound, IsWithinBound, MakesNone}
+use Rattle.failure.specs.{declared.Failure.{Failure}, Failure.{IfFault}}
 use Rattle.failure.specs.declared.Failure.TheVariants as failures
-use Rattle.failure.specs.Failure.{IfFault}
-use Rattle.object_modules.specs.Module.{ObjectModule}
-use Rattle.typed_trees.specs.TypedTrees.{TypedModule}
-use Rattle.layout.specs.Storage.{Storage, storage_with}
-use Rattle.layout.specs.Sound.{IsSoundlyTyped}
-use Rattle.treecode.specs.declared.module.TreeModule.{TreeModule}
-use Rattle.treecode.specs.Lowered.{IsLowered}
-use Rattle.treecode_laws.proofs.Slots.{stored}
-use Rattle.codegen8080.specs.declared.fault.Fault.{Fault}
-use Rattle.codegen8080.specs.declared.fault.Fault.TheVariants.{TooLong}
-use Rattle.codegen8080.specs.Modules.{IsGenerated}
-use Rattle.codegen8080.specs.Refusals.{MayRefuse}
-use Rattle.measure_laws.specs.Sound.{IsSound}
-use Rattle.measure_laws.proofs.Bounds.Bounds.{code_is_within_its_bound, segment_is_within_its_bound, too_long_is_past_its_bound}
-use Rattle.generation.specs.Bounded.{IsPastBound, IsWithinBound}
-use Rattle.generation.specs.Modules.{MakesNone}
+use Rattle.layout.specs.{Storage.{Storage, storage_with}, Sound.{IsSoundlyTyped}}
 
 -- what the size of code depends on
 pub sound_for_bounds : (typed : TypedModule) → IsSoundlyTyped typed → IsSound typed

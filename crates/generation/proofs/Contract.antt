@@ -1,20 +1,6 @@
 -- What is true of the object module of each module that tree code is.
-use Rattle.object_modules.specs.Module.{IsObjectModule, ObjectModule}
-use Rattle.treecode.specs.declared.module.TreeModule.{TreeModule}
-use Rattle.treecode.specs.Nodes.{NumbersAreWords, nodes_of}
-use Rattle.treecode.specs.HomeWords.{HomesAreWords}
-use Rattle.codegen8080.specs.Modules.{IsGenerated}
-use Rattle.treecode_laws.proofs.Slots.{stored}
-use Rattle.image_laws.specs.Objects.{IsObjectOf}
-use Rattle.image_laws.specs.Segments.{HasSegments}
-use Rattle.image_laws.specs.Names.{HasNames}
-use Rattle.program_laws.proofs.Names.{has_names}
-use Rattle.program_laws.proofs.Objects.{is_object_of}
-use Rattle.program_laws.proofs.Segments.{has_segments}
-use Rattle.program_laws.specs.OneModule.{DoesWhereItLies}
-use Rattle.program_laws.specs.Typed.{IsSoundlyMade}
-use Rattle.program_laws.proofs.OneModule.{generated_does}
-use Rattle.generation.specs.Modules.{OfItsModule}
+use Rattle.generation.proofs.Prelude.{IsObjectModule, ObjectModule, TreeModule, NumbersAreWords, nodes_of, HomesAreWords, IsGenerated, stored, has_names, is_object_of, has_segments, DoesWhereItLies, IsSoundlyMade, generated_does, OfItsModule}
+use Rattle.image_laws.specs.{Objects.{IsObjectOf}, Segments.{HasSegments}, Names.{HasNames}}
 
 module _
     (tree : TreeModule) (object : ObjectModule)

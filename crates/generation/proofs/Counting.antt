@@ -1,20 +1,8 @@
 -- What is counted of the object module of a module: the bytes of its code segment, and those that its code pushes.
-use Rattle.std.proofs.Common.{◌≡◌, ℕ, suc, ◌+◌, ◌≤◌, Bool, true, false, List, [], ◌∷◌, length, Some, slice_get, refl, sym, subst, arith}
-use Rattle.object_modules.specs.declared.segment.Segment.TheVariants.{Code}
-use Rattle.object_modules.specs.Module.{ObjectModule, length_of}
-use Rattle.typed_trees.specs.TypedTrees.{TypedModule, TypedProcedure}
+use Rattle.generation.proofs.Prelude.{◌≡◌, ℕ, suc, ◌+◌, ◌≤◌, Bool, true, false, List, [], ◌∷◌, length, Some, slice_get, refl, sym, subst, arith, Code, ObjectModule, length_of, TypedModule, TypedProcedure, TreeModule, ProcedureKind, TreeProcedure, AreCodeOf, IsCodeOf, IsCodeOfMain, IsGenerated, has_main, bound_is, segment_is_within_its_bound, PushesWithinCharges, pushes_within_charges, IsCounted, OfItsModule}
 use Rattle.asm8080.specs.declared.item.Item.{Item}
-use Rattle.treecode.specs.declared.module.TreeModule.{TreeModule}
-use Rattle.treecode.specs.declared.procedure.ProcedureKind.{ProcedureKind}
 use Rattle.treecode.specs.declared.procedure.ProcedureKind.TheVariants as kinds
-use Rattle.treecode.specs.declared.procedure.TreeProcedure.{TreeProcedure}
-use Rattle.codegen8080.specs.Modules.{AreCodeOf, IsCodeOf, IsCodeOfMain, IsGenerated, has_main}
-use Rattle.measure_laws.proofs.Trees.Bounds.{bound_is}
-use Rattle.measure_laws.proofs.Bounds.Bounds.{segment_is_within_its_bound}
-use Rattle.measure_laws.specs.internal.Charges.{PushesWithinCharges}
-use Rattle.measure_laws.proofs.Heights.Modules.{pushes_within_charges}
 use Rattle.generation.specs.Items.{BodiesPushWithinCharges, HasItems, MainPushes, ProcedurePushes, ProceduresPush}
-use Rattle.generation.specs.Modules.{IsCounted, OfItsModule}
 use Rattle.generation.proofs.Bounding.{sound_for_bounds}
 
 -- procedures and headings stand in the tables of a module from a number on

@@ -1,12 +1,8 @@
 -- Code that is added for one expression or location does what that means.
-use Rattle.std.proofs.Common.{◌≡◌, ℕ, IfOk, Result, Ok, Err, sym, subst}
+use Rattle.generation.proofs.Prelude.{◌≡◌, ℕ, IfOk, Result, Ok, Err, sym, subst}
 use Rattle.code_meaning.specs.Activations.{IsThere}
-use Rattle.steps8080.specs.declared.step.Part.{Part}
-use Rattle.steps8080.specs.declared.sites.site.Site.{Site}
-use Rattle.exprgen8080.specs.declared.emission.Emission.{Emission}
-use Rattle.exprgen8080.specs.Emission.{IsWritten}
-use Rattle.exprgen8080.specs.Emitted.{Emits, NotesCalled}
-use Rattle.exprgen8080.specs.Labelled.{IsLabelled}
+use Rattle.steps8080.specs.{declared.step.Part.{Part}, declared.sites.site.Site.{Site}}
+use Rattle.exprgen8080.specs.{declared.emission.Emission.{Emission}, Emission.{IsWritten}, Emitted.{Emits, NotesCalled}, Labelled.{IsLabelled}}
 use Rattle.exprgen8080.proofs.CodeLaws.{part_is_code}
 use Rattle.task_laws.proofs.CarriedOut.{emitted_does}
 use Rattle.generation.specs.Doing.{CodeDoes}

@@ -1,3 +1,4 @@
+mod Prelude
 pub mod Bounding
 pub mod Contract
 pub mod Counting

@@ -1,15 +1,6 @@
 -- Object modules that are soundly made of the modules of a program make the program.
-use Rattle.std.specs.Prelude.{List, [], ◌∷◌}
-use Rattle.object_modules.specs.Module.{ObjectModule}
-use Rattle.typed_trees.specs.TypedTrees.{TypedModule}
-use Rattle.measure_laws.proofs.Bounds.Bounds.{segment_is_within_its_bound}
-use Rattle.program_laws.proofs.Made.{are_storable, as_many_lengths, each_holds_constants, have_image, hold_constants, is_in_memory}
+use Rattle.generation.proofs.Prelude.{List, [], ◌∷◌, ObjectModule, TypedModule, segment_is_within_its_bound, are_storable, as_many_lengths, each_holds_constants, have_image, hold_constants, is_in_memory, NumbersFitInModule, AreSoundlyMade, IsSoundlyMade, are_made, made_program_does, generated_does, AreWithinBounds}
 use Rattle.image_laws.proofs.Memory.Starting.{starts_as_its_source}
-use Rattle.typed_trees.specs.Numbers.{NumbersFitInModule}
-use Rattle.program_laws.specs.Typed.{AreSoundlyMade, IsSoundlyMade}
-use Rattle.program_laws.proofs.MadePrograms.{are_made, made_program_does}
-use Rattle.program_laws.proofs.OneModule.{generated_does}
-use Rattle.generation.specs.Bounded.{AreWithinBounds}
 use Rattle.generation.specs.internal.Programs.{MakeTheProgram}
 use Rattle.generation.proofs.Bounding.{sound_for_bounds}
 

@@ -1,18 +1,8 @@
 -- The derivation of expressions and targets is the spelling of a tree that the grammar has.
-use Rattle.std.proofs.Common.{◌≡◌, ℕ, zero, suc, ◌+◌, ◌-◌, ◌≤◌, List, [], ◌∷◌, refl, sym, subst, arith}
+use Rattle.grammar.proofs.Prelude.{◌≡◌, ℕ, zero, suc, ◌+◌, ◌-◌, ◌≤◌, List, [], ◌∷◌, refl, sym, subst, arith, BinaryOperator, Or, Xor, And, Equal, Less, Greater, LessOrEqual, GreaterOrEqual, Unequal, Add, Subtract, Multiply, Divide, Modulo, UnaryOperator, Not, Negate, DerivesExpression, next_level, or_chain, and_chain, negation, comparison, sum_chain, term_chain, minus, number, string, reference, location, list, parenthesized, embedded_assignment, DerivesReference, whole, with_member, DerivesArguments, no_arguments, some_arguments, DerivesMoreArguments, last_argument, next_argument, DerivesTargets, last_target, next_target, expression_level, primary_level, level_of, IsNotEmpty, left_level, unary_level_of, operand_level_of, IsExpression, IsReference, IsMember, AreArguments, unary_symbol, expression_symbols, reference_symbols, arguments_symbols, more_arguments_symbols, Symbol, MarkSymbol, ExpressionTree, ConstantLeaf, NumberConstant, StringConstant, ReferenceLeaf, LocationLeaf, ListLeaf, ParenthesizedNode, AssignmentNode, UnaryNode, BinaryNode, ReferenceTree, ReferenceTo, NoMember, MemberOf, ArgumentTrees, NoArguments, MoreArguments}
 use Rattle.std.specs.List.{AllByRecursion}
 use Rattle.words.specs.declared.vocabulary.Mark.TheVariants.{Comma}
-use Rattle.trees.specs.declared.expression.BinaryOperator.{BinaryOperator}
-use Rattle.trees.specs.declared.expression.BinaryOperator.TheVariants.{Or, Xor, And, Equal, Less, Greater, LessOrEqual, GreaterOrEqual, Unequal, Add, Subtract, Multiply, Divide, Modulo}
-use Rattle.trees.specs.declared.expression.UnaryOperator.{UnaryOperator}
-use Rattle.trees.specs.declared.expression.UnaryOperator.TheVariants.{Not, Negate}
-use Rattle.grammar.specs.Derivation.{DerivesExpression, next_level, or_chain, and_chain, negation, comparison, sum_chain, term_chain, minus, number, string, reference, location, list, parenthesized, embedded_assignment, DerivesReference, whole, with_member, DerivesArguments, no_arguments, some_arguments, DerivesMoreArguments, last_argument, next_argument, DerivesTargets, last_target, next_target}
-use Rattle.grammar.specs.Forms.{expression_level, primary_level, level_of, IsNotEmpty}
-use Rattle.grammar.specs.internal.Forms.{left_level, unary_level_of, operand_level_of, IsExpression, IsReference, IsMember, AreArguments}
-use Rattle.grammar.specs.internal.Spelling.{unary_symbol, expression_symbols, reference_symbols, arguments_symbols, more_arguments_symbols}
 use Rattle.grammar.specs.Spelling.{binary_symbol, more_after_commas, between_commas}
-use Rattle.grammar.specs.Symbols.{Symbol, MarkSymbol}
-use Rattle.trees.specs.Trees.{ExpressionTree, ConstantLeaf, NumberConstant, StringConstant, ReferenceLeaf, LocationLeaf, ListLeaf, ParenthesizedNode, AssignmentNode, UnaryNode, BinaryNode, ReferenceTree, ReferenceTo, NoMember, MemberOf, ArgumentTrees, NoArguments, MoreArguments}
 
 -- what may stand at a level may stand at the level below
 IsExpression-lower : (level : ℕ) (tree : ExpressionTree)

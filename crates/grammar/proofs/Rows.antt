@@ -1,12 +1,5 @@
 -- Rows of the derivation.
-use Rattle.std.proofs.Common.{◌≡◌, List, [], ◌∷◌, refl, lit≤, arith}
-use Rattle.trees.specs.declared.identifier.Identifier.{Identifier}
-use Rattle.grammar.specs.Derivation.{DerivesExpression, Derives, whole_module, no_declaration, next_statement, no_statement, labelled, unlabelled, null, goto, if_then, if_then_else, next_level, reference, whole, no_arguments}
-use Rattle.grammar.specs.Forms.{expression_level}
-use Rattle.grammar.specs.internal.Forms.{IsExpression}
-use Rattle.grammar.specs.internal.Spelling.{expression_symbols}
-use Rattle.grammar.specs.Symbols.{Symbol, NameSymbol}
-use Rattle.trees.specs.Trees.{ReferenceLeaf, ReferenceTo, NoArguments, NoMember}
+use Rattle.grammar.proofs.Prelude.{◌≡◌, List, [], ◌∷◌, refl, lit≤, arith, Identifier, DerivesExpression, Derives, whole_module, no_declaration, next_statement, no_statement, labelled, unlabelled, null, goto, if_then, if_then_else, next_level, reference, whole, no_arguments, expression_level, IsExpression, expression_symbols, Symbol, NameSymbol, ReferenceLeaf, ReferenceTo, NoArguments, NoMember}
 use Rattle.grammar.specs.Rows.{at, nested_if_words, nested_if_tree, left_sum, right_sum}
 
 variable-derived : {name : Identifier} {rest : List Symbol}

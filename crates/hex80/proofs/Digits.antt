@@ -1,10 +1,5 @@
 -- Digits, bytes in two digits, and the bytes of a line.
-use Rattle.std.proofs.Common.{◌≡◌, ℕ, ◌+◌, ◌-◌, ◌*◌, ◌/◌, ◌%◌, ◌<◌, ◌≤◌, Bool, true, false, cond, ◌&&◌, nat_lt, nat_le, List, [], ◌∷◌, ◌++◌, flat_map, Option, Some, None, option_map, option_and_then, refl, ap, sym, subst, ◌∙◌, arith}
-use Rattle.std.specs.List.{AllByRecursion}
-use Rattle.std.proofs.lemmas.Bool.{leb-true, le-leb, lt-leb, ltb-true, ltb-false, lt-ltb, le-ltb}
-use Rattle.std.proofs.lemmas.Option.{none-some, same_Some, option_and_then_some}
-use Rattle.hex80.specs.Lines.{digit_of, digits_of}
-use Rattle.hex80.specs.Spelling.{digit_value, bytes_in}
+use Rattle.hex80.proofs.Prelude.{◌≡◌, ℕ, ◌+◌, ◌-◌, ◌*◌, ◌/◌, ◌%◌, ◌<◌, ◌≤◌, Bool, true, false, cond, ◌&&◌, nat_lt, nat_le, List, [], ◌∷◌, ◌++◌, flat_map, Option, Some, None, option_map, option_and_then, refl, ap, sym, subst, ◌∙◌, arith, AllByRecursion, leb-true, le-leb, lt-leb, ltb-true, ltb-false, lt-ltb, le-ltb, none-some, same_Some, option_and_then_some, digit_of, digits_of, digit_value, bytes_in}
 
 -- each number is a byte
 abbrev pub IsBytes : List ℕ → Type 0

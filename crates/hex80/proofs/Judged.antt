@@ -1,19 +1,5 @@
 -- What the judgement of a text gives: the pieces that it spells, or its first fault; and a text has one of these.
-use Rattle.std.proofs.Common.{◌≡◌, ℕ, ◌+◌, ◌%◌, Bool, true, false, cond, not, ◌==◌, ◌&&◌, nat_lt, nat_le, List, [], ◌∷◌, ◌++◌, length, map, sum, Option, Some, None, Result, Ok, Err, refl, ap, sym, subst, ◌∙◌}
-use Rattle.std.specs.List.{list_all, list_any}
-use Rattle.std.specs.Option.{option_map_or}
-use Rattle.std.specs.Str.{bytes_eq}
-use Rattle.std.specs.Str.Lines.{lines}
-use Rattle.std.proofs.lemmas.Bool.{eqb-true, ltb-true, lt-ltb, leb-true, le-leb, not-true, not-false}
-use Rattle.std.proofs.lemmas.List.{append_assoc, append-nil}
-use Rattle.std.proofs.lemmas.Slice.Eq.{bytes_eq-Decides}
-use Rattle.mem80.specs.declared.range.Piece.{Piece}
-use Rattle.mem80.specs.Pieces.{pieces_meet}
-use Rattle.hex80.specs.declared.fault.Fault.{Fault}
-use Rattle.hex80.specs.declared.fault.Fault.TheVariants.{BadLine, WrongSum, Overlap}
-use Rattle.hex80.specs.Lines.{data_line, end_line}
-use Rattle.hex80.specs.Spelling.{read_line, fault_of_data, fault_of_line, is_empty, fault_at, is_line_piece, are_line_pieces, Spells, HasFirstFault}
-use Rattle.hex80.specs.internal.Judgement.{judged_by, judged_after, judgement_of}
+use Rattle.hex80.proofs.Prelude.{◌≡◌, ℕ, ◌+◌, ◌%◌, Bool, true, false, cond, not, ◌==◌, ◌&&◌, nat_lt, nat_le, List, [], ◌∷◌, ◌++◌, length, map, sum, Option, Some, None, Result, Ok, Err, refl, ap, sym, subst, ◌∙◌, list_all, list_any, option_map_or, bytes_eq, lines, eqb-true, ltb-true, lt-ltb, leb-true, le-leb, not-true, not-false, append_assoc, append-nil, bytes_eq-Decides, Piece, pieces_meet, Fault, BadLine, WrongSum, Overlap, data_line, end_line, read_line, fault_of_data, fault_of_line, is_empty, fault_at, is_line_piece, are_line_pieces, Spells, HasFirstFault, judged_by, judged_after, judgement_of}
 use Rattle.hex80.proofs.Digits.{IsBytes, both}
 use Rattle.hex80.proofs.LineLaws.{IsLine, line_back}
 

@@ -1,3 +1,4 @@
+mod Prelude
 pub mod Digits
 pub mod LineLaws
 pub mod Judged

@@ -1,14 +1,5 @@
 -- A data line that is read is the line of its piece, and the line of a piece is read.
-use Rattle.std.proofs.Common.{◌≡◌, ℕ, zero, suc, ◌+◌, ◌*◌, ◌/◌, ◌%◌, ◌<◌, ◌≤◌, min, Bool, true, false, cond, ◌==◌, ◌&&◌, nat_le, List, [], ◌∷◌, ◌++◌, length, take, flat_map, sum, Some, None, option_map, option_and_then, refl, ap, sym, subst, ◌∙◌, arith}
-use Rattle.std.proofs.lemmas.Bool.{eqb-true, eq-eqb, leb-true, le-leb}
-use Rattle.std.proofs.lemmas.List.{length-append, length-take, take_at}
-use Rattle.std.proofs.lemmas.Option.{none-some, cond_some, option_and_then_some, some_pair_parts}
-use Rattle.mem80.specs.declared.range.Piece.{Piece}
-use Rattle.mem80.specs.Sums.{checksum_of}
-use Rattle.mem80.proofs.Sums.{checksum_is, checksum_below}
-use Rattle.hex80.specs.Lines.{digits_of, data_line_bytes, data_line}
-use Rattle.hex80.specs.Spelling.{bytes_in, bytes_of_line, has_form, piece_in, read_line}
-use Rattle.hex80.specs.internal.Writing.{all_bytes}
+use Rattle.hex80.proofs.Prelude.{◌≡◌, ℕ, zero, suc, ◌+◌, ◌*◌, ◌/◌, ◌%◌, ◌<◌, ◌≤◌, min, Bool, true, false, cond, ◌==◌, ◌&&◌, nat_le, List, [], ◌∷◌, ◌++◌, length, take, flat_map, sum, Some, None, option_map, option_and_then, refl, ap, sym, subst, ◌∙◌, arith, eqb-true, eq-eqb, leb-true, le-leb, length-append, length-take, take_at, none-some, cond_some, option_and_then_some, some_pair_parts, Piece, checksum_of, checksum_is, checksum_below, digits_of, data_line_bytes, data_line, bytes_in, bytes_of_line, has_form, piece_in, read_line, all_bytes}
 use Rattle.hex80.proofs.Digits.{IsBytes, both, option_map_some, bytes_back, bytes_again}
 
 -- a piece that a line can have

@@ -1,27 +1,6 @@
 -- What the parts of the reader do, and what follows for a text.
-use Rattle.std.proofs.Common.{◌≡◌, ℕ, zero, suc, ◌+◌, ◌-◌, ◌*◌, ◌%◌, ◌<◌, ◌≤◌, ◌≢◌, min, Bool, true, false, cond, not, ◌&&◌, ◌||◌, ◌==◌, nat_lt, nat_le, List, [], ◌∷◌, ◌++◌, length, get_or, set, take, drop, replicate, sum, Option, Some, None, Result, Ok, Err, option_map, option_and_then, refl, ap, sym, subst, ◌∙◌, arith}
-use Rattle.std.specs.Prelude.{All}
-use Rattle.std.specs.List.{list_any}
-use Rattle.std.specs.Option.{option_map_or}
-use Rattle.std.specs.Str.{bytes_eq}
-use Rattle.std.specs.Str.Lines.{lines, lines_of_parts, strip_carriage_return}
-use Rattle.std.specs.List.{slice_split, onto_first, flat_map}
-use Rattle.std.proofs.lemmas.Bool.{eqb-true, eq-eqb, leb-true, leb-false, le-leb, ltb-true, ltb-false}
-use Rattle.std.proofs.lemmas.List.{append_assoc, append-nil, drop_more, drop_all, take_more_set, length-append, length-take, length-drop, take-append-drop, get_or_append_left, get_or-append_right, get_or-replicate, get_or-take, get_or-drop, length-replicate, set_at, replicate-append-replicate, take_rest, drop-drop}
-use Rattle.std.proofs.lemmas.List.Elements.{All-from_get_or}
-use Rattle.std.proofs.lemmas.List.Splits.{slice_split_none}
-use Rattle.std.proofs.lemmas.Slice.Eq.{bytes_eq-Decides}
-use Rattle.std.proofs.lemmas.Option.{none-some}
-use Rattle.mem80.specs.declared.range.Piece.{Piece}
-use Rattle.mem80.specs.Pieces.{range_of, pieces_meet, has_address}
-use Rattle.mem80.proofs.Ranges.{meets_decides}
-use Rattle.hex80.specs.declared.fault.Fault.{Fault}
-use Rattle.hex80.specs.declared.fault.Fault.TheVariants.{BadLine, WrongSum, NoEnd, Overlap}
+use Rattle.hex80.proofs.Prelude.{◌≡◌, ℕ, zero, suc, ◌+◌, ◌-◌, ◌*◌, ◌%◌, ◌<◌, ◌≤◌, ◌≢◌, min, Bool, true, false, cond, not, ◌&&◌, ◌||◌, ◌==◌, nat_lt, nat_le, List, [], ◌∷◌, ◌++◌, length, get_or, set, take, drop, replicate, sum, Option, Some, None, Result, Ok, Err, option_map, option_and_then, refl, ap, sym, subst, ◌∙◌, arith, All, list_any, option_map_or, bytes_eq, lines, lines_of_parts, strip_carriage_return, slice_split, onto_first, flat_map, eqb-true, eq-eqb, leb-true, leb-false, le-leb, ltb-true, ltb-false, append_assoc, append-nil, drop_more, drop_all, take_more_set, length-append, length-take, length-drop, take-append-drop, get_or_append_left, get_or-append_right, get_or-replicate, get_or-take, get_or-drop, length-replicate, set_at, replicate-append-replicate, take_rest, drop-drop, All-from_get_or, slice_split_none, bytes_eq-Decides, none-some, Piece, range_of, pieces_meet, has_address, meets_decides, Fault, BadLine, WrongSum, NoEnd, Overlap, digits_of, end_line, digit_value, bytes_in, bytes_of_line, has_form, piece_in, read_line, fault_of_data, fault_of_line, is_empty, fault_at, Spells, HasFirstFault, judged_by, judged_after, judgement_of, byte_of, piece_at, line_at, Marks, marked_from, TakesLine}
 use Rattle.hex80.specs.declared.read.Place.{Place}
-use Rattle.hex80.specs.Lines.{digits_of, end_line}
-use Rattle.hex80.specs.Spelling.{digit_value, bytes_in, bytes_of_line, has_form, piece_in, read_line, fault_of_data, fault_of_line, is_empty, fault_at, Spells, HasFirstFault}
-use Rattle.hex80.specs.internal.Judgement.{judged_by, judged_after, judgement_of}
-use Rattle.hex80.specs.internal.Reading.{byte_of, piece_at, line_at, Marks, marked_from, TakesLine}
 use Rattle.hex80.proofs.Digits.{IsBytes, bytes_back}
 use Rattle.hex80.proofs.Judged.{JudgesText, judged}
 use Rattle.hex80.proofs.TextsAgain.{no_fault}

@@ -1,6 +1,5 @@
 -- Sums of bytes, modulo 256.
-use Rattle.std.proofs.Common.{◌≡◌, ℕ, ◌+◌, ◌%◌, ◌<◌, List, length, get_or, take, sum, arith}
-use Rattle.std.proofs.lemmas.List.Sums.{sum_by_more}
+use Rattle.hex80.proofs.Prelude.{◌≡◌, ℕ, ◌+◌, ◌%◌, ◌<◌, List, length, get_or, take, sum, arith, sum_by_more}
 
 pub sum_more :
     (bytes : List ℕ) (i total : ℕ) → i < length bytes → total ≡ sum (take i bytes) % 256

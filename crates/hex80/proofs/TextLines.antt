@@ -1,16 +1,5 @@
 -- The lines of a text that is written.
-use Rattle.std.proofs.Common.{◌≡◌, ℕ, ◌+◌, ◌-◌, ◌/◌, ◌%◌, ◌<◌, ◌≤◌, Bool, true, false, cond, ◌==◌, nat_lt, List, [], ◌∷◌, ◌++◌, length, get_or, take, flat_map, map, refl, ap, sym, ◌∙◌, arith}
-use Rattle.std.specs.Prelude.{All}
-use Rattle.std.specs.List.{AllByRecursion, slice_split, onto_first}
-use Rattle.std.specs.Str.Lines.{lines, lines_of_parts, strip_carriage_return}
-use Rattle.std.proofs.lemmas.Bool.{eqb-true}
-use Rattle.std.proofs.lemmas.List.{append_assoc}
-use Rattle.std.proofs.lemmas.List.Elements.{All-from_recursion, All-get_or}
-use Rattle.std.proofs.lemmas.List.Splits.{slice_split_at}
-use Rattle.mem80.specs.declared.range.Piece.{Piece}
-use Rattle.mem80.specs.Sums.{checksum_of}
-use Rattle.hex80.specs.Lines.{digit_of, digits_of, data_line_bytes, data_line, end_line, ended_line}
-use Rattle.hex80.specs.internal.Writing.{written_line}
+use Rattle.hex80.proofs.Prelude.{◌≡◌, ℕ, ◌+◌, ◌-◌, ◌/◌, ◌%◌, ◌<◌, ◌≤◌, Bool, true, false, cond, ◌==◌, nat_lt, List, [], ◌∷◌, ◌++◌, length, get_or, take, flat_map, map, refl, ap, sym, ◌∙◌, arith, All, AllByRecursion, slice_split, onto_first, lines, lines_of_parts, strip_carriage_return, eqb-true, append_assoc, All-from_recursion, All-get_or, slice_split_at, Piece, checksum_of, digit_of, digits_of, data_line_bytes, data_line, end_line, ended_line, written_line}
 
 -- a character that ends no line
 abbrev IsPlain : ℕ → Type 0

@@ -1,21 +1,5 @@
 -- A text that spells pieces is judged as these, and one with a first fault as that: so there is one answer for each text.
-use Rattle.std.proofs.Common.{◌≡◌, ℕ, ◌%◌, Bool, true, false, cond, not, List, [], ◌∷◌, ◌++◌, map, sum, Some, None, Result, Ok, Err, refl, ap, sym, ◌∙◌}
-use Rattle.std.specs.List.{list_any}
-use Rattle.std.specs.Option.{option_map_or}
-use Rattle.std.specs.Str.{bytes_eq}
-use Rattle.std.proofs.lemmas.Bool.{eq-eqb}
-use Rattle.std.proofs.lemmas.List.{append_assoc, append-nil}
-use Rattle.std.proofs.lemmas.Option.{none-some, same_Some, some_pair_parts}
-use Rattle.std.proofs.lemmas.Slice.Eq.{bytes_eq-Decides}
-use Rattle.mem80.specs.declared.range.Piece.{Piece}
-use Rattle.mem80.specs.Pieces.{pieces_meet}
-use Rattle.mem80.proofs.Sums.{adds_up}
-use Rattle.hex80.specs.declared.fault.Fault.{Fault}
-use Rattle.hex80.specs.declared.fault.Fault.TheVariants.{BadLine, WrongSum, NoEnd, Overlap}
-use Rattle.hex80.specs.Lines.{data_line_bytes, data_line, end_line}
-use Rattle.hex80.specs.Spelling.{read_line, fault_of_data, fault_of_line, is_empty, fault_at, is_line_piece, are_line_pieces, Spells, HasFirstFault}
-use Rattle.hex80.specs.internal.Judgement.{judged_by, judged_after, judgement_of}
-use Rattle.hex80.specs.internal.Writing.{all_bytes}
+use Rattle.hex80.proofs.Prelude.{◌≡◌, ℕ, ◌%◌, Bool, true, false, cond, not, List, [], ◌∷◌, ◌++◌, map, sum, Some, None, Result, Ok, Err, refl, ap, sym, ◌∙◌, list_any, option_map_or, bytes_eq, eq-eqb, append_assoc, append-nil, none-some, same_Some, some_pair_parts, bytes_eq-Decides, Piece, pieces_meet, adds_up, Fault, BadLine, WrongSum, NoEnd, Overlap, data_line_bytes, data_line, end_line, read_line, fault_of_data, fault_of_line, is_empty, fault_at, is_line_piece, are_line_pieces, Spells, HasFirstFault, judged_by, judged_after, judgement_of, all_bytes}
 use Rattle.hex80.proofs.Digits.{both}
 use Rattle.hex80.proofs.LineLaws.{IsLine, line_again}
 use Rattle.hex80.proofs.Judged.{piece_line}

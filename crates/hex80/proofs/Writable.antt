@@ -1,15 +1,5 @@
 -- The pieces that a text spells can be written.
-use Rattle.std.proofs.Common.{◌≡◌, ℕ, ◌<◌, true, false, List, [], ◌∷◌, ◌++◌, length, get_or, Ok, subst, sym, ◌∙◌, arith}
-use Rattle.std.specs.List.{list_any}
-use Rattle.std.proofs.lemmas.List.{append_assoc, append-nil}
-use Rattle.std.proofs.lemmas.List.Elements.{All-append, All-from_recursion}
-use Rattle.std.proofs.lemmas.List.Folds.{list_any_at}
-use Rattle.std.proofs.lemmas.List.Quantifiers.{all_pairs_push}
-use Rattle.mem80.specs.declared.range.Piece.{Piece}
-use Rattle.mem80.specs.Pieces.{AreApart, AreWritable, EndsInMemory, pieces_meet, range_of}
-use Rattle.mem80.proofs.Ranges.{meets_decides}
-use Rattle.hex80.specs.Spelling.{Spells, is_line_piece, are_line_pieces}
-use Rattle.hex80.specs.internal.Judgement.{judgement_of}
+use Rattle.hex80.proofs.Prelude.{◌≡◌, ℕ, ◌<◌, true, false, List, [], ◌∷◌, ◌++◌, length, get_or, Ok, subst, sym, ◌∙◌, arith, list_any, append_assoc, append-nil, All-append, All-from_recursion, list_any_at, all_pairs_push, Piece, AreApart, AreWritable, EndsInMemory, pieces_meet, range_of, meets_decides, Spells, is_line_piece, are_line_pieces, judgement_of}
 use Rattle.hex80.proofs.Digits.{both}
 use Rattle.hex80.proofs.Judged.{piece_line}
 use Rattle.hex80.proofs.ReadLemmas.{spelled_by}

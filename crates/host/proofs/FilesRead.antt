@@ -1,9 +1,5 @@
 -- Files that are read one after another.
-use Rattle.std.proofs.Common.{◌≡◌, ℕ, ◌-◌, ◌≤◌, ◌<◌, List, [], ◌∷◌, ◌++◌, Option, None, Some, Bor, length, drop, take, get_or, map, refl, sym, ap, subst, ◌∙◌, arith}
-use Rattle.std.proofs.Math.Seq.{take-length}
-use Rattle.std.proofs.lemmas.List.{append-nil, append_assoc}
-use Rattle.host.specs.Files.{Directory, HasFile, KeepsFiles}
-use Rattle.host.specs.Reading.{HasFiles, StopsAt}
+use Rattle.host.proofs.Prelude.{◌≡◌, ℕ, ◌-◌, ◌≤◌, ◌<◌, List, [], ◌∷◌, ◌++◌, Option, None, Some, Bor, length, drop, take, get_or, map, refl, sym, ap, subst, ◌∙◌, arith, take-length, append-nil, append_assoc, Directory, HasFile, KeepsFiles, HasFiles, StopsAt}
 
 pub stays : (files : Option Directory) → KeepsFiles files files
 stays None = tt

@@ -1,2 +1,3 @@
+mod Prelude
 pub mod LinesPrinted
 pub mod FilesRead

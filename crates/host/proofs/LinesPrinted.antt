@@ -1,16 +1,9 @@
 -- Lines that are printed piece by piece, and what they do not begin with.
-use Rattle.std.proofs.Common.{◌≡◌, ℕ, ◌-◌, ◌≤◌, ◌<◌, Bool, true, false, List, [], ◌∷◌, ◌++◌, Option, None, Some, Bor, inl, inr, codes, decimal, length, drop, take, get_or, refl, sym, ap, subst, ◌∙◌, true≢false, arith}
-use Rattle.std.specs.Prelude.{◌==◌, ◌&&◌, not}
-use Rattle.std.proofs.lemmas.Bool.{and_parts}
-use Rattle.std.specs.List.{flat_map}
-use Rattle.std.proofs.Math.Seq.{take-length}
-use Rattle.std.proofs.lemmas.List.{append-nil, append_assoc}
-use Rattle.std.specs.Io.KnownBytes.{Appends}
+use Rattle.host.proofs.Prelude.{◌≡◌, ℕ, ◌-◌, ◌≤◌, ◌<◌, Bool, true, false, List, [], ◌∷◌, ◌++◌, Option, None, Some, Bor, inl, inr, codes, decimal, length, drop, take, get_or, refl, sym, ap, subst, ◌∙◌, true≢false, arith, and_parts, take-length, append-nil, append_assoc, Directory, StopsAt}
+use Rattle.std.specs.{Prelude.{◌==◌, ◌&&◌, not}, List.{flat_map}, Io.KnownBytes.{Appends}}
 use Rattle.failure.specs.Writing.{AppendsBeginning, IsBeginning}
 use Rattle.failure.proofs.WritingLemmas.{beginning_after}
 use Rattle.ports.specs.Events.{CountsFailure}
-use Rattle.host.specs.Files.{Directory}
-use Rattle.host.specs.Reading.{StopsAt}
 use Rattle.host.specs.Refusals.{IsOfNoFile, Tells, TellsOther, TellsRefusal, file_line, is_fault_number, output_line, refusal_line}
 
 -- a writer that nothing was sent to

@@ -1,3 +1,4 @@
+mod Prelude
 pub mod Images
 pub mod Programs
 pub mod Merges

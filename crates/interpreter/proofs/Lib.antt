@@ -1,3 +1,4 @@
+mod Prelude
 pub mod MainModules
 pub mod Runs
 pub mod Items

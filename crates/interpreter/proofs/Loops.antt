@@ -1,11 +1,6 @@
 -- The loops over bytes and over values.
-use Rattle.std.proofs.Common.{◌≡◌, ℕ, ◌+◌, ◌<◌, ◌≤◌, List, [], ◌∷◌, ◌++◌, length, set, drop, get_or, refl, ap, sym, ◌∙◌, arith}
-use Rattle.std.specs.Prelude.{flat_map}
-use Rattle.std.proofs.lemmas.List.{at_drop_more}
-use Rattle.mem80.specs.declared.memory.TheConstants.{MEMORY_SIZE}
-use Rattle.mem80.specs.Memory.{IsMemory}
-use Rattle.typed_trees.specs.declared.parts.InitialValue.{InitialValue}
-use Rattle.layout.specs.StartingMemory.{written, bytes_of_value}
+use Rattle.interpreter.proofs.Prelude.{◌≡◌, ℕ, ◌+◌, ◌<◌, ◌≤◌, List, [], ◌∷◌, ◌++◌, length, set, drop, get_or, refl, ap, sym, ◌∙◌, arith, flat_map, at_drop_more, InitialValue, written, bytes_of_value}
+use Rattle.mem80.specs.{declared.memory.TheConstants.{MEMORY_SIZE}, Memory.{IsMemory}}
 use Rattle.interpreter.proofs.Items.{at_item, at_end}
 use Rattle.interpreter.proofs.Written.{written_past, written_after}
 

@@ -1,15 +1,6 @@
 -- The main module: where the code finds it.
-use Rattle.std.proofs.Common.{◌≡◌, ℕ, suc, ◌+◌, ◌<◌, ◌≤◌, Bool, true, false, cond, List, [], ◌∷◌, length, map, drop, get_or, Option, None, Some, option_map, find, position, ap, refl, sym, ◌∙◌}
-use Rattle.std.specs.List.{position_from}
-use Rattle.std.specs.Option.{option_map_or}
-use Rattle.std.proofs.lemmas.Iterator.Adapters.{position_from-zero}
-use Rattle.typed_trees.specs.declared.module.Typed.{Typed}
-use Rattle.typed_trees.specs.TypedTrees.{TypedModule}
-use Rattle.typed_trees.specs.Views.{module_view}
-use Rattle.layout.specs.Joined.{is_main}
-use Rattle.meaning.specs.Run.{number_of_main}
+use Rattle.interpreter.proofs.Prelude.{◌≡◌, ℕ, suc, ◌+◌, ◌<◌, ◌≤◌, Bool, true, false, cond, List, [], ◌∷◌, length, map, drop, get_or, Option, None, Some, option_map, find, position, ap, refl, sym, ◌∙◌, position_from, option_map_or, position_from-zero, Typed, TypedModule, module_view, is_main, number_of_main, found_from}
 use Rattle.stack_compiler.proofs.Items.{at_item, at_end}
-use Rattle.interpreter.specs.internal.MainModules.{found_from}
 
 module _ (total : Option (ℕ × TypedModule)) (modules : List Typed) (i : ℕ) (rest : found_from i (map module_view (drop i modules)) ≡ total) where
   main_step : (typed : Typed) (main : Bool) → i < length modules → typed ≡ get_or modules i typed → is_main (module_view typed) ≡ main

@@ -1,23 +1,6 @@
 -- One pass over the modules of a program.
-use Rattle.std.proofs.Common.{◌≡◌, ℕ, ◌+◌, ◌≤◌, List, [], ◌∷◌, ◌++◌, length, drop, map, zip, flat_map, Option, None, Some, option_map, vec_items, length-drop, refl, ap, sym, ◌∙◌, arith}
-use Rattle.std.specs.Prelude.{slice_get}
-use Rattle.std.specs.List.{enumerate_from}
-use Rattle.std.specs.Option.{option_map_or}
-use Rattle.std.proofs.Math.ListN.{drop_of_length-le}
-use Rattle.std.proofs.lemmas.Option.{slice_get-map}
-use Rattle.typed_trees.specs.declared.module.Typed.{Typed}
-use Rattle.typed_trees.specs.TypedTrees.{TypedModule}
-use Rattle.typed_trees.specs.Views.{module_view, object_view}
-use Rattle.layout.specs.Placement.{ModulePlacement}
-use Rattle.layout.specs.StartingMemory.{Contents, address_of_object, contents_of_list, contents_of_module, contents_of_object, starting_memory}
-use Rattle.placing.specs.declared.placement.ModulePlacement.{ModulePlacement as CodePlacement}
-use Rattle.placing.specs.Views.{module_placement_view}
+use Rattle.interpreter.proofs.Prelude.{◌≡◌, ℕ, ◌+◌, ◌≤◌, List, [], ◌∷◌, ◌++◌, length, drop, map, zip, flat_map, Option, None, Some, option_map, vec_items, length-drop, refl, ap, sym, ◌∙◌, arith, slice_get, enumerate_from, option_map_or, drop_of_length-le, slice_get-map, Typed, TypedModule, module_view, object_view, ModulePlacement, Contents, address_of_object, contents_of_list, contents_of_module, contents_of_object, starting_memory, CodePlacement, module_placement_view, Program, Surroundings, address_of, Site, site_view, contents_at, contents_from, module_in, with_all}
 use Rattle.placing.proofs.Passes.{found_first, found_none, zip_nothing}
-use Rattle.meaning.specs.Outcomes.{Program}
-use Rattle.meaning.specs.Access.{Surroundings, address_of}
-use Rattle.resolving.specs.declared.site.Site.{Site}
-use Rattle.resolving.specs.Views.{site_view}
-use Rattle.interpreter.specs.internal.Contents.{contents_at, contents_from, module_in, with_all}
 use Rattle.interpreter.proofs.Items.{at_end}
 use Rattle.interpreter.proofs.Written.{all_after}
 

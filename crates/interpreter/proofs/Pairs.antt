@@ -1,12 +1,5 @@
 -- The ends of the loops over objects and over constant lists with their addresses.
-use Rattle.std.proofs.Common.{◌≡◌, ℕ, List, [], ◌∷◌, map, length, drop, zip, min, Global, refl, ap, sym, ◌∙◌, arith}
-use Rattle.std.specs.Prelude.{Vec, vec_items}
-use Rattle.std.proofs.Math.Decide.{dec_le}
-use Rattle.std.proofs.Math.ListN.{drop_of_length-le}
-use Rattle.typed_trees.specs.declared.module.TypedObject.{TypedObject as Object}
-use Rattle.typed_trees.specs.Views.{object_view}
-use Rattle.layout.specs.StartingMemory.{contents_of_list, contents_of_object}
-use Rattle.interpreter.specs.internal.Contents.{with_all}
+use Rattle.interpreter.proofs.Prelude.{◌≡◌, ℕ, List, [], ◌∷◌, map, length, drop, zip, min, Global, refl, ap, sym, ◌∙◌, arith, Vec, vec_items, dec_le, drop_of_length-le, Object, object_view, contents_of_list, contents_of_object, with_all}
 
 zip_nothing : {A B : Type 0} (items : List A) → zip {K = A} {X = B} items [] ≡ []
 zip_nothing [] = refl

@@ -1,32 +1,11 @@
 -- Runs of stack code are runs of the source.
-use Rattle.std.proofs.Common.{◌≡◌, ℕ, suc, ◌-◌, Bool, true, false, cond, List, [], ◌++◌, Option, None, Some, Result, Ok, Err, IfOk, OnErr, All, find, nat_lt, slice_get, refl, sym, ap, ◌∙◌, subst, append_assoc, append-nil}
-use Rattle.std.specs.Option.{option_map_or}
-use Rattle.ports.specs.declared.event.Event.{Event}
-use Rattle.ports.specs.Events.{IsBeginning}
-use Rattle.typed_trees.specs.Jumps.{JumpsAreSound}
-use Rattle.typed_trees.specs.Charge.{charge_of}
-use Rattle.typed_trees.specs.TypedTrees.{TypedList, ListOf, TypedModule}
-use Rattle.layout.specs.Joined.{is_main}
-use Rattle.layout.specs.Placement.{Placement}
-use Rattle.layout.specs.StartingMemory.{starting_memory}
-use Rattle.meaning.specs.declared.reason.Reason.TheVariants.{Stack}
-use Rattle.meaning.specs.Access.{Surroundings}
-use Rattle.meaning.specs.Meaning.{done_list, later_by}
-use Rattle.meaning.specs.Outcomes.{State, Stop, Ended, Outside, Outcome, Gave, Stopped, Flow}
-use Rattle.meaning.specs.Run.{Run, main_done, number_of_main, run_of, source_run}
-use Rattle.meaning.specs.internal.Kept.{ComesAfter}
+use Rattle.interpreter.proofs.Prelude.{◌≡◌, ℕ, suc, ◌-◌, Bool, true, false, cond, List, [], ◌++◌, Option, None, Some, Result, Ok, Err, IfOk, OnErr, All, find, nat_lt, slice_get, refl, sym, ap, ◌∙◌, subst, append_assoc, append-nil, option_map_or, JumpsAreSound, charge_of, TypedList, ListOf, TypedModule, is_main, Placement, starting_memory, Stack, Surroundings, done_list, later_by, State, Stop, Ended, Outside, Outcome, Gave, Stopped, Flow, Run, main_done, number_of_main, run_of, source_run, ComesAfter, found_from}
+use Rattle.ports.specs.{declared.event.Event.{Event}, Events.{IsBeginning}}
 use Rattle.meaning.proofs.Added.{adds_if, adds_rest, begins_itself, later_adds}
-use Rattle.stack_code.specs.Program.{AreTablesOf}
-use Rattle.stack_code.specs.declared.program.StackProgram.{StackProgram}
-use Rattle.stack_code.specs.declared.instruction.Instruction.{Instruction}
-use Rattle.stack_code.specs.Machine.{Machine, Progress, Going, Done, and_then_steps, progress_of, steps}
-use Rattle.stack_code.specs.Run.{machine_in, stack_run, start_state, start_surroundings, started as charged_start}
-use Rattle.stack_code.specs.internal.Simulation.{Adds}
-use Rattle.stack_code.proofs.Events.{adds_steps}
-use Rattle.stack_code.proofs.Meant.{begins_as_meant, done_as_meant, main_at}
+use Rattle.stack_code.specs.{Program.{AreTablesOf}, declared.program.StackProgram.{StackProgram}, declared.instruction.Instruction.{Instruction}, Machine.{Machine, Progress, Going, Done, and_then_steps, progress_of, steps}, Run.{machine_in, stack_run, start_state, start_surroundings, started as charged_start}, internal.Simulation.{Adds}}
+use Rattle.stack_code.proofs.{Events.{adds_steps}, Meant.{begins_as_meant, done_as_meant, main_at}}
 use Rattle.stack_compiler.specs.Compiled.{IsCompiled}
 use Rattle.stack_machine.specs.Runs.{Reaches, Stops, state_at_start}
-use Rattle.interpreter.specs.internal.MainModules.{found_from}
 use Rattle.interpreter.proofs.MainModules.{main_is, main_is_none, number_is}
 
 module _ (modules : List TypedModule) (placement : Placement) (room : ℕ) (start memory : List ℕ) (script : List (List ℕ)) (events after : List Event) (budget number : ℕ) (main : TypedModule) (program : StackProgram)

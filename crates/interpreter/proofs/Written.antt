@@ -1,8 +1,5 @@
 -- Bytes that are written one after another, and contents that are.
-use Rattle.std.proofs.Common.{◌≡◌, ℕ, ◌+◌, ◌≤◌, List, [], ◌∷◌, ◌++◌, length, set, refl, ap, ◌∙◌, arith}
-use Rattle.std.proofs.lemmas.List.{set_past}
-use Rattle.layout.specs.StartingMemory.{Contents, written}
-use Rattle.interpreter.specs.internal.Contents.{with_contents, with_all}
+use Rattle.interpreter.proofs.Prelude.{◌≡◌, ℕ, ◌+◌, ◌≤◌, List, [], ◌∷◌, ◌++◌, length, set, refl, ap, ◌∙◌, arith, set_past, Contents, written, with_contents, with_all}
 
 -- past the end of memory nothing is written
 pub written_past : (memory bytes : List ℕ) (address : ℕ) → length memory ≤ address → written memory address bytes ≡ memory

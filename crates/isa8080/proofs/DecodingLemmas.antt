@@ -1,11 +1,5 @@
 -- What a first byte and the bytes after it are read as, and the codes that no instruction has.
-use Rattle.std.proofs.Common.{◌≡◌, ◌↔◌, ℕ, ◌<◌, Bool, true, false, Option, is_some, IsNone, Contains, slice_index, Some, None, List, [], ◌∷◌, ◌++◌, length, nat_eq, not, refl, ap, ◌∙◌, sym}
-use Rattle.std.specs.List.{list_any}
-use Rattle.std.proofs.lemmas.Bool.{agree_below_at, eqb-true, not-false}
-use Rattle.std.proofs.lemmas.Cmp.{nat_eq_equiv}
-use Rattle.std.proofs.lemmas.Map.Views.{Contains-from_any, list_any-from_Contains}
-use Rattle.isa8080.specs.declared.instr.Instr.{Instr}
-use Rattle.isa8080.specs.Code.{Form, One, Two, Three, Unknown, bytes_of, first_instruction, form_of, instruction_of, undocumented}
+use Rattle.isa8080.proofs.Prelude.{◌≡◌, ◌↔◌, ℕ, ◌<◌, Bool, true, false, Option, is_some, IsNone, Contains, slice_index, Some, None, List, [], ◌∷◌, ◌++◌, length, nat_eq, not, refl, ap, ◌∙◌, sym, list_any, agree_below_at, eqb-true, not-false, nat_eq_equiv, Contains-from_any, list_any-from_Contains, Instr, Form, One, Two, Three, Unknown, bytes_of, first_instruction, form_of, instruction_of, undocumented}
 use Rattle.isa8080.specs.internal.Reading.{Reads}
 use Rattle.isa8080.proofs.EncodingLemmas.{read_back}
 

@@ -1,17 +1,10 @@
 -- The first byte of an instruction has its form, and its bytes are read as the instruction again.
-use Rattle.std.proofs.Common.{◌≡◌, ℕ, Some, List, ◌++◌, length, slice_index, refl, ap, ◌∙◌, arith}
+use Rattle.isa8080.proofs.Prelude.{◌≡◌, ℕ, Some, List, ◌++◌, length, slice_index, refl, ap, ◌∙◌, arith, Of, Bc, Add, AddWithCarry, Subtract, SubtractWithBorrow, And, ExclusiveOr, Or, Compare, Instr, Lxi, Stax, Ldax, Shld, Lhld, Sta, Lda, Inx, Dcx, Dad, Inr, Dcr, Mvi, Mov, MovToMemory, Accumulate, AccumulateImmediate, ReturnIf, JumpIf, CallIf, Jmp, Call, Rst, Pop, Push, Out, In, word, high_byte, low_byte, Form, One, Two, Three, form_of, bytes_of, instruction_of, first_instruction}
 use Rattle.isa8080.specs.declared.instr.Register.TheVariants.{B, C, D, E, H, L, A}
-use Rattle.isa8080.specs.declared.instr.Operand.TheVariants.{Of}
-use Rattle.isa8080.specs.declared.instr.Pair.TheVariants.{Bc}
 use Rattle.isa8080.specs.declared.instr.IndexPair.TheVariants.{IndexBc}
 use Rattle.isa8080.specs.declared.instr.StackPair.TheVariants.{StackBc}
 use Rattle.isa8080.specs.declared.instr.Condition.TheVariants.{NotZero}
-use Rattle.isa8080.specs.declared.instr.Operation.TheVariants.{Add, AddWithCarry, Subtract, SubtractWithBorrow, And, ExclusiveOr, Or, Compare}
 use Rattle.isa8080.specs.declared.instr.Restart.TheVariants.{N0}
-use Rattle.isa8080.specs.declared.instr.Instr.{Instr}
-use Rattle.isa8080.specs.declared.instr.Instr.TheVariants.{Lxi, Stax, Ldax, Shld, Lhld, Sta, Lda, Inx, Dcx, Dad, Inr, Dcr, Mvi, Mov, MovToMemory, Accumulate, AccumulateImmediate, ReturnIf, JumpIf, CallIf, Jmp, Call, Rst, Pop, Push, Out, In}
-use Rattle.isa8080.specs.State.{word, high_byte, low_byte}
-use Rattle.isa8080.specs.Code.{Form, One, Two, Three, form_of, bytes_of, instruction_of, first_instruction}
 
 -- the first byte of an instruction
 abbrev pub code_of : Instr → ℕ

@@ -1,7 +1,5 @@
 -- The flag byte is a byte.
-use Rattle.std.proofs.Common.{ℕ, ◌<◌, ◌≤◌, Bool, true, false, arith}
-use Rattle.isa8080.specs.declared.registers.Flags.{Flags}
-use Rattle.isa8080.specs.Flags.{bit, flag_byte}
+use Rattle.isa8080.proofs.Prelude.{ℕ, ◌<◌, ◌≤◌, Bool, true, false, arith, Flags, bit, flag_byte}
 
 bit_small : (b : Bool) → bit b ≤ 1
 bit_small true = omega arith

@@ -1,18 +1,6 @@
 -- A step and a run only add events.
-use Rattle.std.proofs.Common.{◌≡◌, ℕ, zero, suc, Bool, true, false, if◌then◌else◌, List, [], ◌∷◌, ◌++◌, refl, sym, ap, ◌∙◌, append-nil, append_assoc}
-use Rattle.ports.specs.declared.event.Event.{Event}
-use Rattle.ports.specs.Events.{IsBeginning, read_event, write_event}
-use Rattle.ports.specs.Input.{input_value}
+use Rattle.isa8080.proofs.Prelude.{◌≡◌, ℕ, zero, suc, Bool, true, false, if◌then◌else◌, List, [], ◌∷◌, ◌++◌, refl, sym, ap, ◌∙◌, append-nil, append_assoc, Event, IsBeginning, read_event, write_event, input_value, Instr, Ldax, Inr, Dcr, Mvi, Mov, MovToMemory, ReturnIf, JumpIf, CallIf, Lda, Out, In, Of, M, Status, Running, Halted, Illegal, State, holds, act, Form, One, Two, Three, Unknown, form_of, advance, carry_out, next_byte, next_word, state_after, step_by, step_of}
 use Rattle.mem80.specs.Memory.{byte_at}
-use Rattle.isa8080.specs.declared.instr.Instr.{Instr}
-use Rattle.isa8080.specs.declared.instr.Instr.TheVariants.{Ldax, Inr, Dcr, Mvi, Mov, MovToMemory, ReturnIf, JumpIf, CallIf, Lda, Out, In}
-use Rattle.isa8080.specs.declared.instr.Operand.TheVariants.{Of, M}
-use Rattle.isa8080.specs.declared.registers.Status.{Status}
-use Rattle.isa8080.specs.declared.registers.Status.TheVariants.{Running, Halted, Illegal}
-use Rattle.isa8080.specs.State.{State, holds}
-use Rattle.isa8080.specs.Act.{act}
-use Rattle.isa8080.specs.Code.{Form, One, Two, Three, Unknown, form_of}
-use Rattle.isa8080.specs.Step.{advance, carry_out, next_byte, next_word, state_after, step_by, step_of}
 
 -- events are a beginning of themselves, and of what is a beginning of others
 pub begins_itself : (events : List Event) → IsBeginning events events

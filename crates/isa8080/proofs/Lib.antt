@@ -1,3 +1,4 @@
+mod Prelude
 pub mod EncodingLemmas
 pub mod DecodingLemmas
 pub mod Endings

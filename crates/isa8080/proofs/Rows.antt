@@ -1,15 +1,5 @@
 -- Worked rows, computed on the definitions: what docs/machine.md says of them.
-use Rattle.std.specs.Prelude.{◌≡◌, ℕ, true, false, List, [], refl}
-use Rattle.std.specs.Int.Count.{ones}
-use Rattle.isa8080.specs.declared.registers.Flags.{Flags}
-use Rattle.isa8080.specs.Flags.{flag_byte}
-use Rattle.ports.specs.declared.event.Event.{Event}
-use Rattle.isa8080.specs.declared.instr.Pair.TheVariants.{Hl}
-use Rattle.isa8080.specs.declared.instr.Instr.TheVariants.{Dad}
-use Rattle.isa8080.specs.declared.instr.Operation.TheVariants.{Subtract}
-use Rattle.isa8080.specs.State.{State, Registers}
-use Rattle.isa8080.specs.Act.{act}
-use Rattle.isa8080.specs.Step.{initial_registers, running}
+use Rattle.isa8080.proofs.Prelude.{◌≡◌, ℕ, true, false, List, [], refl, ones, Flags, flag_byte, Event, Hl, Dad, Subtract, State, Registers, act, initial_registers, running}
 use Rattle.isa8080.specs.Arithmetic.{operate, increment_of, decimal_adjust_of}
 
 abbrev pub no_flags : Flags

@@ -1,15 +1,5 @@
 -- Loops over modules, and over what they share.
-use Rattle.std.proofs.Common.{◌≡◌, ℕ, suc, ◌+◌, ◌<◌, ◌≤◌, Bool, true, false, List, [], ◌∷◌, ◌++◌, map, length, drop, get_or, Option, None, Some, if◌then◌else◌, refl, ap, sym, ◌∙◌, add-one, arith}
-use Rattle.std.specs.List.{filter_map}
-use Rattle.std.proofs.Math.ListN.{drop_of_length-le}
-use Rattle.std.proofs.Math.Seq.{drop-cons}
-use Rattle.std.proofs.lemmas.Grind.{common_steps}
-use Rattle.std.proofs.lemmas.List.{append_assoc, append-nil}
-use Rattle.typed_trees.specs.declared.module.Typed.{Typed}
-use Rattle.typed_trees.specs.Views.{module_view}
-use Rattle.layout.specs.Joined.{Global, global_of, globals_of}
-use Rattle.join.specs.declared.shared.Shared.{Shared}
-use Rattle.join.specs.internal.Shared.{global_view, globals_view, first_external}
+use Rattle.join.proofs.Prelude.{◌≡◌, ℕ, suc, ◌+◌, ◌<◌, ◌≤◌, Bool, true, false, List, [], ◌∷◌, ◌++◌, map, length, drop, get_or, Option, None, Some, if◌then◌else◌, refl, ap, sym, ◌∙◌, add-one, arith, filter_map, drop_of_length-le, drop-cons, common_steps, append_assoc, append-nil, Typed, module_view, Global, global_of, globals_of, Shared, global_view, globals_view, first_external}
 
 -- what is left of a list, item by item
 module _ {A Y : Type 0} (of : List A → Y) (items : List A) (i : ℕ) where

@@ -1,3 +1,4 @@
+mod Prelude
 pub mod SameLists
 pub mod GlobalLoops
 pub mod PublicTables

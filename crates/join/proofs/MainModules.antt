@@ -1,12 +1,5 @@
 -- Main modules, counted.
-use Rattle.std.proofs.Common.{◌≡◌, ℕ, ◌+◌, ◌<◌, ◌≤◌, ◌==◌, Bool, true, false, not, List, [], ◌∷◌, map, length, drop, get_or, count_by, if◌then◌else◌, cond, ap, sym, ◌∙◌, arith}
-use Rattle.std.proofs.lemmas.Grind.{common_steps}
-use Rattle.std.proofs.lemmas.List.Sums.{sum_by-cons}
-use Rattle.typed_trees.specs.declared.module.Typed.{Typed}
-use Rattle.typed_trees.specs.declared.statement.TypedStatement.{TypedStatement}
-use Rattle.typed_trees.specs.TypedTrees.{ListOf}
-use Rattle.typed_trees.specs.Views.{module_view, statements_view}
-use Rattle.layout.specs.Joined.{has_statement, is_main}
+use Rattle.join.proofs.Prelude.{◌≡◌, ℕ, ◌+◌, ◌<◌, ◌≤◌, ◌==◌, Bool, true, false, not, List, [], ◌∷◌, map, length, drop, get_or, count_by, if◌then◌else◌, cond, ap, sym, ◌∙◌, arith, common_steps, sum_by-cons, Typed, TypedStatement, ListOf, module_view, statements_view, has_statement, is_main}
 use Rattle.join.proofs.GlobalLoops.{at_item, at_end}
 
 pub statements_stand : (first : ℕ) (places : List ℕ) (statements slice : List TypedStatement) (empty : Bool) → slice ≡ statements → empty ≡ (length slice == 0)

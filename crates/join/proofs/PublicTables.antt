@@ -1,19 +1,8 @@
 -- The table of the PUBLICs of modules: what it holds, and what is found by it.
-use Rattle.std.proofs.Common.{◌≡◌, ℕ, Bool, true, false, not, ◌||◌, cond, List, [], ◌∷◌, ◌++◌, map, is_some, Option, None, Some, option_map, if◌then◌else◌, refl, ap, sym, subst, ◌∙◌, true≢false}
-use Rattle.std.specs.List.{filter, list_any}
-use Rattle.std.specs.Map.{lookup}
-use Rattle.std.specs.Option.{option_or, option_map_or}
-use Rattle.std.specs.Str.{bytes_eq}
-use Rattle.std.proofs.lemmas.Cmp.{nat_list_eq_equiv}
-use Rattle.std.proofs.lemmas.Slice.Eq.{bytes_eq-Decides}
+use Rattle.join.proofs.Prelude.{◌≡◌, ℕ, Bool, true, false, not, ◌||◌, cond, List, [], ◌∷◌, ◌++◌, map, is_some, Option, None, Some, option_map, if◌then◌else◌, refl, ap, sym, subst, ◌∙◌, true≢false, filter, list_any, lookup, option_or, option_map_or, bytes_eq, nat_list_eq_equiv, bytes_eq-Decides, Global, agree, public_named, first_repeated, lacks_public, differs_from_public, Publics, Shared, global_view, PublicTable, entry_view, publics_view, no_publics, named_in, with_public, with_publics, lacks_in, differs_in}
 use Rattle.indexmap.specs.IndexMap.{insert_entry}
 use Rattle.symbols.specs.contracts.name.NamePartialEq.TheImpl.{eq-value}
 use Rattle.symbols.proofs.Keys.{same_keys}
-use Rattle.layout.specs.Joined.{Global, agree, public_named, first_repeated, lacks_public, differs_from_public}
-use Rattle.join.specs.declared.publics.Publics.{Publics}
-use Rattle.join.specs.declared.shared.Shared.{Shared}
-use Rattle.join.specs.internal.Shared.{global_view}
-use Rattle.join.specs.internal.PublicTables.{PublicTable, entry_view, publics_view, no_publics, named_in, with_public, with_publics, lacks_in, differs_in}
 
 -- what the code's table has for a name
 viewed_lookup : (test : List ℕ → Bool) (entries : List (List ℕ × Shared)) → lookup test (map entry_view entries) ≡ option_map global_view (lookup test entries)

@@ -1,13 +1,5 @@
 -- Why modules make no program, from the table of their PUBLICs.
-use Rattle.std.proofs.Common.{◌≡◌, ℕ, ◌==◌, Bool, List, [], Option, None, Some, option_map, count_by, if◌then◌else◌, refl, ap, sym, ◌∙◌}
-use Rattle.std.specs.List.{find}
-use Rattle.std.specs.Option.{option_or}
-use Rattle.typed_trees.specs.TypedTrees.{TypedModule}
-use Rattle.layout.specs.Joined.{Global, globals_of, publics_of, externals_of, first_repeated, lacks_public, differs_from_public, is_main, JoinRefusal, NoPublic, PublicTwice, DeclarationsDiffer, NotOneMain, without_public, public_twice, declared_otherwise, not_one_main, join_refusal}
-use Rattle.join.specs.declared.shared.Shared.{Shared}
-use Rattle.join.specs.declared.publics.Publics.{Publics}
-use Rattle.join.specs.internal.Shared.{globals_view, first_external}
-use Rattle.join.specs.internal.PublicTables.{PublicTable, publics_view, no_publics, with_publics, lacks_in, differs_in}
+use Rattle.join.proofs.Prelude.{◌≡◌, ℕ, ◌==◌, Bool, List, [], Option, None, Some, option_map, count_by, if◌then◌else◌, refl, ap, sym, ◌∙◌, find, option_or, TypedModule, Global, globals_of, publics_of, externals_of, first_repeated, lacks_public, differs_from_public, is_main, JoinRefusal, NoPublic, PublicTwice, DeclarationsDiffer, NotOneMain, without_public, public_twice, declared_otherwise, not_one_main, join_refusal, Shared, Publics, globals_view, first_external, PublicTable, publics_view, no_publics, with_publics, lacks_in, differs_in}
 use Rattle.join.proofs.PublicTables.{lacks_is, differs_is, table_repeats}
 
 -- a refusal by the name of what is found

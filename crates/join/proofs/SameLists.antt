@@ -1,12 +1,5 @@
 -- Structures with the same members by their positions.
-use Rattle.std.proofs.Common.{◌≡◌, ℕ, suc, ◌+◌, ◌<◌, ◌≤◌, ◌&&◌, List, zero, nat_eq, [], ◌∷◌, Bool, true, false, Some, None, length, drop, slice_get, refl, ap, sym, ◌∙◌, add-one, arith}
-use Rattle.std.proofs.Math.Seq.{drop-cons}
-use Rattle.std.proofs.Math.ListN.{drop_of_length-le}
-use Rattle.std.proofs.lemmas.Grind.{common_steps}
-use Rattle.std.proofs.lemmas.List.{length-drop}
-use Rattle.std.proofs.lemmas.Option.{slice_get_within, get_or_from_slice_get}
-use Rattle.typed_trees.specs.declared.parts.TypedMember.{TypedMember}
-use Rattle.layout.specs.Joined.{same_scalar, same_dimension, same_members}
+use Rattle.join.proofs.Prelude.{◌≡◌, ℕ, suc, ◌+◌, ◌<◌, ◌≤◌, ◌&&◌, List, zero, nat_eq, [], ◌∷◌, Bool, true, false, Some, None, length, drop, slice_get, refl, ap, sym, ◌∙◌, add-one, arith, drop-cons, drop_of_length-le, common_steps, length-drop, slice_get_within, get_or_from_slice_get, TypedMember, same_scalar, same_dimension, same_members}
 
 drop_found : {A : Type 0} (items : List A) (i : ℕ) (item : A) → slice_get items i ≡ Some item → drop i items ≡ item ∷ drop (i + 1) items
 drop_found items i item is =

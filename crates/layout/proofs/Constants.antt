@@ -1,20 +1,6 @@
 -- Where each object with DATA and each list stands among the constants, these fit into a segment just where all
 -- together do.
-use Rattle.std.proofs.Common.{◌≡◌, ℕ, ◌≤◌, Bool, true, false, List, length, get_or, Some, ap, subst, refl, ◌∙◌, arith}
-use Rattle.std.specs.Prelude.{nat_le, ◌&&◌, slice_get, Contains}
-use Rattle.std.specs.List.{list_all}
-use Rattle.std.specs.Option.{option_map_or}
-use Rattle.std.proofs.lemmas.Bool.{le-leb, leb-true}
-use Rattle.std.proofs.lemmas.Option.{slice_get-get_or}
-use Rattle.std.proofs.lemmas.List.Sums.{get_or-le-sum_by, list_all-from_AllPass}
-use Rattle.typed_trees.specs.declared.parts.ConstantItem.TheVariants.{ConstantObject, ConstantList}
-use Rattle.typed_trees.specs.declared.parts.ConstantItem.{ConstantItem}
-use Rattle.typed_trees.specs.declared.parts.InitialValue.{InitialValue}
-use Rattle.typed_trees.specs.TypedTrees.{Home, InData, InConstants, Placed, BasedOn, Elsewhere, Nowhere, InFrame, TypedObject, TypedModule}
-use Rattle.typed_trees.specs.Sizes.{size_of_object}
-use Rattle.typed_trees.specs.Weight.{size_of_constant, constant_bytes}
-use Rattle.layout.specs.Storage.{bytes_in_constants, fits_as_object, fits_as_list, constants_fit}
-use Rattle.layout.specs.internal.Offsets.{HasItsConstants}
+use Rattle.layout.proofs.Prelude.{◌≡◌, ℕ, ◌≤◌, Bool, true, false, List, length, get_or, Some, ap, subst, refl, ◌∙◌, arith, nat_le, ◌&&◌, slice_get, Contains, list_all, option_map_or, le-leb, leb-true, slice_get-get_or, get_or-le-sum_by, list_all-from_AllPass, ConstantObject, ConstantList, ConstantItem, InitialValue, Home, InData, InConstants, Placed, BasedOn, Elsewhere, Nowhere, InFrame, TypedObject, TypedModule, size_of_object, size_of_constant, constant_bytes, bytes_in_constants, fits_as_object, fits_as_list, constants_fit, HasItsConstants}
 
 -- what stands among the constants has no more bytes than all of them
 within_all :

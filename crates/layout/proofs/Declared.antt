@@ -1,14 +1,5 @@
 -- Bytes that are declared, and those that may be written: the tests decide it, and where a lawful placement has them.
-use Rattle.std.proofs.Common.{◌≡◌, ℕ, zero, suc, ◌+◌, ◌<◌, ◌≤◌, Bool, true, false, ◌&&◌, ◌||◌, nat_le, nat_lt, List, [], ◌∷◌, length, Decides, refl, sym, ◌∙◌, arith}
-use Rattle.std.specs.Prelude.{All, filter}
-use Rattle.std.specs.List.{list_any}
-use Rattle.std.proofs.lemmas.List.Folds.{Any-from_list_any, list_any-from_Any}
-use Rattle.std.proofs.lemmas.Bool.Decides.{nat_tests, Decides-and, Decides-ltb}
-use Rattle.mem80.specs.declared.range.Range.{Range}
-use Rattle.mem80.specs.Range.{IsIn, Meets}
-use Rattle.typed_trees.specs.TypedTrees.{TypedModule}
-use Rattle.layout.specs.Placement.{Placement, PlacedPiece, IsConstant, IsDeclared, IsOneOf, IsWritable, constant_pieces, holds_byte, is_constant, is_declared, pieces_of}
-use Rattle.layout.specs.Lawful.{IsLawful, LiesIn}
+use Rattle.layout.proofs.Prelude.{◌≡◌, ℕ, zero, suc, ◌+◌, ◌<◌, ◌≤◌, Bool, true, false, ◌&&◌, ◌||◌, nat_le, nat_lt, List, [], ◌∷◌, length, Decides, refl, sym, ◌∙◌, arith, All, filter, list_any, Any-from_list_any, list_any-from_Any, nat_tests, Decides-and, Decides-ltb, Range, IsIn, Meets, TypedModule, Placement, PlacedPiece, IsConstant, IsDeclared, IsOneOf, IsWritable, constant_pieces, holds_byte, is_constant, is_declared, pieces_of, IsLawful, LiesIn}
 
 Decides-le : (a b : ℕ) → Decides (nat_le a b) (a ≤ b)
 Decides-le a b = (λ is. grind (arith, nat_tests), λ is. grind (arith, nat_tests))

@@ -1,21 +1,6 @@
 -- In a placement that follows the storage of a module, each object lies at the address of its location.
-use Rattle.std.proofs.Common.{◌≡◌, ℕ, zero, suc, ◌+◌, ◌%◌, ◌<◌, List, [], ◌∷◌, map, take, Option, Some, None, refl, ap, sym, subst, ◌∙◌, arith}
-use Rattle.std.specs.Prelude.{slice_get, slice_index, unwrap_or, zip, IsSomeAnd}
-use Rattle.std.specs.List.{AllByRecursion, enumerate_from}
-use Rattle.std.proofs.lemmas.List.Elements.{recursion_from_All}
-use Rattle.std.proofs.lemmas.Option.{none-some, slice_get_within, slice_get-get_or}
-use Rattle.mem80.specs.declared.memory.TheConstants.{MEMORY_SIZE}
-use Rattle.typed_trees.specs.declared.parts.AtAddress.TheVariants.{AtNumber, AtObject}
-use Rattle.typed_trees.specs.Storable.{HasPlace, LooksBack, LooksAtPlace, IsStorable}
-use Rattle.typed_trees.specs.TypedTrees.{Home, InData, InConstants, Placed, BasedOn, Elsewhere, Nowhere, InFrame, TypedObject, TypedModule}
+use Rattle.layout.proofs.Prelude.{◌≡◌, ℕ, zero, suc, ◌+◌, ◌%◌, ◌<◌, List, [], ◌∷◌, map, take, Option, Some, None, refl, ap, sym, subst, ◌∙◌, arith, slice_get, slice_index, unwrap_or, zip, IsSomeAnd, AllByRecursion, enumerate_from, recursion_from_All, none-some, slice_get_within, slice_get-get_or, MEMORY_SIZE, AtNumber, AtObject, HasPlace, LooksBack, LooksAtPlace, IsStorable, Home, InData, InConstants, Placed, BasedOn, Elsewhere, Nowhere, InFrame, TypedObject, TypedModule, Code, Data, Slot, data_bytes, is_object, constants_before, slot_of_object, storage_with, ModulePlacement, Bases, base_of, LiesInSlot, FollowsBases, HasAddresses, LiesByHome, LiesWhereAtSays, Target, SegmentStart, location_by_home, locations_after, location_of, address_of_location}
 use Rattle.layout.specs.declared.slot.Segment.{Segment}
-use Rattle.layout.specs.declared.slot.Segment.TheVariants.{Code, Data}
-use Rattle.layout.specs.declared.slot.Slot.{Slot}
-use Rattle.layout.specs.Storage.{data_bytes, is_object, constants_before, slot_of_object, storage_with}
-use Rattle.layout.specs.Placement.{ModulePlacement}
-use Rattle.layout.specs.Following.{Bases, base_of, LiesInSlot, FollowsBases}
-use Rattle.layout.specs.Lawful.{HasAddresses, LiesByHome, LiesWhereAtSays}
-use Rattle.layout.specs.Segments.{Target, SegmentStart, location_by_home, locations_after, location_of, address_of_location}
 use Rattle.layout.proofs.Resolving.{further}
 use Rattle.layout.proofs.Segments.{of_all}
 use Rattle.layout.proofs.Locations.{location_is}

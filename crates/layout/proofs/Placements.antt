@@ -1,20 +1,5 @@
 -- What a plan places follows the storage of each module, at the bases that the plan has for it.
-use Rattle.std.proofs.Common.{◌≡◌, ℕ, suc, ◌+◌, ◌≤◌, List, [], ◌∷◌, ◌++◌, length, map, Option, None, Some, Bool, true, false, if◌then◌else◌, sym, subst, refl, ap, ◌∙◌, append-nil, length-append, arith}
-use Rattle.std.specs.Prelude.{All, zip, sum, sum_by, ◌||◌}
-use Rattle.std.specs.List.{enumerate_from}
-use Rattle.std.specs.Option.{option_or}
-use Rattle.std.proofs.lemmas.Bool.{ltb-false}
-use Rattle.std.proofs.lemmas.Option.{none-some}
-use Rattle.std.proofs.lemmas.List.{append_assoc, length-map}
-use Rattle.std.proofs.lemmas.List.Sums.{sum_by-cons}
-use Rattle.std.proofs.lemmas.List.Elements.{All-nil, All-cons}
-use Rattle.mem80.specs.declared.range.Range.{Range}
-use Rattle.typed_trees.specs.TypedTrees.{Home, TypedObject, TypedModule}
-use Rattle.typed_trees.specs.Weight.{constant_bytes}
-use Rattle.layout.specs.declared.slot.Slot.{Slot}
-use Rattle.layout.specs.Storage.{data_bytes, slot_of_list, slot_of_object, storage_with}
-use Rattle.layout.specs.Lawful.{HasAddresses}
-use Rattle.layout.specs.Following.{Bases, LiesInSlot, address_of_slot, FollowsBases, FollowsStorage}
+use Rattle.layout.proofs.Prelude.{◌≡◌, ℕ, suc, ◌+◌, ◌≤◌, List, [], ◌∷◌, ◌++◌, length, map, Option, None, Some, Bool, true, false, if◌then◌else◌, sym, subst, refl, ap, ◌∙◌, append-nil, length-append, arith, All, zip, sum, sum_by, ◌||◌, enumerate_from, option_or, ltb-false, none-some, append_assoc, length-map, sum_by-cons, All-nil, All-cons, Range, Home, TypedObject, TypedModule, constant_bytes, Slot, data_bytes, slot_of_list, slot_of_object, storage_with, HasAddresses, Bases, LiesInSlot, address_of_slot, FollowsBases, FollowsStorage}
 use Rattle.layout.specs.Placing.{Plan, code_range, data_range, stack_range, PassesMemory, passes_memory, segment_too_large, past_memory, overlapping, first_misplaced, placing_refusal, bases_from, address_by_home, addresses_after, module_placement_by, placement_by}
 
 -- the constant lists

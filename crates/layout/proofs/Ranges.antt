@@ -1,11 +1,5 @@
 -- What the test of overlapping ranges says, and that a list without bytes lies in every range.
-use Rattle.std.proofs.Common.{ℕ, ◌+◌, ◌<◌, ◌≤◌, arith}
-use Rattle.std.specs.Prelude.{◌↔◌, max, min, [], IsTrue}
-use Rattle.std.proofs.lemmas.Bool.{lt-ltb, ltb-true}
-use Rattle.mem80.specs.declared.range.Range.{Range}
-use Rattle.mem80.specs.Range.{Meets}
-use Rattle.layout.specs.Placement.{list_piece}
-use Rattle.layout.specs.Lawful.{LiesIn}
+use Rattle.layout.proofs.Prelude.{ℕ, ◌+◌, ◌<◌, ◌≤◌, arith, ◌↔◌, max, min, [], IsTrue, lt-ltb, ltb-true, Range, Meets, list_piece, LiesIn}
 use Rattle.layout.specs.Placing.{overlaps}
 
 -- the greater of the starts lies in both

@@ -1,18 +1,5 @@
 -- The bytes of a segment where targets have their addresses: those that a run of the source starts with.
-use Rattle.std.proofs.Common.{◌≡◌, ℕ, zero, suc, ◌+◌, ◌-◌, ◌*◌, ◌/◌, ◌%◌, List, [], ◌∷◌, ◌++◌, length, map, replicate, flat_map, Option, Some, None, refl, ap, sym, ◌∙◌, arith}
-use Rattle.std.specs.Prelude.{slice_get}
-use Rattle.std.specs.Option.{option_map_or}
-use Rattle.std.proofs.lemmas.List.{append_assoc}
-use Rattle.mem80.specs.declared.memory.TheConstants.{MEMORY_SIZE}
-use Rattle.typed_trees.specs.declared.parts.ConstantItem.TheVariants.{ConstantObject, ConstantList}
-use Rattle.typed_trees.specs.declared.parts.ConstantItem.{ConstantItem}
-use Rattle.typed_trees.specs.declared.parts.InitialValue.TheVariants.{ByteValue, WordValue, LocationValue}
-use Rattle.typed_trees.specs.declared.parts.InitialValue.{InitialValue}
-use Rattle.typed_trees.specs.Sizes.{size_of_object}
-use Rattle.typed_trees.specs.Storable.{bytes_filled}
-use Rattle.typed_trees.specs.TypedTrees.{Home, InData, InConstants, Placed, BasedOn, Elsewhere, Nowhere, InFrame, TypedObject, TypedModule}
-use Rattle.layout.specs.StartingMemory.{bytes_of_word, bytes_of_value, values_in}
-use Rattle.layout.specs.Segments.{Target, Location, Absolute, After, further_on, address_of_location, location_of, SegmentByte, Places, places_of_bytes, places_of_fixed_word, places_of_location, places_of_value, places_of_object, places_of_constant, constant_places, places_by_home, data_places, resolved_after, resolved}
+use Rattle.layout.proofs.Prelude.{◌≡◌, ℕ, zero, suc, ◌+◌, ◌-◌, ◌*◌, ◌/◌, ◌%◌, List, [], ◌∷◌, ◌++◌, length, map, replicate, flat_map, Option, Some, None, refl, ap, sym, ◌∙◌, arith, slice_get, option_map_or, append_assoc, MEMORY_SIZE, ConstantObject, ConstantList, ConstantItem, ByteValue, WordValue, LocationValue, InitialValue, size_of_object, bytes_filled, Home, InData, InConstants, Placed, BasedOn, Elsewhere, Nowhere, InFrame, TypedObject, TypedModule, bytes_of_word, bytes_of_value, values_in, Target, Location, Absolute, After, further_on, address_of_location, location_of, SegmentByte, Places, places_of_bytes, places_of_fixed_word, places_of_location, places_of_value, places_of_object, places_of_constant, constant_places, places_by_home, data_places, resolved_after, resolved}
 
 -- bytes that are set
 abbrev pub set : List ℕ → List (Option ℕ)

@@ -1,26 +1,6 @@
 -- The segments of a module before it has its place: how long they are, and that each object and each
 -- constant list has its bytes there at its slot.
-use Rattle.std.proofs.Common.{◌≡◌, ℕ, zero, suc, ◌+◌, ◌-◌, ◌<◌, ◌≤◌, Bool, true, false, cond, List, [], ◌∷◌, ◌++◌, length, take, replicate, flat_map, Option, Some, None, refl, ap, sym, subst, ◌∙◌, arith}
-use Rattle.std.specs.Prelude.{not, ◌||◌, ◌==◌, sum_by, take_while, filter_map, slice_get, unwrap_or}
-use Rattle.std.specs.List.{AllByRecursion, enumerate_from, list_any}
-use Rattle.std.specs.Option.{option_map_or}
-use Rattle.std.proofs.lemmas.Bool.{false≢true, eq-eqb, eqb-true}
-use Rattle.std.proofs.lemmas.List.{append_assoc, length-append, length-map, length-replicate}
-use Rattle.std.proofs.lemmas.List.Elements.{recursion_from_All}
-use Rattle.std.proofs.lemmas.List.Sums.{sum_by-cons, take_while-cons}
-use Rattle.std.proofs.lemmas.Option.{none-some, slice_get_within}
-use Rattle.typed_trees.specs.declared.parts.ConstantItem.TheVariants.{ConstantObject, ConstantList}
-use Rattle.typed_trees.specs.declared.parts.ConstantItem.{ConstantItem}
-use Rattle.typed_trees.specs.declared.parts.InitialValue.TheVariants.{ByteValue, WordValue, LocationValue}
-use Rattle.typed_trees.specs.declared.parts.InitialValue.{InitialValue}
-use Rattle.typed_trees.specs.Sizes.{size_of_object}
-use Rattle.typed_trees.specs.Storable.{object_in, list_in, constant_number, numbered_constant, numbers_from, size_of_value, bytes_filled, IsStorable}
-use Rattle.typed_trees.specs.TypedTrees.{Home, InData, InConstants, Placed, BasedOn, Elsewhere, Nowhere, InFrame, TypedObject, TypedModule}
-use Rattle.typed_trees.specs.Weight.{size_of_constant, constant_bytes}
-use Rattle.layout.specs.declared.slot.Slot.{Slot}
-use Rattle.layout.specs.StartingMemory.{values_in}
-use Rattle.layout.specs.Storage.{bytes_in_data, data_bytes, is_object, is_list, slot_of_object, slot_of_list}
-use Rattle.layout.specs.Segments.{Target, Location, Absolute, After, further_on, location_of, SegmentByte, Places, places_of_bytes, places_of_location, places_of_value, places_of_object, places_of_constant, constant_places, places_by_home, data_places, places_in, resolved}
+use Rattle.layout.proofs.Prelude.{◌≡◌, ℕ, zero, suc, ◌+◌, ◌-◌, ◌<◌, ◌≤◌, Bool, true, false, cond, List, [], ◌∷◌, ◌++◌, length, take, replicate, flat_map, Option, Some, None, refl, ap, sym, subst, ◌∙◌, arith, not, ◌||◌, ◌==◌, sum_by, take_while, filter_map, slice_get, unwrap_or, AllByRecursion, enumerate_from, list_any, option_map_or, false≢true, eq-eqb, eqb-true, append_assoc, length-append, length-map, length-replicate, recursion_from_All, sum_by-cons, take_while-cons, none-some, slice_get_within, ConstantObject, ConstantList, ConstantItem, ByteValue, WordValue, LocationValue, InitialValue, size_of_object, object_in, list_in, constant_number, numbered_constant, numbers_from, size_of_value, bytes_filled, IsStorable, Home, InData, InConstants, Placed, BasedOn, Elsewhere, Nowhere, InFrame, TypedObject, TypedModule, size_of_constant, constant_bytes, Slot, values_in, bytes_in_data, data_bytes, is_object, is_list, slot_of_object, slot_of_list, Target, Location, Absolute, After, further_on, location_of, SegmentByte, Places, places_of_bytes, places_of_location, places_of_value, places_of_object, places_of_constant, constant_places, places_by_home, data_places, places_in, resolved}
 use Rattle.layout.proofs.Resolving.{set, Resolves, plain_bytes, starting_bytes, addresses, object_resolves, StandsAlone, both_alone, constant_alone, home_alone, resolved_length}
 
 -- the bytes of a value

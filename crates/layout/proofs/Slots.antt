@@ -1,19 +1,7 @@
 -- One pass over the objects, and one over the lists, find the slots of the storage.
-use Rattle.std.proofs.Common.{◌≡◌, ℕ, ◌+◌, ◌<◌, ◌≤◌, Bool, true, false, List, [], ◌∷◌, ◌++◌, length, take, map, Option, Result, Ok, Err, if◌then◌else◌, min, ap, sym, subst, refl, ◌∙◌, arith}
-use Rattle.std.specs.Prelude.{nat_le, ◌&&◌}
-use Rattle.std.specs.List.{enumerate_from, list_all}
-use Rattle.std.proofs.Math.Seq.{take-append_seam}
-use Rattle.std.proofs.lemmas.Bool.{le-leb, lt-leb, leb-true}
-use Rattle.std.proofs.lemmas.List.{append_assoc, length-append}
-use Rattle.std.proofs.lemmas.List.Sums.{sum_by-append}
-use Rattle.typed_trees.specs.TypedTrees.{Home, InData, InConstants, Placed, BasedOn, Elsewhere, Nowhere, InFrame, TypedObject, TypedModule}
-use Rattle.typed_trees.specs.Weight.{constant_bytes}
+use Rattle.layout.proofs.Prelude.{◌≡◌, ℕ, ◌+◌, ◌<◌, ◌≤◌, Bool, true, false, List, [], ◌∷◌, ◌++◌, length, take, map, Option, Result, Ok, Err, if◌then◌else◌, min, ap, sym, subst, refl, ◌∙◌, arith, nat_le, ◌&&◌, enumerate_from, list_all, take-append_seam, le-leb, lt-leb, leb-true, append_assoc, length-append, sum_by-append, Home, InData, InConstants, Placed, BasedOn, Elsewhere, Nowhere, InFrame, TypedObject, TypedModule, constant_bytes, Slot, Code, bytes_in_data, data_bytes, is_object, constants_before, constants_fit, fits_as_object, fits_as_list, slot_of_object, slot_of_list, Storage, storage_with, storage_of, OffsetTables, offset_in, slot_at, slots_from, list_slots_from}
 use Rattle.layout.specs.declared.fault.Fault.{Fault}
 use Rattle.layout.specs.declared.fault.Fault.TheVariants.{DataTooLarge, ConstantsTooLarge}
-use Rattle.layout.specs.declared.slot.Slot.{Slot}
-use Rattle.layout.specs.declared.slot.Segment.TheVariants.{Code}
-use Rattle.layout.specs.Storage.{bytes_in_data, data_bytes, is_object, constants_before, constants_fit, fits_as_object, fits_as_list, slot_of_object, slot_of_list, Storage, storage_with, storage_of}
-use Rattle.layout.specs.internal.Offsets.{OffsetTables, offset_in, slot_at, slots_from, list_slots_from}
 use Rattle.layout.proofs.Tables.{offsets_of_module, object_offset, list_offset}
 
 -- a slot by what stands before an object

@@ -1,9 +1,5 @@
 -- What is true of a soundly typed module, by the numbers of its objects.
-use Rattle.std.proofs.Common.{◌≡◌, ℕ, ◌<◌, Some, slice_get, subst}
-use Rattle.std.proofs.lemmas.List.Elements.{All-get_or}
-use Rattle.std.proofs.lemmas.Option.{get_or_from_slice_get, slice_get_within}
-use Rattle.typed_trees.specs.Sizes.{size_of_object}
-use Rattle.typed_trees.specs.TypedTrees.{TypedModule, TypedObject}
+use Rattle.layout.proofs.Prelude.{◌≡◌, ℕ, ◌<◌, Some, slice_get, subst, All-get_or, get_or_from_slice_get, slice_get_within, size_of_object, TypedModule, TypedObject}
 use Rattle.layout.specs.Sound.{TakeBytes}
 
 -- the object of a number takes a byte

@@ -1,21 +1,5 @@
 -- The contents of a lawful placement lie apart, each within what it fills.
-use Rattle.std.proofs.Common.{◌≡◌, ◌≢◌, ℕ, zero, suc, ◌+◌, ◌-◌, ◌<◌, ◌≤◌, ◌⊎◌, inl, inr, Bool, true, false, ◌||◌, List, [], ◌∷◌, ◌++◌, length, Option, Some, None, option_map, refl, sym, ap, ap₂, ◌∙◌, subst, arith}
-use Rattle.std.specs.Prelude.{if◌then◌else◌, All, AllPairs, map, zip, filter, filter_map, flat_map, sum_by}
-use Rattle.std.specs.List.{enumerate_from, list_any}
-use Rattle.std.proofs.lemmas.List.Concat.{flat_map-cons, length-flat_map}
-use Rattle.std.proofs.lemmas.List.Elements.{All-append, All-cons, All-filter, filter_map-append, filter-append}
-use Rattle.std.proofs.lemmas.List.Sums.{sum_by-cons}
-use Rattle.mem80.specs.declared.memory.TheConstants.{MEMORY_SIZE}
-use Rattle.mem80.specs.declared.range.Range.{Range}
-use Rattle.mem80.specs.Range.{IsIn}
-use Rattle.typed_trees.specs.declared.parts.InitialValue.{InitialValue}
-use Rattle.typed_trees.specs.declared.parts.InitialValue.TheVariants.{ByteValue, WordValue, LocationValue}
-use Rattle.typed_trees.specs.Sizes.{size_of_object}
-use Rattle.typed_trees.specs.Storable.{IsStorable, bytes_filled, size_of_value}
-use Rattle.typed_trees.specs.TypedTrees.{Home, InData, InConstants, Placed, BasedOn, Elsewhere, Nowhere, InFrame, TypedObject, TypedModule}
-use Rattle.layout.specs.Placement.{StaticPiece, ConstantPiece, ModulePlacement, Placement, PlacedPiece, EndsInMemory, has_own_place, holds_byte, kind_of, list_piece, object_piece, own_pieces, piece_of, pieces_of, pieces_of_module}
-use Rattle.layout.specs.Lawful.{AreDisjoint, IsLawful}
-use Rattle.layout.specs.StartingMemory.{Contents, Covers, IsAmong, StartsAs, address_of_object, bytes_of_value, contents_of, contents_of_list, contents_of_module, contents_of_object, starting_memory, values_in}
+use Rattle.layout.proofs.Prelude.{◌≡◌, ◌≢◌, ℕ, zero, suc, ◌+◌, ◌-◌, ◌<◌, ◌≤◌, ◌⊎◌, inl, inr, Bool, true, false, ◌||◌, List, [], ◌∷◌, ◌++◌, length, Option, Some, None, option_map, refl, sym, ap, ap₂, ◌∙◌, subst, arith, if◌then◌else◌, All, AllPairs, map, zip, filter, filter_map, flat_map, sum_by, enumerate_from, list_any, flat_map-cons, length-flat_map, All-append, All-cons, All-filter, filter_map-append, filter-append, sum_by-cons, MEMORY_SIZE, Range, IsIn, InitialValue, ByteValue, WordValue, LocationValue, size_of_object, IsStorable, bytes_filled, size_of_value, Home, InData, InConstants, Placed, BasedOn, Elsewhere, Nowhere, InFrame, TypedObject, TypedModule, StaticPiece, ConstantPiece, ModulePlacement, Placement, PlacedPiece, EndsInMemory, has_own_place, holds_byte, kind_of, list_piece, object_piece, own_pieces, piece_of, pieces_of, pieces_of_module, AreDisjoint, IsLawful, Contents, Covers, IsAmong, StartsAs, address_of_object, bytes_of_value, contents_of, contents_of_list, contents_of_module, contents_of_object, starting_memory, values_in}
 use Rattle.layout.proofs.Written.{AreApart, EachApart, all_elsewhere, all_here, all_size}
 use Rattle.layout.proofs.Declared.{Decides-holds}
 

@@ -1,20 +1,6 @@
 -- Sums over what is left of a list, as loops over lists of trees need them, and over the values that fill an object.
-use Rattle.std.proofs.Common.{◌≡◌, ℕ, suc, ◌+◌, ◌<◌, ◌≤◌, List, [], ◌∷◌, length, drop, flat_map, get_or, map, min, refl, ap, sym, ◌∙◌, add-one, length-append, arith, Global}
-use Rattle.std.specs.Prelude.{sum_by, ◌&&◌, Vec, vec_items}
-use Rattle.std.specs.List.{list_all}
-use Rattle.std.proofs.Math.ListN.{drop_of_length-le}
-use Rattle.std.proofs.Math.Seq.{drop-cons}
-use Rattle.std.proofs.lemmas.List.Sums.{sum_by-cons}
-use Rattle.typed_trees.specs.declared.module.TypedObject.{TypedObject as Object}
-use Rattle.typed_trees.specs.declared.parts.ConstantItem.{ConstantItem}
-use Rattle.typed_trees.specs.declared.parts.InitialValue.TheVariants.{ByteValue, WordValue, LocationValue}
-use Rattle.typed_trees.specs.declared.parts.InitialValue.{InitialValue}
-use Rattle.typed_trees.specs.Storable.{size_of_value, bytes_filled}
-use Rattle.typed_trees.specs.TypedTrees.{Home, InData, InConstants, TypedObject, TypedModule}
-use Rattle.typed_trees.specs.Views.{object_view}
-use Rattle.typed_trees.specs.Weight.{size_of_constant}
-use Rattle.layout.specs.StartingMemory.{bytes_of_value, values_in}
-use Rattle.layout.specs.Storage.{bytes_in_data, data_bytes, fits_as_object, fits_as_list}
+use Rattle.layout.proofs.Prelude.{◌≡◌, ℕ, suc, ◌+◌, ◌<◌, ◌≤◌, List, [], ◌∷◌, length, drop, flat_map, get_or, map, min, refl, ap, sym, ◌∙◌, add-one, length-append, arith, sum_by, ◌&&◌, Vec, vec_items, list_all, drop_of_length-le, drop-cons, sum_by-cons, Object, ConstantItem, ByteValue, WordValue, LocationValue, InitialValue, size_of_value, bytes_filled, Home, InData, InConstants, TypedObject, TypedModule, object_view, size_of_constant, bytes_of_value, values_in, bytes_in_data, data_bytes, fits_as_object, fits_as_list}
+use Rattle.std.proofs.Common.{Global}
 
 -- the view of what is left of a list begins with that of the item that a loop is at
 pub view_first :

@@ -1,16 +1,5 @@
 -- Tables of offsets, and that they tell the offsets of the storage.
-use Rattle.std.proofs.Common.{◌≡◌, ℕ, zero, suc, ◌+◌, ◌<◌, ◌≤◌, List, [], ◌∷◌, length, get_or, Option, Some, None, Bool, true, false, cond, eqb, ap, sym, subst, refl, ◌∙◌, one-add, arith}
-use Rattle.std.specs.Prelude.{sum_by, take, take_while, not, slice_set, replicate}
-use Rattle.std.specs.List.{prefix_len}
-use Rattle.std.proofs.Math.Dec.{eqb-zero-suc, eqb-suc-zero, eqb-suc-suc}
-use Rattle.std.proofs.lemmas.List.{length-replicate}
-use Rattle.std.proofs.lemmas.List.Sums.{sum_by-cons}
-use Rattle.typed_trees.specs.declared.parts.ConstantItem.TheVariants.{ConstantObject, ConstantList}
-use Rattle.typed_trees.specs.declared.parts.ConstantItem.{ConstantItem}
-use Rattle.typed_trees.specs.TypedTrees.{TypedModule}
-use Rattle.typed_trees.specs.Weight.{size_of_constant, constant_bytes}
-use Rattle.layout.specs.Storage.{is_object, is_list, constants_before}
-use Rattle.layout.specs.internal.Offsets.{OffsetTables, or_first, put_first, put, put_all, offset_or, offset_in}
+use Rattle.layout.proofs.Prelude.{◌≡◌, ℕ, zero, suc, ◌+◌, ◌<◌, ◌≤◌, List, [], ◌∷◌, length, get_or, Option, Some, None, Bool, true, false, cond, eqb, ap, sym, subst, refl, ◌∙◌, one-add, arith, sum_by, take, take_while, not, slice_set, replicate, prefix_len, eqb-zero-suc, eqb-suc-zero, eqb-suc-suc, length-replicate, sum_by-cons, ConstantObject, ConstantList, ConstantItem, TypedModule, size_of_constant, constant_bytes, is_object, is_list, constants_before, OffsetTables, or_first, put_first, put, put_all, offset_or, offset_in}
 
 -- what the first offset of a number does to a table
 pub put_first_at :

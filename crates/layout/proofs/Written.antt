@@ -1,11 +1,5 @@
 -- Bytes that are written over a memory, one after another.
-use Rattle.std.proofs.Common.{◌≡◌, ◌≢◌, ℕ, zero, suc, ◌+◌, ◌-◌, ◌<◌, ◌≤◌, ◌⊎◌, inl, inr, Bool, true, false, List, [], ◌∷◌, ◌++◌, length, slice_set, slice_index, refl, sym, ap, ◌∙◌, subst, arith}
-use Rattle.std.specs.Prelude.{All, fold}
-use Rattle.std.proofs.lemmas.Bool.{cases_lt}
-use Rattle.std.proofs.lemmas.List.{length-set, get_or-set_same, get_or-set_other}
-use Rattle.mem80.specs.declared.memory.TheConstants.{MEMORY_SIZE}
-use Rattle.mem80.specs.Memory.{byte_at}
-use Rattle.layout.specs.StartingMemory.{Contents, Covers, IsAmong, written}
+use Rattle.layout.proofs.Prelude.{◌≡◌, ◌≢◌, ℕ, zero, suc, ◌+◌, ◌-◌, ◌<◌, ◌≤◌, ◌⊎◌, inl, inr, Bool, true, false, List, [], ◌∷◌, ◌++◌, length, slice_set, slice_index, refl, sym, ap, ◌∙◌, subst, arith, All, fold, cases_lt, length-set, get_or-set_same, get_or-set_other, MEMORY_SIZE, byte_at, Contents, Covers, IsAmong, written}
 
 -- no address is covered by two
 abbrev pub AreApart : Contents → Contents → Type 0

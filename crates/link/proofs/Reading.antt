@@ -1,10 +1,5 @@
 -- Files that are read one after another.
-use Rattle.std.proofs.Common.{◌≡◌, ℕ, suc, ◌+◌, ◌<◌, List, [], ◌∷◌, ◌++◌, Bor, length, get_or, take, drop, drop-cons, map, sym, ap, subst, ◌∙◌}
-use Rattle.std.specs.List.{AllZip}
-use Rattle.std.proofs.lemmas.List.{map-append, map_more, take-append-drop}
-use Rattle.std.proofs.lemmas.Slice.Zip.{all_zipped_more, AllZip-long}
-use Rattle.object_modules.specs.Module.{ObjectModule}
-use Rattle.object_modules.specs.Spelling.{Spells}
+use Rattle.link.proofs.Prelude.{◌≡◌, ℕ, suc, ◌+◌, ◌<◌, List, [], ◌∷◌, ◌++◌, Bor, length, get_or, take, drop, drop-cons, map, sym, ap, subst, ◌∙◌, AllZip, map-append, map_more, take-append-drop, all_zipped_more, AllZip-long, ObjectModule, Spells}
 use Rattle.link.specs.declared.StreamFault.{StreamFault}
 use Rattle.link.specs.declared.StreamFault.TheVariants as stream
 use Rattle.link.specs.internal.Causes.{HasNoMerge, IsFaultyAt}

@@ -1,19 +1,6 @@
 -- Segments after the pieces of all modules: their runs, their fixes, and whether a high byte moves.
-use Rattle.std.proofs.Common.{◌≡◌, ℕ, ◌+◌, ◌<◌, Bool, true, false, ◌||◌, List, [], ◌∷◌, ◌++◌, length, drop, get_or, flat_map, refl, ap, sym, ◌∙◌}
-use Rattle.std.specs.List.{list_any}
-use Rattle.std.proofs.lemmas.List.{append_assoc, append-nil}
-use Rattle.object_modules.specs.declared.segment.Alignment.{Alignment}
-use Rattle.object_modules.specs.declared.segment.Segment.{Segment}
-use Rattle.object_modules.specs.declared.segment.Segment.TheVariants.{Code, Data}
-use Rattle.object_modules.specs.Displacements.{Linked}
-use Rattle.object_modules.specs.Merge.{some_high_byte_moves}
-use Rattle.object_modules.specs.Module.{Public}
-use Rattle.object_modules.specs.Runs.{fixes_in}
-use Rattle.object_modules.specs.Stored.{StoredSegment}
-use Rattle.object_laws.proofs.Merges.HighBytes.{high_byte_moves, high_moves_by_fixes}
-use Rattle.link_laws.specs.internal.Building.{alignment_joined, end_in, end_joined, piece_fixes, runs_joined, stored_joined}
+use Rattle.link_laws.proofs.Prelude.{◌≡◌, ℕ, ◌+◌, ◌<◌, Bool, true, false, ◌||◌, List, [], ◌∷◌, ◌++◌, length, drop, get_or, flat_map, refl, ap, sym, ◌∙◌, list_any, append_assoc, append-nil, Alignment, Segment, Code, Data, Linked, some_high_byte_moves, Public, fixes_in, StoredSegment, high_byte_moves, high_moves_by_fixes, alignment_joined, end_in, end_joined, piece_fixes, runs_joined, stored_joined, Grown, all_grown, grown_by, nothing_grown}
 use Rattle.link_laws.proofs.NameLoops.{at_item}
-use Rattle.link_laws.specs.internal.Growing.{Grown, all_grown, grown_by, nothing_grown}
 
 -- a high byte of a segment of a module moves
 abbrev pub moves_in : List Public → Segment → Linked → Bool

@@ -1,18 +1,6 @@
 -- Bytes in two parts, of which each has fixes of its own: what becomes of the whole is what becomes of the parts.
-use Rattle.std.proofs.Common.{◌≡◌, ℕ, ◌+◌, ◌-◌, ◌<◌, ◌≤◌, List, [], ◌∷◌, ◌++◌, length, refl, ap, sym, subst, ◌∙◌, arith}
-use Rattle.std.proofs.Math.ListN.{get_or, set}
-use Rattle.std.proofs.lemmas.List.{length-set, set-append_left, get_or_append_left}
-use Rattle.object_modules.specs.declared.segment.Fix.{Fix}
-use Rattle.object_modules.specs.declared.segment.FixKind.{FixKind}
-use Rattle.object_modules.specs.declared.segment.FixKind.TheVariants.{Low, High, Both}
-use Rattle.object_modules.specs.declared.segment.Target.{Target}
-use Rattle.object_modules.specs.Module.{width_of}
-use Rattle.object_modules.specs.Moving.{first_byte_moved, second_byte_moved}
-use Rattle.object_modules.specs.Rules.{fix_end}
-use Rattle.object_modules.specs.internal.Joining.{bytes_fixed, bytes_after}
-use Rattle.object_laws.proofs.Merges.PiecesByRuns.{AllPast}
-use Rattle.object_laws.proofs.Merges.RunsMoved.{fixed_after}
-use Rattle.link_laws.specs.internal.Building.{AreWithin}
+use Rattle.link_laws.proofs.Prelude.{◌≡◌, ℕ, ◌+◌, ◌-◌, ◌<◌, ◌≤◌, List, [], ◌∷◌, ◌++◌, length, refl, ap, sym, subst, ◌∙◌, arith, set, length-set, set-append_left, get_or_append_left, Fix, FixKind, Low, High, Both, Target, width_of, first_byte_moved, second_byte_moved, fix_end, bytes_fixed, bytes_after, AllPast, fixed_after, AreWithin}
+use Rattle.std.proofs.Math.ListN.{get_or}
 
 -- as many bytes as before
 pub fixed_length :

@@ -1,15 +1,5 @@
 -- The contents of a file end within their segments at their places, and their fixes are within them.
-use Rattle.std.proofs.Common.{◌≡◌, ℕ, ◌+◌, ◌≤◌, Bool, true, false, cond, List, [], ◌∷◌, length, filter, subst, arith}
-use Rattle.object_modules.specs.declared.segment.Fix.{Fix}
-use Rattle.object_modules.specs.declared.segment.Segment.{Segment}
-use Rattle.object_modules.specs.declared.segment.Segment.TheVariants.{Code, Data}
-use Rattle.object_modules.specs.Before.{content_end, same_segment}
-use Rattle.object_modules.specs.Displacements.{start_of}
-use Rattle.object_modules.specs.Spelling.{FixedContent}
-use Rattle.object_modules.specs.Walking.{Walking}
-use Rattle.link_laws.specs.internal.Building.{AreWithin}
-use Rattle.objmod.specs.internal.Keeping.{AllFit, ContentsFit, Placed, fix_table, is_in, listed}
-use Rattle.link_laws.specs.internal.Growing.{AllFitAt, FitsAt, Resolved}
+use Rattle.link_laws.proofs.Prelude.{◌≡◌, ℕ, ◌+◌, ◌≤◌, Bool, true, false, cond, List, [], ◌∷◌, length, filter, subst, arith, Fix, Segment, Code, Data, content_end, same_segment, start_of, FixedContent, Walking, AreWithin, AllFit, ContentsFit, Placed, fix_table, is_in, listed, AllFitAt, FitsAt, Resolved}
 use Rattle.link_laws.proofs.FixesByPlace.{own_within}
 
 module _ (resolved : Resolved) (segment : Segment) where

@@ -1,17 +1,5 @@
 -- The fixes of contents by their places: those of a content are within it, and those of later ones after it.
-use Rattle.std.proofs.Common.{◌≡◌, ℕ, zero, suc, ◌+◌, ◌≤◌, Bool, true, false, cond, ◌==◌, nat_le, List, [], ◌∷◌, ◌++◌, length, flat_map, Option, Some, None, refl, subst, arith}
-use Rattle.std.specs.List.{list_all}
-use Rattle.std.proofs.lemmas.Bool.{and_parts, leb-true}
-use Rattle.std.proofs.lemmas.Option.{same_Some}
-use Rattle.object_modules.specs.declared.segment.Fix.{Fix}
-use Rattle.object_modules.specs.Before.{content_end}
-use Rattle.object_modules.specs.Parts.{Content}
-use Rattle.object_modules.specs.Rules.{fix_end, is_within}
-use Rattle.object_modules.specs.Spelling.{FixedContent}
-use Rattle.object_laws.proofs.Merges.PiecesByRuns.{AllPast}
-use Rattle.link_laws.specs.internal.Building.{AreWithin}
-use Rattle.objmod.specs.internal.Keeping.{Placed, fix_at, fix_table, fixes_by_place, listed}
-use Rattle.objmod.proofs.Kept.{found_there}
+use Rattle.link_laws.proofs.Prelude.{◌≡◌, ℕ, zero, suc, ◌+◌, ◌≤◌, Bool, true, false, cond, ◌==◌, nat_le, List, [], ◌∷◌, ◌++◌, length, flat_map, Option, Some, None, refl, subst, arith, list_all, and_parts, leb-true, same_Some, Fix, content_end, Content, fix_end, is_within, FixedContent, AllPast, AreWithin, Placed, fix_at, fix_table, fixes_by_place, listed, found_there}
 
 -- a fix that is found is one of those that are within
 found_within :

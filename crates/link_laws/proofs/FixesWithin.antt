@@ -1,27 +1,5 @@
 -- The runs of a module with their fixes: each fix lies within the run that it begins in.
-use Rattle.std.proofs.Common.{◌≡◌, ℕ, suc, ◌+◌, ◌<◌, ◌≤◌, true, false, not, ◌&&◌, ◌||◌, nat_lt, nat_le, List, [], ◌∷◌, ◌++◌, length, map, flat_map, Option, None, Some, IsTrue, refl, ap, sym, subst, ◌∙◌, arith}
-use Rattle.std.specs.List.{AllByRecursion}
-use Rattle.std.proofs.lemmas.Bool.{and_parts, leb-true, ltb-true}
-use Rattle.std.proofs.lemmas.List.{length-map}
-use Rattle.object_modules.specs.declared.segment.Fix.{Fix}
-use Rattle.object_modules.specs.declared.segment.FixKind.{FixKind}
-use Rattle.object_modules.specs.declared.segment.FixKind.TheVariants.{Low, High, Both}
-use Rattle.object_modules.specs.declared.segment.Segment.{Segment}
-use Rattle.object_modules.specs.declared.segment.Segment.TheVariants.{Absolute, Code, Data, Stack}
-use Rattle.object_modules.specs.declared.segment.Target.{Target}
-use Rattle.object_modules.specs.Before.{is_empty}
-use Rattle.object_modules.specs.Module.{Fixup, SetByte, ObjectModule, IsObjectModule, begins_word, is_plain, words_are_whole, length_of, places_of, width_of}
-use Rattle.object_modules.specs.Rules.{fix_end}
-use Rattle.object_modules.specs.Runs.{bytes_of_run, fixes_of_run, fixes_in, runs_of}
-use Rattle.object_modules.specs.Stored.{are_longest}
-use Rattle.object_modules.specs.Text.{Run, runs_from, fixes_from}
-use Rattle.object_modules.specs.internal.Joining.{before_fixes, place_fixes, run_end}
-use Rattle.object_laws.proofs.Merges.FixesOfPlaces.{fixes_step, runs_fixes}
-use Rattle.object_laws.proofs.Merges.MergeValid.{places_are}
-use Rattle.object_laws.proofs.Merges.PiecesByRuns.{Apart, AllBelow, AllPast, below_first, past_others, runs_apart}
-use Rattle.object_laws.proofs.Merges.PlacesKept.{AllFrom}
-use Rattle.object_laws.proofs.Merges.RunsMoved.{fixes_later, row_of, values_of}
-use Rattle.link_laws.specs.internal.Building.{AreWithin, HaveTheirFixes}
+use Rattle.link_laws.proofs.Prelude.{◌≡◌, ℕ, suc, ◌+◌, ◌<◌, ◌≤◌, true, false, not, ◌&&◌, ◌||◌, nat_lt, nat_le, List, [], ◌∷◌, ◌++◌, length, map, flat_map, Option, None, Some, IsTrue, refl, ap, sym, subst, ◌∙◌, arith, AllByRecursion, and_parts, leb-true, ltb-true, length-map, Fix, FixKind, Low, High, Both, Segment, Absolute, Code, Data, Stack, Target, is_empty, Fixup, SetByte, ObjectModule, IsObjectModule, begins_word, is_plain, words_are_whole, length_of, places_of, width_of, fix_end, bytes_of_run, fixes_of_run, fixes_in, runs_of, are_longest, Run, runs_from, fixes_from, before_fixes, place_fixes, run_end, fixes_step, runs_fixes, places_are, Apart, AllBelow, AllPast, below_first, past_others, runs_apart, AllFrom, fixes_later, row_of, values_of, AreWithin, HaveTheirFixes}
 
 -- fixes after the first place are within what begins one place before
 within_earlier :

@@ -1,3 +1,4 @@
+mod Prelude
 pub mod NameLoops
 pub mod StartLoops
 pub mod MainPasses

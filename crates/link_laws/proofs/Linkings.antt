@@ -1,22 +1,7 @@
 -- What a linker answers, by what each of its steps gave.
-use Rattle.std.proofs.Common.{◌≡◌, ℕ, Bool, true, false, not, ◌==◌, List, [], ◌∷◌, All, length, map, slice_get, sum_by, Option, None, Some, option_map, Result, Ok, Err, refl, ap, sym, subst, ◌∙◌}
-use Rattle.std.specs.List.{list_any}
-use Rattle.std.specs.Option.{option_map_or}
-use Rattle.failure.specs.Failure.{IfFault}
-use Rattle.failure.specs.declared.Failure.{Failure}
-use Rattle.failure.specs.declared.Failure.TheVariants.{Fault, Memory}
-use Rattle.object_modules.specs.declared.object.ModuleParts.{ModuleParts}
-use Rattle.object_modules.specs.declared.public.OwnedPublic.{OwnedPublic}
-use Rattle.object_modules.specs.declared.segment.Segment.TheVariants.{Code, Data}
-use Rattle.object_modules.specs.Displacements.{Linked, linked_modules, all_publics}
-use Rattle.object_modules.specs.Merge.{LinkRefusal, UnresolvedExternal, SegmentTooLong, NotOneMain, HighByteMoves, main_modules, joined, public_names, some_segment_is_too_long, some_high_byte_moves, unless_refused, link_refusal, merge_of}
-use Rattle.object_modules.specs.Module.{Public, ObjectModule, IsObjectModule}
-use Rattle.object_modules.specs.Views.{AreKept, module_of_parts, owned_public_view}
+use Rattle.link_laws.proofs.Prelude.{◌≡◌, ℕ, Bool, true, false, not, ◌==◌, List, [], ◌∷◌, All, length, map, slice_get, sum_by, Option, None, Some, option_map, Result, Ok, Err, refl, ap, sym, subst, ◌∙◌, list_any, option_map_or, ModuleParts, OwnedPublic, Code, Data, Linked, linked_modules, all_publics, LinkRefusal, UnresolvedExternal, SegmentTooLong, NotOneMain, HighByteMoves, main_modules, joined, public_names, some_segment_is_too_long, some_high_byte_moves, unless_refused, link_refusal, merge_of, Public, ObjectModule, IsObjectModule, AreKept, module_of_parts, owned_public_view, AreMerged, parts_merged, merged_kept, names_from, AreJoined, stored_joined, externals_of, gathered, missing_in, name_of}
+use Rattle.failure.specs.{Failure.{IfFault}, declared.Failure.{Failure, TheVariants.{Fault, Memory}}}
 use Rattle.object_laws.proofs.Files.Accepted.{public_name}
-use Rattle.object_laws.proofs.Merges.MergedParts.{AreMerged, parts_merged, merged_kept}
-use Rattle.object_laws.proofs.Merges.MergeValid.{names_from}
-use Rattle.link_laws.specs.internal.Building.{AreJoined, stored_joined}
-use Rattle.link_laws.specs.internal.Passes.{externals_of, gathered, missing_in, name_of}
 use Rattle.link_laws.proofs.NameLoops.{views_named}
 use Rattle.link_laws.proofs.Refusals.{all_gathered, refused_duplicate, refused_unresolved, refused_long, refused_mains, refused_high, allowed}
 use Rattle.link_laws.proofs.SegmentsMerged.{code_merged, data_merged}

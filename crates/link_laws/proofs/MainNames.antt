@@ -1,12 +1,6 @@
 -- The names and the starts of main modules.
-use Rattle.std.proofs.Common.{◌≡◌, ◌↔◌, ℕ, ◌+◌, ◌%◌, ◌≤◌, Bool, true, false, cond, not, ◌&&◌, ◌||◌, ◌==◌, nat_lt, nat_le, ◌-◌, List, [], ◌∷◌, length, map, Some, option_map, IsTrue, refl, ap, sym, subst, ◌∙◌, arith}
-use Rattle.std.specs.Char.{is_ascii_uppercase, is_ascii_digit, to_ascii_uppercase}
-use Rattle.std.specs.List.{filter, list_all}
-use Rattle.std.proofs.lemmas.Bool.{and_parts, or_left, and_from, ne_eqb, leb-true, lt-ltb}
+use Rattle.link_laws.proofs.Prelude.{◌≡◌, ◌↔◌, ℕ, ◌+◌, ◌%◌, ◌≤◌, Bool, true, false, cond, not, ◌&&◌, ◌||◌, ◌==◌, nat_lt, nat_le, ◌-◌, List, [], ◌∷◌, length, map, Some, option_map, IsTrue, refl, ap, sym, subst, ◌∙◌, arith, is_ascii_uppercase, is_ascii_digit, to_ascii_uppercase, filter, list_all, and_parts, or_left, and_from, ne_eqb, leb-true, lt-ltb, Code, Linked, displacement_in, main_of}
 use Rattle.symbols.specs.Names.{is_name, is_name_character, name_of}
-use Rattle.object_modules.specs.declared.segment.Segment.TheVariants.{Code}
-use Rattle.object_modules.specs.Displacements.{Linked, displacement_in}
-use Rattle.object_laws.proofs.Merges.MergeValid.{main_of}
 
 between : (c low high : ℕ) → (nat_le low c && nat_le c high) ≡ true → (low ≤ c) × (c ≤ high)
 between c low high h =

@@ -1,13 +1,5 @@
 -- The pass over modules that looks for a second main module.
-use Rattle.std.proofs.Common.{◌≡◌, ℕ, suc, ◌+◌, ◌%◌, ◌<◌, ◌≤◌, Bool, true, false, cond, ◌==◌, List, [], ◌∷◌, length, drop, filter_map, get_or, is_some, Option, None, Some, option_map, refl, ap, sym, ◌∙◌, arith}
-use Rattle.std.specs.List.{cons_option}
-use Rattle.std.proofs.lemmas.Bool.{ne_eqb}
-use Rattle.object_modules.specs.Displacements.{code_end, data_end, linked_after, linked_from, linked_modules}
-use Rattle.object_modules.specs.Merge.{main_modules}
-use Rattle.object_modules.specs.Module.{ObjectModule}
-use Rattle.object_laws.proofs.Merges.MergeValid.{main_of, mains_are}
-use Rattle.object_laws.proofs.Merges.RunsJoined.{same_test}
-use Rattle.link_laws.specs.internal.Passes.{one_main}
+use Rattle.link_laws.proofs.Prelude.{◌≡◌, ℕ, suc, ◌+◌, ◌%◌, ◌<◌, ◌≤◌, Bool, true, false, cond, ◌==◌, List, [], ◌∷◌, length, drop, filter_map, get_or, is_some, Option, None, Some, option_map, refl, ap, sym, ◌∙◌, arith, cons_option, ne_eqb, code_end, data_end, linked_after, linked_from, linked_modules, main_modules, ObjectModule, main_of, mains_are, same_test, one_main}
 use Rattle.link_laws.proofs.NameLoops.{at_item, at_end}
 
 abbrev mains_from : (code data_before : ℕ) → List ObjectModule → List (List ℕ × ℕ)

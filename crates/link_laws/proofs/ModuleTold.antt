@@ -1,20 +1,6 @@
 -- The module that a walk over a file tells: its lengths, and the runs and fixes of its segments, by the contents.
-use Rattle.std.proofs.Common.{◌≡◌, ℕ, ◌+◌, ◌≤◌, true, List, length, map, filter, flat_map, refl, ap, sym, ◌∙◌, arith}
-use Rattle.std.specs.List.{range_with_len}
-use Rattle.std.proofs.lemmas.List.FromFn.{length-map-range_with_len}
-use Rattle.object_modules.specs.declared.segment.Alignment.{Alignment}
-use Rattle.object_modules.specs.declared.segment.Segment.{Segment}
-use Rattle.object_modules.specs.declared.segment.Segment.TheVariants.{Absolute, Code, Data, Stack}
-use Rattle.object_modules.specs.Before.{same_segment}
-use Rattle.object_modules.specs.Module.{ObjectModule, Places, alignment_of, length_of}
-use Rattle.object_modules.specs.Runs.{bytes_of_run, fixes_in, fixes_of_run, runs_of}
-use Rattle.object_modules.specs.Spelling.{FixedContent, set_in}
-use Rattle.object_modules.specs.Text.{runs_from}
-use Rattle.object_modules.specs.Walking.{Walking, alignment_by, length_by, module_by, places_by}
+use Rattle.link_laws.proofs.Prelude.{◌≡◌, ℕ, ◌+◌, ◌≤◌, true, List, length, map, filter, flat_map, refl, ap, sym, ◌∙◌, arith, range_with_len, length-map-range_with_len, Alignment, Segment, Absolute, Code, Data, Stack, same_segment, ObjectModule, Places, alignment_of, length_of, bytes_of_run, fixes_in, fixes_of_run, runs_of, FixedContent, set_in, runs_from, Walking, alignment_by, length_by, module_by, places_by, ContentsFit, SegmentFits, fixes_by_place, is_in, runs_kept, kept_places, kept_stored}
 use Rattle.object_modules.proofs.StoredRuns.{stored_bytes, stored_fixes}
-use Rattle.objmod.specs.internal.Keeping.{ContentsFit, SegmentFits, fixes_by_place, is_in, runs_kept}
-use Rattle.objmod.proofs.Kept.{kept_places}
-use Rattle.objmod.proofs.KeptStored.{kept_stored}
 
 sized :
     (contents : List FixedContent) (segment : Segment) (size : ℕ)

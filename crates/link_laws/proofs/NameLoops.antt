@@ -1,15 +1,6 @@
 -- Loops over names, and over modules with theirs.
-use Rattle.std.proofs.Common.{◌≡◌, ℕ, suc, ◌+◌, ◌<◌, ◌≤◌, Bool, true, false, cond, not, List, [], ◌∷◌, ◌++◌, map, length, drop, get_or, Option, None, Some, Result, Ok, Err, refl, ap, sym, ◌∙◌, add-one}
-use Rattle.std.specs.Option.{option_or}
-use Rattle.std.specs.Str.{bytes_eq}
-use Rattle.std.proofs.Math.ListN.{drop_of_length-le}
-use Rattle.std.proofs.Math.Seq.{drop-cons}
+use Rattle.link_laws.proofs.Prelude.{◌≡◌, ℕ, suc, ◌+◌, ◌<◌, ◌≤◌, Bool, true, false, cond, not, List, [], ◌∷◌, ◌++◌, map, length, drop, get_or, Option, None, Some, Result, Ok, Err, refl, ap, sym, ◌∙◌, add-one, option_or, bytes_eq, drop_of_length-le, drop-cons, OwnedPublic, LinkRefusal, DuplicatePublic, public_names, Public, ObjectModule, is_among, owned_public_view, gathered, name_of, externals_of, missing_in}
 use Rattle.indexmap.specs.IndexSet.{insert_key}
-use Rattle.object_modules.specs.declared.public.OwnedPublic.{OwnedPublic}
-use Rattle.object_modules.specs.Merge.{LinkRefusal, DuplicatePublic, public_names}
-use Rattle.object_modules.specs.Module.{Public, ObjectModule, is_among}
-use Rattle.object_modules.specs.Views.{owned_public_view}
-use Rattle.link_laws.specs.internal.Passes.{gathered, name_of, externals_of, missing_in}
 
 -- what is left of a list, item by item
 module _ {A Y : Type 0} (of : List A → Y) (items : List A) (i : ℕ) where

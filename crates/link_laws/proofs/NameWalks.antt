@@ -1,15 +1,6 @@
 -- Names that walks over files hand out one after another.
-use Rattle.std.proofs.Common.{◌≡◌, ℕ, ◌+◌, ◌<◌, Bool, true, false, cond, not, ◌||◌, nat_lt, Bor, List, [], ◌∷◌, ◌++◌, length, map, drop, get_or, Option, None, Some, Result, Ok, Err, refl, ap, sym, ◌∙◌}
-use Rattle.std.specs.List.{list_any, position, position_or_len}
-use Rattle.std.specs.Str.{bytes_eq}
-use Rattle.std.proofs.lemmas.List.{length-map}
-use Rattle.object_modules.specs.declared.public.OwnedPublic.{OwnedPublic}
-use Rattle.object_modules.specs.Merge.{LinkRefusal, DuplicatePublic, public_names}
-use Rattle.object_modules.specs.Module.{Public, ObjectModule, is_among}
-use Rattle.object_modules.specs.Views.{owned_public_view}
-use Rattle.link_laws.specs.internal.Passes.{gathered, missing_in, name_of}
+use Rattle.link_laws.proofs.Prelude.{◌≡◌, ℕ, ◌+◌, ◌<◌, Bool, true, false, cond, not, ◌||◌, nat_lt, Bor, List, [], ◌∷◌, ◌++◌, length, map, drop, get_or, Option, None, Some, Result, Ok, Err, refl, ap, sym, ◌∙◌, list_any, position, position_or_len, bytes_eq, length-map, OwnedPublic, LinkRefusal, DuplicatePublic, public_names, Public, ObjectModule, is_among, owned_public_view, gathered, missing_in, name_of, public_name}
 use Rattle.link_laws.proofs.NameLoops.{module_added, module_repeats}
-use Rattle.link_laws.specs.internal.Growing.{public_name}
 
 -- a public more
 module _ (known : List (List ℕ)) (total : Result (List (List ℕ)) LinkRefusal) (publics left : List Public) (public : Public) (is_new : Bool) (rest : gathered known (map public_name publics) ≡ total) (next : publics ≡ public ∷ left) (tells : is_new ≡ not (is_among public.name known)) where

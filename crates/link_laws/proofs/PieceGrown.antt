@@ -1,30 +1,5 @@
 -- A piece of a module, content by content, is the piece that is made of its runs and its fixes.
-use Rattle.std.proofs.Common.{◌≡◌, ℕ, ◌%◌, ◌==◌, Bool, true, false, cond, not, ◌||◌, List, [], ◌∷◌, ◌++◌, map, filter, filter_map, flat_map, slice_get, Option, Some, None, option_map, refl, ap, sym, ◌∙◌}
-use Rattle.std.specs.List.{list_any}
-use Rattle.std.specs.Option.{option_map_or, option_and_then, option_flatten}
-use Rattle.std.proofs.lemmas.List.{append_assoc, append-nil}
-use Rattle.std.proofs.lemmas.List.Folds.{list_any-append}
-use Rattle.std.proofs.lemmas.List.Elements.{filter_map-append}
-use Rattle.std.proofs.lemmas.Option.{slice_get-map}
-use Rattle.object_modules.specs.declared.segment.Fix.{Fix}
-use Rattle.object_modules.specs.declared.segment.FixKind.{FixKind}
-use Rattle.object_modules.specs.declared.segment.FixKind.TheVariants.{Low, High, Both}
-use Rattle.object_modules.specs.declared.segment.Segment.{Segment}
-use Rattle.object_modules.specs.declared.segment.Segment.TheVariants.{Code, Data}
-use Rattle.object_modules.specs.declared.segment.Target.{Target}
-use Rattle.object_modules.specs.declared.segment.Target.TheVariants.{InSegment, External}
-use Rattle.object_modules.specs.Displacements.{Linked, displacement_in, gain_in, public_named, start_of, target_kept, target_of_public}
-use Rattle.object_modules.specs.Module.{Public}
-use Rattle.object_modules.specs.Runs.{fixes_in, runs_of}
-use Rattle.object_modules.specs.Spelling.{FixedContent}
-use Rattle.object_modules.specs.Text.{Run}
-use Rattle.object_modules.specs.Walking.{Walking, module_by}
-use Rattle.object_modules.specs.internal.Joining.{fix_kept, runs_fixed, with_runs}
-use Rattle.object_laws.proofs.Merges.HighBytes.{gains_part, high_byte_moves}
-use Rattle.object_laws.proofs.Merges.FixesOfPlaces.{target_if_high}
-use Rattle.link_laws.specs.internal.Building.{piece_fixes, piece_runs}
-use Rattle.objmod.specs.internal.Keeping.{AllFit, ContentsFit, Placed, fixes_by_place, is_in, runs_kept}
-use Rattle.link_laws.specs.internal.Growing.{Grown, Resolved, gain_by, grown_by, grown_in, kept_by, moves_by, part_moves, resolved_in, with_content}
+use Rattle.link_laws.proofs.Prelude.{◌≡◌, ℕ, ◌%◌, ◌==◌, Bool, true, false, cond, not, ◌||◌, List, [], ◌∷◌, ◌++◌, map, filter, filter_map, flat_map, slice_get, Option, Some, None, option_map, refl, ap, sym, ◌∙◌, list_any, option_map_or, option_and_then, option_flatten, append_assoc, append-nil, list_any-append, filter_map-append, slice_get-map, Fix, FixKind, Low, High, Both, Segment, Code, Data, Target, InSegment, External, Linked, displacement_in, gain_in, public_named, start_of, target_kept, target_of_public, Public, fixes_in, runs_of, FixedContent, Run, Walking, module_by, fix_kept, runs_fixed, with_runs, gains_part, high_byte_moves, target_if_high, piece_fixes, piece_runs, AllFit, ContentsFit, Placed, fixes_by_place, is_in, runs_kept, Grown, Resolved, gain_by, grown_by, grown_in, kept_by, moves_by, part_moves, resolved_in, with_content}
 use Rattle.link_laws.proofs.ModuleTold.{code_fixes, code_runs, data_fixes, data_runs}
 use Rattle.link_laws.proofs.RunsByContents.{runs_by_contents, runs_grown}
 

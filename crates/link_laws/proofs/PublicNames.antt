@@ -1,16 +1,5 @@
 -- Publics by their names: the place of a name among those of publics is the place of the public.
-use Rattle.std.proofs.Common.{◌≡◌, ℕ, ◌+◌, ◌≤◌, Bool, true, false, cond, not, nat_lt, List, [], ◌∷◌, map, length, slice_get, Option, None, Some, option_map, refl, ap, sym, ◌∙◌, arith}
-use Rattle.std.specs.List.{position, position_or_len}
-use Rattle.std.specs.Str.{bytes_eq}
-use Rattle.std.proofs.lemmas.Bool.{ltb-false}
-use Rattle.std.proofs.lemmas.List.{length-map}
-use Rattle.std.proofs.lemmas.List.Folds.{find_at}
-use Rattle.std.proofs.lemmas.Option.{slice_get-map, slice_get_past}
-use Rattle.object_modules.specs.declared.public.OwnedPublic.{OwnedPublic}
-use Rattle.object_modules.specs.Displacements.{public_named}
-use Rattle.object_modules.specs.Module.{Public}
-use Rattle.object_modules.specs.Views.{owned_public_view}
-use Rattle.link_laws.specs.internal.Passes.{name_of}
+use Rattle.link_laws.proofs.Prelude.{◌≡◌, ℕ, ◌+◌, ◌≤◌, Bool, true, false, cond, not, nat_lt, List, [], ◌∷◌, map, length, slice_get, Option, None, Some, option_map, refl, ap, sym, ◌∙◌, arith, position, position_or_len, bytes_eq, ltb-false, length-map, find_at, slice_get-map, slice_get_past, OwnedPublic, public_named, Public, owned_public_view, name_of}
 
 abbrev place_of : (name : List ℕ) → List OwnedPublic → ℕ
 place_of name publics = position_or_len (bytes_eq name) (map name_of publics)

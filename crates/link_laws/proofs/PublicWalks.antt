@@ -1,6 +1,5 @@
 -- Lists that are made of what walks over files hand out, one after another.
-use Rattle.std.proofs.Common.{◌≡◌, List, [], ◌∷◌, ◌++◌, map, ap, sym, ◌∙◌}
-use Rattle.std.proofs.lemmas.List.{append_assoc, map-append}
+use Rattle.link_laws.proofs.Prelude.{◌≡◌, List, [], ◌∷◌, ◌++◌, map, ap, sym, ◌∙◌, append_assoc, map-append}
 
 -- one more, whose view is made of what was handed out
 pub view_handed :

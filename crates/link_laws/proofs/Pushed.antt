@@ -1,6 +1,5 @@
 -- Loops that add to a list what each item of another gives.
-use Rattle.std.proofs.Common.{◌≡◌, ℕ, ◌+◌, ◌<◌, List, [], ◌∷◌, ◌++◌, length, get_or, map, flat_map, drop, sym, ap, ◌∙◌}
-use Rattle.std.proofs.lemmas.List.{map-append, append_assoc}
+use Rattle.link_laws.proofs.Prelude.{◌≡◌, ℕ, ◌+◌, ◌<◌, List, [], ◌∷◌, ◌++◌, length, get_or, map, flat_map, drop, sym, ap, ◌∙◌, map-append, append_assoc}
 use Rattle.link_laws.proofs.NameLoops.{at_item}
 
 -- one item more, where each view is made of the view of an item

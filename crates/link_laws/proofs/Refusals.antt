@@ -1,15 +1,6 @@
 -- Which refusal it is, by what each pass over the modules found.
-use Rattle.std.proofs.Common.{◌≡◌, ℕ, Bool, true, false, cond, not, ◌||◌, ◌==◌, List, [], ◌∷◌, ◌++◌, length, Option, None, Some, option_map, Result, Ok, Err, refl, ap, sym, ◌∙◌}
-use Rattle.std.specs.List.{list_any}
-use Rattle.std.specs.Option.{option_or}
-use Rattle.std.specs.Str.{bytes_eq}
-use Rattle.std.proofs.lemmas.List.{append_assoc, append-nil}
+use Rattle.link_laws.proofs.Prelude.{◌≡◌, ℕ, Bool, true, false, cond, not, ◌||◌, ◌==◌, List, [], ◌∷◌, ◌++◌, length, Option, None, Some, option_map, Result, Ok, Err, refl, ap, sym, ◌∙◌, list_any, option_or, bytes_eq, append_assoc, append-nil, linked_modules, all_publics, LinkRefusal, DuplicatePublic, UnresolvedExternal, SegmentTooLong, NotOneMain, HighByteMoves, main_modules, repeated_after, public_names, unresolved, some_segment_is_too_long, some_high_byte_moves, link_refusal, ObjectModule, is_among, Alike, any_moved, gathered, externals_of, missing_in}
 use Rattle.omf80.specs.Records.{first_that_holds}
-use Rattle.object_modules.specs.Displacements.{linked_modules, all_publics}
-use Rattle.object_modules.specs.Merge.{LinkRefusal, DuplicatePublic, UnresolvedExternal, SegmentTooLong, NotOneMain, HighByteMoves, main_modules, repeated_after, public_names, unresolved, some_segment_is_too_long, some_high_byte_moves, link_refusal}
-use Rattle.object_modules.specs.Module.{ObjectModule, is_among}
-use Rattle.object_laws.proofs.Files.Accepted.{Alike, any_moved}
-use Rattle.link_laws.specs.internal.Passes.{gathered, externals_of, missing_in}
 
 -- what the first name that is repeated makes of names that are gathered
 abbrev pub gathered_with : (known names : List (List ℕ)) → Option (List ℕ) → Result (List (List ℕ)) LinkRefusal

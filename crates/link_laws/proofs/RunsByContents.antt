@@ -1,21 +1,6 @@
 -- The runs of contents, after the fixes of all, are those of each content after its own fixes, pushed one after
 -- another.
-use Rattle.std.proofs.Common.{◌≡◌, ℕ, ◌+◌, ◌≤◌, Bool, true, false, cond, ◌==◌, nat_lt, List, [], ◌∷◌, ◌++◌, length, flat_map, refl, ap, sym, subst, ◌∙◌, arith}
-use Rattle.std.proofs.lemmas.Bool.{eqb-true, eq-eqb, lt-ltb}
-use Rattle.std.proofs.lemmas.List.{append_assoc, length-append}
-use Rattle.object_modules.specs.declared.segment.Fix.{Fix}
-use Rattle.object_modules.specs.declared.segment.FixKind.{FixKind}
-use Rattle.object_modules.specs.declared.segment.FixKind.TheVariants.{Low, High, Both}
-use Rattle.object_modules.specs.declared.segment.Target.{Target}
-use Rattle.object_modules.specs.Before.{content_end, is_empty}
-use Rattle.object_modules.specs.Module.{width_of}
-use Rattle.object_modules.specs.Rules.{fix_end}
-use Rattle.object_modules.specs.Spelling.{FixedContent}
-use Rattle.object_modules.specs.Text.{Run}
-use Rattle.object_modules.specs.internal.Joining.{bytes_after, fixes_below, fixes_past, run_at, run_end, run_fixed, runs_fixed, with_run, with_runs}
-use Rattle.object_laws.proofs.Merges.PiecesByRuns.{AllBelow, AllPast, below_first, past_others}
-use Rattle.link_laws.specs.internal.Building.{AreWithin}
-use Rattle.objmod.specs.internal.Keeping.{AllFit, Placed, fixes_by_place, open_run, runs_kept}
+use Rattle.link_laws.proofs.Prelude.{◌≡◌, ℕ, ◌+◌, ◌≤◌, Bool, true, false, cond, ◌==◌, nat_lt, List, [], ◌∷◌, ◌++◌, length, flat_map, refl, ap, sym, subst, ◌∙◌, arith, eqb-true, eq-eqb, lt-ltb, append_assoc, length-append, Fix, FixKind, Low, High, Both, Target, content_end, is_empty, width_of, fix_end, FixedContent, Run, bytes_after, fixes_below, fixes_past, run_at, run_end, run_fixed, runs_fixed, with_run, with_runs, AllBelow, AllPast, below_first, past_others, AreWithin, AllFit, Placed, fixes_by_place, open_run, runs_kept}
 use Rattle.link_laws.proofs.BytesInParts.{after_both_parts, after_length}
 use Rattle.link_laws.proofs.FixesByPlace.{later_past, own_within}
 

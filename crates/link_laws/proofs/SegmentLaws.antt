@@ -1,18 +1,5 @@
 -- A segment of a merge is what its pieces make one after another: its runs, its fixes and its length.
-use Rattle.std.proofs.Common.{◌≡◌, ℕ, ◌+◌, ◌-◌, ◌≤◌, true, List, [], ◌∷◌, ◌++◌, length, map, flat_map, filter_map, replicate, Option, None, ap, sym, subst, ◌∙◌, arith}
-use Rattle.std.proofs.lemmas.List.{append_assoc, append-nil, length-append, length-replicate}
-use Rattle.object_modules.specs.declared.segment.Segment.{Segment}
-use Rattle.object_modules.specs.Displacements.{Linked, displacement_in, gain_in, target_kept}
-use Rattle.object_modules.specs.Merge.{joined_after, places_moved}
-use Rattle.object_modules.specs.Module.{SetByte, Public, places_of, words_are_whole}
-use Rattle.object_modules.specs.Runs.{bytes_of_run, fixes_in, runs_of}
-use Rattle.object_modules.specs.Text.{runs_from}
-use Rattle.object_modules.specs.internal.Joining.{with_runs, place_fixes, fix_kept}
-use Rattle.object_laws.proofs.Merges.FixesOfPlaces.{runs_fixes}
-use Rattle.object_laws.proofs.Merges.MovedValid.{moved_length}
-use Rattle.object_laws.proofs.Merges.PiecesByRuns.{runs_apart, runs_placed}
-use Rattle.object_laws.proofs.Merges.PiecesJoined.{with_piece, joined_step, run_placed, runs_with_piece, fixes_with_piece}
-use Rattle.link_laws.specs.internal.Building.{piece_runs, piece_fixes, runs_joined, end_joined}
+use Rattle.link_laws.proofs.Prelude.{◌≡◌, ℕ, ◌+◌, ◌-◌, ◌≤◌, true, List, [], ◌∷◌, ◌++◌, length, map, flat_map, filter_map, replicate, Option, None, ap, sym, subst, ◌∙◌, arith, append_assoc, append-nil, length-append, length-replicate, Segment, Linked, displacement_in, gain_in, target_kept, joined_after, places_moved, SetByte, Public, places_of, words_are_whole, bytes_of_run, fixes_in, runs_of, runs_from, with_runs, place_fixes, fix_kept, runs_fixes, moved_length, runs_apart, runs_placed, with_piece, joined_step, run_placed, runs_with_piece, fixes_with_piece, piece_runs, piece_fixes, runs_joined, end_joined}
 
 -- the piece of a segment of a module
 abbrev pub piece_in : List Public → Segment → Linked → ℕ × List (Option SetByte)

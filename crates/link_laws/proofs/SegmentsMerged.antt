@@ -1,15 +1,5 @@
 -- The segments of a merge are those that are joined of pieces.
-use Rattle.std.proofs.Common.{◌≡◌, ℕ, ◌≤◌, Bool, cond, ◌||◌, List, [], ◌∷◌, All, map, refl, ap, sym, arith}
-use Rattle.std.specs.List.{list_any, AllByRecursion}
-use Rattle.std.proofs.lemmas.List.Elements.{recursion_from_All}
-use Rattle.object_modules.specs.declared.segment.Alignment.{Alignment}
-use Rattle.object_modules.specs.declared.segment.Alignment.TheVariants.{Byte, Page}
-use Rattle.object_modules.specs.declared.segment.Segment.TheVariants.{Code, Data}
-use Rattle.object_modules.specs.Displacements.{Linked, start_after, code_end, data_end, linked_after, linked_from, linked_modules, all_publics}
-use Rattle.object_modules.specs.Module.{Places, ObjectModule, IsObjectModule, is_page}
-use Rattle.object_laws.proofs.Merges.MergedParts.{merged_code, merged_data}
-use Rattle.object_laws.proofs.Merges.PlacesKept.{stored_of}
-use Rattle.link_laws.specs.internal.Building.{alignment_joined, begins_a_page, stored_joined}
+use Rattle.link_laws.proofs.Prelude.{◌≡◌, ℕ, ◌≤◌, Bool, cond, ◌||◌, List, [], ◌∷◌, All, map, refl, ap, sym, arith, list_any, AllByRecursion, recursion_from_All, Alignment, Byte, Page, Code, Data, Linked, start_after, code_end, data_end, linked_after, linked_from, linked_modules, all_publics, Places, ObjectModule, IsObjectModule, is_page, merged_code, merged_data, stored_of, alignment_joined, begins_a_page, stored_joined}
 use Rattle.link_laws.proofs.FixesWithin.{whole_places}
 use Rattle.link_laws.proofs.SegmentLaws.{Follow, all_runs, all_fixes, all_length}
 

@@ -1,15 +1,5 @@
 -- The loop over modules that finds where their pieces begin, and whether a segment is too long.
-use Rattle.std.proofs.Common.{◌≡◌, ℕ, ◌+◌, ◌<◌, ◌≤◌, true, false, ◌||◌, List, [], ◌∷◌, ◌++◌, All, length, drop, get_or, sum_by, fold, refl, ap, sym, subst, ◌∙◌, arith}
-use Rattle.std.specs.List.{AllByRecursion}
-use Rattle.std.proofs.lemmas.Bool.{or_left, or_right, or_from, lt-ltb, le-ltb}
-use Rattle.std.proofs.lemmas.List.Elements.{All-from_recursion}
-use Rattle.std.proofs.lemmas.List.{append_assoc, append-nil}
-use Rattle.object_modules.specs.declared.segment.Alignment.{Alignment}
-use Rattle.object_modules.specs.declared.segment.Alignment.TheVariants.{Byte, Page}
-use Rattle.object_modules.specs.Displacements.{Start, Linked, code_end, data_end, start_after, linked_after, linked_from, linked_modules}
-use Rattle.object_modules.specs.Merge.{last_end, is_too_long, some_segment_is_too_long}
-use Rattle.object_modules.specs.Module.{ObjectModule, IsObjectModule}
-use Rattle.link_laws.specs.internal.Passes.{code_after, data_after}
+use Rattle.link_laws.proofs.Prelude.{◌≡◌, ℕ, ◌+◌, ◌<◌, ◌≤◌, true, false, ◌||◌, List, [], ◌∷◌, ◌++◌, All, length, drop, get_or, sum_by, fold, refl, ap, sym, subst, ◌∙◌, arith, AllByRecursion, or_left, or_right, or_from, lt-ltb, le-ltb, All-from_recursion, append_assoc, append-nil, Alignment, Byte, Page, Start, Linked, code_end, data_end, start_after, linked_after, linked_from, linked_modules, last_end, is_too_long, some_segment_is_too_long, ObjectModule, IsObjectModule, code_after, data_after}
 use Rattle.link_laws.proofs.NameLoops.{at_item, at_end}
 
 -- where the last pieces end

@@ -1,23 +1,9 @@
 -- The map of definitions and the output.
-use Rattle.std.proofs.Common.{◌≡◌, is_some, ◌&&◌, IfSome, ℕ, List, [], ◌∷◌, ◌++◌, Bool, true, false, cond, Option, None, Some, reverse, refl, sym, ap, ◌∙◌, subst}
-use Rattle.std.proofs.lemmas.Slice.Eq.{bytes_eq-Decides}
-use Rattle.std.specs.Str.{bytes_eq}
-use Rattle.std.specs.Map.{lookup}
-use Rattle.std.specs.Option.{option_map}
-use Rattle.std.specs.declared.vec.Vec.{Vec}
-use Rattle.std.specs.declared.alloc.Global.{Global}
+use Rattle.literally.proofs.Prelude.{◌≡◌, is_some, ◌&&◌, IfSome, ℕ, List, [], ◌∷◌, ◌++◌, Bool, true, false, cond, Option, None, Some, reverse, refl, sym, ap, ◌∙◌, subst, bytes_eq-Decides, bytes_eq, lookup, option_map, Vec, Global, Word, Name, name_of, Lexeme, lexemes_of, IsSound, IsSoundText, is_defined_again, begins_with_literally, Adds, has_quote, text_of, text_in, text_if, in_force, name_defined, definition_by, words_for, Agree, AreHeld, IsTextOf, StandsFor}
 use Rattle.indexmap.specs.IndexMap.{IndexMap, insert_entry}
-use Rattle.words.specs.declared.word.Word.{Word}
-use Rattle.words.specs.declared.vocabulary.Kind.TheVariants.{Name}
-use Rattle.symbols.specs.Names.{name_of}
-use Rattle.words.specs.Spelling.{Lexeme, lexemes_of}
-use Rattle.literally.specs.Expansion.{IsSound, IsSoundText, is_defined_again, begins_with_literally}
-use Rattle.literally.specs.internal.Steps.{Adds}
 use Rattle.literally.specs.declared.names.Name.{Name as Key}
-use Rattle.literally.specs.Definitions.{has_quote, text_of, text_in, text_if, in_force, name_defined, definition_by}
 use Rattle.literally.proofs.DefinitionsInForce.{text_in_push, text_in_after, name_in_force, text_in_force}
 use Rattle.literally.proofs.DefinitionsNoStrings.{HasNoString, becomes_no_string}
-use Rattle.literally.specs.internal.Held.{words_for, Agree, AreHeld, IsTextOf, StandsFor}
 
 -- what a name stands for, where the map holds words for it
 pub stands : (output : List Lexeme) (word : Lexeme) (words : Vec Word Global)

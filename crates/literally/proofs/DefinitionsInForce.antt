@@ -1,14 +1,6 @@
 -- What an output defines, word by word.
-use Rattle.std.proofs.Common.{◌≡◌, ℕ, List, [], ◌∷◌, ◌++◌, None, Some, reverse, cond, sym, ap, ◌∙◌, refl}
-use Rattle.std.proofs.lemmas.List.{append-nil, append_assoc, reverse-append}
-use Rattle.std.specs.Option.{option_map}
-use Rattle.words.specs.declared.vocabulary.Kind.{Kind}
-use Rattle.words.specs.declared.vocabulary.Kind.TheVariants.{Name, Reserved, Number, String, Mark}
-use Rattle.symbols.specs.Names.{name_of}
-use Rattle.words.specs.Spelling.{Lexeme}
-use Rattle.literally.specs.Definitions.{is_name, is_string, text_of, name_before, definition_by, text_if, text_in, in_force}
+use Rattle.literally.proofs.Prelude.{◌≡◌, ℕ, List, [], ◌∷◌, ◌++◌, None, Some, reverse, cond, sym, ap, ◌∙◌, refl, append-nil, append_assoc, reverse-append, option_map, Kind, Name, Reserved, Number, String, Mark, name_of, Lexeme, is_name, is_string, text_of, name_before, definition_by, text_if, text_in, in_force, false}
 use Rattle.literally.proofs.DefinitionsNoStrings.{HasNoString}
-use Rattle.std.proofs.Common.{false}
 
 -- one more word
 pub text_in_push : (name : List ℕ) (output : List Lexeme) (word : Lexeme)

@@ -1,25 +1,6 @@
 -- A text without a quote spells no string.
-use Rattle.std.proofs.Common.{◌≡◌, ℕ, zero, suc, length, List, [], ◌∷◌, ◌++◌, drop, map, Bool, true, false, cond, ◌||◌, ◌&&◌, Option, None, Some, eqb, refl, ap, subst, Result, Ok, Err}
-use Rattle.std.specs.Option.{option_map_or}
-use Rattle.std.specs.Prelude.{nat_lt, ◌==◌, slice_index, take_while}
-use Rattle.std.specs.Char.{is_ascii_alphabetic, is_ascii_digit}
-use Rattle.words.specs.declared.items.Cause.{Cause}
-use Rattle.words.specs.declared.items.Cause.TheVariants.{BadCharacter, BadNumber, LongName}
-use Rattle.words.specs.declared.items.Item.{Item}
-use Rattle.words.specs.declared.items.Item.TheVariants.{Spelled, Wrong}
-use Rattle.words.specs.declared.vocabulary.Kind.TheVariants.{Name, Reserved, Number, Mark}
-use Rattle.words.specs.declared.vocabulary.Mark.{Mark as AMark}
-use Rattle.words.specs.declared.vocabulary.ReservedWord.{ReservedWord}
-use Rattle.symbols.specs.declared.name.TheConstants.{LONGEST_NAME}
-use Rattle.words.specs.Characters.{is_blank, is_word_byte}
-use Rattle.words.specs.Items.{item_at}
-use Rattle.words.specs.Marks.{mark_at, mark_item}
-use Rattle.symbols.specs.Names.{name_of}
-use Rattle.words.specs.Names.{kind_of_name, name_item, reserved_of}
-use Rattle.words.specs.Strings.{comment_end, comment_item}
-use Rattle.words.specs.Spelling.{Lexeme, SpellsFrom, at_end, after_blank, word_then}
-use Rattle.literally.specs.Definitions.{is_string, has_quote, in_force}
-use Rattle.literally.specs.Expansion.{at_use, Becomes, no_words, stays, replaced}
+use Rattle.literally.proofs.Prelude.{◌≡◌, ℕ, zero, suc, length, List, [], ◌∷◌, ◌++◌, drop, map, Bool, true, false, cond, ◌||◌, ◌&&◌, Option, None, Some, eqb, refl, ap, subst, Result, Ok, Err, option_map_or, nat_lt, ◌==◌, slice_index, take_while, is_ascii_alphabetic, is_ascii_digit, Cause, BadCharacter, BadNumber, LongName, Item, Spelled, Wrong, Name, Reserved, Number, Mark, AMark, ReservedWord, LONGEST_NAME, is_blank, is_word_byte, item_at, mark_at, mark_item, name_of, kind_of_name, name_item, reserved_of, comment_end, comment_item, Lexeme, SpellsFrom, after_blank, is_string, has_quote, in_force, at_use, Becomes, no_words, stays, replaced}
+use Rattle.words.specs.Spelling.{at_end, word_then}
 
 -- an item that is a word is no string
 abbrev IsOther : Item → Type 0

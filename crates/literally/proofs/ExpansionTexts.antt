@@ -1,13 +1,5 @@
 -- The texts that wait to be processed for a use, the innermost first.
-use Rattle.std.proofs.Common.{◌≡◌, ℕ, ◌+◌, ◌-◌, ◌<◌, ◌≤◌, List, [], ◌∷◌, ◌++◌, length, get_or, take, drop, map, reverse, None, Some, refl, sym, ap, ◌∙◌, subst, arith}
-use Rattle.std.proofs.lemmas.List.{append-nil, append_assoc, map-append, reverse-append, length-reverse, length-map, take_all, length_push}
-use Rattle.words.specs.declared.word.Word.{Word}
-use Rattle.words.specs.Spelling.{Lexeme, lexeme_of, lexemes_of, Spells}
-use Rattle.literally.specs.declared.limits.TheConstants.{DEEPEST, MOST_WORDS}
-use Rattle.literally.specs.declared.fault.Fault.TheVariants.{Count}
-use Rattle.literally.specs.Definitions.{in_force}
-use Rattle.literally.specs.Expansion.{at_use, Becomes, no_words, stays, replaced, IsTooDeep, too_deep, deeper, later_word, ProcessesAtLeast, none_yet, word_then, text_then, count_passed}
-use Rattle.literally.specs.internal.Steps.{IsFaultAt}
+use Rattle.literally.proofs.Prelude.{◌≡◌, ℕ, ◌+◌, ◌-◌, ◌<◌, ◌≤◌, List, [], ◌∷◌, ◌++◌, length, get_or, take, drop, map, reverse, None, Some, refl, sym, ap, ◌∙◌, subst, arith, append-nil, append_assoc, map-append, reverse-append, length-reverse, length-map, take_all, length_push, Word, Lexeme, lexeme_of, lexemes_of, Spells, DEEPEST, MOST_WORDS, Count, in_force, at_use, Becomes, no_words, stays, replaced, IsTooDeep, too_deep, deeper, later_word, ProcessesAtLeast, none_yet, word_then, text_then, count_passed, IsFaultAt}
 
 sums : (a b c : ℕ) → a + (1 + b + c) ≡ a + 1 + b + c
 sums a b c = omega arith

@@ -1,13 +1,5 @@
 -- One word of the list after another.
-use Rattle.std.proofs.Common.{◌≡◌, ℕ, ◌+◌, ◌-◌, ◌<◌, ◌≤◌, false, List, [], ◌∷◌, length, get_or, take, drop, refl, sym, ap, ◌∙◌, subst, arith, add-one}
-use Rattle.std.proofs.Math.Seq.{drop-cons}
-use Rattle.std.proofs.lemmas.List.{take_rest, drop_all}
-use Rattle.words.specs.declared.word.Word.{Word}
-use Rattle.words.specs.Spelling.{Lexeme, lexeme_of, lexemes_of}
-use Rattle.literally.specs.declared.limits.TheConstants.{MOST_WORDS}
-use Rattle.literally.specs.declared.fault.Fault.{Fault}
-use Rattle.literally.specs.Expansion.{IsSound, is_defined_again, ExpandsFrom, after_word, FaultFrom, fault_after_word}
-use Rattle.literally.specs.internal.Steps.{Adds}
+use Rattle.literally.proofs.Prelude.{◌≡◌, ℕ, ◌+◌, ◌-◌, ◌<◌, ◌≤◌, false, List, [], ◌∷◌, length, get_or, take, drop, refl, sym, ap, ◌∙◌, subst, arith, add-one, drop-cons, take_rest, drop_all, Word, Lexeme, lexeme_of, lexemes_of, MOST_WORDS, Fault, IsSound, is_defined_again, ExpandsFrom, after_word, FaultFrom, fault_after_word, Adds}
 
 -- what the words after a word make of the output that it leaves
 module _ (output : List Lexeme) (processed : ℕ) (word : Lexeme) (words whole : List Lexeme) (count : ℕ) (added : Adds output processed word whole count) (sound : IsSound output word) (once : is_defined_again output word words ≡ false) where

@@ -1,8 +1,6 @@
 -- What holds of the fault of a failed call, whatever it would have answered.
-use Rattle.std.proofs.Common.{◌≡◌, Err, subst, sym}
-use Rattle.failure.specs.Failure.{IfFault}
-use Rattle.failure.specs.declared.Failure.{Failure}
-use Rattle.failure.specs.declared.Failure.TheVariants.{Fault, Memory}
+use Rattle.literally.proofs.Prelude.{◌≡◌, Err, subst, sym}
+use Rattle.failure.specs.{Failure.{IfFault}, declared.Failure.{Failure, TheVariants.{Fault, Memory}}}
 
 abbrev pub Holds : {F : Type 0} → (F → Type 0) → Failure F → Type 0
 Holds {F} P failure = IfFault {A = Unit {0}} {F = F} (Err failure) P

@@ -1,12 +1,5 @@
 -- What follows from the definitions: a list of words has at most one expansion, and none where it has a fault.
-use Rattle.std.proofs.Common.{◌≡◌, ℕ, ◌+◌, ◌<◌, ◌≤◌, List, [], ◌∷◌, ◌++◌, map, reverse, None, Some, IfSome, true, false, refl, sym, ap, ◌∙◌, subst, arith}
-use Rattle.words.specs.declared.fault.Fault.{Fault as TextFault}
-use Rattle.words.specs.Spelling.{Lexeme, Spells, IsFirstFault}
-use Rattle.words.proofs.LawsReadings.{one_reading}
-use Rattle.literally.specs.declared.limits.TheConstants.{DEEPEST, MOST_WORDS}
-use Rattle.literally.specs.declared.fault.Fault.{Fault}
-use Rattle.literally.specs.Definitions.{in_force, definition_by, has_quote}
-use Rattle.literally.specs.Expansion.{at_use, Becomes, no_words, stays, replaced, IsTooDeep, too_deep, deeper, later_word, ProcessesAtLeast, none_yet, word_then, text_then, is_defined_again, IsSound, IsSoundText, ExpandsFrom, at_end, after_word, FaultFrom, defined_again, quote_in_text, bad_text, depth_passed, count_passed, fault_after_word}
+use Rattle.literally.proofs.Prelude.{◌≡◌, ℕ, ◌+◌, ◌<◌, ◌≤◌, List, [], ◌∷◌, ◌++◌, map, reverse, None, Some, IfSome, true, false, refl, sym, ap, ◌∙◌, subst, arith, TextFault, Lexeme, Spells, IsFirstFault, one_reading, DEEPEST, MOST_WORDS, Fault, in_force, definition_by, has_quote, at_use, Becomes, no_words, stays, replaced, IsTooDeep, too_deep, deeper, later_word, ProcessesAtLeast, none_yet, word_then, text_then, is_defined_again, IsSound, IsSoundText, ExpandsFrom, at_end, after_word, FaultFrom, defined_again, quote_in_text, bad_text, depth_passed, count_passed, fault_after_word}
 
 module _ (output : List Lexeme) where
   -- how words with a first one become others

@@ -1,16 +1,5 @@
 -- Each list of words has an expansion or a fault.
-use Rattle.std.proofs.Common.{◌≡◌, ℕ, zero, suc, ◌+◌, ◌<◌, ◌≤◌, ◌⊎◌, inl, inr, List, [], ◌∷◌, ◌++◌, map, reverse, Bool, true, false, cond, Option, None, Some, refl, sym, ◌∙◌, subst, arith}
-use Rattle.std.proofs.lemmas.Bool.Decides.{leb_tells}
-use Rattle.std.specs.Prelude.{IfSome}
-use Rattle.std.specs.Str.{bytes_eq}
-use Rattle.symbols.specs.Names.{name_of}
-use Rattle.words.specs.declared.fault.Fault.{Fault as TextFault}
-use Rattle.words.specs.Spelling.{Lexeme, Spells, IsFirstFault}
-use Rattle.words.proofs.LawsReadings.{one_reading}
-use Rattle.literally.specs.declared.limits.TheConstants.{DEEPEST, MOST_WORDS}
-use Rattle.literally.specs.declared.fault.Fault.{Fault}
-use Rattle.literally.specs.Definitions.{in_force, definition_by, has_quote, text_in, text_if}
-use Rattle.literally.specs.Expansion.{at_use, Becomes, no_words, stays, replaced, IsTooDeep, too_deep, deeper, later_word, ProcessesAtLeast, none_yet, word_then, text_then, is_defined_again, IsSound, IsSoundText, ExpandsFrom, at_end, after_word, FaultFrom, defined_again, quote_in_text, bad_text, depth_passed, count_passed, fault_after_word}
+use Rattle.literally.proofs.Prelude.{◌≡◌, ℕ, zero, suc, ◌+◌, ◌<◌, ◌≤◌, ◌⊎◌, inl, inr, List, [], ◌∷◌, ◌++◌, map, reverse, Bool, true, false, cond, Option, None, Some, refl, sym, ◌∙◌, subst, arith, leb_tells, IfSome, bytes_eq, name_of, TextFault, Lexeme, Spells, IsFirstFault, one_reading, DEEPEST, MOST_WORDS, Fault, in_force, definition_by, has_quote, text_in, text_if, at_use, Becomes, no_words, stays, replaced, IsTooDeep, too_deep, deeper, later_word, ProcessesAtLeast, none_yet, word_then, text_then, is_defined_again, IsSound, IsSoundText, ExpandsFrom, at_end, after_word, FaultFrom, defined_again, quote_in_text, bad_text, depth_passed, count_passed, fault_after_word}
 use Rattle.literally.proofs.LawsOneExpansion.{one_becomes}
 use Rattle.literally.proofs.DefinitionsNoStrings.{becomes_no_string}
 use Rattle.literally.proofs.DefinitionsInForce.{text_in_push, text_in_after, name_in_force, text_in_force}

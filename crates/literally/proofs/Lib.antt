@@ -1,3 +1,4 @@
+mod Prelude
 pub mod Failures
 pub mod DefinitionsNoStrings
 pub mod DefinitionsInForce

@@ -1,19 +1,5 @@
 -- The targets of high bytes, by the fixes of a segment.
-use Rattle.std.proofs.Common.{◌≡◌, ℕ, ◌+◌, ◌%◌, ◌==◌, Bool, true, false, cond, not, ◌||◌, List, [], ◌∷◌, ◌++◌, flat_map, filter_map, Option, Some, None, refl, ap, sym, ◌∙◌}
-use Rattle.std.specs.List.{list_any, cons_option}
-use Rattle.std.specs.Option.{option_and_then}
-use Rattle.std.proofs.lemmas.Bool.{eqb-true}
-use Rattle.std.proofs.lemmas.List.Elements.{filter_map-append}
-use Rattle.object_modules.specs.declared.segment.Fix.{Fix}
-use Rattle.object_modules.specs.declared.segment.FixKind.{FixKind}
-use Rattle.object_modules.specs.declared.segment.FixKind.TheVariants.{Low, High, Both}
-use Rattle.object_modules.specs.declared.segment.Segment.TheVariants.{Code, Data}
-use Rattle.object_modules.specs.declared.segment.Target.{Target}
-use Rattle.object_modules.specs.Module.{Fixup, SetByte, ObjectModule, places_of}
-use Rattle.object_modules.specs.Moving.{high_target, high_targets}
-use Rattle.object_modules.specs.Runs.{fixes_of_run, fixes_in}
-use Rattle.object_modules.specs.Text.{Run, before_runs, runs_from, fixes_from}
-use Rattle.locate.specs.internal.Images.{breaks_high}
+use Rattle.locate.proofs.Prelude.{◌≡◌, ℕ, ◌+◌, ◌%◌, ◌==◌, Bool, true, false, cond, not, ◌||◌, List, [], ◌∷◌, ◌++◌, flat_map, filter_map, Option, Some, None, refl, ap, sym, ◌∙◌, list_any, cons_option, option_and_then, eqb-true, filter_map-append, Fix, FixKind, Low, High, Both, Code, Data, Target, Fixup, SetByte, ObjectModule, places_of, high_target, high_targets, fixes_of_run, fixes_in, Run, before_runs, runs_from, fixes_from, breaks_high}
 
 abbrev before_fixes : ℕ → Option Fixup → List Fix → List Fix
 before_fixes n None fixes = fixes

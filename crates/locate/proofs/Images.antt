@@ -1,20 +1,5 @@
 -- The pieces of an image are its longest runs, and lie in memory.
-use Rattle.std.proofs.Common.{◌≡◌, ℕ, suc, ◌+◌, ◌<◌, ◌≤◌, ◌==◌, inl, inr, Bool, true, false, cond, min, max, nat_le, List, [], ◌∷◌, length, map, Option, Some, None, option_map, refl, ap, sym, subst, ◌∙◌, arith}
-use Rattle.std.specs.Option.{option_or}
-use Rattle.std.proofs.lemmas.Bool.{leb-true, leb-false, cases_lt}
-use Rattle.mem80.specs.declared.range.Piece.{Piece}
-use Rattle.mem80.specs.Pieces.{AreLongestRuns, byte_in, are_runs}
-use Rattle.object_modules.specs.declared.segment.Segment.{Segment}
-use Rattle.object_modules.specs.declared.segment.Segment.TheVariants.{Code, Data}
-use Rattle.object_modules.specs.declared.segment.Target.{Target}
-use Rattle.object_modules.specs.Image.{Plan, base_of, gain_at, placed_bytes, at_address, image_at, placement_refusal}
-use Rattle.object_modules.specs.Module.{SetByte, ObjectModule, places_of}
-use Rattle.object_modules.specs.Moving.{moved_after}
-use Rattle.object_modules.specs.Runs.{bytes_of_run, runs_of, fixes_in}
-use Rattle.object_modules.specs.Text.{Run, before_runs, runs_from}
-use Rattle.object_modules.proofs.Allowed.{allowed}
-use Rattle.locate.specs.internal.Images.{segment_pieces, in_turn, image_pieces}
-use Rattle.locate.specs.internal.Putting.{LieInMemory, piece_at, with_pieces}
+use Rattle.locate.proofs.Prelude.{◌≡◌, ℕ, suc, ◌+◌, ◌<◌, ◌≤◌, ◌==◌, inl, inr, Bool, true, false, cond, min, max, nat_le, List, [], ◌∷◌, length, map, Option, Some, None, option_map, refl, ap, sym, subst, ◌∙◌, arith, option_or, leb-true, leb-false, cases_lt, Piece, AreLongestRuns, byte_in, are_runs, Segment, Code, Data, Target, Plan, base_of, gain_at, placed_bytes, at_address, image_at, placement_refusal, SetByte, ObjectModule, places_of, moved_after, bytes_of_run, runs_of, fixes_in, Run, before_runs, runs_from, allowed, segment_pieces, in_turn, image_pieces, LieInMemory, piece_at, with_pieces}
 use Rattle.locate.proofs.Values.{value_of}
 use Rattle.locate.proofs.Runs.{segment_pieces_are}
 use Rattle.locate.proofs.Pieces.{piece_end, one_more, above, below, has_more, Begins, Begins-less, Ends, Ends-more, runs_parts, runs_with_pieces, ends_with_pieces, with_pieces_is}

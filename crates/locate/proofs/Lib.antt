@@ -1,3 +1,4 @@
+mod Prelude
 pub mod Values
 pub mod Runs
 pub mod Pieces

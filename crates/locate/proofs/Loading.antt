@@ -1,25 +1,6 @@
 -- What a memory has after the image of a valid module was put into it: the image, and bytes.
-use Rattle.std.proofs.Common.{◌≡◌, ℕ, zero, suc, ◌+◌, ◌-◌, ◌<◌, Bool, true, false, nat_lt, List, [], ◌∷◌, length, map, slice_get, slice_index, Option, Some, None, option_map, unwrap_or, Result, Ok, Err, All, refl, sym, ap, subst, ◌∙◌, arith}
-use Rattle.std.specs.Prelude.{if◌then◌else◌}
-use Rattle.std.specs.List.{list_all}
-use Rattle.std.specs.Option.{option_flatten, option_map_or, option_or}
-use Rattle.std.proofs.lemmas.Bool.{and_parts, ltb-true}
-use Rattle.std.proofs.lemmas.List.{get_or_default}
-use Rattle.std.proofs.lemmas.Option.{none-some, same_Some}
-use Rattle.mem80.specs.declared.range.Piece.{Piece}
-use Rattle.mem80.specs.Memory.{IsMemory}
-use Rattle.mem80.specs.Pieces.{AreLongestRuns, EndsInMemory, IsLoaded, byte_in}
-use Rattle.object_modules.specs.declared.segment.FixKind.{FixKind}
-use Rattle.object_modules.specs.declared.segment.FixKind.TheVariants.{Low, High, Both}
-use Rattle.object_modules.specs.declared.segment.Segment.TheVariants.{Code, Data}
-use Rattle.object_modules.specs.declared.segment.Target.{Target}
-use Rattle.object_modules.specs.Image.{Image, Plan, PlacementRefusal, at_address, gain_at, image_at, image_of, placed, placed_bytes, placement_refusal}
-use Rattle.object_modules.specs.Merge.{unless_refused}
-use Rattle.object_modules.specs.Module.{Fixup, IsObjectModule, ObjectModule, Places, SetByte, is_valid_byte, is_valid_segment}
-use Rattle.object_modules.specs.Moving.{after_fixup, bytes_resolved, first_byte_moved, moved_after, value_after, value_moved}
+use Rattle.locate.proofs.Prelude.{◌≡◌, ℕ, zero, suc, ◌+◌, ◌-◌, ◌<◌, Bool, true, false, nat_lt, List, [], ◌∷◌, length, map, slice_get, slice_index, Option, Some, None, option_map, unwrap_or, Result, Ok, Err, All, refl, sym, ap, subst, ◌∙◌, arith, if◌then◌else◌, list_all, option_flatten, option_map_or, option_or, and_parts, ltb-true, get_or_default, none-some, same_Some, Piece, IsMemory, AreLongestRuns, EndsInMemory, IsLoaded, byte_in, FixKind, Low, High, Both, Code, Data, Target, Image, Plan, PlacementRefusal, at_address, gain_at, image_at, image_of, placed, placed_bytes, placement_refusal, unless_refused, Fixup, IsObjectModule, ObjectModule, Places, SetByte, is_valid_byte, is_valid_segment, after_fixup, bytes_resolved, first_byte_moved, moved_after, value_after, value_moved, Absolute, loaded, image_pieces}
 use Rattle.locate.specs.Loading.{GivesImage, GivesItsImage}
-use Rattle.locate.specs.Locating.{Absolute, loaded}
-use Rattle.locate.specs.internal.Images.{image_pieces}
 use Rattle.locate.proofs.Images.{image_is}
 use Rattle.locate.proofs.Loads.{is_loaded}
 use Rattle.locate.proofs.Placing.{image_in_memory}

@@ -1,15 +1,5 @@
 -- Pieces that are put into a memory, and runs, which have no address in common.
-use Rattle.std.proofs.Common.{◌≡◌, ℕ, ◌+◌, ◌-◌, ◌<◌, ◌≤◌, ◌⊎◌, inl, inr, true, List, [], ◌∷◌, ◌++◌, length, take, drop, get_or, All, AllPairs, Option, Some, None, unwrap_or, refl, ap, sym, subst, ◌∙◌, arith}
-use Rattle.std.specs.List.{AllByRecursion}
-use Rattle.std.specs.Option.{option_or}
-use Rattle.std.proofs.lemmas.Bool.{cases_lt}
-use Rattle.std.proofs.lemmas.List.{length-append, length-take-le, length-drop, get_or_append_left, get_or-append_right, get_or-take, get_or-drop}
-use Rattle.std.proofs.lemmas.List.Elements.{All-from_recursion, recursion_from_All}
-use Rattle.std.proofs.lemmas.List.Kept.{AllPairs-cons}
-use Rattle.mem80.specs.declared.range.Piece.{Piece}
-use Rattle.mem80.specs.Memory.{with_bytes}
-use Rattle.mem80.specs.Pieces.{AreApart, AreWritable, EndsInMemory, IsLoaded, byte_in, are_runs}
-use Rattle.locate.specs.Locating.{loaded}
+use Rattle.locate.proofs.Prelude.{◌≡◌, ℕ, ◌+◌, ◌-◌, ◌<◌, ◌≤◌, ◌⊎◌, inl, inr, true, List, [], ◌∷◌, ◌++◌, length, take, drop, get_or, All, AllPairs, Option, Some, None, unwrap_or, refl, ap, sym, subst, ◌∙◌, arith, AllByRecursion, option_or, cases_lt, length-append, length-take-le, length-drop, get_or_append_left, get_or-append_right, get_or-take, get_or-drop, All-from_recursion, recursion_from_All, AllPairs-cons, Piece, with_bytes, AreApart, AreWritable, EndsInMemory, IsLoaded, byte_in, are_runs, loaded}
 use Rattle.locate.proofs.Pieces.{piece_end, byte_of_piece, one_more, within, below, above, Begins, Begins-less, Ends, runs_parts}
 use Rattle.locate.proofs.Images.{none_before}
 

@@ -1,12 +1,5 @@
 -- Pieces that are put after others: what they have at an address, and that they stay runs.
-use Rattle.std.proofs.Common.{◌≡◌, ℕ, ◌+◌, ◌-◌, ◌<◌, ◌≤◌, ◌==◌, inl, inr, Bool, true, false, cond, ◌&&◌, nat_le, nat_lt, List, [], ◌∷◌, ◌++◌, length, find, slice_index, get_or, Option, Some, None, option_map, refl, ap, sym, ◌∙◌, arith}
-use Rattle.std.specs.List.{AllByRecursion}
-use Rattle.std.specs.Option.{option_or}
-use Rattle.std.proofs.lemmas.Bool.{eqb-true, eqb-false, ltb-true, lt-ltb, le-ltb, le-leb, lt-leb, and_parts, and_from, and_left, and_right, cases_lt}
-use Rattle.std.proofs.lemmas.List.{length-append, get_or_append_left, get_or-append_right}
-use Rattle.mem80.specs.declared.range.Piece.{Piece}
-use Rattle.mem80.specs.Pieces.{has_address, byte_in, has_bytes, are_runs}
-use Rattle.locate.specs.internal.Putting.{joined, with_piece, with_pieces}
+use Rattle.locate.proofs.Prelude.{◌≡◌, ℕ, ◌+◌, ◌-◌, ◌<◌, ◌≤◌, ◌==◌, inl, inr, Bool, true, false, cond, ◌&&◌, nat_le, nat_lt, List, [], ◌∷◌, ◌++◌, length, find, slice_index, get_or, Option, Some, None, option_map, refl, ap, sym, ◌∙◌, arith, AllByRecursion, option_or, eqb-true, eqb-false, ltb-true, lt-ltb, le-ltb, le-leb, lt-leb, and_parts, and_from, and_left, and_right, cases_lt, length-append, get_or_append_left, get_or-append_right, Piece, has_address, byte_in, has_bytes, are_runs, joined, with_piece, with_pieces}
 
 abbrev pub piece_end : Piece → ℕ
 piece_end piece = piece.start + length piece.bytes

@@ -1,12 +1,5 @@
 -- The runs of places as pieces: what they have at an address, where they begin and end.
-use Rattle.std.proofs.Common.{◌≡◌, ℕ, suc, ◌+◌, ◌-◌, ◌≤◌, ◌==◌, inl, inr, Bool, true, false, cond, nat_lt, List, [], ◌∷◌, length, map, slice_get, slice_index, Option, Some, None, refl, ap, sym, ◌∙◌, arith}
-use Rattle.std.specs.Option.{option_or, option_flatten}
-use Rattle.std.proofs.lemmas.Bool.{eqb-true, eqb-false, eq-eqb, ne_eqb, lt-ltb, le-ltb, cases_order}
-use Rattle.mem80.specs.declared.range.Piece.{Piece}
-use Rattle.mem80.specs.Pieces.{byte_in, are_runs}
-use Rattle.object_modules.specs.Image.{at_address}
-use Rattle.object_modules.specs.Text.{Run, before_runs, runs_from}
-use Rattle.locate.specs.internal.Putting.{piece_at}
+use Rattle.locate.proofs.Prelude.{◌≡◌, ℕ, suc, ◌+◌, ◌-◌, ◌≤◌, ◌==◌, inl, inr, Bool, true, false, cond, nat_lt, List, [], ◌∷◌, length, map, slice_get, slice_index, Option, Some, None, refl, ap, sym, ◌∙◌, arith, option_or, option_flatten, eqb-true, eqb-false, eq-eqb, ne_eqb, lt-ltb, le-ltb, cases_order, Piece, byte_in, are_runs, at_address, Run, before_runs, runs_from, piece_at}
 use Rattle.locate.proofs.Pieces.{byte_of_piece, piece_end, one_more, alone, or_assoc, or_none, within, below, above, touching, Begins, Begins-less, Ends, Ends-more, runs_cons, runs_parts}
 
 abbrev pub pieces_at : (base : ℕ) → List (Run ℕ) → List Piece

@@ -1,18 +1,6 @@
 -- What placing a module rests on.
-use Rattle.std.proofs.Common.{◌≡◌, ◌+◌, ◌<◌, ◌≤◌, true, cond, List, [], ◌∷◌, length, All, Some, None, Err, ap, sym, subst, ◌∙◌}
-use Rattle.std.proofs.lemmas.Bool.{le-leb, lt-leb}
-use Rattle.std.proofs.lemmas.List.Elements.{All-from_recursion}
-use Rattle.std.specs.List.{AllByRecursion}
-use Rattle.mem80.specs.declared.range.Piece.{Piece}
-use Rattle.mem80.specs.Pieces.{AreLongestRuns, EndsInMemory, are_runs}
-use Rattle.object_modules.specs.declared.segment.Segment.TheVariants.{Code, Data}
-use Rattle.object_modules.specs.Image.{Plan, PlacementRefusal, base_of, image_at, image_of, placed, placement_refusal}
-use Rattle.object_modules.specs.Merge.{unless_refused}
-use Rattle.object_modules.specs.Module.{ObjectModule, places_of}
-use Rattle.locate.specs.Locating.{Absolute, IsPlaced}
-use Rattle.locate.specs.internal.Images.{segment_pieces, in_turn, image_pieces}
+use Rattle.locate.proofs.Prelude.{◌≡◌, ◌+◌, ◌<◌, ◌≤◌, true, cond, List, [], ◌∷◌, length, All, Some, None, Err, ap, sym, subst, ◌∙◌, le-leb, lt-leb, All-from_recursion, AllByRecursion, Piece, AreLongestRuns, EndsInMemory, are_runs, Code, Data, Plan, PlacementRefusal, base_of, image_at, image_of, placed, placement_refusal, unless_refused, ObjectModule, places_of, Absolute, IsPlaced, segment_pieces, in_turn, image_pieces, allowed}
 use Rattle.locate.proofs.Pieces.{Ends}
-use Rattle.object_modules.proofs.Allowed.{allowed}
 use Rattle.locate.proofs.Images.{image_is}
 
 -- each segment has room

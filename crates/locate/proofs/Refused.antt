@@ -1,14 +1,5 @@
 -- The refusal of a plan, by the answers of its tests.
-use Rattle.std.proofs.Common.{◌≡◌, ℕ, ◌%◌, ◌==◌, Bool, true, false, not, ◌||◌, List, [], ◌∷◌, length, refl, ap, arith}
-use Rattle.std.specs.List.{list_any}
-use Rattle.std.specs.Option.{is_none}
-use Rattle.std.proofs.lemmas.Bool.{ne_eqb}
-use Rattle.mem80.specs.Range.{ranges_meet}
-use Rattle.object_modules.specs.declared.segment.Segment.TheVariants.{Code, Data}
-use Rattle.object_modules.specs.Before.{is_empty}
-use Rattle.object_modules.specs.Image.{Plan, ExternalLeft, NoStart, PassesMemory, SegmentsMeet, PageBroken, HighByteBroken, gain_at, code_range, data_range, stack_range, passes_memory, breaks_page, placement_refusal}
-use Rattle.object_modules.specs.Module.{ObjectModule}
-use Rattle.object_modules.specs.Moving.{high_targets}
+use Rattle.locate.proofs.Prelude.{◌≡◌, ℕ, ◌%◌, ◌==◌, Bool, true, false, not, ◌||◌, List, [], ◌∷◌, length, refl, ap, arith, list_any, is_none, ne_eqb, ranges_meet, Code, Data, is_empty, Plan, ExternalLeft, NoStart, PassesMemory, SegmentsMeet, PageBroken, HighByteBroken, gain_at, code_range, data_range, stack_range, passes_memory, breaks_page, placement_refusal, ObjectModule, high_targets}
 use Rattle.omf80.specs.Records.{first_that_holds}
 use Rattle.locate.specs.internal.Refusing.{refusal_by}
 

@@ -1,13 +1,5 @@
 -- The runs of a segment as pieces are the runs of its places, moved.
-use Rattle.std.proofs.Common.{◌≡◌, ℕ, ◌+◌, ◌≤◌, ◌==◌, Bool, true, false, cond, List, [], ◌∷◌, ◌++◌, length, map, flat_map, Option, Some, None, option_map, refl, ap, sym, ◌∙◌, arith}
-use Rattle.std.proofs.lemmas.Bool.{eqb-true, eq-eqb, ne_eqb}
-use Rattle.object_modules.specs.declared.segment.Fix.{Fix}
-use Rattle.object_modules.specs.declared.segment.Target.{Target}
-use Rattle.object_modules.specs.Module.{SetByte}
-use Rattle.object_modules.specs.Moving.{value_moved, moved_after}
-use Rattle.object_modules.specs.Text.{Run, before_runs, runs_from, fixes_from}
-use Rattle.object_modules.specs.Runs.{bytes_of_run, fixes_of_run}
-use Rattle.locate.specs.internal.Putting.{piece_of, pieces_from, piece_at}
+use Rattle.locate.proofs.Prelude.{◌≡◌, ℕ, ◌+◌, ◌≤◌, ◌==◌, Bool, true, false, cond, List, [], ◌∷◌, ◌++◌, length, map, flat_map, Option, Some, None, option_map, refl, ap, sym, ◌∙◌, arith, eqb-true, eq-eqb, ne_eqb, Fix, Target, SetByte, value_moved, moved_after, Run, before_runs, runs_from, fixes_from, bytes_of_run, fixes_of_run, piece_of, pieces_from, piece_at}
 use Rattle.locate.proofs.Values.{value_of, moved_items, Heads, Heads-less, heads_items, values_are, fixes_are}
 
 -- each run begins where the one before it ends, or later

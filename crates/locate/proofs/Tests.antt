@@ -1,8 +1,5 @@
 -- Tests that the code has from elsewhere.
-use Rattle.std.proofs.Common.{◌≡◌, Bool, true, false, refl, sym}
-use Rattle.std.specs.Prelude.{◌↔◌, IsTrue}
-use Rattle.mem80.specs.declared.range.Range.{Range}
-use Rattle.mem80.specs.Range.{Meets, ranges_meet}
+use Rattle.locate.proofs.Prelude.{◌≡◌, Bool, true, false, refl, sym, ◌↔◌, IsTrue, Range, Meets, ranges_meet}
 use Rattle.mem80.proofs.Ranges.{meets_decides}
 
 -- two tests of one thing

@@ -1,14 +1,5 @@
 -- The values that a walk over the bytes of a run gives are those of its places, moved.
-use Rattle.std.proofs.Common.{◌≡◌, ℕ, ◌+◌, ◌≤◌, cond, List, [], ◌∷◌, ◌++◌, length, map, Option, Some, None, refl, ap, ◌∙◌, arith}
-use Rattle.std.proofs.lemmas.Bool.{eq-eqb, ne_eqb}
-use Rattle.object_modules.specs.declared.segment.Fix.{Fix}
-use Rattle.object_modules.specs.declared.segment.FixKind.{FixKind}
-use Rattle.object_modules.specs.declared.segment.FixKind.TheVariants.{Low, High, Both}
-use Rattle.object_modules.specs.declared.segment.Target.{Target}
-use Rattle.object_modules.specs.Module.{Fixup, SetByte}
-use Rattle.object_modules.specs.Moving.{after_fixup, value_after, value_moved}
-use Rattle.object_modules.specs.Text.{fixes_from}
-use Rattle.locate.specs.internal.Fixing.{Carry, Walk, first_at, after_first, carry_by, second_by, value_by, word_by, values_from, fixes_after}
+use Rattle.locate.proofs.Prelude.{◌≡◌, ℕ, ◌+◌, ◌≤◌, cond, List, [], ◌∷◌, ◌++◌, length, map, Option, Some, None, refl, ap, ◌∙◌, arith, eq-eqb, ne_eqb, Fix, FixKind, Low, High, Both, Target, Fixup, SetByte, after_fixup, value_after, value_moved, fixes_from, Carry, Walk, first_at, after_first, carry_by, second_by, value_by, word_by, values_from, fixes_after}
 
 abbrev pub value_of : SetByte → ℕ
 value_of here = here.value

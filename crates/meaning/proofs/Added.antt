@@ -1,19 +1,5 @@
 -- Events are only added, with any budget.
-use Rattle.std.proofs.Common.{◌≡◌, ℕ, zero, suc, ◌+◌, ◌-◌, ◌*◌, ◌==◌, ◌%◌, ◌&&◌, ◌++◌, Bool, true, false, List, [], ◌∷◌, Option, Some, None, cond, nat_lt, refl, sym, ap, ◌∙◌, append-nil, append_assoc}
-use Rattle.std.specs.Option.{option_map_or}
-use Rattle.mem80.specs.declared.memory.TheConstants.{MEMORY_SIZE}
-use Rattle.ports.specs.Events.{IsBeginning, read_event, write_event}
-use Rattle.ports.specs.Input.{input_value}
-use Rattle.trees.specs.declared.declaration.ScalarType.{ScalarType}
-use Rattle.trees.specs.declared.declaration.ScalarType.TheVariants.{Byte, Address}
-use Rattle.typed_trees.specs.Charge.{charge_of}
-use Rattle.typed_trees.specs.TypedTrees.{TypedExpression, NumberNode, ValueNode, LocationNode, ListNode, ConversionNode, AssignmentNode, UnaryNode, BinaryNode, CallNode, FunctionNode, ShiftNode, InputNode, TypedReference, PartOf, Subscript, NoSubscript, At, TypedTarget, StoredIn, SentTo, TypedArguments, NoArguments, MoreArguments, TypedIteration, TypedStatement, LabelStatement, NullStatement, AssignmentStatement, CallStatement, MoveStatement, ReturnStatement, HaltStatement, GotoStatement, IfStatement, DoStatement, WhileStatement, IterateStatement, CaseStatement, TypedElse, NoElse, ElseStatement, TypedStatements, NoStatements, MoreStatements, TypedList, ListOf, Home, InData, InConstants, Placed, BasedOn, Elsewhere, Nowhere, InFrame, TypedProcedure, TypedModule}
-use Rattle.layout.specs.Joined.{InProgram}
-use Rattle.meaning.specs.Values.{as_type, is_true, result_of, values_of}
-use Rattle.meaning.specs.Access.{Place, InMemory, InTheFrame, Surroundings, frame_bytes, home_of, is_constant, is_declared, next_place, place_of, read_byte, read_scalar, write_byte, write_scalar}
-use Rattle.meaning.specs.Meaning.{Later, Turn, WhileTurn, IterateTurn, after_turn, based_place, called, called_for, callee_in, caught_in, charged, computed, displacement, done, done_all, done_case, done_else, done_list, entered, frame_of, going_on, iterated, landed, later_by, located, moved, next_turn, parameters_set, procedure_at, read_variable, rest_from, rest_of, returned, step_value, stepped, stored, stored_in_each, turn_of, value, value_of_flow, values, write_variable}
-use Rattle.meaning.specs.Outcomes.{Program, State, Outcome, Gave, Stopped, then_do, taking_one, Flow, Onward, Returned, Jumped}
-use Rattle.meaning.specs.internal.Kept.{ComesAfter, LaterAdds}
+use Rattle.meaning.proofs.Prelude.{◌≡◌, ℕ, zero, suc, ◌+◌, ◌-◌, ◌*◌, ◌==◌, ◌%◌, ◌&&◌, ◌++◌, Bool, true, false, List, [], ◌∷◌, Option, Some, None, cond, nat_lt, refl, sym, ap, ◌∙◌, append-nil, append_assoc, option_map_or, MEMORY_SIZE, IsBeginning, read_event, write_event, input_value, ScalarType, Byte, Address, charge_of, TypedExpression, NumberNode, ValueNode, LocationNode, ListNode, ConversionNode, AssignmentNode, UnaryNode, BinaryNode, CallNode, FunctionNode, ShiftNode, InputNode, TypedReference, PartOf, Subscript, NoSubscript, At, TypedTarget, StoredIn, SentTo, TypedArguments, NoArguments, MoreArguments, TypedIteration, TypedStatement, LabelStatement, NullStatement, AssignmentStatement, CallStatement, MoveStatement, ReturnStatement, HaltStatement, GotoStatement, IfStatement, DoStatement, WhileStatement, IterateStatement, CaseStatement, TypedElse, NoElse, ElseStatement, TypedStatements, NoStatements, MoreStatements, TypedList, ListOf, Home, InData, InConstants, Placed, BasedOn, Elsewhere, Nowhere, InFrame, TypedProcedure, TypedModule, InProgram, as_type, is_true, result_of, values_of, Place, InMemory, InTheFrame, Surroundings, frame_bytes, home_of, is_constant, is_declared, next_place, place_of, read_byte, read_scalar, write_byte, write_scalar, Later, Turn, WhileTurn, IterateTurn, after_turn, based_place, called, called_for, callee_in, caught_in, charged, computed, displacement, done, done_all, done_case, done_else, done_list, entered, frame_of, going_on, iterated, landed, later_by, located, moved, next_turn, parameters_set, procedure_at, read_variable, rest_from, rest_of, returned, step_value, stepped, stored, stored_in_each, turn_of, value, value_of_flow, values, write_variable, Program, State, Outcome, Gave, Stopped, then_do, taking_one, Flow, Onward, Returned, Jumped, ComesAfter, LaterAdds}
 
 pub begins_itself : (s : State) → IsBeginning s.events s.events
 begins_itself s = ([], sym (append-nil s.events))

@@ -1,12 +1,5 @@
 -- What is given from outside matters only as far as the budget lasts: of expressions.
-use Rattle.std.proofs.Common.{◌≡◌, ℕ, zero, suc, ◌+◌, ◌<◌, ◌≤◌, ◌&&◌, Bool, true, false, List, [], ◌∷◌, Option, Some, None, cond, arith, refl, sym, ap, ◌∙◌}
-use Rattle.trees.specs.declared.declaration.ScalarType.{ScalarType}
-use Rattle.typed_trees.specs.TypedTrees.{TypedExpression, NumberNode, ValueNode, LocationNode, ListNode, ConversionNode, AssignmentNode, UnaryNode, BinaryNode, CallNode, FunctionNode, ShiftNode, InputNode, TypedReference, PartOf, Subscript, NoSubscript, At, TypedTarget, StoredIn, SentTo, TypedArguments, NoArguments, MoreArguments}
-use Rattle.layout.specs.Joined.{InProgram}
-use Rattle.meaning.specs.Access.{Surroundings}
-use Rattle.meaning.specs.Meaning.{Later, called_for, callee_in, displacement, located, stored, stored_in_each, value, values}
-use Rattle.meaning.specs.Outcomes.{Program, State, Outcome, Gave, Stopped, then_do}
-use Rattle.meaning.specs.internal.Kept.{Agrees, Continues, Extra, nothing_else, Keeps, LaterKeeps}
+use Rattle.meaning.proofs.Prelude.{◌≡◌, ℕ, zero, suc, ◌+◌, ◌<◌, ◌≤◌, ◌&&◌, Bool, true, false, List, [], ◌∷◌, Option, Some, None, cond, arith, refl, sym, ap, ◌∙◌, ScalarType, TypedExpression, NumberNode, ValueNode, LocationNode, ListNode, ConversionNode, AssignmentNode, UnaryNode, BinaryNode, CallNode, FunctionNode, ShiftNode, InputNode, TypedReference, PartOf, Subscript, NoSubscript, At, TypedTarget, StoredIn, SentTo, TypedArguments, NoArguments, MoreArguments, InProgram, Surroundings, Later, called_for, callee_in, displacement, located, stored, stored_in_each, value, values, Program, State, Outcome, Gave, Stopped, then_do, Agrees, Continues, Extra, nothing_else, Keeps, LaterKeeps}
 use Rattle.meaning.proofs.KeptParts.{displacement_keeps, located_keeps, stored_keeps, value_keeps, values_keep}
 
 -- equal parts after the same part, and after equal parts

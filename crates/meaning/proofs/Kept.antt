@@ -1,20 +1,6 @@
 -- What holds along each run.
-use Rattle.std.proofs.Common.{◌≡◌, ◌≢◌, ℕ, zero, suc, ◌+◌, ◌-◌, ◌*◌, ◌<◌, ◌≤◌, ◌==◌, ◌%◌, ◌/◌, ◌&&◌, Bool, true, false, List, [], ◌∷◌, ◌++◌, length, map, Option, Some, None, cond, nat_lt, slice_set, slice_index, slice_index_or, arith, refl, sym, ap, subst, ◌∙◌, append-nil, append_assoc}
-use Rattle.std.specs.Option.{option_map_or}
-use Rattle.std.proofs.Math.Seq.{map-set_same}
-use Rattle.std.proofs.lemmas.List.{length-set, get_or-set_other}
-use Rattle.std.proofs.lemmas.Grind.{common_steps}
-use Rattle.mem80.specs.declared.memory.TheConstants.{MEMORY_SIZE}
-use Rattle.mem80.specs.Memory.{byte_at}
-use Rattle.ports.specs.declared.event.Event.{Event}
-use Rattle.ports.specs.Events.{IsBeginning}
-use Rattle.trees.specs.declared.declaration.ScalarType.{ScalarType}
-use Rattle.trees.specs.declared.declaration.ScalarType.TheVariants.{Byte, Address}
+use Rattle.meaning.proofs.Prelude.{◌≡◌, ◌≢◌, ℕ, zero, suc, ◌+◌, ◌-◌, ◌*◌, ◌<◌, ◌≤◌, ◌==◌, ◌%◌, ◌/◌, ◌&&◌, Bool, true, false, List, [], ◌∷◌, ◌++◌, length, map, Option, Some, None, cond, nat_lt, slice_set, slice_index, slice_index_or, arith, refl, sym, ap, subst, ◌∙◌, append-nil, append_assoc, option_map_or, map-set_same, length-set, get_or-set_other, common_steps, MEMORY_SIZE, byte_at, Event, IsBeginning, ScalarType, Byte, Address, UndeclaredByte, Constant, Place, InMemory, InTheFrame, Surroundings, frame_bytes, is_constant, is_declared, next_place, read_byte, read_scalar, write_byte, write_scalar, Program, State, Stop, Ended, More, Outside, Outcome, Gave, Stopped, then_do, taking_one, Flow, Onward, Returned, Jumped, Follows, Continues, IsSpent, Extra, nothing_else, jump_took, Keeps, LaterKeeps}
 use Rattle.meaning.specs.declared.reason.Reason.{Reason}
-use Rattle.meaning.specs.declared.reason.Reason.TheVariants.{Byte as UndeclaredByte, Constant}
-use Rattle.meaning.specs.Access.{Place, InMemory, InTheFrame, Surroundings, frame_bytes, is_constant, is_declared, next_place, read_byte, read_scalar, write_byte, write_scalar}
-use Rattle.meaning.specs.Outcomes.{Program, State, Stop, Ended, More, Outside, Outcome, Gave, Stopped, then_do, taking_one, Flow, Onward, Returned, Jumped}
-use Rattle.meaning.specs.internal.Kept.{Follows, Continues, IsSpent, Extra, nothing_else, jump_took, Keeps, LaterKeeps}
 
 module _ (program : Program) where
   pub follows_itself : (s : State) → Follows program s s

@@ -1,15 +1,5 @@
 -- What holds along calls, and so of all that is given from outside.
-use Rattle.std.proofs.Common.{◌≡◌, ℕ, zero, suc, ◌-◌, ◌<◌, ◌≤◌, Bool, true, false, List, [], ◌∷◌, length, map, Option, Some, None, cond, nat_lt, arith, refl}
-use Rattle.std.specs.Option.{option_map_or}
-use Rattle.trees.specs.declared.declaration.ScalarType.{ScalarType}
-use Rattle.typed_trees.specs.Charge.{charge_of}
-use Rattle.typed_trees.specs.TypedTrees.{TypedProcedure, TypedModule}
-use Rattle.layout.specs.Joined.{InProgram}
-use Rattle.meaning.specs.declared.reason.Reason.TheVariants.{Stack}
-use Rattle.meaning.specs.Access.{Surroundings, place_of, write_scalar}
-use Rattle.meaning.specs.Meaning.{Later, called, charged, done_list, entered, frame_of, later_by, parameters_set, procedure_at, value_of_flow}
-use Rattle.meaning.specs.Outcomes.{Program, State, Outside, Outcome, Gave, Stopped, then_do, Flow}
-use Rattle.meaning.specs.internal.Kept.{Follows, Continues, nothing_else, jump_took, Keeps, LaterKeeps}
+use Rattle.meaning.proofs.Prelude.{◌≡◌, ℕ, zero, suc, ◌-◌, ◌<◌, ◌≤◌, Bool, true, false, List, [], ◌∷◌, length, map, Option, Some, None, cond, nat_lt, arith, refl, option_map_or, ScalarType, charge_of, TypedProcedure, TypedModule, InProgram, Stack, Surroundings, place_of, write_scalar, Later, called, charged, done_list, entered, frame_of, later_by, parameters_set, procedure_at, value_of_flow, Program, State, Outside, Outcome, Gave, Stopped, then_do, Flow, Follows, Continues, nothing_else, jump_took, Keeps, LaterKeeps}
 use Rattle.meaning.proofs.Kept.{changes_scalar, continues_itself, follows_then, from_before, nothing_weakens}
 use Rattle.meaning.proofs.KeptParts.{next}
 use Rattle.meaning.proofs.KeptStatements.{list_keeps, rest_keeps, takes_one, turn_keeps}

@@ -1,18 +1,5 @@
 -- What holds along the evaluation of expressions, and along statements.
-use Rattle.std.proofs.Common.{◌≡◌, ℕ, zero, suc, ◌+◌, ◌-◌, ◌*◌, ◌<◌, ◌≤◌, ◌==◌, ◌%◌, ◌&&◌, ◌++◌, Bool, true, false, List, [], ◌∷◌, length, Option, Some, None, cond, nat_lt, arith, refl, sym, ap, subst, ◌∙◌}
-use Rattle.mem80.specs.declared.memory.TheConstants.{MEMORY_SIZE}
-use Rattle.ports.specs.Events.{read_event, write_event}
-use Rattle.ports.specs.Input.{input_value}
-use Rattle.trees.specs.declared.declaration.ScalarType.{ScalarType}
-use Rattle.trees.specs.declared.declaration.ScalarType.TheVariants.{Byte, Address}
-use Rattle.typed_trees.specs.TypedTrees.{TypedExpression, NumberNode, ValueNode, LocationNode, ListNode, ConversionNode, AssignmentNode, UnaryNode, BinaryNode, CallNode, FunctionNode, ShiftNode, InputNode, TypedReference, PartOf, Subscript, NoSubscript, At, TypedTarget, StoredIn, SentTo, TypedArguments, NoArguments, MoreArguments, Home, InData, InConstants, Placed, BasedOn, Elsewhere, Nowhere, InFrame}
-use Rattle.layout.specs.Joined.{InProgram}
-use Rattle.meaning.specs.declared.reason.Reason.TheVariants.{Divide}
-use Rattle.meaning.specs.Values.{as_type, result_of}
-use Rattle.meaning.specs.Access.{Place, InMemory, Surroundings, home_of, place_of, read_byte, read_scalar, write_byte, write_scalar}
-use Rattle.meaning.specs.Meaning.{Later, Displacement, based_place, called_for, callee_in, computed, displacement, located, moved, stored, stored_in_each, taken_in, value, values}
-use Rattle.meaning.specs.Outcomes.{Program, State, Outcome, Gave, Stopped, then_do, taking_one}
-use Rattle.meaning.specs.internal.Kept.{Continues, Extra, nothing_else, Keeps, LaterKeeps}
+use Rattle.meaning.proofs.Prelude.{◌≡◌, ℕ, zero, suc, ◌+◌, ◌-◌, ◌*◌, ◌<◌, ◌≤◌, ◌==◌, ◌%◌, ◌&&◌, ◌++◌, Bool, true, false, List, [], ◌∷◌, length, Option, Some, None, cond, nat_lt, arith, refl, sym, ap, subst, ◌∙◌, MEMORY_SIZE, read_event, write_event, input_value, ScalarType, Byte, Address, TypedExpression, NumberNode, ValueNode, LocationNode, ListNode, ConversionNode, AssignmentNode, UnaryNode, BinaryNode, CallNode, FunctionNode, ShiftNode, InputNode, TypedReference, PartOf, Subscript, NoSubscript, At, TypedTarget, StoredIn, SentTo, TypedArguments, NoArguments, MoreArguments, Home, InData, InConstants, Placed, BasedOn, Elsewhere, Nowhere, InFrame, InProgram, Divide, as_type, result_of, Place, InMemory, Surroundings, home_of, place_of, read_byte, read_scalar, write_byte, write_scalar, Later, Displacement, based_place, called_for, callee_in, computed, displacement, located, moved, stored, stored_in_each, taken_in, value, values, Program, State, Outcome, Gave, Stopped, then_do, taking_one, Continues, Extra, nothing_else, Keeps, LaterKeeps}
 use Rattle.meaning.proofs.Kept.{adds_event, changes_byte, changes_scalar, continues_itself, follows_itself, keeps_then, nothing_weakens, reads_byte, reads_scalar}
 
 -- one part after another, where nothing else is to be said

@@ -1,8 +1,5 @@
 -- The labels of lists: the rest of a list from a label on begins with that label.
-use Rattle.std.proofs.Common.{◌≡◌, ℕ, zero, suc, ◌+◌, ◌-◌, ◌≤◌, Bool, true, false, List, [], ◌∷◌, slice_get, nat_le, Option, Some, None, cond, option_map, arith, refl, sym, ap, ◌∙◌, leb-true}
-use Rattle.typed_trees.specs.Jumps.{LabelsStand}
-use Rattle.typed_trees.specs.TypedTrees.{TypedStatement, LabelStatement, TypedStatements, NoStatements, MoreStatements, ListOf}
-use Rattle.meaning.specs.Meaning.{dropped, rest_from}
+use Rattle.meaning.proofs.Prelude.{◌≡◌, ℕ, zero, suc, ◌+◌, ◌-◌, ◌≤◌, Bool, true, false, List, [], ◌∷◌, slice_get, nat_le, Option, Some, None, cond, option_map, arith, refl, sym, ap, ◌∙◌, leb-true, LabelsStand, TypedStatement, LabelStatement, TypedStatements, NoStatements, MoreStatements, ListOf, dropped, rest_from}
 
 -- what the places of labels say
 record LabelAt (statements : TypedStatements) (place label found : ℕ) : Type 0 where

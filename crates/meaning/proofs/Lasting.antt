@@ -1,16 +1,5 @@
 -- A run with more budget comes to the same, or goes on where the other wanted more: of expressions.
-use Rattle.std.proofs.Common.{◌≡◌, ℕ, zero, suc, ◌+◌, ◌-◌, ◌*◌, ◌<◌, ◌≤◌, ◌==◌, ◌%◌, ◌/◌, ◌&&◌, Bool, true, false, List, [], ◌∷◌, Option, Some, None, cond, arith, refl, sym, ap, subst, ◌∙◌}
-use Rattle.std.proofs.lemmas.Grind.{common_steps}
-use Rattle.mem80.specs.declared.memory.TheConstants.{MEMORY_SIZE}
-use Rattle.trees.specs.declared.declaration.ScalarType.{ScalarType}
-use Rattle.trees.specs.declared.declaration.ScalarType.TheVariants.{Byte, Address}
-use Rattle.typed_trees.specs.TypedTrees.{TypedExpression, NumberNode, ValueNode, LocationNode, ListNode, ConversionNode, AssignmentNode, UnaryNode, BinaryNode, CallNode, FunctionNode, ShiftNode, InputNode, TypedReference, PartOf, Subscript, NoSubscript, At, TypedTarget, StoredIn, SentTo, TypedArguments, NoArguments, MoreArguments, Home, InData, InConstants, Placed, BasedOn, Elsewhere, Nowhere, InFrame}
-use Rattle.layout.specs.Joined.{InProgram}
-use Rattle.meaning.specs.Values.{as_type, result_of}
-use Rattle.meaning.specs.Access.{Place, InMemory, InTheFrame, Surroundings, home_of, is_constant, is_declared, next_place, place_of, read_byte, read_scalar, write_byte, write_scalar}
-use Rattle.meaning.specs.Meaning.{Later, based_place, called_for, callee_in, computed, displacement, located, moved, stored, stored_in_each, value, values}
-use Rattle.meaning.specs.Outcomes.{Program, State, Stop, Ended, More, Outside, Outcome, Gave, Stopped, then_do, taking_one}
-use Rattle.meaning.specs.internal.Kept.{ComesAfter, Continues, Extra, nothing_else, Keeps, LaterAdds, LaterKeeps, LaterLasts, Lasts, with_more}
+use Rattle.meaning.proofs.Prelude.{◌≡◌, ℕ, zero, suc, ◌+◌, ◌-◌, ◌*◌, ◌<◌, ◌≤◌, ◌==◌, ◌%◌, ◌/◌, ◌&&◌, Bool, true, false, List, [], ◌∷◌, Option, Some, None, cond, arith, refl, sym, ap, subst, ◌∙◌, common_steps, MEMORY_SIZE, ScalarType, Byte, Address, TypedExpression, NumberNode, ValueNode, LocationNode, ListNode, ConversionNode, AssignmentNode, UnaryNode, BinaryNode, CallNode, FunctionNode, ShiftNode, InputNode, TypedReference, PartOf, Subscript, NoSubscript, At, TypedTarget, StoredIn, SentTo, TypedArguments, NoArguments, MoreArguments, Home, InData, InConstants, Placed, BasedOn, Elsewhere, Nowhere, InFrame, InProgram, as_type, result_of, Place, InMemory, InTheFrame, Surroundings, home_of, is_constant, is_declared, next_place, place_of, read_byte, read_scalar, write_byte, write_scalar, Later, based_place, called_for, callee_in, computed, displacement, located, moved, stored, stored_in_each, value, values, Program, State, Stop, Ended, More, Outside, Outcome, Gave, Stopped, then_do, taking_one, ComesAfter, Continues, Extra, nothing_else, Keeps, LaterAdds, LaterKeeps, LaterLasts, Lasts, with_more}
 use Rattle.meaning.proofs.Kept.{changes_byte, changes_scalar, reads_byte, reads_scalar}
 use Rattle.meaning.proofs.KeptParts.{displacement_keeps, located_keeps, stored_keeps, value_keeps, values_keep}
 use Rattle.meaning.proofs.KeptStatements.{less_budget}

@@ -1,16 +1,5 @@
 -- A run with more budget comes to the same, or goes on where the other wanted more: of statements and of calls.
-use Rattle.std.proofs.Common.{◌≡◌, ℕ, zero, suc, ◌+◌, ◌-◌, ◌<◌, ◌≤◌, ◌==◌, Bool, true, false, List, [], ◌∷◌, Option, Some, None, cond, nat_lt, arith, refl, sym, ap, subst, ◌∙◌}
-use Rattle.std.specs.Option.{option_map_or}
-use Rattle.trees.specs.declared.declaration.ScalarType.{ScalarType}
-use Rattle.typed_trees.specs.Charge.{charge_of}
-use Rattle.typed_trees.specs.TypedTrees.{TypedExpression, TypedArguments, TypedIteration, TypedStatement, LabelStatement, NullStatement, AssignmentStatement, CallStatement, MoveStatement, ReturnStatement, HaltStatement, GotoStatement, IfStatement, DoStatement, WhileStatement, IterateStatement, CaseStatement, TypedElse, NoElse, ElseStatement, TypedStatements, NoStatements, MoreStatements, TypedList, ListOf, TypedProcedure, TypedModule}
-use Rattle.layout.specs.Joined.{InProgram}
-use Rattle.meaning.specs.declared.reason.Reason.TheVariants.{Stack}
-use Rattle.meaning.specs.Values.{as_type, is_true, values_of}
-use Rattle.meaning.specs.Access.{Surroundings, place_of, write_scalar}
-use Rattle.meaning.specs.Meaning.{Later, Turn, WhileTurn, IterateTurn, after_turn, called, called_for, callee_in, caught_in, charged, done, done_all, done_case, done_else, done_list, entered, frame_of, going_on, iterated, landed, later_by, moved, next_turn, nothing_later, parameters_set, procedure_at, read_variable, rest_from, rest_of, returned, step_value, stepped, stored_in_each, turn_of, value, value_of_flow, values, write_variable}
-use Rattle.meaning.specs.Outcomes.{Program, State, Stop, More, Outside, Outcome, Gave, Stopped, then_do, taking_one, Flow, Onward, Returned, Jumped}
-use Rattle.meaning.specs.internal.Kept.{ComesAfter, Continues, nothing_else, jump_took, Keeps, LaterAdds, LaterKeeps, LaterLasts, Lasts, with_more}
+use Rattle.meaning.proofs.Prelude.{◌≡◌, ℕ, zero, suc, ◌+◌, ◌-◌, ◌<◌, ◌≤◌, ◌==◌, Bool, true, false, List, [], ◌∷◌, Option, Some, None, cond, nat_lt, arith, refl, sym, ap, subst, ◌∙◌, option_map_or, ScalarType, charge_of, TypedExpression, TypedArguments, TypedIteration, TypedStatement, LabelStatement, NullStatement, AssignmentStatement, CallStatement, MoveStatement, ReturnStatement, HaltStatement, GotoStatement, IfStatement, DoStatement, WhileStatement, IterateStatement, CaseStatement, TypedElse, NoElse, ElseStatement, TypedStatements, NoStatements, MoreStatements, TypedList, ListOf, TypedProcedure, TypedModule, InProgram, Stack, as_type, is_true, values_of, Surroundings, place_of, write_scalar, Later, Turn, WhileTurn, IterateTurn, after_turn, called, called_for, callee_in, caught_in, charged, done, done_all, done_case, done_else, done_list, entered, frame_of, going_on, iterated, landed, later_by, moved, next_turn, nothing_later, parameters_set, procedure_at, read_variable, rest_from, rest_of, returned, step_value, stepped, stored_in_each, turn_of, value, value_of_flow, values, write_variable, Program, State, Stop, More, Outside, Outcome, Gave, Stopped, then_do, taking_one, Flow, Onward, Returned, Jumped, ComesAfter, Continues, nothing_else, jump_took, Keeps, LaterAdds, LaterKeeps, LaterLasts, Lasts, with_more}
 use Rattle.meaning.proofs.Kept.{changes_scalar, reads_scalar}
 use Rattle.meaning.proofs.KeptParts.{calls, moves, targets_keep, value_keeps, values_keep}
 use Rattle.meaning.proofs.KeptStatements.{list_keeps, statement_keeps, statements_keep, steps}

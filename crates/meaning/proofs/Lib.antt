@@ -1,3 +1,4 @@
+mod Prelude
 pub mod Kept
 pub mod KeptParts
 pub mod KeptStatements

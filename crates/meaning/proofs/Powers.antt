@@ -1,10 +1,5 @@
 -- Products with powers of 2, as shifts make them.
-use Rattle.std.proofs.Common.{◌≡◌, ℕ, ◌+◌, ◌-◌, ◌*◌, ◌/◌, ◌%◌, ◌^◌, ◌<◌, ◌≤◌, refl, sym, ap, ◌∙◌, arith}
-use Rattle.std.proofs.Math.Nat.{mul_assoc}
-use Rattle.std.proofs.lemmas.Nat.{pow-add, pow_pos, shl_whole, div_below}
-use Rattle.trees.specs.declared.declaration.ScalarType.{ScalarType}
-use Rattle.trees.specs.declared.declaration.ScalarType.TheVariants.{Byte, Address}
-use Rattle.meaning.specs.Values.{values_of}
+use Rattle.meaning.proofs.Prelude.{◌≡◌, ℕ, ◌+◌, ◌-◌, ◌*◌, ◌/◌, ◌%◌, ◌^◌, ◌<◌, ◌≤◌, refl, sym, ap, ◌∙◌, arith, mul_assoc, pow-add, pow_pos, shl_whole, div_below, ScalarType, Byte, Address, values_of}
 
 -- a power of 2 from 65536 on is a multiple of 65536
 far_power : (k more : ℕ) → k ≡ more + 16 → 2 ^ k ≡ 2 ^ more * 65536

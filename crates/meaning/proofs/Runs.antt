@@ -1,19 +1,6 @@
 -- Runs of one program with a budget and with a greater one.
-use Rattle.std.proofs.Common.{◌≡◌, ℕ, suc, ◌+◌, ◌-◌, Bool, true, false, List, [], ◌∷◌, Option, Some, None, find, nat_lt, arith, refl, sym, ap, subst, ◌∙◌}
-use Rattle.std.specs.Option.{option_map_or}
-use Rattle.ports.specs.declared.event.Event.{Event}
-use Rattle.ports.specs.Events.{IsBeginning}
-use Rattle.typed_trees.specs.Charge.{charge_of}
-use Rattle.typed_trees.specs.TypedTrees.{TypedModule}
-use Rattle.layout.specs.Joined.{is_main}
-use Rattle.layout.specs.Placement.{Placement}
-use Rattle.layout.specs.StartingMemory.{starting_memory}
-use Rattle.meaning.specs.declared.reason.Reason.TheVariants.{Stack}
-use Rattle.meaning.specs.Access.{Surroundings}
-use Rattle.meaning.specs.Meaning.{done_list, later_by}
-use Rattle.meaning.specs.Outcomes.{State, Stop, Ended, More, Outside, Outcome, Gave, Stopped, Flow, Onward}
+use Rattle.meaning.proofs.Prelude.{◌≡◌, ℕ, suc, ◌+◌, ◌-◌, Bool, true, false, List, [], ◌∷◌, Option, Some, None, find, nat_lt, arith, refl, sym, ap, subst, ◌∙◌, option_map_or, Event, IsBeginning, charge_of, TypedModule, is_main, Placement, starting_memory, Stack, Surroundings, done_list, later_by, State, Stop, Ended, More, Outside, Outcome, Gave, Stopped, Flow, Onward, ComesAfter, Lasts, with_more}
 use Rattle.meaning.specs.Run.{Run, main_done, number_of_main, run_of, source_run}
-use Rattle.meaning.specs.internal.Kept.{ComesAfter, Lasts, with_more}
 use Rattle.meaning.proofs.Added.{adds_if, adds_list, begins_itself, later_adds}
 use Rattle.meaning.proofs.KeptCalls.{later_keeps}
 use Rattle.meaning.proofs.Lasting.{lasts_if}

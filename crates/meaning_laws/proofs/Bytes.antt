@@ -1,35 +1,7 @@
 -- The bytes that parts of a program read and change are there: in memory, and in the frames of calls.
-use Rattle.std.proofs.Common.{◌≡◌, ◌≢◌, ℕ, zero, suc, ◌+◌, ◌*◌, ◌%◌, ◌<◌, ◌≤◌, ◌&&◌, Bool, true, false, List, [], ◌∷◌, length, map, replicate, cond, slice_get, slice_index, Option, Some, None, IsSomeAnd, if◌then◌else◌, refl, sym, ap, subst, ◌∙◌, arith, one-mul}
-use Rattle.std.specs.Prelude.{option_map}
-use Rattle.std.proofs.lemmas.Bool.{eq-eqb, ltb-true}
-use Rattle.std.proofs.lemmas.List.{length-replicate}
-use Rattle.std.proofs.lemmas.List.Elements.{All-weaker}
-use Rattle.std.proofs.lemmas.Option.{get_or_from_slice_get, slice_get-map}
-use Rattle.mem80.specs.declared.memory.TheConstants.{MEMORY_SIZE}
-use Rattle.trees.specs.declared.declaration.ScalarType.{ScalarType}
-use Rattle.trees.specs.declared.declaration.ScalarType.TheVariants.{Address}
-use Rattle.typed_trees.specs.declared.parts.Visibility.{Visibility}
+use Rattle.meaning_laws.proofs.Prelude.{◌≡◌, ◌≢◌, ℕ, zero, suc, ◌+◌, ◌*◌, ◌%◌, ◌<◌, ◌≤◌, ◌&&◌, Bool, true, false, List, [], ◌∷◌, length, map, replicate, cond, slice_get, slice_index, Option, Some, None, IsSomeAnd, if◌then◌else◌, refl, sym, ap, subst, ◌∙◌, arith, one-mul, option_map, eq-eqb, ltb-true, length-replicate, All-weaker, get_or_from_slice_get, slice_get-map, MEMORY_SIZE, ScalarType, Address, Visibility, AreParameters, home_of_parameters, IsScalar, IsScalarOf, count_of, size_of_element, size_of_object, size_of_scalar, IsStorable, TypedExpression, TypedArguments, TypedReference, PartOf, Subscript, NoSubscript, At, TypedTarget, TypedIteration, TypedStatement, TypedList, Home, InData, InConstants, Placed, BasedOn, Elsewhere, Nowhere, InFrame, ObjectType, TypedObject, TypedProcedure, TypedModule, Within, WithinProcedure, WithinMain, LiesFor, IsSeen, RefersToScalar, Counts, IsSoundlyTyped, InProgram, starting_memory, starts_as, Place, InMemory, Surroundings, address_of, frame_bytes, home_of, place_in, place_of, read_scalar, Displacement, Later, based_place, displaced, displacement, done, done_list, frame_of, is_frame_of, later_by, located, parameters_set, stored, value, values, Program, State, Outcome, Gave, Stopped, Flow, Onward, Returned, Jumped, then_do, Continues, Extra, Keeps, jump_took, nothing_else, reads_scalar, later_keeps, sets_parameters, displacement_keeps, located_keeps, stored_keeps, value_keeps, values_keep, list_keeps, statement_keeps, GivesBytes, HasBytes, IsCallee, IsThere, IsWhole, JumpTakesOne, LeavesBytes, ParametersAreThere}
 use Rattle.typed_trees.specs.declared.parts.Visibility.TheVariants as visibilities
-use Rattle.typed_trees.specs.Frames.{AreParameters, home_of_parameters}
-use Rattle.typed_trees.specs.ObjectParts.{IsScalar, IsScalarOf}
-use Rattle.typed_trees.specs.Sizes.{count_of, size_of_element, size_of_object, size_of_scalar}
-use Rattle.typed_trees.specs.Storable.{IsStorable}
-use Rattle.typed_trees.specs.TypedTrees.{TypedExpression, TypedArguments, TypedReference, PartOf, Subscript, NoSubscript, At, TypedTarget, TypedIteration, TypedStatement, TypedList, Home, InData, InConstants, Placed, BasedOn, Elsewhere, Nowhere, InFrame, ObjectType, TypedObject, TypedProcedure, TypedModule}
-use Rattle.typed_trees.specs.WellTyped.{Within, WithinProcedure, WithinMain, LiesFor, IsSeen, RefersToScalar, Counts}
 use Rattle.typed_trees.proofs.Inside.{LiesAt, scalar_lies_within}
-use Rattle.layout.specs.Sound.{IsSoundlyTyped}
-use Rattle.layout.specs.Joined.{InProgram}
-use Rattle.layout.specs.StartingMemory.{starting_memory}
-use Rattle.layout.proofs.StartingBytes.{starts_as}
-use Rattle.meaning.specs.Access.{Place, InMemory, Surroundings, address_of, frame_bytes, home_of, place_in, place_of, read_scalar}
-use Rattle.meaning.specs.Meaning.{Displacement, Later, based_place, displaced, displacement, done, done_list, frame_of, is_frame_of, later_by, located, parameters_set, stored, value, values}
-use Rattle.meaning.specs.Outcomes.{Program, State, Outcome, Gave, Stopped, Flow, Onward, Returned, Jumped, then_do}
-use Rattle.meaning.specs.internal.Kept.{Continues, Extra, Keeps, jump_took, nothing_else}
-use Rattle.meaning.proofs.Kept.{reads_scalar}
-use Rattle.meaning.proofs.KeptCalls.{later_keeps, sets_parameters}
-use Rattle.meaning.proofs.KeptParts.{displacement_keeps, located_keeps, stored_keeps, value_keeps, values_keep}
-use Rattle.meaning.proofs.KeptStatements.{list_keeps, statement_keeps}
-use Rattle.meaning_laws.specs.Meant.{GivesBytes, HasBytes, IsCallee, IsThere, IsWhole, JumpTakesOne, LeavesBytes, ParametersAreThere}
 use Rattle.meaning_laws.proofs.Names.{home_there}
 
 -- A call begins with a frame that has all bytes of each object that its procedure has in its frames.

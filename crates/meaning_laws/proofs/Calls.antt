@@ -1,26 +1,6 @@
 -- What is called is there, with an object for each parameter; and what has a location is in memory.
-use Rattle.std.proofs.Common.{◌≡◌, ◌≢◌, ℕ, zero, suc, ◌+◌, ◌%◌, ◌&&◌, Bool, true, List, [], ◌∷◌, length, Option, Some, None, IsSomeAnd, slice_get, refl, sym, ap, subst, ◌∙◌, arith}
-use Rattle.std.specs.Prelude.{option_map}
-use Rattle.std.specs.List.{AllByRecursion, enumerate_from}
-use Rattle.std.specs.Option.{option_and_then}
-use Rattle.std.proofs.lemmas.List.Elements.{recursion_from_All}
-use Rattle.std.proofs.lemmas.Option.{none-some}
-use Rattle.mem80.specs.declared.memory.TheConstants.{MEMORY_SIZE}
-use Rattle.trees.specs.declared.declaration.ScalarType.{ScalarType}
-use Rattle.trees.specs.declared.declaration.ScalarType.TheVariants.{Address}
-use Rattle.typed_trees.specs.declared.parts.Visibility.{Visibility}
+use Rattle.meaning_laws.proofs.Prelude.{◌≡◌, ◌≢◌, ℕ, zero, suc, ◌+◌, ◌%◌, ◌&&◌, Bool, true, List, [], ◌∷◌, length, Option, Some, None, IsSomeAnd, slice_get, refl, sym, ap, subst, ◌∙◌, arith, option_map, AllByRecursion, enumerate_from, option_and_then, recursion_from_All, none-some, MEMORY_SIZE, ScalarType, Address, Visibility, AreParameters, HasParameters, home_of_parameters, IsPartOf, TypedArguments, NoArguments, MoreArguments, TypedReference, PartOf, Home, InData, InConstants, Placed, BasedOn, Elsewhere, Nowhere, InFrame, TypedObject, TypedProcedure, TypedModule, HasLocation, IsSeen, RefersToLocation, Takes, Within, types_of, IsSoundlyTyped, DeclaredProcedure, InProgram, agree, is_public_procedure, procedure_meant, MeansProcedure, external_procedure_meant, procedures_agree, Place, InMemory, Surroundings, home_of, place_of, read_scalar, Later, based_place, callee_in, displacement, located, procedure_at, value, values, Program, State, Outcome, Gave, Stopped, then_do, CalleeIsMeant, CallIsMeant, GivesInMemory, GivesSoMany, IsCallee, IsWhole}
 use Rattle.typed_trees.specs.declared.parts.Visibility.TheVariants as visibilities
-use Rattle.typed_trees.specs.Frames.{AreParameters, HasParameters, home_of_parameters}
-use Rattle.typed_trees.specs.ObjectParts.{IsPartOf}
-use Rattle.typed_trees.specs.TypedTrees.{TypedArguments, NoArguments, MoreArguments, TypedReference, PartOf, Home, InData, InConstants, Placed, BasedOn, Elsewhere, Nowhere, InFrame, TypedObject, TypedProcedure, TypedModule}
-use Rattle.typed_trees.specs.WellTyped.{HasLocation, IsSeen, RefersToLocation, Takes, Within, types_of}
-use Rattle.layout.specs.Sound.{IsSoundlyTyped}
-use Rattle.layout.specs.Joined.{DeclaredProcedure, InProgram, agree, is_public_procedure, procedure_meant}
-use Rattle.layout.proofs.Meant.{MeansProcedure, external_procedure_meant, procedures_agree}
-use Rattle.meaning.specs.Access.{Place, InMemory, Surroundings, home_of, place_of, read_scalar}
-use Rattle.meaning.specs.Meaning.{Later, based_place, callee_in, displacement, located, procedure_at, value, values}
-use Rattle.meaning.specs.Outcomes.{Program, State, Outcome, Gave, Stopped, then_do}
-use Rattle.meaning_laws.specs.Meant.{CalleeIsMeant, CallIsMeant, GivesInMemory, GivesSoMany, IsCallee, IsWhole}
 use Rattle.meaning_laws.proofs.Names.{globals_listed, home_there, of_module}
 
 -- the parameters of a procedure of a module

@@ -1,20 +1,6 @@
 -- Only bytes that may be written change: along a call, and along the run of a main program.
-use Rattle.std.proofs.Common.{◌≡◌, ℕ, suc, ◌-◌, ◌<◌, ◌≤◌, Bool, true, false, List, cond, nat_lt, refl, arith}
-use Rattle.typed_trees.specs.Charge.{charge_of}
-use Rattle.typed_trees.specs.TypedTrees.{TypedModule}
-use Rattle.layout.specs.Joined.{InProgram}
-use Rattle.layout.specs.Placement.{IsWritable}
-use Rattle.layout.proofs.Declared.{writable_told}
-use Rattle.meaning.specs.declared.reason.Reason.TheVariants.{Stack}
-use Rattle.meaning.specs.Access.{Surroundings, is_constant, is_declared}
-use Rattle.meaning.specs.Meaning.{done_list, later_by}
-use Rattle.meaning.specs.Outcomes.{Program, State, Outside, Outcome, Gave, Stopped}
-use Rattle.meaning.specs.Run.{main_done}
-use Rattle.meaning.specs.internal.Kept.{Extra, Follows, Keeps, jump_took, nothing_else}
-use Rattle.meaning.proofs.Kept.{follows_itself}
-use Rattle.meaning.proofs.KeptCalls.{later_keeps}
-use Rattle.meaning.proofs.KeptStatements.{list_keeps}
-use Rattle.meaning_laws.specs.Meant.{ChangesWritable, OnlyWritableDiffer}
+use Rattle.meaning_laws.proofs.Prelude.{◌≡◌, ℕ, suc, ◌-◌, ◌<◌, ◌≤◌, Bool, true, false, List, cond, nat_lt, refl, arith, charge_of, TypedModule, InProgram, IsWritable, writable_told, Stack, Surroundings, is_constant, done_list, later_by, Program, State, Outside, Outcome, Gave, Stopped, main_done, Extra, Follows, Keeps, jump_took, nothing_else, follows_itself, later_keeps, list_keeps, ChangesWritable, OnlyWritableDiffer}
+use Rattle.meaning.specs.Access.{is_declared}
 
 differ_writable : (program : Program) (s t : State) → Follows program s t → OnlyWritableDiffer program s t
 differ_writable program s t follows address differs =

@@ -1,16 +1,5 @@
 -- The bytes of an object that has a place are declared.
-use Rattle.std.proofs.Common.{◌≡◌, ℕ, zero, suc, ◌+◌, ◌<◌, Bool, true, false, ◌||◌, List, [], ◌∷◌, length, zip, filter_map, flat_map, map, slice_get, Option, Some, None, refl, sym, ap, subst, ◌∙◌, arith}
-use Rattle.std.specs.Prelude.{option_map, slice_index}
-use Rattle.std.specs.List.{cons_option, list_any}
-use Rattle.std.proofs.lemmas.List.Folds.{list_any-append}
-use Rattle.std.proofs.lemmas.Option.{none-some}
-use Rattle.mem80.specs.declared.memory.TheConstants.{MEMORY_SIZE}
-use Rattle.typed_trees.specs.Sizes.{size_of_object}
-use Rattle.typed_trees.specs.Storable.{HasPlace}
-use Rattle.typed_trees.specs.TypedTrees.{Home, InData, InConstants, Placed, BasedOn, Elsewhere, Nowhere, InFrame, TypedObject, TypedModule}
-use Rattle.layout.specs.Placement.{AtPiece, ConstantPiece, EndsInMemory, IsDeclared, ModulePlacement, PieceKind, PlacedPiece, Placement, StaticPiece, holds_byte, is_declared, kind_of, list_piece, object_piece, piece_of, pieces_of_module}
-use Rattle.layout.specs.Lawful.{IsLawful}
-use Rattle.layout.proofs.Declared.{Decides-declared, Decides-holds}
+use Rattle.meaning_laws.proofs.Prelude.{◌≡◌, ℕ, zero, suc, ◌+◌, ◌<◌, Bool, true, false, ◌||◌, List, [], ◌∷◌, length, zip, filter_map, flat_map, map, slice_get, Option, Some, None, refl, sym, ap, subst, ◌∙◌, arith, option_map, slice_index, cons_option, list_any, list_any-append, none-some, MEMORY_SIZE, size_of_object, HasPlace, Home, InData, InConstants, Placed, BasedOn, Elsewhere, Nowhere, InFrame, TypedObject, TypedModule, AtPiece, ConstantPiece, EndsInMemory, IsDeclared, ModulePlacement, PieceKind, PlacedPiece, Placement, StaticPiece, holds_byte, is_declared, kind_of, list_piece, object_piece, piece_of, pieces_of_module, IsLawful, Decides-declared, Decides-holds}
 
 either_true : (one other : Bool) → other ≡ true → (one || other) ≡ true
 either_true true other is = refl

@@ -1,26 +1,6 @@
 -- No case of the meaning that is there for trees that no source has is taken in a program.
-use Rattle.std.proofs.Common.{◌≡◌, ℕ, ◌<◌, List, [], length, replicate, Some, slice_get, refl, sym, subst}
-use Rattle.std.specs.Prelude.{All}
-use Rattle.std.proofs.lemmas.List.{length-replicate}
-use Rattle.std.proofs.lemmas.List.Elements.{All-weaker, recursion_from_All}
-use Rattle.mem80.specs.declared.memory.TheConstants.{MEMORY_SIZE}
-use Rattle.trees.specs.declared.declaration.ScalarType.TheVariants.{Address}
-use Rattle.typed_trees.specs.Jumps.{ListStands}
-use Rattle.typed_trees.specs.Storable.{IsStorable}
-use Rattle.typed_trees.specs.TypedTrees.{TypedStatements, TypedList, ListOf, TypedModule}
-use Rattle.typed_trees.specs.WellTyped.{Within}
-use Rattle.layout.specs.Sound.{IsSoundlyTyped}
-use Rattle.layout.specs.Placement.{Placement}
-use Rattle.layout.specs.StartingMemory.{StartsAs, starting_memory}
-use Rattle.layout.proofs.StartingBytes.{starts_as}
-use Rattle.meaning.specs.Access.{Surroundings}
-use Rattle.meaning.specs.Meaning.{rest_from}
-use Rattle.meaning.specs.Outcomes.{Program, State}
-use Rattle.meaning.proofs.AgreementStatements.{later_is_meant}
-use Rattle.meaning.proofs.LabelPlaces.{rest_at}
+use Rattle.meaning_laws.proofs.Prelude.{◌≡◌, ℕ, ◌<◌, List, [], length, replicate, Some, slice_get, refl, sym, subst, All, length-replicate, All-weaker, recursion_from_All, MEMORY_SIZE, Address, ListStands, IsStorable, TypedStatements, TypedList, ListOf, TypedModule, Within, IsSoundlyTyped, Placement, StartsAs, starting_memory, starts_as, Surroundings, rest_from, Program, State, later_is_meant, rest_at, HasBytes, IsWhole, IsPlaceable}
 use Rattle.meaning_laws.specs.Defaults.{BeginsWith, BeginsWithAll, FindsBytes, KeepsBytes, TakesNoDefault, TakesNoDefaultIn}
-use Rattle.meaning_laws.specs.Meant.{HasBytes, IsWhole}
-use Rattle.meaning_laws.specs.Places.{IsPlaceable}
 use Rattle.meaning_laws.proofs.Bytes.{callee_has_bytes, counter_is_there, jump_takes_one, list_leaves_bytes, location_leaves_bytes, main_has_bytes, parameters_leave_bytes, scalar_is_there, statement_leaves_bytes, store_leaves_bytes, value_leaves_bytes, values_leave_bytes, variable_is_there}
 use Rattle.meaning_laws.proofs.Calls.{location_is_in_memory, values_are_counted}
 use Rattle.meaning_laws.proofs.Declared.{declared_in_memory}

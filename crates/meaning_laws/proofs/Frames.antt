@@ -1,18 +1,5 @@
 -- A call gives the frame of its caller back, and begins with a frame of zeros.
-use Rattle.std.proofs.Common.{◌≡◌, ℕ, ◌-◌, ◌==◌, Bool, true, false, List, [], ◌∷◌, Option, Some, None, cond, nat_lt, replicate, if◌then◌else◌, refl}
-use Rattle.std.specs.Prelude.{All}
-use Rattle.std.specs.List.{AllByRecursion}
-use Rattle.std.specs.Option.{option_map_or}
-use Rattle.std.proofs.lemmas.List.Elements.{All-from_recursion, All-map, All-nil, All-replicate}
-use Rattle.typed_trees.specs.Charge.{charge_of}
-use Rattle.typed_trees.specs.Sizes.{size_of_object}
-use Rattle.typed_trees.specs.TypedTrees.{TypedObject, TypedProcedure, TypedModule}
-use Rattle.layout.specs.Joined.{InProgram}
-use Rattle.meaning.specs.declared.reason.Reason.TheVariants.{Stack}
-use Rattle.meaning.specs.Access.{Surroundings}
-use Rattle.meaning.specs.Meaning.{Later, called, charged, done_list, entered, frame_of, is_frame_of, parameters_set, procedure_at}
-use Rattle.meaning.specs.Outcomes.{State, Outside, Outcome, Gave, Stopped, then_do}
-use Rattle.meaning_laws.specs.Meant.{LeavesFrame}
+use Rattle.meaning_laws.proofs.Prelude.{◌≡◌, ℕ, ◌-◌, ◌==◌, Bool, true, false, List, [], ◌∷◌, Option, Some, None, cond, nat_lt, replicate, if◌then◌else◌, refl, All, AllByRecursion, option_map_or, All-from_recursion, All-map, All-nil, All-replicate, charge_of, size_of_object, TypedObject, TypedProcedure, TypedModule, InProgram, Stack, Surroundings, Later, called, charged, done_list, entered, frame_of, is_frame_of, parameters_set, procedure_at, State, Outside, Outcome, Gave, Stopped, then_do, LeavesFrame}
 
 frame_then : {A : Type 0} (frame : List (List ℕ)) (outcome : Outcome A) (go : A → State → Outcome ℕ)
     → ((found : A) (t : State) → LeavesFrame frame (go found t)) → LeavesFrame frame (then_do outcome go)

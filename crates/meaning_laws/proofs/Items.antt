@@ -1,19 +1,5 @@
 -- An item that is PUBLIC has a place.
-use Rattle.std.proofs.Common.{◌≡◌, ℕ, Bool, true, false, List, Option, Some, None, cond, refl}
-use Rattle.std.specs.Prelude.{is_none, ◌&&◌}
-use Rattle.std.specs.Option.{option_map_or}
-use Rattle.trees.specs.declared.declaration.Linkage.{Linkage}
-use Rattle.trees.specs.declared.declaration.Linkage.TheVariants.{Public, External}
-use Rattle.trees.specs.declared.identifier.Identifier.{Identifier}
-use Rattle.trees.specs.Trees.{ItemTree, SubjectTree}
-use Rattle.typed_trees.specs.declared.parts.AtAddress.{AtAddress}
-use Rattle.typed_trees.specs.declared.parts.InitialValue.{InitialValue}
-use Rattle.typed_trees.specs.Storable.{HasPlace}
-use Rattle.typed_trees.specs.TypedTrees.{BasedOn, Elsewhere, Placed}
-use Rattle.typing.specs.Blocks.{Block, Owner, OfProcedure, TheModule, is_external_linkage, is_module, is_module_level, is_public_linkage}
-use Rattle.typing.specs.Items.{TypedItem, base_of, check_linkage, extents_of, home_with_values, is_data, typed_at, typed_base, typed_contents, typed_item, typed_type}
-use Rattle.typing.specs.References.{Known}
-use Rattle.typing.proofs.Kept.{Gives, gives_after, gives_ok, in_turn, required, then_more}
+use Rattle.meaning_laws.proofs.Prelude.{◌≡◌, ℕ, Bool, true, false, List, Option, Some, None, cond, refl, is_none, ◌&&◌, option_map_or, Linkage, Public, External, Identifier, ItemTree, SubjectTree, AtAddress, InitialValue, HasPlace, BasedOn, Elsewhere, Placed, Block, Owner, OfProcedure, TheModule, is_external_linkage, is_module, is_module_level, is_public_linkage, TypedItem, base_of, check_linkage, extents_of, home_with_values, is_data, typed_at, typed_base, typed_contents, typed_item, typed_type, Known, Gives, gives_after, gives_ok, in_turn, required, then_more}
 
 -- where what is shared may stand: in the module itself, and without BASED
 record MayBeShared (owner : Owner) (base : Option Identifier) : Type 0 where

@@ -1,16 +1,5 @@
 -- No procedure is left by a jump, and a main program is left at its end alone.
-use Rattle.std.proofs.Common.{◌≡◌, ℕ, zero, suc, ◌+◌, ◌-◌, ◌==◌, Bool, true, false, List, [], slice_get, nat_le, nat_lt, Option, Some, None, cond, refl, subst}
-use Rattle.std.proofs.lemmas.List.Elements.{recursion_from_All}
-use Rattle.typed_trees.specs.Jumps.{BodyIsSound, JumpsAreSound}
-use Rattle.typed_trees.specs.TypedTrees.{TypedExpression, TypedIteration, TypedStatement, LabelStatement, NullStatement, AssignmentStatement, CallStatement, MoveStatement, ReturnStatement, HaltStatement, GotoStatement, IfStatement, DoStatement, WhileStatement, IterateStatement, CaseStatement, TypedElse, NoElse, ElseStatement, TypedStatements, NoStatements, MoreStatements, TypedList, ListOf, TypedModule, TypedProcedure}
-use Rattle.typed_trees.specs.WellTyped.{IsReturned, IsWellTyped, TypesHoldIn, TypesHoldInElse, TypesHoldInList, TypesHoldInStatements, WithinMain}
-use Rattle.meaning.specs.Values.{as_type, is_true, values_of}
-use Rattle.meaning.specs.Access.{Surroundings}
-use Rattle.meaning.specs.Meaning.{Later, Turn, WhileTurn, IterateTurn, after_turn, called_for, callee_in, caught_in, done, done_all, done_case, done_else, done_list, dropped, going_on, iterated, landed, later_by, moved, read_variable, rest_from, rest_of, returned, step_value, stepped, stored_in_each, turn_of, value, values, write_variable}
-use Rattle.meaning.specs.Outcomes.{State, Outcome, Gave, Stopped, then_do, taking_one, Flow, Onward, Returned, Jumped}
-use Rattle.meaning.specs.internal.Kept.{body_of_turn}
-use Rattle.meaning.proofs.Staying.{Stays, body_stays, no_jump, rest_is_dropped}
-use Rattle.meaning_laws.specs.Meant.{Leaves, LeavesMain, LeavesProcedure}
+use Rattle.meaning_laws.proofs.Prelude.{◌≡◌, ℕ, zero, suc, ◌+◌, ◌-◌, ◌==◌, Bool, true, false, List, [], slice_get, nat_le, nat_lt, Option, Some, None, cond, refl, subst, recursion_from_All, BodyIsSound, JumpsAreSound, TypedExpression, TypedIteration, TypedStatement, LabelStatement, NullStatement, AssignmentStatement, CallStatement, MoveStatement, ReturnStatement, HaltStatement, GotoStatement, IfStatement, DoStatement, WhileStatement, IterateStatement, CaseStatement, TypedElse, NoElse, ElseStatement, TypedStatements, NoStatements, MoreStatements, TypedList, ListOf, TypedModule, TypedProcedure, IsReturned, IsWellTyped, TypesHoldIn, TypesHoldInElse, TypesHoldInList, TypesHoldInStatements, WithinMain, as_type, is_true, values_of, Surroundings, Later, Turn, WhileTurn, IterateTurn, after_turn, called_for, callee_in, caught_in, done, done_all, done_case, done_else, done_list, dropped, going_on, iterated, landed, later_by, moved, read_variable, rest_from, rest_of, returned, step_value, stepped, stored_in_each, turn_of, value, values, write_variable, State, Outcome, Gave, Stopped, then_do, taking_one, Flow, Onward, Returned, Jumped, body_of_turn, Stays, body_stays, no_jump, rest_is_dropped, Leaves, LeavesMain, LeavesProcedure}
 use Rattle.meaning_laws.proofs.Names.{of_module}
 
 not_jumped : (outcome : Outcome Flow) → Stays [] outcome → Leaves LeavesProcedure outcome

@@ -1,3 +1,4 @@
+mod Prelude
 pub mod Names
 pub mod Calls
 pub mod Mains

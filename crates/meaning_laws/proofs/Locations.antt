@@ -1,32 +1,7 @@
 -- What INITIAL and DATA locate is an object of the table that is not BASED, in a frame or nowhere.
-use Rattle.std.proofs.Common.{◌≡◌, ℕ, ◌-◌, Bool, true, false, List, [], ◌∷◌, length, slice_get, Option, Some, None, IsSomeAnd, nat_le, nat_lt, refl, sym, subst, cond}
-use Rattle.std.specs.Prelude.{All, is_none, is_some, ◌&&◌}
-use Rattle.std.specs.Option.{option_map_or}
-use Rattle.std.proofs.lemmas.List.Elements.{All-append, All-cons, All-nil, All-weaker}
-use Rattle.trees.specs.declared.declaration.ScalarType.{ScalarType}
-use Rattle.trees.specs.declared.declaration.ScalarType.TheVariants.{Byte, Address}
-use Rattle.trees.specs.declared.identifier.Identifier.{Identifier}
-use Rattle.trees.specs.Trees.{StringTree, StringConstant, OriginTree, ConstantOrigin, LocationOrigin, OffsetTree, RestrictedTree, ValueListTree, ItemTree}
-use Rattle.names.specs.declared.entity.Binding.{Binding}
-use Rattle.names.specs.declared.entity.Binding.TheVariants.{Declared}
-use Rattle.names.specs.declared.entity.Entity.TheVariants.{Object, Procedure}
-use Rattle.typed_trees.specs.declared.parts.AtAddress.{AtAddress}
-use Rattle.typed_trees.specs.declared.parts.InitialValue.TheVariants.{ByteValue, WordValue, LocationValue}
-use Rattle.typed_trees.specs.declared.parts.InitialValue.{InitialValue}
-use Rattle.typed_trees.specs.Sizes.{scalars_of_element, scalars_of_elements}
-use Rattle.typed_trees.specs.TypedTrees.{ObjectType, Home, InData, InConstants, Placed, BasedOn, Elsewhere, Nowhere, InFrame, TypedObject}
-use Rattle.layout.specs.StartingMemory.{values_in}
-use Rattle.typing.specs.declared.fault.Cause.TheVariants.{MisplacedAttribute, WrongConstant, WrongUse}
-use Rattle.typing.specs.Blocks.{Block, Owner, OfProcedure, TheModule, is_external_linkage}
-use Rattle.typing.specs.Checks.{◌>>=◌, found, require}
-use Rattle.typing.specs.Constants.{number_of_characters, number_of_constant, with_offsets}
-use Rattle.typing.specs.Filling.{OtherModulesToo, with_address, static_bound, static_object, RestrictedValue, ANumber, FromObject, restricted_value, Filled, fill_scalar, fill_characters, fill_string, line_of_origin, fill_value, fill, Extents, NoArray, Elements, AsListed, Contents, enough_elements, contents}
-use Rattle.typing.specs.Items.{TypedItem, base_of, check_linkage, extents_of, home_in, home_of, home_with_values, is_data, is_plain, line_of_item, place_of_storage, typed_at, typed_base, typed_contents, typed_item, typed_type}
-use Rattle.typing.specs.References.{Known, bound, line_of}
-use Rattle.typing.proofs.Kept.{Gives, gives_after, gives_fault, gives_ok, in_turn, is_found, required, then_more}
+use Rattle.meaning_laws.proofs.Prelude.{◌≡◌, ℕ, ◌-◌, Bool, true, false, List, [], ◌∷◌, length, slice_get, Option, Some, None, IsSomeAnd, nat_le, nat_lt, refl, sym, subst, cond, All, is_none, is_some, ◌&&◌, option_map_or, All-append, All-cons, All-nil, All-weaker, ScalarType, Byte, Address, Identifier, StringTree, StringConstant, OriginTree, ConstantOrigin, LocationOrigin, OffsetTree, RestrictedTree, ValueListTree, ItemTree, Binding, Declared, Object, Procedure, AtAddress, ByteValue, WordValue, LocationValue, InitialValue, scalars_of_element, scalars_of_elements, ObjectType, Home, InData, InConstants, Placed, BasedOn, Elsewhere, Nowhere, InFrame, TypedObject, values_in, MisplacedAttribute, WrongConstant, WrongUse, Block, Owner, OfProcedure, TheModule, is_external_linkage, ◌>>=◌, found, require, number_of_characters, number_of_constant, with_offsets, OtherModulesToo, with_address, static_bound, static_object, RestrictedValue, ANumber, FromObject, restricted_value, Filled, fill_scalar, fill_characters, fill_string, line_of_origin, fill_value, fill, Extents, NoArray, Elements, AsListed, Contents, enough_elements, contents, TypedItem, base_of, check_linkage, extents_of, home_with_values, is_data, is_plain, line_of_item, place_of_storage, typed_at, typed_base, typed_contents, typed_item, typed_type, Known, bound, line_of, Gives, gives_after, gives_fault, gives_ok, in_turn, is_found, required, then_more, HasAddress, LocatesObject}
+use Rattle.typing.specs.Items.{home_in, home_of}
 use Rattle.typing.proofs.Tables.{Keeps}
-use Rattle.meaning_laws.specs.Meant.{HasAddress}
-use Rattle.meaning_laws.specs.Places.{LocatesObject}
 
 -- an object of the table that may be located
 abbrev MayBeLocated : (objects : List TypedObject) → (number : ℕ) → Type 0

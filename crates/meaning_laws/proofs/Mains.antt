@@ -1,16 +1,5 @@
 -- A program that is joined has a main program, where its number says.
-use Rattle.std.proofs.Common.{◌≡◌, ℕ, suc, ◌+◌, ◌==◌, Bool, true, false, List, [], ◌∷◌, Option, Some, None, IsSomeAnd, cond, find, slice_get, if◌then◌else◌, refl, sym, ap, subst, ◌∙◌, arith, eqb-true}
-use Rattle.std.specs.Prelude.{count_by}
-use Rattle.std.specs.List.{position_from}
-use Rattle.std.specs.Option.{option_map_or, option_or}
-use Rattle.std.proofs.lemmas.Iterator.Adapters.{position_from-zero}
-use Rattle.std.proofs.lemmas.List.Sums.{sum_by-cons}
-use Rattle.std.proofs.lemmas.Option.{none-some}
-use Rattle.typed_trees.specs.TypedTrees.{TypedModule}
-use Rattle.layout.specs.Joined.{IsJoined, NotOneMain, declared_otherwise, is_main, join_refusal, not_one_main, public_twice, without_public}
-use Rattle.meaning.specs.Outcomes.{Program}
-use Rattle.meaning.specs.Run.{number_of_main}
-use Rattle.meaning_laws.specs.Meant.{HasMain, IsWhole}
+use Rattle.meaning_laws.proofs.Prelude.{◌≡◌, ℕ, suc, ◌+◌, ◌==◌, Bool, true, false, List, [], ◌∷◌, Option, Some, None, IsSomeAnd, cond, find, slice_get, if◌then◌else◌, refl, sym, ap, subst, ◌∙◌, arith, eqb-true, count_by, position_from, option_map_or, option_or, position_from-zero, sum_by-cons, none-some, TypedModule, IsJoined, NotOneMain, declared_otherwise, is_main, join_refusal, not_one_main, public_twice, without_public, Program, number_of_main, HasMain, IsWhole}
 
 none_of_two : {A : Type 0} (first second : Option A) → option_or first second ≡ None → (first ≡ None) × (second ≡ None)
 none_of_two None second none = (refl, none)

@@ -1,15 +1,5 @@
 -- What the statements and expressions of a soundly typed module name is there.
-use Rattle.std.proofs.Common.{◌≡◌, List, [], ◌∷◌, Option, Some, None, slice_get}
-use Rattle.std.specs.Prelude.{IfSome}
-use Rattle.std.specs.List.{enumerate_from}
-use Rattle.std.proofs.lemmas.List.Elements.{All-weaker, recursion_from_All}
-use Rattle.trees.specs.declared.declaration.ScalarType.{ScalarType}
-use Rattle.typed_trees.specs.ExpressionTypes.{type_of}
-use Rattle.typed_trees.specs.TypedTrees.{TypedExpression, NumberNode, ValueNode, LocationNode, ListNode, ConversionNode, AssignmentNode, UnaryNode, BinaryNode, CallNode, FunctionNode, ShiftNode, InputNode, TypedReference, PartOf, Subscript, NoSubscript, At, TypedTarget, StoredIn, SentTo, TypedArguments, NoArguments, MoreArguments, TypedIteration, TypedStatement, LabelStatement, NullStatement, AssignmentStatement, CallStatement, MoveStatement, ReturnStatement, HaltStatement, GotoStatement, IfStatement, DoStatement, WhileStatement, IterateStatement, CaseStatement, TypedElse, NoElse, ElseStatement, TypedStatements, NoStatements, MoreStatements, TypedList, ListOf, TypedModule}
-use Rattle.typed_trees.specs.WellTyped.{Within, WithinProcedure, WithinMain, IsReturned, TypesHold, TypesHoldIn, TypesHoldInArguments, TypesHoldInElse, TypesHoldInHead, TypesHoldInList, TypesHoldInProcedure, TypesHoldInReference, TypesHoldInStatements, TypesHoldInSubscript, TypesHoldInTarget, TypesHoldInTargets}
-use Rattle.layout.specs.Sound.{IsSoundlyTyped}
-use Rattle.meaning.specs.Access.{Surroundings}
-use Rattle.meaning_laws.specs.Meant.{IsWhole, ReferenceIsMeant}
+use Rattle.meaning_laws.proofs.Prelude.{◌≡◌, List, [], ◌∷◌, Option, Some, None, slice_get, IfSome, enumerate_from, All-weaker, recursion_from_All, ScalarType, type_of, TypedExpression, NumberNode, ValueNode, LocationNode, ListNode, ConversionNode, AssignmentNode, UnaryNode, BinaryNode, CallNode, FunctionNode, ShiftNode, InputNode, TypedReference, PartOf, Subscript, NoSubscript, At, TypedTarget, StoredIn, SentTo, TypedArguments, NoArguments, MoreArguments, TypedIteration, TypedStatement, LabelStatement, NullStatement, AssignmentStatement, CallStatement, MoveStatement, ReturnStatement, HaltStatement, GotoStatement, IfStatement, DoStatement, WhileStatement, IterateStatement, CaseStatement, TypedElse, NoElse, ElseStatement, TypedStatements, NoStatements, MoreStatements, TypedList, ListOf, TypedModule, Within, WithinProcedure, WithinMain, IsReturned, TypesHold, TypesHoldIn, TypesHoldInArguments, TypesHoldInElse, TypesHoldInHead, TypesHoldInList, TypesHoldInProcedure, TypesHoldInReference, TypesHoldInStatements, TypesHoldInSubscript, TypesHoldInTarget, TypesHoldInTargets, IsSoundlyTyped, Surroundings, IsWhole, ReferenceIsMeant}
 use Rattle.meaning_laws.specs.Named.{AreNamed, AreNamedIn, AreNamedInArguments, AreNamedInElse, AreNamedInHead, AreNamedInList, AreNamedInProcedure, AreNamedInReference, AreNamedInStatements, AreNamedInSubscript, AreNamedInTarget, AreNamedInTargets, NamesAreMeant}
 use Rattle.meaning_laws.proofs.Calls.{call_is_meant}
 use Rattle.meaning_laws.proofs.Names.{list_is_placed, of_module}

@@ -1,21 +1,5 @@
 -- The objects and the constant lists of a program have addresses.
-use Rattle.std.proofs.Common.{◌≡◌, ℕ, zero, suc, ◌<◌, true, List, [], ◌∷◌, length, Option, Some, None, IsSomeAnd, slice_get, refl, sym, ap, subst, ◌∙◌, arith}
-use Rattle.std.specs.Prelude.{All, zip}
-use Rattle.std.specs.List.{AllByRecursion}
-use Rattle.std.specs.Option.{option_and_then, option_map_or}
-use Rattle.std.proofs.lemmas.List.Elements.{All-weaker, recursion_from_All}
-use Rattle.std.proofs.lemmas.Option.{none-some, slice_get_within}
-use Rattle.typed_trees.specs.Globals.{ListsGlobals}
-use Rattle.typed_trees.specs.TypedTrees.{Home, InData, InConstants, Placed, BasedOn, Elsewhere, Nowhere, InFrame, TypedObject, TypedModule}
-use Rattle.layout.specs.Sound.{IsSoundlyTyped}
-use Rattle.layout.specs.Joined.{DeclaredObject, InProgram, agree, object_meant}
-use Rattle.layout.specs.Lawful.{HasAddresses}
-use Rattle.layout.specs.Placement.{ModulePlacement}
-use Rattle.layout.specs.StartingMemory.{meant_in}
-use Rattle.layout.proofs.Meant.{MeansObject, external_object_meant}
-use Rattle.meaning.specs.Access.{Surroundings, home_in, home_of}
-use Rattle.meaning.specs.Outcomes.{Program}
-use Rattle.meaning_laws.specs.Meant.{HasAddress, IsPlaced, IsWhole, ListIsPlaced, ObjectIsMeant}
+use Rattle.meaning_laws.proofs.Prelude.{◌≡◌, ℕ, zero, suc, ◌<◌, true, List, [], ◌∷◌, length, Option, Some, None, IsSomeAnd, slice_get, refl, sym, ap, subst, ◌∙◌, arith, All, zip, AllByRecursion, option_and_then, option_map_or, All-weaker, recursion_from_All, none-some, slice_get_within, ListsGlobals, Home, InData, InConstants, Placed, BasedOn, Elsewhere, Nowhere, InFrame, TypedObject, TypedModule, IsSoundlyTyped, DeclaredObject, InProgram, agree, object_meant, HasAddresses, ModulePlacement, meant_in, MeansObject, external_object_meant, Surroundings, home_in, home_of, Program, HasAddress, IsPlaced, IsWhole, ListIsPlaced, ObjectIsMeant}
 
 -- all globals of a program are listed
 pub globals_listed : (program : Program) → IsWhole program → All ListsGlobals program.modules

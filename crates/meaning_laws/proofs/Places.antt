@@ -1,22 +1,6 @@
 -- What each object of a program stands for that is not BASED, in a frame or nowhere lies somewhere, and so does what
 -- INITIAL and DATA locate.
-use Rattle.std.proofs.Common.{◌≡◌, ℕ, ◌+◌, ◌<◌, true, length, Option, Some, None, IsSomeAnd, slice_get, refl, sym, ap, subst, ◌∙◌, arith}
-use Rattle.std.specs.Prelude.{All, slice_index}
-use Rattle.std.specs.Option.{option_and_then, option_map_or}
-use Rattle.std.proofs.lemmas.List.Elements.{All-weaker, recursion_from_All}
-use Rattle.std.proofs.lemmas.Option.{slice_get_within}
-use Rattle.typed_trees.specs.declared.parts.InitialValue.TheVariants.{ByteValue, WordValue, LocationValue}
-use Rattle.typed_trees.specs.declared.parts.InitialValue.{InitialValue}
-use Rattle.typed_trees.specs.Storable.{HasPlace}
-use Rattle.typed_trees.specs.TypedTrees.{Home, InData, InConstants, Placed, BasedOn, Elsewhere, Nowhere, InFrame, TypedObject, TypedModule}
-use Rattle.layout.specs.Joined.{DeclaredObject, InProgram, agree, object_meant}
-use Rattle.layout.specs.Lawful.{HasAddresses}
-use Rattle.layout.specs.Placement.{IsDeclared, ModulePlacement}
-use Rattle.layout.specs.StartingMemory.{values_in}
-use Rattle.layout.proofs.Meant.{MeansObject, external_object_meant}
-use Rattle.meaning.specs.Outcomes.{Program}
-use Rattle.meaning_laws.specs.Meant.{HasAddress, IsWhole}
-use Rattle.meaning_laws.specs.Places.{HasDeclaredBytes, IsPlaceable, LiesIfPublic, LocatesObject, LocatesObjects, LocationLies, LocationsLie, ObjectsLie, PublicsLie, StandsForBytes}
+use Rattle.meaning_laws.proofs.Prelude.{◌≡◌, ℕ, ◌+◌, ◌<◌, true, length, Option, Some, None, IsSomeAnd, slice_get, refl, sym, ap, subst, ◌∙◌, arith, All, slice_index, option_and_then, option_map_or, All-weaker, recursion_from_All, slice_get_within, ByteValue, WordValue, LocationValue, InitialValue, HasPlace, Home, InData, InConstants, Placed, BasedOn, Elsewhere, Nowhere, InFrame, TypedObject, TypedModule, DeclaredObject, InProgram, agree, object_meant, HasAddresses, IsDeclared, ModulePlacement, values_in, MeansObject, external_object_meant, Program, HasAddress, IsWhole, HasDeclaredBytes, IsPlaceable, LiesIfPublic, LocatesObject, LocatesObjects, LocationLies, LocationsLie, ObjectsLie, PublicsLie, StandsForBytes}
 use Rattle.meaning_laws.proofs.Declared.{bytes_declared}
 use Rattle.meaning_laws.proofs.Names.{globals_listed, module_placed, of_module}
 

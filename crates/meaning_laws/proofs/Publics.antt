@@ -1,14 +1,6 @@
 -- In modules that have typings PUBLIC objects lie somewhere and INITIAL and DATA locate objects that do, and so does
 -- what each object of a program of them stands for.
-use Rattle.std.proofs.Common.{◌≡◌, ℕ, List, Some, Ok, slice_get, sym, subst}
-use Rattle.std.specs.Prelude.{All}
-use Rattle.std.proofs.lemmas.List.Elements.{All-weaker}
-use Rattle.trees.specs.Trees.{ModuleTree}
-use Rattle.typed_trees.specs.TypedTrees.{Elsewhere, TypedObject, TypedModule}
-use Rattle.typing.specs.Typing.{typing_of}
-use Rattle.meaning.specs.Outcomes.{Program}
-use Rattle.meaning_laws.specs.Meant.{HasAddress, IsWhole}
-use Rattle.meaning_laws.specs.Places.{IsPlaceable, PublicsLie, StandsForBytes}
+use Rattle.meaning_laws.proofs.Prelude.{◌≡◌, ℕ, List, Some, Ok, slice_get, sym, subst, All, All-weaker, ModuleTree, Elsewhere, TypedObject, TypedModule, typing_of, Program, HasAddress, IsWhole, IsPlaceable, PublicsLie, StandsForBytes}
 use Rattle.meaning_laws.proofs.Places as of_programs
 use Rattle.meaning_laws.specs.Publics.{HasTree}
 use Rattle.meaning_laws.proofs.Walks.{typing_is_placeable}

@@ -1,12 +1,5 @@
 -- What the parts of a soundly typed module name is there: objects, and what BASED ones are BASED on.
-use Rattle.std.proofs.Common.{◌≡◌, ℕ, Option, Some, None, IsSomeAnd, slice_get, refl, sym, subst}
-use Rattle.trees.specs.declared.declaration.ScalarType.{ScalarType}
-use Rattle.trees.specs.declared.declaration.ScalarType.TheVariants.{Address}
-use Rattle.typed_trees.specs.ObjectParts.{IsPartOf, IsScalar, IsScalarOf}
-use Rattle.typed_trees.specs.TypedTrees.{TypedReference, PartOf, TypedIteration, Home, InData, InConstants, Placed, BasedOn, Elsewhere, Nowhere, InFrame, TypedObject, TypedModule}
-use Rattle.typed_trees.specs.WellTyped.{Within, LiesFor, IsSeen, HasLocation, RefersToScalar, RefersToLocation, Counts}
-use Rattle.meaning.specs.Outcomes.{Program}
-use Rattle.meaning_laws.specs.Meant.{HasAddress, IsNamed, IsWhole, LiesThere, ObjectIsMeant, ReferenceIsMeant, VariableIsMeant}
+use Rattle.meaning_laws.proofs.Prelude.{◌≡◌, ℕ, Option, Some, None, IsSomeAnd, slice_get, refl, sym, subst, ScalarType, Address, IsPartOf, IsScalar, IsScalarOf, TypedReference, PartOf, TypedIteration, Home, InData, InConstants, Placed, BasedOn, Elsewhere, Nowhere, InFrame, TypedObject, TypedModule, Within, LiesFor, IsSeen, HasLocation, RefersToScalar, RefersToLocation, Counts, Program, HasAddress, IsNamed, IsWhole, LiesThere, ObjectIsMeant, ReferenceIsMeant, VariableIsMeant}
 use Rattle.meaning_laws.proofs.Names.{object_is_meant}
 
 module _ (program : Program) (whole : IsWhole program) (number : ℕ) (typed : TypedModule) (within : Within)

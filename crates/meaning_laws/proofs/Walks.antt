@@ -1,31 +1,9 @@
 -- In each part of a text the PUBLIC objects that are declared so far have a place, and INITIAL and DATA locate objects
 -- that have one or are of another module.
-use Rattle.std.proofs.Common.{ℕ, ◌+◌, List, [], ◌∷◌, ◌++◌, length, nat_le, subst, sym}
-use Rattle.std.specs.Prelude.{All, not}
-use Rattle.std.proofs.lemmas.List.Elements.{All-append, All-cons, All-nil, All-weaker}
-use Rattle.trees.specs.declared.identifier.Identifier.{Identifier}
+use Rattle.meaning_laws.proofs.Prelude.{ℕ, ◌+◌, List, [], ◌∷◌, ◌++◌, length, nat_le, subst, sym, All, not, All-append, All-cons, All-nil, All-weaker, Identifier, DeclarationTree, DeclarationTrees, DeclareTree, ElementTree, ElseTree, ItemElement, ItemTree, LiterallyElement, ModuleTree, MoreDeclarations, NoDeclarations, ProcedureTree, StatementKindTree, StatementTree, StatementTrees, is_declared_again, into_list, labels_of, declared_by, FRAME_LIMIT, OBJECT_LIMIT, TypedObject, TypedStatements, DeclaredTwice, MisplacedAttribute, TooLarge, Block, Progress, is_external, Checked, require, TypedItem, declare_element, declare_elements, declare_item, declare_names, line_of_item, object_named, size_of_item, typed_item, with_objects, with_typed_object, arguments, check_body, own_block, parameter_objects, Known, line_of, declare_labels, labels_before, list_of, with_here, without_label, alone, at_the_beginning, cases, declaration, declarations, else_part, inner_block, kind, labelled, module_block, statements, typing_of, values_in, Gives, gives_after, gives_ok, in_turn, then_more, keeps_append, opens, Same, assignment_same, call_same, goto_same, iteration_same, return_same, value_same, ArePlaceable, IsPlaceable, LiesIfPublic, LocatesObjects}
 use Rattle.trees.specs.Trees as trees
-use Rattle.trees.specs.Trees.{DeclarationTree, DeclarationTrees, DeclareTree, ElementTree, ElseTree, ItemElement, ItemTree, LiterallyElement, ModuleTree, MoreDeclarations, NoDeclarations, ProcedureTree, StatementKindTree, StatementTree, StatementTrees}
-use Rattle.names.specs.Environment.{is_declared_again, into_list}
-use Rattle.names.specs.Events.{labels_of}
-use Rattle.names.specs.Uses.{declared_by}
-use Rattle.typed_trees.specs.declared.limits.TheConstants.{FRAME_LIMIT, OBJECT_LIMIT}
-use Rattle.typed_trees.specs.TypedTrees.{TypedObject, TypedStatements}
-use Rattle.typing.specs.declared.fault.Cause.TheVariants.{DeclaredTwice, MisplacedAttribute, TooLarge}
-use Rattle.typing.specs.Blocks.{Block, Progress, is_external}
-use Rattle.typing.specs.Checks.{Checked, require}
-use Rattle.typing.specs.Items.{TypedItem, declare_element, declare_elements, declare_item, declare_names, line_of_item, object_named, size_of_item, typed_item, with_objects, with_typed_object}
-use Rattle.typing.specs.Expressions.{arguments}
-use Rattle.typing.specs.Procedures.{check_body, own_block, parameter_objects}
-use Rattle.typing.specs.References.{Known, line_of}
-use Rattle.typing.specs.Statements.{declare_labels, labels_before, list_of, with_here, without_label}
-use Rattle.typing.specs.Typing.{alone, at_the_beginning, cases, declaration, declarations, else_part, entered, inner_block, kind, labelled, module_block, statements, typing_of}
-use Rattle.layout.specs.StartingMemory.{values_in}
-use Rattle.typing.proofs.Kept.{Gives, gives_after, gives_ok, in_turn, then_more}
-use Rattle.typing.proofs.Tables.{Keeps, keeps_append}
-use Rattle.typing.proofs.Parameters.Opening.{opens}
-use Rattle.typing.proofs.Parameters.Walks.{Same, assignment_same, call_same, goto_same, iteration_same, return_same, value_same}
-use Rattle.meaning_laws.specs.Places.{ArePlaceable, IsPlaceable, LiesIfPublic, LocatesObjects}
+use Rattle.typing.specs.Typing.{entered}
+use Rattle.typing.proofs.Tables.{Keeps}
 use Rattle.meaning_laws.proofs.Items.{ItemLies, typed_item_lies}
 use Rattle.meaning_laws.proofs.Locations.{ItemLocates, typed_item_locates, values_later}
 

@@ -1,3 +1,4 @@
+mod Prelude
 pub mod Sizes
 pub mod Heights
 pub mod Bounds

@@ -1,3 +1,4 @@
+mod Prelude
 pub mod Lists
 pub mod Numbering
 pub mod Parts

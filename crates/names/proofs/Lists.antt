@@ -1,9 +1,5 @@
 -- What is left of lists of trees, item by item.
-use Rattle.std.proofs.Common.{◌≡◌, ℕ, suc, ◌+◌, ◌<◌, List, length, drop, get_or, ◌∷◌, ap, sym, ◌∙◌, add-one}
-use Rattle.std.proofs.Math.Seq.{drop-cons}
-use Rattle.trees.specs.declared.statement.Statement.{Statement}
-use Rattle.trees.specs.Trees.{MoreStatements}
-use Rattle.trees.specs.Views.{statement_tree, statement_trees}
+use Rattle.names.proofs.Prelude.{◌≡◌, ℕ, suc, ◌+◌, ◌<◌, List, length, drop, get_or, ◌∷◌, ap, sym, ◌∙◌, add-one, drop-cons, Statement, MoreStatements, statement_tree, statement_trees}
 
 pub drop_item : {A B : Type 0} (view : List A → B) (items : List A) (i : ℕ) (item : A) → i < length items → item ≡ get_or items i item → view (drop i items) ≡ view (item ∷ drop (i + 1) items)
 drop_item view items i item within is =

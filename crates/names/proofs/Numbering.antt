@@ -1,13 +1,7 @@
 -- The numbers of labels.
-use Rattle.std.proofs.Common.{◌≡◌, ℕ, ◌+◌, List, [], ◌∷◌, ◌++◌, ◌<◌, length, drop, get_or, ap, sym, ◌∙◌, arith, length-append}
-use Rattle.std.specs.Str.{bytes_eq}
+use Rattle.names.proofs.Prelude.{◌≡◌, ℕ, ◌+◌, List, [], ◌∷◌, ◌++◌, ◌<◌, length, drop, get_or, ap, sym, ◌∙◌, arith, length-append, bytes_eq, Identifier, Statement, statement_trees, Names, numbered_from, labels_of}
 use Rattle.indexmap.specs.IndexMap.{insert_entry}
-use Rattle.trees.specs.declared.identifier.Identifier.{Identifier}
-use Rattle.trees.specs.declared.statement.Statement.{Statement}
-use Rattle.trees.specs.Views.{statement_trees}
 use Rattle.names.specs.declared.entity.Entity.TheVariants.{Label}
-use Rattle.names.specs.Environment.{Names, numbered_from}
-use Rattle.names.specs.Events.{labels_of}
 use Rattle.names.proofs.Lists.{statements_from}
 
 -- labels after others

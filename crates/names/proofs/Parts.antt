@@ -1,16 +1,8 @@
 -- The trees of statements and of procedures, from the parts of the code's trees.
-use Rattle.std.proofs.Common.{◌≡◌, arith}
-use Rattle.trees.specs.declared.identifier.Place.{Place}
-use Rattle.trees.specs.declared.statement.Block.{Block, Block', the_lemmas as blocks}
+use Rattle.names.proofs.Prelude.{◌≡◌, arith, Place, Block, Block', blocks, DoCase, DoCase', cases, DoWhile, DoWhile', whiles, IfThen, IfThen', ifs, IterativeDo, IterativeDo', iterations, Procedure, Procedure', procedures, kind_tree, declaration_tree, statement_rows_are, declaration_rows_are}
 use Rattle.trees.specs.declared.statement.Declaration.TheVariants as declarations
-use Rattle.trees.specs.declared.statement.DoCase.{DoCase, DoCase', the_lemmas as cases}
-use Rattle.trees.specs.declared.statement.DoWhile.{DoWhile, DoWhile', the_lemmas as whiles}
-use Rattle.trees.specs.declared.statement.IfThen.{IfThen, IfThen', None', Some', the_lemmas as ifs}
-use Rattle.trees.specs.declared.statement.IterativeDo.{IterativeDo, IterativeDo', the_lemmas as iterations}
-use Rattle.trees.specs.declared.statement.Procedure.{Procedure, Procedure', the_lemmas as procedures}
+use Rattle.trees.specs.declared.statement.IfThen.{None', Some'}
 use Rattle.trees.specs.declared.statement.StatementKind.TheVariants as kinds
-use Rattle.trees.specs.Views.{kind_tree, declaration_tree}
-use Rattle.trees.proofs.Views.{statement_rows_are, declaration_rows_are}
 use Rattle.names.specs.internal.Parts.{if_tree, do_tree, while_tree, iterate_tree, case_tree, procedure_parts}
 
 pub if_is : (p : _) (branch : IfThen) → kind_tree (kinds.If' p branch) ≡ if_tree branch

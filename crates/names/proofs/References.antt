@@ -1,18 +1,6 @@
 -- The names in references, from the parts of the code's trees.
-use Rattle.std.proofs.Common.{◌≡◌, List, [], ◌∷◌, ◌++◌, Option, None, Some, Ok, ap, sym, subst, ◌∙◌, arith, Global}
-use Rattle.std.specs.declared.boxed.Box.{Box}
-use Rattle.trees.specs.declared.expression.Reference.{Reference, Reference', out-Reference, None', Some', the_lemmas}
-use Rattle.trees.specs.declared.expression.Selector.{Selector}
-use Rattle.trees.specs.declared.identifier.Identifier.{Identifier}
-use Rattle.trees.specs.Views.{reference_tree, argument_trees}
-use Rattle.trees.proofs.Views.{row_trees_are}
-use Rattle.trees.specs.declared.expression.Expression.{Expression}
-use Rattle.names.specs.declared.entity.Binding.{Binding}
-use Rattle.names.specs.declared.fault.Fault.{Fault}
-use Rattle.names.specs.Environment.{Here}
-use Rattle.names.specs.internal.Walks.{FailsBy, bind_more, bound_at}
+use Rattle.names.proofs.Prelude.{◌≡◌, List, [], ◌∷◌, ◌++◌, Option, None, Some, Ok, ap, sym, subst, ◌∙◌, arith, Global, Box, Reference, Reference', out-Reference, None', Some', the_lemmas, Selector, Identifier, reference_tree, argument_trees, row_trees_are, Expression, Binding, Fault, Here, FailsBy, bind_more, bound_at, names_in_reference, names_in_arguments}
 use Rattle.names.proofs.Walks.{fails_more, bound_cons_ok, bind_more_append}
-use Rattle.names.specs.Uses.{names_in_reference, names_in_arguments}
 
 -- the names in the member that a reference names
 abbrev pub member_names : Option (Box Selector Global) → List Identifier

@@ -1,19 +1,9 @@
 -- Parts of a text one after another.
-use Rattle.std.proofs.Common.{◌≡◌, ℕ, List, [], ◌∷◌, ◌++◌, Option, None, Some, Result, Ok, Err, Bool, true, false, refl, ap, sym, subst, ◌∙◌, append_assoc}
-use Rattle.std.proofs.lemmas.List.{append-nil}
-use Rattle.std.specs.Option.{option_or}
-use Rattle.failure.specs.Failure.{IfFault}
-use Rattle.failure.specs.declared.Failure.{Failure}
+use Rattle.names.proofs.Prelude.{◌≡◌, ℕ, List, [], ◌∷◌, ◌++◌, Option, None, Some, Result, Ok, Err, Bool, true, false, refl, ap, sym, subst, ◌∙◌, append_assoc, append-nil, option_or, IfFault, Failure, Identifier, Binding, Fault, Here, with_object, Event, Use, Declaration, Seen, nothing, in_turn, moves, see_all, uses_at, uses_of, jumps_to, declares, declares_object, see_item, Walk, FailsBy, Does, fault_in, unless, gives, bound_name, bind_more, bound_at}
 use Rattle.failure.specs.declared.Failure.TheVariants as failures
-use Rattle.trees.specs.declared.identifier.Identifier.{Identifier}
-use Rattle.names.specs.declared.entity.Binding.{Binding}
-use Rattle.names.specs.declared.fault.Fault.{Fault}
 use Rattle.names.specs.declared.fault.Fault.TheVariants.{Unknown, DeclaredTwice}
-use Rattle.names.specs.Environment.{Here, with_object}
 use Rattle.names.specs.BuiltIns.{binding_of, jump_of}
-use Rattle.names.specs.Events.{Event, Use, Declaration, Seen, nothing, in_turn, moves, see_all, uses_at, uses_of, jumps_to, declares, declares_object, see_item}
 use Rattle.names.specs.Binding.{bindings_of, fault_of, first_fault}
-use Rattle.names.specs.internal.Walks.{Walk, FailsBy, Does, fault_in, unless, gives, bound_name, bind_more, bound_at}
 
 bind_more_twice : {A B C : Type 0} (first : Result A Fault) (second : A → Result B Fault) (third : B → Result C Fault) (both : A → Result C Fault)
     → ((a : A) → both a ≡ bind_more (second a) third) → bind_more first both ≡ bind_more (bind_more first second) third

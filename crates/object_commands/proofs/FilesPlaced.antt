@@ -1,14 +1,7 @@
 -- Object files that are read and placed.
-use Rattle.std.proofs.Common.{◌≡◌, ℕ, List, Option, None, Some, inl, inr, refl, subst}
-use Rattle.std.specs.Io.KnownBytes.{Appends, Keeps}
-use Rattle.failure.specs.Writing.{AppendsBeginning}
-use Rattle.host.specs.Files.{Directory, HasFile}
+use Rattle.object_commands.proofs.Prelude.{◌≡◌, ℕ, List, Option, None, Some, inl, inr, refl, subst, Appends, Keeps, AppendsBeginning, Directory, HasFile, Absolute, IsPlaced, plan_view, ObjectModule, Spells, PlacesFile, PrintsHex, PrintsPlaces, StopsHex, StopsPlaces, places_text}
 use Rattle.hex80.specs.Texts.{BeginsText, WritesText}
-use Rattle.locate.specs.Locating.{Absolute, IsPlaced, plan_view}
 use Rattle.mem80.specs.declared.plan.Plan.{Plan}
-use Rattle.object_modules.specs.Module.{ObjectModule}
-use Rattle.object_modules.specs.Spelling.{Spells}
-use Rattle.object_commands.specs.Placing.{PlacesFile, PrintsHex, PrintsPlaces, StopsHex, StopsPlaces, places_text}
 
 pub placed : (files : Option Directory) (name bytes : List ℕ) (plan : Plan) (object : ObjectModule) (absolute : Absolute) → HasFile files name bytes → Spells bytes object
     → IsPlaced (plan_view plan) object absolute → PlacesFile files name plan object absolute

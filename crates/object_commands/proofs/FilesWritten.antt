@@ -1,18 +1,6 @@
 -- Files that are written, and those that stay.
-use Rattle.std.proofs.Common.{◌≡◌, ℕ, ◌+◌, ◌<◌, ◌≤◌, Bool, true, false, List, [], ◌++◌, Option, None, Some, inl, inr, length, take, drop, refl, sym, ap, subst, ◌∙◌, arith}
-use Rattle.std.specs.Prelude.{unwrap_or, if◌then◌else◌}
-use Rattle.std.specs.Str.{bytes_eq}
-use Rattle.std.specs.Bool.{Decides}
-use Rattle.std.proofs.lemmas.Grind.{common_steps}
-use Rattle.std.proofs.lemmas.Slice.Eq.{bytes_eq-Decides}
-use Rattle.std.proofs.Math.Seq.{take-add, take-length}
-use Rattle.std.proofs.lemmas.List.{take-append-drop}
-use Rattle.host.specs.Files.{BeginsFile, ChangesFiles, Directory, GrowsFile, KeepsFiles, with_file}
-use Rattle.object_modules.specs.Text.{text_of}
+use Rattle.object_commands.proofs.Prelude.{◌≡◌, ℕ, ◌+◌, ◌<◌, ◌≤◌, Bool, true, false, List, [], ◌++◌, Option, None, Some, inl, inr, length, take, drop, refl, sym, ap, subst, ◌∙◌, arith, unwrap_or, if◌then◌else◌, bytes_eq, Decides, common_steps, bytes_eq-Decides, take-add, take-length, take-append-drop, BeginsFile, ChangesFiles, Directory, GrowsFile, KeepsFiles, with_file, text_of, IsBeginning, HasFiles, stays_on}
 use Rattle.link.specs.Streams.{Merges, WritesMerge}
-use Rattle.failure.specs.Writing.{IsBeginning}
-use Rattle.host.specs.Reading.{HasFiles}
-use Rattle.host.proofs.FilesRead.{stays_on}
 use Rattle.object_commands.specs.Linking.{KeepsOthers, LinksFiles, MergesTo, StopsLinking, StopsWriting}
 
 decided : (t : Bool) (P : Type 0) → Decides t P → P → t ≡ true

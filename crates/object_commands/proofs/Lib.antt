@@ -1,3 +1,4 @@
+mod Prelude
 pub mod FilesWritten
 pub mod FilesPlaced
 pub mod Lines

@@ -1,13 +1,5 @@
 -- Lines as they are formatted.
-use Rattle.std.proofs.Common.{◌≡◌, ℕ, suc, ◌==◌, ◌-◌, ◌/◌, ◌%◌, ◌^◌, ◌<◌, ◌≤◌, true, false, List, [], ◌∷◌, ◌++◌, Option, Some, Result, OnOk, IfSome, codes, decimal, ⊎_elim, refl, sym, ap, subst, ◌∙◌, arith}
-use Rattle.std.specs.Fmt.{◌++?◌, char_count, digit_glyph, digits, digits_onto, format_spec, digits_output, padded_integral, styled_digits_output}
-use Rattle.std.proofs.lemmas.Bool.{cases_lt}
-use Rattle.std.proofs.lemmas.Grind.{common_steps}
-use Rattle.std.proofs.lemmas.List.{append_assoc}
-use Rattle.std.proofs.lemmas.Fmt.{hex_one_digit, hex_two_digits}
-use Rattle.std.specs.Io.KnownBytes.{Appends}
-use Rattle.object_modules.specs.Image.{Symbol}
-use Rattle.object_commands.specs.Placing.{address_digits, range_line, start_line, symbol_line}
+use Rattle.object_commands.proofs.Prelude.{◌≡◌, ℕ, suc, ◌==◌, ◌-◌, ◌/◌, ◌%◌, ◌^◌, ◌<◌, ◌≤◌, true, false, List, [], ◌∷◌, ◌++◌, Option, Some, Result, OnOk, IfSome, codes, decimal, ⊎_elim, refl, sym, ap, subst, ◌∙◌, arith, ◌++?◌, char_count, digit_glyph, digits, digits_onto, format_spec, digits_output, padded_integral, styled_digits_output, cases_lt, common_steps, append_assoc, hex_one_digit, hex_two_digits, Appends, Symbol, address_digits, range_line, start_line, symbol_line}
 
 abbrev glyph : ℕ → ℕ
 glyph digit = digit_glyph true digit

@@ -1,14 +1,6 @@
 -- What is printed where object files are refused: the line of no file that can't be read or written.
-use Rattle.std.proofs.Common.{◌≡◌, ℕ, true, List, Option, refl, ap, subst, ◌∙◌}
-use Rattle.host.specs.Files.{Directory}
-use Rattle.host.specs.Refusals.{Tells, TellsOther, TellsRefusal, refusal_line}
-use Rattle.host.proofs.LinesPrinted.{is_other, tells_no_file, tells_other}
-use Rattle.object_modules.specs.declared.fault.Fault.{Fault}
-use Rattle.object_modules.specs.declared.fault.Fault.TheVariants.{Truncated, WrongSum, WrongLength, UnknownType, OutOfOrder, WrongBody, ContentMisplaced, FixMisplaced, WrongAlignment}
-use Rattle.object_modules.specs.Numbers.{number_of}
-use Rattle.object_modules.specs.Merge.{LinkRefusal, link_number}
+use Rattle.object_commands.proofs.Prelude.{◌≡◌, ℕ, true, List, Option, refl, ap, subst, ◌∙◌, Directory, Tells, TellsOther, TellsRefusal, refusal_line, is_other, tells_no_file, tells_other, Fault, Truncated, WrongSum, WrongLength, UnknownType, OutOfOrder, WrongBody, ContentMisplaced, FixMisplaced, WrongAlignment, number_of, LinkRefusal, link_number, PlacementRefusal, placement_number}
 use Rattle.object_modules.specs.Merge as merges
-use Rattle.object_modules.specs.Image.{PlacementRefusal, placement_number}
 use Rattle.object_modules.specs.Image as images
 
 object_other : (fault : Fault) → is_other (number_of fault) ≡ true

@@ -1,3 +1,4 @@
+mod Prelude
 pub mod Files
 pub mod Texts
 pub mod Merges

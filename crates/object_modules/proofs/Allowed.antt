@@ -1,13 +1,7 @@
 -- What a plan keeps to that a module can be placed by: its code and its data lie in memory, and apart.
-use Rattle.std.proofs.Common.{◌≡◌, ◌+◌, ◌≤◌, ◌||◌, not, min, max, drop, length, None, refl}
-use Rattle.std.specs.Option.{is_none}
-use Rattle.std.proofs.lemmas.Bool.{ltb-false, or_parts}
+use Rattle.object_modules.proofs.Prelude.{◌≡◌, ◌+◌, ◌≤◌, ◌||◌, not, min, max, drop, length, None, refl, is_none, ltb-false, or_parts, none_holds, Code, Data, is_empty, ObjectModule, places_of}
 use Rattle.mem80.specs.Range.{ranges_meet}
-use Rattle.omf80.proofs.Conditions.{none_holds}
-use Rattle.object_modules.specs.declared.segment.Segment.TheVariants.{Code, Data}
-use Rattle.object_modules.specs.Before.{is_empty}
 use Rattle.object_modules.specs.Image.{Plan, ExternalLeft, NoStart, PassesMemory, SegmentsMeet, code_range, data_range, stack_range, passes_memory, placement_refusals, placement_refusal}
-use Rattle.object_modules.specs.Module.{ObjectModule, places_of}
 
 -- what a plan that is not refused keeps to
 pub record IsAllowed (plan : Plan) (object : ObjectModule) : Type 0 where

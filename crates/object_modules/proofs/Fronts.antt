@@ -1,15 +1,5 @@
 -- What bytes begin with, once it is read, is spelled by them.
-use Rattle.std.proofs.Common.{◌≡◌, ℕ, zero, suc, ◌+◌, ◌*◌, ◌≤◌, min, ◌==◌, nat_le, List, [], ◌∷◌, ◌++◌, length, take, drop, flat_map, Option, Some, None, option_map, refl, ap, sym, subst, ◌∙◌, arith}
-use Rattle.std.proofs.lemmas.Bool.{eqb-true, leb-true}
-use Rattle.std.proofs.lemmas.List.{length-take, take-append-drop, append_assoc}
-use Rattle.std.proofs.lemmas.Option.{none-some, same_Some, cond_some, option_and_then_some, some_pair_parts}
-use Rattle.omf80.specs.Records.{word_bytes}
-use Rattle.omf80.proofs.Conditions.{IsBytes, find_passes, word_is}
-use Rattle.object_modules.specs.declared.segment.Segment.{Segment}
-use Rattle.object_modules.specs.declared.segment.Segment.TheVariants.{Absolute, Code, Data, Stack}
-use Rattle.object_modules.specs.declared.segment.FixKind.{FixKind}
-use Rattle.object_modules.specs.declared.segment.FixKind.TheVariants.{Low, High, Both}
-use Rattle.object_modules.specs.Parts.{SegmentEntry, Reference, segment_number, fix_kind_number, name_bytes, listed_name_bytes, segment_entry_bytes, definition_bytes, reference_bytes}
+use Rattle.object_modules.proofs.Prelude.{◌≡◌, ℕ, zero, suc, ◌+◌, ◌*◌, ◌≤◌, min, ◌==◌, nat_le, List, [], ◌∷◌, ◌++◌, length, take, drop, flat_map, Option, Some, None, option_map, refl, ap, sym, subst, ◌∙◌, arith, eqb-true, leb-true, length-take, take-append-drop, append_assoc, none-some, same_Some, cond_some, option_and_then_some, some_pair_parts, word_bytes, IsBytes, find_passes, word_is, Segment, Absolute, Code, Data, Stack, FixKind, Low, High, Both, SegmentEntry, Reference, segment_number, fix_kind_number, name_bytes, listed_name_bytes, segment_entry_bytes, definition_bytes, reference_bytes}
 use Rattle.object_modules.specs.Reading.{Front, segment_of, fix_kind_of, word_in_front, name_in_front, ended_name, listed_name_in_front, definition_in_front, words_in, references_in, segment_entries_in, at_most, all_in}
 
 -- what is read from the front of bytes is what they begin with

@@ -1,3 +1,4 @@
+mod Prelude
 pub mod Fronts
 pub mod ReadBack
 pub mod StoredRuns

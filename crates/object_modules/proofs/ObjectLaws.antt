@@ -1,14 +1,7 @@
 -- What the parts of an object module tell: its runs, its fixes and its lengths.
-use Rattle.std.proofs.Common.{◌≡◌, IsTrue, [], map, refl, ap, sym, subst, ◌∙◌}
-use Rattle.std.specs.List.{list_all}
-use Rattle.std.proofs.lemmas.List.FromFn.{length-map-range_with_len}
+use Rattle.object_modules.proofs.Prelude.{◌≡◌, IsTrue, [], map, refl, ap, sym, subst, ◌∙◌, list_all, length-map-range_with_len, Absolute, Code, Data, Stack, ObjectModule, length_of, places_of, set_in, are_longest, is_in_a_run, runs_from}
 use Rattle.object_modules.specs.declared.object.ModuleParts.{ModuleParts}
-use Rattle.object_modules.specs.declared.segment.Segment.TheVariants.{Absolute, Code, Data, Stack}
-use Rattle.object_modules.specs.Module.{ObjectModule, length_of, places_of}
 use Rattle.object_modules.specs.Runs.{runs_of, fixes_in, fixed_run}
-use Rattle.object_modules.specs.Spelling.{set_in}
-use Rattle.object_modules.specs.Stored.{are_longest, is_in_a_run}
-use Rattle.object_modules.specs.Text.{runs_from}
 use Rattle.object_modules.specs.Views.{AreKept, module_of_parts}
 use Rattle.object_modules.proofs.StoredRuns.{contents_kept, stored_bytes, stored_fixes, stored_runs}
 

@@ -1,11 +1,6 @@
 -- A part that is read of a body spells that body.
-use Rattle.std.proofs.Common.{◌≡◌, ℕ, ◌+◌, ◌*◌, ◌<◌, Bool, true, false, cond, ◌==◌, ◌&&◌, List, [], ◌∷◌, ◌++◌, Some, None, refl, ap, sym, subst, ◌∙◌, arith}
-use Rattle.std.proofs.lemmas.Bool.{eqb-true}
-use Rattle.std.proofs.lemmas.Option.{none-some, same_Some, option_and_then_some}
-use Rattle.omf80.specs.declared.kind.RecordKind.{RecordKind}
+use Rattle.object_modules.proofs.Prelude.{◌≡◌, ℕ, ◌+◌, ◌*◌, ◌<◌, Bool, true, false, cond, ◌==◌, ◌&&◌, List, [], ◌∷◌, ◌++◌, Some, None, refl, ap, sym, subst, ◌∙◌, arith, eqb-true, none-some, same_Some, option_and_then_some, RecordKind, IsBytes, word_is, Part, HeaderPart, ExternalNamesPart, PublicsPart, ContentPart, ExternalReferencesPart, RelocationPart, IntersegmentPart, ModuleEndPart, EndOfFilePart, kind_of_part, body_of, segment_number, fix_kind_number, name_bytes, listed_name_bytes, definition_bytes}
 use Rattle.omf80.specs.declared.kind.RecordKind.TheVariants as kinds
-use Rattle.omf80.proofs.Conditions.{IsBytes, word_is}
-use Rattle.object_modules.specs.Parts.{Part, HeaderPart, ExternalNamesPart, PublicsPart, ContentPart, ExternalReferencesPart, RelocationPart, IntersegmentPart, ModuleEndPart, EndOfFilePart, kind_of_part, body_of, segment_number, fix_kind_number, name_bytes, listed_name_bytes, definition_bytes}
 use Rattle.object_modules.specs.Reading.{segment_of, fix_kind_of, name_in_front, listed_name_in_front, definition_in_front, words_in, references_in, segment_entries_in, all_in, header_after_name, module_end_by, part_in}
 use Rattle.object_modules.proofs.Fronts.{option_map_some, segment_is, fix_kind_is, name_back, listed_name_back, definition_back, words_back, references_back, segment_entries_back, all_back}
 

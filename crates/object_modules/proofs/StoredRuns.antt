@@ -1,18 +1,8 @@
 -- The runs and the fixes of a segment as it is kept are the longest runs of its places, and their fixes.
-use Rattle.std.proofs.Common.{◌≡◌, ℕ, zero, suc, ◌+◌, ◌-◌, ◌<◌, ◌≤◌, ◌≢◌, Bool, true, false, cond, not, ◌&&◌, ◌||◌, ◌==◌, nat_lt, nat_le, ◌⊎◌, inl, inr, List, [], ◌∷◌, ◌++◌, length, map, flat_map, find, Option, Some, None, option_map, slice_index, refl, ap, sym, subst, ◌∙◌, arith}
-use Rattle.std.specs.List.{list_all, range_with_len}
-use Rattle.std.proofs.lemmas.Bool.{eqb-true, eqb-false, eq-eqb, ne_eqb, leb-true, le-leb, lt-leb, ltb-true, ltb-false, lt-ltb, le-ltb}
+use Rattle.object_modules.proofs.Prelude.{◌≡◌, ℕ, zero, suc, ◌+◌, ◌-◌, ◌<◌, ◌≤◌, ◌≢◌, Bool, true, false, cond, not, ◌&&◌, ◌||◌, ◌==◌, nat_lt, nat_le, ◌⊎◌, inl, inr, List, [], ◌∷◌, ◌++◌, length, map, flat_map, find, Option, Some, None, option_map, slice_index, refl, ap, sym, subst, ◌∙◌, arith, list_all, range_with_len, eqb-true, eqb-false, eq-eqb, ne_eqb, leb-true, le-leb, lt-leb, ltb-true, ltb-false, lt-ltb, le-ltb, FixKind, Low, High, Both, Segment, is_empty, same_segment, Fixup, SetByte, width_of, FixedContent, holds_place, set_at, set_in, StoredSegment, IsStored, are_longest, fixes_ascend, is_in_a_run, content_of_run, places_stored, Run, before_runs, runs_from, fixes_from}
 use Rattle.object_modules.specs.declared.segment.Fix.{Fix}
-use Rattle.object_modules.specs.declared.segment.FixKind.{FixKind}
-use Rattle.object_modules.specs.declared.segment.FixKind.TheVariants.{Low, High, Both}
-use Rattle.object_modules.specs.declared.segment.Segment.{Segment}
-use Rattle.object_modules.specs.Before.{is_empty, same_segment}
-use Rattle.object_modules.specs.Module.{Fixup, SetByte, width_of}
 use Rattle.object_modules.specs.Runs.{bytes_of_run, fixes_of_run, fixup_at, fixed_bytes, fixed_run}
 use Rattle.object_modules.specs.Rules.{fix_end, is_within}
-use Rattle.object_modules.specs.Spelling.{FixedContent, holds_place, set_at, set_in}
-use Rattle.object_modules.specs.Stored.{StoredSegment, IsStored, are_longest, fixes_ascend, is_in_a_run, content_of_run, places_stored}
-use Rattle.object_modules.specs.Text.{Run, before_runs, runs_from, fixes_from}
 use Rattle.object_modules.proofs.ReadBack.{both}
 
 -- What is set at a place, by the first run that has it.

@@ -1,16 +1,5 @@
 -- What the rules say of fixes and names, by the marks and the names that a judge keeps.
-use Rattle.std.proofs.Common.{◌≡◌, ℕ, ◌+◌, Bool, true, false, ◌&&◌, ◌||◌, List, [], ◌∷◌, ◌++◌, flat_map, take_while, cond, Option, Some, None, refl, ap, sym, subst, ◌∙◌}
-use Rattle.std.specs.List.{list_all, list_any}
-use Rattle.std.specs.Str.{bytes_eq}
-use Rattle.std.proofs.lemmas.List.Folds.{list_any-append}
-use Rattle.std.proofs.lemmas.List.Sums.{take_while-cons}
-use Rattle.symbols.specs.Names.{is_name}
-use Rattle.object_modules.specs.declared.segment.Fix.{Fix}
-use Rattle.object_modules.specs.Before.{is_fix_record, names_of, fixes_of, leading_fixes}
-use Rattle.object_modules.specs.Module.{is_among, are_new}
-use Rattle.object_modules.specs.Parts.{Content, Part, kind_of_part}
-use Rattle.object_modules.specs.Rules.{are_names, fit_content}
-use Rattle.object_reading.specs.Marks.{covers, AreMarked, marks_after, onto}
+use Rattle.object_reading.proofs.Prelude.{◌≡◌, ℕ, ◌+◌, Bool, true, false, ◌&&◌, ◌||◌, List, [], ◌∷◌, ◌++◌, flat_map, take_while, cond, Option, Some, None, refl, ap, sym, subst, ◌∙◌, list_all, list_any, bytes_eq, list_any-append, take_while-cons, is_name, Fix, is_fix_record, names_of, fixes_of, leading_fixes, is_among, are_new, Content, Part, kind_of_part, are_names, fit_content, covers, AreMarked, marks_after, onto}
 use Rattle.object_reading.proofs.FixMarks.{placed_is, Placed, placed_by}
 use Rattle.object_reading.proofs.NewNames.{are_new_alike}
 

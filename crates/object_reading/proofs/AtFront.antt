@@ -1,19 +1,5 @@
 -- Before anything is handed out, a walk tells what the parts of its file say.
-use Rattle.std.proofs.Common.{◌≡◌, ℕ, ◌≤◌, true, List, [], ◌∷◌, length, flat_map, refl, ap}
-use Rattle.std.specs.List.{AllByRecursion}
-use Rattle.object_modules.specs.declared.segment.Fix.{Fix}
-use Rattle.object_modules.specs.declared.segment.Segment.TheVariants.{Absolute}
-use Rattle.object_modules.specs.Before.{externals_of, leading_fixes}
-use Rattle.object_modules.specs.Parts.{Part, body_of}
-use Rattle.object_modules.specs.Rules.{is_accepted, are_accepted}
-use Rattle.object_modules.specs.Spelling.{fixed_contents, publics_of}
-use Rattle.object_modules.specs.Walking.{Walking, WalksOver, walk_over, parts_from, externals_left, publics_left, contents_left}
-use Rattle.object_modules.proofs.ReadBack.{both}
-use Rattle.object_laws.proofs.Files.FilesAgain.{limit_of}
-use Rattle.object_laws.proofs.Files.Walks.{parts_from_is}
-use Rattle.object_reading.specs.Entries.{AreParts}
-use Rattle.object_reading.specs.declared.judgement.header.Header.{Header}
-use Rattle.object_reading.specs.Judging.{IsJudged}
+use Rattle.object_reading.proofs.Prelude.{◌≡◌, ℕ, ◌≤◌, true, List, [], ◌∷◌, length, flat_map, refl, ap, AllByRecursion, Fix, Absolute, externals_of, leading_fixes, Part, body_of, is_accepted, are_accepted, fixed_contents, publics_of, Walking, WalksOver, walk_over, parts_from, externals_left, publics_left, contents_left, both, limit_of, parts_from_is, AreParts, Header, IsJudged}
 use Rattle.object_reading.proofs.NextParts.{nothing_from}
 
 limits_of :

@@ -1,21 +1,6 @@
 -- Contents are judged as the rules say.
-use Rattle.std.proofs.Common.{◌≡◌, ℕ, zero, suc, ◌+◌, ◌*◌, ◌≤◌, Bool, true, false, not, ◌&&◌, nat_le, cond, List, [], ◌∷◌, length, get_or, replicate, Option, Some, None, option_map, Ok, Err, refl, ap, sym, ◌∙◌, arith}
-use Rattle.std.specs.Option.{option_map_or}
-use Rattle.std.proofs.lemmas.List.{length-replicate}
+use Rattle.object_reading.proofs.Prelude.{◌≡◌, ℕ, zero, suc, ◌+◌, ◌*◌, ◌≤◌, Bool, true, false, not, ◌&&◌, nat_le, cond, List, [], ◌∷◌, length, get_or, replicate, Option, Some, None, option_map, Ok, Err, refl, ap, sym, ◌∙◌, arith, option_map_or, length-replicate, WrongBody, ContentMisplaced, Segment, Absolute, Code, Data, Stack, is_empty, may_follow, length_in, stated_length_of, latest_content, holds_bytes, Content, Part, ContentPart, segment_of, content_in, fits_segment, part_fault, start_of_end, content_at, Extents, AreMarked, no_marks, unmarked, State, with_content, fits, content_taken}
 use Rattle.omf80.specs.declared.kind.RecordKind.TheVariants as kinds
-use Rattle.object_modules.specs.declared.fault.Fault.TheVariants.{WrongBody, ContentMisplaced}
-use Rattle.object_modules.specs.declared.segment.Segment.{Segment}
-use Rattle.object_modules.specs.declared.segment.Segment.TheVariants.{Absolute, Code, Data, Stack}
-use Rattle.object_modules.specs.Before.{is_empty, may_follow, length_in, stated_length_of, latest_content}
-use Rattle.object_modules.specs.Module.{holds_bytes}
-use Rattle.object_modules.specs.Parts.{Content, Part, ContentPart}
-use Rattle.object_modules.specs.Reading.{segment_of, content_in}
-use Rattle.object_modules.specs.Rules.{fits_segment, part_fault}
-use Rattle.object_modules.specs.Spelling.{start_of_end}
-use Rattle.object_reading.specs.Entries.{content_at}
-use Rattle.object_reading.specs.declared.rules.extents.Extents.{Extents}
-use Rattle.object_reading.specs.Marks.{AreMarked, no_marks, unmarked}
-use Rattle.object_reading.specs.internal.States.{State, with_content, fits, content_taken}
 use Rattle.object_reading.proofs.ExtentsSaid.{code_length_said, data_length_said}
 use Rattle.object_reading.proofs.Knowing.{Knows, SaysHeader, HasContent, Verdict, fault_by, is_early, header_stays, start_stays, filtered_as_before, nothing_to_fit}
 use Rattle.object_reading.proofs.KnownAfter.{never, follows_early}

@@ -1,14 +1,6 @@
 -- The ends of the module and of the file are judged as the rules say.
-use Rattle.std.proofs.Common.{◌≡◌, ℕ, ◌+◌, ◌*◌, ◌==◌, Bool, true, false, ◌&&◌, cond, List, [], ◌∷◌, ◌++◌, reverse, Option, Some, None, Ok, Err, refl, ap, ◌∙◌}
-use Rattle.std.specs.List.{filter_map}
-use Rattle.std.specs.Option.{option_map_or}
+use Rattle.object_reading.proofs.Prelude.{◌≡◌, ℕ, ◌+◌, ◌*◌, ◌==◌, Bool, true, false, ◌&&◌, cond, List, [], ◌∷◌, ◌++◌, reverse, Option, Some, None, Ok, Err, refl, ap, ◌∙◌, filter_map, option_map_or, WrongBody, may_follow, Part, ModuleEndPart, EndOfFilePart, module_end_in, end_of_file_in, first_in, start_of_end, start_in, State, end_taken, last_taken}
 use Rattle.omf80.specs.declared.kind.RecordKind.TheVariants as kinds
-use Rattle.object_modules.specs.declared.fault.Fault.TheVariants.{WrongBody}
-use Rattle.object_modules.specs.Before.{may_follow}
-use Rattle.object_modules.specs.Parts.{Part, ModuleEndPart, EndOfFilePart}
-use Rattle.object_modules.specs.Reading.{module_end_in, end_of_file_in}
-use Rattle.object_modules.specs.Spelling.{first_in, start_of_end, start_in}
-use Rattle.object_reading.specs.internal.States.{State, end_taken, last_taken}
 use Rattle.object_reading.proofs.Knowing.{Knows, Accepted, Verdict, is_early, header_stays, start_stays, filtered, plain_fault}
 use Rattle.object_reading.proofs.KnownAfter.{never}
 

@@ -1,13 +1,5 @@
 -- What is said of each segment, once all entries of a header are read.
-use Rattle.std.proofs.Common.{◌≡◌, true, false, List, refl, sym}
-use Rattle.object_modules.specs.declared.segment.Segment.{Segment}
-use Rattle.object_modules.specs.declared.segment.Segment.TheVariants.{Absolute, Code, Data, Stack}
-use Rattle.object_modules.specs.Before.{same_segment, length_in}
-use Rattle.object_modules.specs.Parts.{SegmentEntry}
-use Rattle.object_modules.specs.Rules.{ascend_from}
-use Rattle.object_modules.specs.Spelling.{alignment_with, alignment_in}
-use Rattle.object_reading.specs.declared.rules.extents.Extents.{Extents}
-use Rattle.object_reading.specs.Headers.{nothing_said, extents_with, extents_after}
+use Rattle.object_reading.proofs.Prelude.{◌≡◌, true, false, List, refl, sym, Segment, Absolute, Code, Data, Stack, same_segment, length_in, SegmentEntry, ascend_from, alignment_with, alignment_in, Extents, nothing_said, extents_with, extents_after}
 use Rattle.object_reading.proofs.HeaderLaws.{said_of}
 use Rattle.object_reading.proofs.KnownAfter.{never}
 

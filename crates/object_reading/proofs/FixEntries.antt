@@ -1,14 +1,5 @@
 -- The next fix of the entries of a fix record.
-use Rattle.std.proofs.Common.{◌≡◌, ℕ, ◌+◌, ◌*◌, ◌<◌, true, false, List, [], ◌∷◌, length, Option, Some, None, IsTrue, is_some, option_map, unwrap_or, refl, ap, sym, subst, ◌∙◌, arith}
-use Rattle.std.proofs.lemmas.Option.{none-some, some_pair_parts}
-use Rattle.object_modules.specs.declared.segment.Fix.{Fix}
-use Rattle.object_modules.specs.declared.segment.FixKind.{FixKind}
-use Rattle.object_modules.specs.declared.segment.Segment.{Segment}
-use Rattle.object_modules.specs.declared.segment.Segment.TheVariants.{Absolute}
-use Rattle.object_modules.specs.Before.{fixes_of}
-use Rattle.object_modules.specs.Parts.{Reference, ExternalReferencesPart, RelocationPart}
-use Rattle.object_modules.specs.Reading.{references_in, words_in}
-use Rattle.object_reading.specs.Fixes.{AreFixEntries, fixes_in, external_fix, segment_fix, fix_in_front}
+use Rattle.object_reading.proofs.Prelude.{◌≡◌, ℕ, ◌+◌, ◌*◌, ◌<◌, true, false, List, [], ◌∷◌, length, Option, Some, None, IsTrue, is_some, option_map, unwrap_or, refl, ap, sym, subst, ◌∙◌, arith, none-some, some_pair_parts, Fix, FixKind, Segment, Absolute, fixes_of, Reference, ExternalReferencesPart, RelocationPart, references_in, words_in, AreFixEntries, fixes_in, external_fix, segment_fix, fix_in_front}
 
 -- the fix that entries begin with is handed out
 pub record NextFix (target : Option Segment) (kind : FixKind) (entries : List ℕ) (fix : Fix) (after : List ℕ) : Type 0 where

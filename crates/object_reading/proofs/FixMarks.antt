@@ -1,20 +1,6 @@
 -- Marks of fixes: a fix shares a byte with others where one of its bytes is marked.
-use Rattle.std.proofs.Common.{◌≡◌, ℕ, ◌+◌, ◌-◌, ◌<◌, ◌≤◌, Bool, true, false, not, ◌&&◌, ◌||◌, ◌==◌, nat_lt, nat_le, List, [], ◌∷◌, length, get_or, set, Option, Some, None, cond, refl, ap, sym, ◌∙◌, arith}
-use Rattle.std.specs.List.{list_all, list_any}
-use Rattle.std.proofs.lemmas.Bool.{and_parts, and_from, eqb-true, eqb-false, leb-true, le-leb, lt-ltb, ltb-true}
-use Rattle.std.proofs.lemmas.Bool.Decides.{nat_tests}
-use Rattle.std.proofs.lemmas.List.{length-set, get_or-set_same, get_or-set_other}
-use Rattle.object_modules.specs.declared.segment.Fix.{Fix}
-use Rattle.object_modules.specs.declared.segment.FixKind.{FixKind}
-use Rattle.object_modules.specs.declared.segment.FixKind.TheVariants.{Low, High, Both}
-use Rattle.object_modules.specs.declared.segment.Segment.{Segment}
-use Rattle.object_modules.specs.Module.{width_of}
-use Rattle.object_modules.specs.Parts.{Content}
-use Rattle.object_modules.specs.Before.{content_end}
-use Rattle.object_modules.specs.Rules.{fix_end, is_within, share_a_byte, are_apart}
-use Rattle.object_reading.specs.Fixes.{AreFixEntries, fixes_in, fix_in_front}
+use Rattle.object_reading.proofs.Prelude.{◌≡◌, ℕ, ◌+◌, ◌-◌, ◌<◌, ◌≤◌, Bool, true, false, not, ◌&&◌, ◌||◌, ◌==◌, nat_lt, nat_le, List, [], ◌∷◌, length, get_or, set, Option, Some, None, cond, refl, ap, sym, ◌∙◌, arith, list_all, list_any, and_parts, and_from, eqb-true, eqb-false, leb-true, le-leb, lt-ltb, ltb-true, nat_tests, length-set, get_or-set_same, get_or-set_other, Fix, FixKind, Low, High, Both, Segment, width_of, Content, content_end, fix_end, is_within, share_a_byte, are_apart, AreFixEntries, fixes_in, fix_in_front, covers, AreMarked, first_mark, last_mark, with_marks, are_placed, is_marked, marks_after, onto}
 use Rattle.object_reading.proofs.FixEntries.{next_fix_is, no_fix}
-use Rattle.object_reading.specs.Marks.{covers, AreMarked, first_mark, last_mark, with_marks, are_placed, is_marked, marks_after, onto}
 
 -- the order of tests within a conjunction, and an alternative on each item
 regrouped : (a b c d : Bool) → ((a && not b) && (c && d)) ≡ ((a && c) && (not b && d))

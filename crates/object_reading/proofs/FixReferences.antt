@@ -1,16 +1,5 @@
 -- What the entries of a fix record refer to, judged one after another.
-use Rattle.std.proofs.Common.{◌≡◌, ℕ, ◌+◌, ◌*◌, Bool, true, false, ◌&&◌, List, [], ◌∷◌, Option, Some, None, is_some, option_map, unwrap_or, refl, ap, sym, subst, ◌∙◌}
-use Rattle.std.specs.List.{list_all}
-use Rattle.std.proofs.lemmas.Option.{none-some, some_pair_parts}
-use Rattle.object_modules.specs.declared.segment.Fix.{Fix}
-use Rattle.object_modules.specs.declared.segment.FixKind.{FixKind}
-use Rattle.object_modules.specs.declared.segment.Segment.{Segment}
-use Rattle.object_modules.specs.declared.segment.Segment.TheVariants.{Absolute}
-use Rattle.object_modules.specs.Before.{fixes_of, is_empty}
-use Rattle.object_modules.specs.Parts.{Reference, ExternalReferencesPart, RelocationPart}
-use Rattle.object_modules.specs.Reading.{references_in, words_in}
-use Rattle.object_reading.specs.Fixes.{external_fix, segment_fix, fix_in_front}
-use Rattle.object_reading.specs.References.{is_known, entries_fit}
+use Rattle.object_reading.proofs.Prelude.{◌≡◌, ℕ, ◌+◌, ◌*◌, Bool, true, false, ◌&&◌, List, [], ◌∷◌, Option, Some, None, is_some, option_map, unwrap_or, refl, ap, sym, subst, ◌∙◌, list_all, none-some, some_pair_parts, Fix, FixKind, Segment, Absolute, fixes_of, is_empty, Reference, ExternalReferencesPart, RelocationPart, references_in, words_in, external_fix, segment_fix, fix_in_front, is_known, entries_fit}
 
 -- the first entry is judged, and then all others
 abbrev FitsFirst :

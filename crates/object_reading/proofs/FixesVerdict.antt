@@ -1,23 +1,6 @@
 -- Fix records are judged as the rules say.
-use Rattle.std.proofs.Common.{◌≡◌, ℕ, ◌+◌, ◌*◌, Bool, true, false, not, ◌&&◌, nat_lt, nat_le, cond, List, [], ◌∷◌, ◌++◌, length, flat_map, Option, Some, None, is_some, option_map, option_and_then, unwrap_or, Err, refl, ap, sym, subst, ◌∙◌}
-use Rattle.std.specs.List.{list_all}
-use Rattle.std.specs.Option.{option_or, option_map_or}
-use Rattle.omf80.specs.declared.kind.RecordKind.{RecordKind}
+use Rattle.object_reading.proofs.Prelude.{◌≡◌, ℕ, ◌+◌, ◌*◌, Bool, true, false, not, ◌&&◌, nat_lt, nat_le, cond, List, [], ◌∷◌, ◌++◌, length, flat_map, Option, Some, None, is_some, option_map, option_and_then, unwrap_or, Err, refl, ap, sym, subst, ◌∙◌, list_all, option_or, option_map_or, RecordKind, WrongBody, Fix, FixKind, Segment, Absolute, is_empty, rank_of, is_header, is_fix_record, may_follow, externals_of, names_of, content_of, latest_content, fixes_of, is_among, Reference, Content, Part, ExternalReferencesPart, RelocationPart, IntersegmentPart, kind_of_part, segment_of, fix_kind_of, references_in, words_in, external_references_in, relocation_in, intersegment_in, is_body, is_other_segment, fit_content, part_fault, fix_head, Marked, marks_after, marked_after, marked_with, is_known, target_fits, State, with_fixes, fixes_placed, fixes_taken}
 use Rattle.omf80.specs.declared.kind.RecordKind.TheVariants as kinds
-use Rattle.object_modules.specs.declared.fault.Fault.TheVariants.{WrongBody}
-use Rattle.object_modules.specs.declared.segment.Fix.{Fix}
-use Rattle.object_modules.specs.declared.segment.FixKind.{FixKind}
-use Rattle.object_modules.specs.declared.segment.Segment.{Segment}
-use Rattle.object_modules.specs.declared.segment.Segment.TheVariants.{Absolute}
-use Rattle.object_modules.specs.Before.{is_empty, rank_of, is_header, is_fix_record, may_follow, externals_of, names_of, content_of, latest_content, fixes_of}
-use Rattle.object_modules.specs.Module.{is_among}
-use Rattle.object_modules.specs.Parts.{Reference, Content, Part, ExternalReferencesPart, RelocationPart, IntersegmentPart, kind_of_part}
-use Rattle.object_modules.specs.Reading.{segment_of, fix_kind_of, references_in, words_in, external_references_in, relocation_in, intersegment_in}
-use Rattle.object_modules.specs.Rules.{is_body, is_other_segment, fit_content, part_fault}
-use Rattle.object_reading.specs.Fixes.{fix_head}
-use Rattle.object_reading.specs.Marks.{Marked, marks_after, marked_after, marked_with}
-use Rattle.object_reading.specs.References.{is_known, target_fits}
-use Rattle.object_reading.specs.internal.States.{State, with_fixes, fixes_placed, fixes_taken}
 use Rattle.object_reading.proofs.Accepting.{KnowsNames, FixesJudged, fixes_judged}
 use Rattle.object_reading.proofs.Knowing.{Knows, HasContent, Verdict, fault_by, is_early, fault_where}
 use Rattle.object_reading.proofs.NamesVerdict.{some_items}

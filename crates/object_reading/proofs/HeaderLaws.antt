@@ -1,20 +1,5 @@
 -- What the entries of a header say of the segments, and which fault they have.
-use Rattle.std.proofs.Common.{◌≡◌, ℕ, ◌+◌, ◌*◌, ◌<◌, ◌≤◌, ◌==◌, Bool, true, false, ◌&&◌, nat_lt, cond, List, [], ◌∷◌, Option, Some, None, option_map, option_and_then, Result, Ok, Err, refl, ap, sym, ◌∙◌, arith, length, get_or, take, drop, ◌-◌}
-use Rattle.std.specs.List.{list_all}
-use Rattle.std.specs.Option.{option_map_or}
-use Rattle.std.proofs.lemmas.Bool.{and_parts, eqb-true, ne_eqb, ltb-true, lt-ltb}
-use Rattle.std.proofs.Math.Seq.{take-length}
-use Rattle.std.proofs.lemmas.Option.{same_Some}
-use Rattle.object_modules.specs.declared.fault.Fault.{Fault}
-use Rattle.object_modules.specs.declared.fault.Fault.TheVariants.{WrongBody, WrongAlignment}
-use Rattle.object_modules.specs.declared.segment.Segment.{Segment}
-use Rattle.object_modules.specs.Before.{same_segment, entry_in}
-use Rattle.object_modules.specs.Parts.{SegmentEntry, segment_number}
-use Rattle.object_modules.specs.Reading.{segment_of, segment_entries_in}
-use Rattle.object_modules.specs.Rules.{ascend_from, is_served}
-use Rattle.object_laws.proofs.Files.FrontsAgain.{segment_again}
-use Rattle.object_reading.specs.declared.rules.extents.Extents.{Extents}
-use Rattle.object_reading.specs.Headers.{entry_at, extents_with, extents_after, extents_in}
+use Rattle.object_reading.proofs.Prelude.{◌≡◌, ℕ, ◌+◌, ◌*◌, ◌<◌, ◌≤◌, ◌==◌, Bool, true, false, ◌&&◌, nat_lt, cond, List, [], ◌∷◌, Option, Some, None, option_map, option_and_then, Result, Ok, Err, refl, ap, sym, ◌∙◌, arith, length, get_or, take, drop, ◌-◌, list_all, option_map_or, and_parts, eqb-true, ne_eqb, ltb-true, lt-ltb, take-length, same_Some, Fault, WrongBody, WrongAlignment, Segment, same_segment, entry_in, SegmentEntry, segment_number, segment_of, segment_entries_in, ascend_from, is_served, segment_again, Extents, entry_at, extents_with, extents_after, extents_in}
 
 -- the verdict on entries that were read
 abbrev pub verdict_on : (number : ℕ) → Extents → (served : Bool) → Option (List SegmentEntry) → Result Extents Fault

@@ -1,19 +1,6 @@
 -- The header is judged as the rules say.
-use Rattle.std.proofs.Common.{◌≡◌, ℕ, Bool, true, false, ◌&&◌, cond, List, [], ◌∷◌, Option, Some, None, option_map, option_and_then, Result, Ok, Err, refl, ap, sym, subst, ◌∙◌}
-use Rattle.std.specs.List.{list_all}
-use Rattle.std.specs.Option.{option_map_or}
-use Rattle.std.proofs.lemmas.List.{append-nil}
+use Rattle.object_reading.proofs.Prelude.{◌≡◌, ℕ, Bool, true, false, ◌&&◌, cond, List, [], ◌∷◌, Option, Some, None, option_map, option_and_then, Result, Ok, Err, refl, ap, sym, subst, ◌∙◌, list_all, option_map_or, append-nil, is_name, Fault, WrongBody, WrongAlignment, may_follow, SegmentEntry, Part, HeaderPart, Front, name_in_front, segment_entries_in, header_after_name, header_in, ascend_from, is_served, part_fault, Extents, nothing_said, extents_after, State, with_header, header_named, header_taken}
 use Rattle.omf80.specs.declared.kind.RecordKind.TheVariants as kinds
-use Rattle.symbols.specs.Names.{is_name}
-use Rattle.object_modules.specs.declared.fault.Fault.{Fault}
-use Rattle.object_modules.specs.declared.fault.Fault.TheVariants.{WrongBody, WrongAlignment}
-use Rattle.object_modules.specs.Before.{may_follow}
-use Rattle.object_modules.specs.Parts.{SegmentEntry, Part, HeaderPart}
-use Rattle.object_modules.specs.Reading.{Front, name_in_front, segment_entries_in, header_after_name, header_in}
-use Rattle.object_modules.specs.Rules.{ascend_from, is_served, part_fault}
-use Rattle.object_reading.specs.declared.rules.extents.Extents.{Extents}
-use Rattle.object_reading.specs.Headers.{nothing_said, extents_after}
-use Rattle.object_reading.specs.internal.States.{State, with_header, header_named, header_taken}
 use Rattle.object_reading.proofs.HeaderLaws.{verdict_on, extents_are}
 use Rattle.object_reading.proofs.Knowing.{Knows, Verdict, wrong_either_way, fault_by}
 use Rattle.object_reading.proofs.KnownAfter.{never}

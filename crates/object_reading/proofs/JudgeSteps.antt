@@ -1,17 +1,5 @@
 -- One step of the judgement of a file, for each outcome of the record in front.
-use Rattle.std.proofs.Common.{◌≡◌, ℕ, suc, ◌<◌, true, false, cond, List, [], ◌∷◌, length, drop, reverse, slice_index, Option, Some, None, option_map, option_and_then, Ok, Err, ap, ◌∙◌, arith}
-use Rattle.std.specs.Option.{option_or}
-use Rattle.omf80.specs.declared.fault.Fault.{Fault as RecordFault}
-use Rattle.omf80.specs.declared.kind.RecordKind.{RecordKind}
-use Rattle.omf80.specs.Records.{kind_of_type, record_end, record_fault, first_body}
-use Rattle.object_modules.specs.declared.fault.Fault.{Fault}
-use Rattle.object_modules.specs.declared.fault.Fault.TheVariants.{OutOfOrder}
-use Rattle.object_modules.specs.Before.{is_empty, is_ended}
-use Rattle.object_modules.specs.Parts.{Part}
-use Rattle.object_modules.specs.Reading.{part_in, first_part}
-use Rattle.object_modules.specs.Rules.{fault_from_record, fault_of_record, fault_at}
-use Rattle.object_modules.specs.internal.Judgement.{judged_by, judged_after}
-use Rattle.object_laws.proofs.Files.AnyCount.{any_judged}
+use Rattle.object_reading.proofs.Prelude.{◌≡◌, ℕ, suc, ◌<◌, true, false, cond, List, [], ◌∷◌, length, drop, reverse, slice_index, Option, Some, None, option_map, option_and_then, Ok, Err, ap, ◌∙◌, arith, option_or, RecordFault, RecordKind, kind_of_type, record_end, record_fault, first_body, Fault, OutOfOrder, is_empty, is_ended, Part, part_in, first_part, fault_from_record, fault_of_record, fault_at, judged_by, judged_after, any_judged}
 
 -- the fault in front, where the file hasn't ended
 open_fault :

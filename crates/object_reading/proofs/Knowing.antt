@@ -1,24 +1,5 @@
 -- What the state of a judgement knows of the records that were passed, of which the latest stands first.
-use Rattle.std.proofs.Common.{◌≡◌, ℕ, ◌==◌, Bool, true, false, not, ◌&&◌, nat_le, cond, List, [], ◌∷◌, ◌++◌, length, flat_map, reverse, Option, Some, None, Result, Ok, Err, refl, ap, ◌∙◌}
-use Rattle.std.specs.List.{list_all, filter_map}
-use Rattle.std.specs.Option.{option_map_or}
-use Rattle.std.proofs.lemmas.List.{reverse-append, append-nil}
-use Rattle.std.proofs.lemmas.List.Elements.{filter_map-append}
-use Rattle.std.proofs.lemmas.Grind.{flat_map-append}
-use Rattle.omf80.specs.declared.kind.RecordKind.{RecordKind}
-use Rattle.omf80.specs.Records.{first_that_holds}
-use Rattle.object_modules.specs.declared.fault.Fault.{Fault}
-use Rattle.object_modules.specs.declared.fault.Fault.TheVariants.{WrongBody, WrongAlignment, ContentMisplaced, FixMisplaced}
-use Rattle.object_modules.specs.declared.segment.Segment.{Segment}
-use Rattle.object_modules.specs.declared.segment.Segment.TheVariants.{Code, Data}
-use Rattle.object_modules.specs.Before.{rank_of, entries_of, externals_of, content_of, latest_content, filled_to, fixes_of, leading_fixes}
-use Rattle.object_modules.specs.Parts.{SegmentEntry, Content, Part, kind_of_part}
-use Rattle.object_modules.specs.Rules.{is_body, is_served, ascend_from, fits_segment, is_within, are_apart, fit_content, part_fault}
-use Rattle.object_modules.specs.Spelling.{first_in, name_of_header, start_of_end, name_in, start_in}
-use Rattle.object_reading.specs.declared.rules.extents.Extents.{Extents}
-use Rattle.object_reading.specs.Headers.{nothing_said, extents_after}
-use Rattle.object_reading.specs.Marks.{Marked, AreMarked}
-use Rattle.object_reading.specs.internal.States.{State}
+use Rattle.object_reading.proofs.Prelude.{◌≡◌, ℕ, ◌==◌, Bool, true, false, not, ◌&&◌, nat_le, cond, List, [], ◌∷◌, ◌++◌, length, flat_map, reverse, Option, Some, None, Result, Ok, Err, refl, ap, ◌∙◌, list_all, filter_map, option_map_or, reverse-append, append-nil, filter_map-append, flat_map-append, RecordKind, first_that_holds, Fault, WrongBody, WrongAlignment, ContentMisplaced, FixMisplaced, Segment, Code, Data, rank_of, entries_of, externals_of, content_of, latest_content, filled_to, fixes_of, leading_fixes, SegmentEntry, Content, Part, kind_of_part, is_body, is_served, ascend_from, fits_segment, is_within, are_apart, fit_content, part_fault, first_in, name_of_header, start_of_end, name_in, start_in, Extents, nothing_said, extents_after, Marked, AreMarked, State}
 use Rattle.object_reading.proofs.Accepting.{KnowsNames}
 
 -- no record has a greater rank

@@ -1,15 +1,6 @@
 -- What is known once a part follows that is no header, no content and no end of the module.
-use Rattle.std.proofs.Common.{◌≡◌, ℕ, ◌≤◌, true, false, nat_le, List, ◌∷◌, [], length, flat_map, Option, Some, None, refl, sym, ◌∙◌, arith}
-use Rattle.std.proofs.lemmas.Bool.{and_parts, leb-true, le-leb}
-use Rattle.omf80.specs.declared.kind.RecordKind.{RecordKind}
+use Rattle.object_reading.proofs.Prelude.{◌≡◌, ℕ, ◌≤◌, true, false, nat_le, List, ◌∷◌, [], length, flat_map, Option, Some, None, refl, sym, ◌∙◌, arith, and_parts, leb-true, le-leb, RecordKind, Segment, Code, Data, rank_of, is_header, is_fix_record, may_follow, entries_of, externals_of, content_of, end_by_content, filled_to, Content, Part, kind_of_part, name_of_header, start_of_end, Marked, State}
 use Rattle.omf80.specs.declared.kind.RecordKind.TheVariants as kinds
-use Rattle.object_modules.specs.declared.segment.Segment.{Segment}
-use Rattle.object_modules.specs.declared.segment.Segment.TheVariants.{Code, Data}
-use Rattle.object_modules.specs.Before.{rank_of, is_header, is_fix_record, may_follow, entries_of, externals_of, content_of, end_by_content, filled_to}
-use Rattle.object_modules.specs.Parts.{Content, Part, kind_of_part}
-use Rattle.object_modules.specs.Spelling.{name_of_header, start_of_end}
-use Rattle.object_reading.specs.Marks.{Marked}
-use Rattle.object_reading.specs.internal.States.{State}
 use Rattle.object_reading.proofs.Accepting.{KnowsNames}
 use Rattle.object_reading.proofs.Knowing.{Knows, HasContent, is_early, in_contents, header_stays, start_stays, filtered_as_before}
 

@@ -1,3 +1,4 @@
+mod Prelude
 pub mod FixEntries
 pub mod NewNames
 pub mod FixMarks

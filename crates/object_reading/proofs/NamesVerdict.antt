@@ -1,19 +1,6 @@
 -- Names of other modules and public names are judged as the rules say.
-use Rattle.std.proofs.Common.{◌≡◌, ℕ, zero, suc, Bool, true, false, not, ◌&&◌, cond, List, [], ◌∷◌, ◌++◌, length, flat_map, Option, Some, None, option_map, option_and_then, Err, refl, ap, sym, subst, ◌∙◌, arith}
-use Rattle.std.specs.List.{list_all}
-use Rattle.std.specs.Option.{option_map_or}
-use Rattle.std.proofs.lemmas.List.{length-append}
+use Rattle.object_reading.proofs.Prelude.{◌≡◌, ℕ, zero, suc, Bool, true, false, not, ◌&&◌, cond, List, [], ◌∷◌, ◌++◌, length, flat_map, Option, Some, None, option_map, option_and_then, Err, refl, ap, sym, subst, ◌∙◌, arith, list_all, option_map_or, length-append, is_name, WrongBody, Segment, is_empty, may_follow, externals_of, definition_names, are_new, may_have_publics, Definition, Part, ExternalNamesPart, PublicsPart, Front, segment_of, listed_name_in_front, definition_in_front, at_most, all_in, publics_in, are_names, part_fault, definition_name_in_front, names_taken, State, with_externals, with_publics, externals_taken, publics_taken}
 use Rattle.omf80.specs.declared.kind.RecordKind.TheVariants as kinds
-use Rattle.symbols.specs.Names.{is_name}
-use Rattle.object_modules.specs.declared.fault.Fault.TheVariants.{WrongBody}
-use Rattle.object_modules.specs.declared.segment.Segment.{Segment}
-use Rattle.object_modules.specs.Before.{is_empty, may_follow, externals_of, definition_names}
-use Rattle.object_modules.specs.Module.{are_new, may_have_publics}
-use Rattle.object_modules.specs.Parts.{Definition, Part, ExternalNamesPart, PublicsPart}
-use Rattle.object_modules.specs.Reading.{Front, segment_of, listed_name_in_front, definition_in_front, at_most, all_in, publics_in}
-use Rattle.object_modules.specs.Rules.{are_names, part_fault}
-use Rattle.object_reading.specs.NamesJudged.{definition_name_in_front, names_taken}
-use Rattle.object_reading.specs.internal.States.{State, with_externals, with_publics, externals_taken, publics_taken}
 use Rattle.object_reading.proofs.Accepting.{names_judged, names_known_after}
 use Rattle.object_reading.proofs.Knowing.{Knows, Accepted, Verdict, wrong_either_way, fault_by, is_early, plain_fault}
 use Rattle.object_reading.proofs.KnownAfter.{never, follows_early, early_below, known_after}

@@ -1,19 +1,7 @@
 -- Names that are judged one after another.
-use Rattle.std.proofs.Common.{◌≡◌, ℕ, ◌<◌, Bool, true, false, not, ◌&&◌, ◌||◌, cond, List, [], ◌∷◌, ◌++◌, length, Option, Some, None, option_map, option_and_then, Bor, map, refl, ap, sym, ◌∙◌, arith}
-use Rattle.std.specs.List.{list_all, list_any}
-use Rattle.std.specs.Str.{bytes_eq}
-use Rattle.std.proofs.lemmas.List.{append_assoc, append-nil}
-use Rattle.std.proofs.lemmas.List.Folds.{list_any-append}
-use Rattle.std.proofs.lemmas.Option.{some_pair_parts}
-use Rattle.symbols.specs.Names.{is_name}
-use Rattle.object_modules.specs.Module.{is_among, are_new}
-use Rattle.object_modules.specs.Parts.{Definition}
-use Rattle.object_modules.specs.Reading.{definition_in_front, at_most}
-use Rattle.object_modules.proofs.Fronts.{option_map_some}
-use Rattle.object_laws.proofs.Files.AnyCount.{Shortens, all_unfolds, listed_name_shortens, definition_shortens}
+use Rattle.object_reading.proofs.Prelude.{◌≡◌, ℕ, ◌<◌, Bool, true, false, not, ◌&&◌, ◌||◌, cond, List, [], ◌∷◌, ◌++◌, length, Option, Some, None, option_map, option_and_then, Bor, map, refl, ap, sym, ◌∙◌, arith, list_all, list_any, bytes_eq, append_assoc, append-nil, list_any-append, some_pair_parts, is_name, is_among, are_new, Definition, definition_in_front, at_most, option_map_some, Shortens, all_unfolds, listed_name_shortens, definition_shortens, definition_name_in_front, entry_name, names_in, names_taken}
 use Rattle.object_reading.specs.declared.rules.names.NameList.{NameList}
 use Rattle.object_reading.specs.declared.rules.names.NameList.TheVariants.{Externals, Publics}
-use Rattle.object_reading.specs.NamesJudged.{definition_name_in_front, entry_name, names_in, names_taken}
 
 -- a set of borrowed names has a name where the names have it
 pub among_borrowed :

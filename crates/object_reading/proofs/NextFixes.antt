@@ -1,19 +1,5 @@
 -- The next fix record after a content, and the next fix of it.
-use Rattle.std.proofs.Common.{◌≡◌, ℕ, true, List, [], ◌∷◌, ◌++◌, drop, flat_map, take_while, cond, slice_index, Option, Some, None, is_some, IfNone, option_map, option_and_then, unwrap_or, refl, ap, sym, subst, ◌∙◌}
-use Rattle.std.proofs.lemmas.List.Sums.{take_while-cons}
-use Rattle.omf80.specs.Records.{word_bytes, kind_of_type, record_end, record_fault, first_body}
-use Rattle.omf80.specs.declared.kind.RecordKind.{RecordKind}
-use Rattle.object_modules.specs.declared.segment.Fix.{Fix}
-use Rattle.object_modules.specs.declared.segment.FixKind.{FixKind}
-use Rattle.object_modules.specs.declared.segment.Segment.{Segment}
-use Rattle.object_modules.specs.declared.segment.Segment.TheVariants.{Absolute}
-use Rattle.object_modules.specs.Before.{is_fix_record, fixes_of, leading_fixes}
-use Rattle.object_modules.specs.Parts.{Part, HeaderPart, ExternalNamesPart, PublicsPart, ContentPart, ExternalReferencesPart, RelocationPart, IntersegmentPart, ModuleEndPart, EndOfFilePart, kind_of_part, body_of, reference_bytes, fix_kind_number}
-use Rattle.object_modules.specs.Reading.{fix_kind_of}
-use Rattle.object_modules.specs.Walking.{parts_from}
-use Rattle.object_laws.proofs.Files.FrontsAgain.{segment_again, fix_kind_again, references_again, words_again}
-use Rattle.object_reading.specs.Entries.{AreParts}
-use Rattle.object_reading.specs.Fixes.{AreFixEntries, fixes_in, fix_in_front, FixHead, fix_head, fix_where, fixes_after, AreHeadEntries}
+use Rattle.object_reading.proofs.Prelude.{◌≡◌, ℕ, true, List, [], ◌∷◌, ◌++◌, drop, flat_map, take_while, cond, slice_index, Option, Some, None, is_some, IfNone, option_map, option_and_then, unwrap_or, refl, ap, sym, subst, ◌∙◌, take_while-cons, word_bytes, kind_of_type, record_end, record_fault, first_body, RecordKind, Fix, FixKind, Segment, Absolute, is_fix_record, fixes_of, leading_fixes, Part, HeaderPart, ExternalNamesPart, PublicsPart, ContentPart, ExternalReferencesPart, RelocationPart, IntersegmentPart, ModuleEndPart, EndOfFilePart, kind_of_part, body_of, reference_bytes, fix_kind_number, fix_kind_of, parts_from, segment_again, fix_kind_again, references_again, words_again, AreParts, AreFixEntries, fixes_in, fix_in_front, FixHead, fix_head, fix_where, fixes_after, AreHeadEntries}
 use Rattle.object_reading.proofs.FixEntries.{fixes_then}
 use Rattle.object_reading.proofs.NextParts.{next_part, nothing_from, same_kind}
 

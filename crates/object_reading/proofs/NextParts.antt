@@ -1,23 +1,5 @@
 -- The next record of the parts of a file, and the next entry of a record.
-use Rattle.std.proofs.Common.{◌≡◌, ℕ, ◌+◌, ◌*◌, ◌/◌, ◌%◌, ◌<◌, ◌≤◌, true, List, [], ◌∷◌, ◌++◌, length, drop, flat_map, slice_index, Option, Some, None, option_map, unwrap_or, refl, ap, sym, subst, ◌∙◌, arith}
-use Rattle.std.specs.List.{AllByRecursion}
-use Rattle.std.proofs.lemmas.List.{length-drop}
-use Rattle.std.proofs.lemmas.Option.{none-some, some_pair_parts}
-use Rattle.omf80.specs.declared.fault.Fault.{Fault as RecordFault}
-use Rattle.omf80.specs.declared.fault.Fault.TheVariants.{Truncated}
-use Rattle.omf80.specs.declared.kind.RecordKind.{RecordKind}
-use Rattle.omf80.specs.Records.{kind_of_type, record_end, record_fault, first_body}
-use Rattle.omf80.proofs.RecordsAgain.{read_again}
-use Rattle.object_modules.specs.declared.segment.Segment.{Segment}
-use Rattle.object_modules.specs.declared.segment.Segment.TheVariants.{Absolute}
-use Rattle.object_modules.specs.Before.{externals_of}
-use Rattle.object_modules.specs.Parts.{Definition, Content, Part, HeaderPart, ExternalNamesPart, PublicsPart, ContentPart, ExternalReferencesPart, RelocationPart, IntersegmentPart, ModuleEndPart, EndOfFilePart, kind_of_part, body_of, part_bytes, listed_name_bytes, definition_bytes}
-use Rattle.object_modules.specs.Reading.{Front, listed_name_in_front, definition_in_front}
-use Rattle.object_modules.specs.Spelling.{fixed_contents, publics_of}
-use Rattle.object_modules.specs.Walking.{parts_from, entries_left, externals_left, publics_left, contents_left}
-use Rattle.object_laws.proofs.Files.FrontsAgain.{ReadsAgain, all_again, listed_name_again, definition_again, segment_again, word_of}
-use Rattle.object_laws.proofs.Files.Walks.{part_first}
-use Rattle.object_reading.specs.Entries.{AreParts, AreEntries, body_where, publics_where, content_where, content_at, definition_at, contents_after, is_external_names, is_publics, is_content}
+use Rattle.object_reading.proofs.Prelude.{◌≡◌, ℕ, ◌+◌, ◌*◌, ◌/◌, ◌%◌, ◌<◌, ◌≤◌, true, List, [], ◌∷◌, ◌++◌, length, drop, flat_map, slice_index, Option, Some, None, option_map, unwrap_or, refl, ap, sym, subst, ◌∙◌, arith, AllByRecursion, length-drop, none-some, some_pair_parts, RecordFault, Truncated, RecordKind, kind_of_type, record_end, record_fault, first_body, read_again, Segment, Absolute, externals_of, Definition, Content, Part, HeaderPart, ExternalNamesPart, PublicsPart, ContentPart, ExternalReferencesPart, RelocationPart, IntersegmentPart, ModuleEndPart, EndOfFilePart, kind_of_part, body_of, part_bytes, listed_name_bytes, definition_bytes, Front, listed_name_in_front, definition_in_front, fixed_contents, publics_of, parts_from, entries_left, externals_left, publics_left, contents_left, ReadsAgain, all_again, listed_name_again, definition_again, segment_again, word_of, part_first, AreParts, AreEntries, body_where, publics_where, content_where, content_at, definition_at, contents_after, is_external_names, is_publics, is_content}
 
 -- what is known of the record that parts begin with
 pub record NextPart (rest : List ℕ) (part : Part) : Type 0 where

@@ -1,16 +1,6 @@
 -- Each record is judged as the rules say.
-use Rattle.std.proofs.Common.{◌≡◌, ℕ, ◌≤◌, Bool, true, false, cond, List, [], ◌∷◌, length, Option, Some, None, Result, Ok, Err, refl, ap, sym, ◌∙◌}
-use Rattle.std.specs.Option.{option_map_or}
-use Rattle.omf80.specs.declared.kind.RecordKind.{RecordKind}
+use Rattle.object_reading.proofs.Prelude.{◌≡◌, ℕ, ◌≤◌, Bool, true, false, cond, List, [], ◌∷◌, length, Option, Some, None, Result, Ok, Err, refl, ap, sym, ◌∙◌, option_map_or, RecordKind, Fault, WrongBody, OutOfOrder, may_follow, is_ended, Part, kind_of_part, part_in, part_fault, fault_of_record, may_come, is_over, State, beginning, body_taken, then_latest, record_taken}
 use Rattle.omf80.specs.declared.kind.RecordKind.TheVariants as kinds
-use Rattle.object_modules.specs.declared.fault.Fault.{Fault}
-use Rattle.object_modules.specs.declared.fault.Fault.TheVariants.{WrongBody, OutOfOrder}
-use Rattle.object_modules.specs.Before.{may_follow, is_ended}
-use Rattle.object_modules.specs.Parts.{Part, kind_of_part}
-use Rattle.object_modules.specs.Reading.{part_in}
-use Rattle.object_modules.specs.Rules.{part_fault, fault_of_record}
-use Rattle.object_reading.specs.Order.{may_come, is_over}
-use Rattle.object_reading.specs.internal.States.{State, beginning, body_taken, then_latest, record_taken}
 use Rattle.object_reading.proofs.Knowing.{Knows, Verdict}
 use Rattle.object_reading.proofs.KnownAfter.{never}
 use Rattle.object_reading.proofs.HeaderVerdict.{header_verdict}

@@ -1,32 +1,7 @@
 -- A file is judged whole, record by record.
-use Rattle.std.proofs.Common.{◌≡◌, ℕ, suc, ◌<◌, ◌≤◌, ◌==◌, true, false, List, [], ◌∷◌, length, drop, reverse, slice_index, Some, None, Result, Ok, Err, refl, ap, sym, subst, ◌∙◌, arith}
-use Rattle.std.proofs.lemmas.Bool.{eqb-true}
-use Rattle.std.proofs.lemmas.List.{length-drop}
-use Rattle.failure.specs.Failure.{IfFault}
-use Rattle.failure.specs.declared.Failure.{Failure}
+use Rattle.object_reading.proofs.Prelude.{◌≡◌, ℕ, suc, ◌<◌, ◌≤◌, ◌==◌, true, false, List, [], ◌∷◌, length, drop, reverse, slice_index, Some, None, Result, Ok, Err, refl, ap, sym, subst, ◌∙◌, arith, eqb-true, length-drop, RecordFault, Truncated, RecordKind, Record, BeginsWith, kind_of_type, record_end, record_fault, first_body, IsBytes, Fault, OutOfOrder, Code, Data, Stack, is_ended, length_in, ObjectModule, Part, part_in, fault_from_record, fault_of_record, Spells, HasFirstFault, IsFileOf, alignment_in, start_in, judged_after, parts_of, JudgesFile, parts_law, no_fault, Extents, Header, IsJudged, is_over, State, beginning, record_taken, Tells}
+use Rattle.failure.specs.{Failure.{IfFault}, declared.Failure.{Failure}}
 use Rattle.failure.specs.declared.Failure.TheVariants as failures
-use Rattle.omf80.specs.declared.fault.Fault.{Fault as RecordFault}
-use Rattle.omf80.specs.declared.fault.Fault.TheVariants.{Truncated}
-use Rattle.omf80.specs.declared.kind.RecordKind.{RecordKind}
-use Rattle.omf80.specs.Records.{Record, BeginsWith, kind_of_type, record_end, record_fault, first_body}
-use Rattle.omf80.proofs.Conditions.{IsBytes}
-use Rattle.object_modules.specs.declared.fault.Fault.{Fault}
-use Rattle.object_modules.specs.declared.fault.Fault.TheVariants.{OutOfOrder}
-use Rattle.object_modules.specs.declared.segment.Segment.TheVariants.{Code, Data, Stack}
-use Rattle.object_modules.specs.Before.{is_ended, length_in}
-use Rattle.object_modules.specs.Module.{ObjectModule}
-use Rattle.object_modules.specs.Parts.{Part}
-use Rattle.object_modules.specs.Reading.{part_in}
-use Rattle.object_modules.specs.Rules.{fault_from_record, fault_of_record}
-use Rattle.object_modules.specs.Spelling.{Spells, HasFirstFault, IsFileOf, alignment_in, start_in}
-use Rattle.object_modules.specs.internal.Judgement.{judged_after, parts_of}
-use Rattle.object_laws.proofs.Files.Judged.{JudgesFile, parts_law}
-use Rattle.object_laws.proofs.Files.Unique.{no_fault}
-use Rattle.object_reading.specs.declared.rules.extents.Extents.{Extents}
-use Rattle.object_reading.specs.declared.judgement.header.Header.{Header}
-use Rattle.object_reading.specs.Judging.{IsJudged}
-use Rattle.object_reading.specs.Order.{is_over}
-use Rattle.object_reading.specs.internal.States.{State, beginning, record_taken, Tells}
 use Rattle.object_reading.proofs.JudgeSteps.{no_record, broken_rule, goes_on, at_the_end, past_the_end}
 use Rattle.object_reading.proofs.Knowing.{SaysHeader}
 use Rattle.object_reading.proofs.KnownAfter.{never}

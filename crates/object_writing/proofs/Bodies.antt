@@ -1,9 +1,5 @@
 -- Bytes of a body while it is filled.
-use Rattle.std.proofs.Common.{◌≡◌, ℕ, ◌+◌, ◌-◌, ◌<◌, ◌≤◌, Bool, true, false, not, nat_lt, List, [], ◌∷◌, ◌++◌, length, take, drop, refl, sym, ◌∙◌, arith}
-use Rattle.std.proofs.lemmas.Bool.{lt-ltb, ltb-true, ltb-false}
-use Rattle.object_modules.specs.Before.{is_empty}
-use Rattle.std.proofs.lemmas.List.{take-append-drop, take-append-le, drop-append-le, take_all, drop_all, length-take, length-drop, length-append}
-use Rattle.std.proofs.lemmas.Slice.{take-put_mid}
+use Rattle.object_writing.proofs.Prelude.{◌≡◌, ℕ, ◌+◌, ◌-◌, ◌<◌, ◌≤◌, Bool, true, false, not, nat_lt, List, [], ◌∷◌, ◌++◌, length, take, drop, refl, sym, ◌∙◌, arith, lt-ltb, ltb-true, ltb-false, is_empty, take-append-drop, take-append-le, drop-append-le, take_all, drop_all, length-take, length-drop, length-append, take-put_mid}
 use borrow.Rule.Slice.PartMut.{put_mid}
 
 -- bytes put after those that count

@@ -1,15 +1,5 @@
 -- Bytes in a row, cut into contents one after another.
-use Rattle.std.proofs.Common.{◌≡◌, ℕ, zero, suc, ◌+◌, ◌-◌, ◌<◌, ◌≤◌, Bool, true, false, cond, nat_lt, List, [], ◌∷◌, ◌++◌, length, flat_map, take, drop, slice_get, Some, refl, ap, sym, ◌∙◌, arith}
-use Rattle.std.specs.List.{onto_first}
-use Rattle.std.proofs.lemmas.Bool.{cond-true, cond-false, cond_both, lt-ltb, le-ltb, ltb-true, ltb-false}
-use Rattle.std.proofs.lemmas.List.{length-take}
-use Rattle.std.proofs.lemmas.Grind.{flat_map-append}
-use Rattle.object_modules.specs.declared.segment.Fix.{Fix}
-use Rattle.object_modules.specs.declared.segment.Segment.{Segment}
-use Rattle.object_modules.specs.Module.{SetByte, begins_word}
-use Rattle.object_modules.specs.Parts.{part_bytes}
-use Rattle.object_modules.specs.Text.{Run, content_limit, groups_after, groups_of, bytes_wanted, placed_from, fixes_from, content_parts}
-use Rattle.object_writing.specs.internal.Cuts.{word_at, cut_by, row_text}
+use Rattle.object_writing.proofs.Prelude.{◌≡◌, ℕ, zero, suc, ◌+◌, ◌-◌, ◌<◌, ◌≤◌, Bool, true, false, cond, nat_lt, List, [], ◌∷◌, ◌++◌, length, flat_map, take, drop, slice_get, Some, refl, ap, sym, ◌∙◌, arith, onto_first, cond-true, cond-false, cond_both, lt-ltb, le-ltb, ltb-true, ltb-false, length-take, flat_map-append, Fix, Segment, SetByte, begins_word, part_bytes, Run, content_limit, groups_after, groups_of, bytes_wanted, placed_from, fixes_from, content_parts, word_at, cut_by, row_text}
 use Rattle.object_writing.proofs.Fixes.{word_is}
 
 -- how many bytes go into a group with this room

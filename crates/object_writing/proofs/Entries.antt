@@ -1,24 +1,7 @@
 -- Names, public names and headers, entry by entry.
-use Rattle.std.proofs.Common.{◌≡◌, ℕ, ◌-◌, ◌≤◌, ◌&&◌, IsTrue, nat_le, List, [], ◌∷◌, ◌++◌, length, map, flat_map, filter_map, Option, Some, None, refl, ap, sym, ◌∙◌, arith}
-use Rattle.std.specs.List.{list_all, cons_option}
-use Rattle.std.proofs.lemmas.List.{append_assoc}
-use Rattle.std.specs.Char.{is_ascii_uppercase}
-use Rattle.std.proofs.lemmas.Bool.{and_parts, leb-true}
+use Rattle.object_writing.proofs.Prelude.{◌≡◌, ℕ, ◌-◌, ◌≤◌, ◌&&◌, IsTrue, nat_le, List, [], ◌∷◌, ◌++◌, length, map, flat_map, filter_map, Option, Some, None, refl, ap, sym, ◌∙◌, arith, list_all, cons_option, append_assoc, is_ascii_uppercase, and_parts, leb-true, Segment, Public, SegmentEntry, ExternalNamesPart, PublicsPart, segment_entry_bytes, segment_number, listed_name_bytes, definition_bytes, part_bytes, same_segment, packed, external_parts, public_parts, publics_in_segment, definition_of, BODY_LIMIT, bytes_of, OwnedPublic, owned_public_view, CodeEntry, listed_entry, bytes_of_entry, listed_bytes, header_text, empty_group, records_of, name_entry, public_entry, owned_entry}
 use Rattle.symbols.specs.Names.{is_name, is_name_character}
 use Rattle.omf80.specs.declared.kind.RecordKind.TheVariants as kinds
-use Rattle.object_modules.specs.declared.segment.Segment.{Segment}
-use Rattle.object_modules.specs.Module.{Public}
-use Rattle.object_modules.specs.Parts.{SegmentEntry, ExternalNamesPart, PublicsPart, segment_entry_bytes, segment_number, listed_name_bytes, definition_bytes, part_bytes}
-use Rattle.object_modules.specs.Before.{same_segment}
-use Rattle.object_modules.specs.Text.{packed, external_parts, public_parts, publics_in_segment, definition_of}
-use Rattle.omf80.specs.declared.kind.TheConstants.{BODY_LIMIT}
-use Rattle.omf80.specs.Records.{bytes_of}
-use Rattle.object_modules.specs.declared.public.OwnedPublic.{OwnedPublic}
-use Rattle.object_modules.specs.Views.{owned_public_view}
-use Rattle.object_writing.specs.declared.records.header.SegmentEntry.{SegmentEntry as CodeEntry}
-use Rattle.object_writing.specs.Contents.{listed_entry, bytes_of_entry, listed_bytes, header_text}
-use Rattle.object_writing.specs.Groups.{empty_group, records_of}
-use Rattle.object_writing.specs.internal.Named.{name_entry, public_entry, owned_entry}
 use Rattle.object_writing.proofs.Grouping.{grouped, kept, flat_map_of_map, map_of_map}
 
 -- a name has at most 31 characters

@@ -1,24 +1,7 @@
 -- The records of fixes, entry by entry.
-use Rattle.std.proofs.Common.{◌≡◌, ℕ, ◌-◌, ◌==◌, Bool, true, false, cond, not, List, [], ◌∷◌, ◌++◌, map, flat_map, filter, filter_map, Option, Some, None, option_map, refl, ap, sym, ◌∙◌, arith}
-use Rattle.std.proofs.lemmas.List.{append_assoc, append-nil}
-use Rattle.std.proofs.lemmas.Grind.{flat_map-append}
+use Rattle.object_writing.proofs.Prelude.{◌≡◌, ℕ, ◌-◌, ◌==◌, Bool, true, false, cond, not, List, [], ◌∷◌, ◌++◌, map, flat_map, filter, filter_map, Option, Some, None, option_map, refl, ap, sym, ◌∙◌, arith, append_assoc, append-nil, flat_map-append, BODY_LIMIT, word_bytes, Fix, FixKind, Low, High, Both, Segment, Code, Data, Stack, Target, InSegment, External, Reference, Part, ExternalReferencesPart, RelocationPart, IntersegmentPart, segment_number, fix_kind_number, reference_bytes, part_bytes, same_segment, packed, fix_kinds, reference_for, offset_for, external_fix_parts, relocation_parts, intersegment_parts, other_segments, fix_parts, content_text, records_of, group_for, fix_entry, kind_text, fixes_to, other_text, others_text, fixes_text, content_part}
 use Rattle.omf80.specs.declared.kind.RecordKind.TheVariants as kinds
-use Rattle.omf80.specs.declared.kind.TheConstants.{BODY_LIMIT}
-use Rattle.omf80.specs.Records.{word_bytes}
-use Rattle.object_modules.specs.declared.segment.Fix.{Fix}
-use Rattle.object_modules.specs.declared.segment.FixKind.{FixKind}
-use Rattle.object_modules.specs.declared.segment.FixKind.TheVariants.{Low, High, Both}
-use Rattle.object_modules.specs.declared.segment.Segment.{Segment}
-use Rattle.object_modules.specs.declared.segment.Segment.TheVariants.{Code, Data, Stack}
-use Rattle.object_modules.specs.declared.segment.Target.{Target}
-use Rattle.object_modules.specs.declared.segment.Target.TheVariants.{InSegment, External}
-use Rattle.object_modules.specs.Parts.{Reference, Part, ExternalReferencesPart, RelocationPart, IntersegmentPart, segment_number, fix_kind_number, reference_bytes, part_bytes}
-use Rattle.object_modules.specs.Before.{same_segment}
-use Rattle.object_modules.specs.Text.{packed, fix_kinds, reference_for, offset_for, external_fix_parts, relocation_parts, intersegment_parts, other_segments, fix_parts}
-use Rattle.object_writing.specs.Contents.{content_text}
-use Rattle.object_writing.specs.Groups.{records_of}
 use Rattle.object_writing.specs.declared.records.content.Referred.TheVariants.{Names, Own, Other}
-use Rattle.object_writing.specs.internal.Fixes.{group_for, fix_entry, kind_text, fixes_to, other_text, others_text, fixes_text, content_part}
 use Rattle.object_writing.proofs.Grouping.{grouped, mapped, flat_map_of_map}
 
 cond_map :

@@ -1,15 +1,5 @@
 -- Fixes of bytes in a row, found by counting those before a place.
-use Rattle.std.proofs.Common.{◌≡◌, ℕ, zero, suc, ◌+◌, ◌<◌, ◌≤◌, Bool, true, false, cond, ◌&&◌, ◌==◌, nat_lt, List, [], ◌∷◌, ◌++◌, length, map, flat_map, take, drop, get_or, slice_get, Option, Some, None, refl, ap, sym, ◌∙◌, arith}
-use Rattle.std.specs.Option.{option_map_or}
-use Rattle.std.proofs.lemmas.List.{drop_more, drop_all}
-use Rattle.std.proofs.lemmas.Bool.{cond-true, cond-false, lt-ltb, le-ltb, ne_eqb, eq-eqb, and_right}
-use Rattle.object_modules.specs.declared.segment.Fix.{Fix}
-use Rattle.object_modules.specs.Module.{Fixup, SetByte, is_both, begins_word}
-use Rattle.object_modules.specs.Text.{Run, fixes_from}
-use Rattle.object_modules.specs.Runs.{fixup_at, fixed_bytes, fixes_of_run}
-use Rattle.object_laws.proofs.Texts.Fixes.{fix_at, fix_found}
-use Rattle.object_laws.proofs.Texts.Runs.{InOrder}
-use Rattle.object_writing.specs.internal.Cuts.{count_before, word_at}
+use Rattle.object_writing.proofs.Prelude.{◌≡◌, ℕ, zero, suc, ◌+◌, ◌<◌, ◌≤◌, Bool, true, false, cond, ◌&&◌, ◌==◌, nat_lt, List, [], ◌∷◌, ◌++◌, length, map, flat_map, take, drop, get_or, slice_get, Option, Some, None, refl, ap, sym, ◌∙◌, arith, option_map_or, drop_more, drop_all, cond-true, cond-false, lt-ltb, le-ltb, ne_eqb, eq-eqb, and_right, Fix, Fixup, SetByte, is_both, begins_word, Run, fixes_from, fixup_at, fixed_bytes, fixes_of_run, fix_at, fix_found, InOrder, count_before, word_at}
 
 -- a byte in front of others
 abbrev byte_with : (value : ℕ) → Option Fixup → SetByte

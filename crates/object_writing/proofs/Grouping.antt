@@ -1,12 +1,5 @@
 -- Entries that are put together one after another make the records of the groups that they are cut into.
-use Rattle.std.proofs.Common.{◌≡◌, ℕ, ◌+◌, ◌-◌, ◌<◌, Bool, true, false, cond, nat_lt, List, [], ◌∷◌, ◌++◌, length, map, flat_map, filter_map, filter, Option, Some, None, option_map, refl, ap, sym, ◌∙◌, arith}
-use Rattle.std.specs.List.{onto_first, cons_option}
-use Rattle.std.proofs.lemmas.List.{append_assoc, append-nil, length-append}
-use Rattle.omf80.specs.declared.kind.RecordKind.{RecordKind}
-use Rattle.omf80.specs.declared.kind.TheConstants.{BODY_LIMIT}
-use Rattle.omf80.specs.Records.{bytes_of}
-use Rattle.object_modules.specs.Text.{groups_after, packed}
-use Rattle.object_writing.specs.Groups.{Group, empty_group, room_of, group_bytes, flushed, with_bytes, with_entry, last_record, records_of}
+use Rattle.object_writing.proofs.Prelude.{◌≡◌, ℕ, ◌+◌, ◌-◌, ◌<◌, Bool, true, false, cond, nat_lt, List, [], ◌∷◌, ◌++◌, length, map, flat_map, filter_map, filter, Option, Some, None, option_map, refl, ap, sym, ◌∙◌, arith, onto_first, cons_option, append_assoc, append-nil, length-append, RecordKind, BODY_LIMIT, bytes_of, groups_after, packed, Group, empty_group, room_of, group_bytes, flushed, with_bytes, with_entry, last_record, records_of}
 
 module _ {A : Type 0} (kind : RecordKind) (front : List ℕ) (spell : A → List ℕ) (long : (x : A) → 0 < length (spell x)) where
   -- the record of a group

@@ -1,9 +1,5 @@
 -- Items of a list, each of which adds an entry or none.
-use Rattle.std.proofs.Common.{◌≡◌, ℕ, ◌+◌, ◌<◌, ◌≤◌, List, ◌∷◌, ◌++◌, length, map, drop, get_or, Option, ap, sym, subst, ◌∙◌}
-use Rattle.std.proofs.lemmas.List.{drop_more, drop_all}
-use Rattle.std.specs.Io.KnownBytes.{Appends}
-use Rattle.failure.specs.Writing.{AppendsBeginning}
-use Rattle.object_writing.specs.Groups.{Group, flushed_by, last_record, records_of, with_item}
+use Rattle.object_writing.proofs.Prelude.{◌≡◌, ℕ, ◌+◌, ◌<◌, ◌≤◌, List, ◌∷◌, ◌++◌, length, map, drop, get_or, Option, ap, sym, subst, ◌∙◌, drop_more, drop_all, Appends, AppendsBeginning, Group, flushed_by, last_record, records_of, with_item}
 use Rattle.object_writing.proofs.Sequences.{HasWritten, more, begun}
 
 module _ {X : Type 0} (entry : X → Option (List ℕ)) (group : Group) (items : List X) (index : ℕ) (item d : X) where

@@ -1,3 +1,4 @@
+mod Prelude
 pub mod Sequences
 pub mod Bodies
 pub mod Grouping

@@ -1,19 +1,6 @@
 -- What is left of a run and of a segment while their contents are written.
-use Rattle.std.proofs.Common.{◌≡◌, ℕ, ◌+◌, ◌-◌, ◌<◌, ◌≤◌, List, [], ◌∷◌, ◌++◌, length, map, flat_map, take, drop, get_or, Option, refl, ap, sym, subst, ◌∙◌, arith}
-use Rattle.std.proofs.lemmas.List.{length-map, length-take, length-drop, drop-drop, take-map, take_rest, drop-map, take_at, drop_at, drop_more, drop_all}
-use Rattle.std.proofs.lemmas.Grind.{flat_map-append}
-use Rattle.std.specs.Io.KnownBytes.{Appends}
-use Rattle.failure.specs.Writing.{AppendsBeginning}
-use Rattle.object_modules.specs.declared.segment.Fix.{Fix}
-use Rattle.object_modules.specs.declared.segment.Segment.{Segment}
-use Rattle.object_modules.specs.Module.{SetByte, ObjectModule, places_of}
-use Rattle.object_modules.specs.Parts.{part_bytes}
-use Rattle.object_modules.specs.Runs.{fixed_bytes, fixed_run, fixes_in, fixes_of_run}
-use Rattle.object_modules.specs.Text.{Run, content_parts, contents_of_run, fixes_from, runs_from, segment_parts}
-use Rattle.object_laws.proofs.Texts.Runs.{InOrder, order_earlier, order_ends, runs_in_order}
-use Rattle.object_writing.specs.Contents.{content_text}
+use Rattle.object_writing.proofs.Prelude.{◌≡◌, ℕ, ◌+◌, ◌-◌, ◌<◌, ◌≤◌, List, [], ◌∷◌, ◌++◌, length, map, flat_map, take, drop, get_or, Option, refl, ap, sym, subst, ◌∙◌, arith, length-map, length-take, length-drop, drop-drop, take-map, take_rest, drop-map, take_at, drop_at, drop_more, drop_all, flat_map-append, Appends, AppendsBeginning, Fix, Segment, SetByte, ObjectModule, places_of, part_bytes, fixed_bytes, fixed_run, fixes_in, fixes_of_run, Run, content_parts, contents_of_run, fixes_from, runs_from, segment_parts, InOrder, order_earlier, order_ends, runs_in_order, content_text, AreFixesOf, count_before, cut_by, row_text, run_text}
 use Rattle.object_writing.proofs.Sequences.{HasWritten, none_yet, more, begun, whole}
-use Rattle.object_writing.specs.internal.Cuts.{AreFixesOf, count_before, cut_by, row_text, run_text}
 use Rattle.object_writing.proofs.Cutting.{cut_bounds, cut_is, row_ended, row_more}
 use Rattle.object_writing.proofs.Fixes.{are_fixes_of, counted, fixes_split, none_before, none_in_runs, values_again}
 

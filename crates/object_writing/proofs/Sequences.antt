@@ -1,10 +1,5 @@
 -- Writes one after another: what was written of all, and what is left to be written.
-use Rattle.std.proofs.Common.{◌≡◌, ℕ, List, [], ◌++◌, Option, Result, Ok, Err, OnOk, OnErr, refl, ap, sym, subst, ◌∙◌}
-use Rattle.std.proofs.lemmas.List.{append_assoc, append-nil}
-use Rattle.std.specs.Io.KnownBytes.{Appends}
-use Rattle.std.proofs.KnownBytes.{Appends-nil, Appends-trans}
-use Rattle.failure.specs.Writing.{AppendsBeginning}
-use Rattle.failure.proofs.WritingLemmas.{beginning_after}
+use Rattle.object_writing.proofs.Prelude.{◌≡◌, ℕ, List, [], ◌++◌, Option, Result, Ok, Err, OnOk, OnErr, refl, ap, sym, subst, ◌∙◌, append_assoc, append-nil, Appends, Appends-nil, Appends-trans, AppendsBeginning, beginning_after}
 
 -- of all that is to be written, this is left
 pub record HasWritten (old new : Option (List ℕ)) (left all : List ℕ) : Type 0 where

@@ -1,19 +1,5 @@
 -- The text of a module, part by part.
-use Rattle.std.proofs.Common.{◌≡◌, ℕ, ◌≤◌, ◌&&◌, ◌||◌, Bool, true, not, nat_lt, nat_le, List, [], ◌∷◌, ◌++◌, length, flat_map, ap, ◌∙◌, arith}
-use Rattle.std.specs.List.{list_all}
-use Rattle.std.specs.Option.{option_map_or}
-use Rattle.std.proofs.lemmas.Bool.{and_parts, leb-true}
-use Rattle.std.proofs.lemmas.List.{append_assoc, append-nil}
-use Rattle.std.proofs.lemmas.Grind.{flat_map-append}
-use Rattle.object_modules.specs.declared.segment.Segment.{Segment}
-use Rattle.object_modules.specs.declared.segment.Segment.TheVariants.{Absolute, Code, Data, Stack}
-use Rattle.object_modules.specs.declared.segment.TheConstants.{SEGMENT_LIMIT}
-use Rattle.object_modules.specs.Module.{Places, ObjectModule, IsObjectModule, is_page, is_valid_byte, is_valid_segment, length_of, alignment_of, places_of, words_are_whole}
-use Rattle.object_modules.specs.Parts.{Part, ModuleEndPart, EndOfFilePart, part_bytes}
-use Rattle.object_modules.specs.Text.{header_for, external_parts, public_parts, segment_parts, written_parts, text_of}
-use Rattle.object_writing.specs.declared.records.header.SegmentEntry.{SegmentEntry as CodeEntry}
-use Rattle.object_writing.specs.Contents.{header_text, end_text}
-use Rattle.object_writing.specs.internal.Texts.{names_text, rest_text}
+use Rattle.object_writing.proofs.Prelude.{◌≡◌, ℕ, ◌≤◌, ◌&&◌, ◌||◌, Bool, true, not, nat_lt, nat_le, List, [], ◌∷◌, ◌++◌, length, flat_map, ap, ◌∙◌, arith, list_all, option_map_or, and_parts, leb-true, append_assoc, append-nil, flat_map-append, Segment, Absolute, Code, Data, Stack, SEGMENT_LIMIT, Places, ObjectModule, IsObjectModule, is_page, is_valid_byte, is_valid_segment, length_of, alignment_of, places_of, words_are_whole, Part, ModuleEndPart, EndOfFilePart, part_bytes, header_for, external_parts, public_parts, segment_parts, written_parts, text_of, CodeEntry, header_text, end_text, names_text, rest_text}
 
 -- the bytes of lists one after another
 two_parts :

@@ -1,24 +1,6 @@
 -- The contents that a walk over a file hands out ascend within their segments, and their fixes are within them
 -- and apart.
-use Rattle.std.proofs.Common.{◌≡◌, ℕ, ◌+◌, Bool, true, false, cond, ◌&&◌, ◌||◌, ◌==◌, List, [], ◌∷◌, ◌++◌, length, filter, flat_map, reverse, Some, None, refl, ap, sym, subst, ◌∙◌, arith}
-use Rattle.std.specs.List.{list_any, AllByRecursion}
-use Rattle.std.proofs.lemmas.List.{append-nil}
-use Rattle.std.proofs.lemmas.Option.{same_Some}
-use Rattle.omf80.proofs.Conditions.{IsBytes}
-use Rattle.object_modules.specs.declared.segment.Fix.{Fix}
-use Rattle.object_modules.specs.declared.segment.Segment.{Segment}
-use Rattle.object_modules.specs.declared.segment.Segment.TheVariants.{Code, Data}
-use Rattle.object_modules.specs.Module.{is_both}
-use Rattle.object_modules.specs.Parts.{SegmentEntry, Part, HeaderPart, ExternalNamesPart, PublicsPart, ContentPart, ExternalReferencesPart, RelocationPart, IntersegmentPart, ModuleEndPart, EndOfFilePart}
-use Rattle.object_modules.specs.Before.{content_end, end_by_content, entries_of, externals_of, is_ended, length_in, stated_length_of}
-use Rattle.object_modules.specs.Rules.{are_accepted}
-use Rattle.object_modules.specs.Spelling.{FixedContent, fixed_contents}
-use Rattle.object_modules.specs.Walking.{Walking, WalksOver, walk_over}
-use Rattle.object_laws.proofs.Files.Accepted.{both_fit, no_entries}
-use Rattle.object_laws.proofs.Files.Bytes.{InRange, parts_range}
-use Rattle.object_laws.proofs.Files.Contents.{Ascend, Follow, contents_ascend}
-use Rattle.object_laws.proofs.Files.FixesOfContents.{begins_at, word_at, clash}
-use Rattle.objmod.specs.internal.Keeping.{AllFit, Clear, ContentsFit, Placed, SegmentFits, fix_at, is_in}
+use Rattle.objmod.proofs.Prelude.{◌≡◌, ℕ, ◌+◌, Bool, true, false, cond, ◌&&◌, ◌||◌, ◌==◌, List, [], ◌∷◌, ◌++◌, length, filter, flat_map, reverse, Some, None, refl, ap, sym, subst, ◌∙◌, arith, list_any, AllByRecursion, append-nil, same_Some, IsBytes, Fix, Segment, Code, Data, is_both, SegmentEntry, Part, HeaderPart, ExternalNamesPart, PublicsPart, ContentPart, ExternalReferencesPart, RelocationPart, IntersegmentPart, ModuleEndPart, EndOfFilePart, content_end, end_by_content, entries_of, externals_of, is_ended, length_in, stated_length_of, are_accepted, FixedContent, fixed_contents, Walking, WalksOver, walk_over, both_fit, no_entries, InRange, parts_range, Ascend, Follow, contents_ascend, begins_at, word_at, clash, AllFit, Clear, ContentsFit, Placed, SegmentFits, fix_at, is_in}
 
 -- where no word begins right before a fix, the second bytes of words are clear
 no_second :

@@ -1,21 +1,5 @@
 -- What is kept of the contents of a segment sets what they set.
-use Rattle.std.proofs.Common.{◌≡◌, ℕ, zero, suc, ◌+◌, ◌-◌, ◌<◌, ◌≤◌, ◌≢◌, Bool, true, false, cond, not, ◌&&◌, ◌==◌, nat_lt, nat_le, ◌⊎◌, inl, inr, List, [], ◌∷◌, ◌++◌, length, map, flat_map, filter, find, Option, Some, None, option_map, slice_index, refl, ap, sym, ◌∙◌, arith}
-use Rattle.std.proofs.lemmas.Bool.{eqb-true, eqb-false, eq-eqb, ne_eqb, leb-true, leb-false, le-leb, lt-leb, ltb-true, ltb-false, lt-ltb, le-ltb}
-use Rattle.std.proofs.lemmas.List.{length-append}
-use Rattle.omf80.proofs.Conditions.{find_passes}
-use Rattle.object_modules.specs.declared.segment.Alignment.{Alignment}
-use Rattle.object_modules.specs.declared.segment.Fix.{Fix}
-use Rattle.object_modules.specs.declared.segment.Segment.{Segment}
-use Rattle.object_modules.specs.declared.segment.Segment.TheVariants.{Absolute, Code, Data, Stack}
-use Rattle.object_modules.specs.Before.{same_segment, content_end}
-use Rattle.object_modules.specs.Module.{Fixup, SetByte}
-use Rattle.object_modules.specs.Runs.{fixup_at}
-use Rattle.object_modules.specs.Spelling.{FixedContent, holds_place, set_at, set_in}
-use Rattle.object_modules.specs.Stored.{places_stored}
-use Rattle.object_modules.specs.Text.{Run}
-use Rattle.object_modules.specs.Walking.{places_by}
-use Rattle.object_modules.proofs.StoredRuns.{content_with, byte_in_run, found, found_is, run_at, same_over}
-use Rattle.objmod.specs.internal.Keeping.{before_kept, open_run, is_in, runs_kept, fix_at, fix_table, listed, fixes_by_place, kept_segment, Placed}
+use Rattle.objmod.proofs.Prelude.{◌≡◌, ℕ, zero, suc, ◌+◌, ◌-◌, ◌<◌, ◌≤◌, ◌≢◌, Bool, true, false, cond, not, ◌&&◌, ◌==◌, nat_lt, nat_le, ◌⊎◌, inl, inr, List, [], ◌∷◌, ◌++◌, length, map, flat_map, filter, find, Option, Some, None, option_map, slice_index, refl, ap, sym, ◌∙◌, arith, eqb-true, eqb-false, eq-eqb, ne_eqb, leb-true, leb-false, le-leb, lt-leb, ltb-true, ltb-false, lt-ltb, le-ltb, length-append, find_passes, Alignment, Fix, Segment, Absolute, Code, Data, Stack, same_segment, content_end, Fixup, SetByte, fixup_at, FixedContent, holds_place, set_at, set_in, places_stored, Run, places_by, content_with, byte_in_run, found, found_is, run_at, same_over, before_kept, open_run, is_in, runs_kept, fix_at, fix_table, listed, fixes_by_place, kept_segment, Placed}
 
 -- What contents of one segment set at a place.
 abbrev holds : ℕ → FixedContent → Bool

@@ -1,24 +1,5 @@
 -- What is kept of the contents of a segment is what each segment that is kept keeps to.
-use Rattle.std.proofs.Common.{◌≡◌, ℕ, zero, suc, ◌+◌, ◌<◌, ◌≤◌, Bool, true, false, cond, not, ◌&&◌, ◌||◌, ◌==◌, nat_lt, nat_le, List, [], ◌∷◌, ◌++◌, length, flat_map, filter, Option, Some, None, refl, sym, subst, arith}
-use Rattle.std.specs.List.{list_all}
-use Rattle.std.proofs.lemmas.Bool.{and_from, eqb-true, eqb-false, leb-true, le-leb, lt-ltb}
-use Rattle.std.proofs.lemmas.List.{length-append}
-use Rattle.std.proofs.lemmas.Option.{same_Some}
-use Rattle.object_modules.specs.declared.segment.Alignment.{Alignment}
-use Rattle.object_modules.specs.declared.segment.Fix.{Fix}
-use Rattle.object_modules.specs.declared.segment.FixKind.{FixKind}
-use Rattle.object_modules.specs.declared.segment.FixKind.TheVariants.{Low, High, Both}
-use Rattle.object_modules.specs.declared.segment.Segment.{Segment}
-use Rattle.object_modules.specs.Before.{content_end, is_empty}
-use Rattle.object_modules.specs.Module.{is_both, width_of}
-use Rattle.object_modules.specs.Parts.{Content}
-use Rattle.object_modules.specs.Rules.{fix_end, is_within}
-use Rattle.object_modules.specs.Spelling.{FixedContent}
-use Rattle.object_modules.specs.Stored.{IsStored, are_longest, content_of_run, fixes_ascend, is_in_a_run}
-use Rattle.object_modules.specs.Text.{Run}
-use Rattle.object_modules.proofs.ReadBack.{both}
-use Rattle.object_modules.proofs.StoredRuns.{Longest, beyond_less, run_at}
-use Rattle.objmod.specs.internal.Keeping.{before_kept, open_run, is_in, runs_kept, fix_at, fix_table, listed, fixes_by_place, kept_segment, Placed, Clear, AllFit}
+use Rattle.objmod.proofs.Prelude.{◌≡◌, ℕ, zero, suc, ◌+◌, ◌<◌, ◌≤◌, Bool, true, false, cond, not, ◌&&◌, ◌||◌, ◌==◌, nat_lt, nat_le, List, [], ◌∷◌, ◌++◌, length, flat_map, filter, Option, Some, None, refl, sym, subst, arith, list_all, and_from, eqb-true, eqb-false, leb-true, le-leb, lt-ltb, length-append, same_Some, Alignment, Fix, FixKind, Low, High, Both, Segment, content_end, is_empty, is_both, width_of, Content, fix_end, is_within, FixedContent, IsStored, are_longest, content_of_run, fixes_ascend, is_in_a_run, Run, both, Longest, beyond_less, run_at, before_kept, open_run, is_in, runs_kept, fix_at, fix_table, listed, fixes_by_place, kept_segment, Placed, Clear, AllFit}
 use Rattle.objmod.proofs.Kept.{found_there}
 
 -- The runs.

@@ -1,13 +1,5 @@
 -- A segment that is put together content by content is what is kept of the contents.
-use Rattle.std.proofs.Common.{◌≡◌, ℕ, zero, suc, ◌+◌, ◌≢◌, Bool, true, false, cond, ◌&&◌, ◌==◌, List, [], ◌∷◌, ◌++◌, length, flat_map, filter, replicate, Some, None, is_none, refl, ap, sym, ◌∙◌, arith}
-use Rattle.std.proofs.lemmas.Bool.{eqb-true, eqb-false, eq-eqb, ne_eqb}
-use Rattle.std.proofs.lemmas.List.{length-append, append-nil, append_assoc}
-use Rattle.object_modules.specs.declared.segment.Fix.{Fix}
-use Rattle.object_modules.specs.declared.segment.Segment.{Segment}
-use Rattle.object_modules.specs.Spelling.{FixedContent}
-use Rattle.object_modules.specs.Text.{Run}
-use Rattle.object_modules.proofs.StoredRuns.{run_at}
-use Rattle.objmod.specs.internal.Keeping.{Opened, before_kept, open_run, is_in, runs_kept, fix_at, fix_table, fixes_by_place, nothing_opened, closed_runs, goes_on, with_bytes, with_content, kept_in, put_fix, put_all}
+use Rattle.objmod.proofs.Prelude.{◌≡◌, ℕ, zero, suc, ◌+◌, ◌≢◌, Bool, true, false, cond, ◌&&◌, ◌==◌, List, [], ◌∷◌, ◌++◌, length, flat_map, filter, replicate, Some, None, is_none, refl, ap, sym, ◌∙◌, arith, eqb-true, eqb-false, eq-eqb, ne_eqb, length-append, append-nil, append_assoc, Fix, Segment, FixedContent, Run, run_at, Opened, before_kept, open_run, is_in, runs_kept, fix_at, fix_table, fixes_by_place, nothing_opened, closed_runs, goes_on, with_bytes, with_content, kept_in, put_fix, put_all}
 
 -- the runs of a segment, where these are to come
 abbrev pub made : Opened → List (Run ℕ) → List (Run ℕ)

@@ -1,8 +1,5 @@
 -- One more public name after others.
-use Rattle.std.proofs.Common.{◌≡◌, List, [], ◌∷◌, ◌++◌, map, refl, ap}
-use Rattle.object_modules.specs.declared.public.OwnedPublic.{OwnedPublic}
-use Rattle.object_modules.specs.Module.{Public}
-use Rattle.object_modules.specs.Views.{owned_public_view}
+use Rattle.objmod.proofs.Prelude.{◌≡◌, List, [], ◌∷◌, ◌++◌, map, refl, ap, OwnedPublic, Public, owned_public_view}
 
 pub publics_more :
     (done : List OwnedPublic) (made : OwnedPublic) (left : List Public)

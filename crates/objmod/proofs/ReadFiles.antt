@@ -1,14 +1,5 @@
 -- The module that a walk over a file tells is the one that the file spells.
-use Rattle.std.proofs.Common.{◌≡◌, ℕ, suc, ◌<◌, ◌^◌, List, [], ◌∷◌, ◌++◌, slice_index_or, Fits, w8, ap, sym, subst, ◌∙◌, arith}
-use Rattle.omf80.proofs.Conditions.{IsBytes}
-use Rattle.object_modules.specs.Module.{IsObjectModule, ObjectModule}
-use Rattle.object_modules.specs.Spelling.{Spells}
-use Rattle.object_modules.specs.Text.{text_of, with_publics_in_order}
-use Rattle.object_modules.specs.Walking.{Walking, WalksOver, module_by}
-use Rattle.object_laws.proofs.Files.Valid.{spelled_is_object}
-use Rattle.object_laws.proofs.Files.Walks.{module_is}
-use Rattle.object_laws.proofs.Texts.WrittenAgain.{more_not_read, written_read}
-use Rattle.objmod.specs.internal.Keeping.{ContentsFit}
+use Rattle.objmod.proofs.Prelude.{◌≡◌, ℕ, suc, ◌<◌, ◌^◌, List, [], ◌∷◌, ◌++◌, slice_index_or, Fits, w8, ap, sym, subst, ◌∙◌, arith, IsBytes, IsObjectModule, ObjectModule, Spells, text_of, with_publics_in_order, Walking, WalksOver, module_by, spelled_is_object, module_is, more_not_read, written_read, ContentsFit}
 use Rattle.objmod.proofs.ContentsFit.{contents_fit}
 
 -- what the code has as bytes

@@ -1,19 +1,5 @@
 -- The parts that are put together of a walk are those of the module that it tells.
-use Rattle.std.proofs.Common.{◌≡◌, ℕ, true, List, ◌++◌, filter, map, ap, sym, subst, ◌∙◌}
-use Rattle.std.specs.List.{list_all}
-use Rattle.std.proofs.lemmas.Bool.{and_parts}
-use Rattle.std.proofs.lemmas.List.Folds.{list_all-append}
-use Rattle.object_modules.specs.declared.object.ModuleParts.{ModuleParts}
-use Rattle.object_modules.specs.declared.segment.Alignment.{Alignment}
-use Rattle.object_modules.specs.declared.segment.Segment.{Segment}
-use Rattle.object_modules.specs.declared.segment.Segment.TheVariants.{Code, Data}
-use Rattle.symbols.specs.Names.{is_name}
-use Rattle.object_modules.specs.Module.{ObjectModule, IsObjectModule, Public}
-use Rattle.object_modules.specs.Spelling.{FixedContent}
-use Rattle.object_modules.specs.Stored.{StoredSegment, IsStored, places_stored}
-use Rattle.object_modules.specs.Views.{AreKept, module_of_parts}
-use Rattle.object_modules.specs.Walking.{Walking, module_by, places_by}
-use Rattle.objmod.specs.internal.Keeping.{ContentsFit, SegmentFits, is_in, kept_in, kept_segment, nothing_opened, put_together, runs_kept}
+use Rattle.objmod.proofs.Prelude.{◌≡◌, ℕ, true, List, ◌++◌, filter, map, ap, sym, subst, ◌∙◌, list_all, and_parts, list_all-append, ModuleParts, Alignment, Segment, Code, Data, is_name, ObjectModule, IsObjectModule, Public, FixedContent, StoredSegment, IsStored, places_stored, AreKept, module_of_parts, Walking, module_by, places_by, ContentsFit, SegmentFits, is_in, kept_in, kept_segment, nothing_opened, put_together, runs_kept}
 use Rattle.objmod.specs.internal.Told.{IsPutTogether}
 use Rattle.objmod.proofs.Kept.{kept_places}
 use Rattle.objmod.proofs.KeptStored.{kept_stored}

@@ -1,10 +1,5 @@
 -- What a reader gave, once all of it was read.
-use Rattle.std.proofs.Common.{◌≡◌, ℕ, List, [], Option, subst}
-use Rattle.std.specs.Io.{appended_bytes}
-use Rattle.std.specs.Io.KnownBytes.{Consumes, IsAtEnd}
-use Rattle.object_modules.specs.declared.fault.Fault.{Fault}
-use Rattle.object_modules.specs.Module.{ObjectModule}
-use Rattle.object_modules.specs.Spelling.{HasFirstFault, Spells}
+use Rattle.objmod.proofs.Prelude.{◌≡◌, ℕ, List, [], Option, subst, appended_bytes, Consumes, IsAtEnd, Fault, ObjectModule, HasFirstFault, Spells}
 use Rattle.objmod.specs.Streams.{ReadsFault, ReadsModule, TakesSome}
 
 pub takes_some :

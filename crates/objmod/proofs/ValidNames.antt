@@ -1,10 +1,5 @@
 -- A name that is one already is the name that its characters are in a source.
-use Rattle.std.proofs.Common.{◌≡◌, ℕ, true, cond, not, ◌&&◌, ◌==◌, nat_le, List, [], ◌∷◌, length, map, filter, refl, ap, ◌∙◌, arith}
-use Rattle.std.specs.Char.{is_ascii_uppercase, to_ascii_uppercase}
-use Rattle.std.specs.List.{list_all}
-use Rattle.std.proofs.lemmas.Bool.{and_parts}
-use Rattle.std.proofs.lemmas.Grind.{common_steps}
-use Rattle.symbols.specs.Names.{is_name, is_name_character, name_of}
+use Rattle.objmod.proofs.Prelude.{◌≡◌, ℕ, true, cond, not, ◌&&◌, ◌==◌, nat_le, List, [], ◌∷◌, length, map, filter, refl, ap, ◌∙◌, arith, is_ascii_uppercase, to_ascii_uppercase, list_all, and_parts, common_steps, is_name, is_name_character, name_of}
 
 -- a character of a name is no dollar sign, and its own capital
 kept : (c : ℕ) → is_name_character c ≡ true → not (c == 36) ≡ true

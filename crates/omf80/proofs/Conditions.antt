@@ -1,8 +1,5 @@
 -- Lists of conditions, bytes, and words of two bytes.
-use Rattle.std.proofs.Common.{◌≡◌, ℕ, ◌+◌, ◌*◌, ◌/◌, ◌%◌, ◌<◌, Bool, true, false, cond, List, [], ◌∷◌, find, Some, None, refl, ap, subst, ◌∙◌, arith}
-use Rattle.std.specs.List.{AllByRecursion}
-use Rattle.std.proofs.lemmas.Option.{none-some, same_Some}
-use Rattle.omf80.specs.Records.{word_bytes, first_that_holds}
+use Rattle.omf80.proofs.Prelude.{◌≡◌, ℕ, ◌+◌, ◌*◌, ◌/◌, ◌%◌, ◌<◌, Bool, true, false, cond, List, [], ◌∷◌, find, Some, None, refl, ap, subst, ◌∙◌, arith, AllByRecursion, none-some, same_Some, word_bytes, first_that_holds}
 
 -- each number is a byte
 abbrev pub IsBytes : List ℕ → Type 0

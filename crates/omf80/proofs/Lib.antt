@@ -1,3 +1,4 @@
+mod Prelude
 pub mod Conditions
 pub mod RecordLaws
 pub mod RecordsAgain

@@ -1,11 +1,5 @@
 -- The fault of the record that bytes begin with, condition by condition, and the record where there is none.
-use Rattle.std.proofs.Common.{◌≡◌, ℕ, zero, suc, ◌-◌, ◌%◌, ◌<◌, ◌≤◌, Bool, true, false, not, ◌||◌, ◌==◌, nat_lt, List, [], ◌∷◌, ◌++◌, length, take, drop, sum, Option, Some, None, is_none, slice_index, refl, ap, sym, subst, ◌∙◌, arith}
-use Rattle.std.proofs.lemmas.Bool.{lt-ltb, le-ltb, eq-eqb, ne_eqb}
-use Rattle.std.proofs.lemmas.List.{length-drop}
-use Rattle.omf80.specs.declared.fault.Fault.{Fault}
-use Rattle.omf80.specs.declared.fault.Fault.TheVariants.{Truncated, WrongSum, WrongLength, UnknownType}
-use Rattle.omf80.specs.declared.kind.RecordKind.{RecordKind}
-use Rattle.omf80.specs.Records.{BeginsWith, type_byte, kind_of_type, stated_length, record_bytes, record_end, first_body, record_fault, first_that_holds}
+use Rattle.omf80.proofs.Prelude.{◌≡◌, ℕ, zero, suc, ◌-◌, ◌%◌, ◌<◌, ◌≤◌, Bool, true, false, not, ◌||◌, ◌==◌, nat_lt, List, [], ◌∷◌, ◌++◌, length, take, drop, sum, Option, Some, None, is_none, slice_index, refl, ap, sym, subst, ◌∙◌, arith, lt-ltb, le-ltb, eq-eqb, ne_eqb, length-drop, Fault, Truncated, WrongSum, WrongLength, UnknownType, RecordKind, BeginsWith, type_byte, kind_of_type, stated_length, record_bytes, record_end, first_body, record_fault, first_that_holds}
 use Rattle.omf80.proofs.Conditions.{IsBytes}
 use Rattle.omf80.proofs.RecordLaws.{begins}
 

@@ -1,14 +1,5 @@
 -- Bytes without a fault of records begin with a record.
-use Rattle.std.proofs.Common.{◌≡◌, ℕ, zero, suc, ◌+◌, ◌-◌, ◌*◌, ◌%◌, ◌<◌, ◌≤◌, min, Bool, true, false, not, ◌||◌, ◌==◌, nat_lt, List, [], ◌∷◌, ◌++◌, length, take, drop, sum, Option, Some, None, is_none, slice_index, refl, ap, sym, subst, ◌∙◌, arith}
-use Rattle.std.proofs.lemmas.Bool.{eqb-true, eqb-false, ltb-false, not-false}
-use Rattle.std.proofs.lemmas.List.{length-take, length-drop, append_assoc}
-use Rattle.omf80.specs.declared.kind.TheConstants.{BODY_LIMIT}
-use Rattle.omf80.specs.declared.fault.Fault.{Fault}
-use Rattle.omf80.specs.declared.fault.Fault.TheVariants.{Truncated, WrongSum, WrongLength, UnknownType}
-use Rattle.omf80.specs.declared.kind.RecordKind.{RecordKind}
-use Rattle.omf80.specs.Records.{type_byte, kinds, kind_of_type, word_bytes, record_bytes, record_end, first_body, record_fault}
-use Rattle.mem80.specs.Sums.{checksum_of}
-use Rattle.mem80.proofs.Sums.{checksum_is}
+use Rattle.omf80.proofs.Prelude.{◌≡◌, ℕ, zero, suc, ◌+◌, ◌-◌, ◌*◌, ◌%◌, ◌<◌, ◌≤◌, min, Bool, true, false, not, ◌||◌, ◌==◌, nat_lt, List, [], ◌∷◌, ◌++◌, length, take, drop, sum, Option, Some, None, is_none, slice_index, refl, ap, sym, subst, ◌∙◌, arith, eqb-true, eqb-false, ltb-false, not-false, length-take, length-drop, append_assoc, BODY_LIMIT, Fault, Truncated, WrongSum, WrongLength, UnknownType, RecordKind, type_byte, kinds, kind_of_type, word_bytes, record_bytes, record_end, first_body, record_fault, checksum_of, checksum_is}
 use Rattle.omf80.proofs.Conditions.{IsBytes, find_passes, none_holds, word_is}
 
 neither : (a b : Bool) → (a || b) ≡ false → (a ≡ false) × (b ≡ false)

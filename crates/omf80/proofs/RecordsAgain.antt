@@ -1,15 +1,6 @@
 -- What begins with the bytes of a record has no fault of records, and is read as that record.
-use Rattle.std.proofs.Common.{◌≡◌, ℕ, suc, ◌+◌, ◌-◌, ◌*◌, ◌/◌, ◌%◌, ◌≤◌, Bool, false, not, ◌||◌, ◌==◌, nat_lt, List, [], ◌∷◌, ◌++◌, length, take, drop, sum, Some, None, is_none, slice_index, refl, ap, sym, subst, ◌∙◌, arith}
-use Rattle.std.proofs.lemmas.Bool.{eq-eqb, ne_eqb, le-ltb}
-use Rattle.std.proofs.lemmas.List.{length-append, append_assoc, take_at, drop_at}
-use Rattle.mem80.specs.Sums.{checksum_of}
-use Rattle.mem80.proofs.Sums.{sum_with_last}
-use Rattle.omf80.specs.declared.kind.TheConstants.{BODY_LIMIT}
-use Rattle.omf80.specs.declared.fault.Fault.{Fault}
-use Rattle.omf80.specs.declared.fault.Fault.TheVariants.{Truncated, WrongSum, WrongLength, UnknownType}
-use Rattle.omf80.specs.declared.kind.RecordKind.{RecordKind}
+use Rattle.omf80.proofs.Prelude.{◌≡◌, ℕ, suc, ◌+◌, ◌-◌, ◌*◌, ◌/◌, ◌%◌, ◌≤◌, Bool, false, not, ◌||◌, ◌==◌, nat_lt, List, [], ◌∷◌, ◌++◌, length, take, drop, sum, Some, None, is_none, slice_index, refl, ap, sym, subst, ◌∙◌, arith, eq-eqb, ne_eqb, le-ltb, length-append, append_assoc, take_at, drop_at, checksum_of, sum_with_last, BODY_LIMIT, Fault, Truncated, WrongSum, WrongLength, UnknownType, RecordKind, type_byte, kind_of_type, record_bytes, record_end, first_body, record_fault, first_that_holds}
 use Rattle.omf80.specs.declared.kind.RecordKind.TheVariants.{Header, ExternalNames, Publics, Content, ExternalReferences, Relocation, IntersegmentReferences, ModuleEnd, EndOfFile}
-use Rattle.omf80.specs.Records.{type_byte, kind_of_type, record_bytes, record_end, first_body, record_fault, first_that_holds}
 
 pub kind_again : (kind : RecordKind) → kind_of_type (type_byte kind) ≡ Some kind
 kind_again Header = refl

@@ -1,14 +1,6 @@
 -- The bytes of a record, part by part.
-use Rattle.std.proofs.Common.{◌≡◌, ℕ, ◌+◌, ◌%◌, ◌<◌, List, [], ◌∷◌, ◌++◌, length, sum, slice_index, Option, Result, Ok, Err, OnOk, OnErr, refl, ap, sym, subst, ◌∙◌, arith}
-use Rattle.std.proofs.lemmas.List.{append_assoc, append-nil}
-use Rattle.std.specs.List.{fold}
-use Rattle.std.specs.Io.KnownBytes.{Appends}
-use Rattle.std.proofs.KnownBytes.{Appends-trans}
-use Rattle.mem80.specs.Sums.{checksum_of}
-use Rattle.mem80.proofs.Sums.{fold_append}
-use Rattle.omf80.specs.Records.{word_bytes, record_bytes}
+use Rattle.omf80.proofs.Prelude.{◌≡◌, ℕ, ◌+◌, ◌%◌, ◌<◌, List, [], ◌∷◌, ◌++◌, length, sum, slice_index, Option, Result, Ok, Err, OnOk, OnErr, refl, ap, sym, subst, ◌∙◌, arith, append_assoc, append-nil, fold, Appends, Appends-trans, checksum_of, fold_append, word_bytes, record_bytes, beginning_after}
 use Rattle.failure.specs.Writing.{AppendsBeginning}
-use Rattle.failure.proofs.WritingLemmas.{beginning_after}
 
 -- the front of a record with a body of a size: its type and its length
 abbrev pub heading_bytes : (type size : ℕ) → List ℕ

@@ -1,9 +1,5 @@
 -- What a claim of bytes one after another says of the table.
-use Rattle.std.proofs.Common.{◌≡◌, ℕ, zero, suc, ◌+◌, ◌-◌, ◌<◌, ◌≤◌, Bool, true, false, ◌&&◌, List, length, get_or, set, Some, None, if◌then◌else◌, refl, ap, sym, subst, ◌∙◌, arith}
-use mathlib.Core.Logic.{⊎_elim}
-use Rattle.std.proofs.lemmas.Bool.{cases_eq}
-use Rattle.std.proofs.lemmas.List.{length-set, get_or-set_same, get_or-set_other}
-use Rattle.placing.specs.internal.Claims.{claim_bytes, claim_between, are_claimed, claimed_between}
+use Rattle.placing.proofs.Prelude.{◌≡◌, ℕ, zero, suc, ◌+◌, ◌-◌, ◌<◌, ◌≤◌, Bool, true, false, ◌&&◌, List, length, get_or, set, Some, None, if◌then◌else◌, refl, ap, sym, subst, ◌∙◌, arith, ⊎_elim, cases_eq, length-set, get_or-set_same, get_or-set_other, claim_bytes, claim_between, are_claimed, claimed_between}
 
 -- the bytes from an address up to another were free, and are all that was added
 pub record BytesClaimed (start end : ℕ) (before after : List Bool) : Type 0 where

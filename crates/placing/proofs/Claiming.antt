@@ -1,13 +1,5 @@
 -- Claiming bytes one after another, and the tests on ranges.
-use Rattle.std.proofs.Common.{◌≡◌, ℕ, suc, ◌+◌, ◌-◌, ◌<◌, ◌≤◌, min, max, Bool, true, false, not, ◌&&◌, List, get_or, set, Option, Some, None, if◌then◌else◌, IsTrue, refl, ap, sym, ◌∙◌, arith}
-use Rattle.std.specs.Prelude.{◌↔◌, Decides}
-use Rattle.std.proofs.Math.Decide.{dec_le}
-use Rattle.std.proofs.lemmas.Bool.{le-leb, leb-true, ltb-true, lt-ltb, lt-leb}
-use Rattle.std.proofs.lemmas.Bool.Decides.{same_from_decides}
-use Rattle.mem80.specs.declared.range.Range.{Range}
-use Rattle.mem80.specs.Range.{Meets}
-use Rattle.layout.specs.Placement.{StaticPiece, ConstantPiece, EndsInMemory, range_of}
-use Rattle.placing.specs.internal.Claims.{claim_bytes, claim_between, are_claimed, claimed_between, ends_in_memory, ranges_meet, claim_by_kind, may_lie_at, ranges_fit}
+use Rattle.placing.proofs.Prelude.{◌≡◌, ℕ, suc, ◌+◌, ◌-◌, ◌<◌, ◌≤◌, min, max, Bool, true, false, not, ◌&&◌, List, get_or, set, Option, Some, None, if◌then◌else◌, IsTrue, refl, ap, sym, ◌∙◌, arith, ◌↔◌, Decides, dec_le, le-leb, leb-true, ltb-true, lt-ltb, lt-leb, same_from_decides, Range, Meets, StaticPiece, ConstantPiece, EndsInMemory, range_of, claim_bytes, claim_between, are_claimed, claimed_between, ends_in_memory, ranges_meet, claim_by_kind, may_lie_at, ranges_fit}
 
 one_more : (address end : ℕ) → address < end → end - address ≡ suc (end - suc address)
 one_more address end below = omega arith

@@ -1,17 +1,5 @@
 -- Where pieces lie lawfully, their bytes can be claimed, and those with AT may lie where they do.
-use Rattle.std.proofs.Common.{◌≡◌, ℕ, ◌+◌, ◌<◌, min, max, Bool, true, false, not, List, [], ◌∷◌, length, get_or, Some, refl, sym, arith}
-use Rattle.std.specs.Prelude.{All, filter}
-use Rattle.std.specs.List.{AllByRecursion}
-use mathlib.Core.Bool.{true≢false}
-use mathlib.Core.Logic.{inl, inr, ⊎_elim}
-use Rattle.std.proofs.lemmas.Bool.{and_parts, and_from}
-use Rattle.std.proofs.lemmas.List.{get_or_default}
-use Rattle.std.proofs.lemmas.List.Elements.{All-from_recursion, recursion_from_All}
-use Rattle.mem80.specs.declared.range.Range.{Range}
-use Rattle.mem80.specs.Range.{IsIn, Meets}
-use Rattle.layout.specs.Placement.{PieceKind, StaticPiece, ConstantPiece, AtPiece, PlacedPiece, EndsInMemory, IsOneOf, has_own_place, is_constant_piece}
-use Rattle.layout.specs.Lawful.{AreDisjoint, LiesIn}
-use Rattle.placing.specs.internal.Claims.{claim_pieces, claimed_between, ends_in_memory, ranges_meet, is_within, may_lie_at, unclaimed}
+use Rattle.placing.proofs.Prelude.{◌≡◌, ℕ, ◌+◌, ◌<◌, min, max, Bool, true, false, not, List, [], ◌∷◌, length, get_or, Some, refl, sym, arith, All, filter, AllByRecursion, true≢false, inl, inr, ⊎_elim, and_parts, and_from, get_or_default, All-from_recursion, recursion_from_All, Range, IsIn, Meets, PieceKind, StaticPiece, ConstantPiece, AtPiece, PlacedPiece, EndsInMemory, IsOneOf, has_own_place, is_constant_piece, AreDisjoint, LiesIn, claim_pieces, claimed_between, ends_in_memory, ranges_meet, is_within, may_lie_at, unclaimed}
 use Rattle.placing.proofs.Claiming.{ends_true, three, all_three}
 use Rattle.placing.proofs.ClaimedBytes.{between_each}
 use Rattle.placing.proofs.SomePieces.{Some_of, some_at, any_from_some, some_weaker, any_of_filter, all_of_filter, Pairs_of, pairs_of_filter}

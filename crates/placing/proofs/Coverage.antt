@@ -1,20 +1,7 @@
 -- Which bytes pieces have, by how far those reach that start at each address.
-use Rattle.std.proofs.Common.{◌≡◌, ℕ, zero, suc, ◌+◌, ◌<◌, ◌≤◌, min, max, Bool, true, false, cond, List, [], ◌∷◌, length, take, get_or, Decides, refl, ap, sym, subst, ◌∙◌, arith}
-use Rattle.std.specs.Prelude.{fold, filter, replicate, ◌||◌, ◌&&◌, nat_le, nat_lt}
-use Rattle.std.specs.List.{list_any}
-use Rattle.std.proofs.Math.Bool.{or_assoc}
-use Rattle.std.proofs.Math.Decide.{dec_le}
-use Rattle.std.proofs.lemmas.List.{length-set, length-replicate}
-use Rattle.std.proofs.lemmas.Bool.{false≢true}
-use Rattle.std.proofs.lemmas.Bool.Decides.{nat_tests}
-use Rattle.mem80.specs.declared.memory.TheConstants.{MEMORY_SIZE}
-use Rattle.mem80.specs.declared.range.Range.{Range}
-use Rattle.layout.specs.Placement.{PlacedPiece, IsOneOf, holds_byte, is_constant_piece}
-use Rattle.layout.proofs.Declared.{Decides-one_of}
+use Rattle.placing.proofs.Prelude.{◌≡◌, ℕ, zero, suc, ◌+◌, ◌<◌, ◌≤◌, min, max, Bool, true, false, cond, List, [], ◌∷◌, length, take, get_or, Decides, refl, ap, sym, subst, ◌∙◌, arith, fold, filter, replicate, ◌||◌, ◌&&◌, nat_le, nat_lt, list_any, or_assoc, dec_le, length-set, length-replicate, false≢true, nat_tests, MEMORY_SIZE, Range, PlacedPiece, IsOneOf, holds_byte, is_constant_piece, Decides-one_of, Undeclared, ReachTables, no_ends, no_reaches, end_of, raised, with_end, with_piece, with_pieces, reach_below, is_covered, byte_kind, kind_in}
 use Rattle.placing.specs.declared.placement.ByteKind.{ByteKind}
-use Rattle.placing.specs.declared.placement.ByteKind.TheVariants.{Undeclared}
 use Rattle.placing.specs.Tables.{IsKind, IsTableOf}
-use Rattle.placing.specs.internal.Reaches.{ReachTables, no_ends, no_reaches, end_of, raised, with_end, with_piece, with_pieces, reach_below, is_covered, byte_kind, kind_in}
 
 -- a greatest number with one more
 fold_with :

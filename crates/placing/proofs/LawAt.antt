@@ -1,24 +1,5 @@
 -- Objects with AT lie where that says, and apart from CODE and STACK where they are not refused.
-use Rattle.std.proofs.Common.{◌≡◌, ℕ, suc, ◌+◌, ◌%◌, ◌<◌, ◌≤◌, Bool, true, false, List, [], ◌∷◌, ◌++◌, length, refl, sym, ap, subst, ◌∙◌}
-use Rattle.std.specs.Prelude.{option_map, ◌&&◌, ◌||◌, filter_map, slice_index}
-use Rattle.std.specs.List.{AllByRecursion, cons_option, enumerate_from}
-use Rattle.std.proofs.lemmas.Bool.{ltb-false, true≢false}
-use Rattle.std.proofs.lemmas.List.{append_assoc, length-append, get_or_append_left}
-use Rattle.mem80.specs.declared.range.Range.{Range}
-use Rattle.mem80.specs.Range.{Meets}
-use Rattle.typed_trees.specs.declared.parts.AtAddress.TheVariants.{AtNumber, AtObject}
-use Rattle.typed_trees.specs.declared.parts.AtAddress.{AtAddress}
-use Rattle.typed_trees.specs.TypedTrees.{Home, InData, InConstants, Placed, BasedOn, Elsewhere, Nowhere, InFrame, TypedObject, TypedModule}
-use Rattle.typed_trees.specs.Sizes.{size_of_object}
-use Rattle.typed_trees.specs.Storable.{LooksBack}
-use Rattle.layout.specs.declared.slot.Slot.{Slot}
-use Rattle.layout.specs.Storage.{bytes_in_data, is_object, constants_before}
-use Rattle.layout.specs.internal.Offsets.{slot_at}
-use Rattle.layout.specs.Placement.{ModulePlacement, AtPiece, PlacedPiece, range_of, kind_of, piece_of, object_piece}
-use Rattle.layout.specs.Lawful.{LiesByHome}
-use Rattle.layout.specs.Following.{Bases}
-use Rattle.layout.specs.Placing.{passes_memory, overlaps, has_at, may_not_lie, is_misplaced, address_by_home}
-use Rattle.layout.proofs.Ranges.{overlaps_meets}
+use Rattle.placing.proofs.Prelude.{◌≡◌, ℕ, suc, ◌+◌, ◌%◌, ◌<◌, ◌≤◌, Bool, true, false, List, [], ◌∷◌, ◌++◌, length, refl, sym, ap, subst, ◌∙◌, option_map, ◌&&◌, ◌||◌, filter_map, slice_index, AllByRecursion, cons_option, enumerate_from, ltb-false, true≢false, append_assoc, length-append, get_or_append_left, Range, Meets, AtNumber, AtObject, AtAddress, Home, InData, InConstants, Placed, BasedOn, Elsewhere, Nowhere, InFrame, TypedObject, TypedModule, size_of_object, LooksBack, Slot, bytes_in_data, is_object, constants_before, slot_at, ModulePlacement, AtPiece, PlacedPiece, range_of, kind_of, piece_of, object_piece, LiesByHome, Bases, passes_memory, overlaps, has_at, may_not_lie, is_misplaced, address_by_home, overlaps_meets}
 use Rattle.placing.proofs.LawStorage.{slots_of, list_slots_of, all_slots}
 use Rattle.placing.proofs.LawPieces.{InPlace, slot_piece}
 use Rattle.placing.proofs.LawModule.{addresses_from, placed_from, address_here}

@@ -1,11 +1,5 @@
 -- What holds of each element of a list and of each pair, by recursion on the list.
-use Rattle.std.proofs.Common.{◌≡◌, Bool, true, false, List, [], ◌∷◌, ◌++◌, map, refl, sym, cond}
-use Rattle.std.specs.Prelude.{AllPairs, filter, find, Some, None}
-use Rattle.std.specs.List.{AllByRecursion}
-use Rattle.std.proofs.lemmas.Option.{none-some}
-use Rattle.std.proofs.lemmas.List.Elements.{All-from_recursion}
-use Rattle.std.proofs.lemmas.List.Kept.{AllPairs-cons}
-use Rattle.std.proofs.Common.{arith}
+use Rattle.placing.proofs.Prelude.{◌≡◌, Bool, true, false, List, [], ◌∷◌, ◌++◌, map, refl, sym, cond, AllPairs, filter, find, Some, None, AllByRecursion, none-some, All-from_recursion, AllPairs-cons, arith}
 
 -- R holds of each element and each later one
 abbrev pub EachPair : {X : Type 0} → (X → X → Type 0) → List X → Type 0

@@ -1,18 +1,5 @@
 -- What a module has lies as its storage and AT say.
-use Rattle.std.proofs.Common.{◌≡◌, ℕ, ◌+◌, List, [], ◌∷◌, ◌++◌, map, refl, sym, ap, ◌∙◌, append-nil}
-use Rattle.std.specs.Prelude.{Option, option_map, zip, filter, filter_map}
-use Rattle.std.specs.List.{cons_option}
-use Rattle.std.proofs.lemmas.List.{append_assoc}
-use Rattle.std.proofs.lemmas.List.Elements.{filter-append}
-use Rattle.typed_trees.specs.TypedTrees.{Home, InData, InConstants, Placed, BasedOn, Elsewhere, Nowhere, InFrame, TypedObject, TypedModule}
-use Rattle.typed_trees.specs.Sizes.{size_of_object}
-use Rattle.layout.specs.declared.slot.Segment.TheVariants.{Code, Data}
-use Rattle.layout.specs.declared.slot.Slot.{Slot}
-use Rattle.layout.specs.Storage.{bytes_in_data, is_object, constants_before, slot_of_list}
-use Rattle.layout.specs.internal.Offsets.{slot_at}
-use Rattle.layout.specs.Placement.{ModulePlacement, PlacedPiece, kind_of, piece_of, object_piece, list_piece, pieces_of_module, has_own_place}
-use Rattle.layout.specs.Following.{Bases, address_of_slot}
-use Rattle.layout.specs.Placing.{address_by_home, addresses_after}
+use Rattle.placing.proofs.Prelude.{◌≡◌, ℕ, ◌+◌, List, [], ◌∷◌, ◌++◌, map, refl, sym, ap, ◌∙◌, append-nil, Option, option_map, zip, filter, filter_map, cons_option, append_assoc, filter-append, Home, InData, InConstants, Placed, BasedOn, Elsewhere, Nowhere, InFrame, TypedObject, TypedModule, size_of_object, Code, Data, Slot, bytes_in_data, is_object, constants_before, slot_of_list, slot_at, ModulePlacement, PlacedPiece, kind_of, piece_of, object_piece, list_piece, pieces_of_module, has_own_place, Bases, address_of_slot, address_by_home, addresses_after}
 use Rattle.placing.proofs.LawStorage.{slots_of, list_slots_of, all_slots, own_slots}
 use Rattle.placing.proofs.LawPieces.{slot_piece}
 

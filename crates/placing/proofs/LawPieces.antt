@@ -1,17 +1,5 @@
 -- What a module has lies in its segments, where these lie in memory.
-use Rattle.std.proofs.Common.{◌≡◌, ℕ, ◌+◌, ◌-◌, ◌%◌, ◌<◌, ◌≤◌, length, arith}
-use Rattle.std.proofs.Math.Nat.{mod-le, mod-eq_of_lt}
-use Rattle.mem80.specs.declared.range.Range.{Range}
-use Rattle.mem80.specs.Range.{IsIn, Meets}
-use Rattle.typed_trees.specs.TypedTrees.{TypedModule}
-use Rattle.typed_trees.specs.Weight.{constant_bytes}
-use Rattle.layout.specs.declared.slot.Segment.{Segment}
-use Rattle.layout.specs.declared.slot.Segment.TheVariants.{Code, Data}
-use Rattle.layout.specs.declared.slot.Slot.{Slot}
-use Rattle.layout.specs.Storage.{data_bytes}
-use Rattle.layout.specs.Placement.{PieceKind, StaticPiece, ConstantPiece, AtPiece, PlacedPiece, range_of, EndsInMemory}
-use Rattle.layout.specs.Lawful.{AreDisjoint}
-use Rattle.layout.specs.Following.{Bases, address_of_slot}
+use Rattle.placing.proofs.Prelude.{◌≡◌, ℕ, ◌+◌, ◌-◌, ◌%◌, ◌<◌, ◌≤◌, length, arith, mod-le, mod-eq_of_lt, Range, IsIn, Meets, TypedModule, constant_bytes, Segment, Code, Data, Slot, data_bytes, PieceKind, StaticPiece, ConstantPiece, AtPiece, PlacedPiece, range_of, EndsInMemory, AreDisjoint, Bases, address_of_slot}
 use Rattle.placing.proofs.LawStorage.{Apart, apart_swap, FitsIn, Fits}
 use Rattle.placing.proofs.LawSlots.{ApartIn, SlotsApart}
 

@@ -1,25 +1,5 @@
 -- The placement that a plan gives is lawful where the plan is not refused.
-use Rattle.std.proofs.Common.{◌≡◌, ℕ, zero, suc, ◌+◌, ◌<◌, Bool, true, false, List, [], ◌∷◌, length, map, if◌then◌else◌, refl, sym, ap, subst, ◌∙◌, cond, arith}
-use Rattle.std.specs.Prelude.{Option, Some, None, option_map, ◌||◌, zip, filter, flat_map, find, slice_index_or, All, Any}
-use Rattle.std.specs.List.{AllByRecursion}
-use Rattle.std.specs.Option.{option_or}
-use Rattle.std.proofs.lemmas.Bool.{true≢false}
-use Rattle.std.proofs.lemmas.Option.{none-some}
-use Rattle.std.proofs.lemmas.List.{length-map}
-use Rattle.std.proofs.lemmas.List.Elements.{recursion_from_All, All-from_recursion}
-use Rattle.mem80.specs.declared.range.Range.{Range}
-use Rattle.mem80.specs.Range.{IsIn, Meets}
-use Rattle.typed_trees.specs.declared.module.Typed.{Typed}
-use Rattle.typed_trees.specs.Views.{module_view}
-use Rattle.typed_trees.specs.TypedTrees.{TypedObject, TypedModule}
-use Rattle.typed_trees.specs.Storable.{IsStorable}
-use Rattle.layout.specs.Storage.{data_bytes}
-use Rattle.layout.specs.Placement.{ModulePlacement, Placement, PieceKind, StaticPiece, ConstantPiece, AtPiece, PlacedPiece, EndsInMemory, pieces_of_module, is_constant_piece, has_own_place}
-use Rattle.layout.specs.Lawful.{HasAddresses, LiesWhereAtSays, LiesIn, AreDisjoint, IsLawful}
-use Rattle.layout.specs.Placing.{Plan, PassesMemory, RangesOverlap, ObjectMisplaced, code_range, data_range, stack_range, bases_from, placement_by, passes_memory, overlaps, segment_too_large, past_memory, overlapping, is_misplaced, placed_objects, first_misplaced, placing_refusal}
-use Rattle.mem80.specs.declared.plan.Plan.{Plan as CodePlan}
-use Rattle.placing.specs.Segments.{HoldsConstants, HaveStorage}
-use Rattle.placing.specs.Views.{plan_view}
+use Rattle.placing.proofs.Prelude.{◌≡◌, ℕ, zero, suc, ◌+◌, ◌<◌, Bool, true, false, List, [], ◌∷◌, length, map, if◌then◌else◌, refl, sym, ap, subst, ◌∙◌, cond, arith, Option, Some, None, option_map, ◌||◌, zip, filter, flat_map, find, slice_index_or, All, Any, AllByRecursion, option_or, true≢false, none-some, length-map, recursion_from_All, All-from_recursion, Range, IsIn, Meets, Typed, module_view, TypedObject, TypedModule, IsStorable, data_bytes, ModulePlacement, Placement, PieceKind, StaticPiece, ConstantPiece, AtPiece, PlacedPiece, EndsInMemory, pieces_of_module, is_constant_piece, has_own_place, HasAddresses, LiesWhereAtSays, LiesIn, AreDisjoint, IsLawful, Plan, PassesMemory, RangesOverlap, ObjectMisplaced, code_range, data_range, stack_range, bases_from, placement_by, passes_memory, overlaps, segment_too_large, past_memory, overlapping, is_misplaced, placed_objects, first_misplaced, placing_refusal, CodePlan, HoldsConstants, HaveStorage, plan_view}
 use Rattle.placing.proofs.LawLists.{each_filter, none_found, pairs_all}
 use Rattle.placing.proofs.LawPieces.{LiesWithin, LiesByKind, InPlace}
 use Rattle.placing.proofs.LawAt.{no_overlap, ends_in_memory, three_false}

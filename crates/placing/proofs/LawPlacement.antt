@@ -1,18 +1,5 @@
 -- The modules of a program lie apart from each other.
-use Rattle.std.proofs.Common.{◌≡◌, ℕ, ◌+◌, ◌≤◌, false, List, [], map, refl, sym, ap, subst, ◌∙◌}
-use Rattle.std.specs.Prelude.{zip, filter, filter_map}
-use Rattle.std.specs.List.{AllByRecursion, enumerate_from}
-use Rattle.std.proofs.lemmas.List.{length-map}
-use Rattle.std.proofs.lemmas.List.Elements.{recursion_from_All, All-from_recursion}
-use Rattle.mem80.specs.declared.range.Range.{Range}
-use Rattle.typed_trees.specs.TypedTrees.{TypedObject, TypedModule}
-use Rattle.typed_trees.specs.Storable.{LooksBack, IsStorable}
-use Rattle.typed_trees.specs.Weight.{constant_bytes}
-use Rattle.layout.specs.Storage.{data_bytes, storage_with}
-use Rattle.layout.specs.Placement.{ModulePlacement, range_of, object_piece, list_piece, pieces_of_module, has_own_place}
-use Rattle.layout.specs.Lawful.{HasAddresses, LiesByHome, LiesWhereAtSays, AreDisjoint}
-use Rattle.layout.specs.Following.{Bases, address_of_slot}
-use Rattle.layout.specs.Placing.{is_misplaced, addresses_after, module_placement_by}
+use Rattle.placing.proofs.Prelude.{◌≡◌, ℕ, ◌+◌, ◌≤◌, false, List, [], map, refl, sym, ap, subst, ◌∙◌, zip, filter, filter_map, AllByRecursion, enumerate_from, length-map, recursion_from_All, All-from_recursion, Range, TypedObject, TypedModule, LooksBack, IsStorable, constant_bytes, data_bytes, storage_with, ModulePlacement, range_of, object_piece, list_piece, pieces_of_module, has_own_place, HasAddresses, LiesByHome, LiesWhereAtSays, AreDisjoint, Bases, address_of_slot, is_misplaced, addresses_after, module_placement_by}
 use Rattle.placing.proofs.LawLists.{EachPair, each_append, each_map, each_weaker, each_first, each_second, pairs_map}
 use Rattle.placing.proofs.LawStorage.{Apart, slots_of, slots_are, list_slots_of, list_slots_are, Fits, all_slots, own_slots, slots_fit}
 use Rattle.placing.proofs.LawSlots.{SlotsApart, slots_apart}

@@ -1,20 +1,5 @@
 -- The modules of a program, one after another, lie apart.
-use Rattle.std.proofs.Common.{◌≡◌, ℕ, ◌+◌, ◌<◌, ◌≤◌, true, List, [], ◌∷◌, length, map, sym, subst, arith}
-use Rattle.std.specs.Prelude.{zip, filter, flat_map, sum, sum_by}
-use Rattle.std.specs.List.{AllByRecursion}
-use Rattle.std.proofs.lemmas.Bool.{false≢true}
-use Rattle.std.proofs.lemmas.List.Sums.{sum_by-cons}
-use Rattle.std.proofs.lemmas.List.Elements.{filter-append}
-use Rattle.mem80.specs.declared.range.Range.{Range}
-use Rattle.mem80.specs.Range.{Meets}
-use Rattle.typed_trees.specs.TypedTrees.{TypedModule}
-use Rattle.typed_trees.specs.Storable.{IsStorable}
-use Rattle.layout.specs.Storage.{data_bytes, storage_with}
-use Rattle.layout.specs.Placement.{ModulePlacement, PieceKind, StaticPiece, ConstantPiece, AtPiece, PlacedPiece, range_of, pieces_of_module, has_own_place}
-use Rattle.layout.specs.Lawful.{HasAddresses, LiesWhereAtSays, AreDisjoint}
-use Rattle.layout.specs.Following.{Bases}
-use Rattle.layout.specs.Placing.{bases_from, module_placement_by, placed_objects}
-use Rattle.placing.specs.Segments.{HoldsConstants}
+use Rattle.placing.proofs.Prelude.{◌≡◌, ℕ, ◌+◌, ◌<◌, ◌≤◌, true, List, [], ◌∷◌, length, map, sym, subst, arith, zip, filter, flat_map, sum, sum_by, AllByRecursion, false≢true, sum_by-cons, filter-append, Range, Meets, TypedModule, IsStorable, data_bytes, storage_with, ModulePlacement, PieceKind, StaticPiece, ConstantPiece, AtPiece, PlacedPiece, range_of, pieces_of_module, has_own_place, HasAddresses, LiesWhereAtSays, AreDisjoint, Bases, bases_from, module_placement_by, placed_objects, HoldsConstants}
 use Rattle.placing.proofs.LawLists.{EachPair, each_append, each_weaker, each_filter, each_between, each_first, each_second, pairs_append}
 use Rattle.placing.proofs.LawStorage.{Apart, apart_swap}
 use Rattle.placing.proofs.LawPieces.{LiesWithin, LiesByKind, InPlace, never_meet}

@@ -1,17 +1,5 @@
 -- In the storage of a module, no two slots of a segment have a byte in common.
-use Rattle.std.proofs.Common.{◌≡◌, ℕ, ◌+◌, ◌≤◌, Bool, true, List, [], ◌∷◌, length, arith}
-use Rattle.std.specs.List.{AllByRecursion, cons_option}
-use Rattle.std.proofs.lemmas.Bool.{false≢true, eqb-true}
-use Rattle.typed_trees.specs.declared.parts.ConstantItem.TheVariants.{ConstantObject, ConstantList}
-use Rattle.typed_trees.specs.declared.parts.ConstantItem.{ConstantItem}
-use Rattle.typed_trees.specs.TypedTrees.{Home, InData, InConstants, Placed, BasedOn, Elsewhere, Nowhere, InFrame, TypedObject, TypedModule}
-use Rattle.typed_trees.specs.Sizes.{size_of_object}
-use Rattle.typed_trees.specs.Storable.{IsStorable}
-use Rattle.layout.specs.declared.slot.Segment.{Segment}
-use Rattle.layout.specs.declared.slot.Segment.TheVariants.{Code, Data}
-use Rattle.layout.specs.declared.slot.Slot.{Slot}
-use Rattle.layout.specs.Storage.{bytes_in_data, is_object, is_list, constants_before}
-use Rattle.layout.specs.internal.Offsets.{slot_at}
+use Rattle.placing.proofs.Prelude.{◌≡◌, ℕ, ◌+◌, ◌≤◌, Bool, true, List, [], ◌∷◌, length, arith, AllByRecursion, cons_option, false≢true, eqb-true, ConstantObject, ConstantList, ConstantItem, Home, InData, InConstants, Placed, BasedOn, Elsewhere, Nowhere, InFrame, TypedObject, TypedModule, size_of_object, IsStorable, Segment, Code, Data, Slot, bytes_in_data, is_object, is_list, constants_before, slot_at}
 use Rattle.placing.proofs.LawLists.{EachPair, pairs_append}
 use Rattle.placing.proofs.LawStorage.{Apart, Stands, stand_apart, slots_of, list_slots_of, StandsByHome, ObjectsStand, ListsStand, objects_stand, lists_stand, all_slots, own_slots}
 

@@ -1,23 +1,5 @@
 -- In the storage of a module, no two slots of a segment have a byte in common, and each lies in its segment.
-use Rattle.std.proofs.Common.{◌≡◌, ℕ, ◌+◌, ◌-◌, ◌<◌, ◌≤◌, Bool, true, false, List, [], ◌∷◌, ◌++◌, length, take, map, cond, refl, sym, ap, subst, ◌∙◌, arith}
-use Rattle.std.specs.Prelude.{not, ◌||◌, ◌==◌, sum_by, take_while, filter_map, slice_get, Option, Some}
-use Rattle.std.specs.List.{AllByRecursion, cons_option, enumerate_from, list_any}
-use Rattle.std.specs.Option.{option_map_or}
-use Rattle.std.proofs.lemmas.Bool.{false≢true, eq-eqb, eqb-true}
-use Rattle.std.proofs.lemmas.List.{append_assoc, length-append}
-use Rattle.std.proofs.lemmas.List.Sums.{sum_by-append, sum_by-cons, take_while-cons}
-use Rattle.std.proofs.Math.Seq.{take-append_seam}
-use Rattle.typed_trees.specs.declared.parts.ConstantItem.TheVariants.{ConstantObject, ConstantList}
-use Rattle.typed_trees.specs.declared.parts.ConstantItem.{ConstantItem}
-use Rattle.typed_trees.specs.TypedTrees.{Home, InData, InConstants, Placed, BasedOn, Elsewhere, Nowhere, InFrame, TypedObject, TypedModule}
-use Rattle.typed_trees.specs.Sizes.{size_of_object}
-use Rattle.typed_trees.specs.Storable.{object_in, list_in, constant_number, numbered_constant, numbers_from, IsStorable}
-use Rattle.typed_trees.specs.Weight.{size_of_constant, constant_bytes}
-use Rattle.layout.specs.declared.slot.Segment.{Segment}
-use Rattle.layout.specs.declared.slot.Segment.TheVariants.{Code, Data}
-use Rattle.layout.specs.declared.slot.Slot.{Slot}
-use Rattle.layout.specs.Storage.{bytes_in_data, data_bytes, is_object, is_list, constants_before, slot_of_object, slot_of_list, storage_with}
-use Rattle.layout.specs.internal.Offsets.{slot_at}
+use Rattle.placing.proofs.Prelude.{◌≡◌, ℕ, ◌+◌, ◌-◌, ◌<◌, ◌≤◌, Bool, true, false, List, [], ◌∷◌, ◌++◌, length, take, map, cond, refl, sym, ap, subst, ◌∙◌, arith, not, ◌||◌, ◌==◌, sum_by, take_while, filter_map, slice_get, Option, Some, AllByRecursion, cons_option, enumerate_from, list_any, option_map_or, false≢true, eq-eqb, eqb-true, append_assoc, length-append, sum_by-append, sum_by-cons, take_while-cons, take-append_seam, ConstantObject, ConstantList, ConstantItem, Home, InData, InConstants, Placed, BasedOn, Elsewhere, Nowhere, InFrame, TypedObject, TypedModule, size_of_object, object_in, list_in, constant_number, numbered_constant, numbers_from, IsStorable, size_of_constant, constant_bytes, Segment, Code, Data, Slot, bytes_in_data, data_bytes, is_object, is_list, constants_before, slot_of_object, slot_of_list, storage_with, slot_at}
 use Rattle.placing.proofs.LawLists.{each_append, each_weaker}
 
 -- so many numbers from one on, and so many from another on, have none in common

@@ -1,3 +1,4 @@
+mod Prelude
 pub mod LawLists
 pub mod LawStorage
 pub mod LawSlots

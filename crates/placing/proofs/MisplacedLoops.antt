@@ -1,21 +1,5 @@
 -- The first misplaced object: among those of a module, and of all modules.
-use Rattle.std.proofs.Common.{◌≡◌, ℕ, ◌+◌, ◌<◌, ◌≤◌, List, ◌++◌, length, drop, get_or, map, Option, None, Some, option_map, refl, ap, sym, ◌∙◌}
-use Rattle.std.specs.Prelude.{flat_map, slice_get, zip}
-use Rattle.std.specs.List.{find}
-use Rattle.std.specs.Option.{option_or}
-use Rattle.std.proofs.Math.ListN.{drop_of_length-le}
-use Rattle.std.proofs.lemmas.List.Concat.{flat_map-cons}
-use Rattle.std.proofs.lemmas.List.Folds.{find-append}
-use Rattle.mem80.specs.declared.range.Range.{Range}
-use Rattle.typed_trees.specs.declared.module.Typed.{Typed}
-use Rattle.typed_trees.specs.TypedTrees.{TypedObject, TypedModule}
-use Rattle.typed_trees.specs.Views.{module_view, object_view}
-use Rattle.layout.specs.Placement.{ModulePlacement}
-use Rattle.layout.specs.Placing.{is_misplaced, placed_objects}
-use Rattle.layout.proofs.Sums.{view_first}
-use Rattle.placing.specs.declared.placement.ModulePlacement.{ModulePlacement as CodeModulePlacement}
-use Rattle.placing.specs.Views.{module_placement_view}
-use Rattle.placing.specs.internal.Placings.{name_of_misplaced}
+use Rattle.placing.proofs.Prelude.{◌≡◌, ℕ, ◌+◌, ◌<◌, ◌≤◌, List, ◌++◌, length, drop, get_or, map, Option, None, Some, option_map, refl, ap, sym, ◌∙◌, flat_map, slice_get, zip, find, option_or, drop_of_length-le, flat_map-cons, find-append, Range, Typed, TypedObject, TypedModule, module_view, object_view, ModulePlacement, is_misplaced, placed_objects, view_first, CodeModulePlacement, module_placement_view, name_of_misplaced}
 use Rattle.placing.proofs.Passes.{found_first, found_none, zip_nothing}
 
 abbrev name_of : TypedObject × ℕ → List ℕ

@@ -1,21 +1,5 @@
 -- What is left of a list that is looked at by a number, and one pass over the modules.
-use Rattle.std.proofs.Common.{◌≡◌, ℕ, zero, suc, ◌+◌, ◌-◌, ◌≤◌, List, [], ◌∷◌, ◌++◌, length, take, drop, get_or, map, None, Some, refl, ap, sym, ◌∙◌, add-one, append_assoc, arith}
-use Rattle.std.specs.Prelude.{slice_get, sum, zip}
-use Rattle.std.proofs.Math.Seq.{drop-cons}
-use Rattle.std.proofs.lemmas.List.{take_all, map-append}
-use Rattle.std.proofs.lemmas.List.Sums.{sum_by-cons}
-use Rattle.std.proofs.lemmas.Option.{slice_get_within, get_or_from_slice_get, none-some}
-use Rattle.typed_trees.specs.declared.module.Typed.{Typed}
-use Rattle.typed_trees.specs.Views.{module_view}
-use Rattle.layout.specs.declared.slot.Layout.{Layout}
-use Rattle.layout.specs.Following.{Bases}
-use Rattle.layout.specs.Placement.{ModulePlacement}
-use Rattle.layout.specs.Placing.{module_placement_by}
-use Rattle.layout.specs.Storage.{Storage}
-use Rattle.layout.specs.Views.{layout_view}
-use Rattle.placing.specs.declared.placement.ModulePlacement.{ModulePlacement as CodeModulePlacement}
-use Rattle.placing.specs.Views.{module_placement_view}
-use Rattle.placing.specs.internal.Placings.{bases_after, placements_from, layout_sizes}
+use Rattle.placing.proofs.Prelude.{◌≡◌, ℕ, zero, suc, ◌+◌, ◌-◌, ◌≤◌, List, [], ◌∷◌, ◌++◌, length, take, drop, get_or, map, None, Some, refl, ap, sym, ◌∙◌, add-one, append_assoc, arith, slice_get, sum, zip, drop-cons, take_all, map-append, sum_by-cons, slice_get_within, get_or_from_slice_get, none-some, Typed, module_view, Layout, Bases, ModulePlacement, module_placement_by, Storage, layout_view, CodeModulePlacement, module_placement_view, bases_after, placements_from, layout_sizes}
 
 -- where there is an item, and where there is none
 pub found_first :

@@ -1,15 +1,5 @@
 -- What the claims of pieces say: each may lie where it does, no two share a byte, and the table has their bytes.
-use Rattle.std.proofs.Common.{◌≡◌, ℕ, ◌+◌, ◌<◌, ◌≤◌, Bool, true, false, not, List, [], ◌∷◌, length, get_or, Option, Some, None, refl, ap, sym, ◌∙◌, arith}
-use Rattle.std.specs.Prelude.{◌⊎◌, option_and_then}
-use Rattle.std.specs.List.{AllByRecursion}
-use mathlib.Core.Bool.{true≢false}
-use mathlib.Core.Logic.{inl, inr, ⊎_elim}
-use Rattle.std.proofs.lemmas.Bool.{and_parts, cases_lt}
-use Rattle.mem80.specs.declared.range.Range.{Range}
-use Rattle.mem80.specs.Range.{IsIn}
-use Rattle.layout.specs.Placement.{PieceKind, StaticPiece, ConstantPiece, AtPiece, PlacedPiece, EndsInMemory, has_own_place}
-use Rattle.layout.specs.Lawful.{AreDisjoint}
-use Rattle.placing.specs.internal.Claims.{claim_between, claim_if, may_hold_variables, may_hold_constants, ends_in_memory, ranges_meet, is_within, claim_by_kind, claim_piece, claim_pieces}
+use Rattle.placing.proofs.Prelude.{◌≡◌, ℕ, ◌+◌, ◌<◌, ◌≤◌, Bool, true, false, not, List, [], ◌∷◌, length, get_or, Option, Some, None, refl, ap, sym, ◌∙◌, arith, ◌⊎◌, option_and_then, AllByRecursion, true≢false, inl, inr, ⊎_elim, and_parts, cases_lt, Range, IsIn, PieceKind, StaticPiece, ConstantPiece, AtPiece, PlacedPiece, EndsInMemory, has_own_place, AreDisjoint, claim_between, claim_if, may_hold_variables, may_hold_constants, ends_in_memory, ranges_meet, is_within, claim_by_kind, claim_piece, claim_pieces}
 use Rattle.placing.proofs.Claiming.{ends, three}
 use Rattle.placing.proofs.ClaimedBytes.{BytesClaimed, between_claimed, between_can}
 use Rattle.placing.proofs.SomePieces.{Some_of, Pairs_of}

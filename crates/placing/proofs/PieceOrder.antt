@@ -1,16 +1,6 @@
 -- The claims of modules are those of the pieces of a program, in their order; and what is tested of objects with AT is
 -- tested of those pieces.
-use Rattle.std.proofs.Common.{◌≡◌, ℕ, Bool, true, ◌&&◌, List, [], ◌∷◌, ◌++◌, length, map, nat_eq, Option, Some, None, refl, ap, sym, ◌∙◌}
-use Rattle.std.specs.Prelude.{option_and_then, option_map, filter_map, flat_map, zip}
-use Rattle.std.specs.List.{AllByRecursion, cons_option}
-use Rattle.std.proofs.lemmas.Bool.{and_parts, eqb-true, eq-eqb}
-use Rattle.std.proofs.lemmas.List.Elements.{All-from_recursion, recursion_from_All}
-use Rattle.mem80.specs.declared.range.Range.{Range}
-use Rattle.typed_trees.specs.TypedTrees.{Home, InData, InConstants, Placed, BasedOn, Elsewhere, Nowhere, InFrame, TypedObject, TypedModule}
-use Rattle.typed_trees.specs.Sizes.{size_of_object}
-use Rattle.layout.specs.Placement.{ModulePlacement, PieceKind, StaticPiece, ConstantPiece, AtPiece, PlacedPiece, range_of, address_at, kind_of, piece_of, object_piece, list_piece, pieces_of_module}
-use Rattle.layout.specs.Lawful.{HasAddresses, LiesByHome, LiesWhereAtSays}
-use Rattle.placing.specs.internal.Claims.{claim_found, claim_piece, claim_pieces, claim_object, claim_objects, claim_lists, claim_module, claim_modules, may_lie_at, home_fits, object_fits, objects_fit, module_fits, modules_fit}
+use Rattle.placing.proofs.Prelude.{◌≡◌, ℕ, Bool, true, ◌&&◌, List, [], ◌∷◌, ◌++◌, length, map, nat_eq, Option, Some, None, refl, ap, sym, ◌∙◌, option_and_then, option_map, filter_map, flat_map, zip, AllByRecursion, cons_option, and_parts, eqb-true, eq-eqb, All-from_recursion, recursion_from_All, Range, Home, InData, InConstants, Placed, BasedOn, Elsewhere, Nowhere, InFrame, TypedObject, TypedModule, size_of_object, ModulePlacement, PieceKind, StaticPiece, ConstantPiece, AtPiece, PlacedPiece, range_of, address_at, kind_of, piece_of, object_piece, list_piece, pieces_of_module, HasAddresses, LiesByHome, LiesWhereAtSays, claim_found, claim_piece, claim_pieces, claim_object, claim_objects, claim_lists, claim_module, claim_modules, may_lie_at, home_fits, object_fits, objects_fit, module_fits, modules_fit}
 use Rattle.placing.proofs.Claiming.{three, all_three}
 use Rattle.placing.proofs.SomePieces.{all_join, all_left, all_right}
 

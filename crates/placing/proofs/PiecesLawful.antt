@@ -1,17 +1,5 @@
 -- Pieces lie lawfully just where their bytes can be claimed and those with AT may lie where they do.
-use Rattle.std.proofs.Common.{◌≡◌, ℕ, zero, suc, ◌+◌, ◌-◌, ◌<◌, ◌≤◌, min, max, Bool, true, false, not, ◌&&◌, ◌||◌, nat_eq, nat_le, List, [], ◌∷◌, length, get_or, replicate, Some, refl, ap, sym, ◌∙◌, arith}
-use Rattle.std.specs.Prelude.{◌⊎◌, All, AllPairs, filter}
-use Rattle.std.specs.List.{AllByRecursion}
-use mathlib.Core.Bool.{true≢false}
-use mathlib.Core.Logic.{inl, inr, ⊎_elim}
-use Rattle.std.proofs.lemmas.Bool.{and_parts, and_from, le-leb, leb-true, eqb-true, eqb-false}
-use Rattle.std.proofs.lemmas.List.{length-replicate}
-use Rattle.std.proofs.lemmas.List.Elements.{All-from_recursion}
-use Rattle.mem80.specs.declared.range.Range.{Range}
-use Rattle.mem80.specs.Range.{IsIn, Meets}
-use Rattle.layout.specs.Placement.{PieceKind, StaticPiece, ConstantPiece, AtPiece, PlacedPiece, EndsInMemory, IsOneOf, has_own_place, is_constant_piece}
-use Rattle.layout.specs.Lawful.{AreDisjoint, LiesIn}
-use Rattle.placing.specs.internal.Claims.{claim_pieces, claimed_between, ends_in_memory, ranges_meet, is_within, may_hold_variables, may_lie_at, unclaimed}
+use Rattle.placing.proofs.Prelude.{◌≡◌, ℕ, zero, suc, ◌+◌, ◌-◌, ◌<◌, ◌≤◌, min, max, Bool, true, false, not, ◌&&◌, ◌||◌, nat_eq, nat_le, List, [], ◌∷◌, length, get_or, replicate, Some, refl, ap, sym, ◌∙◌, arith, ◌⊎◌, All, AllPairs, filter, AllByRecursion, true≢false, inl, inr, ⊎_elim, and_parts, and_from, le-leb, leb-true, eqb-true, eqb-false, length-replicate, All-from_recursion, Range, IsIn, Meets, PieceKind, StaticPiece, ConstantPiece, AtPiece, PlacedPiece, EndsInMemory, IsOneOf, has_own_place, is_constant_piece, AreDisjoint, LiesIn, claim_pieces, claimed_between, ends_in_memory, ranges_meet, is_within, may_hold_variables, may_lie_at, unclaimed}
 use Rattle.placing.proofs.Claiming.{ends, meets_decides, three, not_true}
 use Rattle.placing.proofs.ClaimedBytes.{between_all}
 use Rattle.placing.proofs.SomePieces.{Some_of, some_from_any, any_in_filter, all_in_filter, all_weaker, all_both, pairs_in_filter}

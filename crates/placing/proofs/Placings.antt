@@ -1,27 +1,7 @@
 -- The placement by a plan, and its refusal, by what is found in turn.
-use Rattle.std.proofs.Common.{◌≡◌, ℕ, ◌+◌, ◌<◌, ◌≤◌, Bool, true, false, List, [], ◌∷◌, map, min, Option, None, Some, option_map, if◌then◌else◌, refl, ap, sym, ◌∙◌, arith}
-use Rattle.std.specs.Prelude.{◌||◌, find, sum, sum_by, zip, nat_lt}
-use Rattle.std.specs.Option.{option_or}
-use Rattle.std.proofs.Math.Decide.{dec_le}
-use Rattle.std.proofs.lemmas.Bool.{lt-ltb, ltb-false}
-use Rattle.std.proofs.lemmas.List.Sums.{sum_by-cons}
-use Rattle.std.proofs.lemmas.Option.{none-some}
-use Rattle.mem80.specs.declared.range.Range.{Range}
-use Rattle.typed_trees.specs.declared.module.Typed.{Typed}
-use Rattle.typed_trees.specs.TypedTrees.{TypedObject, TypedModule}
-use Rattle.typed_trees.specs.Views.{module_view}
-use Rattle.layout.specs.declared.slot.Layout.{Layout}
-use Rattle.layout.specs.Following.{Bases}
-use Rattle.layout.specs.Placement.{ModulePlacement, Placement, range_of}
-use Rattle.layout.specs.Placing.{Plan, SegmentTooLarge, ObjectMisplaced, code_range, data_range, stack_range, bases_from, module_placement_by, placement_by, placing_refusal, segment_too_large, past_memory, overlapping, is_misplaced, placed_objects, first_misplaced}
-use Rattle.layout.specs.Storage.{Storage, data_bytes, storage_with}
-use Rattle.layout.specs.Views.{layout_view}
+use Rattle.placing.proofs.Prelude.{◌≡◌, ℕ, ◌+◌, ◌<◌, ◌≤◌, Bool, true, false, List, [], ◌∷◌, map, min, Option, None, Some, option_map, if◌then◌else◌, refl, ap, sym, ◌∙◌, arith, ◌||◌, find, sum, sum_by, zip, nat_lt, option_or, dec_le, lt-ltb, ltb-false, sum_by-cons, none-some, Range, Typed, TypedObject, TypedModule, module_view, Layout, Bases, ModulePlacement, Placement, range_of, Plan, SegmentTooLarge, ObjectMisplaced, code_range, data_range, stack_range, bases_from, module_placement_by, placement_by, placing_refusal, segment_too_large, past_memory, overlapping, is_misplaced, placed_objects, first_misplaced, Storage, data_bytes, storage_with, layout_view, CodeModulePlacement, CodePlan, module_placement_view, plan_view, refusal_of, placements_from, code_placements, data_sizes, layout_sizes, range_refusal, name_of_misplaced}
 use Rattle.placing.specs.declared.fault.Fault.{Fault}
-use Rattle.placing.specs.declared.placement.ModulePlacement.{ModulePlacement as CodeModulePlacement}
-use Rattle.mem80.specs.declared.plan.Plan.{Plan as CodePlan}
 use Rattle.placing.specs.declared.ranges.Ranges.{Ranges}
-use Rattle.placing.specs.Views.{module_placement_view, plan_view, refusal_of}
-use Rattle.placing.specs.internal.Placings.{placements_from, code_placements, data_sizes, layout_sizes, range_refusal, name_of_misplaced}
 
 -- the placements of modules whose storage is theirs
 based : TypedModule × Bases → ModulePlacement

@@ -1,13 +1,5 @@
 -- Tests of ranges, where a length stops at the greatest of 32 bits.
-use Rattle.std.proofs.Common.{◌≡◌, ℕ, ◌+◌, ◌<◌, Bool, true, false, min, refl, ap, sym, ◌∙◌, arith}
-use Rattle.std.specs.Prelude.{◌↔◌, ◌||◌, IsTrue}
-use Rattle.std.proofs.Math.Decide.{dec_le}
-use Rattle.std.proofs.lemmas.Bool.{lt-ltb}
-use Rattle.mem80.specs.declared.range.Range.{Range}
-use Rattle.mem80.specs.Range.{Meets}
-use Rattle.layout.specs.Placement.{range_of}
-use Rattle.layout.specs.Placing.{overlaps, passes_memory, may_not_lie}
-use Rattle.layout.proofs.Ranges.{overlaps_meets}
+use Rattle.placing.proofs.Prelude.{◌≡◌, ℕ, ◌+◌, ◌<◌, Bool, true, false, min, refl, ap, sym, ◌∙◌, arith, ◌↔◌, ◌||◌, IsTrue, dec_le, lt-ltb, Range, Meets, range_of, overlaps, passes_memory, may_not_lie, overlaps_meets}
 
 -- two tests of one thing
 same_test : {P : Type 0} (a b : Bool) → IsTrue a ↔ P → IsTrue b ↔ P → a ≡ b

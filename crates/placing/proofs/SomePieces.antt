@@ -1,10 +1,5 @@
 -- Facts on some or all elements of a list, by recursion, and those of them that pass a test.
-use Rattle.std.proofs.Common.{◌≡◌, ℕ, zero, suc, ◌<◌, Bool, true, false, cond, List, [], ◌∷◌, ◌++◌, length, get_or, refl, sym, subst, arith}
-use Rattle.std.specs.Prelude.{◌⊎◌, All, AllPairs, Any, filter}
-use Rattle.std.specs.List.{AllByRecursion}
-use mathlib.Core.Logic.{inl, inr}
-use Rattle.std.proofs.lemmas.List.Elements.{All-from_recursion, recursion_from_All}
-use Rattle.std.proofs.lemmas.List.Kept.{AllPairs-cons}
+use Rattle.placing.proofs.Prelude.{◌≡◌, ℕ, zero, suc, ◌<◌, Bool, true, false, cond, List, [], ◌∷◌, ◌++◌, length, get_or, refl, sym, subst, arith, ◌⊎◌, All, AllPairs, Any, filter, AllByRecursion, inl, inr, All-from_recursion, recursion_from_All, AllPairs-cons}
 
 module _ {X : Type 0} where
   abbrev pub Some_of : (X → Type 0) → List X → Type 0

@@ -1,13 +1,5 @@
 -- Sums over what is left of the lengths and of the layouts.
-use Rattle.std.proofs.Common.{◌≡◌, ℕ, ◌+◌, ◌<◌, ◌≤◌, List, length, drop, get_or, map, min, ap, ◌∙◌, arith}
-use Rattle.std.specs.Prelude.{sum}
-use Rattle.std.proofs.Math.ListN.{drop_of_length-le}
-use Rattle.std.proofs.lemmas.List.Sums.{sum_by-cons}
-use Rattle.layout.specs.declared.slot.Layout.{Layout}
-use Rattle.layout.specs.Storage.{Storage}
-use Rattle.layout.specs.Views.{layout_view}
-use Rattle.layout.proofs.Sums.{left_first}
-use Rattle.placing.specs.internal.Placings.{layout_sizes}
+use Rattle.placing.proofs.Prelude.{◌≡◌, ℕ, ◌+◌, ◌<◌, ◌≤◌, List, length, drop, get_or, map, min, ap, ◌∙◌, arith, sum, drop_of_length-le, sum_by-cons, Layout, Storage, layout_view, left_first, layout_sizes}
 
 pub code_first :
     (lengths : List ℕ) (i : ℕ) (first : ℕ)

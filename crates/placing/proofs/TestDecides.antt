@@ -1,13 +1,5 @@
 -- The test of a placement decides whether it is lawful.
-use Rattle.std.proofs.Common.{◌≡◌, Bool, true, false, not, List, length, nat_eq, Option, None, Some, refl, ap, sym, ◌∙◌}
-use Rattle.std.specs.Prelude.{◌↔◌, IsTrue, zip}
-use Rattle.std.specs.Option.{option_map_or}
-use Rattle.std.proofs.lemmas.Bool.{eqb-true, eq-eqb}
-use Rattle.std.proofs.lemmas.List.Elements.{All-from_recursion, recursion_from_All}
-use Rattle.typed_trees.specs.TypedTrees.{TypedModule}
-use Rattle.layout.specs.Placement.{Placement, pieces_of}
-use Rattle.layout.specs.Lawful.{HasAddresses, LiesWhereAtSays, IsLawful}
-use Rattle.placing.specs.internal.Claims.{claim_modules, modules_fit, unclaimed, ends_in_memory, ranges_meet, ranges_fit, all_fit, is_lawful}
+use Rattle.placing.proofs.Prelude.{◌≡◌, Bool, true, false, not, List, length, nat_eq, Option, None, Some, refl, ap, sym, ◌∙◌, ◌↔◌, IsTrue, zip, option_map_or, eqb-true, eq-eqb, All-from_recursion, recursion_from_All, TypedModule, Placement, pieces_of, HasAddresses, LiesWhereAtSays, IsLawful, claim_modules, modules_fit, unclaimed, ends_in_memory, ranges_meet, ranges_fit, all_fit, is_lawful}
 use Rattle.placing.proofs.Claiming.{ends, ends_true, three, all_three}
 use Rattle.placing.proofs.PieceOrder.{modules_order, ModulesFit, modules_parts, modules_from}
 use Rattle.placing.proofs.PiecesLawful.{LieLawfully, lie_lawfully, apart, apart_true}

@@ -1,2 +1,3 @@
+mod Prelude
 pub mod ReportLemmas
 pub mod RunLemmas

@@ -1,15 +1,5 @@
 -- Lines, one after the other, in a text and at a writer.
-use Rattle.std.proofs.Common.{◌≡◌, ℕ, ◌+◌, ◌≤◌, ◌<◌, List, [], ◌∷◌, ◌++◌, length, take, drop, get_or, Option, sym, ap, ap₂, ◌∙◌, append_assoc, append-nil, take-append-drop, take_all, arith, Result, Ok, Err, OnErr}
-use Rattle.std.proofs.lemmas.Grind.{common_steps}
-use Rattle.std.proofs.lemmas.List.{take_more, take-append-le}
-use Rattle.std.proofs.lemmas.List.Concat.{flat_map-append}
-use Rattle.std.proofs.Math.Seq.{take-add, take-append-add}
-use Rattle.std.specs.List.{flat_map}
-use Rattle.ports.specs.declared.event.Event.{Event}
-use Rattle.std.specs.Io.KnownBytes.{Appends}
-use Rattle.printing.specs.Report.{line_of, report_of}
-use Rattle.failure.specs.Writing.{AppendsBeginning}
-use Rattle.failure.proofs.WritingLemmas.{beginning_after}
+use Rattle.printing.proofs.Prelude.{◌≡◌, ℕ, ◌+◌, ◌≤◌, ◌<◌, List, [], ◌∷◌, ◌++◌, length, take, drop, get_or, Option, sym, ap, ap₂, ◌∙◌, append_assoc, append-nil, take-append-drop, take_all, arith, Result, Ok, Err, OnErr, common_steps, take_more, take-append-le, flat_map-append, take-add, take-append-add, flat_map, Event, Appends, line_of, report_of, AppendsBeginning, beginning_after}
 
 -- the lines of the first events, and then those of the next ones
 pub lines_more : (events next : List Event) (i n : ℕ) → next ≡ take n (drop i events)

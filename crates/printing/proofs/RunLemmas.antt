@@ -1,24 +1,10 @@
 -- Runs after runs, and what is printed of them.
-use Rattle.std.proofs.Common.{◌≡◌, ℕ, ◌+◌, ◌-◌, ◌≤◌, List, [], ◌∷◌, ◌++◌, length, drop, Option, refl, sym, ap, subst, ◌∙◌, append_assoc, arith}
-use Rattle.std.proofs.lemmas.Grind.{common_steps}
-use Rattle.std.proofs.lemmas.List.Concat.{flat_map-append}
-use Rattle.std.specs.List.{flat_map}
-use Rattle.std.specs.Io.KnownBytes.{Appends}
-use Rattle.std.proofs.KnownBytes.{Appends-trans}
-use Rattle.ports.specs.declared.event.Event.{Event}
-use Rattle.ports.specs.Events.{IsBeginning}
-use Rattle.failure.specs.Writing.{AppendsBeginning}
-use Rattle.printing.specs.Report.{line_of, report_of}
+use Rattle.printing.proofs.Prelude.{◌≡◌, ℕ, ◌+◌, ◌-◌, ◌≤◌, List, [], ◌∷◌, ◌++◌, length, drop, Option, refl, sym, ap, subst, ◌∙◌, append_assoc, arith, common_steps, flat_map-append, flat_map, Appends, Appends-trans, Event, IsBeginning, AppendsBeginning, line_of, report_of}
 use Rattle.printing.proofs.ReportLemmas.{begun_report, first_begun, then_begun}
-use Rattle.isa8080.specs.State.{State}
-use Rattle.isa8080.specs.declared.registers.Status.{Status}
+use Rattle.isa8080.specs.{State.{State}, declared.registers.Status.{Status}, Step.{state_after}}
 use Rattle.isa8080.specs.declared.registers.Status.TheVariants as status
-use Rattle.isa8080.specs.Step.{state_after}
-use Rattle.isa8080.proofs.Endings.{state_after_sum}
-use Rattle.isa8080.proofs.Growing.{run_adds}
-use Rattle.cpu8080.specs.Machine.{Machine}
-use Rattle.cpu8080.specs.Runs.{ComesTo, IsRun}
-use Rattle.cpu8080.specs.declared.machine.End.{End}
+use Rattle.isa8080.proofs.{Endings.{state_after_sum}, Growing.{run_adds}}
+use Rattle.cpu8080.specs.{Machine.{Machine}, Runs.{ComesTo, IsRun}, declared.machine.End.{End}}
 use Rattle.cpu8080.specs.declared.machine.End.TheVariants as end
 use Rattle.cpu8080.proofs.MachineLemmas.{at_limit}
 use Rattle.printing.specs.Printing.{BeginsRun, end_word}

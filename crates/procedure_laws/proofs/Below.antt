@@ -1,11 +1,5 @@
 -- What lies on the stack below the room of a call.
-use Rattle.std.proofs.Common.{◌≡◌, ℕ, ◌+◌, ◌<◌, ◌≤◌, ◌⊎◌, inl, inr, List, Option, arith}
-use Rattle.mem80.specs.Memory.{byte_at}
-use Rattle.trees.specs.declared.declaration.ScalarType.{ScalarType}
-use Rattle.meaning.specs.Outcomes.{Program, State as SourceState}
-use Rattle.isa8080.specs.State.{State}
-use Rattle.code_meaning.specs.Activations.{PlacementLies}
-use Rattle.procedure_laws.specs.Calls.{ComesBack, IsOfCall}
+use Rattle.procedure_laws.proofs.Prelude.{◌≡◌, ℕ, ◌+◌, ◌<◌, ◌≤◌, ◌⊎◌, inl, inr, List, Option, arith, byte_at, ScalarType, Program, SourceState, State, PlacementLies, ComesBack, IsOfCall}
 
 -- a call leaves it as it was
 pub below_stays :

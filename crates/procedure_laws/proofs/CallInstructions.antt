@@ -1,45 +1,7 @@
 -- The CALL instruction: where the code from entries on does what calls mean, so does code from a CALL on.
-use Rattle.std.proofs.Common.{◌≡◌, ◌≢◌, ℕ, suc, ◌+◌, ◌-◌, ◌*◌, ◌<◌, ◌≤◌, ◌==◌, inl, inr, Bool, true, false, if◌then◌else◌, List, [], ◌∷◌, length, slice_set, nat_lt, Option, refl, sym, ap, subst, ◌∙◌, arith, ltb-false}
-use Rattle.std.specs.Option.{option_map_or}
-use Rattle.std.proofs.lemmas.Bool.{eqb-true, eqb-false}
-use Rattle.std.proofs.lemmas.List.{length-set}
-use Rattle.mem80.specs.declared.memory.TheConstants.{MEMORY_SIZE}
-use Rattle.mem80.specs.Memory.{byte_at}
-use Rattle.ports.specs.declared.event.Event.{Event}
-use Rattle.trees.specs.declared.declaration.ScalarType.{ScalarType}
-use Rattle.trees.specs.declared.declaration.ScalarType.TheVariants.{Byte, Address}
-use Rattle.typed_trees.specs.Charge.{charge_of}
-use Rattle.typed_trees.specs.TypedTrees.{TypedModule, TypedProcedure}
-use Rattle.typed_trees.specs.WellTyped.{Within}
-use Rattle.layout.specs.Joined.{InProgram}
-use Rattle.meaning.specs.declared.reason.Reason.TheVariants.{Stack}
-use Rattle.meaning.specs.Access.{Surroundings}
-use Rattle.meaning.specs.Meaning.{called, called_for, callee_in, charged, entered, later_by, procedure_at}
-use Rattle.meaning.specs.Outcomes.{State as SourceState, More, Outside, Outcome, Gave, Stopped, taking_one}
+use Rattle.procedure_laws.proofs.Prelude.{◌≡◌, ◌≢◌, ℕ, suc, ◌+◌, ◌-◌, ◌*◌, ◌<◌, ◌≤◌, ◌==◌, inl, inr, Bool, true, false, if◌then◌else◌, List, [], ◌∷◌, length, slice_set, nat_lt, Option, refl, sym, ap, subst, ◌∙◌, arith, ltb-false, option_map_or, eqb-true, eqb-false, length-set, MEMORY_SIZE, byte_at, Event, ScalarType, Byte, Address, charge_of, TypedModule, TypedProcedure, Within, InProgram, Stack, Surroundings, called, called_for, callee_in, charged, entered, later_by, procedure_at, SourceState, More, Outside, Outcome, Gave, Stopped, taking_one, Call, Running, act, Registers, State, high_byte, low_byte, two_less, wrap, running, step_of, CallTo, word_of, Keeps, one_below, pushed, pushed_is_pushed, pushed_keeps, two_below, Bor, FramePlan, Activation, Arrives, IsReady, IsThere, LiesWell, Owns, FrameLies, Does, IsLeft, Lands, at_place, word_step, after_paid_step, gives, landed, keeps_both, keeps_wider, owns_more, ready_after_push, ArgumentsLie, CallsDo, InRegister, InWord, ResultLies, bytes_pushed, does_same, gives_then, CallsAreKnown, ComesBack, Entries, IsOfCall, ReturnLies, Shape, activation_in, context_in, ModuleCode, ModuleLies, surroundings_in}
 use Rattle.meaning.proofs.AgreementStatements.{call_is}
-use Rattle.isa8080.specs.declared.instr.Instr.TheVariants.{Call}
-use Rattle.isa8080.specs.declared.registers.Status.TheVariants.{Running}
-use Rattle.isa8080.specs.Act.{act}
-use Rattle.isa8080.specs.State.{Registers, State, high_byte, low_byte, two_less, wrap}
-use Rattle.isa8080.specs.Step.{running, step_of}
 use Rattle.asm8080.specs.declared.item.Item.TheVariants as items
-use Rattle.asm8080.specs.declared.item.WordForm.TheVariants.{CallTo}
-use Rattle.asm8080.specs.Items.{word_of}
-use Rattle.asm8080.specs.Standing.{Keeps}
-use Rattle.asm8080.proofs.Calls.{one_below, pushed, pushed_is_pushed, pushed_keeps, two_below}
-use Rattle.std.specs.Borrow.{Bor}
-use Rattle.frames.specs.declared.frame_plan.FramePlan.{FramePlan}
-use Rattle.code_meaning.specs.Activations.{Activation, Arrives, IsReady, IsThere, LiesWell, Owns, FrameLies}
-use Rattle.code_meaning.specs.Landing.{Does, IsLeft, Lands, at_place}
-use Rattle.code_meaning.proofs.FirstItems.{word_step}
-use Rattle.code_meaning.proofs.Landing.{after_paid_step, gives, landed}
-use Rattle.code_meaning.proofs.Owning.{keeps_both, keeps_wider, owns_more}
-use Rattle.code_meaning.proofs.Pushes.{ready_after_push}
-use Rattle.task_laws.specs.Contexts.{ArgumentsLie, CallsDo, InRegister, InWord, ResultLies, bytes_pushed}
-use Rattle.task_laws.proofs.Machine.Stages.{does_same, gives_then}
-use Rattle.procedure_laws.specs.Calls.{CallsAreKnown, ComesBack, Entries, IsOfCall, ReturnLies}
-use Rattle.procedure_laws.specs.Contexts.{Shape, activation_in, context_in}
-use Rattle.procedure_laws.specs.Modules.{ModuleCode, ModuleLies, surroundings_in}
 use Rattle.procedure_laws.proofs.Callees.{IsCallee, callee_of}
 
 -- arguments lie where they do while the bytes above the stack pointer, A and HL stay

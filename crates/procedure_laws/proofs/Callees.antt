@@ -1,28 +1,9 @@
 -- What a call in a module calls: the procedure that it stands for, and the items of its CALL.
-use Rattle.std.proofs.Common.{◌≡◌, ◌≢◌, ℕ, ◌+◌, ◌<◌, ◌≤◌, ◌⊎◌, inl, inr, get_or, Bool, true, false, [], ◌∷◌, length, slice_get, Option, Some, None, option_map, refl, sym, ap, subst, ◌∙◌, arith}
-use Rattle.std.specs.Prelude.{IsSomeAnd}
-use Rattle.std.specs.Option.{option_and_then, unwrap_or}
-use Rattle.std.proofs.lemmas.Option.{slice_get_cases, slice_get_within}
-use Rattle.object_modules.specs.declared.segment.Target.TheVariants.{External as ExternalTarget}
-use Rattle.typed_trees.specs.declared.parts.Visibility.{Visibility}
+use Rattle.procedure_laws.proofs.Prelude.{◌≡◌, ◌≢◌, ℕ, ◌+◌, ◌<◌, ◌≤◌, ◌⊎◌, inl, inr, get_or, Bool, true, false, [], ◌∷◌, length, slice_get, Option, Some, None, option_map, refl, sym, ap, subst, ◌∙◌, arith, IsSomeAnd, option_and_then, unwrap_or, slice_get_cases, slice_get_within, ExternalTarget, Visibility, TypedModule, TypedProcedure, DeclaredProcedure, InProgram, agree, is_public_procedure, procedure_meant, callee_in, procedure_at, wrap, Reference, AtLabel, AtTarget, CallTo, word_of, ProcedureKind, TreeProcedure, external_number, is_global_procedure, kind_of, items_of_call, module_call_items, Entries, ModuleCode, ModuleLies, surroundings_in}
 use Rattle.typed_trees.specs.declared.parts.Visibility.TheVariants as visibilities
-use Rattle.typed_trees.specs.TypedTrees.{TypedModule, TypedProcedure}
-use Rattle.layout.specs.Joined.{DeclaredProcedure, InProgram, agree, is_public_procedure, procedure_meant}
 use Rattle.layout.proofs.Meant.{MeansProcedure, external_procedure_meant, procedures_agree}
-use Rattle.meaning.specs.Meaning.{callee_in, procedure_at}
-use Rattle.isa8080.specs.State.{wrap}
 use Rattle.asm8080.specs.declared.item.Item.TheVariants as items
-use Rattle.asm8080.specs.declared.item.Reference.{Reference}
-use Rattle.asm8080.specs.declared.item.Reference.TheVariants.{AtLabel, AtTarget}
-use Rattle.asm8080.specs.declared.item.WordForm.TheVariants.{CallTo}
-use Rattle.asm8080.specs.Items.{word_of}
-use Rattle.treecode.specs.declared.procedure.ProcedureKind.{ProcedureKind}
 use Rattle.treecode.specs.declared.procedure.ProcedureKind.TheVariants as kinds
-use Rattle.treecode.specs.declared.procedure.TreeProcedure.{TreeProcedure}
-use Rattle.treecode.specs.Homes.{external_number, is_global_procedure, kind_of}
-use Rattle.exprgen8080.specs.Emission.{items_of_call, module_call_items}
-use Rattle.procedure_laws.specs.Calls.{Entries}
-use Rattle.procedure_laws.specs.Modules.{ModuleCode, ModuleLies, surroundings_in}
 
 -- what a call of a procedure calls
 pub record IsCallee (code : ModuleCode) (entries : Entries) (procedure : ℕ) (heading : TypedProcedure) : Type 0 where

@@ -1,14 +1,5 @@
 -- Calls in a module of a program give values of their types, and leave bytes.
-use Rattle.std.specs.Prelude.{◌≡◌, ℕ, Some, slice_get}
-use Rattle.std.proofs.Common.{refl}
-use Rattle.typed_trees.specs.TypedTrees.{TypedModule}
-use Rattle.task_laws.specs.ProgramTypes.{HasTypes}
-use Rattle.task_laws.proofs.Ranges.NumbersOfTrees.{IsTypedCode, has_types}
-use Rattle.task_laws.proofs.Ranges.RangesOfCalls.{calls_fit}
-use Rattle.procedure_laws.specs.Calls.{Entries}
-use Rattle.procedure_laws.specs.Contexts.{context_in}
-use Rattle.procedure_laws.specs.Modules.{ModuleCode, ModuleLies}
-use Rattle.procedure_laws.specs.Premises.{CallsOfModuleFit}
+use Rattle.procedure_laws.proofs.Prelude.{◌≡◌, ℕ, Some, slice_get, refl, TypedModule, HasTypes, IsTypedCode, has_types, calls_fit, Entries, context_in, ModuleCode, ModuleLies, CallsOfModuleFit}
 
 -- a module whose code lies is one of tree code
 pub is_typed_code : (code : ModuleCode) (entries : Entries) → ModuleLies code entries → IsTypedCode code.typed

@@ -1,35 +1,7 @@
 -- The end of a procedure that is reached: its result is 0, and it returns.
-use Rattle.std.proofs.Common.{◌≡◌, ℕ, ◌+◌, List, [], ◌∷◌, ◌++◌, Option, Some, None, bit_xor, refl, sym, ap, subst, arith}
-use Rattle.std.specs.Int.Bits.{xor_self}
-use Rattle.ports.specs.declared.event.Event.{Event}
-use Rattle.trees.specs.declared.declaration.ScalarType.{ScalarType}
-use Rattle.trees.specs.declared.declaration.ScalarType.TheVariants.{Byte, Address}
-use Rattle.meaning.specs.Outcomes.{State as SourceState, Outcome}
-use Rattle.isa8080.specs.declared.instr.Instr.{Instr}
-use Rattle.isa8080.specs.declared.instr.Instr.TheVariants.{Lxi}
-use Rattle.isa8080.specs.declared.instr.Operation.TheVariants.{ExclusiveOr}
-use Rattle.isa8080.specs.declared.instr.Pair.TheVariants.{Hl}
-use Rattle.isa8080.specs.Arithmetic.{operate}
-use Rattle.isa8080.specs.State.{Registers, State}
-use Rattle.asm8080.specs.declared.item.Item.{Item}
+use Rattle.procedure_laws.proofs.Prelude.{◌≡◌, ℕ, ◌+◌, List, [], ◌∷◌, ◌++◌, Option, Some, None, bit_xor, refl, sym, ap, subst, arith, xor_self, Event, ScalarType, Byte, Address, SourceState, Outcome, Instr, Lxi, ExclusiveOr, Hl, operate, Registers, State, Item, size_of_instruction, IsReady, IsThere, LiesWell, Does, at_place, plain_first, after_plain, Facts, clear_a, AreWritten, NoneWritten, PlainWritten, Planned, plain, Here, AreCarriedOut, StepCarriedOut, carried_steps, here_after, site_of, waiting_after, end_steps, return_steps, zero_result_steps, ResultLies, ready_with_registers, BodyContext, ReturnStands}
 use Rattle.asm8080.specs.declared.item.Item.TheVariants as items
-use Rattle.asm8080.specs.Standing.{size_of_instruction}
-use Rattle.code_meaning.specs.Activations.{IsReady, IsThere, LiesWell}
-use Rattle.code_meaning.specs.Landing.{Does, at_place}
-use Rattle.code_meaning.proofs.FirstItems.{plain_first}
-use Rattle.code_meaning.proofs.Standing.{after_plain}
-use Rattle.steps8080.specs.declared.facts.Facts.{Facts}
 use Rattle.steps8080.specs.declared.step.Step.TheVariants as steps
-use Rattle.steps8080.specs.Instructions.{clear_a}
-use Rattle.exprgen8080.specs.Emission.{AreWritten, NoneWritten, PlainWritten}
-use Rattle.statements8080.specs.declared.plan.Planned.{Planned}
-use Rattle.statements8080.specs.Plans.{plain}
-use Rattle.codegen8080.specs.declared.meeting.Here.{Here}
-use Rattle.codegen8080.specs.Generated.{AreCarriedOut, StepCarriedOut, carried_steps, here_after, site_of, waiting_after}
-use Rattle.codegen8080.specs.Procedures.{end_steps, return_steps, zero_result_steps}
-use Rattle.task_laws.specs.Contexts.{ResultLies}
-use Rattle.task_laws.proofs.Machine.Rules.{ready_with_registers}
-use Rattle.statement_laws.specs.Bodies.{BodyContext, ReturnStands}
 
 -- a planned instruction, and what follows it
 pub record IsPlainFirst

@@ -1,15 +1,5 @@
 -- All calls of a program do what they mean, by the number of calls, turns and jumps that are left.
-use Rattle.std.proofs.Common.{◌≡◌, ℕ, zero, suc, ◌≤◌, List, slice_get, Option, Some, None, option_map, refl, sym, ap, ◌∙◌, arith}
-use Rattle.std.specs.Option.{option_and_then}
-use Rattle.std.proofs.lemmas.Option.{same_Some}
-use Rattle.typed_trees.specs.TypedTrees.{TypedModule, TypedProcedure}
-use Rattle.layout.specs.Joined.{InProgram}
-use Rattle.meaning.specs.Meaning.{later_by, procedure_at}
-use Rattle.meaning.specs.Outcomes.{Program}
-use Rattle.procedure_laws.specs.Calls.{CallsAreKnown, Entries}
-use Rattle.procedure_laws.specs.Modules.{ModuleCode, ModuleLies}
-use Rattle.procedure_laws.specs.OneModule.{AllCallsAreKnown, CallsFollow}
-use Rattle.procedure_laws.specs.Premises.{with_tree, CallsOfModuleFit, ListsAreDone}
+use Rattle.procedure_laws.proofs.Prelude.{◌≡◌, ℕ, zero, suc, ◌≤◌, List, slice_get, Option, Some, None, option_map, refl, sym, ap, ◌∙◌, arith, option_and_then, same_Some, TypedModule, TypedProcedure, InProgram, later_by, procedure_at, Program, CallsAreKnown, Entries, ModuleCode, ModuleLies, AllCallsAreKnown, CallsFollow, with_tree, CallsOfModuleFit, ListsAreDone}
 use Rattle.procedure_laws.proofs.Frames.FramesBegin.{reentrant_begins}
 use Rattle.procedure_laws.proofs.ProcedureCalls.{procedures_do}
 use Rattle.procedure_laws.proofs.Returns.ReturnsReentrant.{reentrant_returns}

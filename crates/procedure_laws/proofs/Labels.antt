@@ -1,11 +1,5 @@
 -- The labels of a body have numbers of their own: those of its lists are those that stand in its statements.
-use Rattle.std.proofs.Common.{◌≡◌, ◌≢◌, ℕ, zero, suc, ◌+◌, ◌<◌, ◌≤◌, ◌==◌, Bool, true, false, List, [], ◌∷◌, ◌++◌, length, slice_get, slice_index_or, Some, AllPairs, arith, refl, sym, ap, subst, ◌∙◌, eqb-true, eq-eqb, ne_eqb}
-use Rattle.std.specs.Prelude.{flat_map}
-use Rattle.std.proofs.lemmas.List.Kept.{AllPairs-cons}
-use Rattle.typed_trees.specs.Jumps.{IsNoLabel, JumpsAreSound, LabelsStand, ListStands, ListsStand, ListsStandInCases, ListsStandInElse, ListsStandInStatements, labels_in, labels_in_else, labels_in_list, labels_in_module, labels_in_procedure, labels_in_statements}
-use Rattle.typed_trees.specs.TypedTrees.{TypedModule, TypedProcedure, TypedStatement, LabelStatement, NullStatement, AssignmentStatement, CallStatement, MoveStatement, ReturnStatement, HaltStatement, GotoStatement, IfStatement, DoStatement, WhileStatement, IterateStatement, CaseStatement, TypedElse, NoElse, ElseStatement, TypedStatements, NoStatements, MoreStatements, TypedList, ListOf}
-use Rattle.treecode.specs.Lowered.{labels_numbered, labels_numbered_in_else, labels_numbered_in_list, labels_numbered_in_statements, numbers_from}
-use Rattle.statement_laws.proofs.Lists.{same_number}
+use Rattle.procedure_laws.proofs.Prelude.{◌≡◌, ◌≢◌, ℕ, zero, suc, ◌+◌, ◌<◌, ◌≤◌, ◌==◌, Bool, true, false, List, [], ◌∷◌, ◌++◌, length, slice_get, slice_index_or, Some, AllPairs, arith, refl, sym, ap, subst, ◌∙◌, eqb-true, eq-eqb, ne_eqb, flat_map, AllPairs-cons, IsNoLabel, JumpsAreSound, LabelsStand, ListStands, ListsStand, ListsStandInCases, ListsStandInElse, ListsStandInStatements, labels_in, labels_in_else, labels_in_list, labels_in_module, labels_in_procedure, labels_in_statements, TypedModule, TypedProcedure, TypedStatement, LabelStatement, NullStatement, AssignmentStatement, CallStatement, MoveStatement, ReturnStatement, HaltStatement, GotoStatement, IfStatement, DoStatement, WhileStatement, IterateStatement, CaseStatement, TypedElse, NoElse, ElseStatement, TypedStatements, NoStatements, MoreStatements, TypedList, ListOf, labels_numbered, labels_numbered_in_else, labels_numbered_in_list, labels_numbered_in_statements, numbers_from, same_number}
 
 -- how often a number stands in a list
 abbrev once : Bool → ℕ

@@ -1,3 +1,4 @@
+mod Prelude
 pub mod Trees
 pub mod Ways
 pub mod Labels

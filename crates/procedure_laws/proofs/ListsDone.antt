@@ -1,8 +1,5 @@
 -- The code of a list does what the list says, wherever it stands.
-use Rattle.statement_laws.proofs.Together.{statements_do}
-use Rattle.statement_laws.proofs.Written.{list_stands}
-use Rattle.task_laws.proofs.CarriedOut.{carry_out}
-use Rattle.procedure_laws.specs.Premises.{ListsAreDone}
+use Rattle.procedure_laws.proofs.Prelude.{statements_do, list_stands, carry_out, ListsAreDone}
 
 pub lists_are_done : ListsAreDone
 lists_are_done at facts range list last from to sound written there =

@@ -1,44 +1,10 @@
 -- The main program, from its start on.
-use Rattle.std.proofs.Common.{◌≡◌, ℕ, suc, ◌+◌, ◌-◌, ◌*◌, ◌≤◌, Bool, true, false, List, [], ◌∷◌, ◌++◌, length, refl, sym, ap, subst, arith}
-use Rattle.meaning.specs.Access.{frame_bytes}
+use Rattle.procedure_laws.proofs.Prelude.{◌≡◌, ℕ, suc, ◌+◌, ◌-◌, ◌*◌, ◌≤◌, Bool, true, false, List, [], ◌∷◌, ◌++◌, length, refl, sym, ap, subst, arith, frame_bytes, InSegment, charge_of, height_of_list, TypedProcedure, WithinMain, done_list, later_by, Ended, Flow, Gave, Jumped, More, Onward, Outcome, Outside, Returned, SourceState, Stopped, then_do, main_done, run_of, Hlt, Sp, Halted, Running, HoldBytes, Registers, State, wrap, AtTarget, LoadPair, word_of, TreeModule, HasBody, reaches_end_of_list, nodes_of, IsReady, IsThere, LiesWell, Owns, Shares, Does, IsLeft, Lands, at_place, plain_first, word_first, gives, keeps_all, AreThere, both_there, place_at, no_facts_hold, no_facts, IsListCarriedOut, then_does_where, BodyContext, IsSoundBody, Leaves, CallsAreKnown, Entries, activation_in, body_in, main_shape, MainStands, ModuleCode, ModuleLies, surroundings_in, with_tree, CallsOfModuleFit, ListsAreDone}
 use Rattle.object_modules.specs.declared.segment.Segment.TheVariants.{Stack}
-use Rattle.object_modules.specs.declared.segment.Target.TheVariants.{InSegment}
-use Rattle.typed_trees.specs.Charge.{charge_of, height_of_list}
-use Rattle.typed_trees.specs.TypedTrees.{TypedProcedure}
-use Rattle.typed_trees.specs.WellTyped.{WithinMain}
-use Rattle.meaning.specs.Meaning.{done_list, later_by}
-use Rattle.meaning.specs.Outcomes.{Ended, Flow, Gave, Jumped, More, Onward, Outcome, Outside, Returned, State as SourceState, Stopped, then_do}
-use Rattle.meaning.specs.Run.{main_done, run_of}
-use Rattle.isa8080.specs.declared.instr.Instr.TheVariants.{Hlt}
-use Rattle.isa8080.specs.declared.instr.Pair.TheVariants.{Sp}
-use Rattle.isa8080.specs.declared.registers.Status.TheVariants.{Halted, Running}
-use Rattle.isa8080.specs.State.{HoldBytes, Registers, State, wrap}
 use Rattle.asm8080.specs.declared.item.Item.TheVariants as items
-use Rattle.asm8080.specs.declared.item.Reference.TheVariants.{AtTarget}
-use Rattle.asm8080.specs.declared.item.WordForm.TheVariants.{LoadPair}
-use Rattle.asm8080.specs.Items.{word_of}
-use Rattle.treecode.specs.declared.module.TreeModule.{TreeModule}
-use Rattle.treecode.specs.Lowered.{HasBody, reaches_end_of_list}
-use Rattle.treecode.specs.Nodes.{nodes_of}
-use Rattle.code_meaning.specs.Activations.{IsReady, IsThere, LiesWell, Owns, Shares}
-use Rattle.code_meaning.specs.Landing.{Does, IsLeft, Lands, at_place}
-use Rattle.code_meaning.proofs.FirstItems.{plain_first, word_first}
-use Rattle.code_meaning.proofs.Landing.{gives}
-use Rattle.code_meaning.proofs.Owning.{keeps_all}
-use Rattle.code_meaning.proofs.Sequences.{AreThere, both_there}
 use Rattle.code_meaning.proofs.Standing.{after_word}
-use Rattle.code_meaning.specs.Holding.{place_at}
-use Rattle.code_meaning.proofs.Facts.Changes.{no_facts_hold}
-use Rattle.steps8080.specs.Facts.{no_facts}
-use Rattle.codegen8080.specs.Generated.{IsListCarriedOut}
-use Rattle.task_laws.proofs.Machine.Stages.{then_does_where}
-use Rattle.statement_laws.specs.Bodies.{BodyContext, IsSoundBody, Leaves}
-use Rattle.procedure_laws.specs.Calls.{CallsAreKnown, Entries}
-use Rattle.procedure_laws.specs.Contexts.{activation_in, body_in, main_shape}
 use Rattle.procedure_laws.specs.Main.{EndsAs}
-use Rattle.procedure_laws.specs.Modules.{MainStands, ModuleCode, ModuleLies, surroundings_in}
 use Rattle.procedure_laws.proofs.Trees.{lies_anywhere}
-use Rattle.procedure_laws.specs.Premises.{with_tree, CallsOfModuleFit, ListsAreDone}
 use Rattle.procedure_laws.proofs.CallInstructions.{charged_does}
 use Rattle.procedure_laws.proofs.Labels.{main_labels_differ}
 use Rattle.procedure_laws.proofs.ProcedureCalls.{charge_is}

@@ -1,16 +1,5 @@
 -- The code of one module does what the module says, by what calls do, or by what calls of other modules do alone.
-use Rattle.std.proofs.Common.{◌≡◌, ℕ, zero, suc, ◌≤◌, Bool, true, false, List, refl, ap, sym, subst, ◌∙◌, arith}
-use Rattle.std.specs.Prelude.{◌==◌, slice_get, Some}
-use Rattle.std.proofs.lemmas.Bool.{eq-eqb, eqb-true}
-use Rattle.std.proofs.lemmas.Option.{same_Some}
-use Rattle.typed_trees.specs.TypedTrees.{TypedModule}
-use Rattle.layout.specs.Joined.{is_main}
-use Rattle.meaning.specs.Meaning.{later_by}
-use Rattle.meaning.specs.Outcomes.{Program}
-use Rattle.task_laws.specs.ProgramTypes.{HasTypes}
-use Rattle.procedure_laws.specs.Calls.{Entries, EntryDoes}
-use Rattle.procedure_laws.specs.Modules.{MainStands, ModuleCode, ModuleLies}
-use Rattle.procedure_laws.specs.OneModule.{AllCallsAreKnown, ModuleDoes, OtherCallsAreKnown, OwnCallsAreKnown, in_module}
+use Rattle.procedure_laws.proofs.Prelude.{◌≡◌, ℕ, zero, suc, ◌≤◌, Bool, true, false, List, refl, ap, sym, subst, ◌∙◌, arith, ◌==◌, slice_get, Some, eq-eqb, eqb-true, same_Some, TypedModule, is_main, later_by, Program, HasTypes, Entries, EntryDoes, MainStands, ModuleCode, ModuleLies, AllCallsAreKnown, ModuleDoes, OtherCallsAreKnown, OwnCallsAreKnown, in_module}
 use Rattle.procedure_laws.proofs.CallsFitting.{calls_of_module_fit}
 use Rattle.procedure_laws.proofs.KnownCalls.{is_at, own_calls_follow}
 use Rattle.procedure_laws.proofs.ListsDone.{lists_are_done}

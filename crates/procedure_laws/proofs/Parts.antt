@@ -1,30 +1,5 @@
 -- A call from three parts: how its procedure begins, its statements, and how it returns.
-use Rattle.std.proofs.Common.{◌≡◌, ℕ, ◌+◌, ◌-◌, ◌*◌, ◌<◌, ◌≤◌, ◌⊎◌, inl, inr, Bool, true, false, List, [], length, Option, refl, sym, ap, subst, ◌∙◌, arith}
-use Rattle.trees.specs.declared.declaration.ScalarType.{ScalarType}
-use Rattle.typed_trees.specs.Charge.{height_of_list}
-use Rattle.typed_trees.specs.Jumps.{ListStands}
-use Rattle.typed_trees.specs.TypedTrees.{TypedProcedure}
-use Rattle.typed_trees.specs.WellTyped.{TypesHoldInList}
-use Rattle.meaning.specs.Meaning.{done_list, entered, value_of_flow}
-use Rattle.meaning.specs.Outcomes.{Flow, Gave, Jumped, Onward, Outcome, Returned, State as SourceState, then_do}
-use Rattle.isa8080.specs.State.{Registers, State, wrap}
-use Rattle.asm8080.specs.declared.item.Item.{Item}
-use Rattle.asm8080.specs.Standing.{Keeps}
-use Rattle.treecode.specs.declared.lists.Range.{Range}
-use Rattle.treecode.specs.Lowered.{IsList}
-use Rattle.code_meaning.specs.Activations.{Activation, IsReady, IsThere, LiesWell, Owns, Arrives}
-use Rattle.code_meaning.specs.Landing.{Does, at_place}
-use Rattle.code_meaning.proofs.Landing.{then_does}
-use Rattle.code_meaning.proofs.Owning.{keeps_both, keeps_wider}
-use Rattle.steps8080.specs.declared.facts.Facts.{Facts}
-use Rattle.codegen8080.specs.declared.meeting.Here.{Here}
-use Rattle.task_laws.specs.Contexts.{ResultLies, bytes_pushed, nodes_in}
-use Rattle.task_laws.proofs.Machine.Stages.{then_does_where}
-use Rattle.statement_laws.specs.Bodies.{BodyContext, ComesToReturn, GoesOn, Leaves, ReturnStands}
-use Rattle.statement_laws.specs.Statements.{ListDoes}
-use Rattle.procedure_laws.specs.Calls.{ComesBack, IsEntered, IsOfCall, ReturnLies}
-use Rattle.codegen8080.specs.Modules.{IsEndCode}
-use Rattle.procedure_laws.specs.Procedures.{BeginDoes, HasReturned, ReturnDoes}
+use Rattle.procedure_laws.proofs.Prelude.{◌≡◌, ℕ, ◌+◌, ◌-◌, ◌*◌, ◌<◌, ◌≤◌, ◌⊎◌, inl, inr, Bool, true, false, List, [], length, Option, refl, sym, ap, subst, ◌∙◌, arith, ScalarType, height_of_list, ListStands, TypedProcedure, TypesHoldInList, done_list, entered, value_of_flow, Flow, Gave, Jumped, Onward, Outcome, Returned, SourceState, then_do, Registers, State, wrap, Item, Keeps, Range, IsList, Activation, IsReady, IsThere, LiesWell, Owns, Arrives, Does, at_place, then_does, keeps_both, keeps_wider, Facts, Here, ResultLies, bytes_pushed, nodes_in, then_does_where, BodyContext, ComesToReturn, GoesOn, Leaves, ReturnStands, ListDoes, ComesBack, IsEntered, IsOfCall, ReturnLies, IsEndCode, BeginDoes, HasReturned, ReturnDoes}
 use Rattle.procedure_laws.proofs.Ends.{end_does}
 use Rattle.procedure_laws.proofs.Ways.{IsLeftBy, LeavesBy, Ways, no_jump}
 

@@ -1,20 +1,8 @@
 -- Planned steps whose items are written, one by one.
-use Rattle.std.proofs.Common.{◌≡◌, List, [], ◌∷◌, ◌++◌, None, refl, ap, ◌∙◌}
-use Rattle.isa8080.specs.declared.instr.Instr.{Instr}
-use Rattle.asm8080.specs.declared.item.Item.{Item}
+use Rattle.procedure_laws.proofs.Prelude.{◌≡◌, List, [], ◌∷◌, ◌++◌, None, refl, ap, ◌∙◌, Instr, Item, WordForm, Place, Facts, after, after_word, with_facts, word_item, AreWritten, HoldsWritten, NoneWritten, PlainWritten, WordWritten, Planned, holds, plain, Here, AreCarriedOut, NoneCarriedOut, StepCarriedOut, carried_steps, here_after, site_of, waiting_after, BodyContext}
 use Rattle.asm8080.specs.declared.item.Item.TheVariants as items
-use Rattle.asm8080.specs.declared.item.WordForm.{WordForm}
-use Rattle.treecode.specs.declared.place.Place.{Place}
-use Rattle.steps8080.specs.declared.facts.Facts.{Facts}
 use Rattle.steps8080.specs.declared.step.Step.TheVariants as steps
-use Rattle.steps8080.specs.Facts.{after, after_word, with_facts}
-use Rattle.steps8080.specs.Writer.{word_item}
-use Rattle.exprgen8080.specs.Emission.{AreWritten, HoldsWritten, NoneWritten, PlainWritten, WordWritten}
-use Rattle.statements8080.specs.declared.plan.Planned.{Planned}
-use Rattle.statements8080.specs.Plans.{holds, plain, word}
-use Rattle.codegen8080.specs.declared.meeting.Here.{Here}
-use Rattle.codegen8080.specs.Generated.{AreCarriedOut, NoneCarriedOut, StepCarriedOut, carried_steps, here_after, site_of, waiting_after}
-use Rattle.statement_laws.specs.Bodies.{BodyContext}
+use Rattle.statements8080.specs.Plans.{word}
 
 -- what is written after the first items, where this is known then
 pub record IsBehind

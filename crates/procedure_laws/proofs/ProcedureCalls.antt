@@ -1,41 +1,8 @@
 -- A module's own procedures do what calls of them mean, where calls of all procedures do so in runs of less.
-use Rattle.std.proofs.Common.{◌≡◌, ◌≢◌, ℕ, zero, suc, ◌+◌, ◌-◌, ◌*◌, ◌<◌, ◌≤◌, ◌⊎◌, inl, inr, Bool, true, false, List, [], ◌∷◌, ◌++◌, length, slice_get, Some, All, refl, sym, ap, subst, ◌∙◌, arith}
-use Rattle.std.specs.Borrow.{Bor}
-use Rattle.trees.specs.declared.declaration.ScalarType.{ScalarType}
-use Rattle.typed_trees.specs.declared.parts.Visibility.{Visibility}
+use Rattle.procedure_laws.proofs.Prelude.{◌≡◌, ◌≢◌, ℕ, zero, suc, ◌+◌, ◌-◌, ◌*◌, ◌<◌, ◌≤◌, ◌⊎◌, inl, inr, Bool, true, false, List, [], ◌∷◌, ◌++◌, length, slice_get, Some, All, refl, sym, ap, subst, ◌∙◌, arith, Bor, ScalarType, Visibility, charge_of, height_of_list, AreParameters, HasParameters, home_of_parameters, BodyIsSound, Home, TypedModule, TypedProcedure, TypesHoldInList, TypesHoldInProcedure, WithinProcedure, done_list, entered, later_by, SourceState, Registers, State, running, TreeModule, ProcedureKind, TreeProcedure, kind_of, IsProcedure, nodes_of, FramePlan, return_distance, return_of, parameter_count, has_parameters, numbered_at, IsThere, LiesWell, Does, at_place, AreThere, both_there, place_at, ArgumentsLie, FrameIsPlanned, bytes_pushed, BodyContext, IsSoundBody, CallsAreKnown, ComesBack, Entries, EntryDoes, IsEntered, Shape, activation_in, body_in, context_in, frame_shape, static_shape, ModuleCode, ModuleLies, ProcedureStands, bare, surroundings_in, Anywhere, with_tree, CallsOfModuleFit, IsBodyOf, ListsAreDone, ReentrantBegins, ReentrantReturns, StaticBegins, StaticReturns, frame_level, static_level, BeginDoes, ReturnDoes}
 use Rattle.typed_trees.specs.declared.parts.Visibility.TheVariants as visibilities
-use Rattle.typed_trees.specs.Charge.{charge_of, height_of_list}
-use Rattle.typed_trees.specs.Frames.{AreParameters, HasParameters, home_of_parameters}
-use Rattle.typed_trees.specs.Jumps.{BodyIsSound}
-use Rattle.typed_trees.specs.TypedTrees.{Home, TypedModule, TypedProcedure}
-use Rattle.typed_trees.specs.WellTyped.{TypesHoldInList, TypesHoldInProcedure, WithinProcedure}
-use Rattle.meaning.specs.Meaning.{done_list, entered, later_by}
-use Rattle.meaning.specs.Outcomes.{State as SourceState}
-use Rattle.isa8080.specs.State.{Registers, State}
-use Rattle.isa8080.specs.Step.{running}
-use Rattle.treecode.specs.declared.module.TreeModule.{TreeModule}
-use Rattle.treecode.specs.declared.procedure.ProcedureKind.{ProcedureKind}
 use Rattle.treecode.specs.declared.procedure.ProcedureKind.TheVariants as kinds
-use Rattle.treecode.specs.declared.procedure.TreeProcedure.{TreeProcedure}
-use Rattle.treecode.specs.Homes.{kind_of}
-use Rattle.treecode.specs.Lowered.{IsProcedure}
-use Rattle.treecode.specs.Nodes.{nodes_of}
-use Rattle.frames.specs.declared.frame_plan.FramePlan.{FramePlan}
-use Rattle.frames.specs.Frames.{return_distance, return_of}
-use Rattle.frames.proofs.Frames.{parameter_count}
-use Rattle.frames.proofs.Parameters.{has_parameters, numbered_at}
-use Rattle.code_meaning.specs.Activations.{IsThere, LiesWell}
-use Rattle.code_meaning.specs.Landing.{Does, at_place}
-use Rattle.code_meaning.proofs.Sequences.{AreThere, both_there}
-use Rattle.code_meaning.specs.Holding.{place_at}
-use Rattle.task_laws.specs.Contexts.{ArgumentsLie, FrameIsPlanned, bytes_pushed}
-use Rattle.statement_laws.specs.Bodies.{BodyContext, IsSoundBody}
-use Rattle.procedure_laws.specs.Calls.{CallsAreKnown, ComesBack, Entries, EntryDoes, IsEntered}
-use Rattle.procedure_laws.specs.Contexts.{Shape, activation_in, body_in, context_in, frame_shape, static_shape}
-use Rattle.procedure_laws.specs.Modules.{ModuleCode, ModuleLies, ProcedureStands, bare, surroundings_in}
 use Rattle.procedure_laws.proofs.Trees.{lies_anywhere}
-use Rattle.procedure_laws.specs.Premises.{Anywhere, with_tree, CallsOfModuleFit, IsBodyOf, ListsAreDone, ReentrantBegins, ReentrantReturns, StaticBegins, StaticReturns, frame_level, static_level}
-use Rattle.procedure_laws.specs.Procedures.{BeginDoes, ReturnDoes}
 use Rattle.procedure_laws.proofs.Callees.{tree_of}
 use Rattle.procedure_laws.proofs.Labels.{procedure_labels_differ}
 use Rattle.procedure_laws.proofs.Parts.{entered_does}

@@ -1,20 +1,5 @@
 -- Values that are put into memory one after another, in either order.
-use Rattle.std.proofs.Common.{◌≡◌, ◌≢◌, ℕ, zero, suc, ◌+◌, ◌/◌, ◌%◌, ◌<◌, ◌⊎◌, inl, inr, Bool, true, false, if◌then◌else◌, List, [], ◌∷◌, length, map, slice_get, slice_set, Some, refl, sym, ap, subst, ◌∙◌, arith}
-use Rattle.std.proofs.lemmas.List.{length-set, set_comm}
-use Rattle.mem80.specs.declared.memory.TheConstants.{MEMORY_SIZE}
-use Rattle.mem80.specs.Memory.{byte_at}
-use Rattle.trees.specs.declared.declaration.ScalarType.{ScalarType}
-use Rattle.trees.specs.declared.declaration.ScalarType.TheVariants.{Byte, Address}
-use Rattle.meaning.specs.Access.{Surroundings, InMemory, is_constant, is_declared, place_of, write_scalar}
-use Rattle.meaning.specs.declared.reason.Reason.{Reason}
-use Rattle.meaning.specs.declared.reason.Reason.TheVariants.{Byte as UndeclaredByte, Constant}
-use Rattle.meaning.specs.Meaning.{parameters_set}
-use Rattle.meaning.specs.Outcomes.{Gave, Outcome, Outside, Program, State as SourceState, Stopped, then_do}
-use Rattle.isa8080.specs.State.{State, wrap}
-use Rattle.asm8080.proofs.Kept.{byte_kept, byte_put}
-use Rattle.treecode.specs.declared.place.Place.{Place}
-use Rattle.code_meaning.specs.Activations.{IsVariable}
-use Rattle.code_meaning.specs.Landing.{Does}
+use Rattle.procedure_laws.proofs.Prelude.{◌≡◌, ◌≢◌, ℕ, zero, suc, ◌+◌, ◌/◌, ◌%◌, ◌<◌, ◌⊎◌, inl, inr, Bool, true, false, if◌then◌else◌, List, [], ◌∷◌, length, map, slice_get, slice_set, Some, refl, sym, ap, subst, ◌∙◌, arith, length-set, set_comm, MEMORY_SIZE, byte_at, ScalarType, Byte, Address, Surroundings, InMemory, is_constant, is_declared, place_of, write_scalar, Reason, UndeclaredByte, Constant, parameters_set, Gave, Outcome, Outside, Program, SourceState, Stopped, then_do, State, wrap, byte_kept, byte_put, Place, IsVariable, Does}
 
 -- a parameter in memory: its type, its object, its place and where that lies
 pub record Slot : Type 0 where

@@ -1,32 +1,6 @@
 -- The bodies of a module are carried out in what is asked of their contexts.
-use Rattle.std.proofs.Common.{◌≡◌, ◌≢◌, ℕ, suc, ◌+◌, ◌*◌, ◌<◌, ◌≤◌, Bool, true, false, if◌then◌else◌, List, length, slice_get, Option, Some, None, refl, sym, ap, ◌∙◌, arith, eq-eqb, eqb-true}
-use Rattle.std.specs.Prelude.{AllPairs, IsSomeAnd}
-use Rattle.std.specs.Borrow.{Bor}
-use Rattle.std.specs.Option.{option_map_or}
-use Rattle.trees.specs.declared.declaration.ScalarType.{ScalarType}
-use Rattle.typed_trees.specs.Frames.{is_in_frame}
-use Rattle.typed_trees.specs.Sizes.{size_of_object}
-use Rattle.typed_trees.specs.TypedTrees.{BasedOn, Elsewhere, Home, InConstants, InData, InFrame, Nowhere, Placed, TypedModule, TypedObject, TypedProcedure}
-use Rattle.typed_trees.specs.WellTyped.{Within, WithinMain, WithinProcedure}
-use Rattle.meaning.specs.Meaning.{later_by}
+use Rattle.procedure_laws.proofs.Prelude.{◌≡◌, ◌≢◌, ℕ, suc, ◌+◌, ◌*◌, ◌<◌, ◌≤◌, Bool, true, false, if◌then◌else◌, List, length, slice_get, Option, Some, None, refl, sym, ap, ◌∙◌, arith, eq-eqb, eqb-true, AllPairs, IsSomeAnd, Bor, option_map_or, ScalarType, is_in_frame, size_of_object, BasedOn, Elsewhere, Home, InConstants, InData, InFrame, Nowhere, Placed, TypedModule, TypedObject, TypedProcedure, Within, WithinMain, WithinProcedure, later_by, TreeModule, TreeProcedure, Item, frame_number, labels_numbered_in_list, FramePlan, IsPlanOf, distance_of, HasByte, ObjectsLie, lowered_framed, IsThere, LiesWell, no_facts, Body, CallsFit, FrameIsPlanned, IsSound, RoutineIsAt, IsSoundBody, IsWithin, CallsAreKnown, Entries, Shape, activation_in, body_in, context_in, frame_shape, main_shape, size_in_frame, static_shape, ModuleCode, ModuleLies, bare}
 use Rattle.runtime8080.specs.declared.routine.Routine.{Routine}
-use Rattle.treecode.specs.declared.module.TreeModule.{TreeModule}
-use Rattle.treecode.specs.declared.procedure.TreeProcedure.{TreeProcedure}
-use Rattle.asm8080.specs.declared.item.Item.{Item}
-use Rattle.treecode.specs.Homes.{frame_number}
-use Rattle.treecode.specs.Lowered.{labels_numbered_in_list}
-use Rattle.frames.specs.declared.frame_plan.FramePlan.{FramePlan}
-use Rattle.frames.specs.Frames.{IsPlanOf, distance_of}
-use Rattle.frames.specs.internal.Objects.{HasByte, ObjectsLie}
-use Rattle.frames.proofs.Objects.{lowered_framed}
-use Rattle.code_meaning.specs.Activations.{IsThere, LiesWell}
-use Rattle.steps8080.specs.Facts.{no_facts}
-use Rattle.statements8080.specs.declared.body.Body.{Body}
-use Rattle.task_laws.specs.Contexts.{CallsFit, FrameIsPlanned, IsSound, RoutineIsAt}
-use Rattle.statement_laws.specs.Bodies.{IsSoundBody, IsWithin}
-use Rattle.procedure_laws.specs.Calls.{CallsAreKnown, Entries}
-use Rattle.procedure_laws.specs.Contexts.{Shape, activation_in, body_in, context_in, frame_shape, main_shape, size_in_frame, static_shape}
-use Rattle.procedure_laws.specs.Modules.{ModuleCode, ModuleLies, bare}
 use Rattle.procedure_laws.proofs.CallInstructions.{calls_do}
 
 -- what stands in the code stands there for each activation

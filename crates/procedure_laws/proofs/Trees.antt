@@ -1,11 +1,5 @@
 -- What is said of the code of a module does not depend on where its tree code lies.
-use Rattle.std.proofs.Common.{◌≡◌, ℕ, sym, subst}
-use Rattle.std.specs.Borrow.{Bor}
-use Rattle.treecode.specs.declared.module.TreeModule.{TreeModule}
-use Rattle.treecode.specs.declared.procedure.TreeProcedure.{TreeProcedure}
-use Rattle.procedure_laws.specs.Calls.{Entries}
-use Rattle.procedure_laws.specs.Modules.{MainStands, ModuleCode, ModuleLies, ProcedureStands}
-use Rattle.procedure_laws.specs.Premises.{with_tree}
+use Rattle.procedure_laws.proofs.Prelude.{◌≡◌, ℕ, sym, subst, Bor, TreeModule, TreeProcedure, Entries, MainStands, ModuleCode, ModuleLies, ProcedureStands, with_tree}
 
 -- a procedure stands there likewise
 stands_with :

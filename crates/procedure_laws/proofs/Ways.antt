@@ -1,24 +1,9 @@
 -- How a body can be left: no jump leaves one in which each GOTO goes to a label of a list around it; its end is reached
 -- only where its form and known conditions let it be; and a main program does not return.
-use Rattle.std.proofs.Common.{◌≡◌, ℕ, zero, suc, ◌+◌, ◌-◌, ◌<◌, ◌≤◌, ◌==◌, ◌||◌, Bool, true, false, not, List, [], ◌∷◌, length, slice_get, nat_le, nat_lt, Option, Some, None, cond, Any, option_map, arith, refl, sym, ap, subst, ◌∙◌, le-leb}
-use Rattle.typed_trees.specs.Jumps.{LabelsOf, IsAmongLabels, labels_of_list, IsClosed, JumpsStay, JumpsStayInElse, JumpsStayInStatements, JumpsStayInList, LabelsStand, ListsStand, ListsStandInCases, ListsStandInElse, ListsStandInStatements, ListStands}
-use Rattle.typed_trees.specs.TypedTrees.{TypedExpression, TypedIteration, TypedModule, TypedStatement, LabelStatement, NullStatement, AssignmentStatement, CallStatement, MoveStatement, ReturnStatement, HaltStatement, GotoStatement, IfStatement, DoStatement, WhileStatement, IterateStatement, CaseStatement, TypedElse, NoElse, ElseStatement, TypedStatements, NoStatements, MoreStatements, TypedList, ListOf}
-use Rattle.typed_trees.specs.WellTyped.{IsReturned, TypesHold, TypesHoldIn, TypesHoldInElse, TypesHoldInList, TypesHoldInStatements, Within, WithinMain, WithinProcedure}
-use Rattle.layout.specs.Storage.{Storage}
-use Rattle.meaning.specs.Values.{as_type, is_true, values_of}
-use Rattle.meaning.specs.Access.{Surroundings}
-use Rattle.meaning.specs.Meaning.{Later, Turn, WhileTurn, IterateTurn, after_turn, called_for, callee_in, caught_in, done, done_all, done_case, done_else, done_list, dropped, going_on, iterated, landed, later_by, moved, read_variable, rest_from, rest_of, returned, step_value, stepped, stored_in_each, turn_of, value, values, write_variable}
-use Rattle.meaning.specs.Outcomes.{State, Outcome, Gave, Stopped, then_do, taking_one, Flow, Onward, Returned, Jumped}
-use Rattle.meaning.specs.internal.Kept.{body_of_turn}
+use Rattle.procedure_laws.proofs.Prelude.{◌≡◌, ℕ, zero, suc, ◌+◌, ◌-◌, ◌<◌, ◌≤◌, ◌==◌, ◌||◌, Bool, true, false, not, List, [], ◌∷◌, length, slice_get, nat_le, nat_lt, Option, Some, None, cond, Any, option_map, arith, refl, sym, ap, subst, ◌∙◌, le-leb, LabelsOf, IsAmongLabels, labels_of_list, IsClosed, JumpsStay, JumpsStayInElse, JumpsStayInStatements, JumpsStayInList, LabelsStand, ListsStand, ListsStandInCases, ListsStandInElse, ListsStandInStatements, ListStands, TypedExpression, TypedIteration, TypedModule, TypedStatement, LabelStatement, NullStatement, AssignmentStatement, CallStatement, MoveStatement, ReturnStatement, HaltStatement, GotoStatement, IfStatement, DoStatement, WhileStatement, IterateStatement, CaseStatement, TypedElse, NoElse, ElseStatement, TypedStatements, NoStatements, MoreStatements, TypedList, ListOf, IsReturned, TypesHold, TypesHoldIn, TypesHoldInElse, TypesHoldInList, TypesHoldInStatements, Within, WithinMain, WithinProcedure, Storage, as_type, is_true, values_of, Surroundings, Later, Turn, WhileTurn, IterateTurn, after_turn, called_for, callee_in, caught_in, done, done_all, done_case, done_else, done_list, dropped, going_on, iterated, later_by, moved, read_variable, rest_from, rest_of, returned, step_value, stepped, stored_in_each, turn_of, value, values, write_variable, Outcome, Gave, Stopped, then_do, taking_one, Flow, Onward, Returned, Jumped, body_of_turn, Place, Number, known_number, known_value, ends_by, reaches_end, reaches_end_of_else, reaches_end_of_list, reaches_end_of_statements, Nodes, HaveOperands, Resolves, have_operands, place_of_number}
+use Rattle.meaning.specs.{Meaning.{landed}, Outcomes.{State}}
 use Rattle.treecode.specs.declared.place.Home.{Home}
-use Rattle.treecode.specs.declared.place.Place.{Place}
-use Rattle.treecode.specs.declared.place.Place.TheVariants.{Number}
-use Rattle.treecode.specs.Known.{known_number, known_value}
-use Rattle.treecode.specs.Lowered.{ends_by, reaches_end, reaches_end_of_else, reaches_end_of_list, reaches_end_of_statements}
-use Rattle.treecode.specs.Nodes.{Nodes}
-use Rattle.treecode.specs.Resolved.{HaveOperands, Resolves}
 use Rattle.treecode_laws.proofs.Operands.{known_gives}
-use Rattle.task_laws.proofs.Machine.SiteNodes.{have_operands, place_of_number}
 
 -- whether a part can return
 abbrev pub may_return : Within → Bool

@@ -1,35 +1,5 @@
 -- Zeros are pushed for the variables of a frame; A and HL stay as they are.
-use Rattle.std.proofs.Common.{◌≡◌, ◌≢◌, ℕ, zero, suc, ◌+◌, ◌-◌, ◌*◌, ◌/◌, ◌%◌, ◌<◌, ◌≤◌, ◌==◌, nat_le, nat_eq, Bool, true, false, if◌then◌else◌, List, [], ◌∷◌, ◌++◌, replicate, refl, sym, ap, subst, ◌∙◌, arith}
-use Rattle.std.proofs.lemmas.Bool.{eqb-true, eqb-false, leb-false}
-use Rattle.std.proofs.lemmas.List.{append_assoc}
-use Rattle.mem80.specs.declared.memory.TheConstants.{MEMORY_SIZE}
-use Rattle.mem80.specs.Memory.{IsMemory, byte_at}
-use Rattle.ports.specs.declared.event.Event.{Event}
-use Rattle.meaning.specs.Outcomes.{State as SourceState, Outcome}
-use Rattle.isa8080.specs.declared.instr.Condition.TheVariants.{NotZero}
-use Rattle.isa8080.specs.declared.instr.Instr.TheVariants.{Dcr, Inx, Lxi, Mvi, Push}
-use Rattle.isa8080.specs.declared.instr.Operand.TheVariants.{Of}
-use Rattle.isa8080.specs.declared.instr.Pair.TheVariants.{De, Sp}
-use Rattle.isa8080.specs.declared.instr.Register.TheVariants.{B}
-use Rattle.isa8080.specs.declared.instr.StackPair.TheVariants.{StackDe}
-use Rattle.isa8080.specs.Act.{act}
-use Rattle.isa8080.specs.Arithmetic.{decrement_of}
-use Rattle.isa8080.specs.State.{HoldBytes, Registers, State, word, wrap}
-use Rattle.asm8080.specs.declared.item.WordForm.TheVariants.{JumpWhere}
-use Rattle.asm8080.specs.Standing.{AgreesIn}
-use Rattle.asm8080.proofs.Calls.{pushed, pushed_is_memory, pushed_is_pushed, pushed_keeps}
-use Rattle.asm8080.proofs.Loops.{counted_out, counts_on, one_less_is}
-use Rattle.asm8080.proofs.Stack.{push_does}
-use Rattle.code_meaning.specs.Activations.{LiesWell}
-use Rattle.code_meaning.specs.Landing.{Does, at_place}
-use Rattle.steps8080.specs.declared.step.LabelNumber.{LabelNumber}
-use Rattle.statements8080.specs.declared.plan.Planned.{Planned}
-use Rattle.statements8080.specs.Plans.{jump, mark, plain}
-use Rattle.codegen8080.specs.declared.meeting.Here.{Here}
-use Rattle.steps8080.specs.Step.{label_of}
-use Rattle.codegen8080.specs.Procedures.{odd_byte_steps, push_loop_steps, pushes_steps, zeros_steps}
-use Rattle.statement_laws.specs.Bodies.{BodyContext}
-use Rattle.procedure_laws.specs.Modules.{at_start}
+use Rattle.procedure_laws.proofs.Prelude.{◌≡◌, ◌≢◌, ℕ, zero, suc, ◌+◌, ◌-◌, ◌*◌, ◌/◌, ◌%◌, ◌<◌, ◌≤◌, ◌==◌, nat_le, nat_eq, Bool, true, false, if◌then◌else◌, List, [], ◌∷◌, ◌++◌, replicate, refl, sym, ap, subst, ◌∙◌, arith, eqb-true, eqb-false, leb-false, append_assoc, MEMORY_SIZE, IsMemory, byte_at, Event, SourceState, Outcome, NotZero, Dcr, Inx, Lxi, Mvi, Push, Of, De, Sp, B, StackDe, act, decrement_of, HoldBytes, Registers, State, word, wrap, JumpWhere, AgreesIn, pushed, pushed_is_memory, pushed_is_pushed, pushed_keeps, counted_out, counts_on, one_less_is, push_does, LiesWell, Does, at_place, LabelNumber, Planned, jump, mark, plain, Here, label_of, odd_byte_steps, push_loop_steps, pushes_steps, zeros_steps, BodyContext, at_start}
 use Rattle.procedure_laws.proofs.Frames.FramesSteps.{StepsLie, jump_goes, jump_stays, mark_goes, plain_goes}
 
 -- The bytes from one address to another are zeros, and the stack pointer is at the lower one; A and HL are as before,

@@ -1,17 +1,6 @@
 -- A machine that does what each run of a source does agrees with the source.
-use Rattle.std.proofs.Common.{◌≡◌, ◌≢◌, ℕ, ◌+◌, ◌-◌, ◌≤◌, ◌<◌, List, refl, sym, ap, ◌∙◌, subst, arith, ⊎_elim}
-use Rattle.std.proofs.lemmas.Bool.{cases_lt}
-use Rattle.ports.specs.Events.{IsBeginning}
-use Rattle.isa8080.specs.declared.registers.Status.{Status}
-use Rattle.isa8080.specs.declared.registers.Status.TheVariants.{Halted, Illegal, Running}
-use Rattle.isa8080.specs.State.{State}
-use Rattle.isa8080.specs.Step.{state_after}
-use Rattle.isa8080.proofs.Endings.{stays_state, state_after_sum}
-use Rattle.isa8080.proofs.Growing.{begins_itself, run_adds}
-use Rattle.meaning.specs.Outcomes.{Stop, Ended, More, Outside}
-use Rattle.meaning.specs.Run.{NeverOutside, Run}
-use Rattle.program_laws.specs.Agreement.{Agrees}
-use Rattle.program_laws.specs.internal.Performing.{ComesTo, Performs}
+use Rattle.program_laws.proofs.Prelude.{◌≡◌, ◌≢◌, ℕ, ◌+◌, ◌-◌, ◌≤◌, ◌<◌, List, refl, sym, ap, ◌∙◌, subst, arith, ⊎_elim, cases_lt, IsBeginning, Status, Halted, Illegal, Running, State, state_after, Stop, Ended, More, Outside, NeverOutside, Run, Agrees, ComesTo, Performs}
+use Rattle.isa8080.proofs.{Endings.{stays_state, state_after_sum}, Growing.{begins_itself, run_adds}}
 
 module _ (script : List (List ℕ)) (start : State) where
   abbrev after : ℕ → State

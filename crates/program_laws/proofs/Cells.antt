@@ -1,26 +1,5 @@
 -- The bytes of a segment that was assembled: they are those of its items, each target at 0.
-use Rattle.std.proofs.Common.{◌≡◌, ℕ, zero, suc, ◌+◌, ◌<◌, ◌≤◌, Bool, true, false, List, [], ◌∷◌, ◌++◌, length, map, replicate, Option, Some, None, option_map, is_some, refl, sym, ap, subst, ◌∙◌, arith}
-use Rattle.std.specs.Prelude.{slice_get, unwrap_or}
-use Rattle.std.specs.List.{AllByRecursion}
-use Rattle.std.proofs.lemmas.Option.{slice_get_within, slice_get-map, get_or_from_slice_get}
-use Rattle.mem80.specs.declared.memory.TheConstants.{MEMORY_SIZE}
-use Rattle.mem80.specs.Memory.{byte_at}
-use Rattle.isa8080.specs.State.{wrap}
-use Rattle.isa8080.specs.Code.{bytes_of}
-use Rattle.object_modules.specs.declared.segment.Fix.{Fix}
-use Rattle.object_modules.specs.declared.segment.FixKind.{FixKind}
-use Rattle.object_modules.specs.declared.segment.FixKind.TheVariants.{Low, High, Both}
-use Rattle.object_modules.specs.declared.segment.Target.{Target}
-use Rattle.object_modules.specs.Module.{Fixup, SetByte}
-use Rattle.object_modules.specs.Moving.{after_fixup, bytes_resolved, first_byte_moved, moved_after, value_after, value_moved}
-use Rattle.asm8080.specs.declared.item.Item.{Item}
-use Rattle.asm8080.specs.declared.item.Item.TheVariants.{Plain, WithWord, Byte, Address, Gap, Mark}
-use Rattle.asm8080.specs.Assembled.{Assembled, Assembles, fixed_bytes, fixes_of_items, layout_at, places_of, set_bytes}
-use Rattle.asm8080.specs.Items.{Assembly, Layout, Stands, bytes_of_item, flags_of_items, size_of}
-use Rattle.asm8080.specs.Standing.{BytesStand, SetBytesStand}
-use Rattle.asm8080.proofs.Assemblies.{flags_length}
-use Rattle.asm8080.proofs.Fixing.{cells_of_items, fixed_items, set_of_items}
-use Rattle.asm8080.proofs.Words.{item_length}
+use Rattle.program_laws.proofs.Prelude.{◌≡◌, ℕ, zero, suc, ◌+◌, ◌<◌, ◌≤◌, Bool, true, false, List, [], ◌∷◌, ◌++◌, length, map, replicate, Option, Some, None, option_map, is_some, refl, sym, ap, subst, ◌∙◌, arith, slice_get, unwrap_or, AllByRecursion, slice_get_within, slice_get-map, get_or_from_slice_get, MEMORY_SIZE, byte_at, wrap, bytes_of, Fix, FixKind, Low, High, Both, Target, Fixup, SetByte, after_fixup, bytes_resolved, first_byte_moved, moved_after, value_after, value_moved, Item, Plain, WithWord, Byte, Address, Gap, Mark, Assembled, Assembles, fixed_bytes, fixes_of_items, layout_at, places_of, set_bytes, Assembly, Layout, Stands, bytes_of_item, flags_of_items, size_of, BytesStand, SetBytesStand, flags_length, cells_of_items, fixed_items, set_of_items, item_length}
 
 -- each target at 0
 abbrev pub at_zero : Target → ℕ

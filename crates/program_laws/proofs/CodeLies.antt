@@ -1,27 +1,7 @@
 -- The code of an object module stands where that lies in memory.
-use Rattle.std.proofs.Common.{◌≡◌, ℕ, ◌+◌, ◌≤◌, List, [], length, map, Option, Some, refl, sym, ap, subst, ◌∙◌, arith}
-use Rattle.std.specs.Option.{option_map_or}
+use Rattle.program_laws.proofs.Prelude.{◌≡◌, ℕ, ◌+◌, ◌≤◌, List, [], length, map, Option, Some, refl, sym, ap, subst, ◌∙◌, arith, option_map_or, Target, InSegment, External, ObjectModule, SetByte, bytes_resolved, resolved_retargeted, TypedModule, ExternalName, Program, wrap, resolved, set_bytes, Layout, Stands, SetBytesStand, places_length, set_length, entry, Written, IsGenerated, LiesInMemory, module_layout, written_layout, IsSoundlyMade}
 use Rattle.object_modules.specs.declared.segment.Segment.TheVariants as segments
-use Rattle.object_modules.specs.declared.segment.Target.{Target}
-use Rattle.object_modules.specs.declared.segment.Target.TheVariants.{InSegment, External}
-use Rattle.object_modules.specs.Module.{ObjectModule, SetByte}
-use Rattle.object_modules.specs.Moving.{bytes_resolved}
 use Rattle.image_laws.specs.internal.Code.{retargeted}
-use Rattle.image_laws.proofs.Images.Retargeted.{resolved_retargeted}
-use Rattle.typed_trees.specs.TypedTrees.{TypedModule}
-use Rattle.treecode.specs.declared.module.ExternalName.{ExternalName}
-use Rattle.meaning.specs.Outcomes.{Program}
-use Rattle.isa8080.specs.State.{wrap}
-use Rattle.asm8080.specs.Assembled.{resolved, set_bytes}
-use Rattle.asm8080.specs.Items.{Layout, Stands}
-use Rattle.asm8080.specs.Standing.{SetBytesStand}
-use Rattle.asm8080.proofs.Segments.{places_length, set_length}
-use Rattle.steps8080.specs.Externals.{entry}
-use Rattle.steps8080.specs.Writer.{Written}
-use Rattle.codegen8080.specs.Modules.{IsGenerated}
-use Rattle.program_laws.specs.OneModule.{LiesInMemory}
-use Rattle.program_laws.specs.internal.Layouts.{module_layout, written_layout}
-use Rattle.program_laws.specs.Typed.{IsSoundlyMade}
 use Rattle.program_laws.proofs.Renumbered.{LaysOut}
 
 module _

@@ -1,30 +1,9 @@
 -- Contents of tree code, as items of a segment, are the bytes that they are before the module has its place.
-use Rattle.std.proofs.Common.{◌≡◌, ℕ, zero, suc, ◌+◌, ◌%◌, ◌/◌, ◌<◌, List, [], ◌∷◌, ◌++◌, map, replicate, Option, Some, None, option_map, refl, sym, ap, subst, ◌∙◌, arith}
-use Rattle.std.specs.List.{AllByRecursion}
-use Rattle.std.specs.Option.{option_map_or}
-use Rattle.std.proofs.lemmas.Option.{none-some, same_Some}
+use Rattle.program_laws.proofs.Prelude.{◌≡◌, ℕ, zero, suc, ◌+◌, ◌%◌, ◌/◌, ◌<◌, List, [], ◌∷◌, ◌++◌, map, replicate, Option, Some, None, option_map, refl, sym, ap, subst, ◌∙◌, arith, AllByRecursion, option_map_or, none-some, same_Some, Target, InSegment, External, ObjectModule, SetByte, Places, Named, Item, AtTarget, layout_at, Assembly, row_of, set_of_items, Content, ExternalName, Place, Extends, entry, high, low, Written, in_front, numbered, AreTargets, IsNamed, contents_items, KeepWords, name_at, places_of_contents, BeginWith, IsTarget}
 use Rattle.object_modules.specs.declared.segment.Segment.TheVariants as object_segments
-use Rattle.object_modules.specs.declared.segment.Target.{Target}
-use Rattle.object_modules.specs.declared.segment.Target.TheVariants.{InSegment, External}
-use Rattle.object_modules.specs.Module.{ObjectModule, SetByte}
-use Rattle.layout.specs.Segments.{Places, ExternalName as Named}
-use Rattle.asm8080.specs.declared.item.Item.{Item}
 use Rattle.asm8080.specs.declared.item.Item.TheVariants as items
-use Rattle.asm8080.specs.declared.item.Reference.TheVariants.{AtTarget}
-use Rattle.asm8080.specs.Assembled.{layout_at}
-use Rattle.asm8080.specs.Items.{Assembly}
-use Rattle.asm8080.proofs.Fixing.{row_of, set_of_items}
-use Rattle.treecode.specs.declared.module.Content.{Content}
 use Rattle.treecode.specs.declared.module.Content.TheVariants as contents
-use Rattle.treecode.specs.declared.module.ExternalName.{ExternalName}
-use Rattle.treecode.specs.declared.place.Place.{Place}
 use Rattle.treecode.specs.declared.place.Place.TheVariants as places
-use Rattle.steps8080.specs.Externals.{Extends, entry}
-use Rattle.steps8080.specs.Instructions.{high, low}
-use Rattle.steps8080.specs.Writer.{Written, in_front, numbered}
-use Rattle.codegen8080.specs.Modules.{AreTargets, IsNamed, contents_items}
-use Rattle.treecode_laws.specs.internal.Places.{KeepWords, name_at, places_of_contents}
-use Rattle.image_laws.specs.Segments.{BeginWith, IsTarget}
 use Rattle.program_laws.proofs.Cells.{HasByte, at_zero}
 use Rattle.program_laws.proofs.Placed.{place_to}
 

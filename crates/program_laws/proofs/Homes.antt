@@ -1,15 +1,5 @@
 -- Where tree code has an object, by where the object lives.
-use Rattle.std.proofs.Common.{◌≡◌, ℕ, zero, suc, ◌+◌, ◌<◌, List, [], ◌∷◌, ◌++◌, length, slice_get, get_or, Some, refl, ap, sym, ◌∙◌, arith}
-use Rattle.std.proofs.lemmas.List.{get_or_append_left, get_or_push, length_push}
-use Rattle.std.proofs.lemmas.Option.{none-some, same_Some}
-use Rattle.typed_trees.specs.TypedTrees.{Home as TypedHome, BasedOn, InFrame, TypedObject, TypedModule}
-use Rattle.layout.specs.Storage.{Storage}
-use Rattle.treecode.specs.declared.place.Home.{Home}
-use Rattle.treecode.specs.declared.place.Home.TheVariants.{Static}
-use Rattle.treecode.specs.declared.place.Place.{Place}
-use Rattle.treecode.specs.declared.place.Place.TheVariants.{Number}
-use Rattle.treecode.specs.Homes.{home_of_object, homes_from, homes_of}
-use Rattle.treecode.specs.Nodes.{home_at}
+use Rattle.program_laws.proofs.Prelude.{◌≡◌, ℕ, zero, suc, ◌+◌, ◌<◌, List, [], ◌∷◌, ◌++◌, length, slice_get, get_or, Some, refl, ap, sym, ◌∙◌, arith, get_or_append_left, get_or_push, length_push, none-some, same_Some, TypedHome, BasedOn, InFrame, TypedObject, TypedModule, Storage, Home, Static, Place, Number, home_of_object, homes_from, homes_of, home_at}
 
 abbrev next_home : TypedModule → Storage → (before : List Home) → TypedObject → Home
 next_home typed storage before object = home_of_object typed storage before (length before) object.home

@@ -1,24 +1,6 @@
 -- Expressions whose values are known mean them, wherever the object module of their module lies.
-use Rattle.std.proofs.Common.{ℕ, List, ap, sym, subst, ◌∙◌}
-use Rattle.object_modules.specs.Module.{ObjectModule}
-use Rattle.typed_trees.specs.TypedTrees.{TypedModule}
-use Rattle.layout.specs.Segments.{address_of_location}
-use Rattle.layout.specs.Storage.{Storage}
-use Rattle.meaning.specs.Outcomes.{Gave}
-use Rattle.code_meaning.specs.Holding.{place_at}
-use Rattle.treecode.specs.declared.module.ExternalName.{ExternalName}
-use Rattle.treecode.specs.declared.place.Home.{Home}
-use Rattle.treecode.specs.Homes.{homes_of}
-use Rattle.treecode.specs.Known.{known_value}
-use Rattle.treecode.specs.Nodes.{nodes_of}
-use Rattle.treecode.specs.Resolved.{HaveOperands}
-use Rattle.treecode_laws.specs.internal.Places.{location_of_place}
-use Rattle.treecode_laws.proofs.Operands.{known_gives}
-use Rattle.task_laws.proofs.Machine.SiteNodes.{have_operands}
-use Rattle.procedure_laws.specs.OneModule.{around_in}
+use Rattle.program_laws.proofs.Prelude.{ℕ, List, ap, sym, subst, ◌∙◌, ObjectModule, TypedModule, address_of_location, Storage, Gave, place_at, ExternalName, Home, homes_of, known_value, nodes_of, HaveOperands, location_of_place, known_gives, have_operands, around_in, address_for, module_layout, IsSoundlyMade}
 use Rattle.program_laws.specs.internal.KnownValues.{ValuesAreKnown}
-use Rattle.program_laws.specs.internal.Layouts.{address_for, module_layout}
-use Rattle.program_laws.specs.Typed.{IsSoundlyMade}
 use Rattle.program_laws.proofs.Resolving.{lists_counted, place_lies, resolves}
 
 pub values_are_known :

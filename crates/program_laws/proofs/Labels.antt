@@ -1,29 +1,8 @@
 -- The labels of a module lie where its object module has them, and those of procedures by their headings.
-use Rattle.std.proofs.Common.{◌≡◌, ◌≢◌, ℕ, ◌+◌, Bool, true, false, ◌||◌, List, ◌++◌, Some, None, refl, ap, sym, ◌∙◌, subst, arith}
-use Rattle.std.specs.Prelude.{slice_get, unwrap_or, if◌then◌else◌}
-use Rattle.std.specs.Option.{option_map_or}
-use Rattle.std.proofs.lemmas.Bool.{eq-eqb, lt-ltb}
-use Rattle.std.proofs.lemmas.List.Elements.{recursion_from_All}
-use Rattle.std.proofs.lemmas.Option.{slice_get_within}
+use Rattle.program_laws.proofs.Prelude.{◌≡◌, ◌≢◌, ℕ, ◌+◌, Bool, true, false, ◌||◌, List, ◌++◌, Some, None, refl, ap, sym, ◌∙◌, subst, arith, slice_get, unwrap_or, if◌then◌else◌, option_map_or, eq-eqb, lt-ltb, recursion_from_All, slice_get_within, Target, InSegment, ObjectModule, Visibility, TypedModule, TypedProcedure, Mark, place_of, KnowsLabels, Layout, is_bound, marks, offset_of, bound_in_parts, TreeProcedure, external_number, is_global_procedure, kind_of, some_within, Written, known_label, place_of_known, place_of_label, IsCodeOfMain, IsGenerated, IsMainCode, contents_items, has_main, module_layout, written_layout, IsSoundlyMade}
 use Rattle.object_modules.specs.declared.segment.Segment.TheVariants as segments
-use Rattle.object_modules.specs.declared.segment.Target.{Target}
-use Rattle.object_modules.specs.declared.segment.Target.TheVariants.{InSegment}
-use Rattle.object_modules.specs.Module.{ObjectModule}
-use Rattle.typed_trees.specs.declared.parts.Visibility.{Visibility}
 use Rattle.typed_trees.specs.declared.parts.Visibility.TheVariants as visibilities
-use Rattle.typed_trees.specs.TypedTrees.{TypedModule, TypedProcedure}
-use Rattle.asm8080.specs.declared.item.Item.TheVariants.{Mark}
-use Rattle.asm8080.specs.Assembled.{place_of}
-use Rattle.asm8080.specs.Items.{KnowsLabels, Layout, is_bound, marks, offset_of}
-use Rattle.asm8080.proofs.Parts.{bound_in_parts}
 use Rattle.treecode.specs.declared.procedure.ProcedureKind.TheVariants as kinds
-use Rattle.treecode.specs.declared.procedure.TreeProcedure.{TreeProcedure}
-use Rattle.treecode.specs.Homes.{external_number, is_global_procedure, kind_of}
-use Rattle.image_laws.proofs.Memory.Lists.{some_within}
-use Rattle.steps8080.specs.Writer.{Written, known_label, place_of_known, place_of_label}
-use Rattle.codegen8080.specs.Modules.{IsCodeOfMain, IsGenerated, IsMainCode, contents_items, has_main}
-use Rattle.program_laws.specs.internal.Layouts.{module_layout, written_layout}
-use Rattle.program_laws.specs.Typed.{IsSoundlyMade}
 use Rattle.program_laws.proofs.Marks.{bound_label_small, label_known, or_left, or_right, procedures_bound}
 use Rattle.program_laws.proofs.ModuleStands.{IsOwn}
 

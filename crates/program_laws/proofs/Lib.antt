@@ -1,3 +1,4 @@
+mod Prelude
 pub mod Agreeing
 pub mod Renumbered
 pub mod Homes

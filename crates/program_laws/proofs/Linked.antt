@@ -1,42 +1,9 @@
 -- Modules of a program whose object modules are linked, placed and loaded lie in memory, and their procedures are entered
 -- where their code begins.
-use Rattle.std.proofs.Common.{◌≡◌, ℕ, zero, suc, ◌+◌, ◌%◌, ◌≤◌, true, ◌&&◌, List, [], ◌∷◌, length, sum, Option, Some, option_map, refl, ap, sym, ◌∙◌, subst, arith}
-use Rattle.std.specs.Prelude.{slice_get, slice_index, bytes_eq}
-use Rattle.std.specs.Option.{option_map_or, option_and_then}
-use Rattle.std.proofs.lemmas.Iterator.Adapters.{position_from-zero}
-use Rattle.std.proofs.lemmas.List.Sums.{sum_by-cons}
-use Rattle.std.proofs.lemmas.Option.{none-some, same_Some, slice_get-map}
-use Rattle.std.proofs.lemmas.Slice.Eq.{bytes_eq-Decides}
-use Rattle.mem80.specs.declared.memory.TheConstants.{MEMORY_SIZE}
+use Rattle.program_laws.proofs.Prelude.{◌≡◌, ℕ, zero, suc, ◌+◌, ◌%◌, ◌≤◌, true, ◌&&◌, List, [], ◌∷◌, length, sum, Option, Some, option_map, refl, ap, sym, ◌∙◌, subst, arith, slice_get, slice_index, bytes_eq, option_map_or, option_and_then, position_from-zero, sum_by-cons, none-some, same_Some, slice_get-map, bytes_eq-Decides, MEMORY_SIZE, public_named, Image, ObjectModule, Public, address_of_public, piece_base, Visibility, Elsewhere, Nowhere, TypedModule, TypedObject, TypedProcedure, Bases, InProgram, first_found, is_public_procedure, procedure_meant, public_procedure_in, PlacingPlan, bases_from, placement_by, stack_range, address_of_location, location_by_home, location_of, locations_after, address_of_object, location_is, callee_in, Program, wrap, bases_of, code_lengths_of, plan_of, IsInMemory, placement_of, placed_by, IsHere, address_meant, both_hold, first_position, found_place, public_lies, bases_found, lies_at, place_of_label, HasTypes, around_in, ModuleIs, layout_of, made_of, public_address, targets_of, ModulesAre, entries_of, AreEntered, LiesInMemory}
 use Rattle.object_modules.specs.declared.segment.Segment.TheVariants as segments
-use Rattle.object_modules.specs.Displacements.{public_named}
-use Rattle.object_modules.specs.Image.{Image}
-use Rattle.object_modules.specs.Module.{ObjectModule, Public}
-use Rattle.image_laws.specs.internal.InMemory.{address_of_public, piece_base}
-use Rattle.typed_trees.specs.declared.parts.Visibility.{Visibility}
 use Rattle.typed_trees.specs.declared.parts.Visibility.TheVariants as visibilities
-use Rattle.typed_trees.specs.TypedTrees.{Elsewhere, Nowhere, TypedModule, TypedObject, TypedProcedure}
-use Rattle.layout.specs.Following.{Bases}
-use Rattle.layout.specs.Joined.{InProgram, first_found, is_public_procedure, procedure_meant, public_procedure_in}
-use Rattle.layout.specs.Placing.{Plan as PlacingPlan, bases_from, placement_by, stack_range}
-use Rattle.layout.specs.Segments.{address_of_location, location_by_home, location_of, locations_after}
-use Rattle.layout.specs.StartingMemory.{address_of_object}
-use Rattle.layout.proofs.Locations.{location_is}
-use Rattle.meaning.specs.Meaning.{callee_in}
-use Rattle.meaning.specs.Outcomes.{Program}
-use Rattle.isa8080.specs.State.{wrap}
-use Rattle.image_laws.specs.internal.AtPlans.{bases_of, code_lengths_of, plan_of}
-use Rattle.image_laws.specs.internal.ProgramInMemory.{IsInMemory, placement_of}
-use Rattle.image_laws.specs.internal.Linked.{placed_by}
-use Rattle.image_laws.proofs.Memory.Addresses.{IsHere}
-use Rattle.image_laws.proofs.Memory.Meanings.{address_meant, both_hold, first_position, found_place, public_lies}
-use Rattle.image_laws.proofs.Memory.Modules.{address_for, bases_found, lies_at}
-use Rattle.steps8080.specs.Writer.{place_of_label}
-use Rattle.task_laws.specs.ProgramTypes.{HasTypes}
-use Rattle.procedure_laws.specs.OneModule.{around_in}
-use Rattle.program_laws.specs.internal.Linked.{ModuleIs, layout_of, made_of, public_address, targets_of}
-use Rattle.program_laws.specs.internal.Entering.{ModulesAre, entries_of}
-use Rattle.program_laws.specs.OneModule.{AreEntered, LiesInMemory}
+use Rattle.image_laws.proofs.Memory.Modules.{address_for}
 use Rattle.program_laws.proofs.Labels.{procedure_lies}
 use Rattle.program_laws.proofs.Shown.{shows_procedures}
 

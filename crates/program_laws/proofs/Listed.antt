@@ -1,12 +1,6 @@
 -- The globals of a module are its PUBLIC and EXTERNAL objects and procedures, and no others.
-use Rattle.std.proofs.Common.{◌≡◌, ℕ, zero, suc, ◌+◌, Bool, true, false, List, [], ◌∷◌, Option, Some, None, refl, ap, sym, ◌∙◌, subst, arith}
-use Rattle.std.specs.Prelude.{filter_map, slice_get, if◌then◌else◌}
-use Rattle.std.specs.List.{AllByRecursion, cons_option, enumerate_from}
-use Rattle.std.proofs.lemmas.Option.{none-some, same_Some}
-use Rattle.typed_trees.specs.declared.parts.GlobalItem.{GlobalItem}
-use Rattle.typed_trees.specs.declared.parts.GlobalItem.TheVariants.{GlobalObject, GlobalProcedure}
-use Rattle.typed_trees.specs.Globals.{ListsGlobals, global_object, global_procedure, is_global, is_shared, shared_object, shared_procedure}
-use Rattle.typed_trees.specs.TypedTrees.{TypedObject, TypedProcedure, TypedModule}
+use Rattle.program_laws.proofs.Prelude.{◌≡◌, ℕ, zero, suc, ◌+◌, Bool, true, false, List, [], ◌∷◌, Option, Some, None, refl, ap, sym, ◌∙◌, subst, arith, filter_map, slice_get, if◌then◌else◌, AllByRecursion, cons_option, enumerate_from, none-some, same_Some, GlobalItem, GlobalObject, GlobalProcedure, ListsGlobals, global_procedure, is_global, is_shared, shared_object, shared_procedure, TypedObject, TypedProcedure, TypedModule}
+use Rattle.typed_trees.specs.Globals.{global_object}
 
 -- an item stands in a list
 pub record InList {A : Type 0} (list : List A) (item : A) : Type 0 where

@@ -1,30 +1,5 @@
 -- Object modules that are made of the modules of a program are what linking, placing and loading want of them.
-use Rattle.std.proofs.Common.{◌≡◌, ℕ, zero, suc, ◌≤◌, List, [], ◌∷◌, length, Option, Some, None, Ok, zip, refl, ap, subst, arith}
-use Rattle.std.specs.Prelude.{All, slice_get}
-use Rattle.std.specs.List.{AllByRecursion}
-use Rattle.std.proofs.lemmas.List.Elements.{All-from_recursion}
-use Rattle.std.proofs.lemmas.Option.{none-some, same_Some}
-use Rattle.mem80.specs.declared.memory.TheConstants.{MEMORY_SIZE}
-use Rattle.mem80.specs.Pieces.{IsLoaded}
-use Rattle.object_modules.specs.Image.{Image, image_of}
-use Rattle.object_modules.specs.Merge.{merge_of}
-use Rattle.object_modules.specs.Module.{IsObjectModule, ObjectModule, SetByte}
-use Rattle.typed_trees.specs.Globals.{ListsGlobals}
-use Rattle.typed_trees.specs.Storable.{IsStorable}
-use Rattle.typed_trees.specs.TypedTrees.{TypedModule}
-use Rattle.typed_trees.specs.Weight.{constant_bytes}
-use Rattle.layout.proofs.Placements.{HoldConstants}
-use Rattle.layout.proofs.Segments.{constants_length}
-use Rattle.layout.specs.Joined.{IsJoined}
-use Rattle.layout.specs.Lawful.{IsLawful}
-use Rattle.layout.specs.Placing.{Plan as PlacingPlan, placing_refusal}
-use Rattle.layout.specs.Segments.{Places, constant_places}
-use Rattle.image_laws.specs.internal.AtPlans.{AreObjectsOf, code_lengths_of, plan_of}
-use Rattle.image_laws.specs.internal.ProgramInMemory.{HaveSegments, IsInMemory, placement_of}
-use Rattle.image_laws.specs.Segments.{BeginWith}
-use Rattle.image_laws.specs.internal.Names.{HaveImage, HaveNames}
-use Rattle.image_laws.proofs.Merges.Names.{program_has_image}
-use Rattle.program_laws.specs.Made.{AreMadeOf, IsMadeOf}
+use Rattle.program_laws.proofs.Prelude.{◌≡◌, ℕ, zero, suc, ◌≤◌, List, [], ◌∷◌, length, Option, Some, None, Ok, zip, refl, ap, subst, arith, All, slice_get, AllByRecursion, All-from_recursion, none-some, same_Some, MEMORY_SIZE, IsLoaded, Image, image_of, merge_of, IsObjectModule, ObjectModule, SetByte, ListsGlobals, IsStorable, TypedModule, constant_bytes, HoldConstants, constants_length, IsJoined, IsLawful, PlacingPlan, placing_refusal, Places, constant_places, AreObjectsOf, code_lengths_of, plan_of, HaveSegments, IsInMemory, placement_of, BeginWith, HaveImage, HaveNames, program_has_image, AreMadeOf, IsMadeOf}
 use Rattle.program_laws.proofs.Names.{has_names}
 use Rattle.program_laws.proofs.Objects.{is_object_of}
 use Rattle.program_laws.proofs.Segments.{has_segments}

@@ -1,31 +1,6 @@
 -- A program whose object modules are made of its modules, linked, placed and loaded, does what its source does.
-use Rattle.std.proofs.Common.{◌≡◌, ℕ, zero, suc, List, [], ◌∷◌, Option, Some, None, Ok, length, refl, sym, subst, ◌∙◌}
-use Rattle.std.specs.Prelude.{slice_get}
-use Rattle.std.proofs.lemmas.Option.{none-some, same_Some}
-use Rattle.mem80.specs.declared.memory.TheConstants.{MEMORY_SIZE}
-use Rattle.mem80.specs.Memory.{IsMemory}
-use Rattle.ports.specs.declared.event.Event.{Event}
-use Rattle.ports.specs.Input.{IsScript}
-use Rattle.object_modules.specs.Image.{Image, image_of}
-use Rattle.object_modules.specs.Merge.{merge_of}
-use Rattle.object_modules.specs.Module.{ObjectModule}
-use Rattle.mem80.specs.Pieces.{IsLoaded}
-use Rattle.typed_trees.specs.TypedTrees.{TypedModule}
-use Rattle.layout.specs.Joined.{IsJoined}
-use Rattle.layout.specs.Lawful.{IsLawful}
-use Rattle.layout.specs.Placing.{Plan as PlacingPlan}
-use Rattle.meaning.specs.Run.{NeverOutside, source_run}
-use Rattle.isa8080.specs.State.{HoldBytes, Registers}
-use Rattle.isa8080.specs.Step.{running, state_after}
-use Rattle.image_laws.specs.internal.AtPlans.{plan_of}
-use Rattle.image_laws.specs.internal.ProgramInMemory.{IsInMemory, placement_of}
-use Rattle.image_laws.proofs.Memory.Modules.{is_linked}
-use Rattle.program_laws.specs.Made.{AreMadeOf}
+use Rattle.program_laws.proofs.Prelude.{◌≡◌, ℕ, zero, suc, List, [], ◌∷◌, Option, Some, None, Ok, length, refl, sym, subst, ◌∙◌, slice_get, none-some, same_Some, MEMORY_SIZE, IsMemory, Event, IsScript, Image, image_of, merge_of, ObjectModule, IsLoaded, TypedModule, IsJoined, IsLawful, PlacingPlan, NeverOutside, source_run, HoldBytes, Registers, running, state_after, plan_of, IsInMemory, placement_of, is_linked, AreMadeOf, Agrees, ModulesAre, ModuleIs, AreSoundlyMade, IsSoundlyMade}
 use Rattle.program_laws.proofs.Made.{is_in_memory}
-use Rattle.program_laws.specs.Agreement.{Agrees}
-use Rattle.program_laws.specs.internal.Entering.{ModulesAre}
-use Rattle.program_laws.specs.internal.Linked.{ModuleIs}
-use Rattle.program_laws.specs.Typed.{AreSoundlyMade, IsSoundlyMade}
 use Rattle.program_laws.proofs.Programs.{program_does}
 
 -- without what is known of their types and words

@@ -1,20 +1,6 @@
 -- The labels of procedures are bound in the code of their module, which knows them by numbers of its own.
-use Rattle.std.proofs.Common.{◌≡◌, ℕ, zero, suc, ◌+◌, ◌<◌, Bool, true, false, ◌||◌, List, [], ◌∷◌, ◌++◌, Some, option_map, refl, ap, sym, ◌∙◌, subst, arith}
-use Rattle.std.specs.Prelude.{slice_get}
-use Rattle.std.specs.List.{AllByRecursion}
-use Rattle.std.proofs.lemmas.Bool.{eq-eqb, eqb-true}
-use Rattle.std.proofs.lemmas.Option.{none-some, same_Some}
-use Rattle.asm8080.specs.declared.item.Item.{Item}
-use Rattle.asm8080.specs.declared.item.Item.TheVariants.{Plain, WithWord, Byte, Address, Gap, Mark}
-use Rattle.asm8080.specs.Items.{KnowsLabels, is_bound, marks}
-use Rattle.asm8080.proofs.Parts.{bound_in_parts}
-use Rattle.treecode.specs.declared.module.TreeModule.{TreeModule}
-use Rattle.treecode.specs.declared.procedure.ProcedureKind.{ProcedureKind}
+use Rattle.program_laws.proofs.Prelude.{◌≡◌, ℕ, zero, suc, ◌+◌, ◌<◌, Bool, true, false, ◌||◌, List, [], ◌∷◌, ◌++◌, Some, option_map, refl, ap, sym, ◌∙◌, subst, arith, slice_get, AllByRecursion, eq-eqb, eqb-true, none-some, same_Some, Item, Plain, WithWord, Byte, Address, Gap, Mark, KnowsLabels, is_bound, marks, bound_in_parts, TreeModule, ProcedureKind, TreeProcedure, entry, Written, numbered, numbered_reference, AreCodeOf, IsCodeOf, IsProcedureCode}
 use Rattle.treecode.specs.declared.procedure.ProcedureKind.TheVariants as kinds
-use Rattle.treecode.specs.declared.procedure.TreeProcedure.{TreeProcedure}
-use Rattle.steps8080.specs.Externals.{entry}
-use Rattle.steps8080.specs.Writer.{Written, numbered, numbered_reference}
-use Rattle.codegen8080.specs.Modules.{AreCodeOf, IsCodeOf, IsProcedureCode}
 use Rattle.program_laws.proofs.ModuleStands.{IsOwn}
 use Rattle.program_laws.proofs.Renumbered.{front_of, mapped}
 

@@ -1,37 +1,9 @@
 -- A module of a program lies where its object module does.
-use Rattle.std.proofs.Common.{◌≡◌, ℕ, ◌+◌, ◌<◌, List, refl, ap, sym, subst, ◌∙◌, arith}
-use Rattle.std.specs.Prelude.{slice_get, Some}
-use Rattle.mem80.specs.declared.memory.TheConstants.{MEMORY_SIZE}
+use Rattle.program_laws.proofs.Prelude.{◌≡◌, ℕ, ◌+◌, ◌<◌, List, refl, ap, sym, subst, ◌∙◌, arith, slice_get, Some, MEMORY_SIZE, Target, InSegment, External, ObjectModule, TypedModule, wrap, Layout, Static, Place, TreeProcedure, home_at, nodes_of, HasFrame, placement_lies, place_at, ModuleCode, ModuleLies, InProgram, callee_in, Program, TreeModule, externals_of, name_at, place_of_label, Entries, around_in, in_module, AreEntered, LiesInMemory, module_layout, IsSoundlyMade}
 use Rattle.object_modules.specs.declared.segment.Segment.TheVariants as segments
-use Rattle.object_modules.specs.declared.segment.Target.{Target}
-use Rattle.object_modules.specs.declared.segment.Target.TheVariants.{InSegment, External}
-use Rattle.object_modules.specs.Module.{ObjectModule}
-use Rattle.typed_trees.specs.TypedTrees.{TypedModule}
-use Rattle.isa8080.specs.State.{wrap}
-use Rattle.asm8080.specs.Items.{Layout}
-use Rattle.treecode.specs.declared.place.Home.TheVariants.{Static}
-use Rattle.treecode.specs.declared.place.Place.{Place}
 use Rattle.treecode.specs.declared.place.Place.TheVariants as places
-use Rattle.treecode.specs.declared.procedure.TreeProcedure.{TreeProcedure}
-use Rattle.treecode.specs.Nodes.{home_at, nodes_of}
-use Rattle.frames.specs.Frames.{HasFrame}
 use Rattle.frames.proofs.Frames.{has_frame}
-use Rattle.code_meaning.proofs.Lawful.{placement_lies}
-use Rattle.code_meaning.specs.Holding.{place_at}
-use Rattle.procedure_laws.specs.Modules.{ModuleCode, ModuleLies}
-use Rattle.layout.specs.Joined.{InProgram}
-use Rattle.meaning.specs.Meaning.{callee_in}
-use Rattle.meaning.specs.Outcomes.{Program}
-use Rattle.treecode.specs.declared.module.TreeModule.{TreeModule}
 use Rattle.treecode.specs.declared.procedure.ProcedureKind.TheVariants as kinds
-use Rattle.treecode.specs.Homes.{externals_of}
-use Rattle.treecode_laws.specs.internal.Places.{name_at}
-use Rattle.steps8080.specs.Writer.{place_of_label}
-use Rattle.procedure_laws.specs.Calls.{Entries}
-use Rattle.procedure_laws.specs.OneModule.{around_in, in_module}
-use Rattle.program_laws.specs.OneModule.{AreEntered, LiesInMemory}
-use Rattle.program_laws.specs.internal.Layouts.{module_layout}
-use Rattle.program_laws.specs.Typed.{IsSoundlyMade}
 use Rattle.program_laws.proofs.Labels.{external_kind, has_heading, here_if_own, label_lies}
 use Rattle.program_laws.proofs.ModuleStands.{IsOwn, code_of, parts_stand}
 use Rattle.program_laws.proofs.Shared.{external_named}

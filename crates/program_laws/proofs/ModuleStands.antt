@@ -1,37 +1,11 @@
 -- The main program, the procedures and the routines of a module stand where its labels lie.
-use Rattle.std.proofs.Common.{◌≡◌, ◌≢◌, ℕ, zero, suc, ◌+◌, ◌≤◌, Bool, true, List, [], ◌∷◌, ◌++◌, length, Some, refl, sym, ◌∙◌, subst, arith}
-use Rattle.std.specs.Prelude.{slice_get}
-use Rattle.std.proofs.lemmas.Option.{none-some, same_Some}
+use Rattle.program_laws.proofs.Prelude.{◌≡◌, ◌≢◌, ℕ, zero, suc, ◌+◌, ◌≤◌, Bool, true, List, [], ◌∷◌, ◌++◌, length, Some, refl, sym, ◌∙◌, subst, arith, slice_get, none-some, same_Some, Target, InSegment, ObjectModule, TypedModule, Program, Hlt, Sp, Item, LoadPair, Layout, Stands, stands_size, ProcedureKind, TreeProcedure, HasFrame, Activation, IsThere, both_there, Written, stack_end_item, AreCodeOf, AreRoutines, IsCodeOf, IsCodeOfMain, IsCodeOfRoutine, IsMainCode, IsProcedureCode, IsRoutineCode, all_routines, contents_items, has_main, RoutineIsAt, MainStands, ModuleCode, ProcedureStands, bare, LiesInMemory, module_layout, written_layout, IsSoundlyMade}
 use Rattle.object_modules.specs.declared.segment.Segment.TheVariants as segments
-use Rattle.object_modules.specs.declared.segment.Target.{Target}
-use Rattle.object_modules.specs.declared.segment.Target.TheVariants.{InSegment}
-use Rattle.object_modules.specs.Module.{ObjectModule}
-use Rattle.typed_trees.specs.TypedTrees.{TypedModule}
-use Rattle.meaning.specs.Outcomes.{Program}
-use Rattle.isa8080.specs.declared.instr.Instr.TheVariants.{Hlt}
-use Rattle.isa8080.specs.declared.instr.Pair.TheVariants.{Sp}
-use Rattle.asm8080.specs.declared.item.Item.{Item}
 use Rattle.asm8080.specs.declared.item.Item.TheVariants as items
-use Rattle.asm8080.specs.declared.item.WordForm.TheVariants.{LoadPair}
-use Rattle.asm8080.specs.Items.{Layout, Stands}
-use Rattle.asm8080.proofs.Kept.{stands_size}
-use Rattle.runtime8080.specs.declared.routine.Routine.{Routine}
+use Rattle.runtime8080.specs.{declared.routine.Routine.{Routine}, Routines.{size_of_routine}}
 use Rattle.runtime8080.specs.declared.routine.Routine.TheVariants as routines
-use Rattle.treecode.specs.declared.procedure.ProcedureKind.{ProcedureKind}
 use Rattle.treecode.specs.declared.procedure.ProcedureKind.TheVariants as kinds
-use Rattle.treecode.specs.declared.procedure.TreeProcedure.{TreeProcedure}
-use Rattle.frames.specs.Frames.{HasFrame}
-use Rattle.code_meaning.specs.Activations.{Activation, IsThere}
-use Rattle.code_meaning.proofs.Sequences.{both_there}
-use Rattle.steps8080.specs.Writer.{Written, stack_end_item}
-use Rattle.runtime8080.specs.Routines.{size_of_routine}
 use Rattle.exprgen8080.specs.Emission.{has_routine, index_of_routine, module_label_of_routine}
-use Rattle.codegen8080.specs.Modules.{AreCodeOf, AreRoutines, IsCodeOf, IsCodeOfMain, IsCodeOfRoutine, IsMainCode, IsProcedureCode, IsRoutineCode, all_routines, contents_items, has_main}
-use Rattle.task_laws.specs.Contexts.{RoutineIsAt}
-use Rattle.procedure_laws.specs.Modules.{MainStands, ModuleCode, ProcedureStands, bare}
-use Rattle.program_laws.specs.OneModule.{LiesInMemory}
-use Rattle.program_laws.specs.internal.Layouts.{module_layout, written_layout}
-use Rattle.program_laws.specs.Typed.{IsSoundlyMade}
 use Rattle.program_laws.proofs.CodeLies.{all_stand, lays_out, lies_within}
 use Rattle.program_laws.proofs.Renumbered.{LaysOut, stands_so}
 

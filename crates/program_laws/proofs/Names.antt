@@ -1,42 +1,10 @@
 -- The object module of a module has its names: its PUBLIC names in their order, EXTERNAL ones alone, and a start where it
 -- is a main module.
-use Rattle.std.proofs.Common.{◌≡◌, ℕ, zero, suc, Bool, true, false, ◌||◌, List, [], ◌∷◌, map, Option, Some, None, option_map, is_some, if◌then◌else◌, refl, sym, ap, ap₂, subst, ◌∙◌, arith}
-use Rattle.std.specs.Prelude.{All, filter, filter_map, nat_lt, not, slice_get}
-use Rattle.std.specs.List.{AllByRecursion, cons_option}
-use Rattle.std.specs.Option.{option_and_then}
-use Rattle.std.specs.Str.{bytes_eq}
-use Rattle.std.proofs.lemmas.Bool.{lt-ltb}
-use Rattle.std.proofs.lemmas.List.Elements.{All-from_recursion, recursion_from_All}
-use Rattle.std.proofs.lemmas.Option.{none-some, same_Some}
-use Rattle.std.proofs.lemmas.Slice.Eq.{bytes_eq-Decides}
-use Rattle.object_modules.specs.Module.{ObjectModule, Public, is_among}
-use Rattle.typed_trees.specs.declared.parts.GlobalItem.{GlobalItem}
-use Rattle.typed_trees.specs.declared.parts.GlobalItem.TheVariants.{GlobalObject, GlobalProcedure}
-use Rattle.typed_trees.specs.declared.parts.Visibility.{Visibility}
+use Rattle.program_laws.proofs.Prelude.{◌≡◌, ℕ, zero, suc, Bool, true, false, ◌||◌, List, [], ◌∷◌, map, Option, Some, None, option_map, is_some, if◌then◌else◌, refl, sym, ap, ap₂, subst, ◌∙◌, arith, All, filter, filter_map, nat_lt, not, slice_get, AllByRecursion, cons_option, option_and_then, bytes_eq, lt-ltb, All-from_recursion, recursion_from_All, none-some, same_Some, bytes_eq-Decides, ObjectModule, Public, is_among, GlobalItem, GlobalObject, GlobalProcedure, Visibility, IsHereIfPublic, ListsGlobals, is_global, is_shared, TypedStatements, TypedList, ListOf, TypedHome, InData, InConstants, Placed, BasedOn, Elsewhere, Nowhere, InFrame, TypedObject, TypedProcedure, TypedModule, of_all, Global, global_object, global_of, has_statement, Storage, Assembled, Range, ExternalName, PublicName, PublicPlace, TreeModule, Home, Place, public_item, public_object, public_procedure, publics_of, static_place, external_name, external_object, external_procedure, AreMoreStatements, AreNoStatements, AreStatements, IsList, IsListOf, IsLowered, Nodes, home_at, Written, place_of_label, ArePublicsOf, IsAtPlace, IsGenerated, IsPublicOf, has_main, used_names, IsLaidOut, HasNames, external_names_in, public_names_in}
 use Rattle.typed_trees.specs.declared.parts.Visibility.TheVariants as visibilities
-use Rattle.typed_trees.specs.Globals.{IsHereIfPublic, ListsGlobals, is_global, is_shared}
-use Rattle.typed_trees.specs.TypedTrees.{TypedStatements, TypedList, ListOf, Home as TypedHome, InData, InConstants, Placed, BasedOn, Elsewhere, Nowhere, InFrame, TypedObject, TypedProcedure, TypedModule}
-use Rattle.layout.proofs.Segments.{of_all}
-use Rattle.layout.specs.Joined.{Global, global_object, global_of, global_procedure, has_statement}
-use Rattle.layout.specs.Storage.{Storage}
-use Rattle.asm8080.specs.Assembled.{Assembled}
-use Rattle.treecode.specs.declared.lists.Range.{Range}
-use Rattle.treecode.specs.declared.module.ExternalName.{ExternalName}
-use Rattle.treecode.specs.declared.module.PublicName.{PublicName}
-use Rattle.treecode.specs.declared.module.PublicPlace.{PublicPlace}
+use Rattle.layout.specs.Joined.{global_procedure}
 use Rattle.treecode.specs.declared.module.PublicPlace.TheVariants as public_places
-use Rattle.treecode.specs.declared.module.TreeModule.{TreeModule}
-use Rattle.treecode.specs.declared.place.Home.{Home}
-use Rattle.treecode.specs.declared.place.Place.{Place}
 use Rattle.treecode.specs.declared.place.Place.TheVariants as places
-use Rattle.treecode.specs.Contents.{public_item, public_object, public_procedure, publics_of, static_place}
-use Rattle.treecode.specs.Homes.{external_name, external_object, external_procedure}
-use Rattle.treecode.specs.Lowered.{AreMoreStatements, AreNoStatements, AreStatements, IsList, IsListOf, IsLowered}
-use Rattle.treecode.specs.Nodes.{Nodes, home_at}
-use Rattle.steps8080.specs.Writer.{Written, place_of_label}
-use Rattle.codegen8080.specs.Modules.{ArePublicsOf, IsAtPlace, IsGenerated, IsPublicOf, has_main, used_names}
-use Rattle.treecode_laws.specs.Laid.{IsLaidOut}
-use Rattle.image_laws.specs.Names.{HasNames, external_names_in, public_names_in}
 use Rattle.program_laws.proofs.Listed.{InList, object_shared, of_each, procedure_shared}
 
 abbrev name_of_public : Public → List ℕ

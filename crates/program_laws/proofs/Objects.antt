@@ -1,35 +1,10 @@
 -- The object module of a module is an object of it: its data segment holds the variables, neither segment asks for a page,
 -- no high byte is fixed alone, and it asks for no stack.
-use Rattle.std.proofs.Common.{◌≡◌, ℕ, ◌+◌, List, [], ◌∷◌, length, replicate, Option, Some, None, option_map, sym, ap, subst, ◌∙◌, arith}
-use Rattle.std.proofs.lemmas.List.{length-append, length-replicate}
-use Rattle.std.proofs.lemmas.Option.{none-some, same_Some}
+use Rattle.program_laws.proofs.Prelude.{◌≡◌, ℕ, ◌+◌, List, [], ◌∷◌, length, replicate, Option, Some, None, option_map, sym, ap, subst, ◌∙◌, arith, length-append, length-replicate, none-some, same_Some, Target, InSegment, External, IsObjectModule, ObjectModule, ObjectPlaces, NoHighs, assembled_highs, no_high_targets, TypedModule, SegmentByte, Storage, Item, AtTarget, Assembled, size_of_items, Content, ExternalName, TreeModule, IsLowered, entry, high, low, Written, in_front, numbered, IsGenerated, IsSegmentOf, contents_items, places_of_contents, IsLaidOut, data_length_is, IsObjectOf}
 use Rattle.object_modules.specs.declared.segment.Segment.TheVariants as object_segments
-use Rattle.object_modules.specs.declared.segment.Target.{Target}
-use Rattle.object_modules.specs.declared.segment.Target.TheVariants.{InSegment, External}
-use Rattle.object_modules.specs.Module.{IsObjectModule, ObjectModule, Places as ObjectPlaces}
-use Rattle.image_laws.proofs.Images.NoHighs.{NoHighs, assembled_highs, no_high_targets}
-use Rattle.typed_trees.specs.TypedTrees.{TypedModule}
-use Rattle.layout.specs.Segments.{SegmentByte}
-use Rattle.layout.specs.Storage.{Storage}
-use Rattle.asm8080.specs.declared.item.Item.{Item}
 use Rattle.asm8080.specs.declared.item.Item.TheVariants as items
-use Rattle.asm8080.specs.declared.item.Reference.TheVariants.{AtTarget}
-use Rattle.asm8080.specs.Assembled.{Assembled}
-use Rattle.asm8080.specs.Items.{size_of_items}
-use Rattle.treecode.specs.declared.module.Content.{Content}
 use Rattle.treecode.specs.declared.module.Content.TheVariants as contents
-use Rattle.treecode.specs.declared.module.ExternalName.{ExternalName}
-use Rattle.treecode.specs.declared.module.TreeModule.{TreeModule}
 use Rattle.treecode.specs.declared.place.Place.TheVariants as places
-use Rattle.treecode.specs.Lowered.{IsLowered}
-use Rattle.steps8080.specs.Externals.{entry}
-use Rattle.steps8080.specs.Instructions.{high, low}
-use Rattle.steps8080.specs.Writer.{Written, in_front, numbered}
-use Rattle.codegen8080.specs.Modules.{IsGenerated, IsSegmentOf, contents_items}
-use Rattle.treecode_laws.specs.internal.Places.{places_of_contents}
-use Rattle.treecode_laws.specs.Laid.{IsLaidOut}
-use Rattle.treecode_laws.proofs.Lowered.{data_length_is}
-use Rattle.image_laws.specs.Objects.{IsObjectOf}
 use Rattle.program_laws.proofs.Contents.{in_front_of}
 use Rattle.program_laws.proofs.Placed.{places_length}
 use Rattle.program_laws.proofs.Segments.{data_keep}

@@ -1,29 +1,7 @@
 -- The objects of a module lie where it has them, at the addresses of its segments and its EXTERNAL names.
-use Rattle.std.proofs.Common.{◌≡◌, ℕ, ◌+◌, ◌%◌, ◌<◌, ◌≤◌, ◌⊎◌, inl, inr, List, [], get_or, length, Option, Some, None, refl, ap, sym, subst, ◌∙◌, arith}
-use Rattle.std.specs.Prelude.{slice_get, slice_index, zip}
-use Rattle.std.specs.Option.{option_and_then, option_map_or}
-use Rattle.std.proofs.lemmas.List.Elements.{recursion_from_All}
-use Rattle.std.proofs.lemmas.Option.{slice_get_cases, slice_get_past}
-use Rattle.object_modules.specs.declared.segment.Target.{Target}
-use Rattle.object_modules.specs.Module.{ObjectModule}
-use Rattle.typed_trees.specs.Storable.{HasPlace, IsStorable}
-use Rattle.typed_trees.specs.TypedTrees.{Home, InData, InConstants, Placed, BasedOn, Elsewhere, Nowhere, InFrame, TypedModule, TypedObject}
-use Rattle.layout.specs.Joined.{object_meant}
-use Rattle.layout.specs.Lawful.{HasAddresses, LiesWhereAtSays}
-use Rattle.layout.specs.Placement.{ModulePlacement}
-use Rattle.layout.specs.Segments.{Location, address_of_location, location_by_home, location_of, locations_after}
+use Rattle.program_laws.proofs.Prelude.{◌≡◌, ℕ, ◌+◌, ◌%◌, ◌<◌, ◌≤◌, ◌⊎◌, inl, inr, List, [], get_or, length, Option, Some, None, refl, ap, sym, subst, ◌∙◌, arith, slice_get, slice_index, zip, option_and_then, option_map_or, recursion_from_All, slice_get_cases, slice_get_past, Target, ObjectModule, HasPlace, IsStorable, InData, InConstants, Placed, BasedOn, Elsewhere, Nowhere, InFrame, TypedModule, TypedObject, object_meant, HasAddresses, LiesWhereAtSays, ModulePlacement, Location, address_of_location, location_by_home, location_of, locations_after, address_in, address_of_object, location_is, lies_at_location, of_all, Program, IsStatic, locations_length, got_both, in_module, LiesInMemory, bases_at, address_for}
+use Rattle.typed_trees.specs.TypedTrees.{Home}
 use Rattle.layout.specs.Segments.{Absolute as AtNumber}
-use Rattle.layout.specs.StartingMemory.{address_in, address_of_object}
-use Rattle.layout.proofs.Locations.{location_is}
-use Rattle.layout.proofs.PlacedLocations.{lies_at_location}
-use Rattle.layout.proofs.Segments.{of_all}
-use Rattle.meaning.specs.Outcomes.{Program}
-use Rattle.treecode_laws.specs.internal.Places.{IsStatic}
-use Rattle.image_laws.proofs.Memory.Addresses.{locations_length}
-use Rattle.image_laws.proofs.Memory.Lists.{got_both}
-use Rattle.procedure_laws.specs.OneModule.{in_module}
-use Rattle.program_laws.specs.OneModule.{LiesInMemory, bases_at}
-use Rattle.program_laws.specs.internal.Layouts.{address_for}
 
 modulo : (number : ℕ) → number % 65536 ≡ (number + 0) % 65536
 modulo number = omega arith

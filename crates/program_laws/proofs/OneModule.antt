@@ -1,32 +1,6 @@
 -- The object module of a module does on the machine what the module says, wherever it lies, by what calls do.
-use Rattle.std.proofs.Common.{◌≡◌, ℕ, suc, ◌+◌, Bool, true, List, [], Option, Some, None, refl, sym, ap, subst, ◌∙◌, arith, length}
-use Rattle.std.specs.Prelude.{nat_lt, if◌then◌else◌}
-use Rattle.std.specs.Option.{option_map_or}
-use Rattle.std.proofs.lemmas.Bool.{lt-ltb}
+use Rattle.program_laws.proofs.Prelude.{◌≡◌, ℕ, suc, ◌+◌, Bool, true, List, [], Option, Some, None, refl, sym, ap, subst, ◌∙◌, arith, length, nat_lt, if◌then◌else◌, option_map_or, lt-ltb, Target, InSegment, ObjectModule, TypedModule, TypedList, TypedStatements, ListOf, NoStatements, MoreStatements, has_statement, is_main, Storage, Program, main_done, run_of, at_place, Range, TreeModule, AreMoreStatements, AreNoStatements, AreStatements, HasBody, IsList, IsListOf, labels_numbered_in_list, nodes_of, place_of_label, has_main, numbers_of_lowered, Entries, EndsAs, ModuleCode, AllCallsAreKnown, ModuleDoes, OtherCallsAreKnown, around_in, does_by_others, module_does, AreEntered, DoesWhereItLies, LiesInMemory, start_place, IsSoundlyMade}
 use Rattle.object_modules.specs.declared.segment.Segment.TheVariants as segments
-use Rattle.object_modules.specs.declared.segment.Target.{Target}
-use Rattle.object_modules.specs.declared.segment.Target.TheVariants.{InSegment}
-use Rattle.object_modules.specs.Module.{ObjectModule}
-use Rattle.typed_trees.specs.TypedTrees.{TypedModule, TypedList, TypedStatements, ListOf, NoStatements, MoreStatements}
-use Rattle.layout.specs.Joined.{has_statement, is_main}
-use Rattle.layout.specs.Storage.{Storage}
-use Rattle.meaning.specs.Outcomes.{Program}
-use Rattle.meaning.specs.Run.{main_done, run_of}
-use Rattle.code_meaning.specs.Landing.{at_place}
-use Rattle.treecode.specs.declared.lists.Range.{Range}
-use Rattle.treecode.specs.declared.module.TreeModule.{TreeModule}
-use Rattle.treecode.specs.Lowered.{AreMoreStatements, AreNoStatements, AreStatements, HasBody, IsList, IsListOf, labels_numbered_in_list}
-use Rattle.treecode.specs.Nodes.{nodes_of}
-use Rattle.steps8080.specs.Writer.{place_of_label}
-use Rattle.codegen8080.specs.Modules.{has_main}
-use Rattle.task_laws.proofs.Ranges.NumbersOfTrees.{numbers_of_lowered}
-use Rattle.procedure_laws.specs.Calls.{Entries}
-use Rattle.procedure_laws.specs.Main.{EndsAs}
-use Rattle.procedure_laws.specs.Modules.{ModuleCode}
-use Rattle.procedure_laws.specs.OneModule.{AllCallsAreKnown, ModuleDoes, OtherCallsAreKnown, around_in}
-use Rattle.procedure_laws.proofs.OneModule.{does_by_others, module_does}
-use Rattle.program_laws.specs.OneModule.{AreEntered, DoesWhereItLies, LiesInMemory, start_place}
-use Rattle.program_laws.specs.Typed.{IsSoundlyMade}
 use Rattle.program_laws.proofs.Labels.{start_lies}
 use Rattle.program_laws.proofs.ModuleLies.{module_lies}
 use Rattle.program_laws.proofs.ModuleStands.{code_of, parts_stand}

@@ -1,19 +1,6 @@
 -- A segment of an object module has the bytes of the items of its code, with the targets that the module has for them.
-use Rattle.std.proofs.Common.{◌≡◌, ℕ, suc, ◌+◌, ◌≤◌, Bool, true, false, ◌&&◌, ◌||◌, not, ◌==◌, cond, List, [], ◌∷◌, length, map, find, Option, Some, None, option_map, refl, ap, subst, ◌∙◌, arith}
-use Rattle.std.specs.Prelude.{IsTrue, nat_le, nat_lt}
-use Rattle.std.specs.List.{AllByRecursion, list_all}
-use Rattle.std.specs.Option.{option_map_or}
-use Rattle.std.proofs.lemmas.Bool.{leb-true, ltb-true}
-use Rattle.object_modules.specs.declared.segment.Fix.{Fix}
-use Rattle.object_modules.specs.declared.segment.Target.{Target}
-use Rattle.object_modules.specs.declared.segment.TheConstants.{SEGMENT_LIMIT}
-use Rattle.object_modules.specs.Module.{Fixup, SetByte, Places, is_page, is_target, is_valid_byte, is_valid_segment, words_are_whole}
-use Rattle.object_modules.specs.Runs.{fixup_at}
-use Rattle.asm8080.specs.Assembled.{Assembled, fixed_bytes, layout_at, set_bytes}
-use Rattle.asm8080.proofs.Fixing.{set_of_items}
-use Rattle.steps8080.specs.Writer.{Written}
-use Rattle.codegen8080.specs.Targets.{retargeted}
-use Rattle.codegen8080.specs.Modules.{IsSegmentOf}
+use Rattle.program_laws.proofs.Prelude.{◌≡◌, ℕ, suc, ◌+◌, ◌≤◌, Bool, true, false, ◌&&◌, ◌||◌, not, ◌==◌, cond, List, [], ◌∷◌, length, map, find, Option, Some, None, option_map, refl, ap, subst, ◌∙◌, arith, IsTrue, nat_le, nat_lt, AllByRecursion, list_all, option_map_or, leb-true, ltb-true, Fix, Target, SEGMENT_LIMIT, Fixup, SetByte, is_page, is_target, is_valid_byte, is_valid_segment, words_are_whole, fixup_at, Assembled, fixed_bytes, layout_at, set_bytes, set_of_items, Written, retargeted, IsSegmentOf}
+use Rattle.object_modules.specs.Module.{Places}
 use Rattle.program_laws.proofs.Cells.{HasByte, at_zero, cells_of_bytes, places_are, set_length}
 
 -- a place whose fix has another target

@@ -1,56 +1,8 @@
 -- A program on the machine does what its source does.
-use Rattle.std.proofs.Common.{◌≡◌, ℕ, suc, ◌+◌, ◌%◌, ◌<◌, ◌≤◌, Bool, true, false, not, cond, List, [], ◌∷◌, length, Option, Some, None, refl, sym, ap, subst, ◌∙◌, arith}
-use Rattle.std.specs.Prelude.{◌==◌, All, IfSome, slice_get, find, count_by, if◌then◌else◌}
-use Rattle.std.specs.List.{position_or_len}
-use Rattle.std.specs.Option.{option_map_or, option_or}
-use Rattle.std.proofs.lemmas.Bool.{eqb-true, lt-ltb}
-use Rattle.std.proofs.lemmas.List.Folds.{find_at}
-use Rattle.std.proofs.lemmas.List.Sums.{sum_by-cons}
-use Rattle.std.proofs.lemmas.Option.{same_Some}
-use Rattle.std.proofs.lemmas.List.Elements.{recursion_from_All}
-use Rattle.mem80.specs.Memory.{IsMemory}
-use Rattle.mem80.specs.declared.memory.TheConstants.{MEMORY_SIZE}
+use Rattle.program_laws.proofs.Prelude.{◌≡◌, ℕ, suc, ◌+◌, ◌%◌, ◌<◌, ◌≤◌, Bool, true, false, not, cond, List, [], ◌∷◌, length, Option, Some, None, refl, sym, ap, subst, ◌∙◌, arith, ◌==◌, All, IfSome, slice_get, find, count_by, if◌then◌else◌, position_or_len, option_map_or, option_or, eqb-true, lt-ltb, find_at, sum_by-cons, same_Some, recursion_from_All, IsMemory, MEMORY_SIZE, Image, ObjectModule, Event, IsScript, TypedModule, IsJoined, JoinRefusal, NotOneMain, declared_otherwise, is_main, join_refusal, not_one_main, public_twice, without_public, linked_modules, StartsAt, piece_base, main_starts, starting_memory, Decides-declared, of_all, starts_as, plan_of, IsInMemory, placement_of, starts_as_its_source, Program, Shares, HoldBytes, Registers, wrap, HasTypes, IsTypedCode, has_types, Surroundings, later_by, AllCallsAreKnown, CallsFollow, ModuleDoes, around_in, calls_known, start_place, ModulesAre, entries_of, ModuleIs, made_of, public_address, targets_of, PlacingPlan, Gave, Onward, Stop, SourceState, NeverOutside, Run, main_done, number_of_main, run_of, source_run, running, state_after, Status, State, Arrived, EndsAs, IsLeft, Agrees, ComesTo, Performs}
 use Rattle.object_modules.specs.declared.segment.Segment.TheVariants as segments
-use Rattle.object_modules.specs.Image.{Image}
-use Rattle.object_modules.specs.Module.{ObjectModule}
-use Rattle.ports.specs.declared.event.Event.{Event}
-use Rattle.ports.specs.Input.{IsScript}
-use Rattle.typed_trees.specs.TypedTrees.{TypedModule}
-use Rattle.layout.specs.Joined.{IsJoined, JoinRefusal, NotOneMain, declared_otherwise, is_main, join_refusal, not_one_main, public_twice, without_public}
-use Rattle.object_modules.specs.Displacements.{linked_modules}
-use Rattle.image_laws.specs.internal.InMemory.{StartsAt, piece_base}
-use Rattle.image_laws.proofs.Images.Starts.{main_starts}
-use Rattle.layout.specs.StartingMemory.{starting_memory}
-use Rattle.layout.proofs.Declared.{Decides-declared}
-use Rattle.layout.proofs.Segments.{of_all}
-use Rattle.layout.proofs.StartingBytes.{starts_as}
-use Rattle.image_laws.specs.internal.AtPlans.{plan_of}
-use Rattle.image_laws.specs.internal.ProgramInMemory.{IsInMemory, placement_of}
-use Rattle.image_laws.proofs.Memory.Starting.{starts_as_its_source}
-use Rattle.meaning.specs.Outcomes.{Program}
-use Rattle.code_meaning.specs.Activations.{Shares}
-use Rattle.isa8080.specs.State.{HoldBytes, Registers, wrap}
-use Rattle.task_laws.specs.ProgramTypes.{HasTypes}
-use Rattle.task_laws.proofs.Ranges.NumbersOfTrees.{IsTypedCode, has_types}
-use Rattle.meaning.specs.Access.{Surroundings}
-use Rattle.meaning.specs.Meaning.{later_by}
-use Rattle.procedure_laws.specs.OneModule.{AllCallsAreKnown, CallsFollow, ModuleDoes, around_in}
-use Rattle.procedure_laws.proofs.KnownCalls.{calls_known}
-use Rattle.program_laws.specs.OneModule.{start_place}
 use Rattle.program_laws.proofs.OneModule.{object_does, started}
 use Rattle.program_laws.proofs.Linked.{are_entered, lies_in_memory, program_of}
-use Rattle.program_laws.specs.internal.Entering.{ModulesAre, entries_of}
-use Rattle.program_laws.specs.internal.Linked.{ModuleIs, made_of, public_address, targets_of}
-use Rattle.layout.specs.Placing.{Plan as PlacingPlan}
-use Rattle.meaning.specs.Outcomes.{Gave, Onward, Stop, State as SourceState}
-use Rattle.meaning.specs.Run.{NeverOutside, Run, main_done, number_of_main, run_of, source_run}
-use Rattle.isa8080.specs.Step.{running, state_after}
-use Rattle.isa8080.specs.declared.registers.Status.{Status}
-use Rattle.isa8080.specs.State.{State}
-use Rattle.procedure_laws.specs.Main.{ComesTo as Arrived, EndsAs}
-use Rattle.code_meaning.specs.Landing.{IsLeft}
-use Rattle.program_laws.specs.Agreement.{Agrees}
-use Rattle.program_laws.specs.internal.Performing.{ComesTo, Performs}
 use Rattle.program_laws.proofs.Agreeing.{agrees}
 
 -- the first of a list that passes a test

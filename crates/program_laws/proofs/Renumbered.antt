@@ -1,17 +1,5 @@
 -- Code that was written by numbers of its own stands as the items of its module, by the module's numbers.
-use Rattle.std.proofs.Common.{◌≡◌, ℕ, ◌+◌, List, [], ◌∷◌, Option, Some, None, option_map, refl, sym, ap, ◌∙◌, subst, arith}
-use Rattle.object_modules.specs.declared.segment.Segment.{Segment}
-use Rattle.object_modules.specs.declared.segment.Target.TheVariants.{InSegment, External}
-use Rattle.isa8080.specs.Code.{bytes_of}
-use Rattle.isa8080.specs.State.{high_byte, low_byte, wrap}
-use Rattle.asm8080.specs.declared.item.Item.{Item}
-use Rattle.asm8080.specs.declared.item.Item.TheVariants.{Plain, WithWord, Byte, Address, Gap, Mark}
-use Rattle.asm8080.specs.declared.item.Reference.{Reference}
-use Rattle.asm8080.specs.declared.item.Reference.TheVariants.{AtLabel, AtTarget, AtNumber}
-use Rattle.asm8080.specs.Items.{Layout, Stands, instruction_with, word_of}
-use Rattle.asm8080.specs.Standing.{BytesStand}
-use Rattle.steps8080.specs.Externals.{entry}
-use Rattle.steps8080.specs.Writer.{Written, in_front, numbered, numbered_reference}
+use Rattle.program_laws.proofs.Prelude.{◌≡◌, ℕ, ◌+◌, List, [], ◌∷◌, Option, Some, None, option_map, refl, sym, ap, ◌∙◌, subst, arith, Segment, InSegment, External, bytes_of, high_byte, low_byte, wrap, Item, Plain, WithWord, Byte, Address, Gap, Mark, Reference, AtLabel, AtTarget, AtNumber, Layout, Stands, instruction_with, word_of, BytesStand, entry, Written, in_front, numbered, numbered_reference}
 
 -- a layout by the module's numbers is one by the numbers of code
 pub record LaysOut (written : Written) (own layout : Layout) : Type 0 where

@@ -1,53 +1,9 @@
 -- The places of tree code have addresses where the program lies: those at which its objects and lists begin.
-use Rattle.std.proofs.Common.{◌≡◌, ℕ, ◌+◌, ◌%◌, ◌<◌, Bool, List, length, zip, Option, Some, None, refl, sym, ap, ◌∙◌, arith}
-use Rattle.std.specs.Prelude.{slice_get, slice_index}
-use Rattle.std.specs.List.{enumerate_from}
-use Rattle.std.specs.Option.{option_map_or}
-use Rattle.std.proofs.lemmas.List.Elements.{recursion_from_All}
-use Rattle.std.proofs.lemmas.List.{length-map}
-use Rattle.std.proofs.lemmas.List.FromFn.{length-enumerate_from}
-use Rattle.std.proofs.lemmas.Option.{slice_get-get_or}
-use Rattle.mem80.specs.declared.memory.TheConstants.{MEMORY_SIZE}
+use Rattle.program_laws.proofs.Prelude.{◌≡◌, ℕ, ◌+◌, ◌%◌, ◌<◌, Bool, List, length, zip, Option, Some, None, refl, sym, ap, ◌∙◌, arith, slice_get, slice_index, enumerate_from, option_map_or, recursion_from_All, length-map, length-enumerate_from, slice_get-get_or, MEMORY_SIZE, Target, InSegment, ObjectModule, TypedHome, InData, InConstants, Placed, BasedOn, Elsewhere, Nowhere, InFrame, TypedModule, TypedObject, Slot, address_of_slot, base_of, ModulePlacement, address_of_location, address_of_object, Storage, slot_of_list, storage_with, of_all, object_address, InMemory, Surroundings, home_in, home_of, address_of_list, based_place, Program, Gave, wrap, Layout, ExternalName, Home, Static, Place, static_place, homes_of, number_of_place, place_after, offset_of_list, home_at, Resolves, IsStatic, location_of_place, any_lies, IsStored, list_offset, got_both, got_numbered, some_within, place_at, IsGenerated, around_in, LiesInMemory, bases_at, address_for, module_layout, IsSoundlyMade}
 use Rattle.object_modules.specs.declared.segment.Segment.TheVariants as segments
-use Rattle.object_modules.specs.declared.segment.Target.{Target}
-use Rattle.object_modules.specs.declared.segment.Target.TheVariants.{InSegment}
-use Rattle.object_modules.specs.Module.{ObjectModule}
-use Rattle.typed_trees.specs.TypedTrees.{Home as TypedHome, InData, InConstants, Placed, BasedOn, Elsewhere, Nowhere, InFrame, TypedModule, TypedObject}
 use Rattle.layout.specs.declared.slot.Segment.TheVariants as slots
-use Rattle.layout.specs.declared.slot.Slot.{Slot}
-use Rattle.layout.specs.Following.{address_of_slot, base_of}
-use Rattle.layout.specs.Placement.{ModulePlacement}
-use Rattle.layout.specs.Segments.{address_of_location}
-use Rattle.layout.specs.StartingMemory.{address_of_object}
-use Rattle.layout.specs.Storage.{Storage, slot_of_list, storage_with}
-use Rattle.layout.proofs.Segments.{of_all}
-use Rattle.meaning.specs.Access.{address_of as object_address}
-use Rattle.meaning.specs.Access.{InMemory, Surroundings, home_in, home_of}
-use Rattle.meaning.specs.Meaning.{address_of_list, based_place}
-use Rattle.meaning.specs.Outcomes.{Program, State, Gave}
-use Rattle.isa8080.specs.State.{wrap}
-use Rattle.asm8080.specs.Items.{Layout}
-use Rattle.treecode.specs.declared.module.ExternalName.{ExternalName}
-use Rattle.treecode.specs.declared.place.Home.{Home}
-use Rattle.treecode.specs.declared.place.Home.TheVariants.{Static}
-use Rattle.treecode.specs.declared.place.Place.{Place}
+use Rattle.meaning.specs.Outcomes.{State}
 use Rattle.treecode.specs.declared.place.Place.TheVariants as places
-use Rattle.treecode.specs.Contents.{static_place}
-use Rattle.treecode.specs.Homes.{homes_of, number_of_place, place_after}
-use Rattle.treecode.specs.Known.{offset_of_list}
-use Rattle.treecode.specs.Nodes.{home_at}
-use Rattle.treecode.specs.Resolved.{Resolves}
-use Rattle.treecode_laws.specs.internal.Places.{IsStatic, location_of_place}
-use Rattle.treecode_laws.proofs.Homes.{any_lies}
-use Rattle.treecode_laws.specs.Laid.{IsStored}
-use Rattle.treecode_laws.proofs.Slots.{list_offset}
-use Rattle.image_laws.proofs.Memory.Lists.{got_both, got_numbered, some_within}
-use Rattle.code_meaning.specs.Holding.{place_at}
-use Rattle.codegen8080.specs.Modules.{IsGenerated}
-use Rattle.procedure_laws.specs.OneModule.{around_in}
-use Rattle.program_laws.specs.OneModule.{LiesInMemory, bases_at}
-use Rattle.program_laws.specs.internal.Layouts.{address_for, module_layout}
-use Rattle.program_laws.specs.Typed.{IsSoundlyMade}
 use Rattle.program_laws.proofs.ObjectsLie.{has_addresses, object_lies}
 use Rattle.program_laws.proofs.Homes.{not_based, not_in_frame}
 

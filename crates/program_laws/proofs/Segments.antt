@@ -1,38 +1,10 @@
 -- The object module of a module has its segments: the code begins with the constants, the data are the variables, and
 -- each PUBLIC object is a public where it lies.
-use Rattle.std.proofs.Common.{◌≡◌, ℕ, zero, suc, true, List, [], ◌∷◌, ◌++◌, length, map, Some, refl, sym, ap, subst, ◌∙◌, append-nil}
-use Rattle.std.specs.Prelude.{slice_get}
-use Rattle.std.specs.List.{AllByRecursion}
-use Rattle.std.proofs.lemmas.List.Elements.{recursion_from_All}
-use Rattle.std.proofs.lemmas.Option.{none-some, same_Some}
-use Rattle.object_modules.specs.Module.{IsObjectModule, ObjectModule, Public}
-use Rattle.typed_trees.specs.declared.parts.GlobalItem.{GlobalItem}
-use Rattle.typed_trees.specs.declared.parts.GlobalItem.TheVariants.{GlobalObject}
-use Rattle.typed_trees.specs.Globals.{IsHereIfPublic, is_shared}
-use Rattle.typed_trees.specs.TypedTrees.{Home as TypedHome, InData, InConstants, Placed, BasedOn, Elsewhere, Nowhere, InFrame, TypedObject, TypedModule}
-use Rattle.layout.proofs.Segments.{of_all}
-use Rattle.layout.specs.Segments.{Location, Places, constant_places, data_places, location_of}
-use Rattle.layout.specs.Storage.{Storage}
-use Rattle.asm8080.specs.declared.item.Item.{Item}
-use Rattle.asm8080.specs.Assembled.{Assembled, layout_at}
-use Rattle.asm8080.proofs.Fixing.{set_of_items}
-use Rattle.treecode.specs.declared.module.ExternalName.{ExternalName}
-use Rattle.treecode.specs.declared.module.PublicName.{PublicName}
+use Rattle.program_laws.proofs.Prelude.{◌≡◌, ℕ, zero, suc, true, List, [], ◌∷◌, ◌++◌, length, map, Some, refl, sym, ap, subst, ◌∙◌, append-nil, slice_get, AllByRecursion, recursion_from_All, none-some, same_Some, IsObjectModule, ObjectModule, Public, GlobalItem, GlobalObject, IsHereIfPublic, is_shared, TypedHome, InData, InConstants, Placed, BasedOn, Elsewhere, Nowhere, InFrame, TypedObject, TypedModule, of_all, Location, Places, constant_places, data_places, location_of, Storage, Item, Assembled, layout_at, set_of_items, ExternalName, PublicName, TreeModule, Home, Place, public_item, publics_of, externals_of, homes_of, IsLowered, Written, numbered, ArePublicsOf, IsAtPlace, IsGenerated, IsOwnCode, IsPublicOf, contents_items, KeepWords, location_of_place, places_of_contents, IsLaidOut, code_is, data_is, BeginWith, HasPublic, HasSegments, IsPublicAt}
 use Rattle.treecode.specs.declared.module.PublicPlace.TheVariants as public_places
-use Rattle.treecode.specs.declared.module.TreeModule.{TreeModule}
-use Rattle.treecode.specs.declared.place.Home.{Home}
-use Rattle.treecode.specs.declared.place.Place.{Place}
 use Rattle.treecode.specs.declared.place.Place.TheVariants as places
-use Rattle.treecode.specs.Contents.{public_item, publics_of}
-use Rattle.treecode.specs.Homes.{externals_of, homes_of}
-use Rattle.treecode.specs.Lowered.{IsLowered}
-use Rattle.steps8080.specs.Writer.{Written, numbered}
-use Rattle.codegen8080.specs.Modules.{ArePublicsOf, IsAtPlace, IsGenerated, IsOwnCode, IsPublicOf, contents_items}
-use Rattle.treecode_laws.specs.internal.Places.{IsHere, KeepWords, location_of_place, places_of_contents}
-use Rattle.treecode_laws.specs.Laid.{IsLaidOut}
-use Rattle.treecode_laws.proofs.Lowered.{code_is, data_is}
+use Rattle.treecode_laws.specs.internal.Places.{IsHere}
 use Rattle.treecode_laws.proofs.Publics.{public_lies}
-use Rattle.image_laws.specs.Segments.{BeginWith, HasPublic, HasSegments, IsPublicAt}
 use Rattle.program_laws.proofs.Cells.{HasByte, at_zero}
 use Rattle.program_laws.proofs.Contents.{IsWordContent, contents_begin, contents_keep}
 use Rattle.program_laws.proofs.Listed.{InList, kept_in, object_listed}

@@ -1,23 +1,6 @@
 -- PUBLIC and EXTERNAL procedures among the names of a module.
-use Rattle.std.proofs.Common.{◌≡◌, ℕ, zero, suc, ◌+◌, Bool, true, false, List, [], ◌∷◌, Option, Some, None, cond, refl, ap, sym, ◌∙◌, subst, arith}
-use Rattle.std.specs.Prelude.{◌||◌, filter_map, slice_get, unwrap_or}
-use Rattle.std.specs.List.{cons_option, enumerate_from, list_any}
-use Rattle.std.specs.Option.{option_and_then, option_map_or}
-use Rattle.std.proofs.lemmas.Bool.{false≢true, eq-eqb, eqb-true}
-use Rattle.std.proofs.lemmas.Option.{none-some, same_Some}
-use Rattle.typed_trees.specs.declared.parts.GlobalItem.{GlobalItem}
-use Rattle.typed_trees.specs.declared.parts.GlobalItem.TheVariants.{GlobalObject, GlobalProcedure}
-use Rattle.typed_trees.specs.declared.parts.Visibility.{Visibility}
+use Rattle.program_laws.proofs.Prelude.{◌≡◌, ℕ, zero, suc, ◌+◌, Bool, true, false, List, [], ◌∷◌, Option, Some, None, cond, refl, ap, sym, ◌∙◌, subst, arith, ◌||◌, filter_map, slice_get, unwrap_or, cons_option, enumerate_from, list_any, option_and_then, option_map_or, false≢true, eq-eqb, eqb-true, none-some, same_Some, GlobalItem, GlobalObject, GlobalProcedure, Visibility, ListsGlobals, global_procedure, is_global, shared_procedure, TypedModule, TypedProcedure, ExternalName, Procedure, Home, public_item, public_procedure, publics_of, external_name, external_number, external_procedure, externals_of, is_global_procedure, name_at, Finds, finds}
 use Rattle.typed_trees.specs.declared.parts.Visibility.TheVariants as visibilities
-use Rattle.typed_trees.specs.Globals.{ListsGlobals, global_procedure, is_global, shared_procedure}
-use Rattle.typed_trees.specs.TypedTrees.{TypedModule, TypedProcedure}
-use Rattle.treecode.specs.declared.module.ExternalName.{ExternalName}
-use Rattle.treecode.specs.declared.module.PublicPlace.TheVariants.{Procedure}
-use Rattle.treecode.specs.declared.place.Home.{Home}
-use Rattle.treecode.specs.Contents.{public_item, public_procedure, publics_of}
-use Rattle.treecode.specs.Homes.{external_name, external_number, external_procedure, externals_of, is_global_procedure}
-use Rattle.treecode_laws.specs.internal.Places.{name_at}
-use Rattle.treecode_laws.proofs.Externals.{Finds, finds}
 
 -- an item stands in a list
 pub record InList {A : Type 0} (list : List A) (item : A) : Type 0 where

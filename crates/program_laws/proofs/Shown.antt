@@ -1,16 +1,5 @@
 -- PUBLIC procedures among the publics of an object module.
-use Rattle.std.proofs.Common.{◌≡◌, ℕ, zero, suc, List, [], ◌∷◌, Some, refl, ap, ◌∙◌, subst}
-use Rattle.std.specs.Prelude.{slice_get}
-use Rattle.std.proofs.lemmas.Option.{none-some, same_Some}
-use Rattle.object_modules.specs.Module.{ObjectModule, Public}
-use Rattle.typed_trees.specs.TypedTrees.{TypedModule}
-use Rattle.asm8080.specs.Assembled.{Assembled}
-use Rattle.treecode.specs.declared.module.PublicName.{PublicName}
-use Rattle.treecode.specs.declared.module.PublicPlace.TheVariants.{Procedure}
-use Rattle.steps8080.specs.Writer.{Written, place_of_label}
-use Rattle.codegen8080.specs.Modules.{ArePublicsOf, IsPublicOf}
-use Rattle.program_laws.specs.OneModule.{ShowsProcedures}
-use Rattle.program_laws.specs.Typed.{IsSoundlyMade}
+use Rattle.program_laws.proofs.Prelude.{◌≡◌, ℕ, zero, suc, List, [], ◌∷◌, Some, refl, ap, ◌∙◌, subst, slice_get, none-some, same_Some, ObjectModule, Public, TypedModule, Assembled, PublicName, Procedure, Written, place_of_label, ArePublicsOf, IsPublicOf, ShowsProcedures, IsSoundlyMade}
 use Rattle.program_laws.proofs.Shared.{public_in}
 
 -- the public that a PUBLIC name is

@@ -1,30 +1,7 @@
 -- Variables of the data segment have no byte in common, wherever the segment lies.
-use Rattle.std.proofs.Common.{◌≡◌, ◌≢◌, ℕ, zero, suc, ◌+◌, ◌<◌, ◌≤◌, ◌⊎◌, inl, inr, List, [], ◌∷◌, take, slice_get, Some, refl, ap, sym, ◌∙◌, arith}
-use Rattle.std.proofs.lemmas.List.Sums.{sum_by-cons}
-use Rattle.std.proofs.lemmas.Option.{none-some, same_Some}
+use Rattle.program_laws.proofs.Prelude.{◌≡◌, ◌≢◌, ℕ, zero, suc, ◌+◌, ◌<◌, ◌≤◌, ◌⊎◌, inl, inr, List, [], ◌∷◌, take, slice_get, Some, refl, ap, sym, ◌∙◌, arith, sum_by-cons, none-some, same_Some, InSegment, size_of_object, TypedHome, InData, TypedModule, TypedObject, Data, After, SegmentStart, location_by_home, locations_after, Storage, bytes_in_data, data_bytes, location_is, wrap, ExternalName, Home, Static, Place, static_place, externals_of, homes_of, home_at, location_of_place, IsLaidOut, object_lies, data_offset, place_at, ModuleCode, VariablesAreApart}
 use Rattle.object_modules.specs.declared.segment.Segment.TheVariants as segments
-use Rattle.object_modules.specs.declared.segment.Target.TheVariants.{InSegment}
-use Rattle.typed_trees.specs.Sizes.{size_of_object}
-use Rattle.typed_trees.specs.TypedTrees.{Home as TypedHome, InData, TypedModule, TypedObject}
-use Rattle.layout.specs.declared.slot.Segment.TheVariants.{Data}
-use Rattle.layout.specs.Segments.{After, SegmentStart, location_by_home, locations_after}
-use Rattle.layout.specs.Storage.{Storage, bytes_in_data, data_bytes}
-use Rattle.layout.proofs.Locations.{location_is}
-use Rattle.isa8080.specs.State.{wrap}
-use Rattle.treecode.specs.declared.module.ExternalName.{ExternalName}
-use Rattle.treecode.specs.declared.place.Home.{Home}
-use Rattle.treecode.specs.declared.place.Home.TheVariants.{Static}
-use Rattle.treecode.specs.declared.place.Place.{Place}
 use Rattle.treecode.specs.declared.place.Place.TheVariants as places
-use Rattle.treecode.specs.Contents.{static_place}
-use Rattle.treecode.specs.Homes.{externals_of, homes_of}
-use Rattle.treecode.specs.Nodes.{home_at}
-use Rattle.treecode_laws.specs.internal.Places.{location_of_place}
-use Rattle.treecode_laws.specs.Laid.{IsLaidOut}
-use Rattle.treecode_laws.proofs.Homes.{object_lies}
-use Rattle.treecode_laws.proofs.Slots.{data_offset}
-use Rattle.code_meaning.specs.Holding.{place_at}
-use Rattle.procedure_laws.specs.Modules.{ModuleCode, VariablesAreApart}
 
 -- the bytes of an object in the data segment are before those of each object after it
 before : (objects : List TypedObject) (one other : ℕ) (found : TypedObject)

@@ -1,23 +1,8 @@
 -- What contents of tree code count from a segment or a name is a word.
-use Rattle.std.proofs.Common.{ℕ, ◌+◌, ◌-◌, Bool, true, false, List, [], ◌∷◌, ◌++◌, map, Option, Some, None, min, arith}
-use Rattle.std.specs.Prelude.{nat_le, nat_lt, ◌&&◌, ◌==◌, slice_get, sum_by, if◌then◌else◌}
-use Rattle.std.specs.List.{AllByRecursion}
-use Rattle.std.specs.Option.{option_map_or}
-use Rattle.typed_trees.specs.declared.parts.ConstantItem.{ConstantItem}
-use Rattle.typed_trees.specs.declared.parts.ConstantItem.TheVariants.{ConstantObject, ConstantList}
-use Rattle.typed_trees.specs.declared.parts.InitialValue.{InitialValue}
-use Rattle.typed_trees.specs.declared.parts.InitialValue.TheVariants.{ByteValue, WordValue, LocationValue}
-use Rattle.typed_trees.specs.Sizes.{size_of_object}
-use Rattle.typed_trees.specs.TypedTrees.{Home as TypedHome, InData, InConstants, Placed, BasedOn, Elsewhere, Nowhere, InFrame, TypedObject, TypedModule}
-use Rattle.treecode.specs.declared.module.Content.{Content}
-use Rattle.treecode.specs.declared.module.Content.TheVariants.{Byte, Word, Gap}
-use Rattle.treecode.specs.declared.place.Home.{Home}
+use Rattle.program_laws.proofs.Prelude.{ℕ, ◌+◌, ◌-◌, Bool, true, false, List, [], ◌∷◌, ◌++◌, map, Option, Some, None, min, arith, nat_le, nat_lt, ◌&&◌, ◌==◌, slice_get, sum_by, if◌then◌else◌, AllByRecursion, option_map_or, ConstantItem, ConstantObject, ConstantList, InitialValue, ByteValue, WordValue, LocationValue, size_of_object, TypedHome, InData, InConstants, Placed, BasedOn, Elsewhere, Nowhere, InFrame, TypedObject, TypedModule, Content, Word, Home, Place, place_from, content_of, size_of_value, with_gap, with_gap_if_any, with_object, constant_object, static_object, with_constant, constants_from, constants_of, variables_from, variables_of, place_after, home_at}
+use Rattle.treecode.specs.declared.module.Content.TheVariants.{Byte, Gap}
 use Rattle.treecode.specs.declared.place.Home.TheVariants as homes
-use Rattle.treecode.specs.declared.place.Place.{Place}
 use Rattle.treecode.specs.declared.place.Place.TheVariants as places
-use Rattle.treecode.specs.Contents.{place_from, content_of, size_of_value, with_gap, with_gap_if_any, with_object, constant_object, static_object, with_constant, constants_from, constants_of, variables_from, variables_of}
-use Rattle.treecode.specs.Homes.{place_after}
-use Rattle.treecode.specs.Nodes.{home_at}
 use Rattle.program_laws.proofs.Contents.{IsWordPlace, IsWordContent}
 
 -- contents of which each is

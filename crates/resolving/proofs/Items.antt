@@ -1,7 +1,5 @@
 -- What is left of a list, item by item.
-use Rattle.std.proofs.Common.{◌≡◌, ℕ, suc, ◌+◌, ◌<◌, ◌≤◌, List, [], ◌∷◌, drop, get_or, length, ap, sym, ◌∙◌, add-one}
-use Rattle.std.proofs.Math.ListN.{drop_of_length-le}
-use Rattle.std.proofs.Math.Seq.{drop-cons}
+use Rattle.resolving.proofs.Prelude.{◌≡◌, ℕ, suc, ◌+◌, ◌<◌, ◌≤◌, List, [], ◌∷◌, drop, get_or, length, ap, sym, ◌∙◌, add-one, drop_of_length-le, drop-cons}
 
 module _ {A Y : Type 0} (of : List A → Y) (items : List A) (i : ℕ) where
   pub at_item : (item : A) → i < length items → item ≡ get_or items i item → of (drop i items) ≡ of (item ∷ drop (i + 1) items)

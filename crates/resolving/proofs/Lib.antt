@@ -1,3 +1,4 @@
+mod Prelude
 pub mod Items
 pub mod PublicNames
 pub mod Sites

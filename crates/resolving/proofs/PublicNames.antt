@@ -1,24 +1,10 @@
 -- The tables of PUBLICs: how they are filled, and that they have the first one of each name.
-use Rattle.std.proofs.Common.{◌≡◌, ℕ, ◌+◌, ◌<◌, ◌≤◌, Bool, true, false, ◌&&◌, cond, List, [], ◌∷◌, ◌++◌, map, length, drop, get_or, is_some, Option, None, Some, option_map, if◌then◌else◌, refl, ap, sym, subst, ◌∙◌, true≢false}
-use Rattle.std.specs.List.{position, position_from}
-use Rattle.std.specs.Map.{lookup}
-use Rattle.std.specs.Option.{option_or}
-use Rattle.std.specs.Str.{bytes_eq}
-use Rattle.std.proofs.lemmas.Cmp.{nat_list_eq_equiv}
-use Rattle.std.proofs.lemmas.Iterator.Adapters.{position_from-zero}
-use Rattle.std.proofs.lemmas.Slice.Eq.{bytes_eq-Decides}
+use Rattle.resolving.proofs.Prelude.{◌≡◌, ℕ, ◌+◌, ◌<◌, ◌≤◌, Bool, true, false, ◌&&◌, cond, List, [], ◌∷◌, ◌++◌, map, length, drop, get_or, is_some, Option, None, Some, option_map, if◌then◌else◌, refl, ap, sym, subst, ◌∙◌, true≢false, position, position_from, lookup, option_or, bytes_eq, nat_list_eq_equiv, position_from-zero, bytes_eq-Decides, Typed, CodeObject, CodeProcedure, TypedModule, module_view, object_view, procedure_view, InProgram, in_module, first_found, is_public_procedure, public_object_in, public_procedure_in, Table, found_at, with_found, with_public, with_items, with_modules, is_public_object, name_of_object, is_shown_procedure, name_of_procedure, objects_of, procedures_of, with_objects, with_procedures, with_all_objects, with_all_procedures, public_objects, public_procedures}
 use Rattle.indexmap.specs.IndexMap.{insert_entry}
 use Rattle.symbols.specs.contracts.name.NamePartialEq.TheImpl.{eq-value}
 use Rattle.symbols.proofs.Keys.{same_keys}
-use Rattle.typed_trees.specs.declared.module.Typed.{Typed}
-use Rattle.typed_trees.specs.declared.module.TypedObject.{TypedObject as CodeObject}
-use Rattle.typed_trees.specs.declared.module.TypedProcedure.{TypedProcedure as CodeProcedure}
-use Rattle.typed_trees.specs.TypedTrees.{TypedModule}
-use Rattle.typed_trees.specs.Views.{module_view, object_view, procedure_view}
-use Rattle.layout.specs.Joined.{InProgram, in_module, first_found, is_public_procedure, public_object_in, public_procedure_in}
 use Rattle.resolving.specs.declared.publics.Found.{Found}
 use Rattle.resolving.specs.Views.{found_view}
-use Rattle.resolving.specs.internal.PublicNames.{Table, found_at, with_found, with_public, with_items, with_modules, is_public_object, name_of_object, is_shown_procedure, name_of_procedure, objects_of, procedures_of, with_objects, with_procedures, with_all_objects, with_all_procedures, public_objects, public_procedures}
 use Rattle.resolving.proofs.Items.{at_item, at_end}
 
 pub found_some : (table : Table) (name : List ℕ) (found : Found) → Some found ≡ lookup (eq-value.it name) table → Some found ≡ lookup (bytes_eq name) table

@@ -1,10 +1,5 @@
 -- What names and numbers mean where a part of a program stands.
-use Rattle.std.proofs.Common.{◌≡◌, ℕ, Option, None, Some, refl, ap, sym, ◌∙◌}
-use Rattle.std.specs.Option.{option_and_then, option_map_or}
-use Rattle.std.specs.Prelude.{slice_get}
-use Rattle.typed_trees.specs.TypedTrees.{TypedModule}
-use Rattle.layout.specs.Joined.{InProgram}
-use Rattle.layout.specs.StartingMemory.{address_in, meant_in}
+use Rattle.resolving.proofs.Prelude.{◌≡◌, ℕ, Option, None, Some, refl, ap, sym, ◌∙◌, option_and_then, option_map_or, slice_get, TypedModule, InProgram, address_in, meant_in}
 use Rattle.meaning.specs.Access.{Surroundings, address_of}
 use Rattle.resolving.specs.internal.Sites.{meant_at}
 

@@ -1,13 +1,6 @@
 -- What an assembly is to which a routine was added.
-use Rattle.std.proofs.Common.{◌≡◌, ℕ, ◌+◌, ◌<◌, ◌≤◌, List, ◌++◌, refl, sym, ap, subst, ◌∙◌, arith}
-use Rattle.asm8080.specs.declared.item.Item.{Item}
-use Rattle.asm8080.specs.Items.{Assembly, IsAssembly, is_bound, size_of_items}
-use Rattle.runtime8080.specs.declared.routine.Routine.{Routine}
+use Rattle.runtime8080.proofs.Prelude.{◌≡◌, ℕ, ◌+◌, ◌<◌, ◌≤◌, List, ◌++◌, refl, sym, ap, subst, ◌∙◌, arith, Item, Assembly, IsAssembly, is_bound, size_of_items, Routine, AddsRoutine, IsRoutine, size_of_routine, divide_with, labels_of, listing, move_bytes_with, multiply_with, shift_right_address_with, shift_left_address, rotate_left, rotate_right, shift_left_byte, shift_right_byte, Fits, with_routine, unbound_from}
 use Rattle.runtime8080.specs.declared.routine.Routine.TheVariants.{Divide, Multiply, Move, RotateLeft, RotateRight, ShiftLeftAddress, ShiftRightAddress, ShiftLeftByte, ShiftRightByte}
-use Rattle.runtime8080.specs.Routines.{AddsRoutine, IsRoutine, size_of_routine}
-use Rattle.runtime8080.specs.internal.Listings.{divide_with, labels_of, listing, move_bytes_with, multiply_with, shift_right_address_with, shift_left_address, rotate_left, rotate_right, shift_left_byte, shift_right_byte}
-use Rattle.runtime8080.specs.internal.Emission.{Fits, with_routine}
-use Rattle.asm8080.proofs.ItemLemmas.{unbound_from}
 use Rattle.runtime8080.proofs.Labels.{AllDiffer, AllFrom, AllKnown, AllOwn, Differs, all_own, bound_by, fit_items, none_bound, not_bound, not_true, true_unless, unbound_differs}
 use Rattle.runtime8080.proofs.Rotations.{rotates_left, rotates_right}
 use Rattle.runtime8080.proofs.LeftShift.{shifts_address_left}

@@ -1,14 +1,6 @@
 -- The arithmetic of the shifts of an ADDRESS: words of two bytes, their halves and quarters, and the 24 bits of A, H
 -- and L doubled.
-use Rattle.std.proofs.Common.{◌≡◌, ℕ, suc, ◌+◌, ◌*◌, ◌/◌, ◌%◌, ◌^◌, ◌<◌, ◌≤◌, ◌==◌, Bool, true, false, not, nat_le, refl, sym, ap, ◌∙◌, arith, pow-add}
-use Rattle.std.specs.Prelude.{bit_and, bit_xor}
-use Rattle.std.specs.Int.Bits.{xor_assoc, xor_self, xor_zero_l, xor_zero_r}
-use Rattle.std.specs.Int.Count.{ones}
-use Rattle.std.proofs.Math.Nat.{div-div-eq-div-mul, div-eq_of_lt, mod-eq_of_lt, mul-div-mul_right, pow-le-pow_right, pow-suc}
-use Rattle.std.proofs.lemmas.Nat.{mul-mod_first, pow_pos, xor_mod, xor_of_8, xor_shr}
-use Rattle.std.proofs.lemmas.Bool.{leb-false, leb-true}
-use Rattle.isa8080.specs.Flags.{bit, has_even_parity}
-use Rattle.isa8080.specs.State.{word, wrap}
+use Rattle.runtime8080.proofs.Prelude.{◌≡◌, ℕ, suc, ◌+◌, ◌*◌, ◌/◌, ◌%◌, ◌^◌, ◌<◌, ◌≤◌, ◌==◌, Bool, true, false, not, nat_le, refl, sym, ap, ◌∙◌, arith, pow-add, bit_and, bit_xor, xor_assoc, xor_self, xor_zero_l, xor_zero_r, ones, div-div-eq-div-mul, div-eq_of_lt, mod-eq_of_lt, mul-div-mul_right, pow-le-pow_right, pow-suc, mul-mod_first, pow_pos, xor_mod, xor_of_8, xor_shr, leb-false, leb-true, bit, has_even_parity, word, wrap}
 use Rattle.runtime8080.proofs.Bits.{equal_below, turn_right}
 
 pub of_bytes : (w : ℕ) → word (w / 256) (w % 256) ≡ w

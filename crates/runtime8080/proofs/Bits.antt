@@ -1,9 +1,5 @@
 -- Bytes, bit by bit: what holds of each byte is computed over all of them.
-use Rattle.std.proofs.Common.{◌≡◌, ℕ, zero, suc, ◌+◌, ◌-◌, ◌*◌, ◌/◌, ◌%◌, ◌^◌, ◌<◌, ◌≤◌, ◌==◌, true, refl, sym, ap, ◌∙◌, arith, pow-add}
-use Rattle.std.specs.Prelude.{bit_and}
-use Rattle.std.proofs.lemmas.Bool.{agree_below, agree_below_at, eqb-true}
-use Rattle.std.proofs.Math.Nat.{div-eq_of_lt, pow-le-pow_right}
-use Rattle.meaning.specs.Values.{turned}
+use Rattle.runtime8080.proofs.Prelude.{◌≡◌, ℕ, zero, suc, ◌+◌, ◌-◌, ◌*◌, ◌/◌, ◌%◌, ◌^◌, ◌<◌, ◌≤◌, ◌==◌, true, refl, sym, ap, ◌∙◌, arith, pow-add, bit_and, agree_below, agree_below_at, eqb-true, div-eq_of_lt, pow-le-pow_right, turned}
 
 pub equal_below :
     (f g : ℕ → ℕ) (limit n : ℕ)

@@ -1,19 +1,6 @@
 -- From what a routine does between its entry and its return to what a call of it does.
-use Rattle.std.proofs.Common.{◌≡◌, ℕ, suc, ◌+◌, ◌-◌, ◌<◌, ◌≤◌, List, refl, sym, ◌∙◌, subst, arith, slice_set}
-use Rattle.std.proofs.lemmas.List.{length-set}
-use Rattle.mem80.specs.declared.memory.TheConstants.{MEMORY_SIZE}
-use Rattle.mem80.specs.Memory.{byte_at}
-use Rattle.mem80.specs.Range.{IsIn, Meets}
-use Rattle.ports.specs.declared.event.Event.{Event}
-use Rattle.isa8080.specs.State.{HoldBytes, Registers, State, high_byte, wrap}
-use Rattle.asm8080.specs.Runs.{Comes}
-use Rattle.asm8080.specs.Standing.{Keeps, below}
-use Rattle.asm8080.proofs.Steps.{at, returned, step_then}
-use Rattle.asm8080.proofs.Kept.{Alike}
-use Rattle.asm8080.proofs.Calls.{called, pushed, pushed_is_memory, pushed_is_pushed, pushed_keeps, returned_is}
-use Rattle.runtime8080.specs.declared.routine.Routine.{Routine}
+use Rattle.runtime8080.proofs.Prelude.{◌≡◌, ℕ, suc, ◌+◌, ◌-◌, ◌<◌, ◌≤◌, List, refl, sym, ◌∙◌, subst, arith, slice_set, length-set, MEMORY_SIZE, byte_at, IsIn, Meets, Event, HoldBytes, Registers, State, high_byte, wrap, Comes, Keeps, below, at, returned, step_then, Alike, called, pushed, pushed_is_memory, pushed_is_pushed, pushed_keeps, returned_is, Routine, CALL_BYTES, Computes, HasReturned, Leaves, MayCall, Returns, memory_after, most_steps}
 use Rattle.runtime8080.specs.declared.routine.Routine.TheVariants as routines
-use Rattle.runtime8080.specs.Routines.{CALL_BYTES, Computes, HasReturned, Leaves, MayCall, Returns, memory_after, most_steps}
 
 -- What a routine does that writes no memory, from its first byte to where it has returned.
 pub record Body

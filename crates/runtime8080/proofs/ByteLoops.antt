@@ -1,9 +1,5 @@
 -- Loops of straight code that changes A alone.
-use Rattle.std.proofs.Common.{◌≡◌, ℕ, zero, suc, ◌+◌, ◌%◌, ◌<◌, List, refl, ap, ◌∙◌, arith}
-use Rattle.isa8080.specs.declared.instr.Instr.{Instr}
-use Rattle.isa8080.specs.State.{HoldBytes, Registers}
-use Rattle.asm8080.proofs.Straight.{effect}
-use Rattle.asm8080.proofs.Loops.{counted, once_counted, turns_below, turns_counted}
+use Rattle.runtime8080.proofs.Prelude.{◌≡◌, ℕ, zero, suc, ◌+◌, ◌%◌, ◌<◌, List, refl, ap, ◌∙◌, arith, Instr, HoldBytes, Registers, effect, counted, once_counted, turns_below, turns_counted}
 use Rattle.runtime8080.proofs.Bits.{times}
 
 -- straight code changes A by a function, of the other registers none, and flags

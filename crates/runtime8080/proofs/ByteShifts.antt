@@ -1,30 +1,6 @@
 -- The shifts of a byte: by 8 or more it is 0, else it is shifted once for each that E counts.
-use Rattle.std.proofs.Common.{◌≡◌, ℕ, zero, suc, ◌+◌, ◌-◌, ◌*◌, ◌/◌, ◌%◌, ◌<◌, ◌≤◌, Bool, true, false, nat_lt, List, [], ◌∷◌, refl, sym, ap, ◌∙◌, arith}
-use Rattle.std.specs.Prelude.{bit_or}
-use Rattle.std.specs.Int.Bits.{or_self}
-use Rattle.std.proofs.lemmas.Bool.{leb-false, leb-true}
-use Rattle.mem80.specs.declared.memory.TheConstants.{MEMORY_SIZE}
-use Rattle.ports.specs.declared.event.Event.{Event}
-use Rattle.isa8080.specs.declared.instr.Register.TheVariants.{D, E, A}
-use Rattle.isa8080.specs.declared.instr.Operand.TheVariants.{Of}
-use Rattle.isa8080.specs.declared.instr.Condition.TheVariants.{Carry}
-use Rattle.isa8080.specs.declared.instr.Operation.TheVariants.{Add, Compare, Or}
-use Rattle.isa8080.specs.declared.instr.Instr.{Instr}
-use Rattle.isa8080.specs.declared.instr.Instr.TheVariants.{Accumulate, AccumulateImmediate, Mov, Mvi, Rar, Ret}
-use Rattle.isa8080.specs.State.{HoldBytes, Registers, State, wrap}
-use Rattle.asm8080.specs.declared.item.WordForm.TheVariants.{JumpWhere}
-use Rattle.asm8080.specs.declared.item.Reference.TheVariants.{AtLabel}
-use Rattle.asm8080.specs.declared.item.Item.{Item}
-use Rattle.asm8080.specs.declared.item.Item.TheVariants.{Plain, WithWord, Mark}
-use Rattle.asm8080.specs.Items.{Layout, Stands}
-use Rattle.asm8080.proofs.Steps.{goes_past, jumps_where, returned, returns}
-use Rattle.asm8080.proofs.Straight.{effect, past, past_later, plain, stands_after, steps_of, straight, touch_registers}
-use Rattle.asm8080.proofs.Loops.{loop_before, steps_below, tested_before, turns_below, word_is}
-use Rattle.asm8080.proofs.Kept.{stands_size, stands_still}
-use Rattle.runtime8080.specs.declared.routine.Routine.{Routine}
+use Rattle.runtime8080.proofs.Prelude.{◌≡◌, ℕ, zero, suc, ◌+◌, ◌-◌, ◌*◌, ◌/◌, ◌%◌, ◌<◌, ◌≤◌, Bool, true, false, nat_lt, List, [], ◌∷◌, refl, sym, ap, ◌∙◌, arith, bit_or, or_self, leb-false, leb-true, MEMORY_SIZE, Event, D, E, A, Of, Carry, Add, Compare, Or, Instr, Accumulate, AccumulateImmediate, Mov, Mvi, Rar, Ret, HoldBytes, Registers, State, wrap, JumpWhere, AtLabel, Item, Plain, WithWord, Mark, Layout, Stands, goes_past, jumps_where, returned, returns, effect, past, past_later, plain, stands_after, steps_of, straight, touch_registers, loop_before, steps_below, tested_before, turns_below, word_is, stands_size, stands_still, Routine, Computes, IsRoutine, Leaves, LeavesBcAndHl, memory_after, most_steps, shift_left_byte, shift_right_byte}
 use Rattle.runtime8080.specs.declared.routine.Routine.TheVariants as routines
-use Rattle.runtime8080.specs.Routines.{Computes, IsRoutine, Leaves, LeavesBcAndHl, memory_after, most_steps}
-use Rattle.runtime8080.specs.internal.Listings.{shift_left_byte, shift_right_byte}
 use Rattle.runtime8080.proofs.Bits.{none_left, none_right, shift_left, shift_right, shifted_left, shifted_right, times}
 use Rattle.runtime8080.proofs.Bodies.{Body, held, returns_quietly}
 use Rattle.runtime8080.proofs.ByteLoops.{ChangesA, before_turns, changed_bytes}

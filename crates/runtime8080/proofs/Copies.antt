@@ -1,16 +1,5 @@
 -- Blocks of bytes that are copied, and what stays of a memory.
-use Rattle.std.proofs.Common.{◌≡◌, ◌≢◌, ℕ, zero, suc, ◌+◌, ◌<◌, ◌==◌, Bool, true, false, List, length, refl, sym, ap, ◌∙◌, arith, slice_set}
-use Rattle.std.proofs.lemmas.Bool.{eqb-true, eq-eqb}
-use Rattle.std.proofs.lemmas.List.{length-set}
-use Rattle.std.proofs.lemmas.List.Elements.{All-get_or}
-use Rattle.mem80.specs.declared.memory.TheConstants.{MEMORY_SIZE}
-use Rattle.mem80.specs.declared.range.Range.{Range}
-use Rattle.mem80.specs.Memory.{IsMemory, byte_at}
-use Rattle.mem80.proofs.MemoryLemmas.{byte_small}
-use Rattle.mem80.specs.Range.{IsIn}
-use Rattle.isa8080.specs.State.{wrap}
-use Rattle.asm8080.proofs.Kept.{byte_kept, byte_put, memory_put}
-use Rattle.runtime8080.specs.Routines.{BlockMisses, copied}
+use Rattle.runtime8080.proofs.Prelude.{◌≡◌, ◌≢◌, ℕ, zero, suc, ◌+◌, ◌<◌, ◌==◌, Bool, true, false, List, length, refl, sym, ap, ◌∙◌, arith, slice_set, eqb-true, eq-eqb, length-set, All-get_or, MEMORY_SIZE, Range, IsMemory, byte_at, byte_small, IsIn, wrap, byte_kept, byte_put, memory_put, BlockMisses, copied}
 
 wrapped_small : (n : ℕ) → wrap n < MEMORY_SIZE
 wrapped_small n = omega arith

@@ -1,30 +1,6 @@
 -- Divide: by a byte where D is 0, else by a word.
-use Rattle.std.proofs.Common.{◌≡◌, ◌≢◌, ℕ, zero, suc, ◌+◌, ◌-◌, ◌*◌, ◌/◌, ◌%◌, ◌<◌, ◌≤◌, ◌==◌, Bool, true, false, not, if◌then◌else◌, None, Some, List, [], ◌∷◌, refl, sym, ap, subst, ◌∙◌, arith}
-use Rattle.std.specs.Prelude.{bit_or}
-use Rattle.std.specs.Int.Bits.{or_self}
-use Rattle.std.proofs.lemmas.Bool.{eqb-true, eq-eqb}
-use Rattle.mem80.specs.declared.memory.TheConstants.{MEMORY_SIZE}
-use Rattle.ports.specs.declared.event.Event.{Event}
-use Rattle.isa8080.specs.declared.instr.Register.TheVariants.{A, B, C, D, E, H, L}
-use Rattle.isa8080.specs.declared.instr.Operand.TheVariants.{Of}
-use Rattle.isa8080.specs.declared.instr.Condition.TheVariants.{NotZero}
-use Rattle.isa8080.specs.declared.instr.Operation.TheVariants.{Or}
-use Rattle.isa8080.specs.declared.instr.Instr.{Instr}
-use Rattle.isa8080.specs.declared.instr.Instr.TheVariants.{Accumulate, Mov, Mvi, Ret, Xchg}
-use Rattle.isa8080.specs.State.{HoldBytes, Registers, word, wrap}
-use Rattle.asm8080.specs.declared.item.WordForm.TheVariants.{JumpWhere}
-use Rattle.asm8080.specs.declared.item.Reference.TheVariants.{AtLabel}
-use Rattle.asm8080.specs.declared.item.Item.{Item}
-use Rattle.asm8080.specs.declared.item.Item.TheVariants.{Plain, WithWord, Mark}
-use Rattle.asm8080.specs.Items.{Layout, Stands}
-use Rattle.asm8080.proofs.RunLaws.{comes_on}
-use Rattle.asm8080.proofs.Steps.{at, goes_past, jumps_where, returned, returns}
-use Rattle.asm8080.proofs.Straight.{effect, plain, steps_of, straight}
-use Rattle.asm8080.proofs.Loops.{word_is}
-use Rattle.asm8080.proofs.Kept.{stands_size, stands_still}
+use Rattle.runtime8080.proofs.Prelude.{◌≡◌, ◌≢◌, ℕ, zero, suc, ◌+◌, ◌-◌, ◌*◌, ◌/◌, ◌%◌, ◌<◌, ◌≤◌, ◌==◌, Bool, true, false, not, if◌then◌else◌, None, Some, List, [], ◌∷◌, refl, sym, ap, subst, ◌∙◌, arith, bit_or, or_self, eqb-true, eq-eqb, MEMORY_SIZE, Event, A, B, C, D, E, H, L, Of, NotZero, Or, Instr, Accumulate, Mov, Mvi, Ret, Xchg, HoldBytes, Registers, word, wrap, JumpWhere, AtLabel, Item, Plain, WithWord, Mark, Layout, Stands, comes_on, at, goes_past, jumps_where, returned, returns, effect, plain, steps_of, straight, word_is, stands_size, stands_still, Computes, IsRoutine, divide}
 use Rattle.runtime8080.specs.declared.routine.Routine.TheVariants as routines
-use Rattle.runtime8080.specs.Routines.{Computes, IsRoutine}
-use Rattle.runtime8080.specs.internal.Listings.{divide}
 use Rattle.runtime8080.proofs.Bodies.{Body, held, returns_quietly}
 use Rattle.runtime8080.proofs.ByteLoops.{small_by}
 use Rattle.runtime8080.proofs.Quotients.{Quotient, eight_bits, sixteen_bits}

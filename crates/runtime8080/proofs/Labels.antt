@@ -1,16 +1,7 @@
 -- The labels of a routine: items that may be added, by the labels that they bind.
-use Rattle.std.proofs.Common.{◌≡◌, ◌≢◌, ℕ, ◌≤◌, ◌==◌, Bool, true, false, not, ◌||◌, List, [], ◌∷◌, ◌++◌, All, IsTrue, refl, sym, subst, ◌∙◌}
-use Rattle.std.proofs.lemmas.Bool.{eqb-true, eq-eqb}
-use Rattle.std.proofs.lemmas.List.Elements.{All-nil, All-cons}
-use Rattle.asm8080.specs.declared.item.Item.{Item}
-use Rattle.asm8080.specs.declared.item.Item.TheVariants.{Plain, WithWord, Byte, Address, Gap, Mark}
-use Rattle.asm8080.specs.Items.{BindsNew, KnowsLabels, is_bound, marks}
-use Rattle.asm8080.proofs.ItemLemmas.{bound_more}
-use Rattle.asm8080.proofs.Loops.{not_equal}
-use Rattle.runtime8080.specs.Routines.{HasOwnLabels}
+use Rattle.runtime8080.proofs.Prelude.{◌≡◌, ◌≢◌, ℕ, ◌≤◌, ◌==◌, Bool, true, false, not, ◌||◌, List, [], ◌∷◌, ◌++◌, All, IsTrue, refl, sym, subst, ◌∙◌, eqb-true, eq-eqb, All-nil, All-cons, Item, Plain, WithWord, Byte, Address, Gap, Mark, BindsNew, KnowsLabels, is_bound, marks, bound_more, not_equal, HasOwnLabels, FitItems, item_of}
 use Rattle.runtime8080.specs.declared.parts.Part.{Part}
 use Rattle.runtime8080.specs.declared.parts.Part.TheVariants.{Here}
-use Rattle.runtime8080.specs.internal.Emission.{FitItems, item_of}
 
 -- the labels that items bind, in their order
 abbrev pub bound_by : List Item → List ℕ

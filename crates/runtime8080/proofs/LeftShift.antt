@@ -1,30 +1,6 @@
 -- The shift of an ADDRESS to the left: by 16 or more it is 0, else it is doubled once for each that E counts.
-use Rattle.std.proofs.Common.{◌≡◌, ℕ, zero, suc, ◌+◌, ◌-◌, ◌*◌, ◌%◌, ◌^◌, ◌<◌, ◌≤◌, min, Bool, true, false, nat_lt, List, [], ◌∷◌, refl, sym, ap, ◌∙◌, arith, pow-add}
-use Rattle.std.proofs.Math.Nat.{pow-suc}
-use Rattle.std.proofs.lemmas.Nat.{mul-mod_first}
-use Rattle.std.proofs.lemmas.Bool.{leb-false, leb-true}
-use Rattle.mem80.specs.declared.memory.TheConstants.{MEMORY_SIZE}
-use Rattle.ports.specs.declared.event.Event.{Event}
-use Rattle.isa8080.specs.declared.instr.Register.TheVariants.{E, A}
-use Rattle.isa8080.specs.declared.instr.Operand.TheVariants.{Of}
-use Rattle.isa8080.specs.declared.instr.Pair.TheVariants.{Hl}
-use Rattle.isa8080.specs.declared.instr.Condition.TheVariants.{Carry}
-use Rattle.isa8080.specs.declared.instr.Operation.TheVariants.{Compare}
-use Rattle.isa8080.specs.declared.instr.Instr.{Instr}
-use Rattle.isa8080.specs.declared.instr.Instr.TheVariants.{AccumulateImmediate, Dad, Lxi, Mov, Ret}
-use Rattle.isa8080.specs.State.{HoldBytes, Registers, pair_of, word, wrap}
-use Rattle.asm8080.specs.declared.item.WordForm.TheVariants.{JumpWhere}
-use Rattle.asm8080.specs.declared.item.Reference.TheVariants.{AtLabel}
-use Rattle.asm8080.specs.declared.item.Item.{Item}
-use Rattle.asm8080.specs.declared.item.Item.TheVariants.{Plain, WithWord, Mark}
-use Rattle.asm8080.specs.Items.{Layout, Stands}
-use Rattle.asm8080.proofs.Steps.{goes_past, jumps_where, returned, returns}
-use Rattle.asm8080.proofs.Straight.{effect, past, steps_of, straight}
-use Rattle.asm8080.proofs.Loops.{counted, loop_before, steps_below, tested_before, turns_below, word_is}
-use Rattle.asm8080.proofs.Kept.{stands_size, stands_still}
+use Rattle.runtime8080.proofs.Prelude.{◌≡◌, ℕ, zero, suc, ◌+◌, ◌-◌, ◌*◌, ◌%◌, ◌^◌, ◌<◌, ◌≤◌, min, Bool, true, false, nat_lt, List, [], ◌∷◌, refl, sym, ap, ◌∙◌, arith, pow-add, pow-suc, mul-mod_first, leb-false, leb-true, MEMORY_SIZE, Event, E, A, Of, Hl, Carry, Compare, Instr, AccumulateImmediate, Dad, Lxi, Mov, Ret, HoldBytes, Registers, pair_of, word, wrap, JumpWhere, AtLabel, Item, Plain, WithWord, Mark, Layout, Stands, goes_past, jumps_where, returned, returns, effect, past, steps_of, straight, counted, loop_before, steps_below, tested_before, turns_below, word_is, stands_size, stands_still, IsRoutine, shift_left_address}
 use Rattle.runtime8080.specs.declared.routine.Routine.TheVariants as routines
-use Rattle.runtime8080.specs.Routines.{IsRoutine}
-use Rattle.runtime8080.specs.internal.Listings.{shift_left_address}
 use Rattle.runtime8080.proofs.AddressBits.{doubled_product, high_small, low_small, of_bytes}
 use Rattle.runtime8080.proofs.Bodies.{Body, held, returns_quietly}
 use Rattle.runtime8080.proofs.ByteLoops.{small_by}

@@ -1,3 +1,4 @@
+mod Prelude
 pub mod Bodies
 pub mod Bits
 pub mod ByteLoops

@@ -1,14 +1,7 @@
 -- MOVE of the language is what the routine copies.
-use Rattle.std.proofs.Common.{◌≡◌, ℕ, zero, suc, ◌+◌, ◌%◌, ◌<◌, Bool, true, false, if◌then◌else◌, slice_set, refl, sym, ap, ◌∙◌, arith}
-use Rattle.mem80.specs.declared.memory.TheConstants.{MEMORY_SIZE}
-use Rattle.mem80.specs.Memory.{byte_at}
-use Rattle.isa8080.specs.State.{wrap}
-use Rattle.meaning.specs.declared.reason.Reason.TheVariants.{Byte as UndeclaredByte, Constant}
-use Rattle.meaning.specs.Access.{is_constant, is_declared}
-use Rattle.meaning.specs.Meaning.{moved}
-use Rattle.meaning.specs.Outcomes.{Gave, Outcome, Outside, State, Stopped, then_do}
+use Rattle.runtime8080.proofs.Prelude.{◌≡◌, ℕ, zero, suc, ◌+◌, ◌%◌, ◌<◌, Bool, true, false, if◌then◌else◌, slice_set, refl, sym, ap, ◌∙◌, arith, MEMORY_SIZE, byte_at, wrap, UndeclaredByte, Constant, is_constant, is_declared, moved, Gave, Outcome, Outside, Stopped, then_do, IsInBlock}
+use Rattle.meaning.specs.Outcomes.{State}
 use Rattle.runtime8080.specs.Moves.{Copies, MoveCopies}
-use Rattle.runtime8080.specs.Routines.{IsInBlock}
 
 abbrev state_of : Outcome (Unit {0}) → State
 state_of (Gave found s) = s

@@ -1,30 +1,5 @@
 -- MOVE: a loop that copies a byte, with C counting the bytes of a page and B the pages.
-use Rattle.std.proofs.Common.{◌≡◌, ℕ, zero, suc, ◌+◌, ◌-◌, ◌*◌, ◌/◌, ◌%◌, ◌<◌, ◌≤◌, ◌==◌, true, false, not, List, [], ◌∷◌, refl, sym, ap, subst, ◌∙◌, arith, slice_set}
-use Rattle.std.proofs.lemmas.Bool.{eq-eqb}
-use Rattle.mem80.specs.declared.memory.TheConstants.{MEMORY_SIZE}
-use Rattle.mem80.specs.Memory.{IsMemory, byte_at}
-use Rattle.mem80.proofs.MemoryLemmas.{byte_small}
-use Rattle.mem80.specs.Range.{IsIn}
-use Rattle.ports.specs.declared.event.Event.{Event}
-use Rattle.isa8080.specs.declared.instr.Register.TheVariants.{A, B, C}
-use Rattle.isa8080.specs.declared.instr.Operand.TheVariants.{Of}
-use Rattle.isa8080.specs.declared.instr.Pair.TheVariants.{De, Hl}
-use Rattle.isa8080.specs.declared.instr.IndexPair.TheVariants.{IndexDe}
-use Rattle.isa8080.specs.declared.instr.Condition.TheVariants.{NotZero}
-use Rattle.isa8080.specs.declared.instr.Instr.{Instr}
-use Rattle.isa8080.specs.declared.instr.Instr.TheVariants.{Dcr, Inr, Inx, Ldax, MovToMemory, Ret}
-use Rattle.isa8080.specs.State.{HoldBytes, Registers, State, word, wrap}
-use Rattle.asm8080.specs.declared.item.WordForm.TheVariants.{JumpWhere}
-use Rattle.asm8080.specs.declared.item.Reference.TheVariants.{AtLabel}
-use Rattle.asm8080.specs.declared.item.Item.{Item}
-use Rattle.asm8080.specs.declared.item.Item.TheVariants.{Plain, WithWord, Mark}
-use Rattle.asm8080.specs.Items.{Layout, Stands}
-use Rattle.asm8080.specs.Runs.{Comes}
-use Rattle.asm8080.proofs.Steps.{at, does, goes_past, jumps_where, returned, returns}
-use Rattle.asm8080.proofs.Straight.{effect, straight}
-use Rattle.asm8080.proofs.Loops.{not_zero, word_is}
-use Rattle.asm8080.proofs.Kept.{byte_kept, memory_put, stands_size, stands_still}
-use Rattle.runtime8080.specs.Routines.{BlockMisses, copied}
+use Rattle.runtime8080.proofs.Prelude.{◌≡◌, ℕ, zero, suc, ◌+◌, ◌-◌, ◌*◌, ◌/◌, ◌%◌, ◌<◌, ◌≤◌, ◌==◌, true, false, not, List, [], ◌∷◌, refl, sym, ap, subst, ◌∙◌, arith, slice_set, eq-eqb, MEMORY_SIZE, IsMemory, byte_at, byte_small, IsIn, Event, A, B, C, Of, De, Hl, IndexDe, NotZero, Instr, Dcr, Inr, Inx, Ldax, MovToMemory, Ret, HoldBytes, Registers, State, word, wrap, JumpWhere, AtLabel, Item, Plain, WithWord, Mark, Layout, Stands, Comes, at, does, goes_past, jumps_where, returned, returns, effect, straight, not_zero, word_is, byte_kept, memory_put, stands_size, stands_still, BlockMisses, copied}
 use Rattle.runtime8080.proofs.Copies.{first_missed, others_missed}
 
 abbrev pub whole : (first : ℕ) → List Item

@@ -1,31 +1,6 @@
 -- MOVE returns, with the block copied.
-use Rattle.std.proofs.Common.{◌≡◌, ℕ, zero, suc, ◌+◌, ◌-◌, ◌*◌, ◌%◌, ◌<◌, ◌≤◌, not, List, [], ◌∷◌, length, refl, sym, ap, subst, ◌∙◌, arith}
-use Rattle.std.proofs.lemmas.Bool.{eq-eqb}
-use Rattle.mem80.specs.declared.memory.TheConstants.{MEMORY_SIZE}
-use Rattle.mem80.specs.Memory.{IsMemory, byte_at}
-use Rattle.mem80.specs.Range.{IsIn}
-use Rattle.ports.specs.declared.event.Event.{Event}
-use Rattle.isa8080.specs.declared.instr.Register.TheVariants.{B, C}
-use Rattle.isa8080.specs.declared.instr.Operand.TheVariants.{Of}
-use Rattle.isa8080.specs.declared.instr.Condition.TheVariants.{NotZero, Zero}
-use Rattle.isa8080.specs.declared.instr.Instr.{Instr}
-use Rattle.isa8080.specs.declared.instr.Instr.TheVariants.{Dcr, Inr, Ret}
-use Rattle.isa8080.specs.State.{HoldBytes, Registers, word, wrap}
-use Rattle.asm8080.specs.declared.item.WordForm.TheVariants.{JumpWhere}
-use Rattle.asm8080.specs.declared.item.Reference.TheVariants.{AtLabel}
-use Rattle.asm8080.specs.declared.item.Item.{Item}
-use Rattle.asm8080.specs.declared.item.Item.TheVariants.{Plain, WithWord, Mark}
-use Rattle.asm8080.specs.Items.{Layout, Stands}
-use Rattle.asm8080.specs.Runs.{Comes}
-use Rattle.asm8080.specs.Standing.{below}
-use Rattle.asm8080.proofs.Steps.{at, goes_past, jumps_where, returned, returns, step_then}
-use Rattle.asm8080.proofs.Straight.{effect, straight}
-use Rattle.asm8080.proofs.Loops.{not_zero, word_is}
-use Rattle.asm8080.proofs.Kept.{stands_size, stands_still}
-use Rattle.asm8080.proofs.Calls.{IsPushed, called, pushed, pushed_is_memory, pushed_is_pushed, returned_is}
+use Rattle.runtime8080.proofs.Prelude.{◌≡◌, ℕ, zero, suc, ◌+◌, ◌-◌, ◌*◌, ◌%◌, ◌<◌, ◌≤◌, not, List, [], ◌∷◌, length, refl, sym, ap, subst, ◌∙◌, arith, eq-eqb, MEMORY_SIZE, IsMemory, byte_at, IsIn, Event, B, C, Of, NotZero, Zero, Instr, Dcr, Inr, Ret, HoldBytes, Registers, word, wrap, JumpWhere, AtLabel, Item, Plain, WithWord, Mark, Layout, Stands, Comes, below, at, goes_past, jumps_where, returned, returns, step_then, effect, straight, not_zero, word_is, stands_size, stands_still, IsPushed, called, pushed, pushed_is_memory, pushed_is_pushed, returned_is, BlockMisses, IsRoutine, CALL_BYTES, copied, move_bytes}
 use Rattle.runtime8080.specs.declared.routine.Routine.TheVariants as routines
-use Rattle.runtime8080.specs.Routines.{BlockMisses, IsRoutine, CALL_BYTES, copied}
-use Rattle.runtime8080.specs.internal.Listings.{move_bytes}
 use Rattle.runtime8080.proofs.Bodies.{bytes_where, code_stays, held, in_spare, pushed_elsewhere, two_fit, wrapped_small}
 use Rattle.runtime8080.proofs.Copies.{copied_differ, copied_is_memory, copied_keeps}
 use Rattle.runtime8080.proofs.MoveLoop.{loop, one_byte, whole}

@@ -1,32 +1,6 @@
 -- Multiply: the bits of D, where it has any, and then those of E.
-use Rattle.std.proofs.Common.{◌≡◌, ℕ, suc, ◌+◌, ◌-◌, ◌*◌, ◌%◌, ◌<◌, ◌≤◌, ◌==◌, Bool, true, false, List, [], ◌∷◌, Some, refl, sym, ap, ◌∙◌, arith}
-use Rattle.std.specs.Prelude.{bit_or}
-use Rattle.std.specs.Int.Bits.{or_self}
-use Rattle.std.proofs.lemmas.Bool.{eqb-true}
-use Rattle.mem80.specs.declared.memory.TheConstants.{MEMORY_SIZE}
-use Rattle.ports.specs.declared.event.Event.{Event}
-use Rattle.isa8080.specs.declared.instr.Register.TheVariants.{A, B, C, D, E, H, L}
-use Rattle.isa8080.specs.declared.instr.Operand.TheVariants.{Of}
-use Rattle.isa8080.specs.declared.instr.Pair.TheVariants.{Hl}
-use Rattle.isa8080.specs.declared.instr.Condition.TheVariants.{Zero}
-use Rattle.isa8080.specs.declared.instr.Operation.TheVariants.{Or}
-use Rattle.isa8080.specs.declared.instr.Instr.{Instr}
-use Rattle.isa8080.specs.declared.instr.Instr.TheVariants.{Accumulate, Lxi, Mov, Mvi, Ret}
-use Rattle.isa8080.specs.State.{HoldBytes, Registers, word, wrap}
-use Rattle.asm8080.specs.declared.item.WordForm.TheVariants.{JumpWhere}
-use Rattle.asm8080.specs.declared.item.Reference.TheVariants.{AtLabel}
-use Rattle.asm8080.specs.declared.item.Item.{Item}
-use Rattle.asm8080.specs.declared.item.Item.TheVariants.{Plain, WithWord, Mark}
-use Rattle.asm8080.specs.Items.{Layout, Stands}
-use Rattle.asm8080.specs.Runs.{Comes}
-use Rattle.asm8080.proofs.RunLaws.{comes_on}
-use Rattle.asm8080.proofs.Steps.{at, goes_past, jumps_where, returned, returns}
-use Rattle.asm8080.proofs.Straight.{effect, past, steps_of, straight}
-use Rattle.asm8080.proofs.Loops.{word_is}
-use Rattle.asm8080.proofs.Kept.{stands_size, stands_still}
+use Rattle.runtime8080.proofs.Prelude.{◌≡◌, ℕ, suc, ◌+◌, ◌-◌, ◌*◌, ◌%◌, ◌<◌, ◌≤◌, ◌==◌, Bool, true, false, List, [], ◌∷◌, Some, refl, sym, ap, ◌∙◌, arith, bit_or, or_self, eqb-true, MEMORY_SIZE, Event, A, B, C, D, E, H, L, Of, Hl, Zero, Or, Instr, Accumulate, Lxi, Mov, Mvi, Ret, HoldBytes, Registers, word, wrap, JumpWhere, AtLabel, Item, Plain, WithWord, Mark, Layout, Stands, Comes, comes_on, at, goes_past, jumps_where, returned, returns, effect, past, steps_of, straight, word_is, stands_size, stands_still, IsRoutine, multiply}
 use Rattle.runtime8080.specs.declared.routine.Routine.TheVariants as routines
-use Rattle.runtime8080.specs.Routines.{IsRoutine}
-use Rattle.runtime8080.specs.internal.Listings.{multiply}
 use Rattle.runtime8080.proofs.Bits.{equal_below}
 use Rattle.runtime8080.proofs.Bodies.{Body, held, returns_quietly}
 use Rattle.runtime8080.proofs.ByteLoops.{small_by}

@@ -1,8 +1,6 @@
 -- Division bit by bit, in numbers: a remainder and a dividend stand side by side, both are doubled, and where the
 -- divisor fits into the remainder it is taken away and the quotient gains a bit.
-use Rattle.std.proofs.Common.{◌≡◌, ℕ, zero, suc, ◌+◌, ◌*◌, ◌/◌, ◌%◌, ◌^◌, ◌<◌, ◌≤◌, sym, ap, ◌∙◌, arith}
-use Rattle.std.proofs.Math.Nat.{pow-suc}
-use Rattle.std.proofs.lemmas.Nat.{div-mul-add, mod-mul-add}
+use Rattle.runtime8080.proofs.Prelude.{◌≡◌, ℕ, zero, suc, ◌+◌, ◌*◌, ◌/◌, ◌%◌, ◌^◌, ◌<◌, ◌≤◌, sym, ap, ◌∙◌, arith, pow-suc, div-mul-add, mod-mul-add}
 
 -- one number becomes another by so many doublings, and gives so many bits of a quotient
 pub record Quotient (divisor count from to : ℕ) : Type 0 where

@@ -1,32 +1,8 @@
 -- The shift of an ADDRESS to the right: by 1 and 2 it is halved and quartered; by 3 to 7 the 24 bits of A, H and L are
 -- doubled, 8 less the count times, and the higher 16 of them are the value; by 8 or more the high byte takes the place
 -- of the low one, and the rest of the count begins anew.
-use Rattle.std.proofs.Common.{◌≡◌, ℕ, zero, suc, ◌+◌, ◌-◌, ◌*◌, ◌/◌, ◌%◌, ◌^◌, ◌<◌, ◌≤◌, ◌==◌, min, Bool, true, false, not, nat_le, nat_lt, List, [], ◌∷◌, refl, sym, ap, ◌∙◌, arith}
-use Rattle.std.proofs.lemmas.Bool.{eq-eqb, le-leb, leb-false, leb-true, lt-leb}
-use Rattle.mem80.specs.declared.memory.TheConstants.{MEMORY_SIZE}
-use Rattle.ports.specs.declared.event.Event.{Event}
-use Rattle.isa8080.specs.declared.instr.Register.TheVariants.{A, H, L}
-use Rattle.isa8080.specs.declared.instr.Operand.TheVariants.{Of}
-use Rattle.isa8080.specs.declared.instr.Pair.TheVariants.{Hl}
-use Rattle.isa8080.specs.declared.instr.Condition.TheVariants.{Carry, NoCarry, ParityOdd, Zero}
-use Rattle.isa8080.specs.declared.instr.Operation.TheVariants.{Add, And, Compare, ExclusiveOr}
-use Rattle.isa8080.specs.declared.instr.Instr.{Instr}
-use Rattle.isa8080.specs.declared.instr.Instr.TheVariants.{Accumulate, AccumulateImmediate, Dad, Dcr, Mov, Mvi, Ral, Rar, Ret, ReturnIf, Rrc}
-use Rattle.isa8080.specs.Flags.{bit}
-use Rattle.isa8080.specs.State.{HoldBytes, Registers, State, word, wrap}
-use Rattle.asm8080.specs.declared.item.WordForm.TheVariants.{JumpWhere}
-use Rattle.asm8080.specs.declared.item.Reference.TheVariants.{AtLabel}
-use Rattle.asm8080.specs.declared.item.Item.{Item}
-use Rattle.asm8080.specs.declared.item.Item.TheVariants.{Plain, WithWord, Mark}
-use Rattle.asm8080.specs.Items.{Layout, Stands}
-use Rattle.asm8080.specs.Runs.{Comes}
-use Rattle.asm8080.proofs.Steps.{at, goes_past, jumps_where, returned, returns, returns_where, stays_here}
-use Rattle.asm8080.proofs.Straight.{effect, past, plain, steps_of, straight}
-use Rattle.asm8080.proofs.Loops.{not_equal, not_zero, one_less_is, word_is}
-use Rattle.asm8080.proofs.Kept.{stands_size, stands_still}
+use Rattle.runtime8080.proofs.Prelude.{◌≡◌, ℕ, zero, suc, ◌+◌, ◌-◌, ◌*◌, ◌/◌, ◌%◌, ◌^◌, ◌<◌, ◌≤◌, ◌==◌, min, Bool, true, false, not, nat_le, nat_lt, List, [], ◌∷◌, refl, sym, ap, ◌∙◌, arith, eq-eqb, le-leb, leb-false, leb-true, lt-leb, MEMORY_SIZE, Event, A, H, L, Of, Hl, Carry, NoCarry, ParityOdd, Zero, Add, And, Compare, ExclusiveOr, Instr, Accumulate, AccumulateImmediate, Dad, Dcr, Mov, Mvi, Ral, Rar, Ret, ReturnIf, Rrc, bit, HoldBytes, Registers, State, word, wrap, JumpWhere, AtLabel, Item, Plain, WithWord, Mark, Layout, Stands, Comes, at, goes_past, jumps_where, returned, returns, returns_where, stays_here, effect, past, plain, steps_of, straight, not_equal, not_zero, one_less_is, word_is, stands_size, stands_still, IsRoutine, shift_right_address}
 use Rattle.runtime8080.specs.declared.routine.Routine.TheVariants as routines
-use Rattle.runtime8080.specs.Routines.{IsRoutine}
-use Rattle.runtime8080.specs.internal.Listings.{shift_right_address}
 use Rattle.runtime8080.proofs.AddressBits.{by_eight, even_of, half_small, halves, high_alone, high_small, low_small, none_left, not_doubled, odd_of, of_bytes, once_more, quarter_high_small, quarter_low_small, quarters, shifted_is, turned, turned_small, word_small}
 use Rattle.runtime8080.proofs.Bodies.{Body, held, returns_quietly}
 use Rattle.runtime8080.proofs.ByteLoops.{small_by}

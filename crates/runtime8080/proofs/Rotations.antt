@@ -1,29 +1,6 @@
 -- The rotations: a byte is turned once for each that the lowest three bits of E count.
-use Rattle.std.proofs.Common.{◌≡◌, ℕ, zero, suc, ◌+◌, ◌-◌, ◌*◌, ◌%◌, ◌<◌, ◌≤◌, true, List, [], ◌∷◌, refl, sym, ap, ◌∙◌, arith}
-use Rattle.std.specs.Prelude.{bit_and}
-use Rattle.std.proofs.lemmas.Bool.{eq-eqb}
-use Rattle.mem80.specs.declared.memory.TheConstants.{MEMORY_SIZE}
-use Rattle.ports.specs.declared.event.Event.{Event}
-use Rattle.isa8080.specs.declared.instr.Register.TheVariants.{D, E, A}
-use Rattle.isa8080.specs.declared.instr.Operand.TheVariants.{Of}
-use Rattle.isa8080.specs.declared.instr.Condition.TheVariants.{Zero}
-use Rattle.isa8080.specs.declared.instr.Operation.TheVariants.{And}
-use Rattle.isa8080.specs.declared.instr.Instr.{Instr}
-use Rattle.isa8080.specs.declared.instr.Instr.TheVariants.{Rlc, Rrc, Mov, AccumulateImmediate, ReturnIf, Ret}
-use Rattle.isa8080.specs.State.{HoldBytes, Registers}
-use Rattle.asm8080.specs.declared.item.Item.{Item}
-use Rattle.asm8080.specs.declared.item.Item.TheVariants.{Plain, Mark}
-use Rattle.asm8080.specs.Items.{Layout, Stands}
-use Rattle.asm8080.specs.Standing.{size_of_instruction}
-use Rattle.asm8080.proofs.Steps.{returned, returns, returns_where, stays_here}
-use Rattle.asm8080.proofs.Straight.{effect, past, plain, steps_of, straight, touch_registers}
-use Rattle.asm8080.proofs.Loops.{loop_after, not_zero, steps_counted, tested_after, turns_counted}
-use Rattle.asm8080.proofs.Kept.{stands_still}
-use Rattle.meaning.specs.Values.{turned}
-use Rattle.runtime8080.specs.declared.routine.Routine.{Routine}
+use Rattle.runtime8080.proofs.Prelude.{◌≡◌, ℕ, zero, suc, ◌+◌, ◌-◌, ◌*◌, ◌%◌, ◌<◌, ◌≤◌, true, List, [], ◌∷◌, refl, sym, ap, ◌∙◌, arith, bit_and, eq-eqb, MEMORY_SIZE, Event, D, E, A, Of, Zero, And, Instr, Rlc, Rrc, Mov, AccumulateImmediate, ReturnIf, Ret, HoldBytes, Registers, Item, Plain, Mark, Layout, Stands, size_of_instruction, returned, returns, returns_where, stays_here, effect, past, plain, steps_of, straight, touch_registers, loop_after, not_zero, steps_counted, tested_after, turns_counted, stands_still, turned, Routine, Computes, IsRoutine, Leaves, LeavesBcAndHl, most_steps, rotate_left, rotate_right}
 use Rattle.runtime8080.specs.declared.routine.Routine.TheVariants as routines
-use Rattle.runtime8080.specs.Routines.{Computes, IsRoutine, Leaves, LeavesBcAndHl, most_steps}
-use Rattle.runtime8080.specs.internal.Listings.{rotate_left, rotate_right}
 use Rattle.runtime8080.proofs.Bits.{low_three, times, turn_left, turn_right, turned_left, turned_right}
 use Rattle.runtime8080.proofs.Bodies.{Body, held, returns_quietly}
 use Rattle.runtime8080.proofs.ByteLoops.{ChangesA, after_turns, changed_bytes}

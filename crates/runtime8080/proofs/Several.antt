@@ -1,13 +1,5 @@
 -- Routines one after another in one code.
-use Rattle.std.proofs.Common.{◌≡◌, ℕ, ◌≤◌, List, [], ◌∷◌, ◌++◌, ap, ◌∙◌}
-use Rattle.std.specs.Prelude.{All}
-use Rattle.std.proofs.lemmas.List.Elements.{All-nil, All-cons, All-head, All-tail}
-use Rattle.asm8080.specs.declared.item.Reference.TheVariants.{AtLabel, AtTarget, AtNumber}
-use Rattle.asm8080.specs.declared.item.Item.{Item}
-use Rattle.asm8080.specs.declared.item.Item.TheVariants.{Plain, WithWord, Byte, Address, Gap, Mark}
-use Rattle.asm8080.specs.Items.{Assembly, ListsExternals}
-use Rattle.runtime8080.specs.declared.routine.Routine.{Routine}
-use Rattle.runtime8080.specs.Routines.{AddsRoutine, HasOwnLabels, IsRoutine}
+use Rattle.runtime8080.proofs.Prelude.{◌≡◌, ℕ, ◌≤◌, List, [], ◌∷◌, ◌++◌, ap, ◌∙◌, All, All-nil, All-cons, All-head, All-tail, AtLabel, AtTarget, AtNumber, Item, Plain, WithWord, Byte, Address, Gap, Mark, Assembly, ListsExternals, Routine, AddsRoutine, HasOwnLabels, IsRoutine}
 
 -- an assembly with two routines added: each has labels of its own
 pub record AddsBoth (first second : Routine) (before after : Assembly) : Type 0 where

@@ -1,29 +1,5 @@
 -- A product, bit by bit: HL is doubled, and gains BC where the next bit of A is 1; D counts the bits.
-use Rattle.std.proofs.Common.{◌≡◌, ℕ, zero, suc, ◌+◌, ◌*◌, ◌/◌, ◌%◌, ◌^◌, ◌<◌, ◌≤◌, ◌==◌, Bool, true, false, not, nat_le, List, [], ◌∷◌, refl, sym, ap, ◌∙◌, arith}
-use Rattle.std.proofs.Math.Nat.{add-mod, pow-suc}
-use Rattle.std.proofs.lemmas.Nat.{mul-mod_first}
-use Rattle.std.proofs.lemmas.Bool.{leb-false, leb-true}
-use Rattle.mem80.specs.declared.memory.TheConstants.{MEMORY_SIZE}
-use Rattle.ports.specs.declared.event.Event.{Event}
-use Rattle.isa8080.specs.declared.instr.Register.TheVariants.{A, D}
-use Rattle.isa8080.specs.declared.instr.Operand.TheVariants.{Of}
-use Rattle.isa8080.specs.declared.instr.Pair.TheVariants.{Bc, Hl}
-use Rattle.isa8080.specs.declared.instr.Condition.TheVariants.{NoCarry, NotZero}
-use Rattle.isa8080.specs.declared.instr.Operation.TheVariants.{Add}
-use Rattle.isa8080.specs.declared.instr.Instr.{Instr}
-use Rattle.isa8080.specs.declared.instr.Instr.TheVariants.{Accumulate, Dad, Dcr}
-use Rattle.isa8080.specs.State.{State, Registers, word, wrap}
-use Rattle.isa8080.specs.Step.{state_after}
-use Rattle.asm8080.specs.declared.item.WordForm.TheVariants.{JumpWhere}
-use Rattle.asm8080.specs.declared.item.Reference.TheVariants.{AtLabel}
-use Rattle.asm8080.specs.declared.item.Item.{Item}
-use Rattle.asm8080.specs.declared.item.Item.TheVariants.{Plain, WithWord, Mark}
-use Rattle.asm8080.specs.Items.{Layout, Stands}
-use Rattle.asm8080.specs.Runs.{Comes}
-use Rattle.asm8080.proofs.RunLaws.{comes_on}
-use Rattle.asm8080.proofs.Steps.{at, goes_past, jumps_where}
-use Rattle.asm8080.proofs.Straight.{effect, straight}
-use Rattle.asm8080.proofs.Loops.{counted_out, counts_on, one_less_is, word_is}
+use Rattle.runtime8080.proofs.Prelude.{◌≡◌, ℕ, zero, suc, ◌+◌, ◌*◌, ◌/◌, ◌%◌, ◌^◌, ◌<◌, ◌≤◌, ◌==◌, Bool, true, false, not, nat_le, List, [], ◌∷◌, refl, sym, ap, ◌∙◌, arith, add-mod, pow-suc, mul-mod_first, leb-false, leb-true, MEMORY_SIZE, Event, A, D, Of, Bc, Hl, NoCarry, NotZero, Add, Instr, Accumulate, Dad, Dcr, State, Registers, word, wrap, state_after, JumpWhere, AtLabel, Item, Plain, WithWord, Mark, Layout, Stands, Comes, comes_on, at, goes_past, jumps_where, effect, straight, counted_out, counts_on, one_less_is, word_is}
 
 pub no_steps : (script : List (List ℕ)) (s : State) → Comes script 0 s s
 unfolding state_after

@@ -1,30 +1,6 @@
 -- The quotient by a divisor above a byte: HL and B are doubled together, and where DE fits into HL it is taken
 -- away and B gains a bit; C counts the bits.
-use Rattle.std.proofs.Common.{◌≡◌, ℕ, zero, suc, ◌+◌, ◌-◌, ◌*◌, ◌/◌, ◌%◌, ◌^◌, ◌<◌, ◌≤◌, ◌==◌, Bool, true, false, not, nat_le, nat_lt, List, [], ◌∷◌, refl, sym, ap, subst, ◌∙◌, arith}
-use Rattle.std.proofs.Math.Nat.{pow-suc}
-use Rattle.std.proofs.lemmas.Bool.{leb-false, leb-true}
-use Rattle.std.proofs.lemmas.Nat.{pow_pos}
-use Rattle.mem80.specs.declared.memory.TheConstants.{MEMORY_SIZE}
-use Rattle.ports.specs.declared.event.Event.{Event}
-use Rattle.isa8080.specs.Flags.{bit}
-use Rattle.isa8080.specs.declared.instr.Register.TheVariants.{A, B, C, D, E, H, L}
-use Rattle.isa8080.specs.declared.instr.Operand.TheVariants.{Of}
-use Rattle.isa8080.specs.declared.instr.Pair.TheVariants.{Hl}
-use Rattle.isa8080.specs.declared.instr.Condition.TheVariants.{Carry, NoCarry, NotZero}
-use Rattle.isa8080.specs.declared.instr.Operation.TheVariants.{Add, Subtract, SubtractWithBorrow}
-use Rattle.isa8080.specs.declared.instr.Instr.{Instr}
-use Rattle.isa8080.specs.declared.instr.Instr.TheVariants.{Accumulate, Dad, Dcr, Inr, Mov}
-use Rattle.isa8080.specs.State.{Registers, word, wrap}
-use Rattle.asm8080.specs.declared.item.WordForm.TheVariants.{JumpWhere}
-use Rattle.asm8080.specs.declared.item.Reference.TheVariants.{AtLabel}
-use Rattle.asm8080.specs.declared.item.Item.{Item}
-use Rattle.asm8080.specs.declared.item.Item.TheVariants.{Plain, WithWord, Mark}
-use Rattle.asm8080.specs.Items.{Layout, Stands}
-use Rattle.asm8080.specs.Runs.{Comes}
-use Rattle.asm8080.proofs.RunLaws.{comes_on}
-use Rattle.asm8080.proofs.Steps.{at, goes_past, jumps_where}
-use Rattle.asm8080.proofs.Straight.{effect, plain, straight}
-use Rattle.asm8080.proofs.Loops.{counted_out, counts_on, one_less_is, word_is}
+use Rattle.runtime8080.proofs.Prelude.{◌≡◌, ℕ, zero, suc, ◌+◌, ◌-◌, ◌*◌, ◌/◌, ◌%◌, ◌^◌, ◌<◌, ◌≤◌, ◌==◌, Bool, true, false, not, nat_le, nat_lt, List, [], ◌∷◌, refl, sym, ap, subst, ◌∙◌, arith, pow-suc, leb-false, leb-true, pow_pos, MEMORY_SIZE, Event, bit, A, B, C, D, E, H, L, Of, Hl, Carry, NoCarry, NotZero, Add, Subtract, SubtractWithBorrow, Instr, Accumulate, Dad, Dcr, Inr, Mov, Registers, word, wrap, JumpWhere, AtLabel, Item, Plain, WithWord, Mark, Layout, Stands, Comes, comes_on, at, goes_past, jumps_where, effect, plain, straight, counted_out, counts_on, one_less_is, word_is}
 use Rattle.runtime8080.proofs.Quotients.{Quotient, QuotientBit, no_bits, one_bit_more}
 use Rattle.runtime8080.proofs.Turns.{no_steps}
 

@@ -1,3 +1,4 @@
+mod Prelude
 pub mod ReadLemmas
 pub mod Programs
 pub mod SoundSources

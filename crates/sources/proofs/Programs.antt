@@ -1,16 +1,8 @@
 -- Programs that lie as planned.
-use Rattle.std.proofs.Common.{◌≡◌, ℕ, List, None, sym, ap, ◌∙◌, subst}
-use Rattle.typed_trees.specs.TypedTrees.{TypedModule}
-use Rattle.layout.specs.Joined.{IsJoined}
-use Rattle.layout.specs.Lawful.{IsLawful}
-use Rattle.layout.specs.Placement.{pieces_of}
-use Rattle.layout.specs.Placing.{placement_by, placing_refusal}
+use Rattle.sources.proofs.Prelude.{◌≡◌, ℕ, List, None, sym, ap, ◌∙◌, subst, TypedModule, IsJoined, IsLawful, pieces_of, placement_by, placing_refusal, IsPlacedBy, program_modules}
 use Rattle.mem80.specs.declared.plan.Plan.{Plan}
-use Rattle.placing.specs.Segments.{HaveStorage}
-use Rattle.placing.specs.Tables.{IsTableOf}
-use Rattle.placing.specs.Views.{placement_view, plan_view}
+use Rattle.placing.specs.{Segments.{HaveStorage}, Tables.{IsTableOf}, Views.{placement_view, plan_view}}
 use Rattle.sources.specs.declared.placed.Placed.{Placed}
-use Rattle.sources.specs.Programs.{IsPlacedBy, program_modules}
 
 pub is_placed : (modules : List TypedModule) (plan : Plan) (lengths : List ℕ) (placed : Placed) → program_modules placed.program ≡ modules → IsJoined modules → HaveStorage modules lengths
     → placing_refusal (plan_view plan) (program_modules placed.program) lengths ≡ None

@@ -1,17 +1,10 @@
 -- What a text is, from its steps.
-use Rattle.std.proofs.Common.{◌≡◌, ℕ, ◌≤◌, Bool, true, false, List, length, Result, Ok, Err, if◌then◌else◌, nat_le, refl, sym, ap, ◌∙◌}
-use Rattle.words.specs.declared.limits.TheConstants.{LONGEST_SOURCE}
-use Rattle.words.specs.Spelling.{Lexeme, Spells}
+use Rattle.sources.proofs.Prelude.{◌≡◌, ℕ, ◌≤◌, Bool, true, false, List, length, Result, Ok, Err, if◌then◌else◌, nat_le, refl, sym, ap, ◌∙◌, TypedModule, Fault, DataTooLarge, ConstantsTooLarge, SEGMENT_LIMIT, Storage, constants_fit, data_bytes, storage_of, storage_with, IsText, HasTyping, IsSourceOf}
+use Rattle.words.specs.{declared.limits.TheConstants.{LONGEST_SOURCE}, Spelling.{Lexeme, Spells}}
 use Rattle.literally.specs.Expansion.{Expands}
 use Rattle.grammar.specs.Derivation.{Derives}
 use Rattle.trees.specs.Trees.{ModuleTree}
-use Rattle.typed_trees.specs.TypedTrees.{TypedModule}
 use Rattle.typing.specs.Typing.{typing_of}
-use Rattle.layout.specs.declared.fault.Fault.{Fault}
-use Rattle.layout.specs.declared.fault.Fault.TheVariants.{DataTooLarge, ConstantsTooLarge}
-use Rattle.layout.specs.declared.slot.TheConstants.{SEGMENT_LIMIT}
-use Rattle.layout.specs.Storage.{Storage, constants_fit, data_bytes, storage_of, storage_with}
-use Rattle.sources.specs.Reading.{IsText, HasTyping, IsSourceOf}
 
 pub is_text : (text : List ℕ) (words output : List Lexeme) (tree : ModuleTree) → length text ≤ LONGEST_SOURCE → Spells text words → Expands words output → Derives output tree → IsText text tree
 is_text text words output tree short spelled expanded derived = record {

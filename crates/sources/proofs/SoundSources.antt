@@ -1,11 +1,6 @@
 -- Every module that a source text is is soundly typed, and so are those of a program.
-use Rattle.std.specs.Prelude.{ℕ, List, [], ◌∷◌, All}
-use Rattle.std.proofs.lemmas.List.Elements.{All-cons, All-nil, All-weaker}
-use Rattle.typed_trees.specs.Globals.{ListsGlobals}
-use Rattle.typed_trees.specs.TypedTrees.{TypedModule}
-use Rattle.sources.specs.Reading.{IsSourceOf}
-use Rattle.sources.specs.Programs.{AreSourcesOf}
-use Rattle.layout.specs.Sound.{IsSoundlyTyped}
+use Rattle.sources.proofs.Prelude.{ℕ, List, All-cons, All-nil, All-weaker, ListsGlobals, TypedModule, IsSourceOf, AreSourcesOf, IsSoundlyTyped}
+use Rattle.std.specs.Prelude.{[], ◌∷◌, All}
 use Rattle.typed_laws.proofs.Formed.{derived_is_soundly_typed}
 
 pub source_is_soundly_typed : (text : List ℕ) (typed : TypedModule) → IsSourceOf text typed → IsSoundlyTyped typed

@@ -1,14 +1,5 @@
 -- The code of arguments, one by one.
-use Rattle.std.proofs.Common.{◌≡◌, ℕ, suc, ◌+◌, ◌-◌, ◌<◌, ◌≤◌, List, [], ◌∷◌, ◌++◌, length, drop, replicate, get_or, Option, None, option_map, ap, refl, sym, ◌∙◌, arith}
-use Rattle.std.proofs.lemmas.List.{append_assoc, append-nil}
-use Rattle.typed_trees.specs.declared.expression.TypedExpression.{TypedExpression}
-use Rattle.typed_trees.specs.Views.{arguments_view, expression_view}
-use Rattle.stack_code.specs.declared.instruction.Instruction.{Instruction}
-use Rattle.stack_code.specs.declared.instruction.Instruction.TheVariants.{Drop, Push}
-use Rattle.layout.specs.Joined.{InProgram}
-use Rattle.stack_code.specs.Code.{Site, arguments_code, called_code, count_of_arguments, expression_code}
-use Rattle.resolving.specs.declared.publics.Found.{Found}
-use Rattle.resolving.specs.Views.{found_view}
+use Rattle.stack_compiler.proofs.Prelude.{◌≡◌, ℕ, suc, ◌+◌, ◌-◌, ◌<◌, ◌≤◌, List, [], ◌∷◌, ◌++◌, length, drop, replicate, get_or, Option, None, option_map, ap, refl, sym, ◌∙◌, arith, append_assoc, append-nil, TypedExpression, arguments_view, expression_view, Instruction, Drop, Push, InProgram, Site, arguments_code, called_code, count_of_arguments, expression_code, Found, found_view}
 use Rattle.stack_compiler.proofs.Items.{at_item, at_end}
 
 pub arguments_count : (items : List TypedExpression) → count_of_arguments (arguments_view items) ≡ length items

@@ -1,13 +1,5 @@
 -- DO CASE: the jumps that are filled in later are those of the definition.
-use Rattle.std.proofs.Common.{◌≡◌, ℕ, zero, suc, ◌+◌, ◌-◌, ◌<◌, ◌≤◌, List, [], ◌∷◌, ◌++◌, length, set, drop, get_or, ap, sym, refl, ◌∙◌, arith}
-use Rattle.std.proofs.lemmas.List.{append_assoc, append-nil, length-append}
-use Rattle.typed_trees.specs.declared.statement.TypedStatement.{TypedStatement as CodeStatement}
-use Rattle.typed_trees.specs.TypedTrees.{TypedStatements, NoStatements, MoreStatements}
-use Rattle.typed_trees.specs.Views.{statement_view, statements_view}
-use Rattle.stack_code.specs.declared.instruction.Instruction.{Instruction}
-use Rattle.stack_code.specs.declared.instruction.Instruction.TheVariants.{Case, Jump}
-use Rattle.stack_code.specs.Code.{Site, cases_code, count_of_statements, entries_code, statement_code}
-use Rattle.stack_compiler.specs.internal.Openings.{Opening, opening, holes, passing, with_case, opened, closed}
+use Rattle.stack_compiler.proofs.Prelude.{◌≡◌, ℕ, zero, suc, ◌+◌, ◌-◌, ◌<◌, ◌≤◌, List, [], ◌∷◌, ◌++◌, length, set, drop, get_or, ap, sym, refl, ◌∙◌, arith, append_assoc, append-nil, length-append, CodeStatement, TypedStatements, NoStatements, MoreStatements, statement_view, statements_view, Instruction, Case, Jump, Site, cases_code, count_of_statements, entries_code, statement_code, Opening, opening, holes, passing, with_case, opened, closed}
 use Rattle.stack_compiler.proofs.Items.{at_item, at_end}
 use Rattle.stack_compiler.proofs.JumpsFilled.{filled}
 use Rattle.stack_compiler.proofs.StatementLoops.{statements_count}

@@ -1,11 +1,5 @@
 -- Jumps that are filled in after the code that they pass over.
-use Rattle.std.proofs.Common.{◌≡◌, ℕ, suc, ◌+◌, ◌-◌, List, [], ◌∷◌, ◌++◌, length, set, None, Some, ap, sym, ◌∙◌, arith}
-use Rattle.std.proofs.lemmas.List.{append_assoc, length-append}
-use Rattle.std.proofs.Math.Seq.{set-append_seam}
-use Rattle.stack_code.specs.declared.instruction.Instruction.{Instruction}
-use Rattle.stack_code.specs.declared.instruction.Instruction.TheVariants.{Drop, Jump, JumpUnless, LoopBack, Step}
-use Rattle.typed_trees.specs.TypedTrees.{TypedIteration, TypedList, IterateStatement}
-use Rattle.stack_code.specs.Code.{Site, ToRead, ToWrite, choice_code, first_code, last_code, list_code, loop_code, statement_code, step_code, value_or, variable_code}
+use Rattle.stack_compiler.proofs.Prelude.{◌≡◌, ℕ, suc, ◌+◌, ◌-◌, List, [], ◌∷◌, ◌++◌, length, set, None, Some, ap, sym, ◌∙◌, arith, append_assoc, length-append, set-append_seam, Instruction, Drop, Jump, JumpUnless, LoopBack, Step, TypedIteration, TypedList, IterateStatement, Site, ToRead, ToWrite, choice_code, first_code, last_code, list_code, loop_code, statement_code, step_code, value_or, variable_code}
 use Rattle.stack_compiler.specs.internal.Loops.{stepping_code}
 
 after_hole : (front body : List Instruction) (hole : Instruction) (at : ℕ) → at ≡ length front → length (front ++ (hole ∷ body)) - (at + 1) ≡ length body

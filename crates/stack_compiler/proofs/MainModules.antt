@@ -1,21 +1,5 @@
 -- The main module: its number, and the code of a program.
-use Rattle.std.proofs.Common.{◌≡◌, ℕ, ◌+◌, ◌<◌, ◌≤◌, Bool, true, false, cond, List, length, map, drop, get_or, None, Some, option_map, Result, ap, subst, sym, ◌∙◌}
-use Rattle.std.specs.Prelude.{slice_get, IfOk}
-use Rattle.std.specs.List.{position_from}
-use Rattle.std.specs.Option.{option_map_or}
-use Rattle.std.proofs.lemmas.Iterator.Adapters.{position_from-zero}
-use Rattle.std.proofs.lemmas.Option.{slice_get-map}
-use Rattle.typed_trees.specs.declared.module.Typed.{Typed}
-use Rattle.typed_trees.specs.TypedTrees.{TypedModule}
-use Rattle.typed_trees.specs.Views.{module_view}
-use Rattle.layout.specs.Joined.{is_main}
-use Rattle.layout.specs.Placement.{Placement}
-use Rattle.meaning.specs.Outcomes.{Program}
-use Rattle.meaning.specs.Run.{number_of_main}
-use Rattle.stack_code.specs.declared.instruction.Instruction.{Instruction}
-use Rattle.stack_code.specs.declared.program.StackProgram.{StackProgram}
-use Rattle.stack_code.specs.Code.{program_code}
-use Rattle.stack_code.specs.Program.{AreTablesOf}
+use Rattle.stack_compiler.proofs.Prelude.{◌≡◌, ℕ, ◌+◌, ◌<◌, ◌≤◌, Bool, true, false, cond, List, length, map, drop, get_or, None, Some, option_map, Result, ap, subst, sym, ◌∙◌, slice_get, IfOk, position_from, option_map_or, position_from-zero, slice_get-map, Typed, TypedModule, module_view, is_main, Placement, Program, number_of_main, Instruction, StackProgram, program_code, AreTablesOf}
 use Rattle.stack_compiler.specs.Compiled.{IsCompiled}
 use Rattle.stack_compiler.specs.internal.MainCode.{IsCodeOf}
 use Rattle.stack_compiler.proofs.Items.{at_item, at_end}

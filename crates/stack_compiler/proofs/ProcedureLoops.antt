@@ -1,19 +1,5 @@
 -- The code of parameters, procedures and modules, one by one.
-use Rattle.std.proofs.Common.{◌≡◌, ℕ, ◌+◌, ◌<◌, ◌≤◌, List, [], ◌∷◌, ◌++◌, length, map, drop, get_or, ap, refl, sym, ◌∙◌, arith}
-use Rattle.std.proofs.lemmas.List.{append_assoc, append-nil}
-use Rattle.std.specs.Prelude.{flat_map}
-use Rattle.std.specs.List.{enumerate_from}
-use Rattle.trees.specs.declared.declaration.ScalarType.{ScalarType}
-use Rattle.typed_trees.specs.declared.module.Typed.{Typed}
-use Rattle.typed_trees.specs.declared.module.TypedProcedure.{TypedProcedure as CodeProcedure}
-use Rattle.typed_trees.specs.TypedTrees.{TypedProcedure, TypedModule}
-use Rattle.typed_trees.specs.Views.{module_view, procedure_view}
-use Rattle.layout.specs.Placement.{Placement}
-use Rattle.meaning.specs.Access.{home_of}
-use Rattle.stack_code.specs.declared.instruction.Instruction.{Instruction}
-use Rattle.stack_code.specs.declared.instruction.Instruction.TheVariants.{Begin, Discard, Push, Return}
-use Rattle.stack_code.specs.Code.{Site, list_code, main_code, module_code, parameter_code, parameters_code, procedure_code, program_code, site_of, surroundings_at}
-use Rattle.stack_compiler.specs.internal.Sequences.{modules_code_from, procedures_code_from}
+use Rattle.stack_compiler.proofs.Prelude.{◌≡◌, ℕ, ◌+◌, ◌<◌, ◌≤◌, List, [], ◌∷◌, ◌++◌, length, map, drop, get_or, ap, refl, sym, ◌∙◌, arith, append_assoc, append-nil, flat_map, enumerate_from, ScalarType, Typed, CodeProcedure, TypedProcedure, TypedModule, module_view, procedure_view, Placement, home_of, Instruction, Begin, Discard, Push, Return, Site, list_code, main_code, module_code, parameter_code, parameters_code, procedure_code, program_code, site_of, surroundings_at, modules_code_from, procedures_code_from}
 use Rattle.stack_compiler.proofs.Items.{at_item, at_end}
 
 -- parameters

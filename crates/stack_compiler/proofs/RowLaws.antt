@@ -1,21 +1,5 @@
 -- The tables tell where each procedure and each label stands in the code.
-use Rattle.std.proofs.Common.{◌≡◌, ℕ, zero, suc, ◌+◌, ◌<◌, ◌≤◌, ◌==◌, Bool, true, false, ◌&&◌, cond, nat_eq, List, [], ◌∷◌, length, map, Option, None, Some, option_map, ap, refl, sym, ◌∙◌, arith}
-use Rattle.std.specs.Prelude.{slice_get, slice_index}
-use Rattle.std.specs.List.{position_from}
-use Rattle.std.specs.Option.{option_and_then, option_map_or}
-use Rattle.std.proofs.lemmas.Grind.{common_steps}
-use Rattle.std.proofs.lemmas.Iterator.Adapters.{position_from-zero}
-use Rattle.std.proofs.lemmas.Option.{slice_get-map}
-use Rattle.typed_trees.specs.TypedTrees.{TypedProcedure, TypedModule}
-use Rattle.layout.specs.Joined.{InProgram}
-use Rattle.meaning.specs.Meaning.{procedure_at}
-use Rattle.stack_code.specs.declared.instruction.Instruction.{Instruction}
-use Rattle.stack_code.specs.declared.instruction.Instruction.TheVariants.{Begin, Mark, Push, Drop, ReadAt, WriteAt, Read, Write, ReadFrame, WriteFrame, LocateFrame, Scale, Advance, Sum, Convert, Unary, Binary, BinaryWith, Function, Shift, Step, Input, Output, Move, Parameter, FrameParameter, Discard, Jump, JumpUnless, LoopBack, Case, Goto, Call, Return, Halt}
-use Rattle.stack_code.specs.declared.program.Entry.{Entry}
-use Rattle.stack_code.specs.declared.program.ModuleTable.{ModuleTable}
-use Rattle.stack_code.specs.Machine.{after_first, is_begin, is_mark}
-use Rattle.stack_code.specs.Program.{AreTablesOf, entry_in, label_in}
-use Rattle.stack_compiler.specs.internal.Rows.{Row, row_view, empty_row, started_entry, started_row, first_of, padded, updated, with_label, row_labelled, entry_begun, row_begun, noted, noted_all}
+use Rattle.stack_compiler.proofs.Prelude.{◌≡◌, ℕ, zero, suc, ◌+◌, ◌<◌, ◌≤◌, ◌==◌, Bool, true, false, ◌&&◌, cond, nat_eq, List, [], ◌∷◌, length, map, Option, None, Some, option_map, ap, refl, sym, ◌∙◌, arith, slice_get, slice_index, position_from, option_and_then, option_map_or, common_steps, position_from-zero, slice_get-map, TypedProcedure, TypedModule, InProgram, procedure_at, Instruction, Begin, Mark, Push, Drop, ReadAt, WriteAt, Read, Write, ReadFrame, WriteFrame, LocateFrame, Scale, Advance, Sum, Convert, Unary, Binary, BinaryWith, Function, Shift, Step, Input, Output, Move, Parameter, FrameParameter, Discard, Jump, JumpUnless, LoopBack, Case, Goto, Call, Return, Halt, Entry, ModuleTable, after_first, is_begin, is_mark, AreTablesOf, entry_in, label_in, Row, row_view, empty_row, started_entry, started_row, first_of, padded, updated, with_label, row_labelled, entry_begun, row_begun, noted, noted_all}
 use Rattle.stack_compiler.proofs.RowLoops.{first_stands}
 
 none_is_no_successor : (n : ℕ) → nat_eq 0 (suc n) ≡ false

@@ -1,16 +1,5 @@
 -- The loops that fill the tables.
-use Rattle.std.proofs.Common.{◌≡◌, ℕ, zero, suc, ◌+◌, ◌<◌, ◌≤◌, List, [], ◌∷◌, ◌++◌, length, map, drop, set, get_or, Some, option_map, ap, refl, sym, ◌∙◌, arith}
-use Rattle.std.specs.Prelude.{slice_get}
-use Rattle.std.specs.Option.{option_map_or}
-use Rattle.std.proofs.lemmas.List.{append_assoc, append-nil, map-append}
-use Rattle.std.proofs.lemmas.Option.{slice_get-map}
-use Rattle.typed_trees.specs.declared.module.Typed.{Typed}
-use Rattle.typed_trees.specs.declared.module.TypedProcedure.{TypedProcedure as CodeProcedure}
-use Rattle.typed_trees.specs.Views.{module_view, procedure_view}
-use Rattle.stack_code.specs.declared.instruction.Instruction.{Instruction}
-use Rattle.stack_code.specs.declared.program.Entry.{Entry}
-use Rattle.stack_code.specs.declared.program.ModuleTable.{ModuleTable}
-use Rattle.stack_compiler.specs.internal.Rows.{Row, row_view, empty_row, started_entry, started_row, first_of, padded, updated, noted, noted_all}
+use Rattle.stack_compiler.proofs.Prelude.{◌≡◌, ℕ, zero, suc, ◌+◌, ◌<◌, ◌≤◌, List, [], ◌∷◌, ◌++◌, length, map, drop, set, get_or, Some, option_map, ap, refl, sym, ◌∙◌, arith, slice_get, option_map_or, append_assoc, append-nil, map-append, slice_get-map, Typed, CodeProcedure, module_view, procedure_view, Instruction, Entry, ModuleTable, Row, row_view, empty_row, started_entry, started_row, first_of, padded, updated, noted, noted_all}
 use Rattle.stack_compiler.proofs.Items.{at_item, at_end}
 
 pub first_is_none : (first second : ℕ) → first ≡ 0 → second ≡ first_of first second

@@ -1,11 +1,5 @@
 -- The code of targets and of statements, one by one.
-use Rattle.std.proofs.Common.{◌≡◌, ℕ, suc, ◌+◌, ◌<◌, ◌≤◌, List, [], ◌∷◌, ◌++◌, length, map, drop, get_or, ap, refl, sym, ◌∙◌}
-use Rattle.std.proofs.lemmas.List.{append_assoc, append-nil}
-use Rattle.typed_trees.specs.declared.expression.TypedTarget.{TypedTarget}
-use Rattle.typed_trees.specs.declared.statement.TypedStatement.{TypedStatement}
-use Rattle.typed_trees.specs.Views.{statement_view, statements_view, target_view}
-use Rattle.stack_code.specs.declared.instruction.Instruction.{Instruction}
-use Rattle.stack_code.specs.Code.{Site, count_of_statements, statement_code, statements_code, target_code, targets_code}
+use Rattle.stack_compiler.proofs.Prelude.{◌≡◌, ℕ, suc, ◌+◌, ◌<◌, ◌≤◌, List, [], ◌∷◌, ◌++◌, length, map, drop, get_or, ap, refl, sym, ◌∙◌, append_assoc, append-nil, TypedTarget, TypedStatement, statement_view, statements_view, target_view, Instruction, Site, count_of_statements, statement_code, statements_code, target_code, targets_code}
 use Rattle.stack_compiler.proofs.Items.{at_item, at_end}
 
 pub statements_count : (items : List TypedStatement) → count_of_statements (statements_view items) ≡ length items

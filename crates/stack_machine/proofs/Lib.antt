@@ -1,3 +1,4 @@
+mod Prelude
 pub mod Reversed
 pub mod Steps
 pub mod Copies

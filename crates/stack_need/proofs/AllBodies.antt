@@ -1,13 +1,6 @@
 -- The loop over the bodies of a graph.
-use Rattle.std.proofs.Common.{◌≡◌, ℕ, zero, suc, ◌+◌, ◌<◌, ◌≤◌, Bool, true, false, List, [], ◌∷◌, length, map, replicate, slice_get, Option, Some, None, Contains, nat_le, leb-true, leb-false, arith, refl, ap, sym, subst, ◌∙◌, inl, inr}
-use Rattle.std.specs.Option.{option_map_or}
-use Rattle.std.proofs.lemmas.List.{length-map, length-replicate}
+use Rattle.stack_need.proofs.Prelude.{◌≡◌, ℕ, zero, suc, ◌+◌, ◌<◌, ◌≤◌, Bool, true, false, List, [], ◌∷◌, length, map, replicate, slice_get, Option, Some, None, Contains, nat_le, leb-true, leb-false, arith, refl, ap, sym, subst, ◌∙◌, inl, inr, option_map_or, length-map, length-replicate, New, Open, Done, Body, HasCycle, IsChain, callees_of, charge_in, end_of_chain, of_body, GreatestOf, of_none, HasNeed, Searched, body_view, Answers, Finds, HaveNeeds, IsTrueOf}
 use Rattle.stack_need.specs.declared.body.Body.{Body as CodeBody}
-use Rattle.stack_need.specs.declared.search.Mark.TheVariants.{New, Open, Done}
-use Rattle.stack_need.specs.CallGraph.{Body, HasCycle, IsChain, callees_of, charge_in, end_of_chain}
-use Rattle.stack_need.specs.internal.Needs.{of_body, GreatestOf, of_none, HasNeed}
-use Rattle.stack_need.specs.internal.Search.{Searched, body_view}
-use Rattle.stack_need.specs.internal.Searching.{Answers, Finds, HaveNeeds, IsTrueOf}
 use Rattle.stack_need.proofs.Marks.{all_new}
 use Rattle.stack_need.proofs.Needs.{never_back, nothing_in_none}
 

@@ -1,10 +1,5 @@
 -- The body of a procedure stands in the graph under its number.
-use Rattle.std.proofs.Common.{◌≡◌, ℕ, zero, suc, ◌+◌, List, [], ◌∷◌, ◌++◌, length, map, slice_get, slice_index, Option, Some, None, option_map, arith, refl, ap, sym, subst, ◌∙◌}
-use Rattle.std.specs.Option.{option_and_then}
-use Rattle.typed_trees.specs.TypedTrees.{TypedProcedure, TypedModule}
-use Rattle.layout.specs.Joined.{InProgram}
-use Rattle.meaning.specs.Meaning.{procedure_at}
-use Rattle.stack_need.specs.CallGraph.{bodies_from, body_of, call_graph, first_numbers, main_body, number_of_body}
+use Rattle.stack_need.proofs.Prelude.{◌≡◌, ℕ, zero, suc, ◌+◌, List, [], ◌∷◌, ◌++◌, length, map, slice_get, slice_index, Option, Some, None, option_map, arith, refl, ap, sym, subst, ◌∙◌, option_and_then, TypedProcedure, TypedModule, InProgram, procedure_at, bodies_from, body_of, call_graph, first_numbers, main_body, number_of_body}
 
 -- what stands in the first of two lists, and in the second
 pub in_first : {A B : Type 0} (f : A → B) (items : List A) (others : List B) (at : ℕ) (item : A) → slice_get items at ≡ Some item → slice_get (map f items ++ others) at ≡ Some (f item)

@@ -1,6 +1,5 @@
 -- Elements of lists.
-use Rattle.std.proofs.Common.{◌≡◌, ℕ, suc, List, [], ◌∷◌, ◌++◌, Option, Some, None, Contains, arith, refl, sym, subst, ◌∙◌}
-use Rattle.std.specs.List.{AllByRecursion, cons_option, filter_map}
+use Rattle.stack_need.proofs.Prelude.{◌≡◌, ℕ, suc, List, [], ◌∷◌, ◌++◌, Option, Some, None, Contains, arith, refl, sym, subst, ◌∙◌, AllByRecursion, cons_option, filter_map}
 
 -- what holds of all of two lists
 module _ {A : Type 0} (P : A → Type 0) where

@@ -1,16 +1,5 @@
 -- The call graph is made body by body.
-use Rattle.std.proofs.Common.{◌≡◌, ℕ, ◌+◌, Bool, true, false, List, [], ◌∷◌, cond, filter_map, min, find, Option, Some, refl, ap, sym, ◌∙◌}
-use Rattle.std.specs.List.{position_from}
-use Rattle.std.specs.Option.{option_map_or}
-use Rattle.std.proofs.lemmas.Iterator.Adapters.{position_from-zero}
-use Rattle.typed_trees.specs.Charge.{charge_of}
-use Rattle.typed_trees.specs.TypedTrees.{TypedProcedure, TypedModule}
-use Rattle.layout.specs.Joined.{is_main}
-use Rattle.meaning.specs.Access.{Surroundings}
-use Rattle.stack_need.specs.Calls.{calls_in_list}
-use Rattle.stack_need.specs.CallGraph.{body_of, first_numbers, main_body}
-use Rattle.stack_need.specs.internal.Graph.{callee_at, main_from}
-use Rattle.stack_need.specs.internal.Needs.{capped}
+use Rattle.stack_need.proofs.Prelude.{◌≡◌, ℕ, ◌+◌, Bool, true, false, List, [], ◌∷◌, cond, filter_map, min, find, Option, Some, refl, ap, sym, ◌∙◌, position_from, option_map_or, position_from-zero, charge_of, TypedProcedure, TypedModule, is_main, Surroundings, calls_in_list, body_of, first_numbers, main_body, callee_at, main_from, capped}
 
 -- the body of a procedure
 pub body_made : (around : Surroundings) (firsts calls : List ℕ) (charge : ℕ) (callees : List ℕ) (procedure : TypedProcedure) → firsts ≡ first_numbers 1 around.program.modules

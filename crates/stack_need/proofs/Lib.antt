@@ -1,3 +1,4 @@
+mod Prelude
 mod Elements
 mod Items
 mod Graph

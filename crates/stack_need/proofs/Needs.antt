@@ -1,9 +1,5 @@
 -- What the need of a body says of chains of calls.
-use Rattle.std.proofs.Common.{◌≡◌, ℕ, zero, suc, ◌+◌, ◌<◌, ◌≤◌, Bool, true, false, List, [], ◌∷◌, ◌++◌, length, map, max, min, slice_get, slice_index_or, nat_le, option_map, leb-true, leb-false, Option, Some, None, Contains, arith, refl, ap, sym, subst, ◌∙◌, ◌⊎◌, inl, inr}
-use Rattle.std.specs.Option.{option_map_or}
-use Rattle.std.proofs.lemmas.Option.{slice_get-map}
-use Rattle.stack_need.specs.CallGraph.{Body, IsChain, callees_of, charge_in, charges_of_chain, end_of_chain}
-use Rattle.stack_need.specs.internal.Needs.{NeedOf, of_body, GreatestOf, of_none, of_more, capped}
+use Rattle.stack_need.proofs.Prelude.{◌≡◌, ℕ, zero, suc, ◌+◌, ◌<◌, ◌≤◌, Bool, true, false, List, [], ◌∷◌, ◌++◌, length, map, max, min, slice_get, slice_index_or, nat_le, option_map, leb-true, leb-false, Option, Some, None, Contains, arith, refl, ap, sym, subst, ◌∙◌, ◌⊎◌, inl, inr, option_map_or, slice_get-map, Body, IsChain, callees_of, charge_in, charges_of_chain, end_of_chain, NeedOf, of_body, GreatestOf, of_none, of_more, capped}
 use Rattle.stack_need.proofs.Elements.{at_head, in_tail}
 
 -- an element is the first or one of the others

@@ -1,9 +1,5 @@
 -- Lists whose last element comes first.
-use Rattle.std.proofs.Common.{◌≡◌, List, [], ◌∷◌, ◌++◌, length, ◌==◌, refl, sym, ap, ◌∙◌, arith}
-use Rattle.std.specs.Prelude.{reverse}
-use Rattle.std.proofs.Math.Dec.{eqb-suc-zero}
-use Rattle.std.proofs.lemmas.List.{reverse-append, length-reverse}
-use Rattle.stack_need.specs.declared.path.Visit.{Visit}
+use Rattle.stack_need.proofs.Prelude.{◌≡◌, List, [], ◌∷◌, ◌++◌, length, ◌==◌, refl, sym, ap, ◌∙◌, arith, reverse, eqb-suc-zero, reverse-append, length-reverse, Visit}
 use Rattle.stack_need.specs.internal.Path.{is_ended}
 
 pub pushed : (visits : List Visit) (visit : Visit) → reverse (visits ++ visit ∷ []) ≡ visit ∷ reverse visits

@@ -1,15 +1,6 @@
 -- A step of a search: what holds along it, and what it comes to.
-use Rattle.std.proofs.Common.{◌≡◌, ℕ, zero, suc, ◌+◌, ◌<◌, ◌≤◌, List, [], ◌∷◌, ◌++◌, length, take, max, slice_get, slice_set, Option, Some, None, Contains, arith, refl, ap, sym, subst, ◌∙◌, inl, inr}
-use Rattle.std.specs.List.{AllByRecursion}
-use Rattle.std.proofs.lemmas.List.{length-set}
-use Rattle.stack_need.specs.declared.path.Visit.{Visit}
-use Rattle.stack_need.specs.declared.search.Mark.{Mark}
-use Rattle.stack_need.specs.declared.search.Mark.TheVariants.{New, Open, Done}
-use Rattle.stack_need.specs.declared.search.Progress.{Progress}
-use Rattle.stack_need.specs.CallGraph.{Body, HasCycle, IsChain, callees_of, charge_in, end_of_chain}
-use Rattle.stack_need.specs.internal.Needs.{NeedOf, of_body, GreatestOf, of_none, of_more, HasNeed}
-use Rattle.stack_need.specs.internal.Search.{Searched, begun, called, finished, mark_of, need_shown, passed, stepped, stepped_to}
-use Rattle.stack_need.specs.internal.Searching.{GoesTo, HasPassed, IsOnPath, IsTrueOf, Leads, Searches, left, waiting}
+use Rattle.stack_need.proofs.Prelude.{◌≡◌, ℕ, zero, suc, ◌+◌, ◌<◌, ◌≤◌, List, [], ◌∷◌, ◌++◌, length, take, max, slice_get, slice_set, Option, Some, None, Contains, arith, refl, ap, sym, subst, ◌∙◌, inl, inr, AllByRecursion, length-set, Visit, Mark, New, Open, Done, Progress, Body, HasCycle, IsChain, callees_of, charge_in, end_of_chain, NeedOf, of_body, GreatestOf, of_none, of_more, HasNeed, Searched, begun, finished, mark_of, need_shown, passed, stepped, stepped_to, GoesTo, HasPassed, IsOnPath, IsTrueOf, Leads, Searches, left, waiting}
+use Rattle.stack_need.specs.internal.Search.{called}
 use Rattle.stack_need.proofs.Elements.{at_head, in_tail}
 use Rattle.stack_need.proofs.Marks.{done_is_not_open, known, mark_set, opened}
 use Rattle.stack_need.proofs.Needs.{chain_more, end_more}

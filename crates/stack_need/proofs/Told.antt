@@ -1,10 +1,6 @@
 -- What the search answers is the need of the program.
-use Rattle.std.proofs.Common.{◌≡◌, ℕ, List, [], ◌∷◌, map, Option, Some, None, Contains, sym, subst, ◌∙◌}
-use Rattle.typed_trees.specs.TypedTrees.{TypedModule}
-use Rattle.stack_need.specs.CallGraph.{Body, HasCycle, IsChain, call_graph, end_of_chain}
+use Rattle.stack_need.proofs.Prelude.{◌≡◌, ℕ, List, [], ◌∷◌, map, Option, Some, None, Contains, sym, subst, ◌∙◌, TypedModule, Body, HasCycle, IsChain, call_graph, end_of_chain, capped, Answers}
 use Rattle.stack_need.specs.StackNeed.{TellsNeed}
-use Rattle.stack_need.specs.internal.Needs.{capped}
-use Rattle.stack_need.specs.internal.Searching.{Answers}
 use Rattle.stack_need.proofs.Needs.{attained, chains_within, from_stopped, same_callees}
 use Rattle.stack_need.proofs.WithinRuns.{is_enough}
 

@@ -1,14 +1,5 @@
 -- The turns of the loop of a search.
-use Rattle.std.proofs.Common.{◌≡◌, ℕ, List, [], ◌∷◌, Some, None, ap, sym, subst, ◌∙◌}
-use Rattle.stack_need.specs.declared.path.Visit.{Visit}
-use Rattle.stack_need.specs.declared.search.Mark.{Mark}
-use Rattle.stack_need.specs.declared.search.Mark.TheVariants.{Done}
-use Rattle.stack_need.specs.declared.search.Progress.{Progress}
-use Rattle.stack_need.specs.declared.search.Progress.TheVariants.{Finished, Cyclic}
-use Rattle.stack_need.specs.CallGraph.{Body, HasCycle}
-use Rattle.stack_need.specs.internal.Needs.{HasNeed}
-use Rattle.stack_need.specs.internal.Search.{Searched, begun, mark_of, stepped}
-use Rattle.stack_need.specs.internal.Searching.{Finds, GoesTo, IsTrueOf, Searches, left}
+use Rattle.stack_need.proofs.Prelude.{◌≡◌, ℕ, List, [], ◌∷◌, Some, None, ap, sym, subst, ◌∙◌, Visit, Mark, Done, Progress, Finished, Cyclic, Body, HasCycle, HasNeed, Searched, begun, mark_of, stepped, Finds, GoesTo, IsTrueOf, Searches, left}
 use Rattle.stack_need.proofs.Searching.{starts, steps}
 
 -- what a turn comes to, with the graph that it had before and after

@@ -1,16 +1,6 @@
 -- Where the room is enough, the evaluation of expressions does not go outside for the stack.
-use Rattle.std.proofs.Common.{◌≡◌, ℕ, zero, suc, ◌+◌, ◌-◌, ◌==◌, ◌%◌, ◌&&◌, Bool, true, false, List, [], ◌∷◌, Option, Some, None, cond, refl}
+use Rattle.stack_need.proofs.Prelude.{◌≡◌, ℕ, zero, suc, ◌+◌, ◌-◌, ◌==◌, ◌%◌, ◌&&◌, Bool, true, false, List, [], ◌∷◌, Option, Some, None, cond, refl, ScalarType, Byte, Address, TypedExpression, NumberNode, ValueNode, LocationNode, ListNode, ConversionNode, AssignmentNode, UnaryNode, BinaryNode, CallNode, FunctionNode, ShiftNode, InputNode, TypedReference, PartOf, Subscript, NoSubscript, At, TypedTarget, StoredIn, SentTo, TypedArguments, NoArguments, MoreArguments, Home, InData, InConstants, Placed, BasedOn, Elsewhere, Nowhere, InFrame, InProgram, as_type, result_of, Place, InMemory, InTheFrame, Surroundings, home_of, is_constant, is_declared, next_place, place_of, read_byte, read_scalar, write_byte, write_scalar, Later, based_place, called_for, callee_in, computed, displacement, located, moved, stored, stored_in_each, value, values, Program, State, More, Outcome, Gave, Stopped, then_do, taking_one, calls_in, calls_in_arguments, calls_in_reference, calls_in_subscript, calls_in_target, calls_in_targets, Holds, HoldsAll, HoldsCall, LaterStays, StaysWithin}
 use Rattle.mem80.specs.declared.memory.TheConstants.{MEMORY_SIZE}
-use Rattle.trees.specs.declared.declaration.ScalarType.{ScalarType}
-use Rattle.trees.specs.declared.declaration.ScalarType.TheVariants.{Byte, Address}
-use Rattle.typed_trees.specs.TypedTrees.{TypedExpression, NumberNode, ValueNode, LocationNode, ListNode, ConversionNode, AssignmentNode, UnaryNode, BinaryNode, CallNode, FunctionNode, ShiftNode, InputNode, TypedReference, PartOf, Subscript, NoSubscript, At, TypedTarget, StoredIn, SentTo, TypedArguments, NoArguments, MoreArguments, Home, InData, InConstants, Placed, BasedOn, Elsewhere, Nowhere, InFrame}
-use Rattle.layout.specs.Joined.{InProgram}
-use Rattle.meaning.specs.Values.{as_type, result_of}
-use Rattle.meaning.specs.Access.{Place, InMemory, InTheFrame, Surroundings, home_of, is_constant, is_declared, next_place, place_of, read_byte, read_scalar, write_byte, write_scalar}
-use Rattle.meaning.specs.Meaning.{Later, based_place, called_for, callee_in, computed, displacement, located, moved, stored, stored_in_each, value, values}
-use Rattle.meaning.specs.Outcomes.{Program, State, More, Outcome, Gave, Stopped, then_do, taking_one}
-use Rattle.stack_need.specs.Calls.{calls_in, calls_in_arguments, calls_in_reference, calls_in_subscript, calls_in_target, calls_in_targets}
-use Rattle.stack_need.specs.internal.Within.{Holds, HoldsAll, HoldsCall, LaterStays, StaysWithin}
 use Rattle.stack_need.proofs.Elements.{all_left, all_right}
 
 -- one part after another

@@ -1,21 +1,6 @@
 -- Where the room is as much as each chain of calls is charged, no run goes outside for the stack.
-use Rattle.std.proofs.Common.{◌≡◌, ◌≢◌, ℕ, zero, suc, ◌+◌, ◌-◌, ◌<◌, ◌≤◌, Bool, true, false, List, [], ◌∷◌, Option, Some, None, option_map, cond, find, slice_get, Contains, nat_lt, ltb-true, arith, refl, sym, ap, subst}
-use Rattle.std.specs.List.{AllByRecursion}
-use Rattle.std.specs.Option.{option_map_or}
-use Rattle.trees.specs.declared.declaration.ScalarType.{ScalarType}
-use Rattle.typed_trees.specs.Charge.{charge_of}
-use Rattle.typed_trees.specs.TypedTrees.{TypedProcedure, TypedModule}
-use Rattle.layout.specs.Joined.{InProgram, is_main}
-use Rattle.layout.specs.StartingMemory.{starting_memory}
-use Rattle.meaning.specs.declared.reason.Reason.TheVariants.{Stack}
-use Rattle.meaning.specs.Access.{Surroundings, place_of, write_scalar}
-use Rattle.meaning.specs.Meaning.{Later, called, charged, done_list, entered, frame_of, later_by, parameters_set, procedure_at}
-use Rattle.meaning.specs.Outcomes.{Program, State, Outside, Outcome, Gave, Stopped, Flow, Onward}
-use Rattle.meaning.specs.Run.{main_done, number_of_main, run_of, source_run}
-use Rattle.stack_need.specs.Calls.{calls_in_list}
-use Rattle.stack_need.specs.CallGraph.{Body, IsChain, body_of, call_graph, callees_of, charge_in, charges_of_chain, number_of_body, procedure_called}
+use Rattle.stack_need.proofs.Prelude.{◌≡◌, ◌≢◌, ℕ, zero, suc, ◌+◌, ◌-◌, ◌<◌, ◌≤◌, Bool, true, false, List, [], ◌∷◌, Option, Some, None, option_map, cond, find, slice_get, Contains, nat_lt, ltb-true, arith, refl, sym, ap, subst, AllByRecursion, option_map_or, ScalarType, charge_of, TypedProcedure, TypedModule, InProgram, is_main, starting_memory, Stack, Surroundings, place_of, write_scalar, Later, called, charged, done_list, entered, frame_of, later_by, parameters_set, procedure_at, Program, State, Outside, Outcome, Gave, Stopped, Flow, Onward, main_done, number_of_main, run_of, source_run, calls_in_list, Body, IsChain, body_of, call_graph, callees_of, charge_in, charges_of_chain, number_of_body, procedure_called, Holds, HoldsAll, HoldsCall, IsNotStack, LaterStays, StaysWithin}
 use Rattle.stack_need.specs.StackNeed.{IsEnough}
-use Rattle.stack_need.specs.internal.Within.{Holds, HoldsAll, HoldsCall, IsNotStack, LaterStays, StaysWithin}
 use Rattle.stack_need.proofs.Elements.{all_made}
 use Rattle.stack_need.proofs.Bodies.{stands}
 use Rattle.stack_need.proofs.Within.{changes_scalar, next, takes_one}

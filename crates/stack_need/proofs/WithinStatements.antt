@@ -1,12 +1,6 @@
 -- Where the room is enough, statements do not go outside for the stack.
-use Rattle.std.proofs.Common.{◌≡◌, ℕ, zero, suc, ◌+◌, ◌-◌, ◌++◌, Bool, true, false, [], ◌∷◌, Option, Some, None, option_map, cond, nat_le, nat_lt, slice_get, refl, subst}
-use Rattle.typed_trees.specs.TypedTrees.{TypedExpression, TypedIteration, TypedStatement, LabelStatement, NullStatement, AssignmentStatement, CallStatement, MoveStatement, ReturnStatement, HaltStatement, GotoStatement, IfStatement, DoStatement, WhileStatement, IterateStatement, CaseStatement, TypedElse, NoElse, ElseStatement, TypedStatements, NoStatements, MoreStatements, TypedList, ListOf}
-use Rattle.meaning.specs.Values.{as_type, is_true, values_of}
-use Rattle.meaning.specs.Access.{Surroundings, place_of}
-use Rattle.meaning.specs.Meaning.{Later, Turn, WhileTurn, IterateTurn, after_turn, called_for, callee_in, caught_in, done, done_all, done_case, done_else, done_list, dropped, going_on, iterated, landed, moved, next_turn, read_variable, rest_from, rest_of, returned, step_value, stepped, stored_in_each, turn_of, value, values, write_variable}
-use Rattle.meaning.specs.Outcomes.{State, Outcome, Gave, then_do, taking_one, Flow, Onward, Returned, Jumped}
-use Rattle.stack_need.specs.Calls.{calls_in, calls_in_arguments, calls_in_else, calls_in_iteration, calls_in_list, calls_in_optional, calls_in_statement, calls_in_statements, calls_in_targets}
-use Rattle.stack_need.specs.internal.Within.{HoldsAll, HoldsCall, HoldsTurn, LaterStays, StaysWithin}
+use Rattle.stack_need.proofs.Prelude.{◌≡◌, ℕ, zero, suc, ◌+◌, ◌-◌, ◌++◌, Bool, true, false, [], ◌∷◌, Option, Some, None, option_map, cond, nat_le, nat_lt, slice_get, refl, subst, TypedExpression, TypedIteration, TypedStatement, LabelStatement, NullStatement, AssignmentStatement, CallStatement, MoveStatement, ReturnStatement, HaltStatement, GotoStatement, IfStatement, DoStatement, WhileStatement, IterateStatement, CaseStatement, TypedElse, NoElse, ElseStatement, TypedStatements, NoStatements, MoreStatements, TypedList, ListOf, as_type, is_true, values_of, Surroundings, place_of, Later, Turn, WhileTurn, IterateTurn, after_turn, called_for, callee_in, caught_in, done, done_all, done_case, done_else, done_list, dropped, going_on, iterated, landed, moved, next_turn, read_variable, rest_from, rest_of, returned, step_value, stored_in_each, turn_of, value, values, write_variable, State, Outcome, Gave, then_do, taking_one, Flow, Onward, Returned, Jumped, calls_in, calls_in_arguments, calls_in_else, calls_in_iteration, calls_in_list, calls_in_optional, calls_in_statement, calls_in_statements, calls_in_targets, HoldsAll, HoldsCall, HoldsTurn, LaterStays, StaysWithin}
+use Rattle.meaning.specs.Meaning.{stepped}
 use Rattle.stack_need.proofs.Elements.{all_left, all_right}
 use Rattle.stack_need.proofs.Within.{calls, changes_scalar, either, moves, next, reads_scalar, takes_one, targets_stay, value_stays, values_stay}
 

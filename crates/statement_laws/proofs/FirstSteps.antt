@@ -1,28 +1,9 @@
 -- The first of planned steps that stand, and what follows it.
-use Rattle.std.proofs.Common.{◌≡◌, ℕ, ◌+◌, Bool, if◌then◌else◌, List, [], ◌∷◌, ◌++◌, Option, Some, None, refl}
-use Rattle.isa8080.specs.declared.instr.Instr.{Instr}
+use Rattle.statement_laws.proofs.Prelude.{◌≡◌, ℕ, ◌+◌, Bool, if◌then◌else◌, List, [], ◌∷◌, ◌++◌, Option, Some, None, refl, Instr, WordForm, size_of_instruction, Range, StatementNumber, IsThere, Facts, LabelNumber, Step, Task, after, after_form, no_facts, jump_item, Planned, jump, mark, part, Here, arriving, carried_steps, here_after, jump_on_steps, known_here, met, waiting_after, StepsStand, JumpThere, MarkThere, NoneThere, PartThere, PlainThere, PartDoes, TaskDoes, BodyContext, ListDoes, ListPlanned, NonePlanned, PlannedStand, StatementDoes, StatementPlanned, StepPlanned}
 use Rattle.asm8080.specs.declared.item.Item.TheVariants as items
-use Rattle.asm8080.specs.declared.item.WordForm.{WordForm}
-use Rattle.asm8080.specs.Standing.{size_of_instruction}
-use Rattle.treecode.specs.declared.lists.Range.{Range}
-use Rattle.treecode.specs.declared.statement.StatementNumber.{StatementNumber}
-use Rattle.code_meaning.specs.Activations.{IsThere}
-use Rattle.steps8080.specs.declared.facts.Facts.{Facts}
-use Rattle.steps8080.specs.declared.step.LabelNumber.{LabelNumber}
-use Rattle.steps8080.specs.declared.step.Step.{Step}
 use Rattle.steps8080.specs.declared.step.Step.TheVariants as steps
-use Rattle.steps8080.specs.declared.step.Task.{Task}
-use Rattle.steps8080.specs.Facts.{after, after_form, no_facts}
-use Rattle.steps8080.specs.Writer.{jump_item}
-use Rattle.statements8080.specs.declared.plan.Planned.{Planned}
 use Rattle.statements8080.specs.declared.plan.Planned.TheVariants as planned
-use Rattle.statements8080.specs.Plans.{jump, mark, part, plain}
-use Rattle.codegen8080.specs.declared.meeting.Here.{Here}
-use Rattle.codegen8080.specs.Generated.{arriving, carried_steps, here_after, jump_on_steps, known_here, met, waiting_after}
-use Rattle.task_laws.specs.Steps.{StepsStand, JumpThere, MarkThere, NoneThere, PartThere, PlainThere}
-use Rattle.task_laws.specs.Tasks.{PartDoes, TaskDoes}
-use Rattle.statement_laws.specs.Bodies.{BodyContext}
-use Rattle.statement_laws.specs.Statements.{ListDoes, ListPlanned, NonePlanned, PlannedStand, StatementDoes, StatementPlanned, StepPlanned}
+use Rattle.statements8080.specs.Plans.{plain}
 
 -- planned steps stand, where the statements and lists in them do what they say
 abbrev pub Stand : BodyContext → Here → (waiting : Option Facts) → (from : ℕ) → List Planned → Here → (to : ℕ) → Type 0

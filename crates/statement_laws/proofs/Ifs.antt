@@ -1,51 +1,7 @@
 -- IF.
-use Rattle.std.proofs.Common.{◌≡◌, ℕ, ◌+◌, ◌*◌, ◌%◌, ◌<◌, ◌≤◌, ◌==◌, max, Bool, true, false, not, if◌then◌else◌, nat_eq, List, [], ◌∷◌, ◌++◌, slice_get, Option, Some, None, refl, sym, ap, subst, ◌∙◌, arith}
-use Rattle.std.proofs.lemmas.Option.{same_Some}
-use Rattle.typed_trees.specs.Charge.{height_of, height_of_else, height_of_statement}
-use Rattle.typed_trees.specs.Jumps.{ListsStand, ListsStandInElse}
-use Rattle.typed_trees.specs.TypedTrees.{TypedExpression, TypedStatement, GotoStatement, TypedElse, NoElse, ElseStatement}
-use Rattle.typed_trees.specs.WellTyped.{TypesHold, TypesHoldIn, TypesHoldInElse}
-use Rattle.meaning.specs.Meaning.{done, done_else, value}
-use Rattle.meaning.specs.Outcomes.{State as SourceState, Outcome, Gave, then_do, Flow, Onward, Returned, Jumped}
-use Rattle.meaning.specs.Values.{is_true}
-use Rattle.isa8080.specs.State.{Registers, State}
-use Rattle.asm8080.specs.declared.item.Reference.TheVariants.{AtLabel}
-use Rattle.asm8080.specs.declared.item.WordForm.TheVariants.{Jump}
-use Rattle.treecode.specs.declared.expression.ExpressionNumber.{ExpressionNumber}
-use Rattle.treecode.specs.declared.statement.Statement.{Statement}
+use Rattle.statement_laws.proofs.Prelude.{◌≡◌, ℕ, ◌+◌, ◌*◌, ◌%◌, ◌<◌, ◌≤◌, ◌==◌, max, Bool, true, false, not, if◌then◌else◌, nat_eq, List, [], ◌∷◌, ◌++◌, slice_get, Option, Some, None, refl, sym, ap, subst, ◌∙◌, arith, same_Some, height_of, height_of_else, height_of_statement, ListsStand, ListsStandInElse, TypedExpression, TypedStatement, GotoStatement, TypedElse, NoElse, ElseStatement, TypesHold, TypesHoldIn, TypesHoldInElse, done, done_else, value, SourceState, Outcome, Gave, then_do, Flow, Onward, Returned, Jumped, is_true, Registers, State, AtLabel, Jump, ExpressionNumber, Statement, StatementNumber, IsElse, IsExpressionIn, IsGoto, IsIf, IsNoElse, IsSomeElse, IsStatement, IsStatementForm, IsStatementNode, statement, HasRoom, IsReady, IsThere, Does, at_place, word_step, after_step, gives, then_does, no_facts_hold, Facts, LabelNumber, no_facts, label_of, jump_item, Site, number, knowing, Planned, body_label, both_steps, branch, computed_if_steps, goto_label, goto_label_of, has_one_jump, if_steps, statement_if_any, tested_if_steps, then_steps, nth_label, Here, jump_on_steps, known_here, site_of, statement_steps, nodes_in, jumps_once, StepsStand, JumpThere, MarkThere, NoneThere, BranchDoes, Goes, Know, PartDoes, Parts, Passes, number_means, does_same, gives_then, has_less_room, script_of, BodyContext, IsSoundBody, Leaves, StatementDoes, StatementStands}
 use Rattle.treecode.specs.declared.statement.Statement.TheVariants as statements
-use Rattle.treecode.specs.declared.statement.StatementNumber.{StatementNumber}
-use Rattle.treecode.specs.Lowered.{IsElse, IsExpressionIn, IsGoto, IsIf, IsNoElse, IsSomeElse, IsStatement, IsStatementForm, IsStatementNode}
-use Rattle.treecode.specs.Queries.{statement}
-use Rattle.code_meaning.specs.Activations.{HasRoom, IsReady, IsThere}
-use Rattle.code_meaning.specs.Landing.{Does, at_place}
-use Rattle.code_meaning.proofs.FirstItems.{word_step}
-use Rattle.code_meaning.proofs.Landing.{after_step, gives, then_does}
-use Rattle.code_meaning.proofs.Facts.Changes.{no_facts_hold}
-use Rattle.steps8080.specs.declared.facts.Facts.{Facts}
-use Rattle.steps8080.specs.declared.step.LabelNumber.{LabelNumber}
 use Rattle.steps8080.specs.declared.step.Step.TheVariants as steps
-use Rattle.steps8080.specs.Facts.{no_facts}
-use Rattle.steps8080.specs.Step.{label_of}
-use Rattle.steps8080.specs.Writer.{jump_item}
-use Rattle.steps8080.specs.declared.sites.site.Site.{Site}
-use Rattle.steps8080.specs.Queries.{number}
-use Rattle.exprgen8080.specs.Emission.{knowing}
-use Rattle.statements8080.specs.declared.plan.Planned.{Planned}
-use Rattle.statements8080.specs.Bodies.{body_label}
-use Rattle.statements8080.specs.Branches.{both_steps, branch, computed_if_steps, goto_label, goto_label_of, has_one_jump, if_steps, statement_if_any, tested_if_steps, then_steps}
-use Rattle.statements8080.specs.Plans.{nth_label}
-use Rattle.codegen8080.specs.declared.meeting.Here.{Here}
-use Rattle.codegen8080.specs.Generated.{jump_on_steps, known_here, site_of}
-use Rattle.codegen8080.specs.Statements.{statement_steps}
-use Rattle.task_laws.specs.Contexts.{nodes_in}
-use Rattle.task_laws.specs.Conditions.{jumps_once}
-use Rattle.task_laws.specs.Steps.{StepsStand, JumpThere, MarkThere, NoneThere}
-use Rattle.task_laws.specs.Tasks.{BranchDoes, Goes, Know, PartDoes, Parts, Passes}
-use Rattle.task_laws.proofs.Machine.SiteNodes.{number_means}
-use Rattle.task_laws.proofs.Machine.Stages.{does_same, gives_then, has_less_room, script_of}
-use Rattle.statement_laws.specs.Bodies.{BodyContext, IsSoundBody, Leaves}
-use Rattle.statement_laws.specs.Statements.{StatementDoes, StatementStands}
 use Rattle.statement_laws.proofs.FirstSteps.{Stand, ended, going, jumped_first, meet_first, part_first, statement_first, turn_first}
 use Rattle.statement_laws.proofs.Meetings.{has_one_jump_is, meets_here, meets_waiting, waits_here}
 use Rattle.statement_laws.proofs.Outcomes.{Between, does_later, ends_onward, taking_does, to_label}

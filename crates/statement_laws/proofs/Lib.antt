@@ -1,3 +1,4 @@
+mod Prelude
 pub mod FirstSteps
 pub mod Outcomes
 pub mod Lists

@@ -1,34 +1,7 @@
 -- A list whose statements do what they say does so: with jumps that go on at its labels.
-use Rattle.std.proofs.Common.{◌≡◌, ◌≢◌, ℕ, zero, suc, ◌+◌, ◌*◌, ◌<◌, ◌≤◌, ◌⊎◌, inl, inr, max, true, List, [], ◌∷◌, length, slice_get, slice_index_or, AllPairs, Option, Some, None, refl, sym, ap, subst, ◌∙◌, arith}
-use Rattle.std.proofs.lemmas.Bool.{cases_lt}
-use Rattle.std.proofs.lemmas.Option.{same_Some}
-use Rattle.typed_trees.specs.Charge.{height_of_statement, height_of_statements}
-use Rattle.typed_trees.specs.Jumps.{ListStands, ListsStandInStatements}
-use Rattle.typed_trees.specs.TypedTrees.{TypedStatement, LabelStatement, TypedStatements, NoStatements, MoreStatements, ListOf}
-use Rattle.typed_trees.specs.WellTyped.{TypesHoldInStatements}
-use Rattle.meaning.specs.Meaning.{Later, caught_in, done_all, dropped, going_on, landed, later_by, rest_from, rest_of}
-use Rattle.meaning.specs.Outcomes.{State as SourceState, Outcome, then_do, Flow, Onward, Returned, Jumped}
-use Rattle.meaning.proofs.AgreementStatements.{onto_is}
-use Rattle.meaning.proofs.LabelPlaces.{rest_at}
-use Rattle.isa8080.specs.State.{Registers, State}
-use Rattle.treecode.specs.declared.lists.Range.{Range}
-use Rattle.treecode.specs.declared.statement.Statement.{Statement}
+use Rattle.statement_laws.proofs.Prelude.{◌≡◌, ◌≢◌, ℕ, zero, suc, ◌+◌, ◌*◌, ◌<◌, ◌≤◌, ◌⊎◌, inl, inr, max, true, List, [], ◌∷◌, length, slice_get, slice_index_or, AllPairs, Option, Some, None, refl, sym, ap, subst, ◌∙◌, arith, cases_lt, same_Some, height_of_statement, height_of_statements, ListStands, ListsStandInStatements, TypedStatement, LabelStatement, TypedStatements, NoStatements, MoreStatements, ListOf, TypesHoldInStatements, Later, caught_in, done_all, dropped, going_on, later_by, rest_from, rest_of, SourceState, Outcome, then_do, Flow, Onward, Returned, Jumped, onto_is, rest_at, Registers, State, Range, Statement, StatementNumber, AreStatements, AreNoStatements, AreMoreStatements, IsListOf, IsStatement, IsStatementNode, IsLabel, HasRoom, IsReady, Does, at_place, gives, then_does, no_facts_hold, Facts, no_facts, body_label, Here, nodes_in, Know, does_same, has_less_room, script_of, BodyContext, ComesToLabel, IsSoundBody, LabelLies, Leaves, ListDoes, StatementDoes}
+use Rattle.meaning.specs.Meaning.{landed}
 use Rattle.treecode.specs.declared.statement.Statement.TheVariants as statements
-use Rattle.treecode.specs.declared.statement.StatementNumber.{StatementNumber}
-use Rattle.treecode.specs.Lowered.{AreStatements, AreNoStatements, AreMoreStatements, IsListOf, IsStatement, IsStatementNode, IsLabel}
-use Rattle.code_meaning.specs.Activations.{HasRoom, IsReady}
-use Rattle.code_meaning.specs.Landing.{Does, at_place}
-use Rattle.code_meaning.proofs.Landing.{gives, then_does}
-use Rattle.code_meaning.proofs.Facts.Changes.{no_facts_hold}
-use Rattle.steps8080.specs.declared.facts.Facts.{Facts}
-use Rattle.steps8080.specs.Facts.{no_facts}
-use Rattle.statements8080.specs.Bodies.{body_label}
-use Rattle.codegen8080.specs.declared.meeting.Here.{Here}
-use Rattle.task_laws.specs.Contexts.{nodes_in}
-use Rattle.task_laws.specs.Tasks.{Know}
-use Rattle.task_laws.proofs.Machine.Stages.{does_same, has_less_room, script_of}
-use Rattle.statement_laws.specs.Bodies.{BodyContext, ComesToLabel, IsSoundBody, LabelLies, Leaves}
-use Rattle.statement_laws.specs.Statements.{ListDoes, StatementDoes}
 use Rattle.statement_laws.proofs.Outcomes.{Between, does_later}
 use Rattle.statement_laws.proofs.FirstSteps.{going}
 

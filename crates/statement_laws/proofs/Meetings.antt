@@ -1,29 +1,6 @@
 -- What is known where ways meet, and conditions at whose one jump the same is known as at their end.
-use Rattle.std.proofs.Common.{◌≡◌, ℕ, zero, suc, Bool, true, false, not, ◌&&◌, if◌then◌else◌, List, Option, Some, None, refl, sym, subst, ◌∙◌}
-use Rattle.std.proofs.lemmas.Bool.{true≢false}
-use Rattle.trees.specs.declared.expression.BinaryOperator.{BinaryOperator}
+use Rattle.statement_laws.proofs.Prelude.{◌≡◌, ℕ, zero, suc, Bool, true, false, not, ◌&&◌, if◌then◌else◌, List, Option, Some, None, refl, sym, subst, ◌∙◌, true≢false, BinaryOperator, Negate, Not, TypedExpression, Registers, Expression, ExpressionForm, ExpressionNumber, Location, IsExpression, IsForm, IsNumber, IsValue, IsLocation, IsConstantList, IsConversion, IsEmbedded, IsUnary, IsBinary, IsCallOf, IsFunction, IsShift, IsInput, Activation, AddressHolds, AllHold, ByteHolds, Distances, IsByteAt, IsWordAt, WordHolds, ZeroHolds, location_at, same_locations, Facts, same_location, knowing, has_one_jump_within, inner_of_form, is_and_or_or, may_jump_twice_by, Here, arriving, common, common_location, known_here, met, is_plain, jumps_once, Context, IsSound, distances_in, nodes_in, Know, node_of}
 use Rattle.trees.specs.declared.expression.BinaryOperator.TheVariants as operators
-use Rattle.trees.specs.declared.expression.UnaryOperator.TheVariants.{Negate, Not}
-use Rattle.typed_trees.specs.TypedTrees.{TypedExpression}
-use Rattle.isa8080.specs.State.{Registers}
-use Rattle.treecode.specs.declared.expression.Expression.{Expression}
-use Rattle.treecode.specs.declared.expression.ExpressionForm.{ExpressionForm}
-use Rattle.treecode.specs.declared.expression.ExpressionNumber.{ExpressionNumber}
-use Rattle.treecode.specs.declared.place.Location.{Location}
-use Rattle.treecode.specs.Lowered.{IsExpression, IsForm, IsNumber, IsValue, IsLocation, IsConstantList, IsConversion, IsEmbedded, IsUnary, IsBinary, IsCallOf, IsFunction, IsShift, IsInput}
-use Rattle.code_meaning.specs.Activations.{Activation}
-use Rattle.code_meaning.specs.Holding.{AddressHolds, AllHold, ByteHolds, Distances, IsByteAt, IsWordAt, WordHolds, ZeroHolds, location_at}
-use Rattle.code_meaning.proofs.Facts.Places.{same_locations}
-use Rattle.steps8080.specs.declared.facts.Facts.{Facts}
-use Rattle.steps8080.specs.Facts.{same_location}
-use Rattle.exprgen8080.specs.Emission.{knowing}
-use Rattle.statements8080.specs.Branches.{has_one_jump_within, inner_of_form, is_and_or_or, may_jump_twice_by}
-use Rattle.codegen8080.specs.declared.meeting.Here.{Here}
-use Rattle.codegen8080.specs.Generated.{arriving, common, common_location, known_here, met}
-use Rattle.task_laws.specs.Conditions.{is_plain, jumps_once}
-use Rattle.task_laws.specs.Contexts.{Context, IsSound, distances_in, nodes_in}
-use Rattle.task_laws.specs.Tasks.{Know}
-use Rattle.task_laws.proofs.Machine.Nodes.{node_of}
 
 module _ (activation : Activation) (distance : Distances) where
   -- one of two locations that are the same, or none

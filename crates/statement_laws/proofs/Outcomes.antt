@@ -1,19 +1,6 @@
 -- Ways out of statements, and what follows them.
-use Rattle.std.proofs.Common.{◌≡◌, ℕ, suc, ◌-◌, ◌<◌, ◌≤◌, ◌==◌, Bool, true, false, if◌then◌else◌, List, slice_get, Some, refl, sym, subst, arith}
-use Rattle.std.proofs.lemmas.Bool.{eqb-true, eqb-false}
-use Rattle.meaning.specs.Outcomes.{State as SourceState, Ended, More, Outside, Outcome, Gave, Stopped, taking_one, Flow, Onward, Returned, Jumped}
-use Rattle.isa8080.specs.declared.registers.Status.TheVariants.{Running}
-use Rattle.isa8080.specs.State.{Registers, State}
-use Rattle.isa8080.specs.Step.{step_of}
-use Rattle.code_meaning.specs.Landing.{Does, IsLeft, Lands, at_place}
-use Rattle.code_meaning.specs.Activations.{IsReady}
-use Rattle.code_meaning.proofs.Landing.{after_paid_step, after_step, gives, landed}
-use Rattle.steps8080.specs.declared.facts.Facts.{Facts}
-use Rattle.statements8080.specs.Bodies.{body_label}
-use Rattle.codegen8080.specs.declared.meeting.Here.{Here}
-use Rattle.task_laws.proofs.Machine.Stages.{Stage, script_of}
+use Rattle.statement_laws.proofs.Prelude.{◌≡◌, ℕ, suc, ◌-◌, ◌<◌, ◌≤◌, ◌==◌, Bool, true, false, if◌then◌else◌, List, slice_get, Some, refl, sym, subst, arith, eqb-true, eqb-false, SourceState, Ended, More, Outside, Outcome, Gave, Stopped, taking_one, Flow, Onward, Returned, Jumped, Running, Registers, State, step_of, Does, IsLeft, Lands, at_place, IsReady, after_paid_step, after_step, gives, landed, Facts, body_label, Here, Stage, script_of, BodyContext, Leaves}
 use Rattle.statement_laws.proofs.FirstSteps.{Ends}
-use Rattle.statement_laws.specs.Bodies.{BodyContext, Leaves}
 
 -- a machine of a body may go on between statements, of which this is known
 abbrev pub Between :

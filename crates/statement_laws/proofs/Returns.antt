@@ -1,41 +1,11 @@
 -- RETURN.
-use Rattle.std.proofs.Common.{◌≡◌, ℕ, zero, suc, ◌+◌, ◌-◌, ◌*◌, ◌/◌, ◌%◌, ◌≤◌, Bool, true, false, if◌then◌else◌, nat_eq, List, [], ◌∷◌, ◌++◌, replicate, Option, Some, None, refl, sym, ap, subst, ◌∙◌, arith}
-use Rattle.trees.specs.declared.declaration.ScalarType.{ScalarType}
+use Rattle.statement_laws.proofs.Prelude.{◌≡◌, ℕ, zero, suc, ◌+◌, ◌-◌, ◌*◌, ◌/◌, ◌%◌, ◌≤◌, Bool, true, false, if◌then◌else◌, nat_eq, List, [], ◌∷◌, ◌++◌, replicate, Option, Some, None, refl, sym, ap, subst, ◌∙◌, arith, ScalarType, height_of_optional, TypedExpression, IsReturned, TypesHold, Within, WithinMain, WithinProcedure, returned, SourceState, Gave, Returned, Instr, Registers, Item, size_of_instruction, ExpressionNumber, ProcedureKind, IsNoValue, IsOptional, IsReturn, IsSomeValue, IsThere, Does, at_place, gives, Facts, value_task, NoneWritten, PlainWritten, Body, Planned, all, part, Here, AreCarriedOut, NoneCarriedOut, StepCarriedOut, carried_steps, here_after, waiting_after, drop_steps, kept_steps, pops_steps, return_of_frame_steps, return_over_any_steps, return_over_steps, return_steps, return_steps_by, return_of_steps, returned_value_steps, statement_steps, ResultLies, nodes_in, at_value, script_of, BodyContext, IsSoundBody, IsWithin, Leaves, StatementStands}
 use Rattle.trees.specs.declared.declaration.ScalarType.TheVariants as scalars
-use Rattle.typed_trees.specs.Charge.{height_of_optional}
-use Rattle.typed_trees.specs.TypedTrees.{TypedExpression}
-use Rattle.typed_trees.specs.WellTyped.{IsReturned, TypesHold, Within, WithinMain, WithinProcedure}
-use Rattle.meaning.specs.Meaning.{returned}
-use Rattle.meaning.specs.Outcomes.{State as SourceState, Gave, Returned}
-use Rattle.isa8080.specs.declared.instr.Instr.{Instr}
-use Rattle.isa8080.specs.State.{Registers}
-use Rattle.asm8080.specs.declared.item.Item.{Item}
 use Rattle.asm8080.specs.declared.item.Item.TheVariants as items
-use Rattle.asm8080.specs.Standing.{size_of_instruction}
-use Rattle.treecode.specs.declared.expression.ExpressionNumber.{ExpressionNumber}
-use Rattle.treecode.specs.declared.procedure.ProcedureKind.{ProcedureKind}
 use Rattle.treecode.specs.declared.procedure.ProcedureKind.TheVariants as kinds
 use Rattle.treecode.specs.declared.statement.Statement.TheVariants as statements
-use Rattle.treecode.specs.Lowered.{IsNoValue, IsOptional, IsReturn, IsSomeValue}
-use Rattle.code_meaning.specs.Activations.{IsThere}
-use Rattle.code_meaning.specs.Landing.{Does, at_place}
-use Rattle.code_meaning.proofs.Landing.{gives}
-use Rattle.steps8080.specs.declared.facts.Facts.{Facts}
-use Rattle.exprgen8080.specs.Calls.{value_task}
-use Rattle.exprgen8080.specs.Emission.{NoneWritten, PlainWritten}
-use Rattle.statements8080.specs.declared.body.Body.{Body}
-use Rattle.statements8080.specs.declared.plan.Planned.{Planned}
 use Rattle.statements8080.specs.declared.plan.Planned.TheVariants as planned
-use Rattle.statements8080.specs.Plans.{all, part, plain}
-use Rattle.codegen8080.specs.declared.meeting.Here.{Here}
-use Rattle.codegen8080.specs.Generated.{AreCarriedOut, NoneCarriedOut, StepCarriedOut, carried_steps, here_after, waiting_after}
-use Rattle.codegen8080.specs.Procedures.{drop_steps, kept_steps, pops_steps, return_of_frame_steps, return_over_any_steps, return_over_steps, return_steps, return_steps_by}
-use Rattle.codegen8080.specs.Statements.{return_of_steps, returned_value_steps, statement_steps}
-use Rattle.task_laws.specs.Contexts.{ResultLies, nodes_in}
-use Rattle.task_laws.proofs.Machine.StoredValues.{at_value}
-use Rattle.task_laws.proofs.Machine.Stages.{script_of}
-use Rattle.statement_laws.specs.Bodies.{BodyContext, IsSoundBody, IsWithin, Leaves}
-use Rattle.statement_laws.specs.Statements.{StatementStands}
+use Rattle.statements8080.specs.Plans.{plain}
 use Rattle.statement_laws.proofs.FirstSteps.{Stand, going, part_first, plain_first}
 use Rattle.statement_laws.proofs.Outcomes.{Between}
 use Rattle.statement_laws.proofs.Simple.{FormDoes}

@@ -1,35 +1,6 @@
 -- Labels, null statements, calls, HALT, GOTO and DO.
-use Rattle.std.proofs.Common.{◌≡◌, ℕ, ◌+◌, ◌*◌, [], slice_get, Some, refl, sym, subst, ◌∙◌, arith}
-use Rattle.std.proofs.lemmas.Option.{same_Some}
-use Rattle.typed_trees.specs.Charge.{count_of_arguments, height_of_arguments, height_of_statement}
-use Rattle.typed_trees.specs.Jumps.{ListsStand}
-use Rattle.typed_trees.specs.TypedTrees.{TypedStatement, DoStatement}
-use Rattle.typed_trees.specs.WellTyped.{TypesHoldIn}
-use Rattle.meaning.specs.Meaning.{called_for, callee_in, done, values}
-use Rattle.meaning.specs.Outcomes.{Gave, Onward, Jumped}
-use Rattle.isa8080.specs.declared.instr.Instr.TheVariants.{Hlt}
-use Rattle.isa8080.specs.declared.registers.Status.TheVariants.{Halted}
-use Rattle.isa8080.specs.State.{State}
-use Rattle.asm8080.specs.declared.item.Reference.TheVariants.{AtLabel}
-use Rattle.asm8080.specs.declared.item.WordForm.TheVariants.{Jump}
-use Rattle.treecode.specs.declared.lists.Range.{Range}
-use Rattle.treecode.specs.declared.statement.Statement.{Statement}
+use Rattle.statement_laws.proofs.Prelude.{◌≡◌, ℕ, ◌+◌, ◌*◌, [], slice_get, Some, refl, sym, subst, ◌∙◌, arith, same_Some, count_of_arguments, height_of_arguments, height_of_statement, ListsStand, TypedStatement, DoStatement, TypesHoldIn, called_for, callee_in, done, values, Gave, Onward, Jumped, Hlt, Halted, State, AtLabel, Jump, Range, Statement, StatementNumber, IsCall, IsDo, IsGoto, IsHalt, IsLabel, IsNull, IsStatementForm, IsStatementNode, Does, IsLeft, at_place, plain_step, word_step, after_step, landed, then_does, no_facts_hold, Facts, body_label, Here, statement_steps, nodes_in, then_again, does_same, has_less_room, script_of, Behaves, BodyContext, IsSoundBody, Leaves, StatementDoes, StatementStands}
 use Rattle.treecode.specs.declared.statement.Statement.TheVariants as statements
-use Rattle.treecode.specs.declared.statement.StatementNumber.{StatementNumber}
-use Rattle.treecode.specs.Lowered.{IsCall, IsDo, IsGoto, IsHalt, IsLabel, IsNull, IsStatementForm, IsStatementNode}
-use Rattle.code_meaning.specs.Landing.{Does, IsLeft, at_place}
-use Rattle.code_meaning.proofs.FirstItems.{plain_step, word_step}
-use Rattle.code_meaning.proofs.Landing.{after_step, landed, then_does}
-use Rattle.code_meaning.proofs.Facts.Changes.{no_facts_hold}
-use Rattle.steps8080.specs.declared.facts.Facts.{Facts}
-use Rattle.statements8080.specs.Bodies.{body_label}
-use Rattle.codegen8080.specs.declared.meeting.Here.{Here}
-use Rattle.codegen8080.specs.Statements.{statement_steps}
-use Rattle.task_laws.specs.Contexts.{nodes_in}
-use Rattle.task_laws.proofs.Machine.Effects.{then_again}
-use Rattle.task_laws.proofs.Machine.Stages.{does_same, has_less_room, script_of}
-use Rattle.statement_laws.specs.Bodies.{Behaves, BodyContext, IsSoundBody, Leaves}
-use Rattle.statement_laws.specs.Statements.{StatementDoes, StatementStands}
 use Rattle.statement_laws.proofs.FirstSteps.{ended, jump_first, list_first, mark_first, part_first, plain_first}
 use Rattle.statement_laws.proofs.Outcomes.{ends_onward, taking_does, to_label}
 

@@ -1,39 +1,6 @@
 -- Targets that get a value that is in a register, one after another.
-use Rattle.std.proofs.Common.{◌≡◌, ℕ, zero, suc, ◌+◌, ◌-◌, ◌*◌, ◌%◌, ◌<◌, ◌≤◌, Bool, true, false, ◌||◌, if◌then◌else◌, nat_eq, nat_lt, List, [], ◌∷◌, ◌++◌, slice_get, Option, Some, None, refl, sym, ap, subst, ◌∙◌, arith}
-use Rattle.std.specs.Option.{option_and_then}
-use Rattle.std.proofs.lemmas.Bool.{eqb-false, eqb-true, lt-ltb}
-use Rattle.trees.specs.declared.declaration.ScalarType.{ScalarType}
-use Rattle.trees.specs.declared.declaration.ScalarType.TheVariants.{Byte, Address}
-use Rattle.typed_trees.specs.Charge.{height_of, height_of_target, height_of_targets}
-use Rattle.typed_trees.specs.ExpressionTypes.{type_of}
-use Rattle.typed_trees.specs.TypedTrees.{TypedExpression, TypedTarget, StoredIn, SentTo}
-use Rattle.typed_trees.specs.WellTyped.{TypesHold, TypesHoldInTarget, TypesHoldInTargets}
-use Rattle.meaning.specs.Access.{write_scalar}
-use Rattle.meaning.specs.Meaning.{located, stored, stored_in_each, value}
-use Rattle.meaning.specs.Outcomes.{State as SourceState, Outcome, Gave, then_do, Onward}
-use Rattle.meaning.specs.Values.{as_type, values_of}
-use Rattle.isa8080.specs.State.{Registers, State}
-use Rattle.ports.specs.Events.{write_event}
-use Rattle.treecode.specs.declared.expression.ExpressionNumber.{ExpressionNumber}
-use Rattle.treecode.specs.declared.lists.Range.{Range}
-use Rattle.treecode.specs.declared.reference.Target.{Target}
-use Rattle.treecode.specs.Lowered.{AreTargets, IsExpression, IsSent, IsStored, IsTarget, MoreTargets, NoTargets}
-use Rattle.treecode.specs.Queries.{target as target_at}
-use Rattle.code_meaning.specs.Landing.{Does, at_place}
-use Rattle.steps8080.specs.declared.facts.Facts.{Facts}
+use Rattle.statement_laws.proofs.Prelude.{◌≡◌, ℕ, zero, suc, ◌+◌, ◌-◌, ◌*◌, ◌%◌, ◌<◌, ◌≤◌, Bool, true, false, ◌||◌, if◌then◌else◌, nat_eq, nat_lt, List, [], ◌∷◌, ◌++◌, slice_get, Option, Some, None, refl, sym, ap, subst, ◌∙◌, arith, option_and_then, eqb-false, eqb-true, lt-ltb, ScalarType, Byte, Address, height_of, height_of_target, height_of_targets, type_of, TypedExpression, TypedTarget, StoredIn, SentTo, TypesHold, TypesHoldInTarget, TypesHoldInTargets, write_scalar, located, stored, stored_in_each, value, SourceState, Outcome, Gave, then_do, Onward, as_type, values_of, Registers, State, write_event, ExpressionNumber, Range, Target, AreTargets, IsExpression, IsSent, IsStored, IsTarget, MoreTargets, NoTargets, target_at, Does, at_place, Facts, Site, value_task, Planned, any_target, from_type, store_at, takes_word, part, steps_from, Here, InRegister, nodes_in, ByteIsGiven, StoreDoes, TaskDoes, WordIsGiven, then_again, at_byte, at_word, does_same, script_of, at_store, BodyContext, IsSoundBody, Leaves}
 use Rattle.steps8080.specs.declared.step.Task.TheVariants as tasks
-use Rattle.steps8080.specs.declared.sites.site.Site.{Site}
-use Rattle.exprgen8080.specs.Calls.{value_task}
-use Rattle.statements8080.specs.declared.plan.Planned.{Planned}
-use Rattle.statements8080.specs.Assignments.{any_target, from_type, store_at, takes_word}
-use Rattle.statements8080.specs.Plans.{part, steps_from}
-use Rattle.codegen8080.specs.declared.meeting.Here.{Here}
-use Rattle.task_laws.specs.Contexts.{InRegister, nodes_in}
-use Rattle.task_laws.specs.Tasks.{ByteIsGiven, StoreDoes, TaskDoes, WordIsGiven}
-use Rattle.task_laws.proofs.Machine.Effects.{then_again}
-use Rattle.task_laws.proofs.Machine.Stages.{at_byte, at_word, does_same, script_of}
-use Rattle.task_laws.proofs.Machine.StoredValues.{at_store}
-use Rattle.statement_laws.specs.Bodies.{BodyContext, IsSoundBody, Leaves}
 use Rattle.statement_laws.proofs.FirstSteps.{Stand, ended, going, part_first}
 use Rattle.statement_laws.proofs.Outcomes.{Between, ends_onward}
 

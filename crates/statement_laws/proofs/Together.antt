@@ -1,11 +1,6 @@
 -- Statements of each form do what they say.
-use Rattle.std.proofs.Common.{slice_get, Some, ◌≡◌}
-use Rattle.treecode.specs.declared.statement.Statement.{Statement}
+use Rattle.statement_laws.proofs.Prelude.{slice_get, Some, ◌≡◌, Statement, StatementNumber, nodes_in, BodyContext, IsSoundBody, StatementDoes, StatementStands, StatementsDo}
 use Rattle.treecode.specs.declared.statement.Statement.TheVariants as statements
-use Rattle.treecode.specs.declared.statement.StatementNumber.{StatementNumber}
-use Rattle.task_laws.specs.Contexts.{nodes_in}
-use Rattle.statement_laws.specs.Bodies.{BodyContext, IsSoundBody}
-use Rattle.statement_laws.specs.Statements.{StatementDoes, StatementStands, StatementsDo}
 use Rattle.statement_laws.proofs.Assignments.Assigned.{assignment_does}
 use Rattle.statement_laws.proofs.Cases.CasesDo.{case_does}
 use Rattle.statement_laws.proofs.Loops.Counted.{counts_do}

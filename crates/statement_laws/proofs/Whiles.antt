@@ -1,48 +1,7 @@
 -- DO WHILE.
-use Rattle.std.proofs.Common.{◌≡◌, ℕ, zero, suc, ◌+◌, ◌-◌, ◌*◌, ◌%◌, ◌<◌, ◌≤◌, max, Bool, true, false, if◌then◌else◌, nat_eq, nat_lt, List, [], ◌∷◌, ◌++◌, Option, Some, None, refl, sym, ap, subst, ◌∙◌, arith}
-use Rattle.std.proofs.lemmas.Bool.{ltb-false}
-use Rattle.typed_trees.specs.Charge.{height_of, height_of_list}
-use Rattle.typed_trees.specs.Jumps.{ListStands}
-use Rattle.typed_trees.specs.TypedTrees.{TypedExpression, TypedList, TypedStatements, ListOf, WhileStatement}
-use Rattle.typed_trees.specs.WellTyped.{TypesHold, TypesHoldInList}
-use Rattle.meaning.specs.Meaning.{Later, WhileTurn, after_turn, done, done_list, going_on, value}
-use Rattle.meaning.specs.Outcomes.{State as SourceState, Outcome, Gave, then_do, taking_one, Flow, Onward, Returned, Jumped}
-use Rattle.meaning.specs.Values.{is_true}
-use Rattle.meaning.proofs.AgreementStatements.{again_is}
-use Rattle.isa8080.specs.declared.instr.Instr.TheVariants.{Nop}
-use Rattle.isa8080.specs.State.{Registers, State}
-use Rattle.asm8080.specs.declared.item.Reference.TheVariants.{AtLabel}
-use Rattle.asm8080.specs.declared.item.WordForm.TheVariants.{Jump}
-use Rattle.treecode.specs.declared.expression.ExpressionNumber.{ExpressionNumber}
-use Rattle.treecode.specs.declared.lists.Range.{Range}
+use Rattle.statement_laws.proofs.Prelude.{◌≡◌, ℕ, zero, suc, ◌+◌, ◌-◌, ◌*◌, ◌%◌, ◌<◌, ◌≤◌, max, Bool, true, false, if◌then◌else◌, nat_eq, nat_lt, List, [], ◌∷◌, ◌++◌, Option, Some, None, refl, sym, ap, subst, ◌∙◌, arith, ltb-false, height_of, height_of_list, ListStands, TypedExpression, TypedList, TypedStatements, ListOf, WhileStatement, TypesHold, TypesHoldInList, Later, WhileTurn, after_turn, done, done_list, going_on, value, SourceState, Outcome, Gave, then_do, taking_one, Flow, Onward, Returned, Jumped, is_true, again_is, Nop, Registers, State, AtLabel, Jump, ExpressionNumber, Range, AreNoStatements, AreStatements, IsExpressionIn, IsList, IsListOf, IsWhile, HasRoom, IsReady, IsThere, Does, at_place, plain_step, word_step, after_step, gives, then_does, no_facts_hold, Facts, LabelNumber, after_form, no_facts, label_of, jump_item, Site, number, knowing, branch, forever_steps, tested_while_steps, jump, mark, nth_label, Here, jump_on_steps, site_of, statement_steps, nodes_in, StepsStand, JumpThere, NoneThere, BranchDoes, Goes, Know, PartDoes, Parts, Passes, number_means, does_same, has_less_room, script_of, Behaves, BodyContext, IsSoundBody, Leaves, ListDoes, StatementStands}
 use Rattle.treecode.specs.declared.statement.Statement.TheVariants as statements
-use Rattle.treecode.specs.Lowered.{AreNoStatements, AreStatements, IsExpressionIn, IsList, IsListOf, IsWhile}
-use Rattle.code_meaning.specs.Activations.{HasRoom, IsReady, IsThere}
-use Rattle.code_meaning.specs.Landing.{Does, at_place}
-use Rattle.code_meaning.proofs.FirstItems.{plain_step, word_step}
-use Rattle.code_meaning.proofs.Landing.{after_step, gives, then_does}
-use Rattle.code_meaning.proofs.Facts.Changes.{no_facts_hold}
-use Rattle.steps8080.specs.declared.facts.Facts.{Facts}
-use Rattle.steps8080.specs.declared.step.LabelNumber.{LabelNumber}
-use Rattle.steps8080.specs.Facts.{after_form, no_facts}
-use Rattle.steps8080.specs.Step.{label_of}
-use Rattle.steps8080.specs.Writer.{jump_item}
-use Rattle.steps8080.specs.declared.sites.site.Site.{Site}
-use Rattle.steps8080.specs.Queries.{number}
-use Rattle.exprgen8080.specs.Emission.{knowing}
 use Rattle.statements8080.specs.declared.plan.Planned.TheVariants as planned
-use Rattle.statements8080.specs.Branches.{branch, forever_steps, tested_while_steps}
-use Rattle.statements8080.specs.Plans.{jump, mark, nth_label}
-use Rattle.codegen8080.specs.declared.meeting.Here.{Here}
-use Rattle.codegen8080.specs.Generated.{jump_on_steps, site_of}
-use Rattle.codegen8080.specs.Statements.{statement_steps}
-use Rattle.task_laws.specs.Contexts.{nodes_in}
-use Rattle.task_laws.specs.Steps.{StepsStand, JumpThere, NoneThere}
-use Rattle.task_laws.specs.Tasks.{BranchDoes, Goes, Know, PartDoes, Parts, Passes}
-use Rattle.task_laws.proofs.Machine.SiteNodes.{number_means}
-use Rattle.task_laws.proofs.Machine.Stages.{does_same, has_less_room, script_of}
-use Rattle.statement_laws.specs.Bodies.{Behaves, BodyContext, IsSoundBody, Leaves}
-use Rattle.statement_laws.specs.Statements.{ListDoes, StatementStands}
 use Rattle.statement_laws.proofs.FirstSteps.{Stand, ended, going, jump_first, jump_on_first, list_first, mark_first, part_first, plain_first, reaches_first}
 use Rattle.statement_laws.proofs.Lists.{goes_then}
 use Rattle.statement_laws.proofs.Outcomes.{Between, does_later, ends_onward, leaves_later, taking_does}

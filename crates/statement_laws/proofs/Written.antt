@@ -1,24 +1,8 @@
 -- Items that are written for statements and stand in the code do what the statements say, where the steps of each do.
-use Rattle.std.proofs.Common.{◌≡◌, ℕ, List, slice_get, Option, Some, refl, ap, ◌∙◌}
-use Rattle.asm8080.specs.declared.item.Item.{Item}
-use Rattle.treecode.specs.declared.lists.Range.{Range}
-use Rattle.treecode.specs.declared.statement.Statement.{Statement}
+use Rattle.statement_laws.proofs.Prelude.{◌≡◌, ℕ, List, slice_get, Option, Some, refl, ap, ◌∙◌, Item, Range, Statement, StatementNumber, nodes_of, IsThere, both_there, Facts, Site, Planned, Here, AreAllCarriedOut, AreCarriedOut, IsCarriedOut, IsListCarriedOut, ListCarriedOut, NoneCarriedOut, StatementCarriedOut, StepCarriedOut, carried_steps, site_of, statement_steps, nodes_in, CarryOut, steps_stand, BodyContext, IsSoundBody, ListDoes, ListPlanned, NonePlanned, StatementDoes, StatementPlanned, StatementStands, StatementsDo, StepPlanned}
 use Rattle.treecode.specs.declared.statement.Statement.TheVariants as statements
-use Rattle.treecode.specs.declared.statement.StatementNumber.{StatementNumber}
-use Rattle.treecode.specs.Nodes.{nodes_of}
-use Rattle.code_meaning.specs.Activations.{IsThere}
-use Rattle.code_meaning.proofs.Sequences.{both_there}
-use Rattle.steps8080.specs.declared.facts.Facts.{Facts}
-use Rattle.steps8080.specs.declared.sites.site.Site.{Site}
-use Rattle.statements8080.specs.declared.plan.Planned.{Planned}
-use Rattle.codegen8080.specs.declared.meeting.Here.{Here}
 use Rattle.codegen8080.specs.Generated as generated
-use Rattle.codegen8080.specs.Generated.{AreAllCarriedOut, AreCarriedOut, IsCarriedOut, IsListCarriedOut, ListCarriedOut, MoreStatements, NoneCarriedOut, NoStatements, StatementCarriedOut, StepCarriedOut, carried_steps, site_of}
-use Rattle.codegen8080.specs.Statements.{statement_steps}
-use Rattle.task_laws.specs.Contexts.{nodes_in}
-use Rattle.task_laws.proofs.Machine.Written.{CarryOut, steps_stand}
-use Rattle.statement_laws.specs.Bodies.{BodyContext, IsSoundBody}
-use Rattle.statement_laws.specs.Statements.{ListDoes, ListPlanned, NonePlanned, StatementDoes, StatementPlanned, StatementStands, StatementsDo, StepPlanned}
+use Rattle.codegen8080.specs.Generated.{MoreStatements, NoStatements}
 use Rattle.statement_laws.proofs.FirstSteps.{Stand, ended, mark_first}
 use Rattle.statement_laws.proofs.Lists.{AllDo, IsMarked, MoreDo, NoneDo, list_does}
 

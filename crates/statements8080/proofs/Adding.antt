@@ -1,15 +1,8 @@
 -- Steps that are being added one after another.
-use Rattle.std.proofs.Common.{◌≡◌, ℕ, suc, ◌+◌, ◌-◌, ◌<◌, Bool, false, ◌||◌, Some, None, List, [], ◌++◌, refl, sym, ◌∙◌, ap, arith, add-one}
-use Rattle.std.proofs.lemmas.List.{append_assoc, append-nil}
-use Rattle.treecode.specs.declared.lists.Range.{Range}
-use Rattle.treecode.specs.declared.reference.Target.{Target}
-use Rattle.treecode.specs.Queries.{target as target_at}
+use Rattle.statements8080.proofs.Prelude.{◌≡◌, ℕ, suc, ◌+◌, ◌-◌, ◌<◌, Bool, false, ◌||◌, Some, None, List, [], ◌++◌, refl, sym, ◌∙◌, ap, arith, add-one, append_assoc, append-nil, Range, Target, target_at, PlanAdds, steps_from, any_target, IsAdding}
 use Rattle.statements8080.specs.declared.body.Body.{Body}
 use Rattle.statements8080.specs.declared.plan.Plan.{Plan}
 use Rattle.statements8080.specs.declared.plan.Planned.{Planned}
-use Rattle.statements8080.specs.Plans.{PlanAdds, steps_from}
-use Rattle.statements8080.specs.Assignments.{any_target}
-use Rattle.statements8080.specs.internal.Adding.{IsAdding}
 
 -- nothing is added yet
 pub adding_begins : (plan : Plan) (whole : List Planned) → IsAdding plan plan whole whole

@@ -1,7 +1,5 @@
 -- How many jumps the code of a condition has.
-use Rattle.std.proofs.Common.{◌≡◌, ℕ, zero, suc, ◌-◌, ◌<◌, Bool, true, false, not, nat_lt, Option, Some, None, refl, sym, ◌∙◌, ap, arith}
-use Rattle.std.proofs.lemmas.Bool.{lt-ltb}
-use Rattle.treecode.specs.declared.expression.ExpressionNumber.{ExpressionNumber}
+use Rattle.statements8080.proofs.Prelude.{◌≡◌, ℕ, zero, suc, ◌-◌, ◌<◌, Bool, true, false, not, nat_lt, Option, Some, None, refl, sym, ◌∙◌, ap, arith, lt-ltb, ExpressionNumber}
 use Rattle.steps8080.specs.declared.sites.site.Site.{Site}
 use Rattle.statements8080.specs.Branches.{has_one_jump, has_one_jump_within, inner, may_jump_twice}
 

@@ -1,2 +1,3 @@
+mod Prelude
 pub mod Adding
 pub mod Jumps

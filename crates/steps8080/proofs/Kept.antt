@@ -1,12 +1,6 @@
 -- What is asked of an expression is what is kept with it.
-use Rattle.std.proofs.Common.{◌≡◌, Option, Some, None, ap}
-use Rattle.std.specs.Option.{option_map_or}
-use Rattle.treecode.specs.declared.expression.Expression.{Expression}
-use Rattle.treecode.specs.declared.expression.ExpressionNumber.{ExpressionNumber}
-use Rattle.treecode.specs.declared.traits.Traits.{Traits}
-use Rattle.treecode.specs.Nodes.{nodes_of}
-use Rattle.treecode.specs.Queries.{inside, low_byte_at}
-use Rattle.treecode.specs.Traits.{no_traits, traits_at}
+use Rattle.steps8080.proofs.Prelude.{◌≡◌, Option, Some, None, ap, option_map_or}
+use Rattle.treecode.specs.{declared.expression.Expression.{Expression}, declared.expression.ExpressionNumber.{ExpressionNumber}, declared.traits.Traits.{Traits}, Nodes.{nodes_of}, Queries.{inside, low_byte_at}, Traits.{no_traits, traits_at}}
 use Rattle.steps8080.specs.declared.sites.site.Site.{Site}
 use Rattle.steps8080.specs.Queries.{is_free, is_quiet, keeps, known, same_low_byte, stores_nothing}
 use Rattle.steps8080.specs.Site.{expression, scalar}

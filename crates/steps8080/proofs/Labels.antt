@@ -1,12 +1,6 @@
 -- Flags of labels, and code with which they change.
-use Rattle.std.proofs.Common.{◌≡◌, ℕ, zero, suc, ◌<◌, ◌≤◌, Bool, true, false, not, ◌||◌, List, [], ◌∷◌, ◌++◌, length, IsTrue, slice_index_or, refl, sym, subst, ap, ◌∙◌, arith, ⊎_elim}
-use Rattle.std.proofs.lemmas.Bool.{cases_lt}
-use Rattle.std.proofs.lemmas.List.{get_or_past}
-use Rattle.std.proofs.lemmas.List.Folds.{list_any-append}
-use Rattle.asm8080.specs.Items.{Assembly, IsAssembly, is_bound, marks}
-use Rattle.asm8080.proofs.ItemLemmas.{unbound_from}
-use Rattle.runtime8080.specs.declared.routine.Routine.{Routine}
-use Rattle.runtime8080.specs.Routines.{AddsRoutine}
+use Rattle.steps8080.proofs.Prelude.{◌≡◌, ℕ, zero, suc, ◌<◌, ◌≤◌, Bool, true, false, not, ◌||◌, List, [], ◌∷◌, ◌++◌, length, IsTrue, slice_index_or, refl, sym, subst, ap, ◌∙◌, arith, ⊎_elim, cases_lt, get_or_past, list_any-append, Assembly, IsAssembly, is_bound, marks, unbound_from}
+use Rattle.runtime8080.specs.{declared.routine.Routine.{Routine}, Routines.{AddsRoutine}}
 use Rattle.steps8080.specs.internal.Labels.{Follows}
 
 -- a flag more that is not set

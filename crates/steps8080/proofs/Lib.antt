@@ -1,3 +1,4 @@
+mod Prelude
 pub mod Labels
 pub mod Numbered
 pub mod Refused

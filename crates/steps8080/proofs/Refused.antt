@@ -1,11 +1,7 @@
 -- Why code is not finished.
-use Rattle.std.proofs.Common.{◌≡◌, Result, Err, subst}
-use Rattle.failure.specs.declared.Failure.{Failure}
+use Rattle.steps8080.proofs.Prelude.{◌≡◌, Result, Err, subst, Fault, IsFinished, Written}
+use Rattle.failure.specs.{declared.Failure.{Failure}, Failure.{IfFault}}
 use Rattle.failure.specs.declared.Failure.TheVariants as failures
-use Rattle.failure.specs.Failure.{IfFault}
-use Rattle.asm8080.specs.declared.fault.Fault.{Fault}
-use Rattle.asm8080.specs.Assembled.{IsFinished}
-use Rattle.steps8080.specs.Writer.{Written}
 
 -- a fault of code is one of what was written
 pub refused_for :

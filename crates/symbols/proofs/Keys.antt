@@ -1,9 +1,5 @@
 -- Names as keys: two are equal where their characters are.
-use Rattle.std.proofs.Common.{◌≡◌, ℕ, suc, ◌-◌, ◌++◌, ◌&&◌, List, [], ◌∷◌, Bool, length, replicate, refl, true, false, nat_eq, arith, ap, ◌∙◌}
-use Rattle.std.proofs.lemmas.Grind.{common_steps}
-use Rattle.std.proofs.lemmas.Cmp.{nat_list_eq_equiv}
-use Rattle.std.proofs.Math.Bool.{and-false}
-use Rattle.std.specs.Str.{bytes_eq}
+use Rattle.symbols.proofs.Prelude.{◌≡◌, ℕ, suc, ◌-◌, ◌++◌, ◌&&◌, List, [], ◌∷◌, Bool, length, replicate, refl, true, false, nat_eq, arith, ap, ◌∙◌, common_steps, nat_list_eq_equiv, and-false, bytes_eq}
 use Rattle.symbols.specs.contracts.name.NamePartialEq.TheImpl.{eq-value}
 
 and_regrouped : (p q r s : Bool) → q && r ≡ s → (p && q) && r ≡ p && s

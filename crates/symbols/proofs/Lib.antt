@@ -1,2 +1,3 @@
+mod Prelude
 pub mod Keys
 pub mod Names

@@ -1,11 +1,5 @@
 -- Names that are made character by character.
-use Rattle.std.proofs.Common.{◌≡◌, ℕ, suc, ◌+◌, ◌-◌, ◌<◌, ◌≤◌, false, true, List, [], ◌∷◌, ◌++◌, length, take, set, replicate, IsTrue, refl, sym, ◌∙◌, ap, arith, append_assoc, length-append}
-use Rattle.std.proofs.lemmas.Grind.{common_steps}
-use Rattle.std.proofs.lemmas.List.{take_at}
-use Rattle.std.proofs.lemmas.List.Folds.{list_all-append}
-use Rattle.std.proofs.Math.Seq.{set-append_seam}
-use Rattle.std.specs.List.{list_all}
-use Rattle.symbols.specs.Names.{is_name, is_name_character}
+use Rattle.symbols.proofs.Prelude.{◌≡◌, ℕ, suc, ◌+◌, ◌-◌, ◌<◌, ◌≤◌, false, true, List, [], ◌∷◌, ◌++◌, length, take, set, replicate, IsTrue, refl, sym, ◌∙◌, ap, arith, append_assoc, length-append, common_steps, take_at, list_all-append, set-append_seam, list_all, is_name, is_name_character}
 
 -- more than 31 characters are no name
 pub long-is-no-name : (taken rest : List ℕ) (c : ℕ)

@@ -1,26 +1,9 @@
 -- What is read as an element of a DECLARE is spelled so, and what is spelled so is read.
-use Rattle.std.proofs.Common.{◌≡◌, inl, inr, false, List, [], ◌∷◌, drop, length, Option, Some, None, Ok, refl, ◌∙◌, ap, subst, IfSome, arith}
-use Rattle.std.specs.List.{AllByRecursion}
+use Rattle.syntax.proofs.Prelude.{◌≡◌, inl, inr, false, List, [], ◌∷◌, drop, length, Option, Some, None, Ok, refl, ◌∙◌, ap, subst, IfSome, arith, AllByRecursion, Dimension, Count, Implied, Linkage, Public, External, Byte, Address, Storage, Initial, Data, Identifier, Place, IsNotEmpty, IsSubject, IsItemType, IsValueList, IsItem, IsElement, optional, between_commas, more_after_commas, origin_symbols, offsets_symbols, restricted_symbols, scalar_symbols, count_symbols, dimension_symbols, member_symbols, name_symbols, item_type_symbols, linkage_symbols, at_symbols, storage_symbol, value_list_symbols, base_symbols, names_symbols, subject_symbols, item_symbols, element_symbols, Symbol, NameSymbol, ReservedSymbol, PlacedSymbol, MarkSymbol, ConstantOrigin, LocationOrigin, ItemTypeTree, ScalarItem, StructureItem, AtTree, ValueListTree, SubjectTree, SingleSubject, GroupSubject, ItemTree, ElementTree, LiterallyElement, ItemElement, next_sign, restricted, scalar, dimension, member, item_type, linkage_of, next_linkage, linkage_then, linkage, at_of, at, storage_of, next_storage, values_of, value_list, base, names, subject_of, subject, item, item_element, element_of, element, Keeps, items, Parser, at_mark, at_word, place_of_word, next_name, mark, name, string}
 use Rattle.words.specs.declared.vocabulary.Mark.TheVariants as marks
 use Rattle.words.specs.declared.vocabulary.ReservedWord.TheVariants as words
-use Rattle.trees.specs.declared.declaration.Dimension.{Dimension}
-use Rattle.trees.specs.declared.declaration.Dimension.TheVariants.{Count, Implied}
-use Rattle.trees.specs.declared.declaration.Linkage.{Linkage}
-use Rattle.trees.specs.declared.declaration.Linkage.TheVariants.{Public, External}
-use Rattle.trees.specs.declared.declaration.ScalarType.TheVariants.{Byte, Address}
-use Rattle.trees.specs.declared.declaration.Storage.{Storage}
-use Rattle.trees.specs.declared.declaration.Storage.TheVariants.{Initial, Data}
-use Rattle.trees.specs.declared.identifier.Identifier.{Identifier}
-use Rattle.trees.specs.declared.identifier.Place.{Place}
-use Rattle.grammar.specs.Forms.{IsNotEmpty, IsSubject, IsItemType, IsValueList, IsItem, IsElement}
-use Rattle.grammar.specs.Spelling.{optional, between_commas, more_after_commas, origin_symbols, offsets_symbols, restricted_symbols, scalar_symbols, count_symbols, dimension_symbols, member_symbols, name_symbols, item_type_symbols, linkage_symbols, at_symbols, storage_symbol, value_list_symbols, base_symbols, names_symbols, subject_symbols, item_symbols, element_symbols}
-use Rattle.grammar.specs.Symbols.{Symbol, NameSymbol, ReservedSymbol, PlacedSymbol, MarkSymbol}
-use Rattle.trees.specs.Trees.{ConstantOrigin, LocationOrigin, ItemTypeTree, ScalarItem, StructureItem, AtTree, ValueListTree, SubjectTree, SingleSubject, GroupSubject, ItemTree, ElementTree, LiterallyElement, ItemElement}
 use Rattle.syntax.proofs.ListLaws.{items-sound, items-reads, gave, first_fault}
 use Rattle.syntax.proofs.ReaderLemmas.{if_false, if_cases, bind_ok, bind_at, same_reading, at_word-is, place_of_word-is, next_name-is, mark-ok, name-ok, string-ok}
-use Rattle.syntax.specs.internal.Declarations.{next_sign, restricted, scalar, dimension, member, item_type, linkage_of, next_linkage, linkage_then, linkage, at_of, at, storage_of, next_storage, values_of, value_list, base, names, subject_of, subject, item, item_element, element_of, element}
-use Rattle.syntax.specs.internal.Lists.{Keeps, items}
-use Rattle.syntax.specs.internal.Reader.{Parser, at_mark, at_word, place_of_word, next_name, mark, name, string}
 use Rattle.syntax.proofs.DeclarationParts.{Spelled, respelled, Lengthens, constant-lengthens, offsets-lengthens, restricted-spelled, restricted-reads, scalar-spelled, dimension-spelled, dimension-reads, member-spelled, member-reads}
 
 -- without faults of the items there is none of the list

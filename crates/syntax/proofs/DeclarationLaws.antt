@@ -1,24 +1,10 @@
 -- What is read as a list of elements or as the head of a procedure is spelled so, and what is spelled so is
 -- read.
-use Rattle.std.proofs.Common.{◌≡◌, inl, inr, false, List, [], ◌∷◌, drop, length, Option, Some, None, Ok, refl, sym, ◌∙◌, ap, arith}
-use Rattle.std.specs.List.{AllByRecursion}
+use Rattle.syntax.proofs.Prelude.{◌≡◌, inl, inr, false, List, [], ◌∷◌, drop, length, Option, Some, None, Ok, refl, sym, ◌∙◌, ap, arith, AllByRecursion, Linkage, Public, External, ScalarType, Byte, Address, Identifier, Place, IsNotEmpty, IsElement, optional, between_commas, scalar_symbols, linkage_symbols, names_symbols, element_symbols, parameters_symbols, reentrant_symbols, heading_symbols, Symbol, NameSymbol, ReservedSymbol, MarkSymbol, SemicolonSymbol, ElementTree, HeadingTree, next_scalar, result_type, next_linkage, linkage, element, parameters, reentrant_of, reentrant, heading, Keeps, Shrinks, items, at_mark, place_of_word, mark, word, name}
 use Rattle.words.specs.declared.vocabulary.Mark.TheVariants as marks
 use Rattle.words.specs.declared.vocabulary.ReservedWord.TheVariants as words
-use Rattle.trees.specs.declared.declaration.Linkage.{Linkage}
-use Rattle.trees.specs.declared.declaration.Linkage.TheVariants.{Public, External}
-use Rattle.trees.specs.declared.declaration.ScalarType.{ScalarType}
-use Rattle.trees.specs.declared.declaration.ScalarType.TheVariants.{Byte, Address}
-use Rattle.trees.specs.declared.identifier.Identifier.{Identifier}
-use Rattle.trees.specs.declared.identifier.Place.{Place}
-use Rattle.grammar.specs.Forms.{IsNotEmpty, IsElement}
-use Rattle.grammar.specs.Spelling.{optional, between_commas, scalar_symbols, linkage_symbols, names_symbols, element_symbols, parameters_symbols, reentrant_symbols, heading_symbols}
-use Rattle.grammar.specs.Symbols.{Symbol, NameSymbol, ReservedSymbol, MarkSymbol, SemicolonSymbol}
-use Rattle.trees.specs.Trees.{ElementTree, HeadingTree}
 use Rattle.syntax.proofs.ListLaws.{items-sound}
 use Rattle.syntax.proofs.ReaderLemmas.{if_false, if_cases, bind_ok, bind_at, place_of_word-is, mark-ok, word-ok, name-ok}
-use Rattle.syntax.specs.internal.Declarations.{next_scalar, result_type, next_linkage, linkage, element, parameters, reentrant_of, reentrant, heading}
-use Rattle.syntax.specs.internal.Lists.{Keeps, Shrinks, items}
-use Rattle.syntax.specs.internal.Reader.{at_mark, place_of_word, mark, word, name}
 use Rattle.syntax.proofs.DeclarationItems.{list-reads, optional-lengthens, between_commas-lengthens, scalar-lengthens, names-sound, names-reads, linkage-spelled, linkage-reads, EndsItem, element-sound, element-reads, names-lengthens, linkage-lengthens, element-lengthens, element-keeps}
 use Rattle.syntax.proofs.DeclarationParts.{Spelled, respelled, Lengthens, result_type-spelled, result_type-reads}
 

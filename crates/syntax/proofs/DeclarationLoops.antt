@@ -1,16 +1,5 @@
 -- How the loops of declarations go on.
-use Rattle.std.proofs.Common.{◌≡◌, List, [], ◌∷◌, ◌++◌, drop, map, Some, None, Ok, Err, if◌then◌else◌, refl, sym, ◌∙◌, ap, append_assoc, append-nil}
-use Rattle.std.proofs.lemmas.List.{map-append}
-use Rattle.words.specs.declared.vocabulary.ReservedWord.TheVariants.{Literally}
-use Rattle.trees.specs.declared.declaration.Sign.{Sign}
-use Rattle.trees.specs.declared.identifier.Identifier.{Identifier}
-use Rattle.grammar.specs.Symbols.{Symbol}
-use Rattle.trees.specs.Trees.{ConstantTree, OffsetTree, ElementTree, SubjectTree, SingleSubject, GroupSubject, ItemTree, ItemElement, LiterallyElement, StringTree}
-use Rattle.trees.specs.declared.declaration.Offset.{Offset}
-use Rattle.trees.specs.Views.{constant_tree, offset_tree}
-use Rattle.syntax.specs.internal.Declarations.{next_sign, all_offsets, names, subject, base, item_after, item, element_of, element, element_after, group_element, subject_of}
-use Rattle.syntax.specs.internal.Reader.{Cause, Reading, ◌>>=◌, at_word, next_name, constant, string}
-use Rattle.syntax.specs.internal.Lists.{after_items}
+use Rattle.syntax.proofs.Prelude.{◌≡◌, List, [], ◌∷◌, ◌++◌, drop, map, Some, None, Ok, Err, if◌then◌else◌, refl, sym, ◌∙◌, ap, append_assoc, append-nil, map-append, Literally, Sign, Identifier, Symbol, ConstantTree, OffsetTree, ElementTree, SubjectTree, SingleSubject, GroupSubject, ItemTree, ItemElement, LiterallyElement, StringTree, Offset, constant_tree, offset_tree, next_sign, all_offsets, names, subject, base, item_after, item, element_of, element, element_after, group_element, subject_of, Cause, Reading, ◌>>=◌, at_word, next_name, constant, string, after_items}
 use Rattle.syntax.proofs.DeclarationParts.{all_offsets-step}
 use Rattle.syntax.proofs.ReaderLemmas.{read}
 

@@ -1,22 +1,9 @@
 -- What is read as a restricted expression, a type, a dimension or a member is spelled so, and what is spelled
 -- so is read.
-use Rattle.std.proofs.Common.{◌≡◌, inl, inr, ℕ, zero, suc, ◌+◌, ◌≤◌, ◌<◌, false, List, [], ◌∷◌, drop, length, Option, Some, None, Ok, Err, refl, sym, ◌∙◌, ap, arith}
+use Rattle.syntax.proofs.Prelude.{◌≡◌, inl, inr, ℕ, zero, suc, ◌+◌, ◌≤◌, ◌<◌, false, List, [], ◌∷◌, drop, length, Option, Some, None, Ok, Err, refl, sym, ◌∙◌, ap, arith, Dimension, Count, Implied, Member, ScalarType, Byte, Address, Sign, Plus, Minus, Number, optional, constant_symbols, origin_symbols, sign_symbol, offsets_symbols, restricted_symbols, scalar_symbols, count_symbols, dimension_symbols, member_symbols, Symbol, NameSymbol, NumberSymbol, MarkSymbol, ConstantTree, NumberConstant, StringConstant, OriginTree, ConstantOrigin, LocationOrigin, OffsetTree, RestrictedTree, origin, next_sign, offset_then, offsets, all_offsets, restricted, next_scalar, scalar_of, scalar, result_of, result_type, count, dimension_inside, dimension, member, Parser, Reading, ◌>>=◌, at_mark, at_word, mark, name, number, constant}
 use Rattle.words.specs.declared.vocabulary.Mark.TheVariants as marks
 use Rattle.words.specs.declared.vocabulary.ReservedWord.TheVariants as words
-use Rattle.trees.specs.declared.declaration.Dimension.{Dimension}
-use Rattle.trees.specs.declared.declaration.Dimension.TheVariants.{Count, Implied}
-use Rattle.trees.specs.declared.declaration.Member.{Member}
-use Rattle.trees.specs.declared.declaration.ScalarType.{ScalarType}
-use Rattle.trees.specs.declared.declaration.ScalarType.TheVariants.{Byte, Address}
-use Rattle.trees.specs.declared.declaration.Sign.{Sign}
-use Rattle.trees.specs.declared.declaration.Sign.TheVariants.{Plus, Minus}
-use Rattle.trees.specs.declared.identifier.Number.{Number}
-use Rattle.grammar.specs.Spelling.{optional, constant_symbols, origin_symbols, sign_symbol, offsets_symbols, restricted_symbols, scalar_symbols, count_symbols, dimension_symbols, member_symbols}
-use Rattle.grammar.specs.Symbols.{Symbol, NameSymbol, NumberSymbol, MarkSymbol}
-use Rattle.trees.specs.Trees.{ConstantTree, NumberConstant, StringConstant, OriginTree, ConstantOrigin, LocationOrigin, OffsetTree, RestrictedTree}
 use Rattle.syntax.proofs.ReaderLemmas.{if_false, if_cases, bind_ok, bind_at, read, same_reading, at_mark-is, at_word-is, mark-ok, name-ok, number-ok, constant-ok, constant-at}
-use Rattle.syntax.specs.internal.Declarations.{origin, next_sign, offset_then, offsets, all_offsets, restricted, next_scalar, scalar_of, scalar, result_of, result_type, count, dimension_inside, dimension, member}
-use Rattle.syntax.specs.internal.Reader.{Parser, Reading, ◌>>=◌, at_mark, at_word, mark, name, number, constant}
 
 -- what is read is spelled so
 abbrev pub Spelled : {A : Type 0} → (Parser A) → (A → List Symbol → List Symbol) → Type 0

@@ -1,13 +1,5 @@
 -- What is read between parentheses, and what is made of it.
-use Rattle.std.proofs.Common.{List, Option, Some, None, Result, Ok, Err, ◌≡◌, drop, refl}
-use Rattle.words.specs.declared.vocabulary.Mark.TheVariants.{LeftParenthesis, RightParenthesis}
-use Rattle.trees.specs.declared.declaration.Member.{Member}
-use Rattle.trees.specs.declared.declaration.Storage.{Storage}
-use Rattle.grammar.specs.Symbols.{Symbol}
-use Rattle.trees.specs.Trees.{ItemTypeTree, StructureItem, RestrictedTree, ValueListTree}
-use Rattle.syntax.specs.internal.Declarations.{member, structure, restricted, next_storage, values_of, value_list}
-use Rattle.syntax.specs.internal.Lists.{items, in_parentheses}
-use Rattle.syntax.specs.internal.Reader.{Parser, Reading, Cause, ◌>>=◌, mark}
+use Rattle.syntax.proofs.Prelude.{List, Option, Some, None, Result, Ok, Err, ◌≡◌, drop, refl, LeftParenthesis, RightParenthesis, Member, Storage, Symbol, ItemTypeTree, StructureItem, RestrictedTree, ValueListTree, member, structure, restricted, next_storage, values_of, value_list, items, in_parentheses, Parser, Reading, Cause, ◌>>=◌, mark}
 use Rattle.syntax.proofs.DeclarationItems.{member-keeps, restricted-keeps}
 
 -- no item adds symbols

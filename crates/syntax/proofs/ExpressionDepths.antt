@@ -1,8 +1,5 @@
 -- When a tree is too deep for the room, and what goes on after it.
-use Rattle.std.proofs.Common.{◌≡◌, ◌⊎◌, inl, inr, ⊎_elim, ℕ, suc, ◌≤◌, ◌<◌, max, nat_le, List, Option, Some, None, Result, Err, if◌then◌else◌, refl, sym, ◌∙◌, ap, arith, le-leb}
-use Rattle.std.proofs.lemmas.Bool.{cases_lt, lt-leb}
-use Rattle.grammar.specs.Symbols.{Symbol}
-use Rattle.syntax.specs.internal.Reader.{Reading, Cause, TooDeep, ◌>>=◌}
+use Rattle.syntax.proofs.Prelude.{◌≡◌, ◌⊎◌, inl, inr, ⊎_elim, ℕ, suc, ◌≤◌, ◌<◌, max, nat_le, List, Option, Some, None, Result, Err, if◌then◌else◌, refl, sym, ◌∙◌, ap, arith, le-leb, cases_lt, lt-leb, Symbol, Reading, Cause, TooDeep, ◌>>=◌}
 use Rattle.syntax.proofs.ListLaws.{gave, earlier}
 use Rattle.syntax.proofs.ReaderLemmas.{if_true, if_false, read}
 

@@ -1,15 +1,5 @@
 -- How the loop over operators goes on.
-use Rattle.std.proofs.Common.{◌≡◌, ℕ, suc, ◌≤◌, ◌<◌, ◌-◌, ◌+◌, zero, length-drop, Bool, true, false, nat_lt, List, [], ◌∷◌, drop, length, Option, Some, None, Ok, Err, if◌then◌else◌, refl, sym, subst, ◌∙◌, ap, arith, rules}
-use Rattle.words.specs.declared.vocabulary.Mark.TheVariants.{LeftParenthesis, Period}
-use Rattle.trees.specs.declared.expression.BinaryOperator.{BinaryOperator}
-use Rattle.trees.specs.declared.identifier.Identifier.{Identifier}
-use Rattle.grammar.specs.Forms.{level_of}
-use Rattle.grammar.specs.Nesting.{expression_height}
-use Rattle.grammar.specs.Symbols.{Symbol, NameSymbol}
-use Rattle.trees.specs.Trees.{ExpressionTree, ConstantLeaf, ReferenceLeaf, BinaryNode, ReferenceTree}
-use Rattle.syntax.specs.internal.Expressions.{ExpressionParser, expression, operand, primary, parenthesized, location, constant_leaf, reference_leaf, reference, expression_less, all_operators, operator_then, next_operator, goes_on, top_level, operator_on}
-use Rattle.syntax.specs.internal.Reader.{Parser, Cause, TooDeep, Reading, ◌>>=◌, at_mark, next_name, constant}
-use Rattle.syntax.specs.internal.Results.{FailsBy}
+use Rattle.syntax.proofs.Prelude.{◌≡◌, ℕ, suc, ◌≤◌, ◌<◌, ◌-◌, ◌+◌, zero, length-drop, Bool, true, false, nat_lt, List, [], ◌∷◌, drop, length, Option, Some, None, Ok, Err, if◌then◌else◌, refl, sym, subst, ◌∙◌, ap, arith, rules, LeftParenthesis, Period, BinaryOperator, Identifier, level_of, expression_height, Symbol, NameSymbol, ExpressionTree, ConstantLeaf, ReferenceLeaf, BinaryNode, ReferenceTree, ExpressionParser, expression, operand, primary, parenthesized, location, constant_leaf, reference_leaf, reference, expression_less, all_operators, operator_then, next_operator, goes_on, top_level, operator_on, Parser, Cause, TooDeep, Reading, ◌>>=◌, at_mark, next_name, constant, FailsBy}
 use Rattle.syntax.proofs.ReaderLemmas.{bind_at, bind_fails}
 use Rattle.syntax.proofs.ExpressionSound.{expression-keeps, expression-shrinks}
 use Rattle.syntax.proofs.ExpressionOperators.{all_operators-step}

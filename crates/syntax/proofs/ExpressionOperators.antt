@@ -1,13 +1,5 @@
 -- Operators are read without a count.
-use Rattle.std.proofs.Common.{◌≡◌, ℕ, zero, suc, ◌≤◌, nat_lt, List, [], ◌∷◌, drop, length, Option, Some, None, Err, if◌then◌else◌, refl, ap, arith}
-use Rattle.trees.specs.declared.expression.BinaryOperator.{BinaryOperator}
-use Rattle.grammar.specs.Forms.{level_of}
-use Rattle.grammar.specs.Nesting.{expression_height}
-use Rattle.grammar.specs.Symbols.{Symbol}
-use Rattle.trees.specs.Trees.{ExpressionTree, BinaryNode}
-use Rattle.syntax.specs.internal.Expressions.{ExpressionParser, operator_of, next_operator, top_level, goes_on, operator_then, operators, all_operators}
-use Rattle.syntax.specs.internal.Lists.{Keeps}
-use Rattle.syntax.specs.internal.Reader.{Parser, TooDeep}
+use Rattle.syntax.proofs.Prelude.{◌≡◌, ℕ, zero, suc, ◌≤◌, nat_lt, List, [], ◌∷◌, drop, length, Option, Some, None, Err, if◌then◌else◌, refl, ap, arith, BinaryOperator, level_of, expression_height, Symbol, ExpressionTree, BinaryNode, ExpressionParser, operator_of, next_operator, top_level, goes_on, operator_then, operators, all_operators, Keeps, Parser, TooDeep}
 use Rattle.syntax.proofs.ReaderLemmas.{bind_same, read}
 
 -- what goes on matters only after what is read

@@ -1,22 +1,6 @@
 -- An expression that is spelled is read again, or is too deep, by its levels.
-use Rattle.std.proofs.Common.{◌≡◌, ⊎_elim, ℕ, zero, suc, ◌≤◌, ◌<◌, true, false, max, nat_le, nat_lt, List, [], ◌∷◌, length, Option, Some, None, Err, if◌then◌else◌, refl, sym, ◌∙◌, ap, subst, arith, le-leb, lt-ltb, le-ltb}
-use Rattle.std.proofs.lemmas.Bool.{and_from, and_left, lt-leb, cases_lt}
-use Rattle.std.specs.List.{AllByRecursion}
+use Rattle.syntax.proofs.Prelude.{◌≡◌, ⊎_elim, ℕ, zero, suc, ◌≤◌, ◌<◌, true, false, max, nat_le, nat_lt, List, [], ◌∷◌, length, Option, Some, None, Err, if◌then◌else◌, refl, sym, ◌∙◌, ap, subst, arith, le-leb, lt-ltb, le-ltb, and_from, and_left, lt-leb, cases_lt, AllByRecursion, BinaryOperator, Or, Xor, And, Equal, Less, Greater, LessOrEqual, GreaterOrEqual, Unequal, Add, Subtract, Multiply, Divide, Modulo, UnaryOperator, Not, Negate, expression_level, negation_level, sign_level, primary_level, level_of, IsNotEmpty, left_level, unary_level_of, operand_level_of, IsExpression, IsReference, IsMember, AreArguments, expression_height, reference_height, member_height, arguments_height, targets_height, more_after_commas, between_commas, constant_symbols, binary_symbol, expression_symbols, reference_symbols, member_of_symbols, arguments_symbols, more_arguments_symbols, Symbol, MarkSymbol, ConstantTree, NumberConstant, StringConstant, ExpressionTree, ConstantLeaf, ReferenceLeaf, LocationLeaf, ListLeaf, ParenthesizedNode, AssignmentNode, UnaryNode, BinaryNode, ReferenceTree, ReferenceTo, MemberTree, NoMember, MemberOf, ArgumentTrees, NoArguments, MoreArguments, ExpressionParser, next_operator, top_level, goes_on, arguments_of, arguments, member_of, reference, location, parenthesized, primary, operand, operator_then, all_operators, expression, expression_less, items, Keeps, Parser, Reading, Cause, TooDeep, ◌>>=◌, at_mark, constant}
 use Rattle.words.specs.declared.vocabulary.Mark.TheVariants as marks
-use Rattle.trees.specs.declared.expression.BinaryOperator.{BinaryOperator}
-use Rattle.trees.specs.declared.expression.BinaryOperator.TheVariants.{Or, Xor, And, Equal, Less, Greater, LessOrEqual, GreaterOrEqual, Unequal, Add, Subtract, Multiply, Divide, Modulo}
-use Rattle.trees.specs.declared.expression.UnaryOperator.{UnaryOperator}
-use Rattle.trees.specs.declared.expression.UnaryOperator.TheVariants.{Not, Negate}
-use Rattle.grammar.specs.Forms.{expression_level, negation_level, sign_level, primary_level, level_of, IsNotEmpty}
-use Rattle.grammar.specs.internal.Forms.{left_level, unary_level_of, operand_level_of, IsExpression, IsReference, IsMember, AreArguments}
-use Rattle.grammar.specs.Nesting.{expression_height, reference_height, member_height, arguments_height, targets_height}
-use Rattle.grammar.specs.Spelling.{more_after_commas, between_commas, constant_symbols, binary_symbol}
-use Rattle.grammar.specs.internal.Spelling.{expression_symbols, reference_symbols, member_of_symbols, arguments_symbols, more_arguments_symbols}
-use Rattle.grammar.specs.Symbols.{Symbol, MarkSymbol}
-use Rattle.trees.specs.Trees.{ConstantTree, NumberConstant, StringConstant, ExpressionTree, ConstantLeaf, ReferenceLeaf, LocationLeaf, ListLeaf, ParenthesizedNode, AssignmentNode, UnaryNode, BinaryNode, ReferenceTree, ReferenceTo, MemberTree, NoMember, MemberOf, ArgumentTrees, NoArguments, MoreArguments}
-use Rattle.syntax.specs.internal.Expressions.{ExpressionParser, next_operator, top_level, goes_on, arguments_of, arguments, member_of, reference, location, parenthesized, primary, operand, operator_then, all_operators, expression, expression_less}
-use Rattle.syntax.specs.internal.Lists.{items, Keeps}
-use Rattle.syntax.specs.internal.Reader.{Parser, Reading, Cause, TooDeep, ◌>>=◌, at_mark, constant}
 use Rattle.syntax.proofs.ExpressionDepths.{depth_fault, depth_fault-within, depth_fault-over, depth_fault-same, depth_fault-suc, depth_fault-max, after, bind_gave, after-gave, after-read, after-deep}
 use Rattle.syntax.proofs.ExpressionSound.{expression-keeps, reference-keeps, constant-long, expression-top, expression-at}
 use Rattle.syntax.proofs.ListLaws.{items-reads, Reads, gave, earlier, first_fault}

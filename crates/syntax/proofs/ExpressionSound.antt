@@ -1,23 +1,7 @@
 -- What is read as an expression is spelled so, has its form, and fits into the room.
-use Rattle.std.proofs.Common.{◌≡◌, ⊎_elim, ℕ, zero, suc, ◌≤◌, ◌<◌, true, false, ◌&&◌, nat_le, nat_lt, List, [], ◌∷◌, drop, length, Option, Some, None, Ok, Err, if◌then◌else◌, refl, sym, ◌∙◌, ap, subst, arith, leb-true, ltb-true}
-use Rattle.std.proofs.lemmas.Bool.{and_parts}
-use Rattle.std.specs.List.{AllByRecursion}
+use Rattle.syntax.proofs.Prelude.{◌≡◌, ⊎_elim, ℕ, zero, suc, ◌≤◌, ◌<◌, true, false, ◌&&◌, nat_le, nat_lt, List, [], ◌∷◌, drop, length, Option, Some, None, Ok, Err, if◌then◌else◌, refl, sym, ◌∙◌, ap, subst, arith, leb-true, ltb-true, and_parts, AllByRecursion, BinaryOperator, Or, Xor, And, Equal, Less, Greater, LessOrEqual, GreaterOrEqual, Unequal, Add, Subtract, Multiply, Divide, Modulo, Not, Negate, Identifier, expression_level, negation_level, sign_level, primary_level, level_of, IsNotEmpty, left_level, IsExpression, IsReference, IsMember, AreArguments, expression_height, reference_height, member_height, arguments_height, targets_height, more_after_commas, between_commas, constant_symbols, binary_symbol, expression_symbols, reference_symbols, member_of_symbols, arguments_symbols, more_arguments_symbols, Symbol, NameSymbol, ReservedSymbol, MarkSymbol, ConstantTree, NumberConstant, StringConstant, ExpressionTree, ConstantLeaf, ReferenceLeaf, LocationLeaf, ListLeaf, ParenthesizedNode, AssignmentNode, UnaryNode, BinaryNode, ReferenceTree, ReferenceTo, MemberTree, NoMember, MemberOf, ArgumentTrees, NoArguments, MoreArguments, ExpressionParser, next_operator, top_level, goes_on, arguments_of, arguments, member_of, reference, location, assigned, closed, parenthesized, primary, operand, operator_then, operators, all_operators, expression, expression_less, items, Keeps, Shrinks, Parser, TooDeep, ◌>>=◌, at_mark, at_word, mark, name, next_name, constant}
 use Rattle.words.specs.declared.vocabulary.Mark.TheVariants as marks
 use Rattle.words.specs.declared.vocabulary.ReservedWord.TheVariants as words
-use Rattle.trees.specs.declared.expression.BinaryOperator.{BinaryOperator}
-use Rattle.trees.specs.declared.expression.BinaryOperator.TheVariants.{Or, Xor, And, Equal, Less, Greater, LessOrEqual, GreaterOrEqual, Unequal, Add, Subtract, Multiply, Divide, Modulo}
-use Rattle.trees.specs.declared.expression.UnaryOperator.TheVariants.{Not, Negate}
-use Rattle.trees.specs.declared.identifier.Identifier.{Identifier}
-use Rattle.grammar.specs.Forms.{expression_level, negation_level, sign_level, primary_level, level_of, IsNotEmpty}
-use Rattle.grammar.specs.internal.Forms.{left_level, IsExpression, IsReference, IsMember, AreArguments}
-use Rattle.grammar.specs.Nesting.{expression_height, reference_height, member_height, arguments_height, targets_height}
-use Rattle.grammar.specs.Spelling.{more_after_commas, between_commas, constant_symbols, binary_symbol}
-use Rattle.grammar.specs.internal.Spelling.{expression_symbols, reference_symbols, member_of_symbols, arguments_symbols, more_arguments_symbols}
-use Rattle.grammar.specs.Symbols.{Symbol, NameSymbol, ReservedSymbol, MarkSymbol}
-use Rattle.trees.specs.Trees.{ConstantTree, NumberConstant, StringConstant, ExpressionTree, ConstantLeaf, ReferenceLeaf, LocationLeaf, ListLeaf, ParenthesizedNode, AssignmentNode, UnaryNode, BinaryNode, ReferenceTree, ReferenceTo, MemberTree, NoMember, MemberOf, ArgumentTrees, NoArguments, MoreArguments}
-use Rattle.syntax.specs.internal.Expressions.{ExpressionParser, next_operator, top_level, goes_on, arguments_of, arguments, member_of, reference, location, assigned, closed, parenthesized, primary, operand, operator_then, operators, all_operators, expression, expression_less}
-use Rattle.syntax.specs.internal.Lists.{items, Keeps, Shrinks}
-use Rattle.syntax.specs.internal.Reader.{Parser, TooDeep, ◌>>=◌, at_mark, at_word, mark, name, next_name, constant}
 use Rattle.syntax.proofs.ListLaws.{IsSound, items-sound}
 use Rattle.syntax.proofs.ReaderLemmas.{at_mark-is, at_word-is, next_operator-is, if_cases, if_ok, bind_ok, read, same_reading, mark-ok, name-ok, constant-ok}
 

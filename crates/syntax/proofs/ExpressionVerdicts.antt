@@ -1,19 +1,5 @@
 -- What reading expressions, and what is declared, gives, and how it ends.
-use Rattle.std.proofs.Common.{◌≡◌, ℕ, Bool, true, false, nat_le, List, Some, None, if◌then◌else◌, refl, ◌∙◌, ap, arith}
-use Rattle.std.proofs.lemmas.Bool.{leb-true, leb-false}
-use Rattle.std.specs.List.{AllByRecursion}
-use Rattle.words.specs.declared.vocabulary.Mark.TheVariants.{LeftParenthesis}
-use Rattle.grammar.specs.Forms.{expression_level, IsNotEmpty, IsElement}
-use Rattle.grammar.specs.internal.Forms.{IsExpression, IsReference, AreArguments}
-use Rattle.grammar.specs.Nesting.{expression_height, reference_height, arguments_height}
-use Rattle.grammar.specs.Spelling.{between_commas, element_symbols, heading_symbols}
-use Rattle.grammar.specs.internal.Spelling.{expression_symbols, reference_symbols, arguments_symbols}
-use Rattle.grammar.specs.Symbols.{Symbol}
-use Rattle.trees.specs.Trees.{ExpressionTree, ReferenceTree, ArgumentTrees, ElementTree}
-use Rattle.syntax.specs.internal.Declarations.{element, heading}
-use Rattle.syntax.specs.internal.Lists.{items}
-use Rattle.syntax.specs.internal.Expressions.{expression, reference, arguments}
-use Rattle.syntax.specs.internal.Reader.{TooDeep, Reading, at_mark}
+use Rattle.syntax.proofs.Prelude.{◌≡◌, ℕ, Bool, true, false, nat_le, List, Some, None, if◌then◌else◌, refl, ◌∙◌, ap, arith, leb-true, leb-false, AllByRecursion, LeftParenthesis, expression_level, IsNotEmpty, IsElement, IsExpression, IsReference, AreArguments, expression_height, reference_height, arguments_height, between_commas, element_symbols, heading_symbols, expression_symbols, reference_symbols, arguments_symbols, Symbol, ExpressionTree, ReferenceTree, ArgumentTrees, ElementTree, element, heading, items, expression, reference, arguments, TooDeep, Reading, at_mark}
 use Rattle.syntax.proofs.DeclarationLaws.{elements-sound, heading-sound}
 use Rattle.syntax.proofs.ExpressionLaws.{depth_fault, EndsReference, EndsExpression, expression-sound, reference-sound, arguments-sound, expression-reads, reference-reads, arguments-reads}
 use Rattle.syntax.proofs.ListLaws.{gave}

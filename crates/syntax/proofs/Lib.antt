@@ -1,3 +1,4 @@
+mod Prelude
 pub mod ReaderLemmas
 pub mod ReaderResults
 pub mod ListLaws

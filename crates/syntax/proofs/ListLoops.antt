@@ -1,15 +1,6 @@
 -- How the loops of the parser go on.
-use Rattle.std.proofs.Common.{◌≡◌, ◌<◌, Bool, true, false, List, [], ◌∷◌, ◌++◌, drop, length, map, Option, Some, None, Result, Ok, Err, refl, sym, ◌∙◌, ap, arith, append_assoc, append-nil}
-use Rattle.std.proofs.lemmas.List.{map-append, map-id}
-use Rattle.words.specs.declared.vocabulary.Mark.TheVariants.{Comma}
-use Rattle.grammar.specs.Symbols.{Symbol}
-use Rattle.syntax.specs.internal.Lists.{all_more_items, items, Keeps, Shrinks, after_items}
-use Rattle.syntax.specs.internal.Reader.{Parser, Cause, Reading, ◌>>=◌, at_mark, constant, next_constant}
+use Rattle.syntax.proofs.Prelude.{◌≡◌, ◌<◌, Bool, true, false, List, [], ◌∷◌, ◌++◌, drop, length, map, Option, Some, None, Result, Ok, Err, refl, sym, ◌∙◌, ap, arith, append_assoc, append-nil, map-append, map-id, Comma, Symbol, all_more_items, items, Keeps, Shrinks, after_items, Parser, Cause, Reading, ◌>>=◌, at_mark, constant, next_constant, IsErrAnd, Failure, Fault, FailsBy, Fails, Gives}
 use Rattle.syntax.proofs.ReaderLemmas.{taken-ok}
-use Rattle.std.specs.Prelude.{IsErrAnd}
-use Rattle.failure.specs.declared.Failure.{Failure}
-use Rattle.syntax.specs.declared.fault.Fault.{Fault}
-use Rattle.syntax.specs.internal.Results.{FailsBy, Fails, Gives}
 use Rattle.syntax.proofs.ListLaws.{all_more_items-step}
 
 -- one more item, and then others

@@ -1,9 +1,5 @@
 -- Lists of arguments.
-use Rattle.std.proofs.Common.{◌≡◌, max, List, [], ◌∷◌, ◌++◌, map, refl, arith}
-use Rattle.trees.specs.declared.expression.Expression.{Expression}
-use Rattle.grammar.specs.Nesting.{expression_height, arguments_height}
-use Rattle.trees.specs.Views.{expression_tree, argument_trees}
-use Rattle.syntax.specs.internal.Expressions.{arguments_of}
+use Rattle.syntax.proofs.Prelude.{◌≡◌, max, List, [], ◌∷◌, ◌++◌, map, refl, arith, Expression, expression_height, arguments_height, expression_tree, argument_trees, arguments_of}
 
 -- one more argument
 pub arguments_height_push : (items : List Expression) (next : Expression)

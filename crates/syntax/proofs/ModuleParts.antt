@@ -1,14 +1,7 @@
 -- A module is its head, a block and its end.
-use Rattle.std.proofs.Common.{true, ℕ, List, [], ◌∷◌, Option, Result, Ok, Err, ◌≡◌, refl}
+use Rattle.syntax.proofs.Prelude.{true, ℕ, List, [], ◌∷◌, Option, Result, Ok, Err, ◌≡◌, refl, Identifier, Place, Symbol, DeclarationTrees, StatementTrees, ModuleTree, block_in, Reading, Cause, ◌>>=◌, name, mark, taken, place_of_word, semicolon, at_the_end, ending, module_of, module_head, module_end, whole_module}
 use Rattle.words.specs.declared.vocabulary.Mark.TheVariants as marks
 use Rattle.words.specs.declared.vocabulary.ReservedWord.TheVariants as words
-use Rattle.trees.specs.declared.identifier.Identifier.{Identifier}
-use Rattle.trees.specs.declared.identifier.Place.{Place}
-use Rattle.grammar.specs.Symbols.{Symbol}
-use Rattle.trees.specs.Trees.{DeclarationTrees, StatementTrees, ModuleTree}
-use Rattle.syntax.specs.internal.Inside.{block_in}
-use Rattle.syntax.specs.internal.Reader.{Reading, Cause, ◌>>=◌, name, mark, taken, place_of_word, semicolon}
-use Rattle.syntax.specs.internal.Statements.{at_the_end, ending, module_of, module_head, module_end, whole_module}
 
 -- what stands after the head of a module
 abbrev pub module_inside : ℕ → (Identifier × Place) × List Symbol → Result ModuleTree Cause

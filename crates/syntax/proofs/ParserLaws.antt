@@ -1,16 +1,7 @@
 -- The laws of reading modules: what words derive is read, and what is read is derived.
-use Rattle.std.proofs.Common.{◌≡◌, ℕ, max, ◌<◌, ◌≤◌, Bool, true, false, List, [], ◌∷◌, Result, Ok, Err, refl, sym, ◌∙◌, ap, subst, arith}
+use Rattle.syntax.proofs.Prelude.{◌≡◌, ℕ, max, ◌<◌, ◌≤◌, Bool, true, false, List, [], ◌∷◌, Result, Ok, Err, refl, sym, ◌∙◌, ap, subst, arith, Lexeme, NESTING_LIMIT, DerivesModule, module_line, Derives, DerivesButForDepth, DerivesButForEndName, DerivesAtMostOne, module_height, ModuleEndsMatch, optional, name_symbols, ending_symbols, Symbol, NameSymbol, PlacedSymbol, MarkSymbol, SemicolonSymbol, symbols_of, ModuleTree, Cause, Unexpected, TooDeep, OtherEndName, place_of_word, taken, at_the_end, module_of, whole_module}
 use Rattle.words.specs.declared.vocabulary.Mark.TheVariants as marks
 use Rattle.words.specs.declared.vocabulary.ReservedWord.TheVariants as words
-use Rattle.words.specs.Spelling.{Lexeme}
-use Rattle.grammar.specs.declared.TheConstants.{NESTING_LIMIT}
-use Rattle.grammar.specs.Derivation.{DerivesModule, whole_module as module_line, Derives, DerivesButForDepth, DerivesButForEndName, DerivesAtMostOne}
-use Rattle.grammar.specs.Nesting.{module_height, ModuleEndsMatch}
-use Rattle.grammar.specs.Spelling.{optional, name_symbols, ending_symbols}
-use Rattle.grammar.specs.Symbols.{Symbol, NameSymbol, PlacedSymbol, MarkSymbol, SemicolonSymbol, symbols_of}
-use Rattle.trees.specs.Trees.{ModuleTree}
-use Rattle.syntax.specs.internal.Reader.{Cause, Unexpected, TooDeep, OtherEndName, place_of_word, taken}
-use Rattle.syntax.specs.internal.Statements.{at_the_end, module_of, whole_module}
 use Rattle.syntax.proofs.ReaderLemmas.{taken-ok, place_of_word-is}
 use Rattle.syntax.proofs.StatementLaws.{body-gets, body-verdict}
 use Rattle.syntax.proofs.StatementSoundness.{mark-gets, semicolon-gets, name-gets, ending-gets, statements-left}

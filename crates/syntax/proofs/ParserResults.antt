@@ -1,23 +1,8 @@
 -- What was read of words, in terms of what they derive.
-use Rattle.std.proofs.Common.{◌≡◌, true, List, Result, Ok, Err, subst}
-use Rattle.std.specs.Prelude.{IfOk}
-use Rattle.words.specs.Spelling.{Lexeme}
-use Rattle.trees.specs.declared.module.Module.{Module}
-use Rattle.grammar.specs.declared.TheConstants.{NESTING_LIMIT}
-use Rattle.grammar.specs.Derivation.{Derives, DerivesButForDepth, DerivesButForEndName, DerivesModule}
-use Rattle.grammar.specs.Symbols.{Symbol, symbols_of}
-use Rattle.trees.specs.Trees.{ModuleTree}
-use Rattle.trees.specs.Views.{module_tree}
-use Rattle.failure.specs.Failure.{IfFault}
-use Rattle.failure.specs.declared.Failure.{Failure}
+use Rattle.syntax.proofs.Prelude.{◌≡◌, true, List, Result, Ok, Err, subst, IfOk, Lexeme, Module, NESTING_LIMIT, Derives, DerivesButForDepth, DerivesButForEndName, DerivesModule, Symbol, symbols_of, ModuleTree, module_tree, IfFault, Failure, Fault, Fails, Makes, Cause, TooDeep, OtherEndName, whole_module}
 use Rattle.failure.specs.declared.Failure.TheVariants as failures
-use Rattle.syntax.specs.declared.fault.Fault.{Fault}
 use Rattle.syntax.specs.declared.fault.Fault.TheVariants.{Word, Depth, EndName}
 use Rattle.syntax.specs.Faults.{IsOfDepth, IsOfEndName, IsRefused, IsWrongWith}
-use Rattle.syntax.specs.internal.Results.{Fails}
-use Rattle.syntax.specs.internal.Inside.{Makes}
-use Rattle.syntax.specs.internal.Reader.{Cause, TooDeep, OtherEndName}
-use Rattle.syntax.specs.internal.Statements.{whole_module}
 use Rattle.syntax.proofs.ParserLaws.{module_read-derives, module_derives-reads, module_deep-reads, module_end_name-reads, module_fails-cause}
 
 -- what was made of these words

@@ -1,20 +1,7 @@
 -- What the looks at symbols tell.
-use Rattle.std.proofs.Common.{◌≡◌, ◌≢◌, ◌⊎◌, inl, inr, ℕ, Bool, true, false, ◌==◌, List, [], ◌∷◌, drop, get_or, Option, Some, None, Result, Ok, Err, if◌then◌else◌, refl, sym, ◌∙◌, ap}
-use Rattle.std.proofs.lemmas.Bool.{eqb-true, eq-eqb, false_from_ne_true}
-use Rattle.words.specs.declared.vocabulary.Mark.{Mark}
+use Rattle.syntax.proofs.Prelude.{◌≡◌, ◌≢◌, ◌⊎◌, inl, inr, ℕ, Bool, true, false, ◌==◌, List, [], ◌∷◌, drop, get_or, Option, Some, None, Result, Ok, Err, if◌then◌else◌, refl, sym, ◌∙◌, ap, eqb-true, eq-eqb, false_from_ne_true, Mark, ReservedWord, BinaryOperator, Or, Xor, And, Equal, Less, Greater, LessOrEqual, GreaterOrEqual, Unequal, Add, Subtract, Multiply, Divide, Modulo, Identifier, Number, Place, binary_symbol, constant_symbols, Symbol, NameSymbol, NumberSymbol, StringSymbol, ReservedSymbol, PlacedSymbol, MarkSymbol, SemicolonSymbol, StringTree, ConstantTree, NumberConstant, StringConstant, operator_of, next_operator, Parser, Cause, Unexpected, ◌>>=◌, mark_number, word_number, at_mark, at_word, place_of_word, next_semicolon, next_name, next_constant, mark, word, taken, semicolon, name, constant, number, string}
 use Rattle.words.specs.declared.vocabulary.Mark.TheVariants as marks
-use Rattle.words.specs.declared.vocabulary.ReservedWord.{ReservedWord}
 use Rattle.words.specs.declared.vocabulary.ReservedWord.TheVariants as words
-use Rattle.trees.specs.declared.expression.BinaryOperator.{BinaryOperator}
-use Rattle.trees.specs.declared.expression.BinaryOperator.TheVariants.{Or, Xor, And, Equal, Less, Greater, LessOrEqual, GreaterOrEqual, Unequal, Add, Subtract, Multiply, Divide, Modulo}
-use Rattle.trees.specs.declared.identifier.Identifier.{Identifier}
-use Rattle.trees.specs.declared.identifier.Number.{Number}
-use Rattle.trees.specs.declared.identifier.Place.{Place}
-use Rattle.grammar.specs.Spelling.{binary_symbol, constant_symbols}
-use Rattle.grammar.specs.Symbols.{Symbol, NameSymbol, NumberSymbol, StringSymbol, ReservedSymbol, PlacedSymbol, MarkSymbol, SemicolonSymbol}
-use Rattle.trees.specs.Trees.{StringTree, ConstantTree, NumberConstant, StringConstant}
-use Rattle.syntax.specs.internal.Expressions.{operator_of, next_operator}
-use Rattle.syntax.specs.internal.Reader.{Parser, Cause, Unexpected, ◌>>=◌, mark_number, word_number, at_mark, at_word, place_of_word, next_semicolon, next_name, next_constant, mark, word, taken, semicolon, name, constant, number, string}
 
 -- the marks in the order of their numbers
 marks_in_order : List Mark

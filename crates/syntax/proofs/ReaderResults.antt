@@ -1,12 +1,5 @@
 -- What fails first, fails as a whole.
-use Rattle.std.proofs.Common.{◌≡◌, ◌≢◌, List, [], ◌∷◌, Option, Some, None, Result, Ok, Err, refl, ap}
-use Rattle.grammar.specs.Symbols.{Symbol}
-use Rattle.std.specs.Prelude.{IfOk}
-use Rattle.failure.specs.declared.Failure.{Failure}
-use Rattle.syntax.specs.declared.fault.Fault.{Fault}
-use Rattle.syntax.specs.internal.Results.{FailsBy, Gives, OrMemory}
-use Rattle.syntax.specs.internal.Statements.{at_the_end}
-use Rattle.syntax.specs.internal.Reader.{Cause, Reading, Unexpected, ◌>>=◌}
+use Rattle.syntax.proofs.Prelude.{◌≡◌, ◌≢◌, List, [], ◌∷◌, Option, Some, None, Result, Ok, Err, refl, ap, Symbol, IfOk, Failure, Fault, FailsBy, Gives, OrMemory, at_the_end, Cause, Reading, Unexpected, ◌>>=◌}
 
 pub fails_bind : {A B : Type 0} (cause : Option Cause) (read : Result A Cause) (next : A → Result B Cause)
     → FailsBy cause read

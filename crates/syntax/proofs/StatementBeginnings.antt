@@ -1,13 +1,7 @@
 -- What a statement begins with at a word.
-use Rattle.std.proofs.Common.{◌≡◌, Bool, true, false, List, ◌∷◌, if◌then◌else◌, refl}
-use Rattle.words.specs.declared.vocabulary.ReservedWord.{ReservedWord}
+use Rattle.syntax.proofs.Prelude.{◌≡◌, Bool, true, false, List, ◌∷◌, if◌then◌else◌, refl, ReservedWord, Identifier, Place, Symbol, NameSymbol, UnknownSymbol, reserved_symbol, next_beginning, beginning_at}
 use Rattle.words.specs.declared.vocabulary.ReservedWord.TheVariants as words
-use Rattle.trees.specs.declared.identifier.Identifier.{Identifier}
-use Rattle.trees.specs.declared.identifier.Place.{Place}
-use Rattle.grammar.specs.Symbols.{Symbol, NameSymbol, UnknownSymbol, reserved_symbol}
 use Rattle.syntax.specs.declared.statements.Beginning.TheVariants as beginnings
-use Rattle.syntax.specs.internal.Inside.{next_beginning}
-use Rattle.syntax.specs.internal.Statements.{beginning_at}
 
 -- at a reserved word
 pub next_beginning_reserved : (word : ReservedWord) (place : Place) (rest : List Symbol)

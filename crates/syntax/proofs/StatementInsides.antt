@@ -1,12 +1,6 @@
 -- What is read where there is room.
-use Rattle.std.proofs.Common.{◌≡◌, ℕ, zero, suc, ◌<◌, ◌-◌, true, false, List, [], ◌∷◌, drop, Option, Some, Err, refl, ◌∙◌, ap, arith}
-use Rattle.words.specs.declared.vocabulary.ReservedWord.TheVariants.{Declare}
-use Rattle.grammar.specs.Symbols.{Symbol, NameSymbol, NumberSymbol, StringSymbol, ReservedSymbol, PlacedSymbol, MarkSymbol, SemicolonSymbol, UnknownSymbol}
-use Rattle.syntax.specs.internal.Expressions.{expression, reference}
-use Rattle.syntax.specs.internal.Results.{FailsBy}
-use Rattle.syntax.specs.internal.Inside.{block_in, kind_inside, statement_inside}
-use Rattle.syntax.specs.internal.Reader.{Cause, Unexpected, TooDeep, at_word}
-use Rattle.syntax.specs.internal.Statements.{assignment, beginning_of, labels_before, after_labels, labelled, statement, kind_by, declaration, declare, declare_or, procedure}
+use Rattle.syntax.proofs.Prelude.{◌≡◌, ℕ, zero, suc, ◌<◌, ◌-◌, true, false, List, [], ◌∷◌, drop, Option, Some, Err, refl, ◌∙◌, ap, arith, Declare, Symbol, NameSymbol, NumberSymbol, StringSymbol, ReservedSymbol, PlacedSymbol, MarkSymbol, SemicolonSymbol, UnknownSymbol, expression, reference, FailsBy, block_in, kind_inside, statement_inside, Cause, Unexpected, TooDeep, at_word, assignment, beginning_of, labels_before, after_labels, statement, kind_by, declaration, declare, declare_or, procedure}
+use Rattle.syntax.specs.internal.Statements.{labelled}
 
 -- a symbol that the grammar doesn't have is no target of an assignment
 unknown_target : (room : ℕ) (rest : List Symbol)

@@ -1,7 +1,5 @@
 -- The laws of reading statements and declarations.
-use Rattle.std.proofs.Common.{ℕ, Bool}
-use Rattle.syntax.specs.internal.Lists.{Shrinks}
-use Rattle.syntax.specs.internal.Statements.{block, statement, declaration}
+use Rattle.syntax.proofs.Prelude.{ℕ, Bool, Shrinks, block, statement, declaration}
 use Rattle.syntax.proofs.StatementLengths.{statement-shorter, declaration-shorter}
 use Rattle.syntax.proofs.StatementSoundness.{GetsBlocks, statement-gets, declaration-gets, block-gets}
 use Rattle.syntax.proofs.StatementVerdicts.{HasBlockVerdicts, statement-verdict, declaration-verdict, block-verdict}

@@ -1,11 +1,6 @@
 -- Each statement and each declaration is derived from a symbol at least.
-use Rattle.std.proofs.Common.{◌≤◌, ◌<◌, ℕ, List, ◌∷◌, length, Option, Some, None, ap, arith}
-use Rattle.trees.specs.declared.identifier.Identifier.{Identifier}
-use Rattle.grammar.specs.Derivation.{DerivesExpression, DerivesReference, DerivesArguments, DerivesTargets, last_target, next_target, DerivesStatement, labelled, unlabelled, DerivesKind, null, assignment, call, return, return_value, halt, goto, if_then, if_then_else, simple_do, do_while, iterative_do, iterative_do_by, do_case, DerivesStatements, no_statement, next_statement, DerivesDeclaration, declare, procedure, DerivesDeclarations, no_declaration, next_declaration}
-use Rattle.grammar.specs.Spelling.{element_symbols, ending_symbols}
-use Rattle.grammar.specs.Symbols.{Symbol, SemicolonSymbol}
-use Rattle.trees.specs.Trees.{ExpressionTree, ReferenceTree, ArgumentTrees, StatementTree, StatementKindTree, StatementTrees, DeclarationTree, DeclarationTrees}
-use Rattle.grammar.proofs.Derivations.{expression-spelled, reference-spelled, arguments-spelled}
+use Rattle.syntax.proofs.Prelude.{◌≤◌, ◌<◌, ℕ, List, ◌∷◌, length, Option, Some, None, ap, arith, Identifier, DerivesExpression, DerivesReference, DerivesArguments, DerivesTargets, last_target, next_target, DerivesStatement, labelled, unlabelled, DerivesKind, null, return, halt, if_then, if_then_else, do_while, iterative_do_by, do_case, DerivesStatements, no_statement, next_statement, DerivesDeclaration, DerivesDeclarations, no_declaration, next_declaration, element_symbols, ending_symbols, Symbol, SemicolonSymbol, ExpressionTree, ReferenceTree, ArgumentTrees, StatementTree, StatementKindTree, StatementTrees, DeclarationTree, DeclarationTrees, expression-spelled, reference-spelled, arguments-spelled}
+use Rattle.grammar.specs.Derivation.{assignment, call, return_value, goto, simple_do, iterative_do, declare, procedure}
 use Rattle.syntax.proofs.DeclarationLaws.{heading-reads, heading-shrinks}
 use Rattle.syntax.proofs.ExpressionLaws.{expression-long, reference-long, arguments-long}
 use Rattle.syntax.proofs.DeclarationItems.{between_commas-lengthens, element-lengthens}

@@ -1,24 +1,8 @@
 -- What is read of statements and declarations is derived from the symbols.
-use Rattle.std.proofs.Common.{◌≡◌, ℕ, zero, suc, Bool, true, false, List, [], ◌∷◌, drop, length, Option, Some, None, Err, if◌then◌else◌, refl, sym, ◌∙◌, ap, subst}
-use Rattle.std.specs.List.{AllByRecursion}
-use Rattle.words.specs.declared.vocabulary.Mark.{Mark}
+use Rattle.syntax.proofs.Prelude.{◌≡◌, ℕ, zero, suc, Bool, true, false, List, [], ◌∷◌, drop, length, Option, Some, None, Err, if◌then◌else◌, refl, sym, ◌∙◌, ap, subst, AllByRecursion, Mark, ReservedWord, Identifier, Place, DerivesExpression, DerivesArguments, DerivesTargets, DerivesStatement, labelled, unlabelled, DerivesKind, null, assignment_line, call_line, return, return_value_line, halt_line, goto_line, if_then, if_then_else, simple_do_line, do_while, iterative_do_line, iterative_do_by, do_case, DerivesStatements, no_statement, next_statement, DerivesDeclaration, declare_line, procedure_line, DerivesDeclarations, no_declaration, next_declaration, expression_level, IsNotEmpty, ends_in_open_if, is_open_if, IsReference, reference_symbols, between_commas, optional, name_symbols, element_symbols, heading_symbols, ending_symbols, Symbol, NameSymbol, NumberSymbol, StringSymbol, ReservedSymbol, PlacedSymbol, MarkSymbol, SemicolonSymbol, UnknownSymbol, ExpressionTree, ArgumentTrees, ReferenceTree, IterationTree, StatementTree, LabelledStatement, StatementKindTree, IfStatement, IterateStatement, ElseTree, NoElse, ElseStatement, StatementTrees, DeclarationTree, DeclareTree, ProcedureTree, DeclarationTrees, expression-derived, arguments-derived, targets-derived, expression, reference, arguments, items, many, many_items, Parser, TooDeep, Reading, at_mark, at_word, next_name, mark, semicolon, word, name, BlockParser, at_semicolon, labels_before, after_labels, statements_of, declarations_of, ends_declarations, statements, declarations, block, end_of_do, body_of_do, end_name, ending, assignment, call, return_value, otherwise, conditional, step, iteration, simple_do, while_do, case_do, iterative_do, do_statement, goto, beginning_of, kind_by, statement_by, procedure, declare, declare_or, statement, declaration}
 use Rattle.words.specs.declared.vocabulary.Mark.TheVariants as marks
-use Rattle.words.specs.declared.vocabulary.ReservedWord.{ReservedWord}
 use Rattle.words.specs.declared.vocabulary.ReservedWord.TheVariants as words
-use Rattle.trees.specs.declared.identifier.Identifier.{Identifier}
-use Rattle.trees.specs.declared.identifier.Place.{Place}
-use Rattle.grammar.specs.Derivation.{DerivesExpression, DerivesArguments, DerivesTargets, DerivesStatement, labelled, unlabelled, DerivesKind, null, assignment as assignment_line, call as call_line, return, return_value as return_value_line, halt as halt_line, goto as goto_line, if_then, if_then_else, simple_do as simple_do_line, do_while, iterative_do as iterative_do_line, iterative_do_by, do_case, DerivesStatements, no_statement, next_statement, DerivesDeclaration, declare as declare_line, procedure as procedure_line, DerivesDeclarations, no_declaration, next_declaration}
-use Rattle.grammar.specs.Forms.{expression_level, IsNotEmpty, ends_in_open_if, is_open_if}
-use Rattle.grammar.specs.internal.Forms.{IsReference}
-use Rattle.grammar.specs.internal.Spelling.{reference_symbols}
-use Rattle.grammar.specs.Spelling.{between_commas, optional, name_symbols, element_symbols, heading_symbols, ending_symbols}
-use Rattle.grammar.specs.Symbols.{Symbol, NameSymbol, NumberSymbol, StringSymbol, ReservedSymbol, PlacedSymbol, MarkSymbol, SemicolonSymbol, UnknownSymbol}
-use Rattle.trees.specs.Trees.{ExpressionTree, ArgumentTrees, ReferenceTree, IterationTree, StatementTree, LabelledStatement, StatementKindTree, IfStatement, IterateStatement, ElseTree, NoElse, ElseStatement, StatementTrees, DeclarationTree, DeclareTree, ProcedureTree, DeclarationTrees}
-use Rattle.grammar.proofs.Derivations.{expression-derived, arguments-derived, targets-derived}
-use Rattle.syntax.specs.internal.Expressions.{expression, reference, arguments}
-use Rattle.syntax.specs.internal.Lists.{items, many, many_items}
-use Rattle.syntax.specs.internal.Reader.{Parser, TooDeep, Reading, at_mark, at_word, next_name, mark, semicolon, word, name}
-use Rattle.syntax.specs.internal.Statements.{BlockParser, at_semicolon, labels_before, after_labels, statements_of, declarations_of, ends_declarations, statements, declarations, block, end_of_do, body_of_do, end_name, ending, assignment, call, return_value, otherwise, conditional, step, iteration, simple_do, while_do, case_do, iterative_do, do_statement, halt, goto, beginning_of, kind_by, statement_by, procedure, declare, declare_or, statement, declaration}
+use Rattle.syntax.specs.internal.Statements.{halt}
 use Rattle.syntax.proofs.ExpressionVerdicts.{expression-gets, reference-gets, arguments-gets, elements-gets, heading-gets}
 use Rattle.syntax.proofs.ReaderLemmas.{at_mark-is, at_word-is, mark-ok, semicolon-ok, word-ok, name-ok, next_name-is}
 use Rattle.syntax.proofs.StatementVerdictLists.{items-gets}

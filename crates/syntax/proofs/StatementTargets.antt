@@ -1,15 +1,5 @@
 -- How the loop over the targets of an assignment goes on.
-use Rattle.std.proofs.Common.{◌≡◌, ℕ, ◌<◌, true, false, List, [], ◌∷◌, ◌++◌, drop, length, map, Option, Some, None, Ok, Err, refl, sym, ◌∙◌, ap, arith}
-use Rattle.std.proofs.lemmas.List.{map-append}
-use Rattle.words.specs.declared.vocabulary.Mark.TheVariants.{Comma}
-use Rattle.trees.specs.declared.expression.Reference.{Reference}
-use Rattle.grammar.specs.Symbols.{Symbol}
-use Rattle.trees.specs.Trees.{ReferenceTree}
-use Rattle.trees.specs.Views.{reference_tree}
-use Rattle.syntax.specs.internal.Expressions.{expression, reference}
-use Rattle.syntax.specs.internal.Results.{FailsBy}
-use Rattle.syntax.specs.internal.Lists.{all_more_items, Keeps, after_items}
-use Rattle.syntax.specs.internal.Reader.{Cause, Reading, at_mark}
+use Rattle.syntax.proofs.Prelude.{◌≡◌, ℕ, ◌<◌, true, false, List, [], ◌∷◌, ◌++◌, drop, length, map, Option, Some, None, Ok, Err, refl, sym, ◌∙◌, ap, arith, map-append, Comma, Reference, Symbol, ReferenceTree, reference_tree, expression, reference, FailsBy, all_more_items, Keeps, after_items, Cause, Reading, at_mark}
 use Rattle.syntax.proofs.ExpressionLaws.{reference-shrinks}
 use Rattle.syntax.proofs.ListLoops.{more-step, more-fails, more-ends}
 

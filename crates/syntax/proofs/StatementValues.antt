@@ -1,13 +1,5 @@
 -- What is read as a value.
-use Rattle.std.proofs.Common.{Bool, true, false, List, Option, None, Some, Ok, Err, ◌≡◌, drop, if◌then◌else◌, refl}
-use Rattle.trees.specs.declared.identifier.Place.{Place}
-use Rattle.grammar.specs.Forms.{expression_level}
-use Rattle.grammar.specs.Symbols.{Symbol}
-use Rattle.trees.specs.Trees.{ExpressionTree, StatementKindTree, ReturnStatement}
-use Rattle.syntax.specs.internal.Expressions.{ExpressionParser}
-use Rattle.syntax.specs.internal.Inside.{value}
-use Rattle.syntax.specs.internal.Reader.{Reading, ◌>>=◌, semicolon}
-use Rattle.syntax.specs.internal.Statements.{at_semicolon, return_value}
+use Rattle.syntax.proofs.Prelude.{Bool, true, false, List, Option, None, Some, Ok, Err, ◌≡◌, drop, if◌then◌else◌, refl, Place, expression_level, Symbol, ExpressionTree, StatementKindTree, ReturnStatement, ExpressionParser, value, Reading, ◌>>=◌, semicolon, at_semicolon, return_value}
 use Rattle.syntax.proofs.ReaderLemmas.{read}
 
 -- what is read as a value, before its semicolon and with it

@@ -1,12 +1,5 @@
 -- What reading lists gives, and how it ends.
-use Rattle.std.proofs.Common.{◌≡◌, ℕ, zero, suc, max, ◌≤◌, ◌<◌, Bool, false, List, [], ◌∷◌, drop, length, refl, arith}
-use Rattle.std.specs.List.{AllByRecursion}
-use Rattle.words.specs.declared.vocabulary.Mark.TheVariants.{Comma}
-use Rattle.grammar.specs.Forms.{IsNotEmpty}
-use Rattle.grammar.specs.Spelling.{more_after_commas, between_commas}
-use Rattle.grammar.specs.Symbols.{Symbol, MarkSymbol}
-use Rattle.syntax.specs.internal.Lists.{more_items, all_more_items, items}
-use Rattle.syntax.specs.internal.Reader.{Parser, at_mark}
+use Rattle.syntax.proofs.Prelude.{◌≡◌, ℕ, zero, suc, max, ◌≤◌, ◌<◌, Bool, false, List, [], ◌∷◌, drop, length, refl, arith, AllByRecursion, Comma, IsNotEmpty, more_after_commas, between_commas, Symbol, MarkSymbol, more_items, all_more_items, items, Parser, at_mark}
 use Rattle.syntax.proofs.ReaderLemmas.{at_mark-is, if_false}
 use Rattle.syntax.proofs.StatementVerdictRules.{Gets, gets_ok, gets_bind, gets_if, Verdict, verdict_ok, verdict_bind, verdict_last, verdict_same}
 

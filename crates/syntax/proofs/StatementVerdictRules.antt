@@ -1,6 +1,5 @@
 -- How reading ends: what holds of all that is read, and whether depth or a name after END is in the way.
-use Rattle.std.proofs.Common.{◌≡◌, ℕ, suc, max, ◌≤◌, ◌<◌, Bool, true, false, Result, Ok, Err, if◌then◌else◌, refl, ◌∙◌, subst, arith}
-use Rattle.syntax.specs.internal.Reader.{Cause, TooDeep, OtherEndName, ◌>>=◌}
+use Rattle.syntax.proofs.Prelude.{◌≡◌, ℕ, suc, max, ◌≤◌, ◌<◌, Bool, true, false, Result, Ok, Err, if◌then◌else◌, refl, ◌∙◌, subst, arith, Cause, TooDeep, OtherEndName, ◌>>=◌}
 use Rattle.syntax.proofs.ReaderLemmas.{bind_ok, bind_at, bind_fails}
 
 -- whatever is read has this property

@@ -1,22 +1,7 @@
 -- Each kind of task is carried out by its steps.
-use Rattle.std.proofs.Common.{ℕ, Bool, List, refl}
-use Rattle.asm8080.specs.declared.item.Item.{Item}
-use Rattle.treecode.specs.declared.expression.ExpressionNumber.{ExpressionNumber}
-use Rattle.steps8080.specs.declared.facts.Facts.{Facts}
-use Rattle.steps8080.specs.declared.step.LabelNumber.{LabelNumber}
-use Rattle.steps8080.specs.declared.step.Part.{Part}
-use Rattle.steps8080.specs.declared.step.Task.{Task}
+use Rattle.task_laws.proofs.Prelude.{ℕ, Bool, List, refl, Item, ExpressionNumber, Facts, LabelNumber, Part, Task, branch_steps, IsThere, Emission, IsWritten, knowing, Emits, HasAll, steps_of, task_steps, Context, IsSound, StepsStand, BranchDoes, PartDoes, TaskDoes}
 use Rattle.steps8080.specs.declared.step.Task.TheVariants as tasks
-use Rattle.operands8080.specs.Branches.{branch_steps}
-use Rattle.code_meaning.specs.Activations.{IsThere}
-use Rattle.exprgen8080.specs.declared.emission.Emission.{Emission}
-use Rattle.exprgen8080.specs.Emission.{IsWritten, knowing}
-use Rattle.exprgen8080.specs.Emitted.{Emits, HasAll}
-use Rattle.exprgen8080.specs.Forms.{steps_of, task_steps}
 use Rattle.exprgen8080.proofs.Emitting.{is_kept}
-use Rattle.task_laws.specs.Contexts.{Context, IsSound}
-use Rattle.task_laws.specs.Steps.{StepsStand}
-use Rattle.task_laws.specs.Tasks.{BranchDoes, PartDoes, TaskDoes}
 use Rattle.task_laws.proofs.Places.AddressLaws.{addresses_do}
 use Rattle.task_laws.proofs.Bytes.AskedOfBytes.{bytes_asked}
 use Rattle.task_laws.proofs.Branches.BranchLaws.{branch_law}

@@ -1,3 +1,4 @@
+mod Prelude
 pub mod Machine
 pub mod Calls
 pub mod Places

@@ -1,33 +1,9 @@
 -- Sources that are compiled, one by one.
-use Rattle.std.proofs.Common.{◌≡◌, Err, Ok, ℕ, ◌+◌, ◌<◌, ◌≤◌, List, [], ◌∷◌, ◌++◌, length, drop, get_or, arith, refl, sym, ap, ◌∙◌, subst, add-one, append-nil, append_assoc, ⊎_elim}
-use Rattle.std.proofs.Math.ListN.{drop_of_length-le}
-use Rattle.std.proofs.Math.Seq.{drop-cons}
-use Rattle.std.proofs.lemmas.Bool.{cases_lt}
-use Rattle.std.proofs.lemmas.List.{get_or-map, length-map}
-use Rattle.std.specs.Prelude.{IsErrAnd, Result}
-use Rattle.failure.specs.Failure.{IfFault}
-use Rattle.failure.specs.declared.Failure.{Failure}
-use Rattle.failure.specs.declared.Failure.TheVariants.{Fault, Memory}
-use Rattle.typed_trees.specs.TypedTrees.{TypedModule}
-use Rattle.object_modules.specs.Module.{ObjectModule}
-use Rattle.layout.specs.Storage.{Storage, storage_with}
-use Rattle.mem80.specs.declared.plan.Plan.{Plan}
-use Rattle.sources.specs.Causes.{HasReadCause}
-use Rattle.sources.specs.Reading.{IsSourceOf}
-use Rattle.treecode.specs.declared.module.TreeModule.{TreeModule}
-use Rattle.treecode.specs.Lowered.{IsLowered}
+use Rattle.tool.proofs.Prelude.{◌≡◌, Err, Ok, ℕ, ◌+◌, ◌<◌, ◌≤◌, List, [], ◌∷◌, ◌++◌, length, drop, get_or, arith, refl, sym, ap, ◌∙◌, subst, add-one, append-nil, append_assoc, ⊎_elim, drop_of_length-le, drop-cons, cases_lt, get_or-map, length-map, IsErrAnd, Result, TypedModule, ObjectModule, Storage, storage_with, Plan, HasReadCause, IsSourceOf, IsSoundTreeCode, MakesNone, OfItsModule, IsSoundlyMade, IsSoundlyTyped, text_of, texts_of, Compiled, ToolFault, TooManySources, Source, Code, Program, Link, Locate, IsCompiledTo, AreWithoutFault, HasCause, IsInOrder, HasNoObject, IsRefusedAlone, IsWithoutFault, AreCompiled, HasCompileCause, HasGenerationCause, HasSource, HasSourceCause, IsCompiled, failure_of_code, module_in}
+use Rattle.failure.specs.{Failure.{IfFault}, declared.Failure.{Failure, TheVariants.{Fault, Memory}}}
+use Rattle.treecode.specs.{declared.module.TreeModule.{TreeModule}, Lowered.{IsLowered}}
 use Rattle.codegen8080.specs.declared.fault.Fault as code_fault
-use Rattle.generation.specs.Modules.{IsSoundTreeCode, MakesNone, OfItsModule}
-use Rattle.generation.specs.Typed.{IsSoundlyMade}
-use Rattle.sources.specs.Sound.{IsSoundlyTyped}
 use Rattle.sources.specs.declared.sources.Source as declared_source
-use Rattle.sources.specs.Programs.{text_of, texts_of}
-use Rattle.tool.specs.declared.compiled.Compiled.{Compiled}
-use Rattle.tool.specs.declared.fault.ToolFault.{ToolFault}
-use Rattle.tool.specs.declared.fault.ToolFault.TheVariants.{TooManySources, Source, Code, Program, Link, Locate}
-use Rattle.tool.specs.Made.{IsCompiledTo}
-use Rattle.tool.specs.Sources.{AreWithoutFault, HasCause, IsInOrder, HasNoObject, IsRefusedAlone, IsWithoutFault}
-use Rattle.tool.specs.internal.Compiling.{AreCompiled, HasCompileCause, HasGenerationCause, HasSource, HasSourceCause, IsCompiled, failure_of_code, module_in}
 
 pub has_source : (text : List ℕ) (typed : TypedModule) → IsSourceOf text typed → HasSource typed
 has_source text typed source = record { text = text; source = source }

@@ -1,24 +1,11 @@
 -- What a run of the machine says of its source.
-use Rattle.std.proofs.Common.{◌≡◌, ℕ, List, Option, sym, ap, ◌∙◌, subst}
-use Rattle.std.specs.Io.KnownBytes.{Appends}
-use Rattle.printing.specs.Report.{report_of}
-use Rattle.printing.specs.Printing.{PrintsRun, end_word}
+use Rattle.tool.proofs.Prelude.{◌≡◌, ℕ, List, Option, sym, ap, ◌∙◌, subst, Appends, End, Machine, IsOnlyHalt, IsRun, Absolute, started, IsFaithful, Agrees, machine_run}
+use Rattle.printing.specs.{Report.{report_of}, Printing.{PrintsRun, end_word}}
 use Rattle.tool.specs.Printed.{PrintsEnded}
-use Rattle.ports.specs.declared.event.Event.{Event}
-use Rattle.ports.specs.Events.{IsBeginning}
-use Rattle.isa8080.specs.declared.registers.Status.TheVariants.{Halted}
-use Rattle.isa8080.specs.State.{State}
-use Rattle.isa8080.specs.Step.{state_after}
-use Rattle.cpu8080.specs.declared.machine.End.{End}
+use Rattle.ports.specs.{declared.event.Event.{Event}, Events.{IsBeginning}}
+use Rattle.isa8080.specs.{declared.registers.Status.TheVariants.{Halted}, State.{State}, Step.{state_after}}
 use Rattle.cpu8080.specs.declared.machine.End.TheVariants as end
-use Rattle.cpu8080.specs.Machine.{Machine}
-use Rattle.cpu8080.specs.Runs.{IsOnlyHalt, IsRun}
-use Rattle.meaning.specs.Outcomes.{Ended}
-use Rattle.meaning.specs.Run.{Run}
-use Rattle.locate.specs.Locating.{Absolute}
-use Rattle.tool.specs.Execution.{started, IsFaithful}
-use Rattle.generation.specs.Agreement.{Agrees}
-use Rattle.tool.specs.Image.{machine_run}
+use Rattle.meaning.specs.{Outcomes.{Ended}, Run.{Run}}
 
 module _ (image : Absolute) (memory : List ℕ) (script : List (List ℕ)) (events : List Event) (failures : ℕ) (source : ℕ → Run) (agrees : Agrees source (machine_run image memory script events)) where
   begins_at : (k : ℕ) (new : Machine) → new.state ≡ state_after script k (started image memory script events failures).state → (n : ℕ) × IsBeginning new.state.events (source n).events

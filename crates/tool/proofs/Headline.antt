@@ -1,24 +1,7 @@
 -- A program whose object modules are made of its modules, linked and placed, does what its sources say.
-use Rattle.std.proofs.Common.{ℕ, List, sym, subst, arith}
-use Rattle.mem80.specs.Memory.{IsMemory}
-use Rattle.object_modules.specs.Module.{ObjectModule}
-use Rattle.typed_trees.specs.TypedTrees.{TypedModule}
-use Rattle.layout.specs.Joined.{IsJoined}
-use Rattle.layout.specs.Lawful.{IsLawful}
-use Rattle.layout.specs.Placing.{placement_by}
+use Rattle.tool.proofs.Prelude.{ℕ, List, sym, subst, arith, IsMemory, ObjectModule, TypedModule, IsJoined, IsLawful, placement_by, plan_view, Plan, Absolute, loaded, Agrees, AreLoaded, AreSoundlyMade, make_the_program, DoesWhatItSays, machine_run, IsImageOfObjects, StartsAsItsSource, code_lengths, GivesImageOfObjects}
 use Rattle.meaning.specs.Run.{source_run}
 use Rattle.isa8080.specs.Step.{initial_registers, initial_state, state_after}
-use Rattle.placing.specs.Views.{plan_view}
-use Rattle.mem80.specs.declared.plan.Plan.{Plan}
-use Rattle.locate.specs.Locating.{Absolute, loaded}
-use Rattle.generation.specs.Agreement.{Agrees}
-use Rattle.generation.specs.internal.Programs.{AreLoaded}
-use Rattle.generation.specs.Typed.{AreSoundlyMade}
-use Rattle.generation.proofs.Programs.{make_the_program}
-use Rattle.tool.specs.Headline.{DoesWhatItSays}
-use Rattle.tool.specs.Image.{machine_run}
-use Rattle.tool.specs.Made.{IsImageOfObjects, StartsAsItsSource, code_lengths}
-use Rattle.tool.specs.internal.Merged.{GivesImageOfObjects}
 
 -- the object modules of a program are loaded into a memory with their image
 loads :

@@ -1,3 +1,4 @@
+mod Prelude
 pub mod Headline
 pub mod LinkedLemmas
 pub mod ExecutionLemmas

@@ -1,15 +1,7 @@
 -- Object modules that have a merge and an image are linked and placed.
-use Rattle.std.proofs.Common.{◌≡◌, List, Result, Ok, Err, sym, ap, subst, ◌∙◌}
-use Rattle.object_modules.specs.Image.{Image, PlacementRefusal, image_of}
-use Rattle.object_modules.specs.Merge.{LinkRefusal, merge_of}
-use Rattle.object_modules.specs.Module.{ObjectModule}
+use Rattle.tool.proofs.Prelude.{◌≡◌, List, Result, Ok, Err, sym, ap, subst, ◌∙◌, Image, PlacementRefusal, image_of, LinkRefusal, merge_of, ObjectModule, Plan, GivesItsImage, Absolute, IsPlaced, HaveImage, IsImageOfObjects, GivesImageOfObjects}
 use Rattle.placing.specs.Views as of_placement
-use Rattle.mem80.specs.declared.plan.Plan.{Plan}
-use Rattle.locate.specs.Loading.{GivesItsImage}
-use Rattle.locate.specs.Locating.{Absolute, IsPlaced, plan_view}
-use Rattle.generation.specs.internal.Names.{HaveImage}
-use Rattle.tool.specs.Made.{IsImageOfObjects}
-use Rattle.tool.specs.internal.Merged.{GivesImageOfObjects}
+use Rattle.locate.specs.Locating.{plan_view}
 
 pub is_linked : (plan : Plan) (objects : List ObjectModule) (merged : ObjectModule) (image : Absolute)
     → merge_of objects ≡ Ok merged → IsPlaced (plan_view plan) merged image → IsImageOfObjects plan objects image

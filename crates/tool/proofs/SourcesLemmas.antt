@@ -1,46 +1,12 @@
 -- Programs of sources that are compiled.
-use Rattle.std.proofs.Common.{◌≡◌, ℕ, zero, suc, ◌<◌, ◌≤◌, ◌⊎◌, inl, inr, List, [], ◌∷◌, length, map, zip, Option, Some, None, All, arith, refl, sym, ap, ◌∙◌, subst, ⊎_elim}
-use Rattle.std.proofs.lemmas.Bool.{cases_lt}
-use Rattle.std.proofs.lemmas.List.Elements.{All-from_recursion}
-use Rattle.std.specs.List.{AllByRecursion}
+use Rattle.tool.proofs.Prelude.{◌≡◌, ℕ, zero, suc, ◌<◌, ◌≤◌, ◌⊎◌, inl, inr, List, [], ◌∷◌, length, map, zip, Option, Some, None, All, arith, refl, sym, ap, ◌∙◌, subst, ⊎_elim, cases_lt, All-from_recursion, AllByRecursion, TypedModule, Typed, JumpsAreSound, module_view, Layout, IsJoined, IsLawful, Placement, placement_by, placing_refusal, storage_with, layout_view, ObjectModule, length_of, Plan, HaveStorage, ReadFault, HasReadCause, Absolute, AreWithinBounds, AreSoundlyMade, make_the_program, numbers_fit, HaveImage, Placed, AreSourcesOf, IsPlacedBy, IsProgramOf, program_modules, text_of, Compiled, ToolFault, TooManySources, Source, Code, Program, Link, Locate, DoesWhatItSays, IsImageOfObjects, StartsAsItsSource, code_lengths, GivesImageOfObjects, AreWithoutFault, HasCause, IsInOrder, IsWithoutFault, sources_before, AreCompiled, HasBuildCause, IsBuiltFrom, module_in}
 use Rattle.words.specs.declared.limits.TheConstants.{LONGEST_SOURCE}
-use Rattle.typed_trees.specs.TypedTrees.{TypedModule}
-use Rattle.typed_trees.specs.declared.module.Typed.{Typed}
-use Rattle.typed_trees.specs.Jumps.{JumpsAreSound}
-use Rattle.typed_trees.specs.Views.{module_view}
-use Rattle.layout.specs.declared.slot.Layout.{Layout}
-use Rattle.layout.specs.Joined.{IsJoined}
-use Rattle.layout.specs.Lawful.{IsLawful}
-use Rattle.layout.specs.Placement.{Placement}
-use Rattle.layout.specs.Placing.{placement_by, placing_refusal}
-use Rattle.layout.specs.Storage.{storage_with}
-use Rattle.layout.specs.Views.{layout_view}
-use Rattle.object_modules.specs.Module.{ObjectModule, length_of}
 use Rattle.object_modules.specs.declared.segment.Segment.TheVariants as segments
-use Rattle.mem80.specs.declared.plan.Plan.{Plan}
-use Rattle.placing.specs.Segments.{HaveStorage}
 use Rattle.placing.specs.Views as of_placement
-use Rattle.sources.specs.declared.read.ReadFault.{ReadFault}
 use Rattle.sources.specs.declared.read.ReadFault.TheVariants as read_faults
-use Rattle.sources.specs.Causes.{HasReadCause}
-use Rattle.locate.specs.Locating.{Absolute}
-use Rattle.generation.specs.Bounded.{AreWithinBounds}
-use Rattle.generation.specs.Typed.{AreSoundlyMade}
-use Rattle.generation.proofs.Programs.{make_the_program, numbers_fit}
-use Rattle.generation.specs.internal.Names.{HaveImage}
 use Rattle.sources.specs.declared.fault.ProgramFault.TheVariants as program_faults
-use Rattle.sources.specs.declared.placed.Placed.{Placed}
-use Rattle.sources.specs.Programs.{AreSourcesOf, IsPlacedBy, IsProgramOf, program_modules, text_of}
-use Rattle.tool.specs.declared.compiled.Compiled.{Compiled}
-use Rattle.tool.specs.declared.fault.ToolFault.{ToolFault}
-use Rattle.tool.specs.declared.fault.ToolFault.TheVariants.{TooManySources, Source, Code, Program, Link, Locate}
 use Rattle.tool.specs.Construction.{Construction, IsConstruction, IsTyped}
-use Rattle.tool.specs.Headline.{DoesWhatItSays}
-use Rattle.tool.specs.Made.{IsImageOfObjects, StartsAsItsSource, code_lengths}
-use Rattle.tool.specs.internal.Merged.{GivesImageOfObjects}
 use Rattle.tool.specs.Refusals.{IsRefusal}
-use Rattle.tool.specs.Sources.{AreWithoutFault, HasCause, IsInOrder, IsWithoutFault, sources_before}
-use Rattle.tool.specs.internal.Compiling.{AreCompiled, HasBuildCause, IsBuiltFrom, module_in}
 use Rattle.tool.specs.internal.Inside.{construction_with}
 use Rattle.tool.proofs.Headline.{declared_bytes_start, does_what_it_says}
 

@@ -1,24 +1,8 @@
 -- What lowering adds for an expression is that expression, and the nodes before stay what they are.
-use Rattle.std.proofs.Common.{◌≡◌, ℕ, zero, suc, ◌+◌, ◌<◌, ◌≤◌, List, [], ◌∷◌, ◌++◌, length, Option, Some, slice_get, refl, sym, ap, ◌∙◌, subst, arith}
-use Rattle.typed_trees.specs.ExpressionTypes.{type_of}
-use Rattle.typed_trees.specs.TypedTrees.{TypedExpression, NumberNode, ValueNode, LocationNode, ListNode, ConversionNode, AssignmentNode, UnaryNode, BinaryNode, CallNode, FunctionNode, ShiftNode, InputNode, TypedReference, PartOf, Subscript, NoSubscript, At, TypedTarget, StoredIn, SentTo, TypedArguments, NoArguments, MoreArguments}
-use Rattle.layout.specs.Storage.{Storage}
-use Rattle.treecode.specs.declared.expression.Expression.{Expression}
-use Rattle.treecode.specs.declared.expression.ExpressionForm.{ExpressionForm}
+use Rattle.treecode.proofs.Prelude.{◌≡◌, ℕ, zero, suc, ◌+◌, ◌<◌, ◌≤◌, List, [], ◌∷◌, ◌++◌, length, Option, Some, slice_get, refl, sym, ap, ◌∙◌, subst, arith, type_of, TypedExpression, NumberNode, ValueNode, LocationNode, ListNode, ConversionNode, AssignmentNode, UnaryNode, BinaryNode, CallNode, FunctionNode, ShiftNode, InputNode, TypedReference, PartOf, Subscript, NoSubscript, At, TypedTarget, StoredIn, SentTo, TypedArguments, NoArguments, MoreArguments, Storage, Expression, ExpressionForm, ExpressionNumber, Range, Reference, IndexNode, Target, IsExpression, IsNode, IsForm, IsNumber, IsValue, IsLocation, IsConstantList, IsConversion, IsEmbedded, IsUnary, IsBinary, IsCallOf, IsFunction, IsShift, IsInput, IsReference, IsPart, IsSubscript, IsAbsent, IsIndex, IsTarget, IsStored, IsSent, AreArguments, AreNone, AreMore, Nodes, KeepTraits, expression_of, element_of, expression_in, form_in, numbers_in, part_of, put_arguments, put_expression, reference_in, subscript_in, target_in, with_both, with_item, Grows, Holds, NumbersRise, PartsAreBelow, ReferenceIsBelow, SubscriptIsBelow, TargetIsBelow}
 use Rattle.treecode.specs.declared.expression.ExpressionForm.TheVariants as forms
-use Rattle.treecode.specs.declared.expression.ExpressionNumber.{ExpressionNumber}
-use Rattle.treecode.specs.declared.lists.Range.{Range}
-use Rattle.treecode.specs.declared.reference.Reference.{Reference}
-use Rattle.treecode.specs.declared.reference.Subscript.{Subscript as IndexNode}
-use Rattle.treecode.specs.declared.reference.Target.{Target}
 use Rattle.treecode.specs.declared.reference.Target.TheVariants as targets
-use Rattle.treecode.specs.Lowered.{IsExpression, IsNode, IsForm, IsNumber, IsValue, IsLocation, IsConstantList, IsConversion, IsEmbedded, IsUnary, IsBinary, IsCallOf, IsFunction, IsShift, IsInput, IsReference, IsPart, IsSubscript, IsAbsent, IsIndex, IsTarget, IsStored, IsSent, AreArguments, AreNone, AreMore}
-use Rattle.treecode.specs.Nodes.{Nodes}
-use Rattle.treecode.specs.Traits.{KeepTraits, expression_of}
-use Rattle.treecode.specs.internal.Adding.{element_of, expression_in, form_in, numbers_in, part_of, put_arguments, put_expression, reference_in, subscript_in, target_in, with_both, with_item}
-use Rattle.treecode.specs.internal.Growth.{Grows, Holds}
 pub use Rattle.treecode.specs.internal.Sound.{AreSound, Leads}
-use Rattle.treecode.specs.internal.Rising.{NumbersRise, PartsAreBelow, ReferenceIsBelow, SubscriptIsBelow, TargetIsBelow}
 use Rattle.treecode.proofs.Grown.{expression_stays, form_stays, holds_with_more, subscript_stays}
 use Rattle.treecode.proofs.SameMemory.{all_same}
 use Rattle.treecode.proofs.TraitsKept.{numbers_rise, own_scalar, traits_kept}

@@ -1,19 +1,6 @@
 -- What lowering adds for the expressions, targets and calls of a statement.
-use Rattle.std.proofs.Common.{◌≡◌, ℕ, suc, ◌+◌, min, max, List, [], ◌∷◌, length, Option, Some, None, slice_get, refl, ap, ◌∙◌, subst, arith}
-use Rattle.trees.specs.declared.declaration.ScalarType.TheVariants.{Byte}
-use Rattle.typed_trees.specs.Charge.{count_of_arguments, height_of, height_of_arguments, height_of_iteration, height_of_optional, height_of_targets}
-use Rattle.typed_trees.specs.TypedTrees.{TypedExpression, TypedTarget, TypedArguments, TypedIteration}
-use Rattle.layout.specs.Storage.{Storage}
-use Rattle.treecode.specs.declared.expression.ExpressionNumber.{ExpressionNumber}
-use Rattle.treecode.specs.declared.lists.Range.{Range}
-use Rattle.treecode.specs.declared.reference.Target.{Target}
-use Rattle.treecode.specs.declared.statement.Iteration.{Iteration}
-use Rattle.treecode.specs.Lowered.{IsCallOf, IsOptional, IsNoValue, IsSomeValue, AreTargets, NoTargets, MoreTargets, IsIteration}
-use Rattle.treecode.specs.Nodes.{Nodes}
-use Rattle.treecode.specs.Traits.{height_of_call}
-use Rattle.treecode.specs.internal.Adding.{arguments_in, expression_in, target_in}
-use Rattle.treecode.specs.internal.Growth.{Grows}
-use Rattle.treecode.specs.internal.Walking.{Walk, goal_with, goals_in, iteration_in, noted, optional_in, put_targets, targets_in, value_in}
+use Rattle.treecode.proofs.Prelude.{◌≡◌, ℕ, suc, ◌+◌, min, max, List, [], ◌∷◌, length, Option, Some, None, slice_get, refl, ap, ◌∙◌, subst, arith, Byte, count_of_arguments, height_of, height_of_iteration, height_of_optional, height_of_targets, TypedExpression, TypedTarget, TypedArguments, TypedIteration, Storage, ExpressionNumber, Range, Target, Iteration, IsCallOf, IsOptional, IsNoValue, IsSomeValue, AreTargets, NoTargets, MoreTargets, IsIteration, Nodes, height_of_call, arguments_in, expression_in, target_in, Grows, Walk, goal_with, goals_in, iteration_in, noted, optional_in, put_targets, targets_in, value_in}
+use Rattle.typed_trees.specs.Charge.{height_of_arguments}
 use Rattle.treecode.proofs.AddedExpressions.{Added, AreSound, AsArguments, AsExpression, AsTarget, Leads, arguments_added, expression_added, found_after, leads_nowhere, leads_on, sound_after, target_added}
 use Rattle.treecode.proofs.Grown.{expression_in_stays, holds_with_more, target_stays}
 use Rattle.treecode.proofs.KeptValues.{form_height, height_kept, target_height}

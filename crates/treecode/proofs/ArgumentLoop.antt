@@ -1,12 +1,6 @@
 -- The arguments of a call, one by one.
-use Rattle.std.proofs.Common.{◌≡◌, ℕ, ◌+◌, ◌<◌, ◌≤◌, List, [], ◌∷◌, ◌++◌, length, drop, get_or, ap, sym, ◌∙◌}
-use Rattle.std.proofs.lemmas.List.{append_assoc, append-nil}
+use Rattle.treecode.proofs.Prelude.{◌≡◌, ℕ, ◌+◌, ◌<◌, ◌≤◌, List, [], ◌∷◌, ◌++◌, length, drop, get_or, ap, sym, ◌∙◌, append_assoc, append-nil, arguments_view, expression_view, Storage, ExpressionNumber, Nodes, expression_in, numbers_in, with_both, with_item}
 use Rattle.typed_trees.specs.declared.expression.TypedExpression.{TypedExpression}
-use Rattle.typed_trees.specs.Views.{arguments_view, expression_view}
-use Rattle.layout.specs.Storage.{Storage}
-use Rattle.treecode.specs.declared.expression.ExpressionNumber.{ExpressionNumber}
-use Rattle.treecode.specs.Nodes.{Nodes}
-use Rattle.treecode.specs.internal.Adding.{expression_in, numbers_in, with_both, with_item}
 use Rattle.treecode.proofs.Items.{at_item, at_end}
 
 -- numbers after others

@@ -1,24 +1,9 @@
 -- The parts of an expression or a statement have lower numbers than itself, and the items of a list stand in the
 -- table: that is what the walk over a body tests at each step.
-use Rattle.std.proofs.Common.{◌≡◌, ℕ, zero, suc, ◌+◌, ◌<◌, ◌≤◌, Bool, List, length, Option, Some, None, slice_get, cond, sym, ap, ◌∙◌, subst, arith}
-use Rattle.std.specs.Option.{option_and_then}
-use Rattle.std.proofs.lemmas.Bool.{lt-ltb}
-use Rattle.std.proofs.lemmas.Option.{same_Some}
-use Rattle.typed_trees.specs.TypedTrees.{TypedExpression, TypedElse, TypedList, TypedProcedure, TypedStatement, TypedStatements}
-use Rattle.layout.specs.Storage.{Storage}
-use Rattle.treecode.specs.declared.expression.Expression.{Expression}
-use Rattle.treecode.specs.declared.expression.ExpressionNumber.{ExpressionNumber}
-use Rattle.treecode.specs.declared.lists.Range.{Range}
-use Rattle.treecode.specs.declared.procedure.TreeProcedure.{TreeProcedure}
-use Rattle.treecode.specs.declared.reference.Reference.{Reference}
+use Rattle.treecode.proofs.Prelude.{◌≡◌, ℕ, zero, suc, ◌+◌, ◌<◌, ◌≤◌, Bool, List, length, Option, Some, None, slice_get, cond, sym, ap, ◌∙◌, subst, arith, option_and_then, lt-ltb, same_Some, TypedExpression, TypedElse, TypedList, TypedProcedure, TypedStatement, TypedStatements, Storage, Expression, ExpressionNumber, Range, TreeProcedure, Reference, Target, Statement, StatementNumber, HasBody, IsExpression, IsNode, IsStatement, IsStatementNode, IsStatementForm, IsLabel, IsNull, IsAssignment, IsCall, IsMove, IsReturn, IsHalt, IsGoto, IsIf, IsDo, IsWhile, IsIterate, IsCase, IsElse, IsNoElse, IsSomeElse, AreStatements, AreNoStatements, AreMoreStatements, IsList, IsListOf, Nodes, item_of}
 use Rattle.treecode.specs.declared.reference.Subscript.{Subscript}
-use Rattle.treecode.specs.declared.reference.Target.{Target}
 use Rattle.treecode.specs.declared.reference.Target.TheVariants as targets
-use Rattle.treecode.specs.declared.statement.Statement.{Statement}
 use Rattle.treecode.specs.declared.statement.Statement.TheVariants as statements
-use Rattle.treecode.specs.declared.statement.StatementNumber.{StatementNumber}
-use Rattle.treecode.specs.Lowered.{HasBody, IsExpression, IsNode, IsStatement, IsStatementNode, IsStatementForm, IsLabel, IsNull, IsAssignment, IsCall, IsMove, IsReturn, IsHalt, IsGoto, IsIf, IsDo, IsWhile, IsIterate, IsCase, IsElse, IsNoElse, IsSomeElse, AreStatements, AreNoStatements, AreMoreStatements, IsList, IsListOf}
-use Rattle.treecode.specs.Nodes.{Nodes, item_of}
 use Rattle.treecode.specs.Queries.{number_bound, reference_bound, subscript_bound, target_bound}
 pub use Rattle.treecode.specs.internal.Rising.{PartsAreBelow, ReferenceIsBelow, SubscriptIsBelow, TargetIsBelow}
 use Rattle.treecode.proofs.AddedExpressions.{parts_below}

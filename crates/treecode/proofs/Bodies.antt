@@ -1,24 +1,6 @@
 -- What stands in procedures is what their trees say.
-use Rattle.std.proofs.Common.{◌≡◌, ◌⊎◌, ℕ, zero, suc, ◌+◌, ◌<◌, ◌≤◌, min, max, true, List, [], ◌∷◌, length, map, set, get_or, Option, Some, None, option_map, slice_get, inl, inr, refl, sym, ap, ◌∙◌, subst, arith, slice_set}
-use Rattle.std.specs.Option.{option_map_or}
-use Rattle.std.proofs.lemmas.Option.{get_or_from_slice_get, slice_get-get_or, slice_get-map, slice_get_within}
-use Rattle.typed_trees.specs.declared.module.TypedProcedure.{TypedProcedure as Procedure}
-use Rattle.typed_trees.specs.Views.{procedure_view}
-use Rattle.typed_trees.specs.Charge.{height_of_list}
-use Rattle.typed_trees.specs.Jumps.{BodyIsSound}
-use Rattle.typed_trees.specs.TypedTrees.{TypedProcedure}
-use Rattle.layout.specs.Storage.{Storage}
-use Rattle.treecode.specs.declared.place.Home.{Home}
-use Rattle.treecode.specs.declared.procedure.TreeProcedure.{TreeProcedure}
+use Rattle.treecode.proofs.Prelude.{◌≡◌, ◌⊎◌, ℕ, zero, suc, ◌+◌, ◌<◌, ◌≤◌, min, max, true, List, [], ◌∷◌, length, map, set, get_or, Option, Some, None, option_map, slice_get, inl, inr, refl, sym, ap, ◌∙◌, subst, arith, slice_set, option_map_or, get_or_from_slice_get, slice_get-get_or, slice_get-map, slice_get_within, Procedure, procedure_view, height_of_list, BodyIsSound, TypedProcedure, Storage, Home, TreeProcedure, AddedList, parameters_of, HasBody, labels_numbered_in_list, reaches_end_of_list, Nodes, Outside, AreComplete, BodiesAreSound, HasHeading, IsBody, MainIsComplete, SameHeading, completed, with_body, AreSound, Leads, Walk, begun, list_in}
 use Rattle.treecode.specs.declared.procedures.Body.{Body}
-use Rattle.treecode.specs.declared.statements.AddedList.{AddedList}
-use Rattle.treecode.specs.Homes.{parameters_of}
-use Rattle.treecode.specs.Lowered.{HasBody, labels_numbered_in_list, reaches_end_of_list}
-use Rattle.treecode.specs.Nodes.{Nodes}
-use Rattle.treecode.specs.internal.Beside.{Outside}
-use Rattle.treecode.specs.internal.Completed.{AreComplete, BodiesAreSound, HasHeading, IsBody, MainIsComplete, SameHeading, completed, with_body}
-use Rattle.treecode.specs.internal.Sound.{AreSound, Leads}
-use Rattle.treecode.specs.internal.Walking.{Walk, begun, list_in}
 use Rattle.treecode.proofs.AddedExpressions.{leads_nowhere, leads_on}
 use Rattle.treecode.proofs.AddedStatements.{ListIs, list_added}
 use Rattle.treecode.proofs.Grown.{list_stays, nothing_found}

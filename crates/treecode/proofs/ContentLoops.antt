@@ -1,10 +1,7 @@
 -- What is added to the contents of a segment, piece by piece.
-use Rattle.std.proofs.Common.{◌≡◌, ℕ, List, [], ◌∷◌, ◌++◌, map, option_map, slice_get, Global, refl, ap, ◌∙◌}
-use Rattle.std.specs.Prelude.{Vec, vec_items}
-use Rattle.std.proofs.lemmas.Option.{slice_get-map}
+use Rattle.treecode.proofs.Prelude.{◌≡◌, ℕ, List, [], ◌∷◌, ◌++◌, map, option_map, slice_get, Global, refl, ap, ◌∙◌, Vec, vec_items, slice_get-map, with_gap}
 use Rattle.treecode.specs.declared.module.Content.{Content}
 use Rattle.treecode.specs.declared.module.Content.TheVariants as contents
-use Rattle.treecode.specs.Contents.{with_gap}
 
 gap_after : (first second : Content) (others : List Content) (count : ℕ)
     → with_gap (first ∷ second ∷ others) count ≡ first ∷ with_gap (second ∷ others) count

@@ -1,11 +1,5 @@
 -- A variable that is added to the frame of a procedure.
-use Rattle.std.proofs.Common.{◌≡◌, ℕ, ◌<◌, ◌≤◌, List, length, map, get_or, min, Option, Some, Result, Ok, Err, IfOk, option_map, slice_get, slice_set, sym, ap, ◌∙◌}
-use Rattle.std.specs.Option.{option_map_or}
-use Rattle.std.proofs.lemmas.List.{map-set}
-use Rattle.std.proofs.lemmas.Option.{slice_get-get_or, slice_get-map, slice_get_past}
-use Rattle.treecode.specs.declared.procedure.FrameVariable.{FrameVariable}
-use Rattle.treecode.specs.declared.procedure.TreeProcedure.{TreeProcedure}
-use Rattle.treecode.specs.internal.Placed.{Heading, heading_of, variable_number, with_variable, with_variable_in}
+use Rattle.treecode.proofs.Prelude.{◌≡◌, ℕ, ◌<◌, ◌≤◌, List, length, map, get_or, min, Option, Some, Result, Ok, Err, IfOk, option_map, slice_get, slice_set, sym, ap, ◌∙◌, option_map_or, map-set, slice_get-get_or, slice_get-map, slice_get_past, FrameVariable, TreeProcedure, Heading, heading_of, variable_number, with_variable, with_variable_in}
 
 pub if_ok_then : {T E : Type 0} (P Q : T → Type 0) (result : Result T E) → ((value : T) → P value → Q value)
     → IfOk result P → IfOk result Q

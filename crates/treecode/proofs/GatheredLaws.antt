@@ -1,15 +1,5 @@
 -- The EXTERNAL names that are gathered are those of the module, and each is found by its number.
-use Rattle.std.proofs.Common.{◌≡◌, ◌⊎◌, ℕ, ◌+◌, ◌<◌, ◌≤◌, Bool, true, false, List, [], ◌∷◌, ◌++◌, length, drop, get_or, Option, Some, None, filter_map, ◌==◌, ◌≢◌, cond, inl, inr, refl, sym, ap, ◌∙◌}
-use Rattle.std.specs.List.{cons_option}
-use Rattle.std.proofs.lemmas.Bool.Decides.{eqb_tells}
-use Rattle.std.proofs.lemmas.List.{append_assoc, append-nil}
-use Rattle.typed_trees.specs.declared.parts.GlobalItem.{GlobalItem}
-use Rattle.typed_trees.specs.declared.parts.GlobalItem.TheVariants.{GlobalObject, GlobalProcedure}
-use Rattle.typed_trees.specs.TypedTrees.{TypedModule}
-use Rattle.treecode.specs.declared.module.ExternalName.{ExternalName}
-use Rattle.treecode.specs.Homes.{external_name, externals_of, latest}
-use Rattle.treecode.specs.internal.Gathered.{Gathered, all_gathered, none_gathered, with_external, with_external_object, with_external_procedure}
-use Rattle.treecode.specs.internal.Numbers.{number_in, with_number}
+use Rattle.treecode.proofs.Prelude.{◌≡◌, ◌⊎◌, ℕ, ◌+◌, ◌<◌, ◌≤◌, Bool, true, false, List, [], ◌∷◌, ◌++◌, length, drop, get_or, Option, Some, None, filter_map, ◌==◌, ◌≢◌, cond, inl, inr, refl, sym, ap, ◌∙◌, cons_option, eqb_tells, append_assoc, append-nil, GlobalItem, GlobalObject, GlobalProcedure, TypedModule, ExternalName, external_name, externals_of, latest, Gathered, all_gathered, none_gathered, with_external, with_external_object, with_external_procedure, number_in, with_number}
 use Rattle.treecode.proofs.Items.{at_item, at_end}
 use Rattle.treecode.proofs.LabelNumbers.{same_number, same_or_other}
 

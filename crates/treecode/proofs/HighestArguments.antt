@@ -1,9 +1,5 @@
 -- The highest of arguments, one after another.
-use Rattle.std.proofs.Common.{◌≡◌, ℕ, suc, ◌+◌, ◌-◌, ◌<◌, max, Option, slice_get, sym, ap, ◌∙◌, arith}
-use Rattle.treecode.specs.declared.expression.ExpressionNumber.{ExpressionNumber}
-use Rattle.treecode.specs.declared.lists.Range.{Range}
-use Rattle.treecode.specs.Nodes.{Nodes, item_of}
-use Rattle.treecode.specs.Traits.{height_of_argument, height_of_arguments}
+use Rattle.treecode.proofs.Prelude.{◌≡◌, ℕ, suc, ◌+◌, ◌-◌, ◌<◌, max, Option, slice_get, sym, ap, ◌∙◌, arith, ExpressionNumber, Range, Nodes, item_of, height_of_argument, height_of_arguments}
 
 -- an item of a range is found in its table
 item_found : (nodes : Nodes) (range : Range) (index : ℕ) → index < range.count

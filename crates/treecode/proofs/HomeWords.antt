@@ -1,10 +1,6 @@
 -- The number where an object lies is one of those of all objects.
-use Rattle.std.proofs.Common.{◌≡◌, ℕ, zero, suc, ◌<◌, List, [], ◌∷◌, length, subst, arith}
-use Rattle.treecode.specs.declared.place.Home.{Home}
+use Rattle.treecode.proofs.Prelude.{◌≡◌, ℕ, zero, suc, ◌<◌, List, [], ◌∷◌, length, subst, arith, Home, Number, home_at, EachIsWord, HomeIsWord}
 use Rattle.treecode.specs.declared.place.Home.TheVariants.{Static}
-use Rattle.treecode.specs.declared.place.Place.TheVariants.{Number}
-use Rattle.treecode.specs.Nodes.{home_at}
-use Rattle.treecode.specs.HomeWords.{EachIsWord, HomeIsWord}
 
 pub word_found : (homes : List Home) (object number : ℕ) → EachIsWord homes
     → home_at homes object ≡ Static (Number number) → number < 65536

@@ -1,25 +1,5 @@
 -- What nodes keep is what the trees that they stand for say.
-use Rattle.std.proofs.Common.{◌≡◌, ℕ, suc, ◌+◌, ◌%◌, min, max, Option, Some, option_map, slice_get, refl, ap, ◌∙◌, arith}
-use Rattle.std.specs.Option.{option_map_or, option_and_then}
-use Rattle.trees.specs.declared.declaration.ScalarType.{ScalarType}
-use Rattle.typed_trees.specs.Charge.{count_of_arguments, height_of, height_of_arguments as height_of_trees, height_of_reference as height_of_part, height_of_subscript as height_of_index, height_of_target as height_of_goal}
-use Rattle.typed_trees.specs.ExpressionTypes.{type_of}
-use Rattle.typed_trees.specs.TypedTrees.{TypedExpression, TypedReference, Subscript, TypedTarget, TypedArguments}
-use Rattle.layout.specs.Storage.{Storage}
-use Rattle.meaning.specs.Values.{result_of_one, shifted}
-use Rattle.treecode.specs.declared.expression.Expression.{Expression}
-use Rattle.treecode.specs.declared.expression.ExpressionForm.{ExpressionForm}
-use Rattle.treecode.specs.declared.expression.ExpressionNumber.{ExpressionNumber}
-use Rattle.treecode.specs.declared.place.Place.{Place}
-use Rattle.treecode.specs.declared.place.Place.TheVariants.{Number}
-use Rattle.treecode.specs.declared.reference.Reference.{Reference}
-use Rattle.treecode.specs.declared.reference.Subscript.{Subscript as IndexNode}
-use Rattle.treecode.specs.declared.reference.Target.{Target}
-use Rattle.treecode.specs.declared.traits.Traits.{Traits}
-use Rattle.treecode.specs.Known.{converted_place, function_of_place, known_distance, known_number, known_place, known_subscript, known_value, place_of_part, result_of_known, shift_of_known}
-use Rattle.treecode.specs.Lowered.{IsExpression, IsNode, IsForm, IsNumber, IsValue, IsLocation, IsConstantList, IsConversion, IsEmbedded, IsUnary, IsBinary, IsCallOf, IsFunction, IsShift, IsInput, IsReference, IsPart, IsSubscript, IsAbsent, IsIndex, IsTarget, IsStored, IsSent, AreArguments, AreNone, AreMore}
-use Rattle.treecode.specs.Nodes.{Nodes, home_at}
-use Rattle.treecode.specs.Traits.{KeepTraits, distance_of, height_at, height_of_arguments, height_of_form, height_of_reference, height_of_subscript, height_of_target, known_at, known_of, no_traits, place_of_reference, traits_at, traits_of}
+use Rattle.treecode.proofs.Prelude.{◌≡◌, ℕ, suc, ◌+◌, ◌%◌, min, max, Option, Some, option_map, slice_get, refl, ap, ◌∙◌, arith, option_map_or, option_and_then, ScalarType, count_of_arguments, height_of, height_of_trees, height_of_part, height_of_index, height_of_goal, type_of, TypedExpression, TypedReference, Subscript, TypedTarget, TypedArguments, Storage, result_of_one, shifted, Expression, ExpressionForm, ExpressionNumber, Place, Number, Reference, IndexNode, Target, Traits, converted_place, function_of_place, known_distance, known_number, known_place, known_subscript, known_value, place_of_part, result_of_known, shift_of_known, IsExpression, IsNode, IsForm, IsNumber, IsValue, IsLocation, IsConstantList, IsConversion, IsEmbedded, IsUnary, IsBinary, IsCallOf, IsFunction, IsShift, IsInput, IsReference, IsPart, IsSubscript, IsAbsent, IsIndex, IsTarget, IsStored, IsSent, AreArguments, AreNone, AreMore, Nodes, home_at, KeepTraits, distance_of, height_at, height_of_arguments, height_of_form, height_of_reference, height_of_subscript, height_of_target, known_at, known_of, no_traits, place_of_reference, traits_at, traits_of}
 use Rattle.treecode.proofs.SameTraits.{both}
 
 -- what is kept with the expression of a number

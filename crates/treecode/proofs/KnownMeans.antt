@@ -1,29 +1,7 @@
 -- What an expression with a known value means: that value, and no change of the state.
-use Rattle.std.proofs.Common.{◌≡◌, ℕ, ◌+◌, ◌-◌, ◌*◌, ◌%◌, ◌<◌, ◌&&◌, List, Option, Some, None, option_map, refl, sym, ap, ◌∙◌, arith, length}
-use Rattle.std.specs.Option.{option_and_then}
-use Rattle.std.proofs.lemmas.Nat.{mul-mod_second}
-use Rattle.trees.specs.declared.declaration.ScalarType.{ScalarType}
-use Rattle.trees.specs.declared.declaration.ScalarType.TheVariants.{Byte, Address}
-use Rattle.trees.specs.declared.expression.BinaryOperator.{BinaryOperator}
+use Rattle.treecode.proofs.Prelude.{◌≡◌, ℕ, ◌+◌, ◌-◌, ◌*◌, ◌%◌, ◌<◌, ◌&&◌, List, Option, Some, None, option_map, refl, sym, ap, ◌∙◌, arith, length, option_and_then, mul-mod_second, ScalarType, Byte, Address, BinaryOperator, UnaryOperator, ShiftFunction, UnaryFunction, Low, High, Double, type_of, type_of_function, type_of_result, TypedExpression, NumberNode, ValueNode, LocationNode, ListNode, ConversionNode, AssignmentNode, UnaryNode, BinaryNode, CallNode, FunctionNode, ShiftNode, InputNode, TypedReference, PartOf, Subscript, NoSubscript, At, Storage, Surroundings, home_of, Displacement, Later, address_in_memory, based_place, computed, displaced, displacement, located, no_displacement, value, State, Outcome, Gave, then_do, as_type, function_of, result_of, result_of_one, shifted, Home, Place, Number, Code, Data, External, place_after, converted_place, function_of_place, known_distance, known_number, known_place, known_subscript, known_value, place_of_part, result_of_known, shift_of_known, home_at}
 use Rattle.trees.specs.declared.expression.BinaryOperator.TheVariants as operators
-use Rattle.trees.specs.declared.expression.UnaryOperator.{UnaryOperator}
-use Rattle.typed_trees.specs.declared.parts.ShiftFunction.{ShiftFunction}
-use Rattle.typed_trees.specs.declared.parts.UnaryFunction.{UnaryFunction}
-use Rattle.typed_trees.specs.declared.parts.UnaryFunction.TheVariants.{Low, High, Double}
-use Rattle.typed_trees.specs.ExpressionTypes.{type_of, type_of_function, type_of_result}
-use Rattle.typed_trees.specs.TypedTrees.{TypedExpression, NumberNode, ValueNode, LocationNode, ListNode, ConversionNode, AssignmentNode, UnaryNode, BinaryNode, CallNode, FunctionNode, ShiftNode, InputNode, TypedReference, PartOf, Subscript, NoSubscript, At}
-use Rattle.layout.specs.Storage.{Storage}
-use Rattle.meaning.specs.Access.{Surroundings, home_of}
-use Rattle.meaning.specs.Meaning.{Displacement, Later, address_in_memory, based_place, computed, displaced, displacement, located, no_displacement, value}
-use Rattle.meaning.specs.Outcomes.{State, Outcome, Gave, then_do}
-use Rattle.meaning.specs.Values.{as_type, function_of, result_of, result_of_one, shifted}
-use Rattle.treecode.specs.declared.place.Home.{Home}
 use Rattle.treecode.specs.declared.place.Home.TheVariants as homes
-use Rattle.treecode.specs.declared.place.Place.{Place}
-use Rattle.treecode.specs.declared.place.Place.TheVariants.{Number, Code, Data, External}
-use Rattle.treecode.specs.Homes.{place_after}
-use Rattle.treecode.specs.Known.{converted_place, function_of_place, known_distance, known_number, known_place, known_subscript, known_value, place_of_part, result_of_known, shift_of_known}
-use Rattle.treecode.specs.Nodes.{home_at}
 use Rattle.treecode.specs.Resolved.{Resolves, HaveOperands, SubscriptHasOperands, PartHasOperands}
 
 -- where something lies is an ADDRESS

@@ -1,6 +1,5 @@
 -- The labels of a list, one by one.
-use Rattle.std.proofs.Common.{◌≡◌, ℕ, suc, ◌+◌, ◌-◌, ◌<◌, ◌≤◌, ap, ◌∙◌, arith}
-use Rattle.treecode.specs.internal.Walking.{Walk, numbered, with_label}
+use Rattle.treecode.proofs.Prelude.{◌≡◌, ℕ, suc, ◌+◌, ◌-◌, ◌<◌, ◌≤◌, ap, ◌∙◌, arith, Walk, numbered, with_label}
 use Rattle.treecode.proofs.SameTraits.{both}
 
 pub labels_begin : (walk : Walk) (first count : ℕ)

@@ -1,11 +1,5 @@
 -- The numbers that the labels of a body get, and that each label in the body has one.
-use Rattle.std.proofs.Common.{◌≡◌, ◌⊎◌, ℕ, zero, suc, ◌+◌, ◌<◌, ◌≤◌, List, [], ◌∷◌, ◌++◌, length, Option, Some, slice_get, slice_index_or, inl, inr, refl, sym, ap, ◌∙◌, subst, arith, Any}
-use Rattle.std.proofs.lemmas.List.{append_assoc, append-nil}
-use Rattle.typed_trees.specs.Jumps.{LabelsOf, IsAmongLabels, LabelsStand, IsNoLabel, ListsStand, ListsStandInStatements, ListsStandInCases, labels_of_list}
-use Rattle.typed_trees.specs.TypedTrees.{TypedStatement, LabelStatement, TypedStatements, NoStatements, MoreStatements}
-use Rattle.treecode.specs.Lowered.{numbers_from}
-use Rattle.treecode.specs.internal.Numbers.{number_in, with_number}
-use Rattle.treecode.specs.internal.Walking.{Walk, numbered, with_label}
+use Rattle.treecode.proofs.Prelude.{◌≡◌, ◌⊎◌, ℕ, zero, suc, ◌+◌, ◌<◌, ◌≤◌, List, [], ◌∷◌, ◌++◌, length, Option, Some, slice_get, slice_index_or, inl, inr, refl, sym, ap, ◌∙◌, subst, arith, Any, append_assoc, append-nil, LabelsOf, IsAmongLabels, LabelsStand, IsNoLabel, ListsStand, ListsStandInStatements, ListsStandInCases, labels_of_list, TypedStatement, LabelStatement, TypedStatements, NoStatements, MoreStatements, numbers_from, number_in, with_number, Walk, numbered, with_label}
 use Rattle.treecode.proofs.AddedExpressions.{last_found, one_more}
 use Rattle.treecode.proofs.Grown.{holds_with_more}
 

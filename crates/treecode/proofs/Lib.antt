@@ -1,3 +1,4 @@
+mod Prelude
 pub mod HighestArguments
 pub mod SameTraits
 pub mod SameMemory

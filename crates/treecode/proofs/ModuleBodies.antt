@@ -1,22 +1,5 @@
 -- The bodies of a module, and its procedures.
-use Rattle.std.proofs.Common.{◌≡◌, ℕ, suc, ◌<◌, List, [], ◌∷◌, length, map, None, Some, option_map, slice_get, refl, sym, ap, ◌∙◌, subst}
-use Rattle.std.specs.Prelude.{vec_items}
-use Rattle.std.proofs.lemmas.List.{length-map}
-use Rattle.std.proofs.lemmas.Option.{none-some, same_Some, slice_get-map, slice_get_within}
-use Rattle.typed_trees.specs.declared.module.TypedProcedure.{TypedProcedure as Procedure}
-use Rattle.typed_trees.specs.TypedTrees.{TypedModule, TypedProcedure}
-use Rattle.typed_trees.specs.Views.{procedure_view}
-use Rattle.layout.specs.Storage.{Storage}
-use Rattle.treecode.specs.declared.expression.Expression.{Expression}
-use Rattle.treecode.specs.declared.lowering.Lowering.{Lowering}
-use Rattle.treecode.specs.declared.module.TreeModule.{TreeModule}
-use Rattle.treecode.specs.declared.procedure.TreeProcedure.{TreeProcedure}
-use Rattle.treecode.specs.Lowered.{IsProcedure}
-use Rattle.treecode.specs.Nodes.{Nodes, nodes_of}
-use Rattle.treecode.specs.internal.Beside.{Outside, beside, outside, walk_of}
-use Rattle.treecode.specs.internal.Completed.{AreComplete, BodiesAreAdded, HasHeading, MainIsComplete, SameHeading}
-use Rattle.treecode.specs.internal.Placed.{Heading, HeadingsAre, heading_at, heading_of, headings_of}
-use Rattle.treecode.specs.internal.Sound.{AreSound}
+use Rattle.treecode.proofs.Prelude.{◌≡◌, ℕ, suc, ◌<◌, List, [], ◌∷◌, length, map, None, Some, option_map, slice_get, refl, sym, ap, ◌∙◌, subst, vec_items, length-map, none-some, same_Some, slice_get-map, slice_get_within, Procedure, TypedModule, TypedProcedure, procedure_view, Storage, Expression, Lowering, TreeModule, TreeProcedure, IsProcedure, Nodes, nodes_of, Outside, beside, outside, walk_of, AreComplete, BodiesAreAdded, HasHeading, MainIsComplete, SameHeading, Heading, HeadingsAre, heading_at, heading_of, headings_of, AreSound}
 use Rattle.treecode.proofs.AddedExpressions.{leads_on}
 use Rattle.treecode.proofs.Bodies.{body_stays}
 use Rattle.treecode.proofs.Grown.{nothing_found}

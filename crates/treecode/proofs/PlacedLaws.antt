@@ -1,23 +1,6 @@
 -- Objects that are placed lie where those of the module do, and the procedures have its headings and frames.
-use Rattle.std.proofs.Common.{◌≡◌, ◌⊎◌, ℕ, zero, suc, ◌+◌, Bool, true, false, List, [], ◌∷◌, ◌++◌, length, map, take, filter, Option, Some, None, option_map, slice_get, slice_set, nat_lt, min, ◌==◌, ◌≢◌, ◌≤◌, cond, is_some, inl, inr, refl, sym, ap, ap₂, subst, ◌∙◌, add-one, arith}
-use Rattle.std.specs.List.{enumerate_from}
-use Rattle.std.specs.Option.{option_map_or}
-use Rattle.std.proofs.lemmas.List.{append_assoc, append-nil, length-append}
-use Rattle.std.proofs.lemmas.Bool.{le-ltb, lt-ltb}
-use Rattle.std.proofs.lemmas.Bool.Decides.{eqb_tells}
-use Rattle.std.proofs.lemmas.List.Elements.{filter-append}
-use Rattle.std.proofs.lemmas.Option.{none-some, slice_get_within}
-use Rattle.std.proofs.Math.Seq.{take-append_seam}
-use Rattle.typed_trees.specs.TypedTrees.{Home as TypedHome, InData, InConstants, Placed, BasedOn, Elsewhere, Nowhere, InFrame, TypedObject, TypedProcedure, TypedModule}
-use Rattle.typed_trees.specs.declared.parts.AtAddress.TheVariants.{AtNumber, AtObject}
-use Rattle.layout.specs.Storage.{Storage}
-use Rattle.treecode.specs.declared.place.Home.{Home}
+use Rattle.treecode.proofs.Prelude.{◌≡◌, ◌⊎◌, ℕ, zero, suc, ◌+◌, Bool, true, false, List, [], ◌∷◌, ◌++◌, length, map, take, filter, Option, Some, None, option_map, slice_get, slice_set, nat_lt, min, ◌==◌, ◌≢◌, ◌≤◌, cond, is_some, inl, inr, refl, sym, ap, ap₂, subst, ◌∙◌, add-one, arith, enumerate_from, option_map_or, append_assoc, append-nil, length-append, le-ltb, lt-ltb, eqb_tells, filter-append, none-some, slice_get_within, take-append_seam, TypedHome, InData, InConstants, Placed, BasedOn, Elsewhere, Nowhere, InFrame, TypedObject, TypedProcedure, TypedModule, AtNumber, AtObject, Storage, Home, FrameVariable, external_place, frame_number, frame_variable, home_of_object, homes_from, homes_of, kind_with, lives_in_frame, numbered_in_frame, Gathered, all_gathered, none_gathered, number_in, Heading, HeadingsAre, PlacedSoFar, all_placed, heading_at, heading_in, headings_after, headings_in, home_in, variable_number, variable_of, with_all_parameters, with_placed, with_variable, with_variable_in}
 use Rattle.treecode.specs.declared.place.Home.TheVariants as homes
-use Rattle.treecode.specs.declared.procedure.FrameVariable.{FrameVariable}
-use Rattle.treecode.specs.Homes.{external_place, frame_number, frame_variable, home_of_object, homes_from, homes_of, kind_with, lives_in_frame, numbered_in_frame}
-use Rattle.treecode.specs.internal.Gathered.{Gathered, all_gathered, none_gathered}
-use Rattle.treecode.specs.internal.Numbers.{number_in}
-use Rattle.treecode.specs.internal.Placed.{Heading, HeadingsAre, PlacedSoFar, all_placed, heading_at, heading_in, headings_after, headings_in, home_in, variable_number, variable_of, with_all_parameters, with_placed, with_variable, with_variable_in}
 use Rattle.treecode.proofs.AddedExpressions.{one_more}
 use Rattle.treecode.proofs.PlacedTables.{objects_known, parameters_known, procedures_known}
 

@@ -1,14 +1,6 @@
 -- What the tables tell that are kept while objects and procedures are placed: which parameter an object is, and which
 -- EXTERNAL name it has.
-use Rattle.std.proofs.Common.{◌≡◌, ℕ, suc, List, [], ◌∷◌, length, Option, Some, None, ◌==◌, cond, is_some, refl, sym, ap, ◌∙◌}
-use Rattle.typed_trees.specs.declared.parts.GlobalItem.{GlobalItem}
-use Rattle.typed_trees.specs.declared.parts.GlobalItem.TheVariants.{GlobalObject, GlobalProcedure}
-use Rattle.typed_trees.specs.TypedTrees.{TypedModule, TypedProcedure}
-use Rattle.treecode.specs.declared.module.ExternalName.{ExternalName}
-use Rattle.treecode.specs.Homes.{external_from, external_name, external_number, is_global_object, is_global_procedure, latest, parameter_from, parameter_number}
-use Rattle.treecode.specs.internal.Gathered.{Gathered, all_gathered, none_gathered, with_external_object, with_external_procedure}
-use Rattle.treecode.specs.internal.Numbers.{number_in, with_number}
-use Rattle.treecode.specs.internal.Placed.{with_all_parameters, with_parameters}
+use Rattle.treecode.proofs.Prelude.{◌≡◌, ℕ, suc, List, [], ◌∷◌, length, Option, Some, None, ◌==◌, cond, is_some, refl, sym, ap, ◌∙◌, GlobalItem, GlobalObject, GlobalProcedure, TypedModule, TypedProcedure, ExternalName, external_from, external_name, external_number, is_global_object, is_global_procedure, latest, parameter_from, parameter_number, Gathered, all_gathered, none_gathered, with_external_object, with_external_procedure, number_in, with_number, with_all_parameters, with_parameters}
 use Rattle.treecode.proofs.AddedExpressions.{one_more}
 use Rattle.treecode.proofs.GatheredLaws.{found_with, latest_group}
 

@@ -1,11 +1,5 @@
 -- The PUBLIC names of a module, one by one.
-use Rattle.std.proofs.Common.{◌≡◌, ℕ, ◌+◌, ◌<◌, ◌≤◌, List, [], ◌∷◌, ◌++◌, length, map, drop, get_or, filter_map, Option, Some, None, option_map, slice_get, ap, sym, ◌∙◌}
-use Rattle.std.specs.List.{cons_option}
-use Rattle.std.proofs.lemmas.List.{append_assoc, append-nil}
-use Rattle.std.proofs.lemmas.Option.{slice_get-map}
-use Rattle.typed_trees.specs.declared.module.TypedObject.{TypedObject as Object}
-use Rattle.typed_trees.specs.declared.module.TypedProcedure.{TypedProcedure as Procedure}
-use Rattle.typed_trees.specs.Views.{object_view, procedure_view}
+use Rattle.treecode.proofs.Prelude.{◌≡◌, ℕ, ◌+◌, ◌<◌, ◌≤◌, List, [], ◌∷◌, ◌++◌, length, map, drop, get_or, filter_map, Option, Some, None, option_map, slice_get, ap, sym, ◌∙◌, cons_option, append_assoc, append-nil, slice_get-map, Object, Procedure, object_view, procedure_view}
 use Rattle.treecode.proofs.Items.{at_item, at_end}
 
 module _ {A B : Type 0} (of : A → Option B) (made total : List B) (items : List A) (i : ℕ)

@@ -1,20 +1,5 @@
 -- A node that is added to its table, seen among all tables.
-use Rattle.std.proofs.Common.{◌≡◌, ℕ, Bool, Result, Ok, Err, OnOk, List, [], ◌∷◌, ◌++◌, length, sym, ap, ◌∙◌}
-use Rattle.trees.specs.declared.declaration.ScalarType.{ScalarType}
-use Rattle.treecode.specs.declared.expression.Expression.{Expression}
-use Rattle.treecode.specs.declared.expression.ExpressionForm.{ExpressionForm}
-use Rattle.treecode.specs.declared.expression.ExpressionNumber.{ExpressionNumber}
-use Rattle.treecode.specs.declared.lists.Range.{Range}
-use Rattle.treecode.specs.declared.lowering.Lowering.{Lowering}
-use Rattle.treecode.specs.declared.module.TreeModule.{TreeModule}
-use Rattle.treecode.specs.Nodes.{Nodes, nodes_of}
-use Rattle.treecode.specs.Traits.{expression_of}
-use Rattle.treecode.specs.internal.Adding.{put_arguments, put_expression}
-use Rattle.treecode.specs.declared.reference.Target.{Target}
-use Rattle.treecode.specs.declared.statement.Statement.{Statement}
-use Rattle.treecode.specs.declared.statement.StatementNumber.{StatementNumber}
-use Rattle.treecode.specs.internal.Beside.{Beside, beside, outside, walk_of, walk_with}
-use Rattle.treecode.specs.internal.Walking.{Items, Walk, put_list, put_statement, put_targets}
+use Rattle.treecode.proofs.Prelude.{◌≡◌, ℕ, Bool, Result, Ok, Err, OnOk, List, [], ◌∷◌, ◌++◌, length, sym, ap, ◌∙◌, ScalarType, Expression, ExpressionForm, ExpressionNumber, Range, Lowering, TreeModule, Nodes, nodes_of, expression_of, put_arguments, put_expression, Target, Statement, StatementNumber, Beside, beside, outside, walk_of, walk_with, Items, Walk, put_list, put_statement, put_targets}
 use Rattle.treecode.proofs.SameTraits.{both}
 
 -- what holds, holds where there is a value

@@ -1,29 +1,11 @@
 -- What a form has in memory, and which registers its code keeps, is the same when nodes are added.
-use Rattle.std.proofs.Common.{◌≡◌, ℕ, ◌<◌, ◌≤◌, ◌&&◌, Bool, false, List, Option, Some, None, is_some, slice_get, refl, sym, ap, ◌∙◌, arith, cond, nat_lt}
-use Rattle.std.specs.Option.{option_map_or, option_and_then}
-use Rattle.trees.specs.declared.declaration.ScalarType.{ScalarType}
+use Rattle.treecode.proofs.Prelude.{◌≡◌, ℕ, ◌<◌, ◌≤◌, ◌&&◌, Bool, false, List, Option, Some, None, is_some, slice_get, refl, sym, ap, ◌∙◌, arith, cond, nat_lt, option_map_or, option_and_then, ScalarType, BinaryOperator, ShiftFunction, ShiftLeft, ShiftRight, RotateLeft, RotateRight, Low, High, Double, Expression, ExpressionForm, ExpressionNumber, Home, Place, Reference, Target, Traits, known_number, Nodes, home_at, byte_after, form_at, has_immediate, high_in_memory, is_direct, is_free_form, is_free_of, is_free_with, is_of_low_byte, keeps_none, keeps_of, keeps_of_address, keeps_of_binary, keeps_of_byte, keeps_of_extended, keeps_of_form, keeps_of_index, keeps_of_part, keeps_of_shift, keeps_of_subscript, keeps_of_value, height_of_form, is_quiet_form, stores_nothing_in_form, known_of, memory_of_form, memory_of_inner, number_at, place_of_reference, same_low_byte, traits_at, traits_of, SubscriptIsBelow, ReferenceIsBelow, TargetIsBelow, PartsAreBelow, NumbersRise}
 use Rattle.trees.specs.declared.declaration.ScalarType.TheVariants as scalars
-use Rattle.trees.specs.declared.expression.BinaryOperator.{BinaryOperator}
 use Rattle.trees.specs.declared.expression.BinaryOperator.TheVariants as operators
-use Rattle.typed_trees.specs.declared.parts.ShiftFunction.{ShiftFunction}
-use Rattle.typed_trees.specs.declared.parts.ShiftFunction.TheVariants.{ShiftLeft, ShiftRight, RotateLeft, RotateRight}
-use Rattle.typed_trees.specs.declared.parts.UnaryFunction.TheVariants.{Low, High, Double}
-use Rattle.treecode.specs.declared.expression.Expression.{Expression}
-use Rattle.treecode.specs.declared.expression.ExpressionForm.{ExpressionForm}
 use Rattle.treecode.specs.declared.expression.ExpressionForm.TheVariants as forms
-use Rattle.treecode.specs.declared.expression.ExpressionNumber.{ExpressionNumber}
-use Rattle.treecode.specs.declared.place.Home.{Home}
-use Rattle.treecode.specs.declared.place.Place.{Place}
-use Rattle.treecode.specs.declared.reference.Reference.{Reference}
 use Rattle.treecode.specs.declared.reference.Subscript.{Subscript}
-use Rattle.treecode.specs.declared.reference.Target.{Target}
 use Rattle.treecode.specs.declared.reference.Target.TheVariants as targets
 use Rattle.treecode.specs.declared.traits.Keeps.{Keeps}
-use Rattle.treecode.specs.declared.traits.Traits.{Traits}
-use Rattle.treecode.specs.Known.{known_number}
-use Rattle.treecode.specs.Nodes.{Nodes, home_at}
-use Rattle.treecode.specs.Traits.{byte_after, form_at, has_immediate, high_in_memory, is_direct, is_free_form, is_free_of, is_free_with, is_of_low_byte, keeps_none, keeps_of, keeps_of_address, keeps_of_binary, keeps_of_byte, keeps_of_extended, keeps_of_form, keeps_of_index, keeps_of_part, keeps_of_shift, keeps_of_subscript, keeps_of_value, height_of_form, is_quiet_form, stores_nothing_in_form, known_of, memory_of_form, memory_of_inner, number_at, place_of_reference, same_low_byte, traits_at, traits_of}
-use Rattle.treecode.specs.internal.Rising.{SubscriptIsBelow, ReferenceIsBelow, TargetIsBelow, PartsAreBelow, NumbersRise}
 use Rattle.treecode.proofs.SameTraits.{both, same_height, same_known, same_place, same_quiet, same_storing, same_traits}
 
 -- what is below a bound is below a greater one

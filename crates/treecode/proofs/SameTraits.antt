@@ -1,23 +1,8 @@
 -- What a form of nodes that there are keeps is the same when others are added after them.
-use Rattle.std.proofs.Common.{◌≡◌, ℕ, zero, suc, ◌+◌, ◌<◌, ◌&&◌, Bool, List, Option, Some, None, option_map, max, min, slice_get, refl, sym, ap, ◌∙◌, subst, arith}
-use Rattle.std.specs.Option.{option_map_or, option_and_then}
-use Rattle.trees.specs.declared.declaration.ScalarType.{ScalarType}
-use Rattle.meaning.specs.Values.{result_of_one, shifted}
-use Rattle.treecode.specs.declared.expression.Expression.{Expression}
-use Rattle.treecode.specs.declared.expression.ExpressionForm.{ExpressionForm}
+use Rattle.treecode.proofs.Prelude.{◌≡◌, ℕ, zero, suc, ◌+◌, ◌<◌, ◌&&◌, Bool, List, Option, Some, None, option_map, max, min, slice_get, refl, sym, ap, ◌∙◌, subst, arith, option_map_or, option_and_then, ScalarType, result_of_one, shifted, Expression, ExpressionForm, ExpressionNumber, Home, Number, Reference, Target, Traits, converted_place, function_of_place, known_distance, known_number, place_of_part, result_of_known, shift_of_known, Nodes, home_at, distance_of, height_of_argument, height_of_arguments, height_of_form, height_of_reference, height_of_subscript, height_of_target, is_quiet_form, known_of, no_traits, place_of_reference, reference_is_quiet, reference_stores_nothing, stores_nothing_in_form, subscript_is_quiet, subscript_stores_nothing, traits_at, SubscriptIsBelow, ReferenceIsBelow, TargetIsBelow, ArgumentsAreBelow, PartsAreBelow}
 use Rattle.treecode.specs.declared.expression.ExpressionForm.TheVariants as forms
-use Rattle.treecode.specs.declared.expression.ExpressionNumber.{ExpressionNumber}
-use Rattle.treecode.specs.declared.place.Home.{Home}
-use Rattle.treecode.specs.declared.place.Place.TheVariants.{Number}
-use Rattle.treecode.specs.declared.reference.Reference.{Reference}
 use Rattle.treecode.specs.declared.reference.Subscript.{Subscript}
-use Rattle.treecode.specs.declared.reference.Target.{Target}
 use Rattle.treecode.specs.declared.reference.Target.TheVariants as targets
-use Rattle.treecode.specs.declared.traits.Traits.{Traits}
-use Rattle.treecode.specs.Known.{converted_place, function_of_place, known_distance, known_number, place_of_part, result_of_known, shift_of_known}
-use Rattle.treecode.specs.Nodes.{Nodes, home_at}
-use Rattle.treecode.specs.Traits.{distance_of, height_of_argument, height_of_arguments, height_of_form, height_of_reference, height_of_subscript, height_of_target, is_quiet_form, known_of, no_traits, place_of_reference, reference_is_quiet, reference_stores_nothing, stores_nothing_in_form, subscript_is_quiet, subscript_stores_nothing, traits_at}
-use Rattle.treecode.specs.internal.Rising.{SubscriptIsBelow, ReferenceIsBelow, TargetIsBelow, ArgumentsAreBelow, PartsAreBelow}
 
 -- two paths under a function of two
 pub both : {A B C : Type 0} (f : A → B → C) {a b : A} {c d : B} → a ≡ b → c ≡ d → f a c ≡ f b d

@@ -1,15 +1,6 @@
 -- Targets and statements in a row, one by one.
-use Rattle.std.proofs.Common.{◌≡◌, ℕ, ◌+◌, ◌<◌, ◌≤◌, Bool, List, [], ◌∷◌, ◌++◌, length, map, drop, get_or, ap, sym, ◌∙◌}
-use Rattle.std.proofs.lemmas.List.{append_assoc, append-nil}
-use Rattle.typed_trees.specs.declared.expression.TypedTarget.{TypedTarget}
-use Rattle.typed_trees.specs.declared.statement.TypedStatement.{TypedStatement}
-use Rattle.typed_trees.specs.Views.{statement_view, statements_view, target_view}
-use Rattle.layout.specs.Storage.{Storage}
-use Rattle.treecode.specs.declared.reference.Target.{Target}
-use Rattle.treecode.specs.declared.statement.StatementNumber.{StatementNumber}
-use Rattle.treecode.specs.declared.statements.AddedStatement.{AddedStatement}
-use Rattle.treecode.specs.internal.Adding.{target_in, with_both, with_item}
-use Rattle.treecode.specs.internal.Walking.{Items, Walk, goal_with, goals_in, items_after, items_in, statement_in}
+use Rattle.treecode.proofs.Prelude.{◌≡◌, ℕ, ◌+◌, ◌<◌, ◌≤◌, Bool, List, [], ◌∷◌, ◌++◌, length, map, drop, get_or, ap, sym, ◌∙◌, append_assoc, append-nil, statement_view, statements_view, target_view, Storage, Target, StatementNumber, AddedStatement, target_in, with_both, with_item, Items, Walk, goal_with, goals_in, items_after, items_in, statement_in}
+use Rattle.typed_trees.specs.{declared.expression.TypedTarget.{TypedTarget}, declared.statement.TypedStatement.{TypedStatement}}
 use Rattle.treecode.proofs.Items.{at_item, at_end}
 
 -- targets after others

@@ -1,19 +1,9 @@
 -- The views of statements that hold lists, and what is added for them, step by step.
-use Rattle.std.proofs.Common.{◌≡◌, Bool, true, Result, IfOk, sym, ap, ◌∙◌, subst, arith}
-use Rattle.typed_trees.specs.declared.statement.TypedStatement.{TypedStatement as Statement, the_lemmas}
+use Rattle.treecode.proofs.Prelude.{◌≡◌, Bool, true, Result, IfOk, sym, ap, ◌∙◌, subst, arith, the_lemmas, TypedExpression, TypedIteration, TypedStatement, TypedStatements, TypedList, DoStatement, WhileStatement, IterateStatement, CaseStatement, expression_view, iteration_view, list_view, statement_view, statements_view, Storage, ExpressionNumber, Iteration, AddedList, AddedStatement, ends_by, number_at, Walk, iteration_in, list_in, put_case, put_do, put_iterate, put_statement, put_while, statement_in, statements_in, value_in}
+use Rattle.typed_trees.specs.declared.statement.TypedStatement.{TypedStatement as Statement}
 use Rattle.typed_trees.specs.declared.statement.TypedStatement.TheVariants as variants
-use Rattle.typed_trees.specs.TypedTrees.{TypedExpression, TypedIteration, TypedStatement, TypedStatements, TypedList, DoStatement, WhileStatement, IterateStatement, CaseStatement}
-use Rattle.typed_trees.specs.Views.{expression_view, iteration_view, list_view, statement_view, statements_view}
 use Rattle.typed_trees.proofs.Views.{statement_rows_are}
-use Rattle.layout.specs.Storage.{Storage}
-use Rattle.treecode.specs.declared.expression.ExpressionNumber.{ExpressionNumber}
-use Rattle.treecode.specs.declared.statement.Iteration.{Iteration}
-use Rattle.treecode.specs.declared.statements.AddedList.{AddedList}
-use Rattle.treecode.specs.declared.statements.AddedStatement.{AddedStatement}
 use Rattle.treecode.specs.declared.statement.Statement.TheVariants as statements
-use Rattle.treecode.specs.Lowered.{ends_by}
-use Rattle.treecode.specs.Traits.{number_at}
-use Rattle.treecode.specs.internal.Walking.{Walk, iteration_in, list_in, put_case, put_do, put_iterate, put_statement, put_while, statement_in, statements_in, value_in}
 
 pub do_view : (p : _) → statement_view (variants.Do p) ≡ DoStatement (list_view p.value)
 do_view p = grind (arith, the_lemmas, statement_rows_are)

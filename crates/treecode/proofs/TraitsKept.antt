@@ -1,14 +1,6 @@
 -- Nodes keep their traits, and their numbers rise, when an expression is added with its own traits.
-use Rattle.std.proofs.Common.{◌≡◌, ◌⊎◌, ℕ, zero, suc, ◌<◌, ◌≤◌, List, [], ◌∷◌, ◌++◌, length, Option, Some, None, slice_get, inl, inr, refl, sym, ap, ◌∙◌, subst, arith}
-use Rattle.std.proofs.lemmas.Option.{slice_get_within}
-use Rattle.trees.specs.declared.declaration.ScalarType.{ScalarType}
-use Rattle.treecode.specs.declared.expression.Expression.{Expression}
-use Rattle.treecode.specs.declared.expression.ExpressionForm.{ExpressionForm}
+use Rattle.treecode.proofs.Prelude.{◌≡◌, ◌⊎◌, ℕ, zero, suc, ◌<◌, ◌≤◌, List, [], ◌∷◌, ◌++◌, length, Option, Some, None, slice_get, inl, inr, refl, sym, ap, ◌∙◌, subst, arith, slice_get_within, ScalarType, Expression, ExpressionForm, ExpressionNumber, Nodes, KeepTraits, expression_of, traits_of, PartsAreBelow, NumbersRise}
 use Rattle.treecode.specs.declared.expression.ExpressionForm.TheVariants as forms
-use Rattle.treecode.specs.declared.expression.ExpressionNumber.{ExpressionNumber}
-use Rattle.treecode.specs.Nodes.{Nodes}
-use Rattle.treecode.specs.Traits.{KeepTraits, expression_of, traits_of}
-use Rattle.treecode.specs.internal.Rising.{PartsAreBelow, NumbersRise}
 use Rattle.treecode.proofs.Grown.{nothing_found}
 use Rattle.treecode.proofs.SameMemory.{all_same, parts_up}
 

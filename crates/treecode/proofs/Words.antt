@@ -1,9 +1,6 @@
 -- Numbers in tree code have the width of a word.
-use Rattle.std.proofs.Common.{◌≡◌, ℕ, zero, suc, ◌<◌, List, [], ◌∷◌, length, Some, slice_get, subst, arith}
-use Rattle.std.proofs.lemmas.Option.{none-some, same_Some}
-use Rattle.treecode.specs.declared.expression.Expression.{Expression}
+use Rattle.treecode.proofs.Prelude.{◌≡◌, ℕ, zero, suc, ◌<◌, List, [], ◌∷◌, length, Some, slice_get, subst, arith, none-some, same_Some, Expression, FormIsWord, FormsAreWords}
 use Rattle.treecode.specs.declared.expression.ExpressionForm.TheVariants as forms
-use Rattle.treecode.specs.internal.Words.{FormIsWord, FormsAreWords}
 
 pub word_found : (expressions : List Expression) (index number : ℕ) (found : Expression)
     → FormsAreWords expressions

@@ -1,34 +1,7 @@
 -- The contents of tree code are the bytes that the segments of the module have before it has its place.
-use Rattle.std.proofs.Common.{◌≡◌, ℕ, zero, suc, ◌+◌, ◌-◌, ◌<◌, ◌≤◌, Bool, true, false, List, [], ◌∷◌, ◌++◌, map, replicate, flat_map, Option, Some, None, refl, ap, sym, subst, ◌∙◌, append-nil, append_assoc, arith}
-use Rattle.std.specs.Prelude.{nat_le, nat_lt, ◌&&◌, ◌==◌, min, All, filter_map, slice_get, sum_by, unwrap_or, if◌then◌else◌}
-use Rattle.std.specs.List.{AllByRecursion, cons_option, enumerate_from}
-use Rattle.std.specs.Option.{option_map_or}
-use Rattle.std.proofs.lemmas.Bool.{eqb-true}
-use Rattle.std.proofs.lemmas.Grind.{flat_map-append}
-use Rattle.std.proofs.lemmas.List.{replicate-append-replicate}
-use Rattle.std.proofs.lemmas.List.Elements.{recursion_from_All}
-use Rattle.std.proofs.lemmas.List.Sums.{sum_by-cons}
-use Rattle.typed_trees.specs.declared.parts.ConstantItem.{ConstantItem}
-use Rattle.typed_trees.specs.declared.parts.ConstantItem.TheVariants.{ConstantObject, ConstantList}
-use Rattle.typed_trees.specs.declared.parts.InitialValue.{InitialValue}
-use Rattle.typed_trees.specs.declared.parts.InitialValue.TheVariants.{ByteValue, WordValue, LocationValue}
-use Rattle.typed_trees.specs.Sizes.{size_of_object}
-use Rattle.typed_trees.specs.Storable.{object_in, numbered_constant, constant_number, size_of_value, bytes_filled}
-use Rattle.typed_trees.specs.TypedTrees.{Home as TypedHome, InData, InConstants, Placed, BasedOn, Elsewhere, Nowhere, InFrame, TypedObject, TypedModule}
-use Rattle.layout.specs.StartingMemory.{values_in}
-use Rattle.layout.specs.Segments.{Location, Absolute, further_on, location_of, SegmentByte, Places, places_of_bytes, places_of_location, places_of_value, places_of_object, places_of_constant, constant_places, places_by_home, data_places}
-use Rattle.layout.specs.Storage.{Storage, bytes_in_data, data_bytes}
-use Rattle.layout.proofs.Segments.{of_all}
-use Rattle.treecode.specs.declared.module.Content.{Content}
-use Rattle.treecode.specs.declared.module.Content.TheVariants.{Byte, Word, Gap}
-use Rattle.treecode.specs.declared.module.ExternalName.{ExternalName as External}
-use Rattle.treecode.specs.declared.place.Home.{Home}
+use Rattle.treecode_laws.proofs.Prelude.{◌≡◌, ℕ, zero, suc, ◌+◌, ◌-◌, ◌<◌, ◌≤◌, Bool, true, false, List, [], ◌∷◌, ◌++◌, map, replicate, flat_map, Option, Some, None, refl, ap, sym, subst, ◌∙◌, append-nil, append_assoc, arith, nat_le, nat_lt, ◌&&◌, ◌==◌, min, All, filter_map, slice_get, sum_by, unwrap_or, if◌then◌else◌, AllByRecursion, cons_option, enumerate_from, option_map_or, eqb-true, flat_map-append, replicate-append-replicate, recursion_from_All, sum_by-cons, ConstantItem, ConstantObject, ConstantList, InitialValue, ByteValue, WordValue, LocationValue, size_of_object, object_in, numbered_constant, constant_number, size_of_value, bytes_filled, TypedHome, InData, InConstants, Placed, BasedOn, Elsewhere, Nowhere, InFrame, TypedObject, TypedModule, values_in, Location, Absolute, further_on, location_of, SegmentByte, Places, places_of_bytes, places_of_location, places_of_value, places_of_object, places_of_constant, constant_places, places_by_home, data_places, Storage, bytes_in_data, data_bytes, of_all, Content, Word, Gap, External, Home, place_from, content_of, bytes_of_value, with_gap, with_gap_if_any, with_object, constant_object, static_object, with_constant, constants_from, constants_of, variables_from, variables_of, static_place, externals_of, homes_of, home_at, location_of_place, places_of_content, places_of_contents, KeepsWord, KeepWords, IsLaidOut}
+use Rattle.treecode.specs.declared.module.Content.TheVariants.{Byte}
 use Rattle.treecode.specs.declared.place.Home.TheVariants as homes
-use Rattle.treecode.specs.Contents.{place_from, content_of, size_of_value as bytes_of_value, with_gap, with_gap_if_any, with_object, constant_object, static_object, with_constant, constants_from, constants_of, variables_from, variables_of, static_place}
-use Rattle.treecode.specs.Homes.{externals_of, homes_of}
-use Rattle.treecode.specs.Nodes.{home_at}
-use Rattle.treecode_laws.specs.internal.Places.{location_of_place, places_of_content, places_of_contents, KeepsWord, KeepWords}
-use Rattle.treecode_laws.specs.Laid.{IsLaidOut}
 use Rattle.treecode_laws.proofs.Homes.{place_further, any_lies}
 use Rattle.treecode_laws.proofs.Slots.{constant_small}
 

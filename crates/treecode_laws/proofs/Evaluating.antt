@@ -1,17 +1,8 @@
 -- What changes nothing, and what adds events at most, one part after another.
-use Rattle.std.proofs.Common.{◌≡◌, ℕ, ◌*◌, ◌+◌, ◌%◌, Bool, true, false, [], ◌∷◌, ◌++◌, Option, Some, None, cond, slice_index, refl, sym, ap, ◌∙◌, subst, append-nil, append_assoc}
-use Rattle.mem80.specs.declared.memory.TheConstants.{MEMORY_SIZE}
-use Rattle.mem80.specs.Memory.{byte_at}
-use Rattle.ports.specs.Events.{read_event}
-use Rattle.ports.specs.Input.{input_value}
-use Rattle.trees.specs.declared.declaration.ScalarType.{ScalarType}
-use Rattle.trees.specs.declared.declaration.ScalarType.TheVariants.{Byte, Address}
-use Rattle.typed_trees.specs.TypedTrees.{Home, InData, InConstants, Placed, BasedOn, Elsewhere, Nowhere, InFrame}
-use Rattle.meaning.specs.declared.reason.Reason.TheVariants.{Byte as UndeclaredByte, Divide}
-use Rattle.meaning.specs.Access.{Place, InMemory, InTheFrame, Surroundings, frame_bytes, is_declared, next_place, place_in, place_of, read_byte, read_scalar}
-use Rattle.meaning.specs.Meaning.{based_place, computed, taken_in}
-use Rattle.meaning.specs.Outcomes.{Program, State, Ended, More, Outside, Outcome, Gave, Stopped, then_do}
-use Rattle.treecode_laws.specs.internal.Evaluations.{Answer, Found, Fails, outcome_of, IsQuiet, OnlyAdds, AddsAtMost, StoresNothing}
+use Rattle.treecode_laws.proofs.Prelude.{◌≡◌, ℕ, ◌*◌, ◌+◌, ◌%◌, Bool, true, false, [], ◌∷◌, ◌++◌, Option, Some, None, cond, slice_index, refl, sym, ap, ◌∙◌, subst, append-nil, append_assoc, MEMORY_SIZE, byte_at, ScalarType, Byte, Address, InData, InConstants, Placed, BasedOn, Elsewhere, Nowhere, InFrame, UndeclaredByte, Divide, InMemory, InTheFrame, Surroundings, frame_bytes, is_declared, next_place, place_in, place_of, read_byte, read_scalar, based_place, computed, taken_in, Program, State, Ended, More, Outside, Outcome, Gave, Stopped, then_do, Answer, Found, Fails, outcome_of, IsQuiet, OnlyAdds, AddsAtMost, StoresNothing}
+use Rattle.ports.specs.{Events.{read_event}, Input.{input_value}}
+use Rattle.typed_trees.specs.TypedTrees.{Home}
+use Rattle.meaning.specs.Access.{Place}
 
 -- goes on with what an answer found
 abbrev and_then : {A B : Type 0} → Answer A → (A → Answer B) → Answer B

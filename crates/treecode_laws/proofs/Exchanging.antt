@@ -1,7 +1,5 @@
 -- Two parts of a run of which the second may be had first.
-use Rattle.std.proofs.Common.{◌≡◌, inl, inr, refl, sym, ap, ◌∙◌, subst}
-use Rattle.meaning.specs.Outcomes.{State, Ended, More, Outside, Outcome, Gave, Stopped, then_do}
-use Rattle.treecode_laws.specs.internal.Evaluations.{Answer, Found, Fails, outcome_of, IsQuiet, OnlyAdds, AddsAtMost, StoresNothing, GoesOutside, AreAlike, AreSame, BothOutside, MayStandFor}
+use Rattle.treecode_laws.proofs.Prelude.{◌≡◌, inl, inr, refl, sym, ap, ◌∙◌, subst, State, Ended, More, Outside, Outcome, Gave, Stopped, then_do, Answer, Found, Fails, outcome_of, IsQuiet, OnlyAdds, AddsAtMost, StoresNothing, GoesOutside, AreAlike, AreSame, BothOutside, MayStandFor}
 use Rattle.treecode_laws.proofs.Evaluating.{quiet_same}
 
 -- each of two outcomes that are alike may stand for the other

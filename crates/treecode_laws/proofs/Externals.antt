@@ -1,15 +1,6 @@
 -- Each EXTERNAL object has its name among the EXTERNAL names of its module.
-use Rattle.std.proofs.Common.{◌≡◌, ℕ, zero, suc, ◌+◌, Bool, true, false, List, [], ◌∷◌, Option, Some, None, refl, ap, sym, ◌∙◌, arith}
-use Rattle.std.specs.Prelude.{◌||◌, ◌==◌, filter_map, is_some, slice_get, unwrap_or, if◌then◌else◌}
-use Rattle.std.specs.List.{cons_option, enumerate_from, list_any}
-use Rattle.std.proofs.lemmas.Bool.{false≢true, eq-eqb, eqb-true}
-use Rattle.std.proofs.lemmas.Option.{none-some}
-use Rattle.typed_trees.specs.declared.parts.GlobalItem.{GlobalItem}
-use Rattle.typed_trees.specs.declared.parts.GlobalItem.TheVariants.{GlobalObject, GlobalProcedure}
-use Rattle.typed_trees.specs.Globals.{shared_object, is_shared, global_object, ListsGlobals}
-use Rattle.typed_trees.specs.TypedTrees.{Home, Elsewhere, TypedObject, TypedModule}
-use Rattle.treecode.specs.declared.module.ExternalName.{ExternalName}
-use Rattle.treecode.specs.Homes.{external_object, external_name, externals_of, is_global_object, latest, external_from, external_number}
+use Rattle.treecode_laws.proofs.Prelude.{◌≡◌, ℕ, zero, suc, ◌+◌, Bool, true, false, List, [], ◌∷◌, Option, Some, None, refl, ap, sym, ◌∙◌, arith, ◌||◌, ◌==◌, filter_map, is_some, slice_get, unwrap_or, if◌then◌else◌, cons_option, enumerate_from, list_any, false≢true, eq-eqb, eqb-true, none-some, GlobalItem, GlobalObject, GlobalProcedure, shared_object, is_shared, global_object, ListsGlobals, Elsewhere, TypedObject, TypedModule, ExternalName, external_object, external_name, externals_of, is_global_object, latest, external_from, external_number}
+use Rattle.typed_trees.specs.TypedTrees.{Home}
 
 -- an index at which a name stands, counted on from some before
 pub record StandsAt (names : List ExternalName) (external : ExternalName) (count number : ℕ) : Type 0 where

@@ -1,28 +1,7 @@
 -- Known and free nodes store nothing.
-use Rattle.std.proofs.Common.{◌≡◌, ◌⊎◌, inl, inr, ℕ, ◌+◌, ◌%◌, true, false, Option, Some, None, is_some, option_map, slice_get, refl, sym, ap, ◌∙◌}
-use Rattle.std.specs.Option.{option_map_or, option_and_then}
-use Rattle.std.proofs.lemmas.Bool.{and_from, and_parts}
-use Rattle.trees.specs.declared.declaration.ScalarType.{ScalarType}
-use Rattle.trees.specs.declared.declaration.ScalarType.TheVariants.{Byte, Address}
-use Rattle.typed_trees.specs.declared.parts.UnaryFunction.TheVariants.{Low, High, Double}
-use Rattle.typed_trees.specs.TypedTrees.{TypedExpression, TypedReference, Subscript}
-use Rattle.layout.specs.Storage.{Storage}
-use Rattle.treecode.specs.declared.expression.Expression.{Expression}
-use Rattle.treecode.specs.declared.expression.ExpressionForm.{ExpressionForm}
+use Rattle.treecode_laws.proofs.Prelude.{◌≡◌, ◌⊎◌, inl, inr, ℕ, ◌+◌, ◌%◌, true, false, Option, Some, None, is_some, option_map, slice_get, refl, sym, ap, ◌∙◌, option_map_or, option_and_then, and_from, and_parts, ScalarType, Byte, Address, Low, High, Double, TypedExpression, TypedReference, Subscript, Storage, Expression, ExpressionForm, ExpressionNumber, Home, Place, Reference, IndexNode, Traits, place_of_part, IsExpression, IsNode, IsForm, IsNumber, IsValue, IsLocation, IsConstantList, IsConversion, IsEmbedded, IsUnary, IsBinary, IsCallOf, IsFunction, IsShift, IsInput, IsReference, IsPart, IsSubscript, IsAbsent, IsIndex, Nodes, home_at, KeepTraits, byte_after, distance_of, free_at, has_immediate, is_direct, is_free_form, is_free_of, is_free_with, is_of_low_byte, known_at, known_of, number_at, place_of_reference, traits_of, node_traits, stores_nothing, part_stores_nothing, index_stores_nothing}
 use Rattle.treecode.specs.declared.expression.ExpressionForm.TheVariants as forms
-use Rattle.treecode.specs.declared.expression.ExpressionNumber.{ExpressionNumber}
-use Rattle.treecode.specs.declared.place.Home.{Home}
 use Rattle.treecode.specs.declared.place.Home.TheVariants as homes
-use Rattle.treecode.specs.declared.place.Place.{Place}
-use Rattle.treecode.specs.declared.reference.Reference.{Reference}
-use Rattle.treecode.specs.declared.reference.Subscript.{Subscript as IndexNode}
-use Rattle.treecode.specs.declared.traits.Traits.{Traits}
-use Rattle.treecode.specs.Known.{place_of_part}
-use Rattle.treecode.specs.Lowered.{IsExpression, IsNode, IsForm, IsNumber, IsValue, IsLocation, IsConstantList, IsConversion, IsEmbedded, IsUnary, IsBinary, IsCallOf, IsFunction, IsShift, IsInput, IsReference, IsPart, IsSubscript, IsAbsent, IsIndex}
-use Rattle.treecode.specs.Nodes.{Nodes, home_at}
-use Rattle.treecode.specs.Traits.{KeepTraits, byte_after, distance_of, free_at, has_immediate, is_direct, is_free_form, is_free_of, is_free_with, is_of_low_byte, known_at, known_of, number_at, place_of_reference, traits_of}
-use Rattle.treecode.proofs.KeptValues.{node_traits}
-use Rattle.treecode_laws.specs.internal.Trees.{stores_nothing, part_stores_nothing, index_stores_nothing}
 use Rattle.treecode_laws.proofs.QuietTrees.{false_is_true}
 
 -- what follows from a value is there only where the value is

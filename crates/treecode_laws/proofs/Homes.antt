@@ -1,30 +1,9 @@
 -- Where tree code has an object is where the object lies before its module has its place.
-use Rattle.std.proofs.Common.{◌≡◌, ℕ, zero, suc, ◌<◌, ◌≤◌, ◌⊎◌, inl, inr, List, [], ◌∷◌, ◌++◌, length, take, Option, Some, None, Ok, refl, ap, sym, subst, ◌∙◌, append-nil, arith}
-use Rattle.std.specs.Prelude.{IsSomeAnd, slice_get, unwrap_or}
-use Rattle.std.specs.List.{AllByRecursion, enumerate_from}
-use Rattle.std.specs.Option.{option_map_or}
-use Rattle.std.proofs.lemmas.List.{append_assoc, length-append, get_or_past}
-use Rattle.std.proofs.lemmas.List.Elements.{recursion_from_All}
-use Rattle.std.proofs.lemmas.Option.{none-some, slice_get_past, unwrap_or-slice_get}
-use Rattle.typed_trees.specs.declared.parts.AtAddress.TheVariants.{AtNumber, AtObject}
-use Rattle.typed_trees.specs.Globals.{ListsGlobals}
-use Rattle.typed_trees.specs.Sizes.{size_of_object}
-use Rattle.typed_trees.specs.Storable.{HasPlace, LooksBack, LooksAtPlace, IsStorable}
-use Rattle.typed_trees.specs.TypedTrees.{Home as TypedHome, InData, InConstants, Placed, BasedOn, Elsewhere, Nowhere, InFrame, TypedObject, TypedModule}
+use Rattle.treecode_laws.proofs.Prelude.{◌≡◌, ℕ, zero, suc, ◌<◌, ◌≤◌, ◌⊎◌, inl, inr, List, [], ◌∷◌, ◌++◌, length, take, Option, Some, None, Ok, refl, ap, sym, subst, ◌∙◌, append-nil, arith, IsSomeAnd, slice_get, unwrap_or, AllByRecursion, enumerate_from, option_map_or, append_assoc, length-append, get_or_past, recursion_from_All, none-some, slice_get_past, unwrap_or-slice_get, AtNumber, AtObject, ListsGlobals, size_of_object, HasPlace, LooksBack, LooksAtPlace, IsStorable, TypedHome, InData, InConstants, Placed, BasedOn, Elsewhere, Nowhere, InFrame, TypedObject, TypedModule, Slot, Location, SegmentStart, Absolute, After, further_on, location_in, location_by_home, locations_after, location_of, Storage, data_bytes, is_object, constants_before, slot_of_object, storage_of, External, Home, Place, static_place, external_number, external_place, externals_of, home_after, home_of_object, homes_from, homes_of, is_global_object, place_after, place_of_slot, home_at, IsLaidOut, location_of_place, IsStatic}
 use Rattle.layout.specs.declared.slot.Segment.TheVariants as segments
-use Rattle.layout.specs.declared.slot.Slot.{Slot}
-use Rattle.layout.specs.Segments.{Location, SegmentStart, ExternalName, Absolute, After, further_on, location_in, location_by_home, locations_after, location_of}
-use Rattle.layout.specs.Storage.{Storage, data_bytes, is_object, constants_before, slot_of_object, storage_of}
-use Rattle.treecode.specs.declared.module.ExternalName.{ExternalName as External}
-use Rattle.treecode.specs.declared.place.Home.{Home}
+use Rattle.layout.specs.Segments.{ExternalName}
 use Rattle.treecode.specs.declared.place.Home.TheVariants as homes
-use Rattle.treecode.specs.declared.place.Place.{Place}
 use Rattle.treecode.specs.declared.place.Place.TheVariants as places
-use Rattle.treecode.specs.Contents.{static_place}
-use Rattle.treecode.specs.Homes.{external_number, external_place, externals_of, home_after, home_of_object, homes_from, homes_of, is_global_object, place_after, place_of_slot}
-use Rattle.treecode.specs.Nodes.{home_at}
-use Rattle.treecode_laws.specs.Laid.{IsLaidOut}
-use Rattle.treecode_laws.specs.internal.Places.{location_of_place, IsStatic}
 use Rattle.treecode_laws.proofs.Externals.{IsNamed, external_is_named}
 use Rattle.treecode_laws.proofs.Slots.{stored, slot_is, data_offset, constant_offset}
 

@@ -1,18 +1,5 @@
 -- That a node is quiet, or stores nothing, is what is said of its tree.
-use Rattle.std.proofs.Common.{◌≡◌, ◌&&◌, Bool, Option, Some, refl, ap, ◌∙◌, slice_get, ℕ}
-use Rattle.typed_trees.specs.TypedTrees.{TypedExpression, TypedReference, Subscript}
-use Rattle.layout.specs.Storage.{Storage}
-use Rattle.treecode.specs.declared.expression.Expression.{Expression}
-use Rattle.treecode.specs.declared.expression.ExpressionForm.{ExpressionForm}
-use Rattle.treecode.specs.declared.reference.Reference.{Reference}
-use Rattle.treecode.specs.declared.reference.Subscript.{Subscript as IndexNode}
-use Rattle.treecode.specs.declared.traits.Traits.{Traits}
-use Rattle.treecode.specs.Lowered.{IsExpression, IsNode, IsForm, IsNumber, IsValue, IsLocation, IsConstantList, IsConversion, IsEmbedded, IsUnary, IsBinary, IsCallOf, IsFunction, IsShift, IsInput, IsReference, IsPart, IsSubscript, IsAbsent, IsIndex}
-use Rattle.treecode.specs.Nodes.{Nodes}
-use Rattle.treecode.specs.Traits.{KeepTraits, is_quiet_form, quiet_at, reference_is_quiet, reference_stores_nothing, stores_nothing_in_form, storing_nothing_at, subscript_is_quiet, subscript_stores_nothing, traits_of}
-use Rattle.treecode.proofs.KeptValues.{node_traits}
-use Rattle.treecode.proofs.SameTraits.{both}
-use Rattle.treecode_laws.specs.internal.Trees.{is_quiet, part_is_quiet, index_is_quiet, stores_nothing, part_stores_nothing, index_stores_nothing}
+use Rattle.treecode_laws.proofs.Prelude.{◌≡◌, ◌&&◌, Bool, Option, Some, refl, ap, ◌∙◌, slice_get, ℕ, TypedExpression, TypedReference, Subscript, Storage, Expression, ExpressionForm, Reference, IndexNode, Traits, IsExpression, IsNode, IsForm, IsNumber, IsValue, IsLocation, IsConstantList, IsConversion, IsEmbedded, IsUnary, IsBinary, IsCallOf, IsFunction, IsShift, IsInput, IsReference, IsPart, IsSubscript, IsAbsent, IsIndex, Nodes, KeepTraits, is_quiet_form, quiet_at, reference_is_quiet, reference_stores_nothing, stores_nothing_in_form, storing_nothing_at, subscript_is_quiet, subscript_stores_nothing, traits_of, node_traits, both, is_quiet, part_is_quiet, index_is_quiet, stores_nothing, part_stores_nothing, index_stores_nothing}
 
 quiet_of_node : (nodes : Nodes) (number : ℕ) (expression : Expression) → KeepTraits nodes
     → slice_get nodes.expressions number ≡ Some expression

@@ -1,3 +1,4 @@
+mod Prelude
 pub mod Externals
 pub mod Slots
 pub mod Homes

@@ -1,27 +1,7 @@
 -- The segments of tree code are those of its module before that has its place.
-use Rattle.std.proofs.Common.{◌≡◌, ℕ, ◌+◌, ◌%◌, ◌<◌, length, Some, None, ap, sym, subst, List, ◌∙◌, arith}
-use Rattle.std.specs.Prelude.{slice_get}
-use Rattle.std.proofs.lemmas.Option.{none-some}
-use Rattle.mem80.specs.declared.memory.TheConstants.{MEMORY_SIZE}
-use Rattle.typed_trees.specs.TypedTrees.{TypedObject, TypedModule}
-use Rattle.typed_trees.specs.Weight.{constant_bytes}
-use Rattle.layout.specs.declared.slot.Segment.TheVariants.{Code, Data}
-use Rattle.layout.specs.Segments.{Places, Target, address_of_location, location_of, places_in}
-use Rattle.layout.specs.Storage.{Storage, data_bytes}
-use Rattle.layout.proofs.Resolving.{further}
-use Rattle.layout.proofs.Segments.{constants_length, data_length}
-use Rattle.treecode.specs.declared.module.ExternalName.{ExternalName}
-use Rattle.treecode.specs.declared.module.TreeModule.{TreeModule}
-use Rattle.treecode.specs.declared.place.Home.{Home}
-use Rattle.treecode.specs.declared.place.Place.{Place}
+use Rattle.treecode_laws.proofs.Prelude.{◌≡◌, ℕ, ◌+◌, ◌%◌, ◌<◌, length, Some, None, ap, sym, subst, List, ◌∙◌, arith, slice_get, none-some, MEMORY_SIZE, TypedObject, TypedModule, constant_bytes, Code, Data, Places, Target, address_of_location, location_of, places_in, Storage, data_bytes, further, constants_length, data_length, ExternalName, TreeModule, Home, Place, constants_of, variables_of, externals_of, homes_of, number_of_place, place_after, IsLowered, home_at, nodes_of, location_of_place, places_of_contents, KeepWords, IsLaidOut}
 use Rattle.treecode.specs.declared.place.Place.TheVariants as places
-use Rattle.treecode.specs.Contents.{constants_of, variables_of}
-use Rattle.treecode.specs.Homes.{externals_of, homes_of, number_of_place, place_after}
-use Rattle.treecode.specs.Lowered.{IsLowered}
-use Rattle.treecode.specs.Nodes.{home_at, nodes_of}
-use Rattle.treecode_laws.specs.internal.Places.{location_of_place, places_of_contents, KeepWords}
 use Rattle.treecode_laws.proofs.Contents.{constants_agree, data_agrees}
-use Rattle.treecode_laws.specs.Laid.{IsLaidOut}
 use Rattle.treecode_laws.proofs.Homes.{LiesAt, object_lies, place_further}
 
 -- the homes and names of tree code are those that its module gives

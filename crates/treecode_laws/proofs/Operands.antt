@@ -1,26 +1,6 @@
 -- Operands of which the second may be evaluated first.
-use Rattle.std.proofs.Common.{◌≡◌, ◌||◌, ◌&&◌, ℕ, true, Option, Some, None, is_some, subst, refl, sym, ap, ◌∙◌, length}
-use Rattle.std.proofs.lemmas.Bool.{and_parts}
-use Rattle.trees.specs.declared.declaration.ScalarType.{ScalarType}
-use Rattle.trees.specs.declared.declaration.ScalarType.TheVariants.{Address}
-use Rattle.typed_trees.specs.ExpressionTypes.{type_of}
-use Rattle.typed_trees.specs.TypedTrees.{TypedExpression, TypedReference}
-use Rattle.layout.specs.Storage.{Storage}
-use Rattle.meaning.specs.Access.{Place as Location, Surroundings}
-use Rattle.meaning.specs.Meaning.{Later, located, value}
-use Rattle.meaning.specs.Outcomes.{State, Outcome, Gave}
-use Rattle.treecode.specs.declared.place.Place.{Place}
-use Rattle.treecode.specs.declared.place.Place.TheVariants.{Number}
-use Rattle.treecode.specs.declared.reference.Reference.{Reference}
-use Rattle.treecode.specs.Known.{known_value}
-use Rattle.treecode.specs.Lowered.{IsExpression, IsReference}
-use Rattle.treecode.specs.Nodes.{Nodes}
-use Rattle.treecode.specs.Resolved.{Resolves, HaveOperands}
-use Rattle.treecode.specs.Traits.{KeepTraits, known_at, quiet_at, reference_is_quiet, storing_nothing_at}
-use Rattle.treecode.proofs.KeptValues.{known_kept}
-use Rattle.treecode.proofs.KnownMeans.{tells}
-use Rattle.treecode_laws.specs.internal.Evaluations.{AreAlike, AreSame, may_exchange}
-use Rattle.treecode_laws.specs.internal.Trees.{stores_nothing}
+use Rattle.treecode_laws.proofs.Prelude.{◌≡◌, ◌||◌, ◌&&◌, ℕ, true, Option, Some, None, is_some, subst, refl, sym, ap, ◌∙◌, length, and_parts, ScalarType, Address, type_of, TypedExpression, TypedReference, Storage, Surroundings, Later, located, value, State, Outcome, Gave, Place, Number, Reference, known_value, IsExpression, IsReference, Nodes, Resolves, HaveOperands, KeepTraits, known_at, quiet_at, reference_is_quiet, storing_nothing_at, known_kept, tells, AreAlike, AreSame, may_exchange, stores_nothing}
+use Rattle.meaning.specs.Access.{Place as Location}
 use Rattle.treecode_laws.proofs.Exchanging.{alike_turned, in_order, exchanged, known_exchanged, known_second, quiet_exchanged}
 use Rattle.treecode_laws.proofs.KeptTraits.{part_quiet, quiet_kept, storing_kept}
 use Rattle.treecode_laws.proofs.QuietTrees.{quiet_location, quiet_value}

@@ -1,20 +1,6 @@
 -- What the PUBLIC names of tree code stand for is where their objects lie.
-use Rattle.std.proofs.Common.{◌≡◌, ℕ, List, Option, Some, refl, ap, ◌∙◌}
-use Rattle.std.specs.Prelude.{slice_get}
-use Rattle.std.specs.Option.{option_and_then}
-use Rattle.typed_trees.specs.declared.parts.GlobalItem.TheVariants.{GlobalObject}
-use Rattle.typed_trees.specs.TypedTrees.{Home as TypedHome, InData, InConstants, Placed, BasedOn, Elsewhere, Nowhere, InFrame, TypedObject, TypedModule}
-use Rattle.layout.specs.Segments.{location_of}
-use Rattle.layout.specs.Storage.{Storage}
-use Rattle.treecode.specs.declared.module.PublicName.{PublicName}
+use Rattle.treecode_laws.proofs.Prelude.{◌≡◌, ℕ, List, Option, Some, refl, ap, ◌∙◌, slice_get, option_and_then, GlobalObject, TypedHome, InData, InConstants, Placed, BasedOn, Elsewhere, Nowhere, InFrame, TypedObject, TypedModule, location_of, Storage, PublicName, Home, Place, public_object, public_item, static_place, externals_of, homes_of, home_at, location_of_place, IsHere, IsLaidOut}
 use Rattle.treecode.specs.declared.module.PublicPlace.TheVariants as public_places
-use Rattle.treecode.specs.declared.place.Home.{Home}
-use Rattle.treecode.specs.declared.place.Place.{Place}
-use Rattle.treecode.specs.Contents.{public_object, public_item, static_place}
-use Rattle.treecode.specs.Homes.{externals_of, homes_of}
-use Rattle.treecode.specs.Nodes.{home_at}
-use Rattle.treecode_laws.specs.internal.Places.{location_of_place, IsHere}
-use Rattle.treecode_laws.specs.Laid.{IsLaidOut}
 use Rattle.treecode_laws.proofs.Homes.{any_lies}
 
 -- a PUBLIC object by its name and by where it lies

@@ -1,13 +1,5 @@
 -- Quiet expressions change nothing, and their values depend on memory and frame alone.
-use Rattle.std.proofs.Common.{◌≡◌, ◌+◌, ◌&&◌, true, false}
-use Rattle.std.proofs.lemmas.Bool.{and_parts, false≢true}
-use Rattle.typed_trees.specs.TypedTrees.{TypedExpression, NumberNode, ValueNode, LocationNode, ListNode, ConversionNode, AssignmentNode, UnaryNode, BinaryNode, CallNode, FunctionNode, ShiftNode, InputNode, TypedReference, PartOf, Subscript, NoSubscript, At}
-use Rattle.meaning.specs.Access.{Surroundings, home_of, read_scalar}
-use Rattle.meaning.specs.Meaning.{Later, address_in_memory, address_of_list, based_place, computed, displaced, displacement, located, no_displacement, value}
-use Rattle.meaning.specs.Outcomes.{State, Gave, then_do}
-use Rattle.meaning.specs.Values.{as_type, function_of, result_of, result_of_one, shifted}
-use Rattle.treecode_laws.specs.internal.Evaluations.{IsQuiet}
-use Rattle.treecode_laws.specs.internal.Trees.{is_quiet, part_is_quiet, index_is_quiet}
+use Rattle.treecode_laws.proofs.Prelude.{◌≡◌, ◌+◌, ◌&&◌, true, false, and_parts, false≢true, TypedExpression, NumberNode, ValueNode, LocationNode, ListNode, ConversionNode, AssignmentNode, UnaryNode, BinaryNode, CallNode, FunctionNode, ShiftNode, InputNode, TypedReference, PartOf, Subscript, NoSubscript, At, Surroundings, home_of, read_scalar, Later, address_in_memory, address_of_list, based_place, computed, displaced, displacement, located, no_displacement, value, State, Gave, then_do, as_type, function_of, result_of, result_of_one, shifted, IsQuiet, is_quiet, part_is_quiet, index_is_quiet}
 use Rattle.treecode_laws.proofs.Evaluating.{quiet_base, quiet_computed, quiet_gave, quiet_scalar, quiet_then}
 
 pub false_is_true : {A : Type 0} → false ≡ true → A

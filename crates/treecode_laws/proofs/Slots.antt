@@ -1,22 +1,5 @@
 -- What the storage of a module says of the slots of its objects.
-use Rattle.std.proofs.Common.{◌≡◌, ℕ, zero, suc, ◌+◌, ◌%◌, ◌≤◌, Bool, true, false, cond, List, [], ◌∷◌, map, take, Option, Some, None, Ok, Err, refl, ap, sym, subst, ◌∙◌, arith}
-use Rattle.std.specs.Prelude.{nat_le, ◌&&◌, not, slice_get, slice_index_or, sum_by, take_while, unwrap_or, if◌then◌else◌}
-use Rattle.std.specs.List.{enumerate_from, list_all}
-use Rattle.std.specs.Option.{option_map_or}
-use Rattle.std.proofs.lemmas.Bool.{leb-true}
-use Rattle.std.proofs.lemmas.List.Sums.{sum_by-cons, sum_by-take-le, take_while-cons}
-use Rattle.std.proofs.lemmas.Option.{none-some, get_or_from_slice_get}
-use Rattle.typed_trees.specs.declared.parts.ConstantItem.{ConstantItem}
-use Rattle.typed_trees.specs.declared.parts.InitialValue.{InitialValue}
-use Rattle.typed_trees.specs.Sizes.{size_of_object}
-use Rattle.typed_trees.specs.TypedTrees.{InConstants, TypedObject, TypedModule}
-use Rattle.typed_trees.specs.Weight.{size_of_constant, constant_bytes}
-use Rattle.layout.specs.declared.fault.Fault.TheVariants.{DataTooLarge, ConstantsTooLarge}
-use Rattle.layout.specs.declared.slot.Slot.{Slot}
-use Rattle.layout.specs.declared.slot.TheConstants.{SEGMENT_LIMIT}
-use Rattle.layout.specs.Storage.{Storage, bytes_in_data, data_bytes, bytes_in_constants, fits_as_object, fits_as_list, constants_before, is_list, slot_of_object, slot_of_list, storage_of, storage_with}
-use Rattle.treecode.specs.Known.{offset_of_list}
-use Rattle.treecode_laws.specs.Laid.{IsStored}
+use Rattle.treecode_laws.proofs.Prelude.{◌≡◌, ℕ, zero, suc, ◌+◌, ◌%◌, ◌≤◌, Bool, true, false, cond, List, [], ◌∷◌, map, take, Option, Some, None, Ok, Err, refl, ap, sym, subst, ◌∙◌, arith, nat_le, ◌&&◌, not, slice_get, slice_index_or, sum_by, take_while, unwrap_or, if◌then◌else◌, enumerate_from, list_all, option_map_or, leb-true, sum_by-cons, sum_by-take-le, take_while-cons, none-some, get_or_from_slice_get, ConstantItem, InitialValue, size_of_object, InConstants, TypedObject, TypedModule, size_of_constant, constant_bytes, DataTooLarge, ConstantsTooLarge, Slot, SEGMENT_LIMIT, Storage, bytes_in_data, data_bytes, bytes_in_constants, fits_as_object, fits_as_list, constants_before, is_list, slot_of_object, slot_of_list, storage_of, storage_with, offset_of_list, IsStored}
 
 pub stored :
     (typed : TypedModule) (storage : Storage) → storage_of typed ≡ Ok storage → IsStored typed storage

@@ -1,13 +1,5 @@
 -- Expressions that store nothing add events at most.
-use Rattle.std.proofs.Common.{◌≡◌, ◌+◌, ◌&&◌, true}
-use Rattle.std.proofs.lemmas.Bool.{and_parts}
-use Rattle.typed_trees.specs.TypedTrees.{TypedExpression, NumberNode, ValueNode, LocationNode, ListNode, ConversionNode, AssignmentNode, UnaryNode, BinaryNode, CallNode, FunctionNode, ShiftNode, InputNode, TypedReference, PartOf, Subscript, NoSubscript, At}
-use Rattle.meaning.specs.Access.{Surroundings, home_of, read_scalar}
-use Rattle.meaning.specs.Meaning.{Later, address_in_memory, based_place, computed, displaced, displacement, located, value}
-use Rattle.meaning.specs.Outcomes.{State, Gave, then_do}
-use Rattle.meaning.specs.Values.{as_type, function_of, result_of, result_of_one, shifted}
-use Rattle.treecode_laws.specs.internal.Evaluations.{StoresNothing}
-use Rattle.treecode_laws.specs.internal.Trees.{stores_nothing, part_stores_nothing, index_stores_nothing}
+use Rattle.treecode_laws.proofs.Prelude.{◌≡◌, ◌+◌, ◌&&◌, true, and_parts, TypedExpression, NumberNode, ValueNode, LocationNode, ListNode, ConversionNode, AssignmentNode, UnaryNode, BinaryNode, CallNode, FunctionNode, ShiftNode, InputNode, TypedReference, PartOf, Subscript, NoSubscript, At, Surroundings, home_of, read_scalar, Later, address_in_memory, based_place, computed, displaced, displacement, located, value, State, Gave, then_do, as_type, function_of, result_of, result_of_one, shifted, StoresNothing, stores_nothing, part_stores_nothing, index_stores_nothing}
 use Rattle.treecode_laws.proofs.Evaluating.{adds_nothing, quiet_adds_nothing, quiet_base, quiet_computed, quiet_scalar, storing_nothing_then, takes_in}
 use Rattle.treecode_laws.proofs.QuietTrees.{false_is_true}
 

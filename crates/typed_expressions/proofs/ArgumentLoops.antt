@@ -1,21 +1,6 @@
 -- Arguments that are typed one after another.
-use Rattle.std.proofs.Common.{◌≡◌, ℕ, suc, ◌+◌, ◌<◌, ◌≤◌, List, [], ◌∷◌, ◌++◌, length, drop, get_or, slice_get, zero, Option, Ok, refl, ap, sym, ◌∙◌, add-one, arith}
-use Rattle.std.proofs.lemmas.List.{length-append}
-use Rattle.trees.specs.declared.expression.Expression.{Expression}
-use Rattle.trees.specs.Views.{argument_trees, expression_tree}
-use Rattle.typed_trees.specs.declared.expression.TypedExpression.{TypedExpression as Typed}
-use Rattle.typed_trees.specs.TypedTrees.{TypedExpression, TypedArguments, NoArguments, MoreArguments as More, Constants}
-use Rattle.typed_trees.specs.Views.{arguments_view, expression_view}
-use Rattle.typing.specs.Checks.{Checked}
-use Rattle.typing.specs.References.{Known}
-use Rattle.typing.specs.Expressions.{arguments, expression}
-use Rattle.typing.specs.Nodes.{arguments_as}
-use Rattle.typing.specs.declared.fault.Fault.{Fault}
-use Rattle.typing.specs.Results.{FailsBy, in_front as put_in_front}
-use Rattle.typing.proofs.Loops.{made_goes_on, made_fails, made_ended}
-use Rattle.typed_expressions.specs.internal.Fronts.{in_front}
-use Rattle.typed_expressions.specs.internal.Given.{as_given}
-use Rattle.trees.specs.declared.declaration.ScalarType.{ScalarType}
+use Rattle.typed_expressions.proofs.Prelude.{◌≡◌, ℕ, suc, ◌+◌, ◌<◌, ◌≤◌, List, [], ◌∷◌, ◌++◌, length, drop, get_or, slice_get, zero, Option, Ok, refl, ap, sym, ◌∙◌, add-one, arith, length-append, Expression, argument_trees, expression_tree, Typed, TypedArguments, More, Constants, arguments_view, expression_view, Checked, Known, arguments, expression, arguments_as, Fault, FailsBy, put_in_front, made_goes_on, made_fails, made_ended, in_front, as_given, ScalarType}
+use Rattle.typed_trees.specs.TypedTrees.{TypedExpression, NoArguments}
 
 pub in_front_end : (made : List Typed) → in_front made NoArguments ≡ arguments_view made
 in_front_end [] = refl

@@ -1,21 +1,7 @@
 -- Destinations that are typed one after another.
-use Rattle.std.proofs.Common.{◌≡◌, ℕ, ◌+◌, ◌<◌, ◌≤◌, List, [], ◌∷◌, ◌++◌, length, map, drop, get_or, Option, Ok, refl, ap, sym, ◌∙◌}
-use Rattle.trees.specs.declared.expression.Reference.{Reference}
-use Rattle.trees.specs.Views.{reference_tree}
-use Rattle.typed_trees.specs.TypedTrees.{Constants}
-use Rattle.typing.specs.declared.fault.Fault.{Fault}
-use Rattle.typing.specs.Checks.{Checked, ◌>>=◌}
-use Rattle.typing.specs.Nodes.{Destination}
-use Rattle.typing.specs.References.{destination_of}
-use Rattle.typing.specs.Expressions.{given_reference}
-use Rattle.typing.specs.Statements.{destinations}
-use Rattle.typing.specs.Results.{FailsBy, in_front}
-use Rattle.typing.proofs.Loops.{made_goes_on, made_fails, made_ended, fails_more}
-use Rattle.typed_expressions.specs.declared.known.Known.{Known as CodeKnown}
+use Rattle.typed_expressions.proofs.Prelude.{◌≡◌, ℕ, ◌+◌, ◌<◌, ◌≤◌, List, [], ◌∷◌, ◌++◌, length, map, drop, get_or, Option, Ok, refl, ap, sym, ◌∙◌, Reference, reference_tree, Constants, Fault, Checked, ◌>>=◌, Destination, destination_of, given_reference, destinations, FailsBy, made_goes_on, made_fails, made_ended, fails_more, CodeKnown, after_destinations, given, destination_view, known_view}
+use Rattle.typing.specs.Results.{in_front}
 use Rattle.typed_expressions.specs.declared.known.Destination.{Destination as CodeDestination}
-use Rattle.typed_expressions.specs.internal.Fronts.{after_destinations}
-use Rattle.typed_expressions.specs.internal.Given.{given}
-use Rattle.typed_expressions.specs.Views.{destination_view, known_view}
 use Rattle.typed_expressions.proofs.GivenParts.{given_is}
 
 -- one more destination at the end of those that are made

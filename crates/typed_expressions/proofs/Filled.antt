@@ -1,26 +1,6 @@
 -- Scalars filled by one value after another.
-use Rattle.std.proofs.Common.{◌≡◌, ℕ, ◌+◌, ◌-◌, ◌/◌, ◌<◌, ◌≤◌, List, [], ◌∷◌, ◌++◌, length, Ok, Err, Option, Some, refl, ap, sym, ◌∙◌, append_assoc, arith, length-append, map, nat_le, nat_lt, subst, true, tests, rules, drop, get_or}
-use Rattle.std.specs.List.{repeat}
-use Rattle.std.proofs.Math.Nat.{add-div_right}
-use Rattle.trees.specs.declared.declaration.ScalarType.{ScalarType}
-use Rattle.trees.specs.declared.declaration.ScalarType.TheVariants.{Byte, Address}
-use Rattle.trees.specs.declared.declaration.Restricted.{Restricted}
-use Rattle.trees.specs.Trees.{RestrictedTree, OriginTree, ConstantOrigin, LocationOrigin, OffsetTree, NumberConstant, StringConstant, StringTree}
-use Rattle.trees.specs.Views.{restricted_tree}
-use Rattle.typed_trees.specs.declared.parts.InitialValue.{InitialValue}
-use Rattle.typed_trees.specs.declared.parts.InitialValue.TheVariants.{ByteValue, WordValue, LocationValue}
-use Rattle.typed_trees.specs.Sizes.{scalars_of_element, scalars_of_elements}
-use Rattle.typed_trees.specs.TypedTrees.{ObjectType}
-use Rattle.typing.specs.declared.fault.Cause.TheVariants.{WrongConstant}
-use Rattle.typing.specs.Checks.{Checked, ◌>>=◌, require, found}
-use Rattle.typing.specs.Constants.{number_of_characters}
-use Rattle.typing.specs.Filling.{Filled, RestrictedValue, ANumber, FromObject, OtherModulesToo, AsListed, restricted_value, line_of_origin, filled_with, and_before, fill, fill_characters, fill_scalar, fill_string, fill_value, contents, contents_as_listed, enough_elements, elements_for}
-use Rattle.typing.specs.References.{Known}
-use Rattle.typing.specs.Results.{FailsBy}
-use Rattle.typing.specs.declared.fault.Fault.{Fault}
-use Rattle.typed_expressions.specs.internal.Fillings.{onto, values_filled, elements_listed}
+use Rattle.typed_expressions.proofs.Prelude.{◌≡◌, ℕ, ◌+◌, ◌-◌, ◌/◌, ◌<◌, ◌≤◌, List, [], ◌∷◌, ◌++◌, length, Ok, Err, Option, Some, refl, ap, sym, ◌∙◌, append_assoc, arith, length-append, map, nat_le, nat_lt, subst, true, tests, rules, drop, get_or, repeat, add-div_right, ScalarType, Byte, Address, Restricted, RestrictedTree, OriginTree, ConstantOrigin, LocationOrigin, OffsetTree, NumberConstant, StringConstant, StringTree, restricted_tree, InitialValue, ByteValue, WordValue, LocationValue, scalars_of_element, scalars_of_elements, ObjectType, WrongConstant, Checked, ◌>>=◌, require, found, number_of_characters, Filled, RestrictedValue, ANumber, FromObject, OtherModulesToo, AsListed, restricted_value, line_of_origin, filled_with, and_before, fill, fill_characters, fill_scalar, fill_string, fill_value, contents, contents_as_listed, enough_elements, elements_for, Known, FailsBy, Fault, onto, values_filled, elements_listed, fails_more, then_then, state_ended, state_fails}
 use Rattle.typed_expressions.proofs.LeftScalars.{repeat_empty}
-use Rattle.typing.proofs.Loops.{fails_more, then_then, state_ended, state_fails}
 
 -- values and then more of them
 abbrev joined : Filled → Filled → Filled

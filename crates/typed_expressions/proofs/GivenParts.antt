@@ -1,16 +1,6 @@
 -- References and arguments as the code has them.
-use Rattle.std.proofs.Common.{◌≡◌, suc, List, [], ◌∷◌, length, false, refl, ap, ◌∙◌, arith}
-use Rattle.trees.specs.declared.expression.Expression.{Expression}
-use Rattle.trees.specs.declared.expression.Reference.{Reference, Reference', out-Reference, None', Some', the_lemmas}
-use Rattle.trees.specs.declared.identifier.Identifier.{Identifier}
-use Rattle.trees.specs.Trees.{ReferenceLeaf, ReferenceTo, MemberTree, NoArguments, MoreArguments}
-use Rattle.trees.specs.Views.{argument_trees, reference_tree}
+use Rattle.typed_expressions.proofs.Prelude.{◌≡◌, suc, List, [], ◌∷◌, length, false, refl, ap, ◌∙◌, arith, Expression, Reference, Reference', out-Reference, None', Some', the_lemmas, Identifier, ReferenceLeaf, ReferenceTo, MemberTree, NoArguments, MoreArguments, argument_trees, reference_tree, CodeKnown, number_of_arguments, given_reference, given, selector_tree, plain_tree, is_plain, known_view}
 use Rattle.trees.proofs.Views.{row_trees_are}
-use Rattle.typed_expressions.specs.declared.known.Known.{Known as CodeKnown}
-use Rattle.typing.specs.References.{number_of_arguments}
-use Rattle.typing.specs.Expressions.{given_reference}
-use Rattle.typed_expressions.specs.internal.Given.{given, selector_tree, plain_tree, is_plain}
-use Rattle.typed_expressions.specs.Views.{known_view}
 
 -- how many arguments there are
 pub count_of_arguments : (arguments : List Expression) → number_of_arguments (argument_trees arguments) ≡ length arguments

@@ -1,16 +1,7 @@
 -- The scalars that are left of an object.
-use Rattle.std.proofs.Common.{◌≡◌, ℕ, suc, zero, ◌+◌, ◌-◌, ◌<◌, ◌≤◌, List, [], ◌∷◌, ◌++◌, length, drop, replicate, Some, None, refl, ap, sym, ◌∙◌, add-one, arith, length-append, append_assoc}
-use Rattle.std.specs.List.{slice_get, flat_map, repeat}
-use Rattle.std.proofs.Math.ListN.{drop_of_length-le}
-use Rattle.std.proofs.lemmas.List.{drop_more, length-replicate}
-use Rattle.std.proofs.lemmas.List.Folds.{flat_map-map}
-use Rattle.std.proofs.lemmas.Option.{get_or_from_slice_get, slice_get_within, slice_get-get_or}
-use Rattle.trees.specs.declared.declaration.ScalarType.TheVariants.{Byte}
-use Rattle.typed_trees.specs.TypedTrees.{ObjectType, ScalarObject, StructureObject}
-use Rattle.typed_trees.specs.Sizes.{scalars_of_element, scalars_of_elements}
+use Rattle.typed_expressions.proofs.Prelude.{◌≡◌, ℕ, suc, zero, ◌+◌, ◌-◌, ◌<◌, ◌≤◌, List, [], ◌∷◌, ◌++◌, length, drop, replicate, Some, None, refl, ap, sym, ◌∙◌, add-one, arith, length-append, append_assoc, slice_get, flat_map, repeat, drop_of_length-le, drop_more, length-replicate, flat_map-map, get_or_from_slice_get, slice_get_within, slice_get-get_or, Byte, ObjectType, ScalarObject, StructureObject, scalars_of_element, scalars_of_elements, runs_of, run_of_member, scalars_of_run, runs_from, left_of}
 use Rattle.typed_expressions.specs.declared.scalars.Run.{Run}
 use Rattle.typed_expressions.specs.declared.scalars.Scalars.{Scalars}
-use Rattle.typed_expressions.specs.internal.Fillings.{runs_of, run_of_member, scalars_of_run, runs_from, left_of}
 
 -- an element as its runs
 pub element_runs : (t : ObjectType) → runs_from t 0 ≡ scalars_of_element t

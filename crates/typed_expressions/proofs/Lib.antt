@@ -1,3 +1,4 @@
+mod Prelude
 pub mod LeftScalars
 pub mod Filled
 pub mod Subscripts

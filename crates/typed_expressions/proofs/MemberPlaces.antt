@@ -1,8 +1,5 @@
 -- A member of a structure, from what the code tells of it.
-use Rattle.std.proofs.Common.{◌≡◌, ℕ, Option, None, Some, ap, arith, min}
-use Rattle.std.specs.Option.{option_map}
-use Rattle.typed_trees.specs.declared.members.FoundMember.{FoundMember}
-use Rattle.typed_trees.specs.Sizes.{capped}
+use Rattle.typed_expressions.proofs.Prelude.{◌≡◌, ℕ, Option, None, Some, ap, arith, min, option_map, FoundMember, capped}
 
 -- where it does not begin further on than the code tells, it is what the code tells
 pub uncapped : (found : FoundMember) (place : Option FoundMember) → Some found ≡ option_map capped place → (found.offset ≡ 4294967295 → ⊥) → place ≡ Some found

@@ -1,22 +1,5 @@
 -- The operands of built-in functions.
-use Rattle.std.proofs.Common.{◌≡◌, ℕ, List, [], ◌∷◌, ◌++◌, length, false, refl, ap, sym, ◌∙◌, arith}
-use Rattle.std.proofs.lemmas.List.{length-append}
-use Rattle.trees.specs.Trees.{ConstantLeaf, ReferenceLeaf, LocationLeaf, ListLeaf, ParenthesizedNode, AssignmentNode, UnaryNode, BinaryNode, ReferenceTo, ArgumentTrees, NoArguments, MoreArguments}
-use Rattle.trees.specs.declared.expression.Expression.{Expression}
-use Rattle.trees.specs.declared.identifier.Identifier.{Identifier}
-use Rattle.trees.specs.Trees.{MemberOf}
-use Rattle.trees.specs.Views.{argument_trees}
-use Rattle.typed_trees.specs.declared.expression.TypedExpression.{TypedExpression}
-use Rattle.typed_trees.specs.declared.parts.Measure.{Measure}
-use Rattle.typed_trees.specs.declared.parts.ShiftFunction.{ShiftFunction}
-use Rattle.typed_trees.specs.declared.parts.UnaryFunction.{UnaryFunction}
-use Rattle.typed_trees.specs.TypedTrees.{TypedObject}
-use Rattle.typed_trees.specs.Views.{arguments_view}
-use Rattle.typing.specs.declared.fault.Cause.TheVariants.{WrongUse}
-use Rattle.typing.specs.Checks.{refuse}
-use Rattle.typing.specs.References.{Known}
-use Rattle.typing.specs.Functions.{function_of, shift_of, measured_member, measurement}
-use Rattle.typed_expressions.specs.internal.Given.{is_plain}
+use Rattle.typed_expressions.proofs.Prelude.{◌≡◌, ℕ, List, [], ◌∷◌, ◌++◌, length, false, refl, ap, sym, ◌∙◌, arith, length-append, ConstantLeaf, ReferenceLeaf, LocationLeaf, ListLeaf, ParenthesizedNode, AssignmentNode, UnaryNode, BinaryNode, ReferenceTo, ArgumentTrees, NoArguments, MoreArguments, Expression, Identifier, MemberOf, argument_trees, TypedExpression, Measure, ShiftFunction, UnaryFunction, TypedObject, arguments_view, WrongUse, refuse, Known, function_of, shift_of, measured_member, measurement, is_plain}
 
 pub no_operand : (function : UnaryFunction) (line : ℕ) (values : List TypedExpression) → (length values ≡ 1 → ⊥) → function_of function line (arguments_view values) ≡ refuse WrongUse line
 no_operand function line [] other = refl

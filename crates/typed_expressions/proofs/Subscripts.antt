@@ -1,15 +1,5 @@
 -- Arguments in lists, where there are too many of them or none.
-use Rattle.std.proofs.Common.{◌≡◌, ℕ, ◌<◌, List, [], ◌∷◌, length, Option, None, Some, refl, ap, slice_get, arith}
-use Rattle.trees.specs.Trees.{NumberConstant, StringConstant, ConstantLeaf, ReferenceLeaf, LocationLeaf, ListLeaf, ParenthesizedNode, AssignmentNode, UnaryNode, BinaryNode, ArgumentTrees, NoArguments, MoreArguments}
-use Rattle.trees.specs.declared.expression.Expression.{Expression}
-use Rattle.trees.specs.Views.{argument_trees, expression_tree}
-use Rattle.typed_trees.specs.declared.expression.TypedExpression.{TypedExpression}
-use Rattle.typed_trees.specs.TypedTrees.{NoSubscript}
-use Rattle.typed_trees.specs.Views.{arguments_view}
-use Rattle.typing.specs.declared.fault.Cause.TheVariants.{WrongUse}
-use Rattle.typing.specs.Checks.{refuse}
-use Rattle.typing.specs.References.{subscript_of, port_of}
-use Rattle.typed_expressions.specs.internal.Given.{only_tree}
+use Rattle.typed_expressions.proofs.Prelude.{◌≡◌, ℕ, ◌<◌, List, [], ◌∷◌, length, Option, None, Some, refl, ap, slice_get, arith, NumberConstant, StringConstant, ConstantLeaf, ReferenceLeaf, LocationLeaf, ListLeaf, ParenthesizedNode, AssignmentNode, UnaryNode, BinaryNode, ArgumentTrees, NoArguments, MoreArguments, Expression, argument_trees, expression_tree, TypedExpression, NoSubscript, arguments_view, WrongUse, refuse, subscript_of, port_of, only_tree}
 
 -- more than one index is no subscript
 pub several_indices :

@@ -1,23 +1,6 @@
 -- No procedure of a module that a text is, and no main program, is charged more than the limit.
-use Rattle.std.proofs.Common.{◌≡◌, ℕ, zero, suc, ◌+◌, ◌≤◌, min, List, [], ◌∷◌, length, map, Some, Ok, slice_get, refl, sym, ap, subst, arith}
-use Rattle.std.specs.Prelude.{All}
-use Rattle.std.specs.List.{AllByRecursion, enumerate_from}
-use Rattle.std.proofs.lemmas.List.Elements.{All-cons, All-nil, recursion_from_All}
-use Rattle.std.proofs.lemmas.Option.{none-some}
-use Rattle.words.specs.Spelling.{Lexeme}
-use Rattle.trees.specs.declared.declaration.ScalarType.{ScalarType}
-use Rattle.trees.specs.Trees.{ModuleTree, StatementTrees}
-use Rattle.grammar.specs.Derivation.{Derives}
-use Rattle.grammar.specs.Nesting.{IsNestedWithin, statements_height}
-use Rattle.typed_trees.specs.Charge.{charge_of}
-use Rattle.typed_trees.specs.Frames.{AreParameters, FrameFits, FramesFit, HasParameters, ParametersFit, home_of_parameters}
-use Rattle.typed_trees.specs.TypedTrees.{Home, TypedModule, TypedProcedure}
-use Rattle.typed_trees.specs.WellTyped.{IsWellTyped, TypesHoldInList, TypesHoldInProcedure, Within, WithinMain, WithinProcedure}
-use Rattle.typing.specs.Typing.{typing_of}
-use Rattle.typing.specs.Untyped.{GivesBack, untyped_bodies, untyped_list}
-use Rattle.typing.proofs.StatementsBack.{gives_back}
+use Rattle.typed_laws.proofs.Prelude.{◌≡◌, ℕ, zero, suc, ◌+◌, ◌≤◌, min, List, [], ◌∷◌, length, map, Some, Ok, slice_get, refl, sym, ap, subst, arith, All, AllByRecursion, enumerate_from, All-cons, All-nil, recursion_from_All, none-some, Lexeme, ScalarType, ModuleTree, StatementTrees, Derives, IsNestedWithin, statements_height, charge_of, AreParameters, FrameFits, FramesFit, HasParameters, ParametersFit, home_of_parameters, Home, TypedModule, TypedProcedure, IsWellTyped, TypesHoldInList, TypesHoldInProcedure, Within, WithinMain, WithinProcedure, typing_of, GivesBack, untyped_bodies, untyped_list, gives_back, ChargesFit, HasFewParameters, charge_limit}
 use Rattle.typed_laws.proofs.Formed.{derived_is_soundly_typed}
-use Rattle.typed_laws.specs.Limits.{ChargesFit, HasFewParameters, charge_limit}
 use Rattle.typed_laws.proofs.Heights.{list_within}
 use Rattle.typed_laws.proofs.Plain.{AreWithin, bodies_within}
 

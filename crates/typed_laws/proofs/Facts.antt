@@ -1,21 +1,5 @@
 -- Every module that a text of the grammar is typed as is soundly typed.
-use Rattle.std.proofs.Common.{◌≡◌, ℕ, zero, suc, Bool, true, List, [], ◌∷◌, Some, Ok, refl, sym, ap, subst, ◌∙◌}
-use Rattle.std.specs.Prelude.{All, slice_get}
-use Rattle.std.proofs.lemmas.List.Elements.{All-cons, All-nil}
-use Rattle.std.proofs.lemmas.Option.{none-some}
-use Rattle.trees.specs.Trees.{ModuleTree}
-use Rattle.typed_trees.specs.declared.parts.AtAddress.TheVariants.{AtNumber, AtObject}
-use Rattle.typed_trees.specs.TypedTrees.{Home, InData, InConstants, Placed, BasedOn, Elsewhere, Nowhere, InFrame, TypedModule, TypedObject, TypedProcedure}
-use Rattle.layout.specs.StartingMemory.{values_in}
-use Rattle.typing.specs.Blocks.{TheModule}
-use Rattle.typing.specs.Typing.{at_the_beginning, module_block, statements, typing_of}
-use Rattle.typing.proofs.Kept.{Gives, gives_ok, in_turn}
-use Rattle.typing.proofs.Jumps.JumpsLaw.{jumps_are_sound}
-use Rattle.typing.proofs.Storage.StorableStatements.{is_storable}
-use Rattle.typing.proofs.Types.TypesOfStatements.{is_well_typed, globals_are_listed, frames_are_summed}
-use Rattle.typing.proofs.Parameters.Walks.{parameters_fit}
-use Rattle.layout.specs.Sound.{AddsWord, AtAddsWord, BasesStandBefore, FramesAreReentrant, IsSoundlyTyped}
-use Rattle.typed_laws.specs.Facts.{ModuleIsFormed}
+use Rattle.typed_laws.proofs.Prelude.{◌≡◌, ℕ, zero, suc, Bool, true, List, [], ◌∷◌, Some, Ok, refl, sym, ap, subst, ◌∙◌, All, slice_get, All-cons, All-nil, none-some, ModuleTree, AtNumber, AtObject, Home, InData, InConstants, Placed, BasedOn, Elsewhere, Nowhere, InFrame, TypedModule, TypedObject, TypedProcedure, values_in, TheModule, at_the_beginning, module_block, statements, typing_of, Gives, gives_ok, in_turn, jumps_are_sound, is_storable, is_well_typed, globals_are_listed, frames_are_summed, parameters_fit, AddsWord, AtAddsWord, BasesStandBefore, FramesAreReentrant, IsSoundlyTyped, ModuleIsFormed}
 use Rattle.typed_laws.proofs.Items.{HomeStands}
 use Rattle.typed_laws.proofs.Walks.{ObjectsStand, StandsAt, declarations_go, flags_of, list_goes, stands_after, statements_go}
 

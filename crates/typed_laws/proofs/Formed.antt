@@ -1,13 +1,5 @@
 -- What words derive has the form of the grammar.
-use Rattle.std.specs.Prelude.{◌≡◌, List, Ok}
-use Rattle.words.specs.Spelling.{Lexeme}
-use Rattle.trees.specs.Trees.{StatementTree, StatementKindTree, StatementTrees, DeclarationTree, DeclarationTrees, ModuleTree}
-use Rattle.grammar.specs.Derivation.{Derives, DerivesModule, whole_module, DerivesDeclarations, no_declaration, next_declaration, DerivesDeclaration, declare, procedure, DerivesStatements, no_statement, next_statement, DerivesStatement, labelled, unlabelled, DerivesKind, null, assignment, call, return, return_value, halt, goto, if_then, if_then_else, simple_do, do_while, iterative_do, iterative_do_by, do_case}
-use Rattle.grammar.specs.Symbols.{Symbol}
-use Rattle.typed_trees.specs.TypedTrees.{TypedModule}
-use Rattle.typing.specs.Typing.{typing_of}
-use Rattle.layout.specs.Sound.{IsSoundlyTyped}
-use Rattle.typed_laws.specs.Facts.{AreFormed, IsFormed, KindIsFormed, ModuleIsFormed, StatementIsFormed, StatementsAreFormed}
+use Rattle.typed_laws.proofs.Prelude.{◌≡◌, List, Ok, Lexeme, StatementTree, StatementKindTree, StatementTrees, DeclarationTree, DeclarationTrees, ModuleTree, Derives, DerivesModule, whole_module, DerivesDeclarations, no_declaration, next_declaration, DerivesDeclaration, declare, procedure, DerivesStatements, no_statement, next_statement, DerivesStatement, labelled, unlabelled, DerivesKind, null, assignment, call, return, return_value, halt, goto, if_then, if_then_else, simple_do, do_while, iterative_do, iterative_do_by, do_case, Symbol, TypedModule, typing_of, IsSoundlyTyped, AreFormed, IsFormed, KindIsFormed, ModuleIsFormed, StatementIsFormed, StatementsAreFormed}
 use Rattle.typed_laws.proofs.Facts.{is_soundly_typed}
 
 mutual

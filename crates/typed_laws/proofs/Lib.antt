@@ -1,3 +1,4 @@
+mod Prelude
 pub mod Items
 pub mod Walks
 pub mod Facts

@@ -1,36 +1,8 @@
 -- The objects and the procedures of a text stand, from part to part.
-use Rattle.std.proofs.Common.{◌≡◌, ℕ, zero, suc, ◌+◌, ◌<◌, Bool, true, List, [], ◌∷◌, ◌++◌, length, map, Some, nat_le, refl, sym, ap, ◌∙◌, subst, length-append, arith}
-use Rattle.std.specs.Prelude.{slice_get, slice_set, is_some, not}
-use Rattle.std.specs.List.{AllByRecursion}
-use Rattle.std.proofs.lemmas.List.{map-append}
-use Rattle.std.proofs.lemmas.Option.{none-some}
-use Rattle.trees.specs.declared.identifier.Identifier.{Identifier}
+use Rattle.typed_laws.proofs.Prelude.{◌≡◌, ℕ, zero, suc, ◌+◌, ◌<◌, Bool, true, List, [], ◌∷◌, ◌++◌, length, map, Some, nat_le, refl, sym, ap, ◌∙◌, subst, length-append, arith, slice_get, slice_set, is_some, not, AllByRecursion, map-append, none-some, Identifier, DeclarationTree, DeclarationTrees, DeclareTree, ElementTree, ElseTree, HeadingTree, ItemElement, ItemTree, LiterallyElement, MoreDeclarations, NoDeclarations, ProcedureTree, StatementKindTree, StatementTree, StatementTrees, IsElement, IsItem, FRAME_LIMIT, OBJECT_LIMIT, size_of_object, Home, InData, InConstants, Placed, BasedOn, Elsewhere, Nowhere, InFrame, TypedList, TypedObject, TypedProcedure, TypedStatements, AtNumber, AtObject, DeclaredTwice, MisplacedAttribute, TooLarge, Block, OfProcedure, Owner, Progress, TheModule, is_external, Checked, require, TypedItem, declare_element, declare_elements, declare_item, declare_names, line_of_item, object_named, size_of_item, with_objects, with_typed_object, arguments, check_body, close_procedure, own_block, parameter_objects, parameter_types, procedure_with, Known, line_of, declare_labels, labels_before, list_of, with_here, without_label, alone, cases, declaration, declarations, else_part, entered, inner_block, kind, statements, Gives, gives_after, gives_ok, in_turn, then_more, Keeps, keeps_append, at_the_end, heading_procedure, Opened, opens, front_or_back, Same, assignment_same, call_same, goto_same, iteration_same, return_same, value_same, AreFormed, ElseIsFormed, IsFormed, KindIsFormed, StatementIsFormed, StatementsAreFormed}
 use Rattle.trees.specs.Trees as trees
-use Rattle.trees.specs.Trees.{DeclarationTree, DeclarationTrees, DeclareTree, ElementTree, ElseTree, HeadingTree, ItemElement, ItemTree, LiterallyElement, MoreDeclarations, NoDeclarations, ProcedureTree, StatementKindTree, StatementTree, StatementTrees}
-use Rattle.names.specs.Environment.{Here, is_declared_again, into_list}
-use Rattle.names.specs.Events.{labels_of}
-use Rattle.names.specs.Uses.{declared_by}
-use Rattle.grammar.specs.Forms.{IsElement, IsItem}
-use Rattle.typed_trees.specs.declared.limits.TheConstants.{FRAME_LIMIT, OBJECT_LIMIT}
-use Rattle.typed_trees.specs.Sizes.{size_of_object}
-use Rattle.typed_trees.specs.TypedTrees.{Home, InData, InConstants, Placed, BasedOn, Elsewhere, Nowhere, InFrame, TypedList, TypedObject, TypedProcedure, TypedStatements}
-use Rattle.typed_trees.specs.declared.parts.AtAddress.TheVariants.{AtNumber, AtObject}
-use Rattle.typing.specs.declared.fault.Cause.TheVariants.{DeclaredTwice, MisplacedAttribute, TooLarge}
-use Rattle.typing.specs.Blocks.{Block, OfProcedure, Owner, Progress, TheModule, is_external}
-use Rattle.typing.specs.Checks.{Checked, require}
-use Rattle.typing.specs.Items.{TypedItem, declare_element, declare_elements, declare_item, declare_names, line_of_item, object_named, size_of_item, with_objects, with_typed_object}
-use Rattle.typing.specs.Expressions.{arguments}
-use Rattle.typing.specs.Procedures.{check_body, close_procedure, own_block, parameter_objects, parameter_types, procedure_with}
-use Rattle.typing.specs.References.{Known, line_of}
-use Rattle.typing.specs.Statements.{declare_labels, labels_before, list_of, with_here, without_label}
-use Rattle.typing.specs.Typing.{alone, cases, declaration, declarations, else_part, entered, inner_block, kind, labelled, statements}
-use Rattle.typing.proofs.Kept.{Gives, gives_after, gives_ok, in_turn, then_more}
-use Rattle.typing.proofs.Tables.{Keeps, keeps_append, at_the_end}
-use Rattle.typing.proofs.Types.TypesOfDeclarations.{heading_procedure}
-use Rattle.typing.proofs.Parameters.Opening.{Opened, opens}
-use Rattle.typing.proofs.Parameters.OwnBlock.{front_or_back}
-use Rattle.typing.proofs.Parameters.Walks.{Same, assignment_same, call_same, goto_same, iteration_same, return_same, value_same}
-use Rattle.typed_laws.specs.Facts.{AreFormed, ElseIsFormed, IsFormed, KindIsFormed, StatementIsFormed, StatementsAreFormed}
+use Rattle.names.specs.{Environment.{Here, is_declared_again, into_list}, Events.{labels_of}, Uses.{declared_by}}
+use Rattle.typing.specs.Typing.{labelled}
 use Rattle.typed_laws.proofs.Items.{HomeStands, OwnerFlag, typed_item_stands}
 
 -- which procedures are REENTRANT

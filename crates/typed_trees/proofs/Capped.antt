@@ -1,7 +1,5 @@
 -- Numbers that stop at the greatest of 32 bits.
-use Rattle.std.proofs.Common.{◌≡◌, ℕ, suc, zero, ◌+◌, ◌*◌, ◌≤◌, min, ap, arith}
-use Rattle.std.proofs.Math.Decide.{dec_le}
-use Rattle.std.proofs.lemmas.Nat.{mul-le}
+use Rattle.typed_trees.proofs.Prelude.{◌≡◌, ℕ, suc, zero, ◌+◌, ◌*◌, ◌≤◌, min, ap, arith, dec_le, mul-le}
 
 pub capped_sum : (all one : ℕ) → min (min all 4294967295 + one) 4294967295 ≡ min (all + one) 4294967295
 capped_sum all one = omega arith

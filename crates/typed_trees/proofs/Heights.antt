@@ -1,12 +1,5 @@
 -- The heights of lists, item by item.
-use Rattle.std.proofs.Common.{◌≡◌, ℕ, suc, ◌+◌, ◌<◌, ◌≤◌, max, List, [], ◌∷◌, length, map, drop, get_or, add-one, refl, sym, ap, ◌∙◌, arith}
-use Rattle.std.proofs.Math.ListN.{drop_of_length-le}
-use Rattle.std.proofs.Math.Seq.{drop-cons}
-use Rattle.typed_trees.specs.declared.expression.TypedExpression.{TypedExpression}
-use Rattle.typed_trees.specs.declared.expression.TypedTarget.{TypedTarget}
-use Rattle.typed_trees.specs.declared.statement.TypedStatement.{TypedStatement}
-use Rattle.typed_trees.specs.Charge.{count_of_arguments, height_of, height_of_arguments, height_of_statement, height_of_statements, height_of_target, height_of_targets}
-use Rattle.typed_trees.specs.Views.{arguments_view, expression_view, statement_view, statements_view, target_view}
+use Rattle.typed_trees.proofs.Prelude.{◌≡◌, ℕ, suc, ◌+◌, ◌<◌, ◌≤◌, max, List, [], ◌∷◌, length, map, drop, get_or, add-one, refl, sym, ap, ◌∙◌, arith, drop_of_length-le, drop-cons, TypedExpression, TypedTarget, TypedStatement, count_of_arguments, height_of, height_of_arguments, height_of_statement, height_of_statements, height_of_target, height_of_targets, arguments_view, expression_view, statement_view, statements_view, target_view}
 
 drop_item : {A B : Type 0} (view : List A → B) (items : List A) (i : ℕ) (item : A) → i < length items → item ≡ get_or items i item → view (drop i items) ≡ view (item ∷ drop (i + 1) items)
 drop_item view items i item within is =

@@ -1,12 +1,5 @@
 -- What lies at subscripts below their dimensions lies within the bytes of its object.
-use Rattle.std.proofs.Common.{◌≡◌, ℕ, zero, suc, ◌+◌, ◌*◌, ◌<◌, ◌≤◌, List, [], ◌∷◌, take, sum_by, slice_get, Option, None, Some, refl, ap, subst, arith, one-mul, suc-mul, mul_comm, mul-le-mul_right}
-use Rattle.std.specs.Prelude.{IsSomeAnd}
-use Rattle.std.proofs.lemmas.List.Sums.{sum_by-cons}
-use Rattle.trees.specs.declared.declaration.ScalarType.{ScalarType}
-use Rattle.typed_trees.specs.declared.parts.TypedMember.{TypedMember}
-use Rattle.typed_trees.specs.TypedTrees.{PartOf, Subscript, NoSubscript, At, ObjectType, ScalarObject, StructureObject, TypedObject}
-use Rattle.typed_trees.specs.Sizes.{size_of_scalar, count_of, size_of_member, size_of_element, size_of_object}
-use Rattle.typed_trees.specs.ObjectParts.{IsSubscriptOf, IsInElement, IsOneOf, IsScalarIn, IsScalarOf}
+use Rattle.typed_trees.proofs.Prelude.{◌≡◌, ℕ, zero, suc, ◌+◌, ◌*◌, ◌<◌, ◌≤◌, List, [], ◌∷◌, take, sum_by, slice_get, Option, None, Some, refl, ap, subst, arith, one-mul, suc-mul, mul_comm, mul-le-mul_right, IsSomeAnd, sum_by-cons, ScalarType, TypedMember, PartOf, Subscript, NoSubscript, At, ObjectType, ScalarObject, StructureObject, TypedObject, size_of_scalar, count_of, size_of_member, size_of_element, size_of_object, IsSubscriptOf, IsInElement, IsOneOf, IsScalarIn, IsScalarOf}
 
 -- how many bytes further on an element lies, at an index below the dimension
 abbrev pub LiesAt : Subscript → (bytes : ℕ) → Type 0

@@ -1,3 +1,4 @@
+mod Prelude
 pub mod Views
 pub mod Capped
 pub mod MemberTable

@@ -1,14 +1,6 @@
 -- The numbers in the items of a list, item by item.
-use Rattle.std.proofs.Common.{◌≡◌, ℕ, suc, ◌+◌, ◌<◌, ◌≤◌, List, [], ◌∷◌, length, map, drop, get_or, add-one, sym, ap, subst, ◌∙◌}
-use Rattle.std.proofs.Math.ListN.{drop_of_length-le}
-use Rattle.std.proofs.Math.Seq.{drop-cons}
-use Rattle.std.specs.List.{AllByRecursion}
-use Rattle.typed_trees.specs.declared.expression.TypedExpression.{TypedExpression}
-use Rattle.typed_trees.specs.declared.expression.TypedTarget.{TypedTarget}
+use Rattle.typed_trees.proofs.Prelude.{◌≡◌, ℕ, suc, ◌+◌, ◌<◌, ◌≤◌, List, [], ◌∷◌, length, map, drop, get_or, add-one, sym, ap, subst, ◌∙◌, drop_of_length-le, drop-cons, AllByRecursion, TypedExpression, TypedTarget, TypedStatement, arguments_view, expression_view, list_view, procedure_view, statement_view, statements_view, target_view, NumbersFit, NumbersFitIn, NumbersFitInArguments, NumbersFitInList, NumbersFitInProcedure, NumbersFitInStatements, NumbersFitInTarget, NumbersFitInTargets}
 use Rattle.typed_trees.specs.declared.module.TypedProcedure.{TypedProcedure}
-use Rattle.typed_trees.specs.declared.statement.TypedStatement.{TypedStatement}
-use Rattle.typed_trees.specs.Views.{arguments_view, expression_view, list_view, procedure_view, statement_view, statements_view, target_view}
-use Rattle.typed_trees.specs.Numbers.{NumbersFit, NumbersFitIn, NumbersFitInArguments, NumbersFitInList, NumbersFitInProcedure, NumbersFitInStatements, NumbersFitInTarget, NumbersFitInTargets}
 
 module _ {A : Type 0} (P : List A → Type 0) (items : List A) (i : ℕ) where
   -- what is left begins with the item that is met

@@ -1,21 +1,11 @@
 -- The table of the members of a structure.
-use Rattle.std.proofs.Common.{◌≡◌, ℕ, suc, ◌+◌, min, Bool, true, false, cond, not, ◌||◌, nat_lt, List, [], ◌∷◌, ◌++◌, length, position, slice_get, sum_by, is_some, Option, None, Some, if◌then◌else◌, refl, sym, ap, ◌∙◌, arith, lt-ltb, le-ltb, true≢false}
-use Rattle.std.specs.List.{position_or_len}
-use Rattle.std.specs.Map.{keys_of, lookup}
-use Rattle.std.specs.Option.{option_map}
-use Rattle.std.specs.Str.{bytes_eq}
-use Rattle.std.proofs.lemmas.Cmp.{nat_list_eq_equiv}
-use Rattle.std.proofs.lemmas.List.Sums.{sum_by-cons, sum_by_push}
-use Rattle.std.proofs.lemmas.Option.{slice_get-map}
-use Rattle.std.proofs.Math.Decide.{dec_lt}
+use Rattle.typed_trees.proofs.Prelude.{◌≡◌, ℕ, suc, ◌+◌, min, Bool, true, false, cond, not, ◌||◌, nat_lt, List, [], ◌∷◌, ◌++◌, length, position, slice_get, sum_by, is_some, Option, None, Some, if◌then◌else◌, refl, sym, ap, ◌∙◌, arith, lt-ltb, le-ltb, true≢false, position_or_len, keys_of, lookup, option_map, bytes_eq, nat_list_eq_equiv, sum_by-cons, sum_by_push, slice_get-map, dec_lt, TypedMember, after_member, capped, has_member, member_named, size_of_member}
 use Rattle.indexmap.specs.IndexMap.{insert_entry}
 use Rattle.symbols.specs.contracts.name.NamePartialEq.TheImpl.{eq-value}
 use Rattle.symbols.proofs.Keys.{names_equal}
 use Rattle.typed_trees.proofs.Capped.{capped_sum}
 use Rattle.typed_trees.specs.declared.members.Entry.{Entry}
 use Rattle.typed_trees.specs.declared.members.FoundMember.{FoundMember}
-use Rattle.typed_trees.specs.declared.parts.TypedMember.{TypedMember}
-use Rattle.typed_trees.specs.Sizes.{after_member, capped, has_member, member_named, size_of_member}
 use Rattle.typed_trees.specs.internal.Members.{IsLaidOut, member_of, members_of}
 
 -- a key of the table and the name of a member are compared either way round

@@ -1,9 +1,5 @@
 -- The views of lists that hold trees of their own type.
-use Rattle.std.proofs.Common.{◌≡◌, ap, refl}
-use Rattle.typed_trees.specs.declared.expression.TypedExpression.{Row_of-TypedExpression, end_of-TypedExpression, more_of-TypedExpression, items-the_row-TypedExpression}
-use Rattle.typed_trees.specs.declared.statement.TypedStatement.{Row_of-TypedStatement, end_of-TypedStatement, more_of-TypedStatement, items-the_row-TypedStatement}
-use Rattle.typed_trees.specs.TypedTrees.{MoreArguments, MoreStatements}
-use Rattle.typed_trees.specs.Views.{expression_view, argument_rows, arguments_view, statement_view, statement_rows, statements_view}
+use Rattle.typed_trees.proofs.Prelude.{◌≡◌, ap, refl, Row_of-TypedExpression, end_of-TypedExpression, more_of-TypedExpression, items-the_row-TypedExpression, Row_of-TypedStatement, end_of-TypedStatement, more_of-TypedStatement, items-the_row-TypedStatement, MoreArguments, MoreStatements, expression_view, argument_rows, arguments_view, statement_view, statement_rows, statements_view}
 
 pub argument_rows_are :
     (n : _) (row : Row_of-TypedExpression n) → argument_rows row ≡ arguments_view (items-the_row-TypedExpression n row)

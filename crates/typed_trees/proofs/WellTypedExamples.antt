@@ -1,17 +1,12 @@
 -- Worked values: trees whose types hold, and some whose types do not; references, frames and globals that fit their
 -- module, and some that do not.
-use Rattle.std.proofs.Common.{◌≡◌, ℕ, Bool, true, false, List, [], ◌∷◌, Option, None, Some, length, refl, ap, arith}
-use Rattle.std.proofs.lemmas.List.Elements.{All-nil}
-use Rattle.trees.specs.declared.declaration.ScalarType.{ScalarType}
-use Rattle.trees.specs.declared.declaration.ScalarType.TheVariants.{Byte, Address}
-use Rattle.trees.specs.declared.expression.BinaryOperator.TheVariants.{Subtract, Multiply}
+use Rattle.typed_trees.proofs.Prelude.{◌≡◌, ℕ, Bool, true, false, List, [], ◌∷◌, Option, None, Some, length, refl, ap, arith, All-nil, ScalarType, Byte, Address, Subtract, Multiply, NumberNode, ValueNode, LocationNode, ConversionNode, BinaryNode, CallNode, ShiftNode, InputNode, TypedReference, PartOf, NoSubscript, At, NoArguments, MoreArguments, ReturnStatement, NoStatements, ListOf, Home, InData, BasedOn, InFrame, ObjectType, ScalarObject, StructureObject, TypedObject, TypedProcedure, TypedModule, IsPartOf, IsScalarOf}
 use Rattle.typed_trees.specs.declared.parts.GlobalItem.{GlobalItem}
 use Rattle.typed_trees.specs.declared.parts.GlobalItem.TheVariants.{GlobalProcedure}
 use Rattle.typed_trees.specs.declared.parts.NumberOrigin.TheVariants.{FromDigits}
 use Rattle.typed_trees.specs.declared.parts.ShiftFunction.TheVariants.{RotateLeft}
 use Rattle.typed_trees.specs.declared.parts.Visibility.TheVariants.{Private, Public}
-use Rattle.typed_trees.specs.TypedTrees.{TypedExpression, NumberNode, ValueNode, LocationNode, ConversionNode, BinaryNode, CallNode, ShiftNode, InputNode, TypedReference, PartOf, NoSubscript, At, NoArguments, MoreArguments, ReturnStatement, NoStatements, ListOf, Home, InData, BasedOn, InFrame, ObjectType, ScalarObject, StructureObject, TypedObject, TypedProcedure, TypedModule}
-use Rattle.typed_trees.specs.ObjectParts.{IsPartOf, IsScalarOf}
+use Rattle.typed_trees.specs.TypedTrees.{TypedExpression}
 use Rattle.typed_trees.specs.WellTyped.{Within, WithinProcedure, WithinMain, TypesHold, TypesHoldIn}
 use Rattle.typed_trees.specs.Frames.{FrameFits, HasParameters}
 use Rattle.typed_trees.specs.Globals.{ListsGlobals}

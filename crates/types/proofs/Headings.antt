@@ -1,29 +1,6 @@
 -- Procedures in the table: as their headings say, and whole.
-use Rattle.std.proofs.Common.{◌≡◌, ℕ, ◌+◌, ◌<◌, List, [], ◌∷◌, ◌++◌, length, map, take, drop, get_or, not, ◌||◌, Option, Ok, Err, refl, ap, sym, subst, ◌∙◌, slice_set, append_assoc, unwrap_or}
-use Rattle.std.proofs.lemmas.List.{map-set, map-append, length-map}
-use Rattle.std.specs.Map.{lookup}
-use Rattle.std.specs.Str.{bytes_eq}
-use Rattle.trees.specs.declared.declaration.ScalarType.{ScalarType}
-use Rattle.trees.specs.declared.declaration.ScalarType.TheVariants.{Byte}
-use Rattle.trees.specs.declared.identifier.Identifier.{Identifier}
-use Rattle.trees.specs.Trees.{HeadingTree, DeclarationTrees}
-use Rattle.names.specs.declared.entity.Entity.{Entity}
-use Rattle.names.specs.Environment.{Here, into_body, is_declared_again, with_procedure}
-use Rattle.typed_trees.specs.declared.limits.TheConstants.{PARAMETER_LIMIT}
-use Rattle.typed_trees.specs.declared.module.TypedProcedure.{TypedProcedure as Procedure}
-use Rattle.typed_trees.specs.declared.parts.GlobalItem.{GlobalItem}
-use Rattle.typed_trees.specs.declared.parts.GlobalItem.TheVariants.{GlobalProcedure}
-use Rattle.typed_trees.specs.TypedTrees.{TypedProcedure}
-use Rattle.typed_trees.specs.Views.{procedure_view}
-use Rattle.typing.specs.declared.fault.Cause.TheVariants.{DeclaredTwice, MisplacedAttribute}
-use Rattle.typing.specs.declared.fault.Fault.{Fault}
-use Rattle.typing.specs.Checks.{Checked, ◌>>=◌, require}
-use Rattle.typing.specs.References.{line_of}
-use Rattle.typing.specs.Blocks.{Block, Progress, is_reentrant, is_external, with_global}
-use Rattle.typing.specs.Procedures.{check_reentrant, check_visibility, declare_parameters, no_more_parameters, empty_list, open_procedure, parameter_object, parameter_objects, parameter_types, procedure_with, scalar_in_block, with_heading}
-use Rattle.typing.specs.Results.{FailsBy, in_front}
-use Rattle.types.specs.internal.Walking.{heading_opened}
-use Rattle.typing.proofs.Loops.{drop_item, fails_more}
+use Rattle.types.proofs.Prelude.{◌≡◌, ℕ, ◌+◌, ◌<◌, List, [], ◌∷◌, ◌++◌, length, map, take, drop, get_or, not, ◌||◌, Option, Ok, Err, refl, ap, sym, subst, ◌∙◌, slice_set, append_assoc, unwrap_or, map-set, map-append, length-map, ScalarType, Byte, Identifier, HeadingTree, DeclarationTrees, Entity, Here, into_body, is_declared_again, with_procedure, PARAMETER_LIMIT, Procedure, GlobalItem, GlobalProcedure, TypedProcedure, procedure_view, DeclaredTwice, MisplacedAttribute, Fault, Checked, ◌>>=◌, require, line_of, Block, Progress, is_reentrant, is_external, with_global, check_reentrant, check_visibility, declare_parameters, no_more_parameters, empty_list, open_procedure, parameter_object, parameter_objects, parameter_types, procedure_with, scalar_in_block, with_heading, FailsBy, in_front, heading_opened, drop_item, fails_more}
+use Rattle.std.specs.{Map.{lookup}, Str.{bytes_eq}}
 
 pub procedure_replaced : (procedures : List Procedure) (number : ℕ) (procedure : Procedure) → map procedure_view (slice_set procedures number procedure) ≡ slice_set (map procedure_view procedures) number (procedure_view procedure)
 procedure_replaced procedures number procedure = map-set procedure_view procedures number procedure

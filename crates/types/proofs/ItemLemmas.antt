@@ -1,25 +1,5 @@
 -- Items of a DECLARE.
-use Rattle.std.proofs.Common.{◌≡◌, ℕ, ◌<◌, ◌≤◌, min, nat_le, true, arith, le-leb, leb-true, sym, ◌∙◌, List, [], ◌∷◌, ◌++◌, ◌||◌, not, Option, Ok, Err, refl, ap, subst}
-use Rattle.std.proofs.lemmas.Bool.{lt-leb}
-use Rattle.std.proofs.Math.Decide.{dec_le}
-use Rattle.names.specs.Environment.{Here, with_object, is_declared_again}
-use Rattle.trees.specs.declared.declaration.Member.{Member}
-use Rattle.trees.specs.declared.identifier.Identifier.{Identifier}
-use Rattle.trees.specs.Trees.{ItemTree}
-use Rattle.names.specs.Uses.{declared_by}
-use Rattle.typed_trees.specs.declared.limits.TheConstants.{FRAME_LIMIT, OBJECT_LIMIT}
-use Rattle.typed_trees.specs.declared.parts.TypedMember.{TypedMember}
-use Rattle.typed_trees.specs.Sizes.{has_member}
-use Rattle.typing.specs.declared.fault.Cause.TheVariants.{DeclaredTwice, MisplacedAttribute, TooLarge}
-use Rattle.typing.specs.Blocks.{Block, Progress, is_external, declares_parameter}
-use Rattle.typing.specs.Checks.{Checked, ◌>>=◌, require}
-use Rattle.typing.specs.Items.{TypedItem, declare_names, declare_item, line_of_item, member_dimension, object_named, size_of_item, typed_item, typed_members, with_objects, with_typed_object}
-use Rattle.typing.specs.References.{line_of}
-use Rattle.typing.specs.Statements.{with_here}
-use Rattle.typing.specs.declared.fault.Fault.{Fault}
-use Rattle.typing.specs.Results.{FailsBy}
-use Rattle.typing.proofs.Loops.{fails_more}
-use Rattle.types.specs.internal.Items.{fitted_in_turn, fitting_item, item_in_turn, with_names}
+use Rattle.types.proofs.Prelude.{◌≡◌, ℕ, ◌<◌, ◌≤◌, min, nat_le, true, arith, le-leb, leb-true, sym, ◌∙◌, List, [], ◌∷◌, ◌++◌, ◌||◌, not, Option, Ok, Err, refl, ap, subst, lt-leb, dec_le, Here, with_object, is_declared_again, Member, Identifier, ItemTree, declared_by, FRAME_LIMIT, OBJECT_LIMIT, TypedMember, has_member, DeclaredTwice, MisplacedAttribute, TooLarge, Block, Progress, is_external, declares_parameter, Checked, ◌>>=◌, require, TypedItem, declare_names, declare_item, line_of_item, member_dimension, object_named, size_of_item, typed_item, typed_members, with_objects, with_typed_object, line_of, with_here, Fault, FailsBy, fails_more, fitted_in_turn, fitting_item, item_in_turn, with_names}
 
 -- one name, and then the others
 names_then : {A B : Type 0} (first : Checked A) (second : Checked B) (block : Block) (others : List Identifier) (here : Here) (progress : Progress)

@@ -1,3 +1,4 @@
+mod Prelude
 pub mod Arguments
 pub mod Listings
 pub mod Walks

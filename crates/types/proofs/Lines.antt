@@ -1,9 +1,5 @@
 -- Where statements begin.
-use Rattle.std.proofs.Common.{◌≡◌, List, [], ◌∷◌, refl, arith}
-use Rattle.trees.specs.declared.expression.Reference.{Reference, Reference', out-Reference, None', Some', the_lemmas}
-use Rattle.trees.specs.Trees.{ReferenceTree, ReferenceTo}
-use Rattle.trees.specs.Views.{reference_tree}
-use Rattle.typing.specs.Statements.{line_of_targets}
+use Rattle.types.proofs.Prelude.{◌≡◌, List, [], ◌∷◌, refl, arith, Reference, Reference', out-Reference, None', Some', the_lemmas, ReferenceTree, ReferenceTo, reference_tree, line_of_targets}
 
 pub line_of_parts : (reference : Reference) → line_of_targets (reference_tree reference ∷ []) ≡ (out-Reference reference).name.place.line
 line_of_parts (Reference' name shape arguments None') = grind (arith, the_lemmas)

@@ -1,14 +1,5 @@
 -- What a statement after its labels adds to a list.
-use Rattle.std.proofs.Common.{◌≡◌, ℕ, ◌+◌, suc, List, [], ◌∷◌, ◌++◌, length, ap, refl, sym, ◌∙◌, append_assoc, arith, length-append}
-use Rattle.std.proofs.lemmas.List.{append-nil}
-use Rattle.trees.specs.declared.identifier.Identifier.{Identifier}
-use Rattle.trees.specs.Trees.{StatementTree, StatementTrees, MoreStatements as MoreTrees}
-use Rattle.typed_trees.specs.declared.statement.TypedStatement.{TypedStatement as Statement}
-use Rattle.typed_trees.specs.declared.statement.TypedStatement.TheVariants.{Label}
-use Rattle.typed_trees.specs.TypedTrees.{TypedStatements, NoStatements, MoreStatements}
-use Rattle.typed_trees.specs.Views.{statement_view, statements_view}
-use Rattle.typing.specs.Statements.{after_labels, labels_before, places_of, places_from}
-use Rattle.types.specs.internal.Lists.{Listing, with_label, with_labels, with_statement, statements_before}
+use Rattle.types.proofs.Prelude.{◌≡◌, ℕ, ◌+◌, suc, List, [], ◌∷◌, ◌++◌, length, ap, refl, sym, ◌∙◌, append_assoc, arith, length-append, append-nil, Identifier, StatementTree, StatementTrees, MoreTrees, Statement, Label, TypedStatements, NoStatements, MoreStatements, statement_view, statements_view, after_labels, labels_before, places_of, places_from, Listing, with_label, with_labels, with_statement, statements_before}
 
 pub before_more : (made : List Statement) (statement : Statement) (rest : TypedStatements) → statements_before (made ++ statement ∷ []) rest ≡ statements_before made (MoreStatements (statement_view statement) rest)
 before_more [] statement rest = refl

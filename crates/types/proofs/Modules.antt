@@ -1,15 +1,5 @@
 -- The typing of a module, in two steps.
-use Rattle.std.proofs.Common.{◌≡◌, Option, Ok, Err, ap, refl, sym, subst, ◌∙◌}
-use Rattle.trees.specs.Trees.{ModuleTree}
-use Rattle.typed_trees.specs.TypedTrees.{TypedList, TypedModule}
-use Rattle.typing.specs.declared.fault.Fault.{Fault}
-use Rattle.typing.specs.Checks.{Checked, ◌>>=◌}
-use Rattle.typing.specs.Blocks.{Progress}
-use Rattle.typing.specs.Statements.{list_of}
-use Rattle.typing.specs.Typing.{at_the_beginning, declarations, module_block, module_with, statements, typing_of}
-use Rattle.typing.specs.Results.{FailsBy}
-use Rattle.types.specs.internal.Walking.{module_body}
-use Rattle.typing.proofs.Loops.{fails_more}
+use Rattle.types.proofs.Prelude.{◌≡◌, Option, Ok, Err, ap, refl, sym, subst, ◌∙◌, ModuleTree, TypedList, TypedModule, Fault, Checked, ◌>>=◌, Progress, list_of, at_the_beginning, declarations, module_block, module_with, statements, typing_of, FailsBy, module_body, fails_more}
 
 in_two : {A B C : Type 0} (first : Checked A) (second : A → Checked B) (next : B → Checked C) → (first >>= (λ a. second a >>= next)) ≡ ((first >>= second) >>= next)
 in_two (Ok a) second next = refl

@@ -1,21 +1,6 @@
 -- Lists of statements, statement by statement.
-use Rattle.std.proofs.Common.{◌≡◌, ℕ, ◌+◌, ◌<◌, ◌≤◌, List, [], ◌∷◌, ◌++◌, length, drop, get_or, Option, Ok, Err, refl, ap, sym, ◌∙◌}
-use Rattle.trees.specs.declared.identifier.Identifier.{Identifier}
-use Rattle.trees.specs.declared.statement.Statement.{Statement as Tree}
-use Rattle.trees.specs.Views.{statement_tree, statement_trees}
-use Rattle.typed_trees.specs.declared.statement.TypedStatement.{TypedStatement as Statement}
-use Rattle.typed_trees.specs.TypedTrees.{TypedStatement, TypedStatements, NoStatements, MoreStatements}
-use Rattle.typed_trees.specs.Views.{statement_view, statements_view}
-use Rattle.typing.specs.Checks.{Checked, ◌>>=◌}
-use Rattle.typing.specs.Blocks.{Block, Progress}
-use Rattle.typing.specs.Statements.{after_labels, declare_labels, places_from, with_here}
-use Rattle.typing.specs.Typing.{alone, cases, labelled, statements}
-use Rattle.types.specs.internal.Lists.{Listing, with_statement, statements_after}
-use Rattle.typing.specs.declared.fault.Fault.{Fault}
-use Rattle.typing.specs.Results.{FailsBy, in_front}
-use Rattle.types.specs.internal.Walking.{statement_with_labels}
+use Rattle.types.proofs.Prelude.{◌≡◌, ℕ, ◌+◌, ◌<◌, ◌≤◌, List, [], ◌∷◌, ◌++◌, length, drop, get_or, Option, Ok, Err, refl, ap, sym, ◌∙◌, Identifier, Tree, statement_tree, statement_trees, Statement, TypedStatement, TypedStatements, NoStatements, MoreStatements, statement_view, statements_view, Checked, ◌>>=◌, Block, Progress, after_labels, declare_labels, places_from, with_here, alone, cases, labelled, statements, Listing, with_statement, statements_after, Fault, FailsBy, in_front, statement_with_labels, drop_item, made_goes_on, made_fails, made_ended}
 use Rattle.types.proofs.Listings.{before_more, before_none, label_after, statement_in_front, places_on}
-use Rattle.typing.proofs.Loops.{drop_item, made_goes_on, made_fails, made_ended}
 
 -- the statements of a DO CASE
 module _ (block : Block) where

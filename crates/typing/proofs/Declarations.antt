@@ -1,21 +1,5 @@
 -- Declarations leave the labels that are known as they were, and procedures sound.
-use Rattle.std.proofs.Common.{◌≡◌, ℕ, List, [], ◌∷◌, ◌++◌, take, drop, refl, ap, subst, sym}
-use Rattle.std.specs.Prelude.{IfOk, nat_le, not, ◌||◌}
-use Rattle.std.proofs.lemmas.List.Elements.{All-append, All-cons, All-nil, All-set}
-use Rattle.trees.specs.declared.identifier.Identifier.{Identifier}
-use Rattle.trees.specs.Trees.{ItemTree, ElementTree, LiterallyElement, ItemElement, HeadingTree, DeclarationTrees}
-use Rattle.names.specs.Environment.{Here, Body, Names, into_body, after_body, with_object, with_procedure, with_parameter, with_label, is_declared_again, is_parameter_again, is_label_again}
-use Rattle.names.specs.Uses.{declared_by}
-use Rattle.typed_trees.specs.declared.limits.TheConstants.{OBJECT_LIMIT, FRAME_LIMIT, PARAMETER_LIMIT}
-use Rattle.typed_trees.specs.TypedTrees.{TypedList, TypedProcedure}
-use Rattle.typed_trees.specs.Jumps.{BodyIsSound}
-use Rattle.typing.specs.declared.fault.Cause.TheVariants.{DeclaredTwice, MisplacedAttribute, TooLarge}
-use Rattle.typing.specs.Checks.{require}
-use Rattle.typing.specs.References.{line_of}
-use Rattle.typing.specs.Blocks.{Block, Progress, is_external, is_reentrant, declares_parameter}
-use Rattle.typing.specs.Items.{TypedItem, declare_names, line_of_item, object_named, with_typed_object, with_objects, typed_item, size_of_item, declare_item, declare_definition, declare_element, declare_elements}
-use Rattle.typing.specs.Statements.{declare_labels}
-use Rattle.typing.specs.Procedures.{declare_parameters, no_more_parameters, check_visibility, check_reentrant, parameter_types, procedure_with, empty_list, open_procedure, close_procedure}
+use Rattle.typing.proofs.Prelude.{◌≡◌, ℕ, List, [], ◌∷◌, ◌++◌, take, drop, refl, ap, subst, sym, IfOk, nat_le, not, ◌||◌, All-append, All-cons, All-nil, All-set, Identifier, ItemTree, ElementTree, LiterallyElement, ItemElement, HeadingTree, DeclarationTrees, Here, Body, Names, into_body, after_body, with_object, with_procedure, with_parameter, with_label, is_declared_again, is_parameter_again, is_label_again, declared_by, OBJECT_LIMIT, FRAME_LIMIT, PARAMETER_LIMIT, TypedList, TypedProcedure, BodyIsSound, DeclaredTwice, MisplacedAttribute, TooLarge, require, line_of, Block, Progress, is_external, is_reentrant, declares_parameter, TypedItem, declare_names, line_of_item, object_named, with_typed_object, with_objects, typed_item, size_of_item, declare_item, declare_definition, declare_element, declare_elements, declare_labels, declare_parameters, no_more_parameters, check_visibility, check_reentrant, parameter_types, procedure_with, empty_list, open_procedure, close_procedure}
 use Rattle.typing.proofs.Steps.{then, then_any}
 use Rattle.typing.proofs.Parts.{IsIn, AreSound, IsAt}
 

@@ -1,22 +1,5 @@
 -- Declarations and headings: what they add to the tables.
-use Rattle.std.proofs.Common.{◌≡◌, ℕ, List, [], ◌∷◌, ◌++◌, map, take, drop, length, Some, slice_get, slice_set, nat_le, not, ◌||◌, refl, sym, ap, ◌∙◌, subst, append_assoc, append-nil}
-use Rattle.std.proofs.lemmas.List.{map-append}
-use Rattle.std.proofs.Math.Seq.{set-append_seam}
-use Rattle.trees.specs.declared.declaration.ScalarType.{ScalarType}
-use Rattle.trees.specs.declared.identifier.Identifier.{Identifier}
-use Rattle.trees.specs.Trees.{ItemTree, ElementTree, LiterallyElement, ItemElement, HeadingTree, DeclarationTrees, StatementTrees}
-use Rattle.names.specs.Environment.{Here, into_body, out_of_body, is_declared_again, is_parameter_again, with_object, with_procedure, with_parameter, with_definition}
-use Rattle.names.specs.Uses.{declared_by}
-use Rattle.typed_trees.specs.declared.limits.TheConstants.{OBJECT_LIMIT, FRAME_LIMIT, PARAMETER_LIMIT}
-use Rattle.typed_trees.specs.TypedTrees.{Home, InData, InConstants, Placed, BasedOn, Elsewhere, Nowhere, InFrame, TypedList, TypedObject, TypedProcedure, TypedModule, Constants}
-use Rattle.typing.specs.declared.fault.Cause.TheVariants.{DeclaredTwice, MisplacedAttribute, TooLarge}
-use Rattle.typing.specs.Checks.{require}
-use Rattle.typing.specs.References.{line_of}
-use Rattle.typing.specs.Blocks.{Block, Progress, is_external, is_reentrant, declares_parameter}
-use Rattle.typing.specs.Items.{declare_names, TypedItem, object_named, with_constant, with_typed_object, with_objects, typed_item, size_of_item, line_of_item, declare_item, declare_definition, declare_element, declare_elements}
-use Rattle.typing.specs.Procedures.{declare_parameters, no_more_parameters, check_visibility, check_reentrant, parameter_types, procedure_with, empty_list, with_heading, open_procedure, close_procedure}
-use Rattle.typing.specs.Statements.{with_here}
-use Rattle.typing.specs.Untyped.{plain_statements, untyped_list}
+use Rattle.typing.proofs.Prelude.{◌≡◌, ℕ, List, [], ◌∷◌, ◌++◌, map, take, drop, length, Some, slice_get, slice_set, nat_le, not, ◌||◌, refl, sym, ap, ◌∙◌, subst, append_assoc, append-nil, map-append, set-append_seam, ScalarType, Identifier, ItemTree, ElementTree, LiterallyElement, ItemElement, HeadingTree, DeclarationTrees, StatementTrees, Here, into_body, out_of_body, is_declared_again, is_parameter_again, with_object, with_procedure, with_parameter, with_definition, declared_by, OBJECT_LIMIT, FRAME_LIMIT, PARAMETER_LIMIT, Home, InData, InConstants, Placed, BasedOn, Elsewhere, Nowhere, InFrame, TypedList, TypedObject, TypedProcedure, TypedModule, Constants, DeclaredTwice, MisplacedAttribute, TooLarge, require, line_of, Block, Progress, is_external, is_reentrant, declares_parameter, declare_names, TypedItem, object_named, with_constant, with_typed_object, with_objects, typed_item, size_of_item, line_of_item, declare_item, declare_definition, declare_element, declare_elements, declare_parameters, no_more_parameters, check_visibility, check_reentrant, parameter_types, procedure_with, empty_list, with_heading, open_procedure, close_procedure, with_here, plain_statements, untyped_list}
 use Rattle.typing.proofs.Kept.{Gives, gives_ok, in_turn, gives_after, then_more}
 use Rattle.typing.proofs.Tables.{Fits, Keeps, keeps_append, with_object-fits, with_procedure-fits, with_parameter-fits, with_definition-fits, into_body-fits, out_of_body-fits}
 use Rattle.typing.proofs.Walked.{object_names, procedure_names, Holds, Reaches, bodies_back, Walked, walked_then, walked_as, walked_nothing, walked_to}

@@ -1,24 +1,5 @@
 -- Taking the conversions away from a typed expression gives back the tree that it was typed from.
-use Rattle.std.proofs.Common.{◌≡◌, ℕ, List, [], ◌∷◌, length, refl, sym, ap, ◌∙◌}
-use Rattle.std.specs.Prelude.{unwrap_or, ◌&&◌, is_none}
-use Rattle.trees.specs.declared.identifier.Identifier.{Identifier}
-use Rattle.trees.specs.Trees.{ConstantTree, NumberConstant, StringConstant, ExpressionTree, ConstantLeaf, ReferenceLeaf, LocationLeaf, ListLeaf, ParenthesizedNode, AssignmentNode, UnaryNode, BinaryNode, ReferenceTree, ReferenceTo, MemberTree, NoMember, MemberOf, ArgumentTrees, NoArguments, MoreArguments}
-use Rattle.names.specs.declared.entity.Binding.{Binding}
-use Rattle.names.specs.declared.entity.Binding.TheVariants.{Declared}
-use Rattle.names.specs.declared.entity.Entity.TheVariants.{Object}
-use Rattle.typed_trees.specs.TypedTrees.{ListNode, TypedProcedure, TypedModule, Constants}
-use Rattle.typed_trees.specs.ExpressionTypes.{type_of}
-use Rattle.typing.specs.Nodes.{type_of_operands}
-use Rattle.typing.specs.declared.fault.Cause.TheVariants.{WrongUse}
-use Rattle.typing.specs.References.{Known, Given, line_of, scalar_of, is_writable, destination_of}
-use Rattle.typing.specs.Functions.{call_arguments}
-use Rattle.typing.specs.Checks.{require}
-use Rattle.typing.specs.Items.{is_not_based}
-use Rattle.typing.specs.Statements.{Counter, counter_bound}
-use Rattle.typing.specs.internal.Tables.{Agrees}
-use Rattle.typing.specs.Constants.{number_of_characters, bytes_of_constants}
-use Rattle.typing.specs.Expressions.{number_node, with_list, expression, given_reference, given_member, arguments}
-use Rattle.typing.specs.Untyped.{untyped_expression, untyped_arguments, plain_expression, plain_arguments, plain_member, plain_reference, byte_list, named, number_in, number_leaf, object_name}
+use Rattle.typing.proofs.Prelude.{◌≡◌, ℕ, List, [], ◌∷◌, length, refl, sym, ap, ◌∙◌, unwrap_or, ◌&&◌, is_none, Identifier, ConstantTree, NumberConstant, StringConstant, ExpressionTree, ConstantLeaf, ReferenceLeaf, LocationLeaf, ListLeaf, ParenthesizedNode, AssignmentNode, UnaryNode, BinaryNode, ReferenceTree, ReferenceTo, MemberTree, NoMember, MemberOf, ArgumentTrees, NoArguments, MoreArguments, Binding, Declared, Object, ListNode, TypedProcedure, TypedModule, Constants, type_of, type_of_operands, WrongUse, Known, Given, line_of, scalar_of, is_writable, destination_of, call_arguments, require, is_not_based, Counter, counter_bound, Agrees, number_of_characters, bytes_of_constants, number_node, with_list, expression, given_reference, given_member, arguments, untyped_expression, untyped_arguments, plain_expression, plain_arguments, plain_member, plain_reference, byte_list, named, number_in, number_leaf, object_name}
 use Rattle.typing.proofs.Kept.{Gives, then_more, anything, gives_ok, gives_fault, in_turn, is_found, kept_at, kept_more, kept_both}
 use Rattle.typing.proofs.ReferencesBack.{as_type_back, plain_given, plain_given_member, GivesTree, MemberBack, ReferenceBack, GivesTarget, call_arguments_kept, value_back, location_back, target_back}
 use Rattle.typing.proofs.Tables.{keeps_append, at_the_end}

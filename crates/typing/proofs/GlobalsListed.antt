@@ -1,26 +1,5 @@
 -- The globals of a text so far are listed, and go on to be as its tables grow.
-use Rattle.std.proofs.Common.{◌≡◌, ℕ, ◌+◌, Bool, true, false, List, [], ◌∷◌, ◌++◌, length, Option, None, Some, if◌then◌else◌, cond, nat_le, refl, sym, ap, ◌∙◌, append-nil, arith}
-use Rattle.std.specs.Prelude.{filter_map, All, is_none, is_some, ◌&&◌}
-use Rattle.std.specs.List.{cons_option, enumerate_from}
-use Rattle.std.specs.Option.{option_map_or}
-use Rattle.std.proofs.lemmas.List.Elements.{All-append, All-cons, All-nil, filter_map-append}
-use Rattle.trees.specs.declared.declaration.Linkage.{Linkage}
-use Rattle.trees.specs.declared.declaration.Linkage.TheVariants.{Public, External}
-use Rattle.trees.specs.declared.identifier.Identifier.{Identifier}
-use Rattle.trees.specs.Trees.{SubjectTree, ItemTree, HeadingTree}
-use Rattle.typed_trees.specs.declared.parts.AtAddress.{AtAddress}
-use Rattle.typed_trees.specs.declared.parts.GlobalItem.{GlobalItem}
-use Rattle.typed_trees.specs.declared.parts.GlobalItem.TheVariants.{GlobalObject, GlobalProcedure}
-use Rattle.typed_trees.specs.declared.parts.InitialValue.{InitialValue}
-use Rattle.typed_trees.specs.TypedTrees.{Home, InData, InConstants, Placed, BasedOn, Elsewhere, Nowhere, InFrame, TypedObject, TypedProcedure, TypedModule}
-use Rattle.typed_trees.specs.Globals.{shared_object, shared_procedure, is_shared, is_global, global_object, global_procedure, IsHereIfPublic, ListsGlobals}
-use Rattle.typed_trees.specs.declared.limits.TheConstants.{FRAME_LIMIT}
-use Rattle.typing.specs.declared.fault.Cause.TheVariants.{TooLarge}
-use Rattle.typing.specs.Checks.{require}
-use Rattle.typing.specs.References.{Known, line_of}
-use Rattle.typing.specs.Blocks.{Owner, TheModule, OfProcedure, Block, Progress, with_global, is_public_linkage, is_external_linkage, is_module_level}
-use Rattle.typing.specs.Items.{TypedItem, base_of, typed_base, extents_of, typed_type, check_linkage, typed_at, typed_contents, is_data, home_with_values, object_named, with_typed_object, with_objects, typed_item}
-use Rattle.typing.specs.Procedures.{visibility_of}
+use Rattle.typing.proofs.Prelude.{◌≡◌, ℕ, ◌+◌, Bool, true, false, List, [], ◌∷◌, ◌++◌, length, Option, None, Some, if◌then◌else◌, cond, nat_le, refl, sym, ap, ◌∙◌, append-nil, arith, filter_map, All, is_none, is_some, ◌&&◌, cons_option, enumerate_from, option_map_or, All-append, All-cons, All-nil, filter_map-append, Linkage, Public, External, Identifier, SubjectTree, ItemTree, HeadingTree, AtAddress, GlobalItem, GlobalObject, GlobalProcedure, InitialValue, Home, InData, InConstants, Placed, BasedOn, Elsewhere, Nowhere, InFrame, TypedObject, TypedProcedure, TypedModule, shared_object, shared_procedure, is_shared, is_global, global_object, global_procedure, IsHereIfPublic, ListsGlobals, FRAME_LIMIT, TooLarge, require, Known, line_of, Owner, TheModule, OfProcedure, Block, Progress, with_global, is_public_linkage, is_external_linkage, is_module_level, TypedItem, base_of, typed_base, extents_of, typed_type, check_linkage, typed_at, typed_contents, is_data, home_with_values, object_named, with_typed_object, with_objects, typed_item, visibility_of}
 use Rattle.typing.proofs.Kept.{Gives, then_more, gives_ok, gives_after, in_turn, required}
 use Rattle.typing.proofs.Storage.Storable.{enumerate_more}
 use Rattle.typing.proofs.Types.TypesKept.{Heading, headings}

@@ -1,12 +1,5 @@
 -- What holds of all that a check gives, and what is kept from one typing to the next.
-use Rattle.std.proofs.Common.{◌≡◌, Bool, true, false, Option, Some, None, Ok, Err, refl, subst}
-use Rattle.typing.specs.declared.fault.Cause.{Cause}
-use Rattle.typing.specs.declared.fault.Fault.{Fault}
-use Rattle.std.specs.Prelude.{ℕ}
-use Rattle.typed_trees.specs.TypedTrees.{TypedModule, Constants}
-use Rattle.typing.specs.Checks.{Checked, ◌>>=◌, require, found}
-use Rattle.typing.specs.References.{Known}
-use Rattle.typing.specs.internal.Tables.{Agrees, Grows, HasLists}
+use Rattle.typing.proofs.Prelude.{◌≡◌, Bool, true, false, Option, Some, None, Ok, Err, refl, subst, Cause, Fault, ℕ, TypedModule, Constants, Checked, ◌>>=◌, require, found, Known, Agrees, Grows, HasLists}
 
 -- what a check gives, if it gives anything, is so
 pub record Gives {A : Type 0} (P : A → Type 0) (result : Checked A) : Type 0 where

@@ -1,3 +1,4 @@
+mod Prelude
 pub mod Steps
 pub mod Jumps
 pub mod Parts

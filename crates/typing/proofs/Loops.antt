@@ -1,12 +1,5 @@
 -- Loops over lists: what is given for all items is what is given for those that are left, with what was made in front.
-use Rattle.std.proofs.Common.{◌≡◌, ℕ, suc, ◌+◌, ◌<◌, ◌≤◌, List, [], ◌∷◌, length, drop, get_or, Option, None, Some, Result, Ok, Err, refl, ap, sym, subst, ◌∙◌, add-one}
-use Rattle.std.proofs.Math.ListN.{drop_of_length-le}
-use Rattle.std.proofs.Math.Seq.{drop-cons}
-use Rattle.failure.specs.declared.Failure.{Failure}
-use Rattle.typing.specs.declared.fault.Fault.{Fault}
-use Rattle.typing.specs.Checks.{Checked, ◌>>=◌}
-use Rattle.typing.specs.Results.{FailsBy, Answers, Gives, Leaves, fault_in}
-use Rattle.typing.specs.Results.{in_front}
+use Rattle.typing.proofs.Prelude.{◌≡◌, ℕ, suc, ◌+◌, ◌<◌, ◌≤◌, List, [], ◌∷◌, length, drop, get_or, Option, None, Some, Result, Ok, Err, refl, ap, sym, subst, ◌∙◌, add-one, drop_of_length-le, drop-cons, Failure, Fault, Checked, ◌>>=◌, FailsBy, Answers, Gives, Leaves, fault_in, in_front}
 
 pub drop_item : {A B : Type 0} (view : List A → B) (items : List A) (i : ℕ) (item : A) → i < length items → item ≡ get_or items i item → view (drop i items) ≡ view (item ∷ drop (i + 1) items)
 drop_item view items i item within is =

@@ -1,21 +1,6 @@
 -- What names in the text are bound to, as against the names in the tables.
-use Rattle.std.proofs.Common.{◌≡◌, ℕ, List, [], Option, Some, None, refl}
-use Rattle.std.specs.Prelude.{unwrap_or, slice_get, codes}
-use Rattle.std.specs.Option.{option_or, option_map}
-use Rattle.trees.specs.declared.identifier.Identifier.{Identifier}
-use Rattle.names.specs.declared.entity.Binding.{Binding}
-use Rattle.names.specs.declared.entity.Binding.TheVariants.{Declared, BuiltInName}
-use Rattle.names.specs.declared.entity.BuiltIn.{BuiltIn}
+use Rattle.typing.proofs.Prelude.{◌≡◌, ℕ, List, [], Option, Some, None, refl, unwrap_or, slice_get, codes, option_or, option_map, Identifier, Binding, Declared, BuiltInName, BuiltIn, Entity, Object, Procedure, binding_of, built_in_of, built_ins, Here, entity_of, TypedObject, TypedModule, UnknownName, Known, line_of, bound, object_of, procedure_of, members_of, Agrees, procedure_name, object_name, members_of_object}
 use Rattle.names.specs.declared.entity.BuiltIn.TheVariants as built_in_names
-use Rattle.names.specs.declared.entity.Entity.{Entity}
-use Rattle.names.specs.declared.entity.Entity.TheVariants.{Object, Procedure}
-use Rattle.names.specs.BuiltIns.{binding_of, built_in_of, built_ins}
-use Rattle.names.specs.Environment.{Here, entity_of}
-use Rattle.typed_trees.specs.TypedTrees.{TypedObject, TypedModule}
-use Rattle.typing.specs.declared.fault.Cause.TheVariants.{UnknownName}
-use Rattle.typing.specs.References.{Known, line_of, bound, object_of, procedure_of, members_of}
-use Rattle.typing.specs.internal.Tables.{Agrees}
-use Rattle.typing.specs.Untyped.{procedure_name, object_name, members_of_object}
 use Rattle.typing.proofs.Kept.{Gives, then_more, is_found}
 use Rattle.typing.proofs.Tables.{names_known}
 

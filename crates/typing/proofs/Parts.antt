@@ -1,26 +1,5 @@
 -- The parts of a module that have no statements in them: expressions, simple statements, heads of loops.
-use Rattle.std.proofs.Common.{◌≡◌, ℕ, List, Option, None, Some, sym, subst}
-use Rattle.std.specs.Prelude.{All, IfOk, IfSome, is_none, ◌==◌}
-use Rattle.std.specs.Option.{option_map_or}
-use Rattle.trees.specs.declared.declaration.ScalarType.{ScalarType}
-use Rattle.trees.specs.declared.identifier.Identifier.{Identifier}
-use Rattle.trees.specs.Trees.{ExpressionTree, ReferenceTree, IterationTree}
-use Rattle.names.specs.declared.entity.Entity.{Entity}
-use Rattle.names.specs.declared.entity.Entity.TheVariants.{Procedure, Label}
-use Rattle.names.specs.declared.entity.Binding.{Binding}
-use Rattle.names.specs.declared.entity.Binding.TheVariants.{Declared, BuiltInName, UnknownLabel}
-use Rattle.names.specs.declared.entity.BuiltIn.TheVariants.{Move}
-use Rattle.names.specs.BuiltIns.{jump_of}
-use Rattle.names.specs.Environment.{Here, Body, Names, known_in}
-use Rattle.typed_trees.specs.TypedTrees.{TypedArguments, NoArguments as NoTyped, MoreArguments as MoreTyped, TypedStatement, TypedProcedure, Constants}
-use Rattle.typed_trees.specs.Jumps.{LabelsOf, JumpsStay, ListsStand, IsNoLabel, BodyIsSound}
-use Rattle.typing.specs.declared.fault.Cause.TheVariants.{WrongUse}
-use Rattle.typing.specs.Checks.{require}
-use Rattle.typing.specs.References.{Known, Given, line_of, count_of_given, bound, procedure_of}
-use Rattle.typing.specs.Functions.{call_arguments}
-use Rattle.typing.specs.Expressions.{expression}
-use Rattle.typing.specs.Blocks.{Owner, TheModule, OfProcedure, Progress}
-use Rattle.typing.specs.Statements.{with_constants, value, destinations, assignment, moved, call_bound, call, return_with, return_from, goto_bound, goto, counter_bound, step, iteration}
+use Rattle.typing.proofs.Prelude.{◌≡◌, ℕ, List, Option, None, Some, sym, subst, All, IfOk, IfSome, is_none, ◌==◌, option_map_or, ScalarType, Identifier, ExpressionTree, ReferenceTree, IterationTree, Entity, Procedure, Label, Binding, Declared, BuiltInName, UnknownLabel, Move, jump_of, Here, Body, Names, known_in, TypedArguments, NoTyped, MoreTyped, TypedStatement, TypedProcedure, Constants, LabelsOf, JumpsStay, ListsStand, IsNoLabel, BodyIsSound, WrongUse, require, Known, Given, line_of, count_of_given, bound, procedure_of, call_arguments, expression, Owner, TheModule, OfProcedure, Progress, with_constants, value, destinations, assignment, moved, call_bound, call, return_with, return_from, goto_bound, goto, counter_bound, step, iteration}
 use Rattle.typing.proofs.Steps.{then, then_any}
 use Rattle.typing.proofs.Jumps.KnownLabels.{IsLabelAround, AreAround}
 

@@ -1,37 +1,9 @@
 -- Taking the conversions away from a typed reference gives back the reference that it was typed from.
-use Rattle.std.proofs.Common.{◌≡◌, ℕ, suc, ◌==◌, Bool, true, false, List, [], ◌∷◌, length, Option, Some, None, nat_le, refl, sym, ap, subst, ◌∙◌, arith}
-use Rattle.std.specs.Prelude.{unwrap_or, slice_get, codes, if◌then◌else◌}
-use Rattle.std.specs.Option.{option_map, option_map_or}
-use Rattle.std.specs.Str.{bytes_eq}
-use Rattle.std.proofs.lemmas.Slice.Eq.{bytes_eq-Decides}
-use Rattle.std.proofs.lemmas.Bool.{eqb-true, leb-true}
-use Rattle.trees.specs.declared.declaration.ScalarType.{ScalarType}
-use Rattle.trees.specs.declared.declaration.ScalarType.TheVariants.{Byte, Address}
-use Rattle.trees.specs.declared.identifier.Identifier.{Identifier}
-use Rattle.trees.specs.Trees.{ExpressionTree, NumberConstant, StringConstant, ConstantLeaf, ReferenceLeaf, LocationLeaf, ReferenceTree, ReferenceTo, MemberTree, NoMember, MemberOf, ArgumentTrees, NoArguments, MoreArguments}
-use Rattle.names.specs.declared.entity.Binding.{Binding}
-use Rattle.names.specs.declared.entity.Binding.TheVariants.{Declared, BuiltInName}
-use Rattle.names.specs.declared.entity.BuiltIn.{BuiltIn}
+use Rattle.typing.proofs.Prelude.{◌≡◌, ℕ, suc, ◌==◌, Bool, true, false, List, [], ◌∷◌, length, Option, Some, None, nat_le, refl, sym, ap, subst, ◌∙◌, arith, unwrap_or, slice_get, codes, if◌then◌else◌, option_map, option_map_or, bytes_eq, bytes_eq-Decides, eqb-true, leb-true, ScalarType, Byte, Address, Identifier, ExpressionTree, NumberConstant, StringConstant, ConstantLeaf, ReferenceLeaf, LocationLeaf, ReferenceTree, ReferenceTo, MemberTree, NoMember, MemberOf, ArgumentTrees, NoArguments, MoreArguments, Binding, Declared, BuiltInName, BuiltIn, Object, Procedure, TypedMember, ShiftFunction, UnaryFunction, Measure, TypedExpression, Subscript, TypedReference, TypedArguments, NoTyped, MoreTyped, TypedObject, TypedProcedure, TypedModule, Constants, FoundMember, member_named, after_member, size_of_scalar, size_of_element, type_of, converted, as_type, arguments_as, type_of_shift, Destination, target_of, Known, Given, GivenMember, WithoutMember, WithMember, GivenReference, line_of, number_of_arguments, count_of_given, Extent, AnElement, AlsoTheWhole, takes_subscripts, subscript_of, members_of, FoundPart, part_with_member, part_of, scalar_part, without_member, port_of, port_of_character, has_location, location_of_bound, location_of, is_writable, destination_of_bound, destination_of, call_arguments, call_of, function_of, unary_function, shift_of, shift_function, input_value, Measured, measured_member, measured_object, measure_of, measurement, number_of_variable, built_in_value, value_of_bound, value_of, Agrees, number_of_characters, untyped_expression, untyped_arguments, untyped_subscript, plain_arguments, plain_member, one_argument, member_tree, untyped_target, named, number_leaf, call_tree, function_name, shift_name, measure_name, procedure_name, object_name, untyped_reference, member_name, Checked}
 use Rattle.names.specs.declared.entity.BuiltIn.TheVariants as built_in_names
-use Rattle.names.specs.declared.entity.Entity.TheVariants.{Object, Procedure}
-use Rattle.typed_trees.specs.declared.parts.TypedMember.{TypedMember}
-use Rattle.typed_trees.specs.declared.parts.ShiftFunction.{ShiftFunction}
-use Rattle.typed_trees.specs.declared.parts.UnaryFunction.{UnaryFunction}
 use Rattle.typed_trees.specs.declared.parts.UnaryFunction.TheVariants as functions
 use Rattle.typed_trees.specs.declared.parts.ShiftFunction.TheVariants as shifts
 use Rattle.typed_trees.specs.declared.parts.Measure.TheVariants as measures
-use Rattle.typed_trees.specs.declared.parts.Measure.{Measure}
-use Rattle.typed_trees.specs.TypedTrees.{TypedExpression, Subscript, TypedReference, TypedArguments, NoArguments as NoTyped, MoreArguments as MoreTyped, TypedObject, TypedProcedure, TypedModule, Constants}
-use Rattle.typed_trees.specs.declared.members.FoundMember.{FoundMember}
-use Rattle.typed_trees.specs.Sizes.{member_named, after_member, size_of_scalar, size_of_element}
-use Rattle.typed_trees.specs.ExpressionTypes.{type_of}
-use Rattle.typing.specs.Nodes.{converted, as_type, arguments_as, type_of_shift, Destination, target_of}
-use Rattle.typing.specs.References.{Known, Given, GivenMember, WithoutMember, WithMember, GivenReference, line_of, number_of_arguments, count_of_given, Extent, AnElement, AlsoTheWhole, takes_subscripts, subscript_of, members_of, FoundPart, part_with_member, part_of, scalar_part, without_member, port_of, port_of_character, has_location, location_of_bound, location_of, is_writable, destination_of_bound, destination_of}
-use Rattle.typing.specs.Functions.{call_arguments, call_of, function_of, unary_function, shift_of, shift_function, input_value, Measured, measured_member, measured_object, measure_of, measurement, number_of_variable, built_in_value, value_of_bound, value_of}
-use Rattle.typing.specs.internal.Tables.{Agrees}
-use Rattle.typing.specs.Constants.{number_of_characters}
-use Rattle.typing.specs.Untyped.{untyped_expression, untyped_arguments, untyped_subscript, plain_arguments, plain_member, one_argument, member_tree, untyped_target, named, number_leaf, call_tree, function_name, shift_name, measure_name, procedure_name, object_name, untyped_reference, member_name}
-use Rattle.typing.specs.Checks.{Checked}
 use Rattle.typing.proofs.Kept.{Gives, then_more, anything, gives_ok, gives_fault, in_turn, required, is_found, Kept, kept_at, kept_more, kept_both}
 use Rattle.typing.proofs.NamesBack.{spelled, bound_spelled, StandsFor, is_bound, Binds, is_object, is_procedure}
 

@@ -1,21 +1,5 @@
 -- At each place of a text the objects that names stand for can be referred to from there.
-use Rattle.std.proofs.Common.{◌≡◌, ℕ, ◌+◌, ◌<◌, ◌≤◌, Bool, true, false, List, [], ◌∷◌, length, Option, slice_get, refl, sym, subst, if◌then◌else◌, arith}
-use Rattle.std.specs.Prelude.{IsSomeAnd, is_some, not, ◌||◌}
-use Rattle.trees.specs.declared.declaration.ScalarType.{ScalarType}
-use Rattle.trees.specs.Trees.{HeadingTree}
-use Rattle.trees.specs.declared.identifier.Identifier.{Identifier}
-use Rattle.names.specs.declared.entity.Entity.{Entity}
-use Rattle.names.specs.declared.entity.Entity.TheVariants.{Object, Procedure, Label, Definition}
-use Rattle.names.specs.Environment.{Here, Body, into_block, out_of_block, into_body, out_of_body, after_body, into_list, out_of_list, with_object, with_procedure, with_definition, with_parameter, with_label, is_declared_again, is_parameter_again, is_label_again}
-use Rattle.typed_trees.specs.TypedTrees.{Home, InData, InConstants, Placed, BasedOn, Elsewhere, Nowhere, InFrame, TypedObject, TypedModule}
-use Rattle.typed_trees.specs.WellTyped.{Within, WithinProcedure, WithinMain, LiesFor, IsSeen}
-use Rattle.typing.specs.declared.fault.Cause.TheVariants.{DeclaredTwice, MisplacedAttribute}
-use Rattle.typing.specs.Checks.{require}
-use Rattle.typing.specs.References.{Known, line_of}
-use Rattle.typing.specs.Blocks.{Owner, TheModule, OfProcedure, Block, is_external, is_reentrant, declares_parameter}
-use Rattle.typing.specs.Items.{declare_names}
-use Rattle.typing.specs.Statements.{declare_labels}
-use Rattle.typing.specs.Procedures.{declare_parameters}
+use Rattle.typing.proofs.Prelude.{◌≡◌, ℕ, ◌+◌, ◌<◌, ◌≤◌, Bool, true, false, List, [], ◌∷◌, length, Option, slice_get, refl, sym, subst, if◌then◌else◌, arith, IsSomeAnd, is_some, not, ◌||◌, ScalarType, HeadingTree, Identifier, Entity, Object, Procedure, Label, Definition, Here, Body, into_block, out_of_block, into_body, out_of_body, after_body, into_list, out_of_list, with_object, with_procedure, with_definition, with_parameter, with_label, is_declared_again, is_parameter_again, is_label_again, Home, InData, InConstants, Placed, BasedOn, Elsewhere, Nowhere, InFrame, TypedObject, TypedModule, Within, WithinProcedure, WithinMain, LiesFor, IsSeen, DeclaredTwice, MisplacedAttribute, require, Known, line_of, Owner, TheModule, OfProcedure, Block, is_external, is_reentrant, declares_parameter, declare_names, declare_labels, declare_parameters}
 use Rattle.typing.proofs.Kept.{Gives, then_more, gives_ok, gives_after}
 use Rattle.typing.proofs.Tables.{Implies, BodyFits, BodiesFit, entity_known, body_weaker, bodies_weaker, names_with-fit, numbered-fit, after_block-fits, after_list-fits, Keeps}
 use Rattle.typing.proofs.Types.TypesKept.{and_more}

@@ -1,25 +1,6 @@
 -- Statements without statements in them are given back.
-use Rattle.std.proofs.Common.{◌≡◌, ℕ, List, [], ◌∷◌, map, Option, None, Some, option_map, is_none, ◌==◌, codes, refl, sym, ap, ap₂, ◌∙◌}
-use Rattle.trees.specs.declared.declaration.ScalarType.{ScalarType}
-use Rattle.trees.specs.declared.declaration.ScalarType.TheVariants.{Address}
-use Rattle.trees.specs.declared.identifier.Identifier.{Identifier}
-use Rattle.trees.specs.declared.identifier.Place.{Place}
-use Rattle.trees.specs.Trees.{ExpressionTree, ReferenceTree, ArgumentTrees, IterationTree, StatementKindTree}
+use Rattle.typing.proofs.Prelude.{◌≡◌, ℕ, List, [], ◌∷◌, map, Option, None, Some, option_map, is_none, ◌==◌, codes, refl, sym, ap, ap₂, ◌∙◌, ScalarType, Address, Identifier, Place, ExpressionTree, ReferenceTree, ArgumentTrees, IterationTree, StatementKindTree, Binding, Declared, BuiltInName, Move, Procedure, Label, jump_of, WrongUse, TypedExpression, TypedArguments, NoTyped, MoreTyped, TypedIteration, TypedStatement, LabelStatement, TypedModule, Constants, type_of, Checked, require, Destination, target_of, Known, line_of, count_of_given, Owner, TheModule, OfProcedure, Progress, with_constants, value, destinations, assignment, moved, call_bound, call, return_with, return_from, goto_bound, goto, Counter, counter_bound, step, iteration, nowhere, named, nameless, plain_expression, plain_reference, plain_arguments, plain_iteration, plain_kind, object_name, untyped_expression, untyped_target, untyped_arguments, untyped_iteration, untyped_kind}
 use Rattle.trees.specs.Trees as trees
-use Rattle.names.specs.declared.entity.Binding.{Binding}
-use Rattle.names.specs.declared.entity.Binding.TheVariants.{Declared, BuiltInName}
-use Rattle.names.specs.declared.entity.BuiltIn.TheVariants.{Move}
-use Rattle.names.specs.declared.entity.Entity.TheVariants.{Procedure, Label}
-use Rattle.names.specs.BuiltIns.{jump_of}
-use Rattle.typing.specs.declared.fault.Cause.TheVariants.{WrongUse}
-use Rattle.typed_trees.specs.TypedTrees.{TypedExpression, TypedArguments, NoArguments as NoTyped, MoreArguments as MoreTyped, TypedIteration, TypedStatement, LabelStatement, TypedModule, Constants}
-use Rattle.typed_trees.specs.ExpressionTypes.{type_of}
-use Rattle.typing.specs.Checks.{Checked, require}
-use Rattle.typing.specs.Nodes.{Destination, target_of}
-use Rattle.typing.specs.References.{Known, line_of, count_of_given}
-use Rattle.typing.specs.Blocks.{Owner, TheModule, OfProcedure, Progress}
-use Rattle.typing.specs.Statements.{with_constants, value, destinations, assignment, moved, call_bound, call, return_with, return_from, goto_bound, goto, Counter, counter_bound, step, iteration}
-use Rattle.typing.specs.Untyped.{nowhere, named, nameless, plain_expression, plain_reference, plain_arguments, plain_iteration, plain_kind, object_name, untyped_expression, untyped_target, untyped_arguments, untyped_iteration, untyped_kind}
 use Rattle.typing.proofs.Kept.{Gives, gives_ok, gives_fault, in_turn, gives_after, then_more, Kept, kept_at, kept_more, kept_both}
 use Rattle.typing.proofs.NamesBack.{Binds, is_bound, is_procedure, bound_spelled}
 use Rattle.typing.proofs.ReferencesBack.{as_type_back}

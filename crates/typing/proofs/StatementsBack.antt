@@ -1,20 +1,8 @@
 -- Statements, declarations and modules are given back by taking the conversions away from their typing.
-use Rattle.std.proofs.Common.{◌≡◌, ℕ, ◌+◌, not, List, [], ◌∷◌, ◌++◌, length, Ok, refl, ap, ap₂, ◌∙◌, append-nil}
-use Rattle.trees.specs.declared.identifier.Identifier.{Identifier}
+use Rattle.typing.proofs.Prelude.{◌≡◌, ℕ, ◌+◌, not, List, [], ◌∷◌, ◌++◌, length, Ok, refl, ap, ap₂, ◌∙◌, append-nil, Identifier, StatementTree, LabelledStatement, StatementKindTree, ElseTree, StatementTrees, DeclarationTree, DeclareTree, ProcedureTree, DeclarationTrees, NoDeclarations, MoreDeclarations, ModuleTree, Here, out_of_block, into_list, out_of_list, with_label, is_label_again, labels_of, DeclaredTwice, TypedStatement, LabelStatement, TypedElse, TypedStatements, TypedList, TypedModule, Checked, require, line_of, Block, Progress, with_here, labels_before, declare_labels, after_labels, list_of, own_block, parameter_objects, check_body, inner_block, entered, kind, labelled, alone, else_part, cases, statements, declaration, declarations, module_block, at_the_beginning, module_with, typing_of, nowhere, nameless, without_names, plain_statement, plain_else, plain_statements, bodies_in_statement, bodies_in_kind, bodies_in_else, bodies_in_statements, bodies_in_declaration, bodies_in, untyped_kind, untyped_else, untyped_statements, untyped_list, GivesBack}
 use Rattle.trees.specs.Trees as trees
-use Rattle.trees.specs.Trees.{StatementTree, LabelledStatement, StatementKindTree, ElseTree, StatementTrees, DeclarationTree, DeclareTree, ProcedureTree, DeclarationTrees, NoDeclarations, MoreDeclarations, ModuleTree}
-use Rattle.names.specs.Environment.{Here, out_of_block, into_list, out_of_list, with_label, is_label_again}
-use Rattle.names.specs.Events.{labels_of}
-use Rattle.typing.specs.declared.fault.Cause.TheVariants.{DeclaredTwice}
 use Rattle.typed_trees.specs.TypedTrees as typed
-use Rattle.typed_trees.specs.TypedTrees.{TypedStatement, LabelStatement, TypedElse, TypedStatements, MoreStatements as MoreTyped, TypedList, TypedModule}
-use Rattle.typing.specs.Checks.{Checked, require}
-use Rattle.typing.specs.References.{line_of}
-use Rattle.typing.specs.Blocks.{Block, Progress}
-use Rattle.typing.specs.Statements.{with_here, labels_before, declare_labels, after_labels, list_of}
-use Rattle.typing.specs.Procedures.{own_block, parameter_objects, check_body}
-use Rattle.typing.specs.Typing.{inner_block, entered, kind, labelled, alone, else_part, cases, statements, declaration, declarations, module_block, at_the_beginning, module_with, typing_of}
-use Rattle.typing.specs.Untyped.{nowhere, nameless, without_names, plain_statement, plain_else, plain_statements, bodies_in_statement, bodies_in_kind, bodies_in_else, bodies_in_statements, bodies_in_declaration, bodies_in, untyped_kind, untyped_else, untyped_statements, untyped_list, GivesBack}
+use Rattle.typed_trees.specs.TypedTrees.{MoreStatements as MoreTyped}
 use Rattle.typing.proofs.Kept.{Gives, gives_ok, gives_fault, in_turn, gives_after, then_more}
 use Rattle.typing.proofs.Tables.{Fits, at_the_start-fits, into_block-fits, out_of_block-fits, into_list-fits, out_of_list-fits, with_label-fits}
 use Rattle.typing.proofs.Walked.{Holds, Reaches, bodies_back, Walked, walked_nothing, walked_then, walked_as, walked_from, walked_to}

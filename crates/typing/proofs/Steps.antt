@@ -1,6 +1,5 @@
 -- What holds of what checks give, step by step.
-use Rattle.std.specs.Prelude.{Ok, Err, IfOk}
-use Rattle.typing.specs.Checks.{Checked, ◌>>=◌}
+use Rattle.typing.proofs.Prelude.{Ok, Err, IfOk, Checked, ◌>>=◌}
 
 -- one check, and then what is done with what it gives
 pub then :

@@ -1,13 +1,5 @@
 -- Names that stand for objects and procedures of tables, at every place of a text.
-use Rattle.std.proofs.Common.{◌≡◌, ℕ, suc, zero, ◌+◌, Bool, true, false, List, [], ◌∷◌, ◌++◌, length, drop, Option, None, Some, if◌then◌else◌, slice_get, refl, sym, ap, ◌∙◌, subst, length-append}
-use Rattle.std.specs.Map.{lookup}
-use Rattle.std.specs.Option.{option_or}
-use Rattle.std.specs.Str.{bytes_eq}
-use Rattle.std.proofs.lemmas.Slice.Eq.{bytes_eq-Decides}
-use Rattle.trees.specs.declared.identifier.Identifier.{Identifier}
-use Rattle.names.specs.declared.entity.Entity.{Entity}
-use Rattle.names.specs.declared.entity.Entity.TheVariants.{Object, Procedure, Label, Definition}
-use Rattle.names.specs.Environment.{Names, Body, Here, known_in, declared_in, declared_around, label_of, entity_of, empty_body, body_with_name, at_the_start, into_block, out_of_block, body_after_block, into_body, out_of_body, after_body, into_list, out_of_list, numbered_from, with_object, with_procedure, with_definition, with_parameter, with_label}
+use Rattle.typing.proofs.Prelude.{◌≡◌, ℕ, suc, zero, ◌+◌, Bool, true, false, List, [], ◌∷◌, ◌++◌, length, drop, Option, None, Some, if◌then◌else◌, slice_get, refl, sym, ap, ◌∙◌, subst, length-append, lookup, option_or, bytes_eq, bytes_eq-Decides, Identifier, Entity, Object, Procedure, Label, Definition, Names, Body, Here, known_in, declared_in, declared_around, label_of, entity_of, empty_body, body_with_name, at_the_start, into_block, out_of_block, body_after_block, into_body, out_of_body, after_body, into_list, out_of_list, numbered_from, with_object, with_procedure, with_definition, with_parameter, with_label}
 
 -- whether what an entity is has a name in tables of names
 abbrev pub IsNamed : (objects procedures : List (List ℕ)) → Entity → List ℕ → Type 0

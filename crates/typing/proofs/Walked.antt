@@ -1,18 +1,5 @@
 -- What typing a part of a text does to the tables, and that the part is given back from the tables at the end.
-use Rattle.std.proofs.Common.{◌≡◌, ℕ, List, [], ◌++◌, map, Option, None, Some, option_map, slice_get, refl, sym, ap, ◌∙◌}
-use Rattle.std.specs.Option.{option_map_or, unwrap_or}
-use Rattle.std.proofs.lemmas.Option.{slice_get-map}
-use Rattle.std.proofs.lemmas.List.{map-append}
-use Rattle.std.proofs.Common.{append_assoc, append-nil}
-use Rattle.trees.specs.Trees.{StatementTrees}
-use Rattle.names.specs.declared.entity.Entity.TheVariants.{Object, Procedure}
-use Rattle.names.specs.Environment.{Here}
-use Rattle.typed_trees.specs.TypedTrees.{TypedObject, TypedProcedure, TypedModule, Constants}
-use Rattle.typing.specs.References.{members_of}
-use Rattle.typing.specs.Blocks.{Progress}
-use Rattle.typing.specs.Statements.{with_here, with_constants}
-use Rattle.typing.specs.Untyped.{plain_statements, untyped_list}
-use Rattle.typing.specs.internal.Tables.{AgreesOnObjects, AgreesOnProcedures, Agrees, HasLists}
+use Rattle.typing.proofs.Prelude.{◌≡◌, ℕ, List, [], ◌++◌, map, Option, None, Some, option_map, slice_get, refl, sym, ap, ◌∙◌, option_map_or, unwrap_or, slice_get-map, map-append, append_assoc, append-nil, StatementTrees, Object, Procedure, Here, TypedObject, TypedProcedure, TypedModule, Constants, members_of, Progress, with_here, with_constants, plain_statements, untyped_list, AgreesOnObjects, AgreesOnProcedures, Agrees, HasLists}
 use Rattle.typing.proofs.Kept.{Kept}
 use Rattle.typing.proofs.Tables.{Fits, Keeps, entity_named}
 

@@ -1,29 +1,8 @@
 -- What an item takes of its text.
-use Rattle.std.proofs.Common.{◌≡◌, ℕ, suc, ◌+◌, ◌<◌, ◌≤◌, List, [], ◌∷◌, length, take, Bool, true, false, cond, Option, None, Some, Result, Ok, Err, refl, sym, ap, ◌∙◌, arith, not, ◌&&◌, ◌||◌, eqb}
-use Rattle.std.specs.List.{find, list_all, prefix_len, take_while, starts_with}
-use Rattle.std.specs.Prelude.{nat_lt, nat_eq, IfOk}
-use Rattle.std.specs.Option.{option_map_or}
-use Rattle.std.specs.Char.{is_ascii_alphabetic, is_ascii_digit}
-use Rattle.std.proofs.lemmas.List.{length-take}
-use Rattle.std.proofs.lemmas.List.Folds.{length-prefix_len}
-use Rattle.std.proofs.lemmas.List.Sums.{prefix_len-le-length}
-use Rattle.words.specs.declared.items.Cause.{Cause}
+use Rattle.words.proofs.Prelude.{◌≡◌, ℕ, suc, ◌+◌, ◌<◌, ◌≤◌, List, [], ◌∷◌, length, take, Bool, true, false, cond, Option, None, Some, Result, Ok, Err, refl, sym, ap, ◌∙◌, arith, not, ◌&&◌, ◌||◌, eqb, find, list_all, prefix_len, take_while, starts_with, nat_lt, nat_eq, IfOk, option_map_or, is_ascii_alphabetic, is_ascii_digit, length-take, length-prefix_len, prefix_len-le-length, Cause, bytes_eq-Decides, nat_tests, Mark, Item, Spelled, Wrong, LONGEST_NAME, is_word_byte, is_blank, is_printable, is_comment_byte, item_at, comment_or_mark, name_of, name_item, kind_of_name, number_item, number_of, FitsIn, further, string_end, string_item, comment_end, comment_item}
 use Rattle.words.specs.declared.items.Cause.TheVariants.{LongName, BadNumber, BadCharacter}
 use Rattle.words.specs.declared.vocabulary.Kind.TheVariants.{Number}
-use Rattle.std.proofs.lemmas.Slice.Eq.{bytes_eq-Decides}
-use Rattle.std.proofs.lemmas.Bool.Decides.{nat_tests}
-use Rattle.words.specs.declared.vocabulary.Mark.{Mark}
-use Rattle.words.specs.declared.items.Item.{Item}
-use Rattle.words.specs.declared.items.Item.TheVariants.{Spelled, Wrong}
-use Rattle.symbols.specs.declared.name.TheConstants.{LONGEST_NAME}
-use Rattle.words.specs.Characters.{is_word_byte, is_blank, is_printable, is_comment_byte}
-use Rattle.words.specs.Items.{item_at, comment_or_mark}
 use Rattle.words.specs.Marks.{marks, mark_at, mark_item}
-use Rattle.symbols.specs.Names.{name_of}
-use Rattle.words.specs.Names.{name_item, kind_of_name}
-use Rattle.words.specs.Numbers.{number_item, number_of}
-use Rattle.words.specs.internal.Fits.{FitsIn}
-use Rattle.words.specs.Strings.{further, string_end, string_item, comment_end, comment_item}
 
 -- both branches of a test
 fits_if : (size : ℕ) (b : Bool) (x y : Item)

@@ -1,14 +1,5 @@
 -- What follows from the definitions: each text has one reading.
-use Rattle.std.proofs.Common.{◌≡◌, ℕ, zero, suc, ◌+◌, ◌<◌, ◌≤◌, ◌⊎◌, inl, inr, List, [], ◌∷◌, length, drop, refl, sym, ap, ◌∙◌, subst, arith}
-use Rattle.std.proofs.lemmas.List.{length-drop}
-use Rattle.words.specs.declared.fault.Fault.{Fault}
-use Rattle.words.specs.declared.items.Cause.{Cause}
-use Rattle.words.specs.declared.items.Item.{Item}
-use Rattle.words.specs.declared.items.Item.TheVariants.{Ending, Blank, Spelled, Wrong}
-use Rattle.words.specs.declared.vocabulary.Kind.{Kind}
-use Rattle.words.specs.Items.{item_at}
-use Rattle.words.specs.internal.Fits.{FitsIn}
-use Rattle.words.specs.Spelling.{Lexeme, lexeme_at, line_at, fault_of, SpellsFrom, at_end, after_blank, word_then, FaultFrom, fault_here, fault_after_blank, fault_after_word, HasOneReading}
+use Rattle.words.proofs.Prelude.{◌≡◌, ℕ, zero, suc, ◌+◌, ◌<◌, ◌≤◌, ◌⊎◌, inl, inr, List, [], ◌∷◌, length, drop, refl, sym, ap, ◌∙◌, subst, arith, length-drop, Fault, Cause, Item, Ending, Blank, Spelled, Wrong, Kind, item_at, FitsIn, Lexeme, lexeme_at, line_at, fault_of, SpellsFrom, at_end, after_blank, word_then, FaultFrom, fault_here, fault_after_blank, fault_after_word, HasOneReading}
 use Rattle.words.proofs.ItemsLemmas.{item_fits}
 
 -- how a reading continues after the item at its place

@@ -1,16 +1,7 @@
 -- The tables of marks and of reserved words.
-use Rattle.std.proofs.Common.{◌≡◌, ℕ, ◌≤◌, List, [], ◌∷◌, length, Bool, true, false, not, cond, ◌&&◌, Option, Some, refl, sym, ap, ◌∙◌, arith}
-use Rattle.std.specs.Prelude.{IsTrue, IsSomeAnd, nat_le, nat_eq, All}
-use Rattle.std.specs.List.{AllByRecursion, find, list_all, starts_with}
-use Rattle.std.specs.Str.{bytes_eq}
-use Rattle.std.proofs.lemmas.List.Elements.{All-from_recursion}
-use Rattle.std.proofs.lemmas.Slice.Eq.{bytes_eq-Decides}
-use Rattle.std.proofs.lemmas.Bool.{false≢true}
-use Rattle.std.proofs.lemmas.Bool.Decides.{nat_tests}
-use Rattle.words.specs.declared.vocabulary.Mark.{Mark}
+use Rattle.words.proofs.Prelude.{◌≡◌, ℕ, ◌≤◌, List, [], ◌∷◌, length, Bool, true, false, not, cond, ◌&&◌, Option, Some, refl, sym, ap, ◌∙◌, arith, IsTrue, IsSomeAnd, nat_le, nat_eq, All, AllByRecursion, find, list_all, starts_with, bytes_eq, All-from_recursion, bytes_eq-Decides, false≢true, nat_tests, Mark, reserved_words, reserved_of, word_in}
 use Rattle.words.specs.declared.vocabulary.ReservedWord.{ReservedWord}
 use Rattle.words.specs.Marks.{marks, mark_at}
-use Rattle.words.specs.Names.{reserved_words, reserved_of, word_in}
 use Rattle.words.proofs.ItemsLemmas.{and_first, and_second}
 
 -- no mark is longer than one before it

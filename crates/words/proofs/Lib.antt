@@ -1,3 +1,4 @@
+mod Prelude
 pub mod NamesLemmas
 pub mod NumbersLemmas
 pub mod ItemsLemmas

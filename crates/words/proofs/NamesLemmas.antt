@@ -1,14 +1,5 @@
 -- The characters of a name, byte by byte.
-use Rattle.std.proofs.Common.{◌≡◌, ◌≢◌, ℕ, List, [], ◌∷◌, ◌++◌, length, map, not, eqb, false, ap, ◌∙◌, arith, cond, Bool, true, refl}
-use Rattle.std.specs.List.{filter, count_by}
-use Rattle.std.specs.Char.{to_ascii_uppercase}
-use Rattle.std.proofs.lemmas.List.{length-map, map-append}
-use Rattle.std.proofs.lemmas.List.Sums.{length-filter}
-use Rattle.std.proofs.lemmas.List.Elements.{filter-append}
-use Rattle.std.proofs.lemmas.Bool.Decides.{nat_tests}
-use Rattle.std.specs.Str.{bytes_eq}
-use Rattle.std.proofs.lemmas.Slice.Eq.{bytes_eq-Decides}
-use Rattle.symbols.specs.Names.{name_of}
+use Rattle.words.proofs.Prelude.{◌≡◌, ◌≢◌, ℕ, List, [], ◌∷◌, ◌++◌, length, map, not, eqb, false, ap, ◌∙◌, arith, cond, Bool, true, refl, filter, count_by, to_ascii_uppercase, length-map, map-append, length-filter, filter-append, nat_tests, bytes_eq, bytes_eq-Decides, name_of}
 
 -- a name has as many characters as bytes other than `$`
 pub length-name_of : (text : List ℕ) → length (name_of text) ≡ count_by (λ b. not (eqb b 36)) text

@@ -1,15 +1,6 @@
 -- Values of digits, and the base letter at the end.
-use Rattle.std.proofs.Common.{◌≡◌, ◌≢◌, ℕ, ◌+◌, ◌-◌, ◌*◌, ◌<◌, ◌≤◌, List, [], ◌∷◌, ◌++◌, length, get_or, take, None, Some, refl, sym, ap, ◌∙◌, arith, fold, Bool, true, false, cond, ◌&&◌}
-use Rattle.std.specs.Char.{to_ascii_uppercase}
-use Rattle.std.specs.List.{list_all}
-use Rattle.std.specs.Prelude.{nat_lt, nat_le}
-use Rattle.words.specs.declared.limits.TheConstants.{GREATEST_NUMBER}
-use Rattle.symbols.specs.Names.{name_of}
-use Rattle.words.specs.Numbers.{digit_value, value_of, number_in, number_of, number_with, base_of}
+use Rattle.words.proofs.Prelude.{◌≡◌, ◌≢◌, ℕ, ◌+◌, ◌-◌, ◌*◌, ◌<◌, ◌≤◌, List, [], ◌∷◌, ◌++◌, length, get_or, take, None, Some, refl, sym, ap, ◌∙◌, arith, fold, Bool, true, false, cond, ◌&&◌, to_ascii_uppercase, list_all, nat_lt, nat_le, GREATEST_NUMBER, name_of, digit_value, value_of, number_in, number_of, number_with, base_of, take_more, take_all, take_at, get_or_at, length_push, nat_tests, le-mul_of_pos_right}
 use Rattle.words.proofs.NamesLemmas.{name_of-append, name_of-character}
-use Rattle.std.proofs.lemmas.List.{take_more, take_all, take_at, get_or_at, length_push}
-use Rattle.std.proofs.lemmas.Bool.Decides.{nat_tests}
-use Rattle.std.proofs.Math.Nat.{le-mul_of_pos_right}
 
 -- more digits make no value smaller
 pub value_grows : (base value : ℕ) (digits : List ℕ)

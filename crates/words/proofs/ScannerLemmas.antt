@@ -1,19 +1,6 @@
 -- Places, lines and words of a text, as far as it is read.
-use Rattle.std.proofs.Common.{◌≡◌, ℕ, zero, suc, min, ◌+◌, ◌-◌, ◌<◌, ◌≤◌, ◌==◌, List, [], ◌∷◌, ◌++◌, length, take, drop, map, count_by, sym, ap, ◌∙◌, subst, arith, get_or}
-use Rattle.std.proofs.Math.Numerals.{add-one}
-use Rattle.std.proofs.Math.Seq.{take-add}
-use Rattle.std.proofs.lemmas.List.{map-append, take_rest, length-take, take_min}
-use Rattle.std.proofs.lemmas.List.Elements.{All-from_recursion}
-use Rattle.std.proofs.lemmas.List.Sums.{sum_by-append, count_by-le-length}
-use Rattle.std.specs.List.{AllByRecursion, slice_range}
-use Rattle.std.specs.List.Sorted.{IsStrictlyIncreasing}
-use Rattle.words.specs.declared.items.Item.{Item}
-use Rattle.words.specs.declared.items.Item.TheVariants.{Spelled}
-use Rattle.words.specs.declared.vocabulary.Kind.{Kind}
+use Rattle.words.proofs.Prelude.{◌≡◌, ℕ, zero, suc, min, ◌+◌, ◌-◌, ◌<◌, ◌≤◌, ◌==◌, List, [], ◌∷◌, ◌++◌, length, take, drop, map, count_by, sym, ap, ◌∙◌, subst, arith, get_or, add-one, take-add, map-append, take_rest, length-take, take_min, All-from_recursion, sum_by-append, count_by-le-length, AllByRecursion, slice_range, IsStrictlyIncreasing, Item, Spelled, Kind, item_at, line_at, Lexeme, lexeme_of, lexemes_of, lexeme_at, SpellsFrom, at_end, after_blank, word_then, Spells, AreSlices, StartsRise, FitsIn}
 use Rattle.words.specs.declared.word.Word.{Word}
-use Rattle.words.specs.Items.{item_at}
-use Rattle.words.specs.Spelling.{line_at, Lexeme, lexeme_of, lexemes_of, lexeme_at, SpellsFrom, at_end, after_blank, word_then, Spells, AreSlices, StartsRise}
-use Rattle.words.specs.internal.Fits.{FitsIn}
 use Rattle.words.proofs.ItemsLemmas.{item_fits}
 
 -- one more word

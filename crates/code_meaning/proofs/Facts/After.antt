@@ -1,29 +1,6 @@
 -- What is known after an instruction is true after it.
-use Rattle.std.proofs.Common.{◌≡◌, ℕ, ◌==◌, Bool, true, false, if◌then◌else◌, List, bit_and, bit_or, Option, refl}
+use Rattle.code_meaning.proofs.Prelude.{◌≡◌, ℕ, ◌==◌, Bool, true, false, if◌then◌else◌, List, bit_and, bit_or, Option, refl, IsMemory, Instr, Nop, Lxi, Stax, Ldax, Shld, Lhld, Sta, Lda, Inx, Dcx, Dad, Inr, Dcr, Mvi, Rlc, Rrc, Ral, Rar, Daa, Cma, Stc, Cmc, Mov, MovToMemory, Hlt, Accumulate, AccumulateImmediate, ReturnIf, JumpIf, CallIf, Ret, Jmp, Call, Rst, Pop, Push, Out, In, Xthl, Xchg, Pchl, Sphl, Di, Ei, Operand, Of, M, Operation, Add, AddWithCarry, Subtract, SubtractWithBorrow, And, ExclusiveOr, Or, Compare, Bc, De, Hl, Sp, B, C, D, E, H, L, A, StackBc, StackDe, StackHl, Psw, HoldBytes, Registers, State, high_byte, holds, low_byte, pushed_of, act, jump, push, return, WordForm, LoadPair, StoreHl, LoadHl, StoreA, LoadA, Jump, JumpWhere, CallTo, CallWhere, instruction_with, Location, Place, Number, Facts, after, after_operation_with, after_word, without_hl, without_memory, Activation, Asks, WordAsks, AllHold, ByteHolds, Distances, FactsHold, place_at}
 use lib.Bits.{and_self, or_self}
-use Rattle.mem80.specs.Memory.{IsMemory}
-use Rattle.isa8080.specs.declared.instr.Instr.{Instr}
-use Rattle.isa8080.specs.declared.instr.Instr.TheVariants.{Nop, Lxi, Stax, Ldax, Shld, Lhld, Sta, Lda, Inx, Dcx, Dad, Inr, Dcr, Mvi, Rlc, Rrc, Ral, Rar, Daa, Cma, Stc, Cmc, Mov, MovToMemory, Hlt, Accumulate, AccumulateImmediate, ReturnIf, JumpIf, CallIf, Ret, Jmp, Call, Rst, Pop, Push, Out, In, Xthl, Xchg, Pchl, Sphl, Di, Ei}
-use Rattle.isa8080.specs.declared.instr.Operand.{Operand}
-use Rattle.isa8080.specs.declared.instr.Operand.TheVariants.{Of, M}
-use Rattle.isa8080.specs.declared.instr.Operation.{Operation}
-use Rattle.isa8080.specs.declared.instr.Operation.TheVariants.{Add, AddWithCarry, Subtract, SubtractWithBorrow, And, ExclusiveOr, Or, Compare}
-use Rattle.isa8080.specs.declared.instr.Pair.TheVariants.{Bc, De, Hl, Sp}
-use Rattle.isa8080.specs.declared.instr.Register.TheVariants.{B, C, D, E, H, L, A}
-use Rattle.isa8080.specs.declared.instr.StackPair.TheVariants.{StackBc, StackDe, StackHl, Psw}
-use Rattle.isa8080.specs.State.{HoldBytes, Registers, State, high_byte, holds, low_byte, pushed_of}
-use Rattle.isa8080.specs.Act.{act, jump, push, return}
-use Rattle.asm8080.specs.declared.item.WordForm.{WordForm}
-use Rattle.asm8080.specs.declared.item.WordForm.TheVariants.{LoadPair, StoreHl, LoadHl, StoreA, LoadA, Jump, JumpWhere, CallTo, CallWhere}
-use Rattle.asm8080.specs.Items.{instruction_with}
-use Rattle.treecode.specs.declared.place.Location.{Location}
-use Rattle.treecode.specs.declared.place.Place.{Place}
-use Rattle.treecode.specs.declared.place.Place.TheVariants.{Number}
-use Rattle.steps8080.specs.declared.facts.Facts.{Facts}
-use Rattle.steps8080.specs.Facts.{after, after_operation_with, after_word, without_hl, without_memory}
-use Rattle.code_meaning.specs.Activations.{Activation}
-use Rattle.code_meaning.specs.Asking.{Asks, WordAsks}
-use Rattle.code_meaning.specs.Holding.{AllHold, ByteHolds, Distances, FactsHold, place_at}
 use Rattle.code_meaning.proofs.Facts.Changes.{facts_stay, no_facts_hold, with_result_holds, without_a_holds, without_hl_holds, without_memory_holds, without_register_holds, without_zero_holds}
 use Rattle.code_meaning.proofs.Facts.Stores.{halves, high_holds, loaded_byte, loaded_word, low_holds, pushed_stays, put_byte, stored_byte, stored_word}
 

@@ -1,15 +1,6 @@
 -- What holds still where less is known, and where something has changed that no fact speaks of.
-use Rattle.std.proofs.Common.{◌≡◌, ℕ, ◌+◌, ◌==◌, Bool, true, false, ◌||◌, List, Option, Some, None, ◌∙◌}
+use Rattle.code_meaning.proofs.Prelude.{◌≡◌, ℕ, ◌+◌, ◌==◌, Bool, true, false, ◌||◌, List, Option, Some, None, ◌∙◌, byte_at, Register, B, C, D, E, H, L, A, Registers, with_register, wrap, Location, Facts, no_facts, with_facts, without_memory, without_a, without_hl, without_register, without_zero, Activation, AddressHolds, AllHold, ByteHolds, Distances, FactsHold, IsSteady, WordHolds, ZeroHolds, location_at}
 use Rattle.std.specs.Option.{option_or}
-use Rattle.mem80.specs.Memory.{byte_at}
-use Rattle.isa8080.specs.declared.instr.Register.{Register}
-use Rattle.isa8080.specs.declared.instr.Register.TheVariants.{B, C, D, E, H, L, A}
-use Rattle.isa8080.specs.State.{Registers, with_register, wrap}
-use Rattle.treecode.specs.declared.place.Location.{Location}
-use Rattle.steps8080.specs.declared.facts.Facts.{Facts}
-use Rattle.steps8080.specs.Facts.{no_facts, with_facts, without_memory, without_a, without_hl, without_register, without_zero}
-use Rattle.code_meaning.specs.Activations.{Activation}
-use Rattle.code_meaning.specs.Holding.{AddressHolds, AllHold, ByteHolds, Distances, FactsHold, IsSteady, WordHolds, ZeroHolds, location_at}
 
 -- nothing is known of anything
 pub no_facts_hold :

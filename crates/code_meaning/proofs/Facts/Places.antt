@@ -1,20 +1,7 @@
 -- Addresses of places and locations that lie some bytes further on, and of those that are the same.
-use Rattle.std.proofs.Common.{◌≡◌, ℕ, ◌+◌, ◌%◌, ◌<◌, ◌==◌, true, false, true≢false, sym, ap, ◌∙◌, arith}
-use Rattle.std.proofs.lemmas.Bool.{eqb-true}
-use Rattle.mem80.specs.declared.memory.TheConstants.{MEMORY_SIZE}
-use Rattle.isa8080.specs.State.{wrap}
-use Rattle.asm8080.specs.Items.{Layout}
-use Rattle.asm8080.proofs.Segments.{left_true, right_true}
+use Rattle.code_meaning.proofs.Prelude.{◌≡◌, ℕ, ◌+◌, ◌%◌, ◌<◌, ◌==◌, true, false, true≢false, sym, ap, ◌∙◌, arith, eqb-true, MEMORY_SIZE, wrap, Layout, left_true, right_true, Place, Number, Code, Data, External, Location, Static, Frame, place_after, location_after, before, same_place, same_location, Activation, Distances, location_at, place_at}
 use Rattle.object_modules.specs.declared.segment.Segment.TheVariants as segments
 use Rattle.object_modules.specs.declared.segment.Target.TheVariants as targets
-use Rattle.treecode.specs.declared.place.Place.{Place}
-use Rattle.treecode.specs.declared.place.Place.TheVariants.{Number, Code, Data, External}
-use Rattle.treecode.specs.declared.place.Location.{Location}
-use Rattle.treecode.specs.declared.place.Location.TheVariants.{Static, Frame}
-use Rattle.treecode.specs.Homes.{place_after, location_after}
-use Rattle.steps8080.specs.Facts.{before, same_place, same_location}
-use Rattle.code_meaning.specs.Activations.{Activation}
-use Rattle.code_meaning.specs.Holding.{Distances, location_at, place_at}
 
 moved : (offset more base : ℕ) → wrap ((offset + more) % 65536 + base) ≡ wrap (wrap (offset + base) + more)
 moved offset more base = omega arith

@@ -1,14 +1,5 @@
 -- Which bytes are steady in an activation that lies well, and what instructions ask of them there.
-use Rattle.std.proofs.Common.{◌≡◌, ℕ, ◌+◌, ◌<◌, ◌≤◌, true, Option, Some, None, sym, arith}
-use Rattle.mem80.specs.declared.memory.TheConstants.{MEMORY_SIZE}
-use Rattle.meaning.specs.Access.{is_declared}
-use Rattle.isa8080.specs.State.{word, wrap}
-use Rattle.asm8080.proofs.Calls.{one_below, two_below}
-use Rattle.treecode.specs.declared.place.Location.{Location}
-use Rattle.treecode.specs.declared.place.Location.TheVariants.{Frame}
-use Rattle.code_meaning.specs.Activations.{Activation, LiesWell}
-use Rattle.code_meaning.specs.Asking.{AddressAsks, IsSteadyByte, PushAsks}
-use Rattle.code_meaning.specs.Holding.{AddressHolds, Distances, IsSteady, location_at}
+use Rattle.code_meaning.proofs.Prelude.{◌≡◌, ℕ, ◌+◌, ◌<◌, ◌≤◌, true, Option, Some, None, sym, arith, MEMORY_SIZE, is_declared, word, wrap, one_below, two_below, Location, Frame, Activation, LiesWell, AddressAsks, IsSteadyByte, PushAsks, AddressHolds, Distances, IsSteady, location_at}
 
 -- a byte that is declared
 pub declared_is_steady :

@@ -1,16 +1,6 @@
 -- What registers hold once bytes and words were loaded and stored.
-use Rattle.std.proofs.Common.{◌≡◌, ◌≢◌, ℕ, ◌+◌, ◌*◌, ◌/◌, ◌%◌, ◌<◌, List, length, slice_set, Option, Some, None, option_map, sym, ap, ◌∙◌, arith}
-use Rattle.std.proofs.lemmas.List.{length-set}
-use Rattle.mem80.specs.declared.memory.TheConstants.{MEMORY_SIZE}
-use Rattle.mem80.specs.Memory.{IsMemory, byte_at, word_at}
+use Rattle.code_meaning.proofs.Prelude.{◌≡◌, ◌≢◌, ℕ, ◌+◌, ◌*◌, ◌/◌, ◌%◌, ◌<◌, List, length, slice_set, Option, Some, None, option_map, sym, ap, ◌∙◌, arith, length-set, MEMORY_SIZE, IsMemory, byte_at, word_at, high_byte, low_byte, one_less, two_less, word, wrap, byte_kept, byte_put, Location, location_after, Activation, AddressAsks, IsSteadyByte, PushAsks, AddressHolds, ByteHolds, Distances, IsByteAt, IsSteady, IsWordAt, WordHolds, location_at}
 use Rattle.mem80.proofs.MemoryLemmas.{byte_small}
-use Rattle.isa8080.specs.State.{high_byte, low_byte, one_less, two_less, word, wrap}
-use Rattle.asm8080.proofs.Kept.{byte_kept, byte_put}
-use Rattle.treecode.specs.declared.place.Location.{Location}
-use Rattle.treecode.specs.Homes.{location_after}
-use Rattle.code_meaning.specs.Activations.{Activation}
-use Rattle.code_meaning.specs.Asking.{AddressAsks, IsSteadyByte, PushAsks}
-use Rattle.code_meaning.specs.Holding.{AddressHolds, ByteHolds, Distances, IsByteAt, IsSteady, IsWordAt, WordHolds, location_at}
 use Rattle.code_meaning.proofs.Facts.Places.{location_after_is}
 
 -- a word that is put together of its halves

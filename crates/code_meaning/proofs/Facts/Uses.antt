@@ -1,17 +1,5 @@
 -- What is known of the registers is used: an instruction puts a byte that one of them holds where it is wanted.
-use Rattle.std.proofs.Common.{◌≡◌, ℕ, ◌<◌, ◌⊎◌, inl, inr, Bool, true, false, ◌||◌, if◌then◌else◌, List, Option, Some, None, refl, ap, subst, ◌∙◌}
-use Rattle.mem80.specs.declared.memory.TheConstants.{MEMORY_SIZE}
-use Rattle.mem80.specs.Memory.{byte_at}
-use Rattle.isa8080.specs.declared.instr.Instr.{Instr}
-use Rattle.isa8080.specs.declared.instr.Register.TheVariants.{A, H, L}
-use Rattle.isa8080.specs.State.{State, word}
-use Rattle.isa8080.specs.Act.{act, with_registers}
-use Rattle.treecode.specs.declared.place.Location.{Location}
-use Rattle.steps8080.specs.declared.facts.Facts.{Facts}
-use Rattle.steps8080.specs.Facts.{before, byte_for_l, byte_from_hl, holds_byte, is_at}
-use Rattle.steps8080.specs.Instructions.{copy, load}
-use Rattle.code_meaning.specs.Activations.{Activation}
-use Rattle.code_meaning.specs.Holding.{AddressHolds, ByteHolds, Distances, FactsHold, IsByteAt, IsWordAt, WordHolds, location_at}
+use Rattle.code_meaning.proofs.Prelude.{◌≡◌, ℕ, ◌<◌, ◌⊎◌, inl, inr, Bool, true, false, ◌||◌, if◌then◌else◌, List, Option, Some, None, refl, ap, subst, ◌∙◌, MEMORY_SIZE, byte_at, Instr, A, H, L, State, word, act, with_registers, Location, Facts, before, byte_for_l, byte_from_hl, holds_byte, is_at, copy, load, Activation, AddressHolds, ByteHolds, Distances, FactsHold, IsByteAt, IsWordAt, WordHolds, location_at}
 use Rattle.code_meaning.proofs.Facts.Places.{after_before, never, same_locations}
 
 -- A holds the byte at a location,

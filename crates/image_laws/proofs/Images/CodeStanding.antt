@@ -1,20 +1,6 @@
 -- Code that was assembled stands in memory where its module is placed.
-use Rattle.std.proofs.Common.{◌≡◌, ℕ, ◌+◌, true, false, List, get_or, length, map, Option, refl, ap, sym, subst, ◌∙◌, arith}
-use Rattle.object_modules.specs.declared.segment.Segment.{Segment}
-use Rattle.object_modules.specs.declared.segment.Segment.TheVariants.{Absolute, Code, Data, Stack}
-use Rattle.object_modules.specs.declared.segment.Target.{Target}
-use Rattle.object_modules.specs.declared.segment.Target.TheVariants.{InSegment}
-use Rattle.object_modules.specs.Displacements.{Linked, linked_modules}
-use Rattle.object_modules.specs.Image.{Plan}
-use Rattle.object_modules.specs.Module.{SetByte, ObjectModule, holds_bytes, places_of}
-use Rattle.object_modules.specs.Moving.{bytes_resolved}
-use Rattle.asm8080.specs.Assembled.{Assembled, Assembles, layout_at, resolved, set_bytes}
-use Rattle.asm8080.specs.Assembled.{places_of as code_places}
-use Rattle.asm8080.specs.Items.{Assembly, Stands}
-use Rattle.asm8080.specs.Standing.{SetBytesStand}
+use Rattle.image_laws.proofs.Prelude.{◌≡◌, ℕ, ◌+◌, true, false, List, get_or, length, map, Option, refl, ap, sym, subst, ◌∙◌, arith, Segment, Absolute, Code, Data, Stack, Target, InSegment, Linked, linked_modules, Plan, SetByte, ObjectModule, holds_bytes, places_of, bytes_resolved, Assembled, Assembles, layout_at, resolved, set_bytes, code_places, Assembly, Stands, SetBytesStand, AssembledStands, CodeStands, HasSegment, ItemsOf, ItemsStand, addresses_of, retargeted, with_targets, ModuleStands, SegmentStands, address_of_target, piece_base}
 use Rattle.asm8080.proofs.Segments.{places_length, set_length}
-use Rattle.image_laws.specs.internal.Code.{AssembledStands, CodeStands, HasSegment, ItemsOf, ItemsStand, addresses_of, retargeted, with_targets}
-use Rattle.image_laws.specs.internal.InMemory.{ModuleStands, SegmentStands, address_of_target, piece_base}
 use Rattle.image_laws.proofs.Images.Objects.{objects_stand}
 use Rattle.image_laws.proofs.Images.Retargeted.{resolved_retargeted}
 

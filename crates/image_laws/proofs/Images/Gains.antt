@@ -1,20 +1,5 @@
 -- What the targets of a module gain when it is merged and when the merge is placed are their addresses.
-use Rattle.std.proofs.Common.{◌≡◌, ℕ, ◌+◌, ◌%◌, Bool, false, cond, List, [], ◌∷◌, filter_map, Option, Some, None, option_and_then, refl, ap, sym, ◌∙◌, arith}
-use Rattle.std.specs.List.{list_any, AllByRecursion}
-use Rattle.std.specs.Option.{option_map_or}
-use Rattle.std.proofs.lemmas.Bool.{or_parts}
-use Rattle.std.proofs.lemmas.List.Elements.{filter_map-append}
-use Rattle.std.proofs.lemmas.List.Folds.{list_any-append}
-use Rattle.object_modules.specs.declared.segment.Segment.{Segment}
-use Rattle.object_modules.specs.declared.segment.Segment.TheVariants.{Absolute, Code, Data, Stack}
-use Rattle.object_modules.specs.declared.segment.Target.{Target}
-use Rattle.object_modules.specs.declared.segment.Target.TheVariants.{InSegment, External}
-use Rattle.object_modules.specs.Displacements.{Linked, public_meant, gain_in, target_of_public, target_kept}
-use Rattle.object_modules.specs.Image.{Plan, base_of, gain_at}
-use Rattle.object_modules.specs.Merge.{some_high_byte_moves}
-use Rattle.object_modules.specs.Module.{Public, ObjectModule, is_movable, places_of}
-use Rattle.object_laws.proofs.Merges.FixesOfPlaces.{high_at}
-use Rattle.image_laws.specs.internal.InMemory.{address_of_public, address_of_target}
+use Rattle.image_laws.proofs.Prelude.{◌≡◌, ℕ, ◌+◌, ◌%◌, Bool, false, cond, List, [], ◌∷◌, filter_map, Option, Some, None, option_and_then, refl, ap, sym, ◌∙◌, arith, list_any, AllByRecursion, option_map_or, or_parts, filter_map-append, list_any-append, Segment, Absolute, Code, Data, Stack, Target, InSegment, External, Linked, public_meant, gain_in, target_of_public, target_kept, Plan, base_of, gain_at, some_high_byte_moves, Public, ObjectModule, is_movable, places_of, high_at, address_of_public, address_of_target}
 use Rattle.image_laws.proofs.Images.TwoSteps.{GainInTwo, gains_part, HighsGainPages}
 
 -- a public lies at its offset from the base of its segment, if that has one

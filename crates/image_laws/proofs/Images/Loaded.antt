@@ -1,18 +1,6 @@
 -- What a memory has at the addresses of the segments of a placed module.
-use Rattle.std.proofs.Common.{◌≡◌, ℕ, suc, ◌+◌, ◌-◌, ◌<◌, ◌≤◌, inl, inr, cond, List, [], ◌∷◌, length, slice_get, Option, Some, None, unwrap_or, refl, ap, subst, ◌∙◌, arith}
-use Rattle.std.specs.Option.{option_flatten, option_or}
-use Rattle.std.proofs.lemmas.Bool.{lt-ltb, le-ltb, cases_lt}
-use Rattle.std.proofs.lemmas.Option.{slice_get_past}
-use Rattle.mem80.specs.Memory.{byte_at}
-use Rattle.mem80.specs.Pieces.{IsLoaded}
-use Rattle.object_modules.specs.declared.segment.Segment.{Segment}
-use Rattle.object_modules.specs.declared.segment.Segment.TheVariants.{Code, Data}
-use Rattle.object_modules.specs.Image.{Plan, gain_at, placed_bytes, at_address, image_at}
-use Rattle.object_modules.specs.Module.{ObjectModule, places_of}
-use Rattle.object_modules.proofs.Allowed.{IsAllowed}
-use Rattle.asm8080.specs.Standing.{SetBytesStand}
+use Rattle.image_laws.proofs.Prelude.{◌≡◌, ℕ, suc, ◌+◌, ◌-◌, ◌<◌, ◌≤◌, inl, inr, cond, List, [], ◌∷◌, length, slice_get, Option, Some, None, unwrap_or, refl, ap, subst, ◌∙◌, arith, option_flatten, option_or, lt-ltb, le-ltb, cases_lt, slice_get_past, byte_at, IsLoaded, Segment, Code, Data, Plan, gain_at, placed_bytes, at_address, image_at, ObjectModule, places_of, IsAllowed, SetBytesStand, BytesAreLoaded, RunsAreLoaded}
 use Rattle.isa8080.specs.State.{wrap}
-use Rattle.image_laws.specs.internal.InMemory.{BytesAreLoaded, RunsAreLoaded}
 use Rattle.image_laws.proofs.Images.Pieces.{resolved_length}
 
 -- bytes that are loaded where they are set, each by its place

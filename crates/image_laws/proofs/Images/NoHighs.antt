@@ -1,20 +1,6 @@
 -- Code that was assembled fixes no high byte alone.
-use Rattle.std.proofs.Common.{◌≡◌, ℕ, ◌+◌, Bool, true, false, cond, ◌==◌, List, [], ◌∷◌, ◌++◌, find, map, filter_map, Option, Some, None, option_map, option_and_then, refl, ap, subst, sym, ◌∙◌}
-use Rattle.std.specs.List.{AllByRecursion, cons_option}
-use Rattle.std.proofs.lemmas.List.Elements.{filter_map-append}
-use Rattle.object_modules.specs.declared.segment.Fix.{Fix}
-use Rattle.object_modules.specs.declared.segment.FixKind.{FixKind}
-use Rattle.object_modules.specs.declared.segment.FixKind.TheVariants.{Both}
-use Rattle.object_modules.specs.declared.segment.Target.{Target}
-use Rattle.object_modules.specs.Module.{SetByte, ObjectModule}
-use Rattle.object_modules.specs.Moving.{high_target, high_targets}
-use Rattle.object_modules.specs.Runs.{fixup_at}
-use Rattle.object_laws.proofs.Merges.FixesOfPlaces.{high_at}
-use Rattle.asm8080.specs.declared.item.Item.{Item}
-use Rattle.asm8080.specs.declared.item.Item.TheVariants.{Plain, WithWord, Byte, Address, Gap, Mark}
-use Rattle.asm8080.specs.Assembled.{Assembled, Assembles, fixed_bytes, fixes_of_items, places_of, set_bytes, target_of, with_fix}
-use Rattle.asm8080.specs.Items.{Assembly, size_of}
-use Rattle.image_laws.specs.internal.Code.{retargeted, with_targets}
+use Rattle.image_laws.proofs.Prelude.{◌≡◌, ℕ, ◌+◌, Bool, true, false, cond, ◌==◌, List, [], ◌∷◌, ◌++◌, find, map, filter_map, Option, Some, None, option_map, option_and_then, refl, ap, subst, sym, ◌∙◌, AllByRecursion, cons_option, filter_map-append, Fix, FixKind, Both, Target, SetByte, ObjectModule, high_target, high_targets, fixup_at, high_at, Item, Plain, WithWord, Byte, Address, Gap, Mark, Assembled, Assembles, fixed_bytes, fixes_of_items, set_bytes, target_of, with_fix, Assembly, size_of, retargeted, with_targets}
+use Rattle.asm8080.specs.Assembled.{places_of}
 
 -- no high byte is fixed alone
 abbrev pub NoHighs : List (Option SetByte) → Type 0

@@ -1,20 +1,5 @@
 -- The modules of a merge that is placed and put into a memory stand there.
-use Rattle.std.proofs.Common.{◌≡◌, ℕ, ◌+◌, ◌<◌, ◌≤◌, true, false, List, [], ◌∷◌, length, map, Option, None, unwrap_or, Ok, ap, sym, subst, ◌∙◌, arith}
-use Rattle.std.specs.List.{AllByRecursion}
-use Rattle.std.specs.Option.{option_or}
-use Rattle.std.proofs.lemmas.List.Elements.{All-from_recursion, recursion_from_All}
-use Rattle.mem80.specs.Memory.{byte_at}
-use Rattle.mem80.specs.Pieces.{IsLoaded}
-use Rattle.object_modules.specs.declared.segment.Segment.{Segment}
-use Rattle.object_modules.specs.declared.segment.Segment.TheVariants.{Code, Data}
-use Rattle.object_modules.specs.Displacements.{Linked, all_publics, gain_in, linked_modules, start_of, target_kept}
-use Rattle.object_modules.specs.Image.{Plan, Image, at_address, base_of, gain_at, image_at, image_of, placed, placed_bytes, placement_refusal}
-use Rattle.object_modules.specs.Merge.{code_piece, data_piece, joined, places_moved, some_high_byte_moves}
-use Rattle.object_modules.specs.Module.{SetByte, Public, ObjectModule, IsObjectModule, places_of, words_are_whole}
-use Rattle.object_modules.proofs.Allowed.{IsAllowed, allowed}
-use Rattle.object_laws.proofs.Merges.MergeValid.{IsMerge, ValidLinked, code_follow, code_pieces, data_follow, data_pieces, linked_valid, merge_is, places_are, unless_ok}
-use Rattle.object_laws.proofs.Merges.MovedValid.{Piece, PiecesFollow, end_after, joined_length, moved_length}
-use Rattle.image_laws.specs.internal.InMemory.{BytesAreLoaded, ModuleStands, ObjectsStand, OthersStay, SegmentStands, address_of_target, piece_base, segment_bytes}
+use Rattle.image_laws.proofs.Prelude.{◌≡◌, ℕ, ◌+◌, ◌<◌, ◌≤◌, true, false, List, [], ◌∷◌, length, map, Option, None, unwrap_or, Ok, ap, sym, subst, ◌∙◌, arith, AllByRecursion, option_or, All-from_recursion, recursion_from_All, byte_at, IsLoaded, Segment, Code, Data, Linked, all_publics, gain_in, linked_modules, start_of, target_kept, Plan, Image, at_address, base_of, gain_at, image_at, image_of, placed, placed_bytes, placement_refusal, code_piece, data_piece, joined, places_moved, some_high_byte_moves, SetByte, Public, ObjectModule, IsObjectModule, places_of, words_are_whole, IsAllowed, allowed, IsMerge, ValidLinked, code_follow, code_pieces, data_follow, data_pieces, linked_valid, merge_is, places_are, unless_ok, Piece, PiecesFollow, end_after, joined_length, moved_length, BytesAreLoaded, ModuleStands, ObjectsStand, OthersStay, SegmentStands, address_of_target, piece_base, segment_bytes}
 use Rattle.image_laws.proofs.Images.Gains.{gains_in_two, highs_gain_pages, none_of}
 use Rattle.image_laws.proofs.Images.Loaded.{at_elsewhere, code_loaded, data_loaded, loaded_stand, placed_length}
 use Rattle.image_laws.proofs.Images.Pieces.{EndsBy, PieceStands, WholePiece, pieces_end, pieces_stand, resolved_length}

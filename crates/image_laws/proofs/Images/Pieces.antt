@@ -1,15 +1,5 @@
 -- Where the pieces of a segment stand in memory, of which the whole stands there.
-use Rattle.std.proofs.Common.{◌≡◌, ℕ, suc, ◌+◌, ◌-◌, ◌≤◌, Bool, true, false, not, ◌||◌, List, [], ◌∷◌, ◌++◌, length, map, replicate, Option, None, option_map, refl, ap, subst, ◌∙◌, arith}
-use Rattle.std.specs.List.{AllByRecursion}
-use Rattle.std.proofs.lemmas.Bool.{and_parts}
-use Rattle.std.proofs.lemmas.List.{map-append, length-append, length-map, length-replicate}
-use Rattle.object_modules.specs.declared.segment.Target.{Target}
-use Rattle.object_modules.specs.Merge.{joined_after}
-use Rattle.object_modules.specs.Module.{SetByte, begins_word, is_plain, words_are_whole}
-use Rattle.object_modules.specs.Moving.{moved, bytes_resolved}
-use Rattle.object_laws.proofs.Merges.MovedValid.{moved_length, nothing_whole, whole_append, PiecesFollow, end_after}
-use Rattle.object_laws.proofs.Merges.Moves.{last_place, moved_in_parts}
-use Rattle.image_laws.specs.internal.InMemory.{BytesAreLoaded}
+use Rattle.image_laws.proofs.Prelude.{◌≡◌, ℕ, suc, ◌+◌, ◌-◌, ◌≤◌, Bool, true, false, not, ◌||◌, List, [], ◌∷◌, ◌++◌, length, map, replicate, Option, None, option_map, refl, ap, subst, ◌∙◌, arith, AllByRecursion, and_parts, map-append, length-append, length-map, length-replicate, Target, joined_after, SetByte, begins_word, is_plain, words_are_whole, moved, bytes_resolved, moved_length, nothing_whole, whole_append, PiecesFollow, end_after, last_place, moved_in_parts, BytesAreLoaded}
 use Rattle.image_laws.proofs.Images.TwoSteps.{nothing_kept, value_of}
 
 no_last : (b : Bool) (next : Bool) → (not b || false) ≡ true → b ≡ false

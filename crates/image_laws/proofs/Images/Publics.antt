@@ -1,18 +1,5 @@
 -- Where the publics of the modules of a merge lie.
-use Rattle.std.proofs.Common.{◌≡◌, ℕ, ◌+◌, ◌%◌, Bool, true, false, cond, not, List, [], ◌∷◌, ◌++◌, All, map, Some, slice_get, Option, option_and_then, refl, ap, sym, subst, ◌∙◌, arith}
-use Rattle.std.specs.List.{AllByRecursion}
-use Rattle.std.specs.Str.{bytes_eq}
-use Rattle.std.proofs.lemmas.Bool.{and_parts, or_parts}
-use Rattle.std.proofs.lemmas.List.Elements.{All-from_recursion}
-use Rattle.std.proofs.lemmas.Slice.Eq.{bytes_eq-Decides}
-use Rattle.object_modules.specs.declared.segment.Target.TheVariants.{External}
-use Rattle.object_modules.specs.Displacements.{Linked, all_publics, displacement_in, linked_modules, public_moved, public_named, publics_moved}
-use Rattle.object_modules.specs.Image.{Plan, base_of}
-use Rattle.object_modules.specs.Merge.{public_names}
-use Rattle.object_modules.specs.Module.{Public, ObjectModule, are_new, is_among}
-use Rattle.object_laws.proofs.Files.Accepted.{public_name}
-use Rattle.object_laws.proofs.Merges.MergeValid.{merge_is, names_from, none_repeated}
-use Rattle.image_laws.specs.internal.InMemory.{PublicLies, PublicsLie, address_of_public, address_of_target, piece_base}
+use Rattle.image_laws.proofs.Prelude.{◌≡◌, ℕ, ◌+◌, ◌%◌, Bool, true, false, cond, not, List, [], ◌∷◌, ◌++◌, All, map, Some, slice_get, Option, option_and_then, refl, ap, sym, subst, ◌∙◌, arith, AllByRecursion, bytes_eq, and_parts, or_parts, All-from_recursion, bytes_eq-Decides, External, Linked, all_publics, displacement_in, linked_modules, public_moved, public_named, publics_moved, Plan, base_of, public_names, Public, ObjectModule, are_new, is_among, public_name, merge_is, names_from, none_repeated, PublicLies, PublicsLie, address_of_public, address_of_target, piece_base}
 
 not_true : (b : Bool) → not b ≡ true → b ≡ false
 not_true false h = refl

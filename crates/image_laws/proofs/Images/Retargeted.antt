@@ -1,14 +1,6 @@
 -- Code whose fixes have other targets: what it becomes where those have addresses.
-use Rattle.std.proofs.Common.{◌≡◌, ℕ, ◌+◌, Bool, true, false, cond, ◌==◌, List, [], ◌∷◌, find, map, Option, Some, None, option_map, refl, ap, ◌∙◌}
-use Rattle.object_modules.specs.declared.segment.Fix.{Fix}
-use Rattle.object_modules.specs.declared.segment.FixKind.{FixKind}
-use Rattle.object_modules.specs.declared.segment.FixKind.TheVariants.{Low, High, Both}
-use Rattle.object_modules.specs.declared.segment.Target.{Target}
-use Rattle.object_modules.specs.Module.{Fixup, SetByte}
-use Rattle.object_modules.specs.Moving.{after_fixup, bytes_resolved, moved_after, value_after, value_moved}
-use Rattle.object_modules.specs.Runs.{fixup_at}
-use Rattle.asm8080.specs.Assembled.{Assembled, fixed_bytes, places_of, resolved, set_bytes}
-use Rattle.image_laws.specs.internal.Code.{retargeted, with_targets}
+use Rattle.image_laws.proofs.Prelude.{◌≡◌, ℕ, ◌+◌, Bool, true, false, cond, ◌==◌, List, [], ◌∷◌, find, map, Option, Some, None, option_map, refl, ap, ◌∙◌, Fix, FixKind, Low, High, Both, Target, Fixup, SetByte, after_fixup, bytes_resolved, moved_after, value_after, value_moved, fixup_at, Assembled, fixed_bytes, resolved, set_bytes, retargeted, with_targets}
+use Rattle.asm8080.specs.Assembled.{places_of}
 use Rattle.image_laws.proofs.Images.TwoSteps.{nothing_kept, value_of}
 
 module _ (to : Target → Target) where

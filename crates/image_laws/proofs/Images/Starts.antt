@@ -1,14 +1,5 @@
 -- An image starts where the main module of the merge does.
-use Rattle.std.proofs.Common.{◌≡◌, ℕ, ◌+◌, ◌%◌, ◌==◌, Bool, true, false, not, List, [], ◌∷◌, length, filter_map, slice_get, IfSome, Option, Some, None, option_map, unwrap_or, refl, ap, sym, subst, ◌∙◌, arith}
-use Rattle.std.specs.List.{AllByRecursion, cons_option}
-use Rattle.std.proofs.lemmas.Bool.{eqb-true}
-use Rattle.std.proofs.lemmas.List.Elements.{All-from_recursion}
-use Rattle.object_modules.specs.declared.segment.Segment.TheVariants.{Code}
-use Rattle.object_modules.specs.Displacements.{Linked, linked_modules}
-use Rattle.object_modules.specs.Image.{Plan, Image, placed, placement_refusal}
-use Rattle.object_modules.specs.Merge.{joined}
-use Rattle.object_laws.proofs.Merges.MergeValid.{main_of, merge_is, unless_ok}
-use Rattle.image_laws.specs.internal.InMemory.{MainStarts, StartsAt, piece_base}
+use Rattle.image_laws.proofs.Prelude.{◌≡◌, ℕ, ◌+◌, ◌%◌, ◌==◌, Bool, true, false, not, List, [], ◌∷◌, length, filter_map, slice_get, IfSome, Option, Some, None, option_map, unwrap_or, refl, ap, sym, subst, ◌∙◌, arith, AllByRecursion, cons_option, eqb-true, All-from_recursion, Code, Linked, linked_modules, Plan, Image, placed, placement_refusal, joined, main_of, merge_is, unless_ok, MainStarts, StartsAt, piece_base}
 
 module _ {A B : Type 0} (f : A → Option B) where
   -- where nothing is found, what is found is anything

@@ -1,17 +1,6 @@
 -- Bytes that are fixed in two steps, when modules are merged and when the merge is placed, are those that are
 -- fixed in one.
-use Rattle.std.proofs.Common.{◌≡◌, ℕ, ◌+◌, ◌/◌, ◌%◌, ◌==◌, Bool, true, false, not, ◌||◌, List, [], ◌∷◌, filter_map, map, Option, Some, None, option_map, option_and_then, refl, ap, sym, ◌∙◌, arith}
-use Rattle.std.specs.List.{list_any, cons_option}
-use Rattle.std.specs.Option.{option_map_or}
-use Rattle.std.proofs.lemmas.Bool.{and_parts, or_parts, eqb-true}
-use Rattle.object_modules.specs.declared.segment.FixKind.{FixKind}
-use Rattle.object_modules.specs.declared.segment.FixKind.TheVariants.{Low, High, Both}
-use Rattle.object_modules.specs.declared.segment.Target.{Target}
-use Rattle.object_modules.specs.Module.{Fixup, SetByte, begins_word, is_plain, words_are_whole}
-use Rattle.object_modules.specs.Moving.{first_byte_moved, second_byte_moved, after_fixup, value_after, value_moved, fixup_moved, byte_moved, moved_after, moved, bytes_resolved}
-use Rattle.object_laws.proofs.Merges.FixesOfPlaces.{high_at}
-use Rattle.object_laws.proofs.Merges.MovedValid.{word_before}
-use Rattle.object_laws.proofs.Merges.Moves.{value_stays}
+use Rattle.image_laws.proofs.Prelude.{◌≡◌, ℕ, ◌+◌, ◌/◌, ◌%◌, ◌==◌, Bool, true, false, not, ◌||◌, List, [], ◌∷◌, filter_map, map, Option, Some, None, option_map, option_and_then, refl, ap, sym, ◌∙◌, arith, list_any, cons_option, option_map_or, and_parts, or_parts, eqb-true, FixKind, Low, High, Both, Target, Fixup, SetByte, begins_word, is_plain, words_are_whole, first_byte_moved, second_byte_moved, after_fixup, value_after, value_moved, fixup_moved, byte_moved, moved_after, moved, bytes_resolved, high_at, word_before, value_stays}
 
 -- what targets gain in one step is what they gain in two, modulo 65536
 abbrev pub GainInTwo : (first second whole : Target → ℕ) → (kept : Target → Option Target) → Type 0

@@ -1,19 +1,7 @@
 -- In the placement that a plan gives each object of a module, but for EXTERNAL ones, lies at the address of its
 -- location.
-use Rattle.std.proofs.Common.{◌≡◌, ℕ, zero, suc, ◌+◌, List, [], ◌∷◌, ◌++◌, length, Option, Some, None, refl, ap, sym, subst, ◌∙◌, length-append, arith}
-use Rattle.std.specs.Prelude.{slice_get, slice_index, unwrap_or, zip}
-use Rattle.std.proofs.lemmas.Option.{none-some, get_or_from_slice_get}
-use Rattle.typed_trees.specs.Storable.{HasPlace, IsStorable}
-use Rattle.typed_trees.specs.TypedTrees.{Home, InData, InConstants, Placed, BasedOn, Elsewhere, Nowhere, InFrame, TypedObject, TypedModule}
-use Rattle.layout.specs.declared.slot.Slot.{Slot}
-use Rattle.layout.specs.Following.{Bases, FollowsBases}
-use Rattle.layout.specs.Lawful.{HasAddresses, LiesWhereAtSays}
-use Rattle.layout.specs.Placement.{ModulePlacement}
-use Rattle.layout.specs.Placing.{address_by_home, addresses_after, module_placement_by}
-use Rattle.layout.specs.Segments.{Target, Location, Absolute, address_of_location, location_by_home, location_of, locations_after}
-use Rattle.layout.specs.Storage.{slot_of_object, storage_with}
-use Rattle.layout.proofs.Locations.{location_is}
-use Rattle.layout.proofs.PlacedLocations.{AreBases, lies_at_location}
+use Rattle.image_laws.proofs.Prelude.{◌≡◌, ℕ, zero, suc, ◌+◌, List, [], ◌∷◌, ◌++◌, length, Option, Some, None, refl, ap, sym, subst, ◌∙◌, length-append, arith, slice_get, slice_index, unwrap_or, zip, none-some, get_or_from_slice_get, HasPlace, IsStorable, Home, InData, InConstants, Placed, BasedOn, Elsewhere, Nowhere, InFrame, TypedObject, TypedModule, Slot, Bases, FollowsBases, HasAddresses, LiesWhereAtSays, ModulePlacement, address_by_home, addresses_after, module_placement_by, Location, address_of_location, location_by_home, location_of, locations_after, slot_of_object, storage_with, location_is, AreBases, lies_at_location}
+use Rattle.layout.specs.Segments.{Target, Absolute}
 use Rattle.image_laws.proofs.Memory.Lists.{got_both, got_numbered, in_back, in_front}
 
 -- an object without a place of its own, and in no other module: its address says nothing and is 0

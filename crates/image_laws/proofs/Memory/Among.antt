@@ -1,9 +1,5 @@
 -- Contents and pieces among those of a program, by the modules and the places that they come from.
-use Rattle.std.proofs.Common.{◌≡◌, ℕ, zero, suc, ◌+◌, ◌⊎◌, inl, inr, Bool, true, false, ◌&&◌, ◌||◌, List, [], ◌∷◌, ◌++◌, map, flat_map, Option, Some, None, unwrap_or, refl, ap, sym, subst, ◌∙◌, arith}
-use Rattle.std.specs.Prelude.{if◌then◌else◌, filter, filter_map, slice_get, zip}
-use Rattle.std.specs.List.{AllByRecursion, cons_option, enumerate_from, list_any}
-use Rattle.std.proofs.lemmas.Option.{none-some}
-use Rattle.layout.specs.StartingMemory.{Contents, IsAmong}
+use Rattle.image_laws.proofs.Prelude.{◌≡◌, ℕ, zero, suc, ◌+◌, ◌⊎◌, inl, inr, Bool, true, false, ◌&&◌, ◌||◌, List, [], ◌∷◌, ◌++◌, map, flat_map, Option, Some, None, unwrap_or, refl, ap, sym, subst, ◌∙◌, arith, if◌then◌else◌, filter, filter_map, slice_get, zip, AllByRecursion, cons_option, enumerate_from, list_any, none-some, Contents, IsAmong}
 
 -- the items of two lists at one place
 pub of_zip :

@@ -1,15 +1,6 @@
 -- The bytes of a segment are those of its module, where targets have the same addresses.
-use Rattle.std.proofs.Common.{◌≡◌, ℕ, zero, suc, ◌+◌, ◌*◌, ◌/◌, ◌%◌, List, [], ◌∷◌, map, Option, Some, None, option_map, refl, ap, sym, ◌∙◌}
-use Rattle.std.specs.Prelude.{slice_get}
-use Rattle.std.specs.Option.{option_map_or}
-use Rattle.std.proofs.lemmas.Option.{none-some}
-use Rattle.layout.specs.Segments.{Target as ModuleTarget, SegmentByte, Places, high_resolved, low_resolved, resolved, resolved_after, value_after as value_later, value_resolved}
-use Rattle.object_modules.specs.declared.segment.FixKind.{FixKind}
-use Rattle.object_modules.specs.declared.segment.FixKind.TheVariants.{Both}
-use Rattle.object_modules.specs.declared.segment.Target.{Target}
-use Rattle.object_modules.specs.Module.{Fixup, SetByte, ObjectModule}
-use Rattle.object_modules.specs.Moving.{after_fixup, byte_moved, bytes_resolved, moved_after, value_after, value_moved}
-use Rattle.image_laws.specs.Segments.{BeginWith, IsFix, IsPlace, IsTarget}
+use Rattle.image_laws.proofs.Prelude.{◌≡◌, ℕ, zero, suc, ◌+◌, ◌*◌, ◌/◌, ◌%◌, List, [], ◌∷◌, map, Option, Some, None, option_map, refl, ap, sym, ◌∙◌, slice_get, option_map_or, none-some, ModuleTarget, SegmentByte, Places, high_resolved, low_resolved, resolved_after, value_later, value_resolved, FixKind, Both, Target, Fixup, SetByte, ObjectModule, after_fixup, byte_moved, bytes_resolved, moved_after, value_after, value_moved, BeginWith, IsFix, IsPlace, IsTarget}
+use Rattle.layout.specs.Segments.{resolved}
 
 -- a fix of a word
 is_word : (fixup : Fixup) → fixup.kind ≡ Both → fixup ≡ record { kind = Both; target = fixup.target }

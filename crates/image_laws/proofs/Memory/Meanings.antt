@@ -1,42 +1,8 @@
 -- The addresses that a run of the source has for objects are those that the targets of the object modules have: an
 -- EXTERNAL object lies where the public of its name does.
-use Rattle.std.proofs.Common.{◌≡◌, ℕ, zero, suc, ◌+◌, ◌-◌, ◌%◌, ◌<◌, ◌≤◌, Bool, true, false, cond, List, [], ◌∷◌, ◌++◌, length, replicate, flat_map, Option, Some, None, unwrap_or, refl, ap, ap₂, sym, subst, ◌∙◌, arith}
-use Rattle.std.specs.Prelude.{All, IsSomeAnd, ◌&&◌, nat_lt, slice_get, slice_index}
-use Rattle.std.specs.List.{list_all, position_from}
-use Rattle.std.specs.Option.{option_and_then, option_map_or, option_or}
-use Rattle.std.specs.Str.{bytes_eq}
-use Rattle.std.proofs.lemmas.Bool.{ltb-true}
-use Rattle.std.proofs.lemmas.Iterator.Adapters.{position_from-zero}
-use Rattle.std.proofs.lemmas.List.Elements.{recursion_from_All}
-use Rattle.std.proofs.lemmas.Option.{none-some, slice_get_past}
-use Rattle.std.proofs.lemmas.Slice.Eq.{bytes_eq-Decides}
-use Rattle.mem80.specs.declared.memory.TheConstants.{MEMORY_SIZE}
-use Rattle.typed_trees.specs.declared.parts.InitialValue.{InitialValue}
-use Rattle.typed_trees.specs.declared.parts.InitialValue.TheVariants.{ByteValue, WordValue, LocationValue}
-use Rattle.typed_trees.specs.Globals.{IsHereIfPublic, ListsGlobals}
-use Rattle.typed_trees.specs.Sizes.{size_of_object}
-use Rattle.typed_trees.specs.Storable.{bytes_filled}
-use Rattle.typed_trees.specs.TypedTrees.{Home, InData, InConstants, Placed, BasedOn, Elsewhere, Nowhere, InFrame, TypedObject, TypedModule}
+use Rattle.image_laws.proofs.Prelude.{◌≡◌, ℕ, zero, suc, ◌+◌, ◌-◌, ◌%◌, ◌<◌, ◌≤◌, Bool, true, false, cond, List, [], ◌∷◌, ◌++◌, length, replicate, flat_map, Option, Some, None, unwrap_or, refl, ap, ap₂, sym, subst, ◌∙◌, arith, All, IsSomeAnd, ◌&&◌, nat_lt, slice_get, slice_index, list_all, position_from, option_and_then, option_map_or, option_or, bytes_eq, ltb-true, position_from-zero, recursion_from_All, none-some, slice_get_past, bytes_eq-Decides, MEMORY_SIZE, InitialValue, ByteValue, WordValue, LocationValue, IsHereIfPublic, ListsGlobals, size_of_object, bytes_filled, Home, InData, InConstants, Placed, BasedOn, Elsewhere, Nowhere, InFrame, TypedObject, TypedModule, InProgram, first_found, in_module, object_meant, public_object_in, ModulePlacement, PlacingPlan, Location, After, SegmentStart, ExternalName, address_of_location, location_by_home, location_of, locations_after, AtNumber, address_in, address_of_object, bytes_of_value, bytes_of_word, values_in, location_is, MeansObject, external_object_meant, addresses, set, starting_bytes, of_all, Linked, linked_modules, public_named, Plan, Image, IsObjectModule, ObjectModule, Public, is_valid_public, may_have_publics, PublicLies, address_of_public, piece_base, plan_of, IsInMemory, placement_of, IsLinked, HasPublic, IsPublicAt}
 use Rattle.layout.specs.declared.slot.Segment.TheVariants as slots
-use Rattle.layout.specs.Joined.{InProgram, first_found, in_module, object_meant, public_object_in}
-use Rattle.layout.specs.Placement.{ModulePlacement}
-use Rattle.layout.specs.Placing.{Plan as PlacingPlan}
-use Rattle.layout.specs.Segments.{Location, After, SegmentStart, ExternalName, address_of_location, location_by_home, location_of, locations_after}
-use Rattle.layout.specs.Segments.{Absolute as AtNumber}
-use Rattle.layout.specs.StartingMemory.{address_in, address_of_object, bytes_of_value, bytes_of_word, values_in}
-use Rattle.layout.proofs.Locations.{location_is}
-use Rattle.layout.proofs.Meant.{MeansObject, external_object_meant}
-use Rattle.layout.proofs.Resolving.{addresses, set, starting_bytes}
-use Rattle.layout.proofs.Segments.{of_all}
-use Rattle.object_modules.specs.Displacements.{Linked, linked_modules, public_named}
-use Rattle.object_modules.specs.Image.{Plan, Image}
-use Rattle.object_modules.specs.Module.{IsObjectModule, ObjectModule, Public, is_valid_public, may_have_publics}
-use Rattle.image_laws.specs.internal.InMemory.{PublicLies, address_of_public, piece_base}
 use Rattle.image_laws.proofs.Images.Publics.{publics_lie}
-use Rattle.image_laws.specs.internal.AtPlans.{plan_of}
-use Rattle.image_laws.specs.internal.ProgramInMemory.{IsInMemory, placement_of}
-use Rattle.image_laws.specs.internal.Linked.{IsLinked}
-use Rattle.image_laws.specs.Segments.{HasPublic, IsPublicAt}
 use Rattle.image_laws.proofs.Memory.Addresses.{IsHere, locations_length}
 use Rattle.image_laws.proofs.Memory.Modules.{address_for, is_linked, lies_at}
 

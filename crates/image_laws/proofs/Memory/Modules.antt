@@ -1,37 +1,9 @@
 -- Each module of a program in memory: its object module, where that is linked, and where its segments begin.
-use Rattle.std.proofs.Common.{◌≡◌, ℕ, zero, suc, ◌+◌, ◌%◌, ◌<◌, ◌≤◌, List, [], ◌∷◌, length, Option, Some, None, option_map, unwrap_or, refl, ap, sym, subst, ◌∙◌, arith}
-use Rattle.std.specs.Prelude.{slice_get, slice_index, zip}
-use Rattle.std.specs.Option.{option_and_then}
-use Rattle.std.proofs.lemmas.List.Elements.{recursion_from_All}
-use Rattle.std.proofs.lemmas.Option.{none-some, slice_get-map, slice_get-get_or, slice_get_within}
-use Rattle.mem80.specs.declared.memory.TheConstants.{MEMORY_SIZE}
-use Rattle.mem80.specs.Memory.{byte_at}
-use Rattle.typed_trees.specs.Storable.{IsStorable}
-use Rattle.typed_trees.specs.TypedTrees.{TypedObject, TypedModule}
-use Rattle.layout.specs.declared.slot.Segment.{Segment as SlotSegment}
+use Rattle.image_laws.proofs.Prelude.{◌≡◌, ℕ, zero, suc, ◌+◌, ◌%◌, ◌<◌, ◌≤◌, List, [], ◌∷◌, length, Option, Some, None, option_map, unwrap_or, refl, ap, sym, subst, ◌∙◌, arith, slice_get, slice_index, zip, option_and_then, recursion_from_All, none-some, slice_get-map, slice_get-get_or, slice_get_within, MEMORY_SIZE, byte_at, IsStorable, TypedObject, TypedModule, SlotSegment, Slot, Bases, LiesInSlot, HasAddresses, LiesWhereAtSays, PlacingPlan, bases_from, module_placement_by, placement_by, ModuleTarget, SegmentStart, ExternalName, Places, address_of_location, constant_places, data_places, location_of, places_in, slot_of_object, storage_with, module_follows, resolved_length, constants_length, data_length, of_all, Target, InSegment, External, Linked, code_end, data_end, linked_after, linked_from, linked_modules, public_named, Image, SetByte, ObjectModule, BytesAreLoaded, address_of_public, address_of_target, IsObjectOf, AreObjectsOf, StandsAt, bases_of, code_lengths_of, plan_of, HaveSegments, IsInMemory, placement_of, IsLinked, placed_by, BeginWith, HasSegments, IsTarget}
 use Rattle.layout.specs.declared.slot.Segment.TheVariants as slots
-use Rattle.layout.specs.declared.slot.Slot.{Slot}
-use Rattle.layout.specs.Following.{Bases, LiesInSlot, base_of}
-use Rattle.layout.specs.Lawful.{HasAddresses, LiesWhereAtSays}
-use Rattle.layout.specs.Placing.{Plan as PlacingPlan, bases_from, module_placement_by, placement_by}
-use Rattle.layout.specs.Segments.{Target as ModuleTarget, SegmentStart, ExternalName, Places, address_of_location, constant_places, data_places, location_of, places_in, resolved}
-use Rattle.layout.specs.Storage.{slot_of_object, storage_with}
-use Rattle.layout.proofs.Placements.{module_follows}
-use Rattle.layout.proofs.Resolving.{resolved_length}
-use Rattle.layout.proofs.Segments.{constants_length, data_length, of_all}
-use Rattle.object_modules.specs.declared.segment.Target.{Target}
-use Rattle.object_modules.specs.declared.segment.Target.TheVariants.{InSegment, External}
-use Rattle.object_modules.specs.Displacements.{Linked, code_end, data_end, linked_after, linked_from, linked_modules, public_named}
-use Rattle.object_modules.specs.Image.{Image}
-use Rattle.object_modules.specs.Module.{SetByte, ObjectModule}
-use Rattle.image_laws.specs.internal.InMemory.{BytesAreLoaded, address_of_public, address_of_target}
-use Rattle.image_laws.specs.Objects.{IsObjectOf}
-use Rattle.image_laws.specs.internal.AtPlans.{AreObjectsOf, StandsAt, bases_of, code_lengths_of, plan_of}
+use Rattle.layout.specs.{Following.{base_of}, Segments.{resolved}}
 use Rattle.image_laws.proofs.Programs.Bases.{bases_agree}
 use Rattle.image_laws.proofs.Programs.Standing.{program_stands}
-use Rattle.image_laws.specs.internal.ProgramInMemory.{HaveSegments, IsInMemory, placement_of}
-use Rattle.image_laws.specs.internal.Linked.{IsLinked, placed_by}
-use Rattle.image_laws.specs.Segments.{BeginWith, HasSegments, IsTarget}
 use Rattle.image_laws.proofs.Memory.Addresses.{IsHere, lies_here}
 use Rattle.image_laws.proofs.Memory.Bytes.{bytes_alike}
 use Rattle.image_laws.proofs.Memory.Lists.{got_both, got_numbered}

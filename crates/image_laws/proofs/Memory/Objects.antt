@@ -1,30 +1,8 @@
 -- What stands in memory where objects and constant lists lie: the bytes that INITIAL or DATA fill them with, and what stood
 -- there before where nothing fills them.
-use Rattle.std.proofs.Common.{◌≡◌, ℕ, zero, suc, ◌+◌, ◌-◌, ◌%◌, ◌<◌, ◌≤◌, List, [], ◌∷◌, ◌++◌, length, map, flat_map, replicate, take, Option, Some, None, option_map, unwrap_or, refl, ap, sym, subst, ◌∙◌, ⊎_elim, arith}
-use Rattle.std.specs.Prelude.{slice_get, slice_index}
-use Rattle.std.proofs.lemmas.Bool.{cases_lt}
-use Rattle.std.proofs.lemmas.List.{length-map}
-use Rattle.std.proofs.lemmas.List.Sums.{sum_by-cons}
-use Rattle.std.proofs.lemmas.Option.{slice_get-map, get_or_from_slice_get}
-use Rattle.mem80.specs.Memory.{byte_at}
-use Rattle.typed_trees.specs.declared.parts.InitialValue.{InitialValue}
-use Rattle.typed_trees.specs.Sizes.{size_of_object}
-use Rattle.typed_trees.specs.Storable.{bytes_filled}
-use Rattle.typed_trees.specs.TypedTrees.{Home, InData, InConstants, Placed, BasedOn, Elsewhere, Nowhere, InFrame, TypedObject, TypedModule}
+use Rattle.image_laws.proofs.Prelude.{◌≡◌, ℕ, zero, suc, ◌+◌, ◌-◌, ◌%◌, ◌<◌, ◌≤◌, List, [], ◌∷◌, ◌++◌, length, map, flat_map, replicate, take, Option, Some, None, option_map, unwrap_or, refl, ap, sym, subst, ◌∙◌, ⊎_elim, arith, slice_get, slice_index, cases_lt, length-map, sum_by-cons, slice_get-map, get_or_from_slice_get, byte_at, InitialValue, size_of_object, bytes_filled, Home, InData, InConstants, Placed, BasedOn, Elsewhere, Nowhere, InFrame, TypedObject, TypedModule, Slot, address_of_slot, PlacingPlan, address_of_object, bytes_of_value, values_in, bytes_in_data, data_bytes, slot_of_list, slot_of_object, storage_with, set, starting_bytes, list_resolved, object_resolved, bytes_written, Image, ObjectModule, bases_of, IsInMemory, placement_of, IsLinked, placed_by}
 use Rattle.layout.specs.declared.slot.Segment.TheVariants as slots
-use Rattle.layout.specs.declared.slot.Slot.{Slot}
-use Rattle.layout.specs.Following.{address_of_slot, base_of}
-use Rattle.layout.specs.Placing.{Plan as PlacingPlan}
-use Rattle.layout.specs.StartingMemory.{address_of_object, bytes_of_value, values_in}
-use Rattle.layout.specs.Storage.{bytes_in_data, data_bytes, slot_of_list, slot_of_object, storage_with}
-use Rattle.layout.proofs.Resolving.{set, starting_bytes}
-use Rattle.layout.proofs.Segments.{list_resolved, object_resolved}
-use Rattle.layout.proofs.Sums.{bytes_written}
-use Rattle.object_modules.specs.Image.{Image}
-use Rattle.object_modules.specs.Module.{ObjectModule}
-use Rattle.image_laws.specs.internal.AtPlans.{bases_of}
-use Rattle.image_laws.specs.internal.ProgramInMemory.{IsInMemory, placement_of}
-use Rattle.image_laws.specs.internal.Linked.{IsLinked, placed_by}
+use Rattle.layout.specs.Following.{base_of}
 use Rattle.image_laws.proofs.Memory.Lists.{got_numbered, in_back, in_front}
 use Rattle.image_laws.proofs.Memory.Meanings.{bytes_meant}
 use Rattle.image_laws.proofs.Memory.Modules.{address_for, in_slot, stands_there}

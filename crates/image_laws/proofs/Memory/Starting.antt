@@ -1,35 +1,7 @@
 -- Where it is declared the memory is the one that a run of the source starts with.
-use Rattle.std.proofs.Common.{◌≡◌, ℕ, suc, ◌+◌, ◌-◌, ◌%◌, ◌<◌, ◌≤◌, ◌⊎◌, inl, inr, Bool, true, false, ◌&&◌, List, [], ◌∷◌, length, map, flat_map, take, Option, Some, None, option_map, unwrap_or, refl, ap, sym, subst, ◌∙◌, ⊎_elim, arith}
-use Rattle.std.specs.Prelude.{filter_map, slice_get, slice_index, sum, zip}
-use Rattle.std.specs.List.{AllByRecursion, enumerate_from, list_any}
-use Rattle.std.proofs.lemmas.Bool.{cases_lt}
-use Rattle.std.proofs.lemmas.List.Elements.{All-from_recursion, recursion_from_All}
-use Rattle.std.proofs.lemmas.List.Sums.{sum_by-cons}
-use Rattle.std.proofs.lemmas.Option.{none-some, slice_get-get_or, slice_get_within, get_or_from_slice_get}
-use Rattle.mem80.specs.Memory.{byte_at}
-use Rattle.mem80.specs.Range.{IsIn}
-use Rattle.typed_trees.specs.Sizes.{size_of_object}
-use Rattle.typed_trees.specs.TypedTrees.{Home, InData, InConstants, Placed, BasedOn, Elsewhere, Nowhere, InFrame, TypedObject, TypedModule}
-use Rattle.layout.specs.declared.slot.Slot.{Slot}
-use Rattle.layout.specs.Following.{Bases}
-use Rattle.layout.specs.Placement.{StaticPiece, ConstantPiece, AtPiece, ModulePlacement, PlacedPiece, EndsInMemory, kind_of, piece_of, range_of, holds_byte, is_constant, is_constant_piece, is_declared, list_piece, object_piece, pieces_of, pieces_of_module}
-use Rattle.layout.specs.Placing.{Plan as PlacingPlan, bases_from, placement_by}
-use Rattle.layout.specs.StartingMemory.{Contents, Covers, IsAmong, StartsAs, address_of_object, bytes_of_value, values_in, contents_of, contents_of_list, contents_of_module, contents_of_object, starting_memory}
-use Rattle.layout.specs.Storage.{data_bytes, slot_of_object}
-use Rattle.layout.proofs.Declared.{Decides-declared, Decides-holds, writable_not_in_code}
-use Rattle.layout.proofs.Segments.{of_all}
-use Rattle.layout.proofs.StartingBytes.{starts_as}
-use Rattle.object_laws.proofs.Merges.MergeValid.{merge_is}
-use Rattle.object_modules.specs.declared.segment.Segment.TheVariants.{Code, Data}
-use Rattle.object_modules.specs.Displacements.{linked_modules}
-use Rattle.object_modules.specs.Image.{Image}
-use Rattle.object_modules.specs.Merge.{joined}
-use Rattle.object_modules.specs.Module.{ObjectModule, length_of}
+use Rattle.image_laws.proofs.Prelude.{◌≡◌, ℕ, suc, ◌+◌, ◌-◌, ◌%◌, ◌<◌, ◌≤◌, ◌⊎◌, inl, inr, Bool, true, false, ◌&&◌, List, [], ◌∷◌, length, map, flat_map, take, Option, Some, None, option_map, unwrap_or, refl, ap, sym, subst, ◌∙◌, ⊎_elim, arith, filter_map, slice_get, slice_index, sum, zip, AllByRecursion, enumerate_from, list_any, cases_lt, All-from_recursion, recursion_from_All, sum_by-cons, none-some, slice_get-get_or, slice_get_within, get_or_from_slice_get, byte_at, IsIn, size_of_object, Home, InData, InConstants, Placed, BasedOn, Elsewhere, Nowhere, InFrame, TypedObject, TypedModule, Slot, Bases, StaticPiece, ConstantPiece, AtPiece, ModulePlacement, PlacedPiece, EndsInMemory, kind_of, piece_of, range_of, holds_byte, is_constant, is_constant_piece, is_declared, list_piece, object_piece, pieces_of, pieces_of_module, PlacingPlan, bases_from, placement_by, Contents, Covers, IsAmong, StartsAs, address_of_object, bytes_of_value, values_in, contents_of, contents_of_list, contents_of_module, contents_of_object, starting_memory, data_bytes, slot_of_object, Decides-declared, Decides-holds, writable_not_in_code, of_all, starts_as, merge_is, Code, Data, linked_modules, Image, joined, ObjectModule, length_of, AreObjectsOf, bases_of, code_lengths_of, plan_of, IsInMemory, StartsAsItsSource, placement_of, IsLinked, placed_by}
 use Rattle.image_laws.proofs.Images.Objects.{others_stay}
-use Rattle.image_laws.specs.internal.AtPlans.{AreObjectsOf, bases_of, code_lengths_of, plan_of}
 use Rattle.image_laws.proofs.Programs.Lengths.{code_length_is, data_length_is, data_sum}
-use Rattle.image_laws.specs.internal.ProgramInMemory.{IsInMemory, StartsAsItsSource, placement_of}
-use Rattle.image_laws.specs.internal.Linked.{IsLinked, placed_by}
 use Rattle.image_laws.proofs.Memory.Among.{any_either, any_of_filter, any_of_filter_map, any_of_flat_map, any_of_map, among_back, among_either, among_front, in_flat_map, in_map, numbered, of_among, of_any, of_flat_map, of_map, of_numbered, of_zip}
 use Rattle.image_laws.proofs.Memory.Lists.{got_both}
 use Rattle.image_laws.proofs.Memory.Modules.{bases_found, in_slot, is_linked}

@@ -1,23 +1,6 @@
 -- Names of the object modules of a program are found, stand once, and one of the modules is the main one.
-use Rattle.std.proofs.Common.{◌≡◌, ℕ, ◌+◌, Bool, true, false, ◌%◌, ◌||◌, ◌==◌, cond, List, [], ◌∷◌, ◌++◌, length, map, Option, Some, None, option_map, is_some, if◌then◌else◌, refl, ap, ap₂, sym, subst, ◌∙◌, arith}
-use Rattle.std.specs.Prelude.{count_by, filter, find, flat_map, not}
-use Rattle.std.specs.List.{AllByRecursion, cons_option, list_any}
-use Rattle.std.specs.Option.{option_and_then, option_map_or, option_or}
-use Rattle.std.specs.Str.{bytes_eq}
-use Rattle.std.proofs.lemmas.Bool.{eqb-true}
-use Rattle.std.proofs.lemmas.List.{map-append}
-use Rattle.std.proofs.lemmas.List.Elements.{filter-append, recursion_from_All}
-use Rattle.std.proofs.lemmas.List.Sums.{sum_by-cons}
-use Rattle.std.proofs.lemmas.Option.{none-some}
-use Rattle.std.proofs.lemmas.Slice.Eq.{bytes_eq-Decides}
-use Rattle.typed_trees.specs.TypedTrees.{TypedModule}
-use Rattle.layout.specs.Joined.{Global, IsJoined, declared_otherwise, externals_of, first_repeated, globals_of, is_main, join_refusal, lacks_public, not_one_main, NotOneMain, public_named, public_twice, publics_of, without_public}
-use Rattle.object_modules.specs.Displacements.{Linked, code_end, data_end, linked_after, linked_from, linked_modules}
-use Rattle.object_modules.specs.Image.{placed, placement_refusal}
-use Rattle.object_modules.specs.Merge.{main_modules, public_names, repeated_after, unless_refused, unresolved}
-use Rattle.object_modules.specs.Module.{ObjectModule, is_among}
-use Rattle.layout.specs.Placing.{SegmentTooLarge}
-use Rattle.image_laws.specs.internal.AtPlans.{plan_of, refusal_of_merge}
+use Rattle.image_laws.proofs.Prelude.{◌≡◌, ℕ, ◌+◌, Bool, true, false, ◌%◌, ◌||◌, ◌==◌, cond, List, [], ◌∷◌, ◌++◌, length, map, Option, Some, None, option_map, is_some, if◌then◌else◌, refl, ap, ap₂, sym, subst, ◌∙◌, arith, count_by, filter, find, flat_map, not, AllByRecursion, cons_option, list_any, option_and_then, option_map_or, option_or, bytes_eq, eqb-true, map-append, filter-append, recursion_from_All, sum_by-cons, none-some, bytes_eq-Decides, TypedModule, Global, IsJoined, declared_otherwise, externals_of, first_repeated, globals_of, is_main, join_refusal, lacks_public, not_one_main, public_twice, publics_of, without_public, Linked, code_end, data_end, linked_after, linked_from, linked_modules, placed, placement_refusal, main_modules, public_names, repeated_after, unless_refused, unresolved, ObjectModule, is_among, SegmentTooLarge, plan_of, refusal_of_merge}
+use Rattle.layout.specs.Joined.{NotOneMain, public_named}
 use Rattle.image_laws.proofs.Programs.Made.{merge_made}
 use Rattle.image_laws.proofs.Programs.Refusals.{ranges_refused}
 use Rattle.image_laws.specs.Names.{external_names_in, shared_in}

@@ -1,13 +1,5 @@
 -- The segments of object modules begin where the placement of their program has them.
-use Rattle.std.proofs.Common.{◌≡◌, ℕ, ◌+◌, List, [], ◌∷◌, length, map, refl, ap, ◌∙◌, arith}
-use Rattle.typed_trees.specs.TypedTrees.{TypedModule}
-use Rattle.layout.specs.Following.{Bases}
-use Rattle.layout.specs.Placing.{Plan as PlacingPlan, bases_from}
-use Rattle.layout.specs.Storage.{data_bytes}
-use Rattle.object_modules.specs.Displacements.{Linked, code_end, data_end, linked_after, linked_from, start_after}
-use Rattle.object_modules.specs.Module.{ObjectModule}
-use Rattle.image_laws.specs.Objects.{IsObjectOf}
-use Rattle.image_laws.specs.internal.AtPlans.{AreObjectsOf, BasesAgree, bases_of, code_lengths_of}
+use Rattle.image_laws.proofs.Prelude.{◌≡◌, ℕ, ◌+◌, List, [], ◌∷◌, length, map, refl, ap, ◌∙◌, arith, TypedModule, Bases, PlacingPlan, bases_from, data_bytes, Linked, code_end, data_end, linked_after, linked_from, start_after, ObjectModule, IsObjectOf, AreObjectsOf, BasesAgree, bases_of, code_lengths_of}
 
 -- segments that ask for no page begin where those before them end, and end so much later
 pub record Follows (code data_before : ℕ) (typed : TypedModule) (object : ObjectModule) : Type 0 where

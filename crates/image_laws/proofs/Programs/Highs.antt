@@ -1,21 +1,7 @@
 -- Where no module fixes a high byte alone, or asks for a page, their merge does not.
-use Rattle.std.proofs.Common.{◌≡◌, ℕ, zero, suc, ◌+◌, ◌-◌, false, cond, ◌||◌, List, [], ◌∷◌, ◌++◌, length, map, filter_map, replicate, Option, Some, None, option_map, option_and_then, refl, ap, sym, ◌∙◌}
-use Rattle.std.specs.List.{list_any, cons_option, AllByRecursion}
-use Rattle.std.proofs.lemmas.List.Elements.{filter_map-append}
-use Rattle.typed_trees.specs.TypedTrees.{TypedModule}
-use Rattle.object_modules.specs.declared.segment.Alignment.{Alignment}
-use Rattle.object_modules.specs.declared.segment.Alignment.TheVariants.{Byte, Page}
-use Rattle.object_modules.specs.declared.segment.FixKind.{FixKind}
-use Rattle.object_modules.specs.declared.segment.FixKind.TheVariants.{Low, High, Both}
-use Rattle.object_modules.specs.declared.segment.Segment.TheVariants.{Code, Data}
-use Rattle.object_modules.specs.declared.segment.Target.{Target}
-use Rattle.object_modules.specs.Displacements.{Linked, all_publics, code_end, data_end, linked_after, linked_from, linked_modules, gain_in, target_kept}
-use Rattle.object_modules.specs.Merge.{code_piece, data_piece, joined, joined_after, joined_alignment}
-use Rattle.object_modules.specs.Module.{Fixup, SetByte, Places, Public, ObjectModule, is_page, places_of}
-use Rattle.object_modules.specs.Moving.{byte_moved, fixup_moved, high_target, high_targets, moved_after}
-use Rattle.object_laws.proofs.Merges.FixesOfPlaces.{high_at}
+use Rattle.image_laws.proofs.Prelude.{◌≡◌, ℕ, zero, suc, ◌+◌, ◌-◌, false, cond, ◌||◌, List, [], ◌∷◌, ◌++◌, length, map, filter_map, replicate, Option, Some, None, option_map, option_and_then, refl, ap, sym, ◌∙◌, list_any, cons_option, AllByRecursion, filter_map-append, TypedModule, Alignment, Page, FixKind, Low, High, Both, Code, Data, Target, Linked, all_publics, code_end, data_end, linked_after, linked_from, linked_modules, gain_in, target_kept, code_piece, data_piece, joined, joined_after, joined_alignment, Fixup, SetByte, Public, ObjectModule, is_page, places_of, byte_moved, fixup_moved, high_target, high_targets, moved_after, high_at, AreObjectsOf}
+use Rattle.object_modules.specs.{declared.segment.Alignment.TheVariants.{Byte}, Module.{Places}}
 use Rattle.image_laws.proofs.Images.NoHighs.{NoHighs, highs_append}
-use Rattle.image_laws.specs.internal.AtPlans.{AreObjectsOf}
 
 kind_stays :
     (kept : Target → Option Target) (kind : FixKind) (target : Target)

@@ -1,13 +1,5 @@
 -- A merge is refused for its lengths just where its program is.
-use Rattle.std.proofs.Common.{◌≡◌, ℕ, ◌==◌, Bool, true, false, cond, not, ◌||◌, nat_lt, List, [], ◌∷◌, length, find, Option, Some, None, option_map, refl, ap, sym, ◌∙◌}
-use Rattle.std.specs.List.{list_any}
-use Rattle.std.specs.Option.{option_or}
-use Rattle.omf80.specs.Records.{first_that_holds}
-use Rattle.typed_trees.specs.TypedTrees.{TypedObject, TypedModule}
-use Rattle.layout.specs.Placing.{Plan as PlacingPlan, PassesMemory, RangesOverlap, SegmentTooLarge, ObjectMisplaced, code_range, data_range, is_misplaced, overlaps, passes_memory, placed_objects, placement_by, placing_refusal, stack_range}
-use Rattle.object_modules.specs.Displacements.{Linked, all_publics, linked_modules}
-use Rattle.object_modules.specs.Merge.{DuplicatePublic, HighByteMoves, NotOneMain, SegmentTooLong, UnresolvedExternal, link_refusal, main_modules, public_names, repeated_after, some_high_byte_moves, some_segment_is_too_long, unresolved}
-use Rattle.image_laws.specs.internal.AtPlans.{LengthsAgree, LengthsRefused, code_lengths_of}
+use Rattle.image_laws.proofs.Prelude.{◌≡◌, ℕ, ◌==◌, Bool, true, false, cond, not, ◌||◌, nat_lt, List, [], ◌∷◌, length, find, Option, Some, None, option_map, refl, ap, sym, ◌∙◌, list_any, option_or, first_that_holds, TypedObject, TypedModule, PlacingPlan, PassesMemory, RangesOverlap, SegmentTooLarge, ObjectMisplaced, code_range, data_range, is_misplaced, overlaps, passes_memory, placed_objects, placement_by, placing_refusal, stack_range, Linked, all_publics, linked_modules, DuplicatePublic, HighByteMoves, NotOneMain, SegmentTooLong, UnresolvedExternal, link_refusal, main_modules, public_names, repeated_after, some_high_byte_moves, some_segment_is_too_long, unresolved, LengthsAgree, LengthsRefused, code_lengths_of}
 use Rattle.image_laws.proofs.Programs.Lengths.{same_lengths}
 
 -- Of causes that are judged in turn, which one is told.

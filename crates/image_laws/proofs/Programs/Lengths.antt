@@ -1,17 +1,5 @@
 -- How long the segments of a merge are: as long as those of its program.
-use Rattle.std.proofs.Common.{◌≡◌, ℕ, ◌+◌, Bool, true, false, ◌||◌, nat_lt, List, [], ◌∷◌, map, sum_by, refl, ap, ◌∙◌, arith}
-use Rattle.std.specs.Prelude.{sum}
-use Rattle.std.proofs.lemmas.List.Sums.{sum_by-cons}
-use Rattle.typed_trees.specs.TypedTrees.{TypedModule}
-use Rattle.layout.specs.Placing.{Plan as PlacingPlan, code_range, data_range}
-use Rattle.layout.specs.Storage.{data_bytes}
-use Rattle.object_modules.specs.declared.segment.Segment.TheVariants.{Code, Data}
-use Rattle.object_modules.specs.Displacements.{Linked, all_publics, code_end, data_end, linked_after, linked_from, linked_modules}
-use Rattle.object_modules.specs.Merge.{code_piece, data_piece, joined, last_end, is_too_long, some_segment_is_too_long}
-use Rattle.object_modules.specs.Module.{Public, ObjectModule, length_of}
-use Rattle.object_laws.proofs.Merges.MergeValid.{code_ends_all, code_follow, data_ends_all, data_follow}
-use Rattle.object_laws.proofs.Merges.MovedValid.{joined_length}
-use Rattle.image_laws.specs.internal.AtPlans.{AreObjectsOf, code_lengths_of}
+use Rattle.image_laws.proofs.Prelude.{◌≡◌, ℕ, ◌+◌, Bool, true, false, ◌||◌, nat_lt, List, [], ◌∷◌, map, sum_by, refl, ap, ◌∙◌, arith, sum, sum_by-cons, TypedModule, PlacingPlan, code_range, data_range, data_bytes, Code, Data, Linked, all_publics, code_end, data_end, linked_after, linked_from, linked_modules, code_piece, data_piece, joined, last_end, is_too_long, some_segment_is_too_long, Public, ObjectModule, length_of, code_ends_all, code_follow, data_ends_all, data_follow, joined_length, AreObjectsOf, code_lengths_of}
 use Rattle.image_laws.proofs.Programs.Bases.{follows}
 
 -- how many bytes the data segments of modules have

@@ -1,16 +1,6 @@
 -- Object modules of a program have a merge where none of their names are wrong, one of them is the main module,
 -- and no segment of the program is too large.
-use Rattle.std.proofs.Common.{◌≡◌, ℕ, ◌%◌, ◌==◌, Bool, true, false, cond, not, ◌||◌, List, [], ◌∷◌, length, Option, Some, None, option_map, refl, ap, ◌∙◌}
-use Rattle.std.specs.List.{list_any}
-use Rattle.std.specs.Option.{option_or}
-use Rattle.omf80.specs.Records.{first_that_holds}
-use Rattle.typed_trees.specs.TypedTrees.{TypedModule}
-use Rattle.layout.specs.Placing.{Plan as PlacingPlan, PassesMemory, RangesOverlap, SegmentTooLarge, ObjectMisplaced, placing_refusal}
-use Rattle.object_modules.specs.declared.segment.Target.{Target}
-use Rattle.object_modules.specs.Displacements.{Linked, all_publics, code_end, data_end, gain_in, linked_after, linked_from, linked_modules}
-use Rattle.object_modules.specs.Merge.{DuplicatePublic, HighByteMoves, NotOneMain, SegmentTooLong, UnresolvedExternal, joined, link_refusal, main_modules, merge_of, public_names, repeated_after, some_high_byte_moves, some_segment_is_too_long, unless_refused, unresolved}
-use Rattle.object_modules.specs.Module.{Public, ObjectModule}
-use Rattle.image_laws.specs.internal.AtPlans.{AreObjectsOf, MergeMade, code_lengths_of}
+use Rattle.image_laws.proofs.Prelude.{◌≡◌, ℕ, ◌%◌, ◌==◌, Bool, true, false, cond, not, ◌||◌, List, [], ◌∷◌, length, Option, Some, None, option_map, refl, ap, ◌∙◌, list_any, option_or, first_that_holds, TypedModule, PlacingPlan, PassesMemory, RangesOverlap, SegmentTooLarge, ObjectMisplaced, placing_refusal, Target, Linked, all_publics, code_end, data_end, gain_in, linked_after, linked_from, linked_modules, DuplicatePublic, HighByteMoves, NotOneMain, SegmentTooLong, UnresolvedExternal, joined, link_refusal, main_modules, merge_of, public_names, repeated_after, some_high_byte_moves, some_segment_is_too_long, unless_refused, unresolved, Public, ObjectModule, AreObjectsOf, MergeMade, code_lengths_of}
 use Rattle.image_laws.proofs.Programs.Judged.{is_large, meets, misplaced_name, passes, program_refusal}
 use Rattle.image_laws.proofs.Programs.Lengths.{same_lengths}
 

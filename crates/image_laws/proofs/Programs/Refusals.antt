@@ -1,24 +1,6 @@
 -- A merge is refused at a plan as its program is.
-use Rattle.std.proofs.Common.{◌≡◌, ℕ, ◌%◌, ◌==◌, Bool, true, false, cond, not, ◌&&◌, ◌||◌, List, [], ◌∷◌, length, slice_get, Option, Some, None, option_map, option_and_then, refl, ap, sym, subst, ◌∙◌}
-use Rattle.std.specs.Prelude.{sum}
-use Rattle.std.specs.List.{list_any}
-use Rattle.std.specs.Option.{option_or, is_none}
-use Rattle.mem80.specs.Range.{ranges_meet}
-use Rattle.omf80.specs.Records.{first_that_holds}
-use Rattle.typed_trees.specs.TypedTrees.{TypedModule}
-use Rattle.layout.specs.Placing.{Plan as PlacingPlan, RangesOverlap, SegmentTooLarge, ObjectMisplaced, placing_refusal}
-use Rattle.layout.specs.Placing.{PassesMemory as PlacingPassesMemory}
-use Rattle.object_modules.specs.declared.segment.Alignment.{Alignment}
-use Rattle.object_modules.specs.declared.segment.Segment.TheVariants.{Code, Data}
-use Rattle.object_modules.specs.declared.segment.Target.{Target}
-use Rattle.object_modules.specs.Before.{is_empty}
-use Rattle.object_modules.specs.Displacements.{linked_modules}
-use Rattle.object_modules.specs.Image.{Plan, ExternalLeft, NoStart, PassesMemory, SegmentsMeet, PageBroken, HighByteBroken, base_of, breaks_page, gain_at, passes_memory, placement_refusal, range_at, stack_range}
-use Rattle.object_modules.specs.Merge.{joined, main_modules}
-use Rattle.object_modules.specs.Module.{ObjectModule, is_page, length_of}
-use Rattle.object_modules.specs.Moving.{high_targets}
-use Rattle.object_laws.proofs.Merges.MergeValid.{IsMerge, merge_is}
-use Rattle.image_laws.specs.internal.AtPlans.{AreObjectsOf, RangesRefused, code_lengths_of, plan_of, refusal_of_merge}
+use Rattle.image_laws.proofs.Prelude.{◌≡◌, ℕ, ◌%◌, ◌==◌, Bool, true, false, cond, not, ◌&&◌, ◌||◌, List, [], ◌∷◌, length, slice_get, Option, Some, None, option_map, option_and_then, refl, ap, sym, subst, ◌∙◌, sum, list_any, option_or, is_none, ranges_meet, first_that_holds, TypedModule, PlacingPlan, RangesOverlap, SegmentTooLarge, ObjectMisplaced, placing_refusal, PlacingPassesMemory, Alignment, Code, Data, Target, is_empty, linked_modules, Plan, ExternalLeft, NoStart, SegmentsMeet, PageBroken, HighByteBroken, base_of, breaks_page, gain_at, placement_refusal, range_at, joined, main_modules, ObjectModule, is_page, length_of, high_targets, IsMerge, merge_is, AreObjectsOf, RangesRefused, code_lengths_of, plan_of, refusal_of_merge}
+use Rattle.object_modules.specs.Image.{PassesMemory, passes_memory, stack_range}
 use Rattle.image_laws.proofs.Programs.Highs.{merge_alignments, merge_highs}
 use Rattle.image_laws.proofs.Programs.Judged.{is_large, meets, misplaced_name, passes, program_refusal}
 use Rattle.image_laws.proofs.Programs.Lengths.{code_length_is, data_length_is, same_lengths}

@@ -1,21 +1,9 @@
 -- The modules of a program stand in memory where its placement has them.
-use Rattle.std.proofs.Common.{◌≡◌, ℕ, ◌+◌, ◌%◌, List, [], ◌∷◌, get_or, All, map, zip, refl, ap, subst, ◌∙◌, arith}
-use Rattle.std.specs.List.{AllByRecursion}
-use Rattle.std.proofs.lemmas.List.Elements.{All-from_recursion, recursion_from_All}
-use Rattle.layout.specs.declared.slot.Segment.{Segment as SlotSegment}
+use Rattle.image_laws.proofs.Prelude.{◌≡◌, ℕ, ◌+◌, ◌%◌, List, [], ◌∷◌, get_or, All, map, zip, refl, ap, subst, ◌∙◌, arith, AllByRecursion, All-from_recursion, recursion_from_All, SlotSegment, Slot, Bases, address_of_slot, PlacingPlan, stack_range, address_past, Segment, Linked, linked_modules, Public, ObjectModule, ModuleStands, piece_base, segment_of, IsAtSlot, ProgramStands, SlotsLie, StandsAt, bases_of, plan_of}
 use Rattle.layout.specs.declared.slot.Segment.TheVariants as slots
-use Rattle.layout.specs.declared.slot.Slot.{Slot}
-use Rattle.layout.specs.Following.{Bases, address_of_slot, base_of}
-use Rattle.layout.specs.Placing.{Plan as PlacingPlan, stack_range}
-use Rattle.mem80.specs.Range.{address_past}
-use Rattle.object_modules.specs.declared.segment.Segment.{Segment}
-use Rattle.object_modules.specs.Displacements.{Linked, linked_modules}
-use Rattle.object_modules.specs.Module.{Public, ObjectModule}
-use Rattle.image_laws.specs.internal.InMemory.{ModuleStands, piece_base}
+use Rattle.layout.specs.Following.{base_of}
 use Rattle.image_laws.proofs.Images.Objects.{objects_stand}
 use Rattle.image_laws.proofs.Images.Publics.{publics_lie}
-use Rattle.image_laws.specs.Objects.{segment_of}
-use Rattle.image_laws.specs.internal.AtPlans.{IsAtSlot, ProgramStands, SlotsLie, StandsAt, bases_of, plan_of}
 use Rattle.image_laws.proofs.Programs.Bases.{bases_agree}
 
 module _ (plan : PlacingPlan) (merged : ObjectModule) (before after : List ℕ) where

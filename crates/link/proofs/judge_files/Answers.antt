@@ -1,6 +1,4 @@
-use Rattle.std.proofs.Common.{◌+◌, take, sym, subst, arith}
-use Rattle.std.specs.List.{AllZip}
-use Rattle.object_modules.specs.Spelling.{Spells}
+use Rattle.link.proofs.Prelude.{◌+◌, take, sym, subst, arith, AllZip, Spells}
 use Rattle.link.proofs.Reading.{bytes_of, one_more}
 use Rattle.link.proofs.judge_files.Goals as goal
 

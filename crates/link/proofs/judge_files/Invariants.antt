@@ -1,6 +1,4 @@
-use Rattle.std.proofs.Common.{map, take}
-use Rattle.std.specs.List.{AllZip}
-use Rattle.object_modules.specs.Spelling.{Spells}
+use Rattle.link.proofs.Prelude.{map, take, AllZip, Spells}
 use Rattle.link.proofs.judge_files.Given as goal
 
 abbrev pub invariant-loop-file : goal.invariant-loop-file

@@ -1,32 +1,7 @@
 -- Assignments.
-use Rattle.std.proofs.Common.{◌≡◌, ℕ, ◌+◌, ◌-◌, ◌<◌, ◌≤◌, Bool, true, false, if◌then◌else◌, is_some, nat_eq, nat_lt, List, [], ◌∷◌, sum_by, Option, Some, None, refl, sym, ap, subst, ◌∙◌, arith}
-use Rattle.std.proofs.lemmas.Bool.{eqb-true}
-use Rattle.std.proofs.lemmas.List.Sums.{sum_by-cons}
-use Rattle.trees.specs.declared.declaration.ScalarType.{ScalarType}
-use Rattle.trees.specs.declared.declaration.ScalarType.TheVariants.{Byte, Address}
-use Rattle.typed_trees.specs.TypedTrees.{SentTo, StoredIn, TypedExpression, TypedModule, TypedTarget}
-use Rattle.typed_trees.specs.WellTyped.{TypesHoldInTarget, TypesHoldInTargets, Within}
-use Rattle.typed_trees.specs.Weight.{weight_of_expression, weight_of_storing, weight_of_target}
-use Rattle.layout.specs.Storage.{Storage}
-use Rattle.treecode.specs.declared.expression.ExpressionNumber.{ExpressionNumber}
-use Rattle.treecode.specs.declared.lists.Range.{Range}
-use Rattle.treecode.specs.declared.reference.Target.{Target}
-use Rattle.treecode.specs.Lowered.{AreTargets, IsExpression, IsExpressionIn, IsSent, IsStored, IsTarget, MoreTargets, NoTargets}
-use Rattle.treecode.specs.Nodes.{nodes_of}
-use Rattle.treecode.specs.Queries.{target as target_at}
-use Rattle.steps8080.specs.declared.facts.Facts.{Facts}
+use Rattle.measure_laws.proofs.Prelude.{◌≡◌, ℕ, ◌+◌, ◌-◌, ◌<◌, ◌≤◌, Bool, true, false, if◌then◌else◌, is_some, nat_eq, nat_lt, List, [], ◌∷◌, sum_by, Option, Some, None, refl, sym, ap, subst, ◌∙◌, arith, eqb-true, sum_by-cons, ScalarType, Byte, Address, SentTo, StoredIn, TypedExpression, TypedModule, TypedTarget, TypesHoldInTarget, TypesHoldInTargets, Within, weight_of_expression, weight_of_storing, weight_of_target, Storage, ExpressionNumber, Range, Target, AreTargets, IsExpression, IsExpressionIn, IsSent, IsStored, IsTarget, MoreTargets, NoTargets, nodes_of, target_at, Facts, Site, known, number, expression, scalar, knowing, Body, Planned, any_target, assignment_steps, each_at, each_steps, from_type, several_by, several_steps, single_steps, store_at, takes_byte, takes_word, together_steps, types_by, value_steps, part, steps_from, site_of, PartsFit, bytes_for, StepsFit}
 use Rattle.steps8080.specs.declared.step.Task.TheVariants as tasks
-use Rattle.steps8080.specs.declared.sites.site.Site.{Site}
-use Rattle.steps8080.specs.Queries.{known, number}
-use Rattle.steps8080.specs.Site.{expression, scalar}
-use Rattle.exprgen8080.specs.Emission.{knowing}
-use Rattle.statements8080.specs.declared.body.Body.{Body}
-use Rattle.statements8080.specs.declared.plan.Planned.{Planned}
-use Rattle.statements8080.specs.Assignments.{any_target, assignment_steps, each_at, each_steps, from_type, several_by, several_steps, single_steps, store_at, stores_steps, takes_byte, takes_word, together_steps, types_by, value_steps}
-use Rattle.statements8080.specs.Plans.{part, steps_from}
-use Rattle.codegen8080.specs.Generated.{site_of}
-use Rattle.measure_laws.specs.internal.Sizes.{PartsFit, bytes_for}
-use Rattle.measure_laws.specs.internal.Fits.{StepsFit}
+use Rattle.statements8080.specs.Assignments.{stores_steps}
 use Rattle.measure_laws.proofs.Bounds.Fitting.{both_fit, less_fits, none_fit}
 use Rattle.measure_laws.proofs.Bounds.KnownValues.{known_byte_fits, known_word_fits}
 use Rattle.measure_laws.proofs.Bounds.Parts.{byte_fits, store_fits, target_weighs, weight_beside, word_fits}

@@ -1,21 +1,7 @@
 -- The code of a module takes at most its code bound, and its data as many bytes as its storage says. So it is refused for a
 -- length only where that bound passes what a segment may have.
-use Rattle.std.proofs.Common.{◌≡◌, ℕ, ◌+◌, ◌≤◌, Some, ap, sym, subst, arith}
-use Rattle.object_modules.specs.declared.segment.Segment.TheVariants.{Code}
-use Rattle.object_modules.specs.declared.segment.TheConstants.{SEGMENT_LIMIT}
-use Rattle.object_modules.specs.Module.{ObjectModule, length_of}
-use Rattle.typed_trees.specs.TypedTrees.{TypedModule}
-use Rattle.typed_trees.specs.Weight.{code_bound}
-use Rattle.layout.specs.Storage.{Storage, data_bytes}
-use Rattle.asm8080.specs.Items.{size_of_items}
-use Rattle.treecode.specs.declared.module.TreeModule.{TreeModule}
-use Rattle.treecode.specs.Lowered.{IsLowered}
-use Rattle.steps8080.specs.Writer.{Written, numbered}
-use Rattle.codegen8080.specs.declared.fault.Fault.TheVariants.{TooLong}
-use Rattle.codegen8080.specs.Modules.{IsCodeWritten, IsGenerated, contents_items}
-use Rattle.codegen8080.specs.Refusals.{CodeIsNone, DataAreNone, MayRefuse}
+use Rattle.measure_laws.proofs.Prelude.{◌≡◌, ℕ, ◌+◌, ◌≤◌, Some, ap, sym, subst, arith, Code, SEGMENT_LIMIT, ObjectModule, length_of, TypedModule, code_bound, Storage, data_bytes, size_of_items, TreeModule, IsLowered, Written, numbered, TooLong, IsCodeWritten, IsGenerated, contents_items, CodeIsNone, DataAreNone, MayRefuse, IsSound}
 use Rattle.measure_laws.proofs.Sizes.PartSizes.{part_size}
-use Rattle.measure_laws.specs.Sound.{IsSound}
 use Rattle.measure_laws.proofs.Bounds.Constants.{variables_fit}
 use Rattle.measure_laws.proofs.Bounds.Modules.{code_segment_fits, module_fits}
 use Rattle.measure_laws.proofs.Bounds.Numbering.{numbered_size}

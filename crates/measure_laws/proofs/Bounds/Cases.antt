@@ -1,42 +1,6 @@
 -- DO CASE.
-use Rattle.std.proofs.Common.{◌≡◌, ℕ, zero, suc, ◌+◌, ◌-◌, ◌*◌, ◌%◌, ◌<◌, ◌≤◌, Bool, true, false, if◌then◌else◌, nat_eq, nat_lt, List, [], ◌∷◌, ◌++◌, slice_get, Option, Some, None, refl, sym, ap, subst, ◌∙◌, arith}
-use Rattle.std.specs.Option.{option_and_then}
-use Rattle.std.proofs.lemmas.Bool.{eqb-false, eqb-true, ltb-true}
-use Rattle.std.proofs.lemmas.Option.{same_Some}
-use Rattle.isa8080.specs.declared.instr.Condition.TheVariants.{NoCarry}
-use Rattle.isa8080.specs.declared.instr.Instr.TheVariants.{AccumulateImmediate, Dad, Pchl, Xchg}
-use Rattle.isa8080.specs.declared.instr.Operation.TheVariants.{Compare}
-use Rattle.isa8080.specs.declared.instr.Pair.TheVariants.{De, Hl}
-use Rattle.isa8080.specs.declared.instr.Register.TheVariants.{A, D, E}
-use Rattle.asm8080.specs.declared.item.WordForm.TheVariants.{Jump, JumpWhere, LoadPair}
-use Rattle.trees.specs.declared.declaration.ScalarType.{ScalarType}
-use Rattle.trees.specs.declared.declaration.ScalarType.TheVariants.{Byte, Address}
-use Rattle.typed_trees.specs.Jumps.{ListsStandInCases}
-use Rattle.typed_trees.specs.TypedTrees.{TypedExpression, TypedStatements}
-use Rattle.typed_trees.specs.Weight.{weight_of_expression, weight_of_statement, weight_of_statements}
-use Rattle.layout.specs.Storage.{Storage}
-use Rattle.treecode.specs.declared.expression.ExpressionNumber.{ExpressionNumber}
-use Rattle.treecode.specs.declared.lists.Range.{Range}
-use Rattle.treecode.specs.declared.statement.StatementNumber.{StatementNumber}
-use Rattle.treecode.specs.Lowered.{IsExpressionIn}
-use Rattle.treecode.specs.Nodes.{nodes_of}
-use Rattle.treecode.specs.Queries.{item}
-use Rattle.steps8080.specs.declared.step.LabelNumber.{LabelNumber}
+use Rattle.measure_laws.proofs.Prelude.{◌≡◌, ℕ, zero, suc, ◌+◌, ◌-◌, ◌*◌, ◌%◌, ◌<◌, ◌≤◌, Bool, true, false, if◌then◌else◌, nat_eq, nat_lt, List, [], ◌∷◌, ◌++◌, slice_get, Option, Some, None, refl, sym, ap, subst, ◌∙◌, arith, option_and_then, eqb-false, eqb-true, ltb-true, same_Some, NoCarry, AccumulateImmediate, Dad, Pchl, Xchg, Compare, De, Hl, A, D, E, Jump, JumpWhere, LoadPair, ScalarType, Byte, Address, ListsStandInCases, TypedExpression, TypedStatements, weight_of_expression, weight_of_statement, weight_of_statements, Storage, ExpressionNumber, Range, StatementNumber, IsExpressionIn, nodes_of, item, LabelNumber, copy, set, label_of, Site, scalar, number, Body, Planned, JumpOn, Reaches, Statement, case_steps, cases_end_steps, choice_at_steps, choice_steps, computed_case_steps, entry_of, into_table_steps, known_case_steps, number_in_de_steps, statement_at, statements_steps, table_at, table_steps, all, jump, label_at, mark, nth_label, part, plain, steps_from, less_steps, site_of, PartsFit, bytes_for, StepsFit}
 use Rattle.steps8080.specs.declared.step.Task.TheVariants as tasks
-use Rattle.steps8080.specs.Instructions.{copy, set}
-use Rattle.steps8080.specs.Step.{label_of}
-use Rattle.steps8080.specs.declared.sites.site.Site.{Site}
-use Rattle.steps8080.specs.Site.{scalar}
-use Rattle.steps8080.specs.Queries.{number}
-use Rattle.statements8080.specs.declared.body.Body.{Body}
-use Rattle.statements8080.specs.declared.plan.Planned.{Planned}
-use Rattle.statements8080.specs.declared.plan.Planned.TheVariants.{JumpOn, Reaches, Statement}
-use Rattle.statements8080.specs.Cases.{case_steps, cases_end_steps, choice_at_steps, choice_steps, computed_case_steps, entry_of, into_table_steps, known_case_steps, number_in_de_steps, statement_at, statements_steps, table_at, table_steps}
-use Rattle.statements8080.specs.Plans.{all, jump, label_at, mark, nth_label, part, plain, steps_from}
-use Rattle.statements8080.specs.Tests.{less_steps}
-use Rattle.codegen8080.specs.Generated.{site_of}
-use Rattle.measure_laws.specs.internal.Sizes.{PartsFit, bytes_for}
-use Rattle.measure_laws.specs.internal.Fits.{StepsFit}
 use Rattle.measure_laws.proofs.Bounds.Fitting.{both_fit, less_fits, none_fit, then_fit}
 use Rattle.measure_laws.proofs.Bounds.Iterations.{less_steps_fit}
 use Rattle.measure_laws.proofs.Bounds.Lists.{AllFit, MoreFit, NoneFit, case_step_fits, no_label_weighs, statement_step_fits}

@@ -1,27 +1,7 @@
 -- How procedures begin.
-use Rattle.std.proofs.Common.{◌≡◌, ℕ, zero, suc, ◌+◌, ◌-◌, ◌*◌, ◌/◌, ◌%◌, Bool, true, false, if◌then◌else◌, nat_eq, nat_le, List, [], ◌∷◌, ◌++◌, length, replicate, slice_get, take, Option, Some, None, refl, arith, length-take}
-use Rattle.std.proofs.lemmas.Bool.{leb-true}
-use Rattle.isa8080.specs.declared.instr.Condition.TheVariants.{NotZero}
-use Rattle.isa8080.specs.declared.instr.Instr.TheVariants.{Dcr, Inx, Lxi, Mvi, Pop, Push, Xthl}
-use Rattle.isa8080.specs.declared.instr.Operand.TheVariants.{Of}
-use Rattle.isa8080.specs.declared.instr.Pair.TheVariants.{De, Sp}
-use Rattle.isa8080.specs.declared.instr.Register.TheVariants.{B}
-use Rattle.isa8080.specs.declared.instr.StackPair.TheVariants.{StackDe, StackHl}
-use Rattle.asm8080.specs.declared.item.WordForm.TheVariants.{JumpWhere}
-use Rattle.trees.specs.declared.declaration.ScalarType.{ScalarType}
-use Rattle.trees.specs.declared.declaration.ScalarType.TheVariants.{Byte, Address}
-use Rattle.treecode.specs.declared.place.Location.{Location}
-use Rattle.treecode.specs.declared.procedure.Parameter.{Parameter}
-use Rattle.treecode.specs.declared.procedure.ProcedureKind.{ProcedureKind}
+use Rattle.measure_laws.proofs.Prelude.{◌≡◌, ℕ, zero, suc, ◌+◌, ◌-◌, ◌*◌, ◌/◌, ◌%◌, Bool, true, false, if◌then◌else◌, nat_eq, nat_le, List, [], ◌∷◌, ◌++◌, length, replicate, slice_get, take, Option, Some, None, refl, arith, length-take, leb-true, NotZero, Dcr, Inx, Lxi, Mvi, Pop, Push, Xthl, Of, De, Sp, B, StackDe, StackHl, JumpWhere, ScalarType, Byte, Address, Location, Parameter, ProcedureKind, LabelNumber, no_facts, label_of, Body, Planned, holds, jump, mark, plain, argument_step, below_return_steps, entry_steps, entry_steps_by, exchanged_steps, frame_entry_steps, is_address, known_from, last_argument_facts, odd_byte_steps, pair_of, popped_argument_steps, popped_at, popped_from, push_loop_steps, pushed_arguments_steps, pushes_steps, static_entry_steps, store_argument, stores_steps, with_argument, zeros_steps, StepsFit}
 use Rattle.treecode.specs.declared.procedure.ProcedureKind.TheVariants as kinds
-use Rattle.steps8080.specs.declared.step.LabelNumber.{LabelNumber}
-use Rattle.steps8080.specs.Facts.{no_facts}
-use Rattle.steps8080.specs.Step.{label_of}
-use Rattle.statements8080.specs.declared.body.Body.{Body}
-use Rattle.statements8080.specs.declared.plan.Planned.{Planned}
-use Rattle.statements8080.specs.Plans.{holds, jump, mark, plain}
-use Rattle.codegen8080.specs.Procedures.{argument_step, below_return_steps, entry_steps, entry_steps_by, exchanged_steps, frame_entry_steps, is_address, known_from, last_argument_facts, last_argument_steps, odd_byte_steps, pair_of, popped_argument_steps, popped_at, popped_from, push_loop_steps, pushed_arguments_steps, pushes_steps, static_entry_steps, store_argument, stores_steps, with_argument, zeros_steps}
-use Rattle.measure_laws.specs.internal.Fits.{StepsFit}
+use Rattle.codegen8080.specs.Procedures.{last_argument_steps}
 use Rattle.measure_laws.proofs.Bounds.Fitting.{both_fit, less_fits, none_fit, then_fit}
 use Rattle.measure_laws.proofs.Bounds.Pieces.{plain_fits, plains_fit, repeated_fit}
 

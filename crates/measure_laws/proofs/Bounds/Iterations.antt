@@ -1,50 +1,7 @@
 -- Iterative DO.
-use Rattle.std.proofs.Common.{◌≡◌, ℕ, ◌+◌, ◌%◌, Bool, true, false, not, ◌&&◌, if◌then◌else◌, nat_eq, nat_le, List, [], ◌∷◌, ◌++◌, Option, Some, None, refl, ap, ◌∙◌, arith}
-use Rattle.isa8080.specs.declared.instr.Condition.TheVariants.{Carry, NoCarry, NotZero, Zero}
-use Rattle.isa8080.specs.declared.instr.Instr.TheVariants.{AccumulateImmediate, Dad, Inr, Inx, MovToMemory, Xchg}
-use Rattle.isa8080.specs.declared.instr.Operand.TheVariants.{M}
-use Rattle.isa8080.specs.declared.instr.Operation.TheVariants.{Add, AddWithCarry, Compare, Or, Subtract, SubtractWithBorrow}
-use Rattle.isa8080.specs.declared.instr.Pair.TheVariants.{De, Hl}
-use Rattle.isa8080.specs.declared.instr.Register.TheVariants.{A, D, E, H, L}
-use Rattle.asm8080.specs.declared.item.WordForm.TheVariants.{Jump, JumpWhere, LoadA, LoadPair, StoreHl}
-use Rattle.trees.specs.declared.declaration.ScalarType.{ScalarType}
-use Rattle.trees.specs.declared.declaration.ScalarType.TheVariants.{Byte, Address}
-use Rattle.typed_trees.specs.ExpressionTypes.{type_of}
-use Rattle.typed_trees.specs.TypedTrees.{NoSubscript, PartOf, StoredIn, TypedExpression, TypedIteration}
-use Rattle.typed_trees.specs.Weight.{weight_of_expression, weight_of_iteration, weight_of_optional, weight_of_storing}
-use Rattle.layout.specs.Storage.{Storage}
-use Rattle.treecode.specs.declared.expression.Expression.{Expression}
-use Rattle.treecode.specs.declared.expression.ExpressionNumber.{ExpressionNumber}
-use Rattle.treecode.specs.declared.lists.Range.{Range}
-use Rattle.treecode.specs.declared.place.Location.{Location}
-use Rattle.treecode.specs.declared.place.Place.{Place}
-use Rattle.treecode.specs.declared.statement.Iteration.{Iteration}
-use Rattle.treecode.specs.Homes.{place_after}
-use Rattle.treecode.specs.Lowered.{IsExpressionIn, IsIteration, IsNode, IsNoValue, IsOptional, IsSomeValue, IsStored}
-use Rattle.treecode.specs.Nodes.{nodes_of}
-use Rattle.steps8080.specs.declared.step.LabelNumber.{LabelNumber}
+use Rattle.measure_laws.proofs.Prelude.{◌≡◌, ℕ, ◌+◌, ◌%◌, Bool, true, false, not, ◌&&◌, if◌then◌else◌, nat_eq, nat_le, List, [], ◌∷◌, ◌++◌, Option, Some, None, refl, ap, ◌∙◌, arith, Carry, NoCarry, NotZero, Zero, AccumulateImmediate, Dad, Inr, Inx, MovToMemory, Xchg, M, Add, AddWithCarry, Compare, Or, Subtract, SubtractWithBorrow, De, Hl, A, D, E, H, L, Jump, JumpWhere, LoadA, LoadPair, StoreHl, ScalarType, Byte, Address, type_of, NoSubscript, PartOf, StoredIn, TypedExpression, TypedIteration, weight_of_expression, weight_of_iteration, weight_of_optional, weight_of_storing, Storage, Expression, ExpressionNumber, Range, Location, Place, Iteration, place_after, IsExpressionIn, IsIteration, IsNode, IsNoValue, IsOptional, IsSomeValue, IsStored, nodes_of, LabelNumber, label_of, copy, high, load, low, set, with_memory, with_register, Site, expression, scalar, known, location_of, number, knowing, Facts, Body, Test, Counter, Planned, Again, Jumped, ListOf, Meet, Reaches, whole, counter_of, counter_place, counts_by_one, has_a_turn, add_byte_steps, add_de_steps, add_steps, add_word_steps, add_word_to_byte_steps, asked_jump, asked_mark, asked_test_steps, below_steps, count_at_hl_steps, count_steps, counts_in_place, facts_of_turn, first_steps, first_test_steps, general_begin_steps, general_end_steps, general_steps, is_byte, is_byte_type, iteration_steps, loop_labels, next_byte_steps, next_steps, next_turn_steps, next_word_steps, step_in_de_steps, step_steps, sum_of_byte_steps, sum_of_word_steps, test_label_steps, to_known_steps, turns_if_any, turns_steps, all, jump, mark, nth_label, part, plain, word, computed_test, facts_of_test, known_test, less_steps, test_of, test_steps, word_at, word_test_by, site_of, PartsFit, bytes_for, StepsFit}
 use Rattle.steps8080.specs.declared.step.Task.TheVariants as tasks
-use Rattle.steps8080.specs.Step.{label_of}
-use Rattle.steps8080.specs.Instructions.{copy, high, load, low, set, with_memory, with_register}
-use Rattle.steps8080.specs.declared.sites.site.Site.{Site}
-use Rattle.steps8080.specs.Site.{expression, scalar}
-use Rattle.steps8080.specs.Queries.{known, location_of, number}
-use Rattle.exprgen8080.specs.Emission.{knowing}
-use Rattle.steps8080.specs.declared.facts.Facts.{Facts}
-use Rattle.statements8080.specs.declared.body.Body.{Body}
-use Rattle.statements8080.specs.declared.bound.Test.{Test}
 use Rattle.statements8080.specs.declared.bound.Test.TheVariants as tests
-use Rattle.statements8080.specs.declared.iteration.Counter.{Counter}
-use Rattle.statements8080.specs.declared.plan.Planned.{Planned}
-use Rattle.statements8080.specs.declared.plan.Planned.TheVariants.{Again, Jumped, List as ListOf, Meet, Reaches}
-use Rattle.statements8080.specs.Bodies.{whole}
-use Rattle.statements8080.specs.Counters.{counter_of, counter_place, counts_by_one, has_a_turn}
-use Rattle.statements8080.specs.Iterations.{add_byte_steps, add_de_steps, add_steps, add_word_steps, add_word_to_byte_steps, asked_jump, asked_mark, asked_test_steps, below_steps, count_at_hl_steps, count_steps, counts_in_place, facts_of_turn, first_steps, first_test_steps, general_begin_steps, general_end_steps, general_steps, is_byte, is_byte_type, iteration_steps, loop_labels, next_byte_steps, next_steps, next_turn_steps, next_word_steps, step_in_de_steps, step_steps, sum_of_byte_steps, sum_of_word_steps, test_label_steps, to_known_steps, turns_if_any, turns_steps}
-use Rattle.statements8080.specs.Plans.{all, jump, mark, nth_label, part, plain, word}
-use Rattle.statements8080.specs.Tests.{computed_test, facts_of_test, known_test, less_steps, test_of, test_steps, word_at, word_test_by}
-use Rattle.codegen8080.specs.Generated.{site_of}
-use Rattle.measure_laws.specs.internal.Sizes.{PartsFit, bytes_for}
-use Rattle.measure_laws.specs.internal.Fits.{StepsFit}
 use Rattle.measure_laws.proofs.Bounds.Fitting.{both_fit, less_fits, none_fit, then_fit}
 use Rattle.measure_laws.proofs.Bounds.Parts.{byte_fits, load_byte_fits, load_word_fits, whole_address_fits, whole_is, word_fits}
 use Rattle.measure_laws.proofs.Bounds.Assignments.{value_fits}

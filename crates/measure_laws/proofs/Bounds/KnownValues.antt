@@ -1,34 +1,7 @@
 -- Values that are known take few bytes, whatever they weigh.
-use Rattle.std.proofs.Common.{◌≡◌, ℕ, ◌≤◌, ◌==◌, Bool, true, false, List, [], ◌∷◌, Option, Some, None, if◌then◌else◌, refl, ◌∙◌, arith}
-use Rattle.asm8080.specs.declared.item.Item.{Item}
-use Rattle.asm8080.specs.declared.item.WordForm.TheVariants.{LoadPair}
-use Rattle.asm8080.specs.Items.{size_of_items}
-use Rattle.isa8080.specs.declared.instr.Pair.TheVariants.{Hl}
-use Rattle.isa8080.specs.declared.instr.Register.TheVariants.{A}
-use Rattle.steps8080.specs.Instructions.{clear_a, low, set}
-use Rattle.isa8080.specs.declared.instr.Instr.TheVariants.{Dcx, Inx}
-use Rattle.treecode.specs.declared.expression.ExpressionNumber.{ExpressionNumber}
-use Rattle.treecode.specs.declared.place.Location.TheVariants.{Static}
-use Rattle.treecode.specs.declared.place.Place.{Place}
-use Rattle.treecode.specs.Homes.{location_after}
-use Rattle.treecode.specs.Queries.{place_number}
-use Rattle.steps8080.specs.declared.facts.Facts.{Facts}
+use Rattle.measure_laws.proofs.Prelude.{◌≡◌, ℕ, ◌≤◌, ◌==◌, Bool, true, false, List, [], ◌∷◌, Option, Some, None, if◌then◌else◌, refl, ◌∙◌, arith, Item, LoadPair, size_of_items, Hl, A, clear_a, low, set, Dcx, Inx, ExpressionNumber, Static, Place, location_after, place_number, Facts, before, is_at, Site, known, number, expression, hold_address_steps, byte_steps, known_byte_steps, AreWritten, IsWritten, PartPlanned, knowing, steps_of, task_steps, byte_number_steps, word_steps, Body, part, site_of, StepsFit}
 use Rattle.steps8080.specs.declared.step.Step.TheVariants as steps
 use Rattle.steps8080.specs.declared.step.Task.TheVariants as tasks
-use Rattle.steps8080.specs.Facts.{before, is_at}
-use Rattle.steps8080.specs.declared.sites.site.Site.{Site}
-use Rattle.steps8080.specs.Queries.{known, number}
-use Rattle.steps8080.specs.Site.{expression}
-use Rattle.operands8080.specs.Addresses.{hold_address_steps}
-use Rattle.exprgen8080.specs.Bytes.{byte_steps, known_byte_steps}
-use Rattle.exprgen8080.specs.Emission.{AreWritten, IsWritten, Planned as PartPlanned, knowing}
-use Rattle.exprgen8080.specs.Forms.{steps_of, task_steps}
-use Rattle.exprgen8080.specs.Halves.{byte_number_steps}
-use Rattle.exprgen8080.specs.Words.{word_steps}
-use Rattle.statements8080.specs.declared.body.Body.{Body}
-use Rattle.statements8080.specs.Plans.{part}
-use Rattle.codegen8080.specs.Generated.{site_of}
-use Rattle.measure_laws.specs.internal.Fits.{StepsFit}
 use Rattle.measure_laws.proofs.Bounds.Parts.{task_fits}
 use Rattle.measure_laws.proofs.Bounds.Pieces.{steps_within}
 

@@ -1,22 +1,8 @@
 -- Statements one after another.
-use Rattle.std.proofs.Common.{◌≡◌, ℕ, suc, ◌+◌, ◌-◌, ◌≤◌, Bool, List, [], ◌∷◌, slice_get, Option, Some, refl, sym, subst, ◌∙◌, arith}
-use Rattle.std.proofs.lemmas.Option.{same_Some}
-use Rattle.typed_trees.specs.Jumps.{IsNoLabel}
-use Rattle.typed_trees.specs.TypedTrees.{TypedStatement, LabelStatement, NullStatement, AssignmentStatement, CallStatement, MoveStatement, ReturnStatement, HaltStatement, GotoStatement, IfStatement, DoStatement, WhileStatement, IterateStatement, CaseStatement, TypedStatements, NoStatements, MoreStatements, TypedList, ListOf}
-use Rattle.typed_trees.specs.Weight.{weight_of_list, weight_of_statement, weight_of_statements}
-use Rattle.asm8080.specs.declared.item.Item.{Item}
-use Rattle.asm8080.specs.Items.{size_of_items}
-use Rattle.asm8080.proofs.Parts.{size_in_parts}
-use Rattle.treecode.specs.declared.lists.Range.{Range}
-use Rattle.treecode.specs.declared.statement.StatementNumber.{StatementNumber}
-use Rattle.steps8080.specs.declared.facts.Facts.{Facts}
-use Rattle.statements8080.specs.declared.body.Body.{Body}
+use Rattle.measure_laws.proofs.Prelude.{◌≡◌, ℕ, suc, ◌+◌, ◌-◌, ◌≤◌, Bool, List, [], ◌∷◌, slice_get, Option, Some, refl, sym, subst, ◌∙◌, arith, same_Some, IsNoLabel, TypedStatement, LabelStatement, NullStatement, AssignmentStatement, CallStatement, MoveStatement, ReturnStatement, HaltStatement, GotoStatement, IfStatement, DoStatement, WhileStatement, IterateStatement, CaseStatement, TypedStatements, NoStatements, MoreStatements, TypedList, weight_of_list, weight_of_statement, weight_of_statements, Item, size_of_items, size_in_parts, Range, StatementNumber, Facts, Body, Here, AreAllCarriedOut, AreCarriedOut, IsCarriedOut, IsListCarriedOut, ListCarriedOut, ListPlanned, StatementCarriedOut, StepCarriedOut, bytes_for, ListFits, StatementFits, StepsFit, spared_by}
+use Rattle.typed_trees.specs.TypedTrees.{ListOf}
 use Rattle.statements8080.specs.declared.plan.Planned.TheVariants as planned
-use Rattle.codegen8080.specs.declared.meeting.Here.{Here}
 use Rattle.codegen8080.specs.Generated as generated
-use Rattle.codegen8080.specs.Generated.{AreAllCarriedOut, AreCarriedOut, IsCarriedOut, IsListCarriedOut, ListCarriedOut, ListPlanned, StatementCarriedOut, StepCarriedOut}
-use Rattle.measure_laws.specs.internal.Sizes.{bytes_for}
-use Rattle.measure_laws.specs.internal.Fits.{ListFits, StatementFits, StepsFit, spared_by}
 use Rattle.measure_laws.proofs.Bounds.Fitting.{no_size}
 
 -- so many statements of the table of lists, from an entry on, are not too long for their trees

@@ -1,41 +1,8 @@
 -- The code of a module takes no more bytes than its bound.
-use Rattle.std.proofs.Common.{◌≡◌, ℕ, suc, ◌+◌, ◌*◌, ◌≤◌, Bool, true, false, List, [], ◌∷◌, ◌++◌, length, slice_get, sum_by, Some, refl, sym, ap, subst, ◌∙◌, arith}
-use Rattle.std.proofs.lemmas.List.Sums.{sum_by-cons}
-use Rattle.typed_trees.specs.Frames.{HasParameters}
-use Rattle.typed_trees.specs.Jumps.{BodyIsSound}
-use Rattle.typed_trees.specs.TypedTrees.{TypedModule, TypedProcedure}
-use Rattle.typed_trees.specs.WellTyped.{TypesHoldInList, TypesHoldInProcedure, Within, WithinMain, WithinProcedure}
-use Rattle.typed_trees.specs.Weight.{code_bound, constant_bytes, weight_of, weight_of_list, weight_of_procedure}
-use Rattle.layout.specs.Storage.{Storage}
-use Rattle.object_modules.specs.declared.segment.Segment.TheVariants.{Code}
-use Rattle.object_modules.specs.Module.{ObjectModule, length_of}
-use Rattle.isa8080.specs.declared.instr.Instr.TheVariants.{Hlt}
-use Rattle.asm8080.specs.declared.item.Item.{Item}
+use Rattle.measure_laws.proofs.Prelude.{◌≡◌, ℕ, suc, ◌+◌, ◌*◌, ◌≤◌, Bool, true, false, List, [], ◌∷◌, ◌++◌, length, slice_get, sum_by, Some, refl, sym, ap, subst, ◌∙◌, arith, sum_by-cons, HasParameters, BodyIsSound, TypedModule, TypedProcedure, TypesHoldInList, TypesHoldInProcedure, Within, WithinMain, WithinProcedure, code_bound, constant_bytes, weight_of, weight_of_list, Storage, Code, ObjectModule, length_of, Hlt, Item, set_bytes, size_of_items, size_in_parts, places_length, set_length, Routine, size_of_routine, TreeModule, ProcedureKind, TreeProcedure, HasBody, IsList, IsLowered, IsProcedure, labels_numbered_in_list, nodes_of, has_frame, parameter_count, has_parameters, numbered_at, Written, has_routine, Body, Here, site_of, AreCodeOf, AreRoutines, IsCodeOf, IsCodeOfMain, IsCodeOfRoutine, IsCodeWritten, IsEndCode, IsGenerated, IsOwnCode, IsProcedureCode, all_routines, contents_items, has_main, with_targets, bytes_for, IsSound, AllPartsFit, ListFits}
+use Rattle.typed_trees.specs.Weight.{weight_of_procedure}
 use Rattle.asm8080.specs.declared.item.Item.TheVariants as items
-use Rattle.asm8080.specs.Assembled.{set_bytes}
-use Rattle.asm8080.specs.Items.{size_of_items}
-use Rattle.asm8080.proofs.Parts.{size_in_parts}
-use Rattle.asm8080.proofs.Segments.{places_length, set_length}
-use Rattle.runtime8080.specs.declared.routine.Routine.{Routine}
-use Rattle.runtime8080.specs.Routines.{size_of_routine}
-use Rattle.treecode.specs.declared.module.TreeModule.{TreeModule}
-use Rattle.treecode.specs.declared.procedure.ProcedureKind.{ProcedureKind}
 use Rattle.treecode.specs.declared.procedure.ProcedureKind.TheVariants as kinds
-use Rattle.treecode.specs.declared.procedure.TreeProcedure.{TreeProcedure}
-use Rattle.treecode.specs.Lowered.{HasBody, IsList, IsLowered, IsProcedure, labels_numbered_in_list}
-use Rattle.treecode.specs.Nodes.{nodes_of}
-use Rattle.frames.proofs.Frames.{has_frame, parameter_count}
-use Rattle.frames.proofs.Parameters.{has_parameters, numbered_at}
-use Rattle.steps8080.specs.Writer.{Written}
-use Rattle.exprgen8080.specs.Emission.{has_routine}
-use Rattle.statements8080.specs.declared.body.Body.{Body}
-use Rattle.codegen8080.specs.declared.meeting.Here.{Here}
-use Rattle.codegen8080.specs.Generated.{site_of}
-use Rattle.codegen8080.specs.Modules.{AreCodeOf, AreRoutines, IsCodeOf, IsCodeOfMain, IsCodeOfRoutine, IsCodeWritten, IsEndCode, IsGenerated, IsOwnCode, IsProcedureCode, all_routines, contents_items, has_main}
-use Rattle.codegen8080.specs.Targets.{with_targets}
-use Rattle.measure_laws.specs.internal.Sizes.{bytes_for}
-use Rattle.measure_laws.specs.Sound.{IsSound}
-use Rattle.measure_laws.specs.internal.Fits.{AllPartsFit, ListFits}
 use Rattle.measure_laws.proofs.Bounds.Constants.{constants_fit, holds_at}
 use Rattle.measure_laws.proofs.Bounds.Entries.{entry_fits}
 use Rattle.measure_laws.proofs.Bounds.Numbering.{numbered_size}

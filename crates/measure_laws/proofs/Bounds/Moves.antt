@@ -1,29 +1,7 @@
 -- CALL MOVE.
-use Rattle.std.proofs.Common.{ℕ, ◌+◌, Bool, true, false, min, if◌then◌else◌, List, [], ◌∷◌, ◌++◌, Option, Some, None, refl, arith}
-use Rattle.isa8080.specs.declared.instr.Instr.TheVariants.{Pop, Push, Xchg}
-use Rattle.isa8080.specs.declared.instr.Pair.TheVariants.{Bc, De}
-use Rattle.isa8080.specs.declared.instr.StackPair.TheVariants.{StackBc, StackDe, StackHl}
-use Rattle.asm8080.specs.declared.item.WordForm.TheVariants.{LoadPair}
-use Rattle.runtime8080.specs.declared.routine.Routine.TheVariants.{Move}
-use Rattle.typed_trees.specs.TypedTrees.{TypedExpression}
-use Rattle.typed_trees.specs.Weight.{weight_of_expression}
-use Rattle.layout.specs.Storage.{Storage}
-use Rattle.treecode.specs.declared.expression.ExpressionNumber.{ExpressionNumber}
-use Rattle.treecode.specs.declared.place.Place.{Place}
-use Rattle.treecode.specs.Lowered.{IsExpressionIn}
-use Rattle.treecode.specs.Nodes.{nodes_of}
-use Rattle.steps8080.specs.declared.step.Step.TheVariants.{CallRoutine}
+use Rattle.measure_laws.proofs.Prelude.{ℕ, ◌+◌, Bool, true, false, min, if◌then◌else◌, List, [], ◌∷◌, ◌++◌, Option, Some, None, refl, arith, Pop, Push, Xchg, Bc, De, StackBc, StackDe, StackHl, LoadPair, Move, TypedExpression, weight_of_expression, Storage, ExpressionNumber, Place, IsExpressionIn, nodes_of, CallRoutine, Site, keeps, known, Body, Planned, computed_ends_steps, ends_steps, known_move_steps, move_steps, part, plain, word, site_of, PartsFit, bytes_for, StepsFit}
 use Rattle.steps8080.specs.declared.step.Task.TheVariants as tasks
-use Rattle.steps8080.specs.declared.sites.site.Site.{Site}
-use Rattle.steps8080.specs.Queries.{keeps, known}
-use Rattle.statements8080.specs.declared.body.Body.{Body}
-use Rattle.statements8080.specs.declared.plan.Planned.{Planned}
 use Rattle.statements8080.specs.declared.plan.Planned.TheVariants.{Code}
-use Rattle.statements8080.specs.Moves.{computed_ends_steps, ends_steps, known_move_steps, move_steps}
-use Rattle.statements8080.specs.Plans.{part, plain, word}
-use Rattle.codegen8080.specs.Generated.{site_of}
-use Rattle.measure_laws.specs.internal.Sizes.{PartsFit, bytes_for}
-use Rattle.measure_laws.specs.internal.Fits.{StepsFit}
 use Rattle.measure_laws.proofs.Bounds.Fitting.{both_fit, less_fits, then_fit}
 use Rattle.measure_laws.proofs.Bounds.Parts.{word_fits}
 use Rattle.measure_laws.proofs.Bounds.Pieces.{plain_fits, plains_fit}

@@ -1,14 +1,7 @@
 -- Items take as many bytes by the numbers that code has for their labels and names.
-use Rattle.std.proofs.Common.{◌≡◌, ℕ, ◌+◌, List, [], ◌∷◌, Option, Some, None, refl, sym, ap, arith}
-use Rattle.std.specs.Prelude.{option_map}
-use Rattle.std.proofs.lemmas.Option.{same_Some}
-use Rattle.asm8080.specs.declared.item.Item.{Item}
+use Rattle.measure_laws.proofs.Prelude.{◌≡◌, ℕ, ◌+◌, List, [], ◌∷◌, Option, Some, None, refl, sym, ap, arith, option_map, same_Some, Item, WordForm, size_of, size_of_items, entry, Written, in_front, numbered, numbered_item, numbered_reference}
 use Rattle.asm8080.specs.declared.item.Item.TheVariants as items
 use Rattle.asm8080.specs.declared.item.Reference.{Reference}
-use Rattle.asm8080.specs.declared.item.WordForm.{WordForm}
-use Rattle.asm8080.specs.Items.{size_of, size_of_items}
-use Rattle.steps8080.specs.Externals.{entry}
-use Rattle.steps8080.specs.Writer.{Written, in_front, numbered, numbered_item, numbered_reference}
 
 with_word_size :
     (form : WordForm) (found : Option Reference) (made : Item)

@@ -1,40 +1,8 @@
 -- Parts of expressions as planned steps.
-use Rattle.std.proofs.Common.{◌≡◌, ℕ, ◌+◌, ◌≤◌, Bool, true, false, List, [], ◌∷◌, ◌++◌, Option, Some, None, if◌then◌else◌, arith}
-use Rattle.trees.specs.declared.declaration.ScalarType.TheVariants.{Byte}
-use Rattle.typed_trees.specs.TypedTrees.{NoSubscript, PartOf, SentTo, StoredIn, TypedArguments, TypedExpression, TypedReference, TypedTarget}
-use Rattle.typed_trees.specs.Weight.{weight_of_arguments, weight_of_expression, weight_of_reference, weight_of_storing, weight_of_target}
-use Rattle.layout.specs.Storage.{Storage}
-use Rattle.asm8080.specs.declared.item.Item.{Item}
-use Rattle.asm8080.specs.Items.{size_of_items}
-use Rattle.asm8080.proofs.Parts.{size_in_parts}
-use Rattle.treecode.specs.declared.expression.ExpressionNumber.{ExpressionNumber}
-use Rattle.treecode.specs.declared.lists.Range.{Range}
-use Rattle.asm8080.specs.declared.item.WordForm.TheVariants.{LoadA, LoadHl}
-use Rattle.treecode.specs.declared.place.Place.{Place}
-use Rattle.treecode.specs.declared.place.Location.{Location}
-use Rattle.treecode.specs.declared.place.Location.TheVariants.{Static, Frame}
-use Rattle.treecode.specs.declared.reference.Reference.{Reference}
-use Rattle.treecode.specs.declared.reference.Target.{Target}
-use Rattle.treecode.specs.Lowered.{AreArguments, IsAbsent, IsExpression, IsPart, IsReference, IsTarget}
-use Rattle.treecode.specs.Nodes.{nodes_of}
-use Rattle.steps8080.specs.declared.facts.Facts.{Facts}
-use Rattle.steps8080.specs.declared.step.LabelNumber.{LabelNumber}
-use Rattle.steps8080.specs.declared.step.Part.{Part}
-use Rattle.steps8080.specs.declared.step.Step.{Step}
+use Rattle.measure_laws.proofs.Prelude.{◌≡◌, ℕ, ◌+◌, ◌≤◌, Bool, true, false, List, [], ◌∷◌, ◌++◌, Option, Some, None, if◌then◌else◌, arith, Byte, NoSubscript, PartOf, SentTo, StoredIn, TypedArguments, TypedExpression, TypedReference, TypedTarget, weight_of_arguments, weight_of_expression, weight_of_reference, weight_of_storing, weight_of_target, Storage, Item, size_of_items, size_in_parts, ExpressionNumber, Range, LoadA, LoadHl, Place, Location, Static, Frame, Reference, Target, AreArguments, IsAbsent, IsExpression, IsPart, IsReference, IsTarget, nodes_of, Facts, LabelNumber, Part, Step, Task, is_at, Site, location_of, AreWritten, IsWritten, PartWritten, knowing, Body, whole, part, byte_at_address_steps, byte_at_steps, byte_in_a, carried_steps, load_byte_steps, load_word_steps, site_of, word_at_steps, word_in_hl, PartsFit, TaskFits, bytes_for, StepsFit}
 use Rattle.steps8080.specs.declared.step.Step.TheVariants as steps
-use Rattle.steps8080.specs.declared.step.Task.{Task}
 use Rattle.steps8080.specs.declared.step.Task.TheVariants as tasks
-use Rattle.steps8080.specs.Facts.{is_at}
-use Rattle.steps8080.specs.declared.sites.site.Site.{Site}
-use Rattle.steps8080.specs.Queries.{location_of}
-use Rattle.exprgen8080.specs.Emission.{AreWritten, IsWritten, PartWritten, knowing}
-use Rattle.statements8080.specs.declared.body.Body.{Body}
 use Rattle.statements8080.specs.declared.plan.Planned.TheVariants as planned
-use Rattle.statements8080.specs.Bodies.{whole}
-use Rattle.statements8080.specs.Plans.{part}
-use Rattle.codegen8080.specs.Generated.{byte_at_address_steps, byte_at_steps, byte_in_a, carried_steps, load_byte_steps, load_word_steps, site_of, word_at_steps, word_in_hl}
-use Rattle.measure_laws.specs.internal.Sizes.{PartsFit, TaskFits, bytes_for}
-use Rattle.measure_laws.specs.internal.Fits.{StepsFit}
 use Rattle.measure_laws.proofs.Bounds.Pieces.{HoldNoPart, bytes_of_steps, step_fits, steps_within}
 
 -- a part before steps without parts

@@ -1,27 +1,8 @@
 -- Single planned steps: instructions and labels, and parts of expressions.
-use Rattle.std.proofs.Common.{◌≡◌, ℕ, zero, suc, ◌+◌, ◌*◌, ◌≤◌, Bool, true, false, List, [], ◌∷◌, ◌++◌, replicate, Option, Some, None, slice_get, if◌then◌else◌, refl, arith}
-use Rattle.isa8080.specs.declared.instr.Instr.{Instr}
-use Rattle.asm8080.specs.declared.item.Item.{Item}
-use Rattle.asm8080.specs.Items.{size_of_items}
-use Rattle.asm8080.proofs.Parts.{size_in_parts}
-use Rattle.treecode.specs.declared.module.TreeModule.{TreeModule}
-use Rattle.treecode.specs.declared.procedure.ProcedureKind.{ProcedureKind}
+use Rattle.measure_laws.proofs.Prelude.{◌≡◌, ℕ, zero, suc, ◌+◌, ◌*◌, ◌≤◌, Bool, true, false, List, [], ◌∷◌, ◌++◌, replicate, Option, Some, None, slice_get, if◌then◌else◌, refl, arith, Instr, Item, size_of_items, size_in_parts, TreeModule, ProcedureKind, TreeProcedure, Facts, Step, Site, AreWritten, CallWritten, ChangeWritten, HoldsWritten, JumpWritten, MarkWritten, NoneWritten, PlainWritten, RoutineWritten, TestWritten, WordWritten, call_items, items_of_call, test_items, Body, Planned, plain, Here, AreCarriedOut, HoldsNoStatement, ListCarriedOut, StatementCarriedOut, StepCarriedOut, carried_steps, jump_on_steps, site_of, LabelNumber, Jump, StepsFit}
 use Rattle.treecode.specs.declared.procedure.ProcedureKind.TheVariants as kinds
-use Rattle.treecode.specs.declared.procedure.TreeProcedure.{TreeProcedure}
-use Rattle.steps8080.specs.declared.facts.Facts.{Facts}
-use Rattle.steps8080.specs.declared.step.Step.{Step}
 use Rattle.steps8080.specs.declared.step.Step.TheVariants as steps
-use Rattle.steps8080.specs.declared.sites.site.Site.{Site}
-use Rattle.exprgen8080.specs.Emission.{AreWritten, CallWritten, ChangeWritten, HoldsWritten, JumpWritten, MarkWritten, NoneWritten, PlainWritten, RoutineWritten, TestWritten, WordWritten, call_items, items_of_call, test_items}
-use Rattle.statements8080.specs.declared.body.Body.{Body}
-use Rattle.statements8080.specs.declared.plan.Planned.{Planned}
 use Rattle.statements8080.specs.declared.plan.Planned.TheVariants as planned
-use Rattle.statements8080.specs.Plans.{plain}
-use Rattle.codegen8080.specs.declared.meeting.Here.{Here}
-use Rattle.codegen8080.specs.Generated.{AreCarriedOut, HoldsNoStatement, ListCarriedOut, StatementCarriedOut, StepCarriedOut, carried_steps, jump_on_steps, site_of}
-use Rattle.steps8080.specs.declared.step.LabelNumber.{LabelNumber}
-use Rattle.asm8080.specs.declared.item.WordForm.TheVariants.{Jump}
-use Rattle.measure_laws.specs.internal.Fits.{StepsFit}
 use Rattle.measure_laws.proofs.Bounds.Fitting.{at_most_three, less_fits, no_size, none_fit, then_fit}
 
 -- how many bytes steps take at most of which none is a part

@@ -1,9 +1,5 @@
 -- Items of ranges of tables.
-use Rattle.std.proofs.Common.{◌≡◌, ℕ, ◌+◌, ◌<◌, Bool, if◌then◌else◌, List, slice_get, Some, None, sym, ap, ◌∙◌}
-use Rattle.std.specs.Option.{option_and_then}
-use Rattle.std.proofs.lemmas.Bool.{lt-ltb}
-use Rattle.treecode.specs.declared.lists.Range.{Range}
-use Rattle.treecode.specs.Nodes.{item_of}
+use Rattle.measure_laws.proofs.Prelude.{◌≡◌, ℕ, ◌+◌, ◌<◌, Bool, if◌then◌else◌, List, slice_get, Some, None, sym, ap, ◌∙◌, option_and_then, lt-ltb, Range, item_of}
 
 -- the item of an index is what stands there
 pub item_there :

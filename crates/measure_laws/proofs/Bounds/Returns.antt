@@ -1,19 +1,6 @@
 -- How procedures begin and how they return.
-use Rattle.std.proofs.Common.{◌≡◌, ℕ, ◌+◌, ◌-◌, ◌*◌, ◌/◌, ◌%◌, Bool, true, false, min, if◌then◌else◌, nat_eq, nat_le, List, [], ◌∷◌, ◌++◌, replicate, Option, Some, None, refl, arith}
-use Rattle.std.proofs.lemmas.Bool.{leb-true}
-use Rattle.isa8080.specs.declared.instr.Instr.{Instr}
-use Rattle.isa8080.specs.declared.instr.Instr.TheVariants.{Dad, Inx, Lxi, Pchl, Pop, Push, Ret, Sphl, Xchg}
-use Rattle.isa8080.specs.declared.instr.Pair.TheVariants.{Hl, Sp}
-use Rattle.isa8080.specs.declared.instr.StackPair.TheVariants.{StackBc, StackDe, StackHl}
-use Rattle.trees.specs.declared.declaration.ScalarType.{ScalarType}
-use Rattle.trees.specs.declared.declaration.ScalarType.TheVariants.{Byte, Address}
-use Rattle.treecode.specs.declared.procedure.ProcedureKind.{ProcedureKind}
+use Rattle.measure_laws.proofs.Prelude.{◌≡◌, ℕ, ◌+◌, ◌-◌, ◌*◌, ◌/◌, ◌%◌, Bool, true, false, min, if◌then◌else◌, nat_eq, nat_le, List, [], ◌∷◌, ◌++◌, replicate, Option, Some, None, refl, arith, leb-true, Instr, Dad, Inx, Lxi, Pchl, Pop, Push, Ret, Sphl, Xchg, Hl, Sp, StackBc, StackDe, StackHl, ScalarType, Byte, Address, ProcedureKind, clear_a, Body, plain, drop_steps, end_steps, kept_steps, pops_steps, return_of_frame_steps, return_over_any_steps, return_over_steps, return_steps, return_steps_by, zero_result_steps, StepsFit}
 use Rattle.treecode.specs.declared.procedure.ProcedureKind.TheVariants as kinds
-use Rattle.steps8080.specs.Instructions.{clear_a}
-use Rattle.statements8080.specs.declared.body.Body.{Body}
-use Rattle.statements8080.specs.Plans.{plain}
-use Rattle.codegen8080.specs.Procedures.{drop_steps, end_steps, kept_steps, pops_steps, return_of_frame_steps, return_over_any_steps, return_over_steps, return_steps, return_steps_by, zero_result_steps}
-use Rattle.measure_laws.specs.internal.Fits.{StepsFit}
 use Rattle.measure_laws.proofs.Bounds.Fitting.{both_fit, less_fits, none_fit, then_fit}
 use Rattle.measure_laws.proofs.Bounds.Pieces.{plain_fits, plains_fit, repeated_fit}
 

@@ -1,33 +1,7 @@
 -- One target that gets a value.
-use Rattle.std.proofs.Common.{ℕ, ◌+◌, Bool, true, false, List, [], ◌∷◌, Option, Some, None, if◌then◌else◌, refl, arith}
-use Rattle.isa8080.specs.declared.instr.Instr.{Instr}
-use Rattle.isa8080.specs.declared.instr.Instr.TheVariants.{Inx, MovToMemory, Mvi}
-use Rattle.isa8080.specs.declared.instr.Operand.TheVariants.{M}
-use Rattle.isa8080.specs.declared.instr.Pair.TheVariants.{Hl}
-use Rattle.isa8080.specs.declared.instr.Register.TheVariants.{A}
-use Rattle.trees.specs.declared.declaration.ScalarType.{ScalarType}
-use Rattle.trees.specs.declared.declaration.ScalarType.TheVariants.{Byte, Address}
-use Rattle.typed_trees.specs.TypedTrees.{TypedReference, TypedTarget, SentTo, StoredIn}
-use Rattle.typed_trees.specs.Weight.{weight_of_reference, weight_of_storing}
-use Rattle.layout.specs.Storage.{Storage}
-use Rattle.treecode.specs.declared.expression.ExpressionNumber.{ExpressionNumber}
-use Rattle.treecode.specs.declared.reference.Reference.{Reference}
-use Rattle.treecode.specs.declared.reference.Target.{Target}
-use Rattle.treecode.specs.declared.reference.Target.TheVariants.{Sent, Stored}
-use Rattle.treecode.specs.Lowered.{IsReference, IsSent, IsStored, IsTarget}
-use Rattle.treecode.specs.Nodes.{nodes_of}
+use Rattle.measure_laws.proofs.Prelude.{ℕ, ◌+◌, Bool, true, false, List, [], ◌∷◌, Option, Some, None, if◌then◌else◌, refl, arith, Instr, Inx, MovToMemory, Mvi, M, Hl, A, ScalarType, Byte, Address, TypedReference, TypedTarget, SentTo, StoredIn, weight_of_reference, weight_of_storing, Storage, ExpressionNumber, Reference, Target, Sent, Stored, IsReference, IsSent, IsStored, IsTarget, nodes_of, high, low, Site, location_of, number, Body, Planned, count_of, from_byte_steps, from_type, from_word_steps, is_address_first, number_steps, other_byte_steps, other_word_steps, single_steps, is_near, part, plain, site_of, PartsFit, bytes_for, StepsFit}
 use Rattle.steps8080.specs.declared.step.Task.TheVariants as tasks
-use Rattle.steps8080.specs.Instructions.{high, low}
-use Rattle.steps8080.specs.declared.sites.site.Site.{Site}
-use Rattle.steps8080.specs.Queries.{location_of, number}
-use Rattle.statements8080.specs.declared.body.Body.{Body}
-use Rattle.statements8080.specs.declared.plan.Planned.{Planned}
-use Rattle.statements8080.specs.Assignments.{byte_steps, count_of, from_byte_steps, from_type, from_word_steps, is_address_first, number_steps, other_byte_steps, other_word_steps, single_steps, word_steps}
-use Rattle.statements8080.specs.Bodies.{is_near}
-use Rattle.statements8080.specs.Plans.{part, plain}
-use Rattle.codegen8080.specs.Generated.{site_of}
-use Rattle.measure_laws.specs.internal.Sizes.{PartsFit, bytes_for}
-use Rattle.measure_laws.specs.internal.Fits.{StepsFit}
+use Rattle.statements8080.specs.Assignments.{byte_steps, word_steps}
 use Rattle.measure_laws.proofs.Bounds.Fitting.{less_fits, then_fit}
 use Rattle.measure_laws.proofs.Bounds.Parts.{address_fits, store_fits, weight_beside}
 use Rattle.measure_laws.proofs.Bounds.Pieces.{plains_fit}

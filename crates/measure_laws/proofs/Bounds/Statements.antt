@@ -1,36 +1,6 @@
 -- Statements of each form are not too long for their trees.
-use Rattle.std.proofs.Common.{◌≡◌, ℕ, ◌+◌, ◌≤◌, Bool, true, false, List, [], ◌∷◌, slice_get, sum_by, Option, Some, None, refl, sym, subst, ◌∙◌, arith}
-use Rattle.std.proofs.lemmas.Option.{same_Some}
-use Rattle.trees.specs.declared.declaration.ScalarType.{ScalarType}
-use Rattle.trees.specs.declared.declaration.ScalarType.TheVariants.{Byte, Address}
-use Rattle.typed_trees.specs.ExpressionTypes.{type_of}
-use Rattle.typed_trees.specs.Jumps.{ListStands, ListsStand, ListsStandInCases, ListsStandInElse, ListsStandInStatements}
-use Rattle.typed_trees.specs.TypedTrees.{TypedElse, TypedExpression, TypedList, TypedModule, TypedStatement, TypedStatements, NoStatements, MoreStatements}
-use Rattle.typed_trees.specs.WellTyped.{TypesHoldIn, TypesHoldInElse, TypesHoldInList, TypesHoldInStatements, Within}
-use Rattle.typed_trees.specs.Weight.{weight_of_arguments, weight_of_else, weight_of_expression, weight_of_iteration, weight_of_list, weight_of_optional, weight_of_statement, weight_of_statements, weight_of_target}
-use Rattle.layout.specs.Storage.{Storage}
-use Rattle.asm8080.specs.declared.item.Item.{Item}
-use Rattle.asm8080.specs.Items.{size_of_items}
-use Rattle.asm8080.specs.declared.item.WordForm.TheVariants.{Jump}
-use Rattle.isa8080.specs.declared.instr.Instr.TheVariants.{Hlt}
-use Rattle.treecode.specs.declared.expression.ExpressionNumber.{ExpressionNumber}
-use Rattle.treecode.specs.declared.lists.Range.{Range}
+use Rattle.measure_laws.proofs.Prelude.{◌≡◌, ℕ, ◌+◌, ◌≤◌, Bool, true, false, List, [], ◌∷◌, slice_get, sum_by, Option, Some, None, refl, sym, subst, ◌∙◌, arith, same_Some, ScalarType, Byte, Address, type_of, ListStands, ListsStand, ListsStandInCases, ListsStandInElse, ListsStandInStatements, TypedElse, TypedExpression, TypedList, TypedModule, TypedStatement, TypedStatements, NoStatements, MoreStatements, TypesHoldIn, TypesHoldInElse, TypesHoldInList, TypesHoldInStatements, Within, weight_of_arguments, weight_of_else, weight_of_expression, weight_of_iteration, weight_of_list, weight_of_optional, weight_of_statement, weight_of_statements, weight_of_target, Storage, Item, size_of_items, Jump, Hlt, ExpressionNumber, Range, StatementNumber, AreMoreStatements, AreNoStatements, AreStatements, IsAssignment, IsCall, IsCase, IsDo, IsElse, IsGoto, IsHalt, IsIf, IsIterate, IsLabel, IsList, IsListOf, IsMove, IsNoElse, IsNoValue, IsNull, IsOptional, IsReturn, IsSomeElse, IsSomeValue, IsStatement, IsStatementForm, IsStatementNode, IsWhile, nodes_of, Facts, knowing, Body, Planned, Reaches, body_label, jump, mark, plain, Here, AreCarriedOut, IsCarriedOut, StatementPlanned, site_of, return_of_steps, returned_value_steps, statement_steps, PartsFit, bytes_for, ListFits, StatementFits, StepsFit, spared_by}
 use Rattle.treecode.specs.declared.statement.Statement.{Statement}
-use Rattle.treecode.specs.declared.statement.StatementNumber.{StatementNumber}
-use Rattle.treecode.specs.Lowered.{AreMoreStatements, AreNoStatements, AreStatements, IsAssignment, IsCall, IsCase, IsDo, IsElse, IsGoto, IsHalt, IsIf, IsIterate, IsLabel, IsList, IsListOf, IsMove, IsNoElse, IsNoValue, IsNull, IsOptional, IsReturn, IsSomeElse, IsSomeValue, IsStatement, IsStatementForm, IsStatementNode, IsWhile}
-use Rattle.treecode.specs.Nodes.{nodes_of}
-use Rattle.steps8080.specs.declared.facts.Facts.{Facts}
-use Rattle.exprgen8080.specs.Emission.{knowing}
-use Rattle.statements8080.specs.declared.body.Body.{Body}
-use Rattle.statements8080.specs.declared.plan.Planned.{Planned}
-use Rattle.statements8080.specs.declared.plan.Planned.TheVariants.{Reaches}
-use Rattle.statements8080.specs.Bodies.{body_label}
-use Rattle.statements8080.specs.Plans.{jump, mark, plain}
-use Rattle.codegen8080.specs.declared.meeting.Here.{Here}
-use Rattle.codegen8080.specs.Generated.{AreCarriedOut, IsCarriedOut, StatementPlanned, site_of}
-use Rattle.codegen8080.specs.Statements.{return_of_steps, returned_value_steps, statement_steps}
-use Rattle.measure_laws.specs.internal.Sizes.{PartsFit, bytes_for}
-use Rattle.measure_laws.specs.internal.Fits.{ListFits, StatementFits, StepsFit, spared_by}
 use Rattle.measure_laws.proofs.Bounds.Assignments.{assignment_fits}
 use Rattle.measure_laws.proofs.Bounds.Branches.{AnyFits, if_fits, while_fits}
 use Rattle.measure_laws.proofs.Bounds.Cases.{case_fits}

@@ -1,23 +1,5 @@
 -- Targets that get a value, one after another.
-use Rattle.std.proofs.Common.{◌≡◌, ℕ, zero, suc, ◌+◌, ◌<◌, ◌≤◌, Bool, true, false, ◌||◌, nat_eq, List, sum_by, Option, Some, None, refl, sym, ap, ◌∙◌, arith}
-use Rattle.std.proofs.lemmas.List.Sums.{sum_by-cons}
-use Rattle.std.proofs.lemmas.Bool.{eqb-false, eqb-true}
-use Rattle.trees.specs.declared.declaration.ScalarType.{ScalarType}
-use Rattle.typed_trees.specs.TypedTrees.{TypedModule, TypedTarget}
-use Rattle.typed_trees.specs.WellTyped.{TypesHoldInTarget, TypesHoldInTargets, Within}
-use Rattle.typed_trees.specs.Weight.{weight_of_target}
-use Rattle.layout.specs.Storage.{Storage}
-use Rattle.treecode.specs.declared.lists.Range.{Range}
-use Rattle.treecode.specs.declared.reference.Target.{Target}
-use Rattle.treecode.specs.Lowered.{AreTargets, IsTarget, MoreTargets, NoTargets}
-use Rattle.treecode.specs.Nodes.{nodes_of}
-use Rattle.treecode.specs.Queries.{target as target_at}
-use Rattle.statements8080.specs.declared.body.Body.{Body}
-use Rattle.statements8080.specs.declared.plan.Planned.{Planned}
-use Rattle.statements8080.specs.Assignments.{any_target}
-use Rattle.statements8080.specs.Plans.{steps_from}
-use Rattle.measure_laws.specs.internal.Sizes.{bytes_for}
-use Rattle.measure_laws.specs.internal.Fits.{StepsFit}
+use Rattle.measure_laws.proofs.Prelude.{◌≡◌, ℕ, zero, suc, ◌+◌, ◌<◌, ◌≤◌, Bool, true, false, ◌||◌, nat_eq, List, sum_by, Option, Some, None, refl, sym, ap, ◌∙◌, arith, sum_by-cons, eqb-false, eqb-true, ScalarType, TypedModule, TypedTarget, TypesHoldInTarget, TypesHoldInTargets, Within, weight_of_target, Storage, Range, Target, AreTargets, IsTarget, MoreTargets, NoTargets, nodes_of, target_at, Body, Planned, any_target, steps_from, bytes_for, StepsFit}
 use Rattle.measure_laws.proofs.Bounds.Ranges.{item_there}
 use Rattle.measure_laws.proofs.Bounds.Fitting.{both_fit, less_fits, none_fit}
 

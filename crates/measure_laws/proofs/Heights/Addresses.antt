@@ -1,44 +1,12 @@
 -- Addresses of objects and their parts, and values in memory.
-use Rattle.std.proofs.Common.{◌≡◌, ℕ, ◌+◌, ◌-◌, ◌*◌, ◌%◌, ◌==◌, nat_le, Bool, true, false, IfSome, [], ◌∷◌, ◌++◌, if◌then◌else◌, Option, Some, None, option_and_then, unwrap_or, refl, arith}
-use Rattle.trees.specs.declared.expression.BinaryOperator.{BinaryOperator}
+use Rattle.measure_laws.proofs.Prelude.{◌≡◌, ℕ, ◌+◌, ◌-◌, ◌*◌, ◌%◌, ◌==◌, nat_le, Bool, true, false, IfSome, [], ◌∷◌, ◌++◌, if◌then◌else◌, Option, Some, None, option_and_then, unwrap_or, refl, arith, BinaryOperator, Instr, Dad, Dcx, Inx, Pop, De, Hl, A, H, L, StackDe, Expression, ExpressionForm, ExpressionNumber, Location, Place, Number, Reference, Subscript, location_after, home, place_number, LoadA, LoadHl, product_steps, Facts, before, byte_for_l, byte_from_hl, is_at, copy, load, Base, Split, Site, distance, expression, base_after, base_of, keeps, located, located_at, location_of, number, split, split_computed, split_form, split_sum, split_whole, unknown, addition_steps, address_steps, base_added_steps, base_steps, frame_word_steps, location_address_steps, location_word_steps, located_steps, negated, new_address_steps, number_added_steps, second_steps, byte_in_memory_steps, byte_to_l_steps, extended_byte_in_memory_steps, frame_byte_steps, frame_byte_to_l_steps, location_byte_steps, word_in_memory_steps, TreeModule, keeps_stack, HasParts, IsBelow, IsPlaced, Runs, Source}
 use Rattle.trees.specs.declared.expression.BinaryOperator.TheVariants.{Add, Subtract}
 use Rattle.trees.specs.declared.declaration.ScalarType.TheVariants as scalars
-use Rattle.isa8080.specs.declared.instr.Instr.{Instr}
-use Rattle.isa8080.specs.declared.instr.Instr.TheVariants.{Dad, Dcx, Inx, Pop}
-use Rattle.isa8080.specs.declared.instr.Pair.TheVariants.{De, Hl}
-use Rattle.isa8080.specs.declared.instr.Register.TheVariants.{A, H, L}
-use Rattle.isa8080.specs.declared.instr.StackPair.TheVariants.{StackDe}
-use Rattle.treecode.specs.declared.expression.Expression.{Expression}
-use Rattle.treecode.specs.declared.expression.ExpressionForm.{ExpressionForm}
 use Rattle.treecode.specs.declared.expression.ExpressionForm.TheVariants as forms
-use Rattle.treecode.specs.declared.expression.ExpressionNumber.{ExpressionNumber}
-use Rattle.treecode.specs.declared.place.Location.{Location}
 use Rattle.treecode.specs.declared.place.Location.TheVariants as locations
-use Rattle.treecode.specs.declared.place.Place.{Place}
-use Rattle.treecode.specs.declared.place.Place.TheVariants.{Number}
-use Rattle.treecode.specs.declared.reference.Reference.{Reference}
-use Rattle.treecode.specs.declared.reference.Subscript.{Subscript}
-use Rattle.treecode.specs.Homes.{location_after}
-use Rattle.treecode.specs.Queries.{home, place_number}
-use Rattle.asm8080.specs.declared.item.WordForm.TheVariants.{LoadA, LoadHl}
 use Rattle.steps8080.specs.declared.step.Step.TheVariants as steps
-use Rattle.operands8080.specs.Products.{product_steps}
-use Rattle.steps8080.specs.declared.facts.Facts.{Facts}
-use Rattle.steps8080.specs.Facts.{before, byte_for_l, byte_from_hl, is_at}
-use Rattle.steps8080.specs.Instructions.{copy, load}
-use Rattle.steps8080.specs.declared.sites.queries.Base.{Base}
 use Rattle.steps8080.specs.declared.sites.queries.Base.TheVariants as bases
-use Rattle.steps8080.specs.declared.sites.queries.Split.{Split}
-use Rattle.steps8080.specs.declared.sites.site.Site.{Site}
-use Rattle.steps8080.specs.Site.{distance, expression}
-use Rattle.steps8080.specs.Queries.{base_after, base_of, keeps, located, located_at, location_of, number, split, split_computed, split_form, split_sum, split_whole}
-use Rattle.steps8080.specs.Widths.{unknown}
-use Rattle.operands8080.specs.Addresses.{addition_steps, address_steps, base_added_steps, base_steps, frame_word_steps, location_address_steps, location_word_steps, located_steps, negated, new_address_steps, number_added_steps, second_steps}
-use Rattle.operands8080.specs.Loads.{byte_in_memory_steps, byte_to_l_steps, extended_byte_in_memory_steps, frame_byte_steps, frame_byte_to_l_steps, location_byte_steps, word_in_memory_steps}
-use Rattle.treecode.specs.declared.module.TreeModule.{TreeModule}
 use Rattle.measure_laws.proofs.Sizes.Found.{of_found}
-use Rattle.measure_laws.specs.Heights.{keeps_stack}
-use Rattle.measure_laws.specs.internal.Going.{HasParts, IsBelow, IsPlaced, Runs, Source}
 use Rattle.measure_laws.proofs.Heights.Chains.{product_runs}
 use Rattle.measure_laws.proofs.Heights.Joining.{after_plain, by_finding, by_test, joined, lowered, repeated, restored, runs, two_free, weak}
 use Rattle.measure_laws.proofs.Heights.Trees.{IndexIs, has_parts, subscripts_are}

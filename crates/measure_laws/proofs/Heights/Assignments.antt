@@ -1,27 +1,8 @@
 -- Assignments.
-use Rattle.std.proofs.Common.{◌≡◌, ℕ, suc, ◌+◌, ◌-◌, ◌*◌, ◌<◌, ◌≤◌, Bool, true, false, if◌then◌else◌, is_some, nat_eq, nat_lt, List, [], ◌∷◌, Option, Some, None, sym, subst, arith}
-use Rattle.trees.specs.declared.declaration.ScalarType.{ScalarType}
-use Rattle.trees.specs.declared.declaration.ScalarType.TheVariants.{Byte, Address}
-use Rattle.typed_trees.specs.Charge.{height_of_targets}
-use Rattle.typed_trees.specs.TypedTrees.{TypedTarget}
-use Rattle.typed_trees.specs.WellTyped.{TypesHoldInTargets}
-use Rattle.treecode.specs.declared.expression.ExpressionNumber.{ExpressionNumber}
-use Rattle.treecode.specs.declared.lists.Range.{Range}
-use Rattle.treecode.specs.declared.reference.Target.{Target}
-use Rattle.treecode.specs.Lowered.{AreTargets, MoreTargets, NoTargets}
-use Rattle.treecode.specs.Nodes.{nodes_of}
-use Rattle.treecode.specs.Queries.{target as target_at}
+use Rattle.measure_laws.proofs.Prelude.{◌≡◌, ℕ, suc, ◌+◌, ◌-◌, ◌*◌, ◌<◌, ◌≤◌, Bool, true, false, if◌then◌else◌, is_some, nat_eq, nat_lt, List, [], ◌∷◌, Option, Some, None, sym, subst, arith, ScalarType, Byte, Address, height_of_targets, TypedTarget, TypesHoldInTargets, ExpressionNumber, Range, Target, AreTargets, MoreTargets, NoTargets, nodes_of, target_at, Site, number, scalar, Body, Planned, any_target, assignment_steps, each_at, each_steps, from_type, several_by, several_steps, single_steps, store_at, takes_byte, takes_word, together_steps, types_by, value_steps, part, steps_from, StepsRun, IsAimed, IsOperand, Source}
 use Rattle.steps8080.specs.declared.step.Task.TheVariants as tasks
-use Rattle.steps8080.specs.declared.sites.site.Site.{Site}
-use Rattle.steps8080.specs.Queries.{number}
-use Rattle.steps8080.specs.Site.{scalar}
-use Rattle.statements8080.specs.declared.body.Body.{Body}
-use Rattle.statements8080.specs.declared.plan.Planned.{Planned}
-use Rattle.statements8080.specs.Assignments.{any_target, assignment_steps, each_at, each_steps, from_type, several_by, several_steps, single_steps, store_at, stores_steps, takes_byte, takes_word, together_steps, types_by, value_steps}
-use Rattle.statements8080.specs.Plans.{part, steps_from}
+use Rattle.statements8080.specs.Assignments.{stores_steps}
 use Rattle.measure_laws.proofs.Bounds.Ranges.{item_there}
-use Rattle.measure_laws.specs.internal.Bodies.{StepsRun}
-use Rattle.measure_laws.specs.internal.Going.{IsAimed, IsOperand, Source}
 use Rattle.measure_laws.proofs.Heights.Parts.{byte_runs, store_runs, word_runs}
 use Rattle.measure_laws.proofs.Heights.Planning.{both_run, none_run}
 use Rattle.measure_laws.proofs.Heights.Singles.{aimed_from, single_runs}

@@ -1,21 +1,5 @@
 -- IF and DO WHILE.
-use Rattle.std.proofs.Common.{ℕ, ◌%◌, Bool, true, false, if◌then◌else◌, nat_eq, nat_lt, List, [], ◌∷◌, Option, Some, None, refl}
-use Rattle.isa8080.specs.declared.instr.Instr.TheVariants.{Nop}
-use Rattle.asm8080.specs.declared.item.WordForm.TheVariants.{Jump}
-use Rattle.treecode.specs.declared.expression.ExpressionNumber.{ExpressionNumber}
-use Rattle.treecode.specs.declared.lists.Range.{Range}
-use Rattle.treecode.specs.declared.statement.StatementNumber.{StatementNumber}
-use Rattle.steps8080.specs.declared.step.LabelNumber.{LabelNumber}
-use Rattle.steps8080.specs.Step.{label_of}
-use Rattle.steps8080.specs.declared.sites.site.Site.{Site}
-use Rattle.steps8080.specs.Queries.{number}
-use Rattle.statements8080.specs.declared.body.Body.{Body}
-use Rattle.statements8080.specs.declared.plan.Planned.{Planned}
-use Rattle.statements8080.specs.declared.plan.Planned.TheVariants.{Jumped, JumpOn, List as ListOf, Meet, Reaches, Statement, Turn}
-use Rattle.statements8080.specs.Branches.{both_steps, branch, computed_if_steps, forever_steps, goto_label, has_one_jump, if_steps, statement_if_any, tested_if_steps, tested_while_steps, then_steps, while_steps}
-use Rattle.statements8080.specs.Plans.{jump, mark, nth_label, plain}
-use Rattle.measure_laws.specs.internal.Bodies.{StepsRun}
-use Rattle.measure_laws.specs.internal.Going.{Source}
+use Rattle.measure_laws.proofs.Prelude.{ℕ, ◌%◌, Bool, true, false, if◌then◌else◌, nat_eq, nat_lt, List, [], ◌∷◌, Option, Some, None, refl, Nop, Jump, ExpressionNumber, Range, StatementNumber, LabelNumber, label_of, Site, number, Body, Planned, Jumped, JumpOn, ListOf, Meet, Reaches, Statement, Turn, both_steps, branch, computed_if_steps, forever_steps, goto_label, has_one_jump, if_steps, statement_if_any, tested_if_steps, tested_while_steps, then_steps, while_steps, jump, mark, nth_label, plain, StepsRun, Source}
 use Rattle.measure_laws.proofs.Heights.Planning.{both_run, none_run, plain_runs, plains_run, then_run}
 
 -- a statement that need not be there

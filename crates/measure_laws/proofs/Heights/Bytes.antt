@@ -1,37 +1,11 @@
 -- Values in A, but for calls and assignments.
-use Rattle.std.proofs.Common.{ℕ, ◌+◌, ◌-◌, ◌%◌, ◌==◌, nat_le, Bool, true, false, ◌&&◌, ◌||◌, IfSome, [], ◌∷◌, ◌++◌, Option, Some, None, is_some, option_map, if◌then◌else◌, refl}
-use Rattle.isa8080.specs.declared.instr.Instr.TheVariants.{Dad, Pop, Push, Rlc, Rrc}
-use Rattle.isa8080.specs.declared.instr.Operation.{Operation}
-use Rattle.isa8080.specs.declared.instr.Operation.TheVariants.{Add, Subtract, And, ExclusiveOr, Or}
-use Rattle.isa8080.specs.declared.instr.Pair.TheVariants.{Hl}
-use Rattle.isa8080.specs.declared.instr.Register.TheVariants.{A, B}
-use Rattle.isa8080.specs.declared.instr.StackPair.TheVariants.{Psw, StackBc}
-use Rattle.trees.specs.declared.declaration.ScalarType.{ScalarType}
+use Rattle.measure_laws.proofs.Prelude.{ℕ, ◌+◌, ◌-◌, ◌%◌, ◌==◌, nat_le, Bool, true, false, ◌&&◌, ◌||◌, IfSome, [], ◌∷◌, ◌++◌, Option, Some, None, is_some, option_map, if◌then◌else◌, refl, Dad, Pop, Push, Rlc, Rrc, Operation, Add, Subtract, And, ExclusiveOr, Or, Hl, A, B, Psw, StackBc, ScalarType, BinaryOperator, ShiftFunction, ShiftLeft, ShiftRight, RotateLeft, RotateRight, ExpressionNumber, Reference, copy, high, low, with_register, Site, scalar, is_free, known, may_exchange, number_of, fits_byte, high_byte_in_memory, is_byte_in_register, low_number, operand_in_memory, power, byte_in_memory_steps, ByteForm, RightInMemory, LeftInMemory, LeftFree, RightFree, Pushed, Operands, Shifted, byte_number_steps, high_byte_steps, low_of_word_steps, by_number_steps, byte_routine, byte_shift_steps, byte_shifted_right_steps, count_in_memory_steps, low_byte_shifted_right_steps, middle_byte_steps, operands_steps, right_shift_steps, rotation_steps, shifted_left_steps, turned_right_steps, zero_steps, added_steps, byte_binary_steps, byte_operation_steps, commutes, form_after_right, form_from_register, form_of, form_with_left, form_without_memory, from_number_steps, immediate_steps, in_form_steps, number_of_two, product_byte_steps, quotient_byte_steps, remainder_byte_steps, with_e_steps, with_memory_steps, with_number_steps, with_stack_steps, IsBelow, IsOperand, IsPlaced, Runs, Source}
 use Rattle.trees.specs.declared.declaration.ScalarType.TheVariants as scalars
-use Rattle.trees.specs.declared.expression.BinaryOperator.{BinaryOperator}
 use Rattle.trees.specs.declared.expression.BinaryOperator.TheVariants as operators
-use Rattle.typed_trees.specs.declared.parts.ShiftFunction.{ShiftFunction}
-use Rattle.typed_trees.specs.declared.parts.ShiftFunction.TheVariants.{ShiftLeft, ShiftRight, RotateLeft, RotateRight}
-use Rattle.treecode.specs.declared.expression.ExpressionNumber.{ExpressionNumber}
-use Rattle.treecode.specs.declared.reference.Reference.{Reference}
 use Rattle.steps8080.specs.declared.step.Step.TheVariants as steps
 use Rattle.steps8080.specs.declared.step.Task.TheVariants as tasks
-use Rattle.steps8080.specs.Instructions.{copy, high, low, with_register}
 use Rattle.steps8080.specs.Step.{part}
-use Rattle.steps8080.specs.declared.sites.site.Site.{Site}
-use Rattle.steps8080.specs.Site.{scalar}
-use Rattle.steps8080.specs.Queries.{is_free, known, may_exchange, number as number_of}
-use Rattle.steps8080.specs.Widths.{fits_byte, high_byte_in_memory, is_byte_in_register, low_number, operand_in_memory, power}
-use Rattle.operands8080.specs.Loads.{byte_in_memory_steps}
-use Rattle.exprgen8080.specs.declared.byte_operators.ByteForm.{ByteForm}
-use Rattle.exprgen8080.specs.declared.byte_operators.ByteForm.TheVariants.{RightInMemory, LeftInMemory, LeftFree, RightFree, Pushed}
-use Rattle.exprgen8080.specs.declared.byte_operators.Operands.{Operands}
-use Rattle.exprgen8080.specs.declared.byte_shifts.Shifted.{Shifted}
-use Rattle.exprgen8080.specs.Halves.{byte_number_steps, high_byte_steps, low_of_word_steps}
-use Rattle.exprgen8080.specs.ByteShifts.{by_number_steps, byte_routine, byte_shift_steps, byte_shifted_right_steps, count_in_memory_steps, low_byte_shifted_right_steps, middle_byte_steps, operands_steps, right_shift_steps, rotation_steps, shifted_left_steps, turned_right_steps, zero_steps}
-use Rattle.exprgen8080.specs.ByteOperators.{added_steps, byte_binary_steps, byte_operation_steps, commutes, form_after_right, form_from_register, form_of, form_with_left, form_without_memory, from_number_steps, immediate_steps, in_form_steps, number_of_two, product_byte_steps, quotient_byte_steps, remainder_byte_steps, with_e_steps, with_memory_steps, with_number_steps, with_stack_steps}
 use Rattle.measure_laws.proofs.Sizes.Found.{of_found}
-use Rattle.measure_laws.specs.internal.Going.{IsBelow, IsOperand, IsPlaced, Runs, Source}
 use Rattle.measure_laws.proofs.Heights.Addresses.{byte_in_memory_runs}
 use Rattle.measure_laws.proofs.Heights.Chains.{byte_product_runs}
 use Rattle.measure_laws.proofs.Heights.Found.{high_is_in_memory, operand_is_in_memory}

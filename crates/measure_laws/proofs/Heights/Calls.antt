@@ -1,30 +1,8 @@
 -- Calls, assignments, and what expressions do beside their values.
-use Rattle.std.proofs.Common.{◌≡◌, ℕ, zero, suc, ◌+◌, ◌-◌, ◌*◌, ◌%◌, ◌≤◌, Bool, false, List, [], ◌∷◌, ◌++◌, Option, Some, None, refl, sym, subst, arith}
-use Rattle.trees.specs.declared.declaration.ScalarType.{ScalarType}
-use Rattle.trees.specs.declared.declaration.ScalarType.TheVariants.{Byte, Address}
-use Rattle.typed_trees.specs.Charge.{height_of_arguments}
-use Rattle.typed_trees.specs.TypedTrees.{TypedArguments}
-use Rattle.typed_trees.specs.WellTyped.{TypesHoldInArguments}
-use Rattle.treecode.specs.declared.expression.ExpressionForm.{ExpressionForm}
+use Rattle.measure_laws.proofs.Prelude.{◌≡◌, ℕ, zero, suc, ◌+◌, ◌-◌, ◌*◌, ◌%◌, ◌≤◌, Bool, false, List, [], ◌∷◌, ◌++◌, Option, Some, None, refl, sym, subst, arith, ScalarType, Byte, Address, height_of_arguments, TypedArguments, TypesHoldInArguments, ExpressionForm, ExpressionNumber, Range, Reference, Subscript, Target, AreArguments, AreMore, AreNone, nodes_of, source_of, Step, Site, expression, scalar, embedded_steps, argument_steps, arguments_steps, call_steps, last_argument_steps, push_of, pushed_argument_steps, value_task, both_effects_steps, effects_steps, form_effects_steps, reference_effects_steps, subscript_effects_steps, TreeModule, AreGiven, HasParts, IsAimed, IsBelow, IsOfTree, IsOperand, IsPlaced, Runs, Source}
 use Rattle.treecode.specs.declared.expression.ExpressionForm.TheVariants as forms
-use Rattle.treecode.specs.declared.expression.ExpressionNumber.{ExpressionNumber}
-use Rattle.treecode.specs.declared.lists.Range.{Range}
-use Rattle.treecode.specs.declared.reference.Reference.{Reference}
-use Rattle.treecode.specs.declared.reference.Subscript.{Subscript}
-use Rattle.treecode.specs.declared.reference.Target.{Target}
-use Rattle.treecode.specs.Lowered.{AreArguments, AreMore, AreNone}
-use Rattle.treecode.specs.Nodes.{nodes_of}
-use Rattle.treecode.specs.Queries.{source as source_of}
-use Rattle.steps8080.specs.declared.step.Step.{Step}
 use Rattle.steps8080.specs.declared.step.Step.TheVariants as steps
-use Rattle.steps8080.specs.declared.sites.site.Site.{Site}
-use Rattle.steps8080.specs.Site.{expression, scalar}
-use Rattle.exprgen8080.specs.Bytes.{embedded_steps}
-use Rattle.exprgen8080.specs.Calls.{argument_steps, arguments_steps, call_steps, last_argument_steps, push_of, pushed_argument_steps, value_task}
-use Rattle.exprgen8080.specs.Effects.{both_effects_steps, effects_steps, form_effects_steps, reference_effects_steps, subscript_effects_steps}
-use Rattle.treecode.specs.declared.module.TreeModule.{TreeModule}
 use Rattle.measure_laws.proofs.Bounds.Ranges.{item_there}
-use Rattle.measure_laws.specs.internal.Going.{AreGiven, HasParts, IsAimed, IsBelow, IsOfTree, IsOperand, IsPlaced, Runs, Source}
 use Rattle.measure_laws.proofs.Heights.Joining.{by_finding, by_test, joined, runs, weak}
 use Rattle.measure_laws.proofs.Heights.Trees.{IndexIs, has_parts, subscripts_are}
 

@@ -1,17 +1,5 @@
 -- Products with numbers.
-use Rattle.std.proofs.Common.{◌≡◌, ℕ, zero, suc, ◌%◌, ◌/◌, ◌==◌, ◌||◌, Bool, true, false, refl}
-use Rattle.isa8080.specs.declared.instr.Instr.{Instr}
-use Rattle.isa8080.specs.declared.instr.Instr.TheVariants.{Dad}
-use Rattle.isa8080.specs.declared.instr.Operation.TheVariants.{Add}
-use Rattle.isa8080.specs.declared.instr.Pair.TheVariants.{Bc, Hl}
-use Rattle.isa8080.specs.declared.instr.Register.TheVariants.{A, B}
-use Rattle.treecode.specs.declared.expression.ExpressionNumber.{ExpressionNumber}
-use Rattle.steps8080.specs.Instructions.{with_register}
-use Rattle.steps8080.specs.declared.sites.site.Site.{Site}
-use Rattle.steps8080.specs.Widths.{power_of_two}
-use Rattle.operands8080.specs.Products.{bit_steps, byte_multiple_steps, byte_product_steps, chain_from, has_bit, multiple_steps, product_steps, small_multiple_steps}
-use Rattle.measure_laws.specs.Heights.{keeps_stack}
-use Rattle.measure_laws.specs.internal.Going.{IsOperand, Runs, Source}
+use Rattle.measure_laws.proofs.Prelude.{◌≡◌, ℕ, zero, suc, ◌%◌, ◌/◌, ◌==◌, ◌||◌, Bool, true, false, refl, Instr, Dad, Add, Bc, Hl, A, B, ExpressionNumber, with_register, Site, power_of_two, bit_steps, byte_multiple_steps, byte_product_steps, chain_from, has_bit, multiple_steps, product_steps, small_multiple_steps, keeps_stack, IsOperand, Runs, Source}
 use Rattle.measure_laws.proofs.Heights.Joining.{after_part, after_plain, by_finding, by_test, joined, repeated, runs}
 
 bit_runs :

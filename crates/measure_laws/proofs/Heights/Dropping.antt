@@ -1,21 +1,10 @@
 -- A word that is added to the stack pointer and is above the bytes of a frame and of a parameter, as 65,534 to push two
 -- bytes, is counted as no drop.
-use Rattle.std.proofs.Common.{◌≡◌, ℕ, ◌+◌, ◌<◌, ◌≤◌, ◌⊎◌, inl, inr, Bool, true, false, List, [], ◌∷◌, ◌++◌, Option, Some, None, slice_get, refl, sym, ap, subst, ◌∙◌, true≢false, arith}
-use Rattle.std.proofs.lemmas.Bool.{false≢true}
-use Rattle.typed_trees.specs.declared.limits.TheConstants.{FRAME_LIMIT}
-use Rattle.isa8080.specs.declared.instr.Instr.{Instr}
+use Rattle.measure_laws.proofs.Prelude.{◌≡◌, ℕ, ◌+◌, ◌<◌, ◌≤◌, ◌⊎◌, inl, inr, Bool, true, false, List, [], ◌∷◌, ◌++◌, Option, Some, None, slice_get, refl, sym, ap, subst, ◌∙◌, true≢false, arith, false≢true, FRAME_LIMIT, Instr, Hl, Sp, Item, Plain, WithWord, TreeModule, ProcedureKind, TreeProcedure, items_of_call, module_call_items, BranchThere, ByteDropped, BytesDropped, CallThere, FindsRoom, HaltThere, InstructionThere, JumpThere, LabelThere, NothingThere, PopThere, PushThere, ReturnThere, RoutineThere, TableJumpThere, WordThere, keeps_stack}
 use Rattle.isa8080.specs.declared.instr.Instr.TheVariants as instructions
-use Rattle.isa8080.specs.declared.instr.Pair.TheVariants.{Hl, Sp}
-use Rattle.asm8080.specs.declared.item.Item.{Item}
-use Rattle.asm8080.specs.declared.item.Item.TheVariants.{Plain, WithWord}
 use Rattle.asm8080.specs.declared.item.Reference.{Reference}
 use Rattle.asm8080.specs.declared.item.WordForm.TheVariants as forms
-use Rattle.treecode.specs.declared.module.TreeModule.{TreeModule}
-use Rattle.treecode.specs.declared.procedure.ProcedureKind.{ProcedureKind}
 use Rattle.treecode.specs.declared.procedure.ProcedureKind.TheVariants as kinds
-use Rattle.treecode.specs.declared.procedure.TreeProcedure.{TreeProcedure}
-use Rattle.exprgen8080.specs.Emission.{items_of_call, module_call_items}
-use Rattle.measure_laws.specs.Heights.{BranchThere, ByteDropped, BytesDropped, CallThere, FindsRoom, HaltThere, InstructionThere, JumpThere, LabelThere, NothingThere, PopThere, PushThere, ReturnThere, RoutineThere, TableJumpThere, WordThere, keeps_stack}
 
 -- an instruction that is counted by itself, and does not keep the stack
 abbrev is_counted : Instr → Bool

@@ -1,25 +1,7 @@
 -- What code finds of trees: operands inside others, and parts of memory.
-use Rattle.std.proofs.Common.{◌≡◌, ℕ, ◌+◌, ◌*◌, ◌%◌, ◌≤◌, Bool, true, false, IfSome, Option, Some, None, option_and_then, option_map, if◌then◌else◌, refl}
-use Rattle.trees.specs.declared.declaration.ScalarType.{ScalarType}
+use Rattle.measure_laws.proofs.Prelude.{◌≡◌, ℕ, ◌+◌, ◌*◌, ◌%◌, ◌≤◌, Bool, true, false, IfSome, Option, Some, None, option_and_then, option_map, if◌then◌else◌, refl, ScalarType, height_of_reference, Low, High, Double, PartOf, TypedReference, TypesHoldInReference, Expression, ExpressionForm, ExpressionNumber, TreeModule, Reference, IsPart, IsReference, nodes_of, inside, Site, expression, form_in_memory, high_in_memory, high_of, keeps_of_address, memory, plain_in_memory, reference_after, same_low_byte, high_byte_in_memory, operand_in_memory, word_in_memory, word_of, HasParts, IsOperand, IsPlaced, Source}
 use Rattle.trees.specs.declared.declaration.ScalarType.TheVariants as scalars
-use Rattle.typed_trees.specs.Charge.{height_of_reference}
-use Rattle.typed_trees.specs.declared.parts.UnaryFunction.TheVariants.{Low, High, Double}
-use Rattle.typed_trees.specs.TypedTrees.{PartOf, TypedReference}
-use Rattle.typed_trees.specs.WellTyped.{TypesHoldInReference}
-use Rattle.treecode.specs.declared.expression.Expression.{Expression}
-use Rattle.treecode.specs.declared.expression.ExpressionForm.{ExpressionForm}
 use Rattle.treecode.specs.declared.expression.ExpressionForm.TheVariants as forms
-use Rattle.treecode.specs.declared.expression.ExpressionNumber.{ExpressionNumber}
-use Rattle.treecode.specs.declared.module.TreeModule.{TreeModule}
-use Rattle.treecode.specs.declared.reference.Reference.{Reference}
-use Rattle.treecode.specs.Lowered.{IsPart, IsReference}
-use Rattle.treecode.specs.Nodes.{nodes_of}
-use Rattle.treecode.specs.Queries.{inside}
-use Rattle.steps8080.specs.declared.sites.site.Site.{Site}
-use Rattle.steps8080.specs.Site.{expression}
-use Rattle.steps8080.specs.Queries.{form_in_memory, high_in_memory, high_of, keeps_of_address, memory, plain_in_memory, reference_after, same_low_byte}
-use Rattle.steps8080.specs.Widths.{high_byte_in_memory, operand_in_memory, word_in_memory, word_of}
-use Rattle.measure_laws.specs.internal.Going.{HasParts, IsOperand, IsPlaced, Source}
 use Rattle.measure_laws.proofs.Heights.Joining.{weak}
 use Rattle.measure_laws.proofs.Heights.Trees.{has_parts}
 

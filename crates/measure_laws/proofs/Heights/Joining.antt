@@ -1,20 +1,8 @@
 -- Steps one after another, steps that are repeated, and steps that depend on what is found.
-use Rattle.std.proofs.Common.{◌≡◌, ℕ, zero, suc, ◌+◌, ◌-◌, ◌≤◌, Bool, true, false, if◌then◌else◌, List, [], ◌∷◌, ◌++◌, Option, Some, None, refl, sym, subst, arith}
-use Rattle.std.proofs.lemmas.Bool.{false≢true}
-use Rattle.isa8080.specs.declared.instr.Instr.{Instr}
+use Rattle.measure_laws.proofs.Prelude.{◌≡◌, ℕ, zero, suc, ◌+◌, ◌-◌, ◌≤◌, Bool, true, false, if◌then◌else◌, List, [], ◌∷◌, ◌++◌, Option, Some, None, refl, sym, subst, arith, false≢true, Instr, Sp, WordForm, ExpressionNumber, TreeModule, Part, Step, repeat_steps, Site, keeps_stack, taken_by, Go, GoesOn, GoesOnWithLabel, GoesOnWithWord, IsBelow, IsOfTree, IsOperand, Runs, Source}
 use Rattle.isa8080.specs.declared.instr.Instr.TheVariants as instructions
-use Rattle.isa8080.specs.declared.instr.Pair.TheVariants.{Sp}
-use Rattle.asm8080.specs.declared.item.WordForm.{WordForm}
 use Rattle.asm8080.specs.declared.item.WordForm.TheVariants as word_forms
-use Rattle.treecode.specs.declared.expression.ExpressionNumber.{ExpressionNumber}
-use Rattle.treecode.specs.declared.module.TreeModule.{TreeModule}
-use Rattle.steps8080.specs.declared.step.Part.{Part}
-use Rattle.steps8080.specs.declared.step.Step.{Step}
 use Rattle.steps8080.specs.declared.step.Step.TheVariants as steps
-use Rattle.steps8080.specs.Step.{repeat_steps}
-use Rattle.steps8080.specs.declared.sites.site.Site.{Site}
-use Rattle.measure_laws.specs.Heights.{keeps_stack, taken_by}
-use Rattle.measure_laws.specs.internal.Going.{Go, GoesOn, GoesOnWithLabel, GoesOnWithWord, IsBelow, IsOfTree, IsOperand, Runs, Source}
 
 pub runs :
     {site : Site} {source : Source site.tree.now} {level free after : ℕ} {planned : List Step}

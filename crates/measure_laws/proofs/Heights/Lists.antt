@@ -1,16 +1,7 @@
 -- Statements one after another.
-use Rattle.std.proofs.Common.{◌≡◌, ℕ, suc, Bool, List, [], ◌∷◌, slice_get, Option, Some, sym, subst, ◌∙◌}
-use Rattle.std.proofs.lemmas.Option.{same_Some}
-use Rattle.asm8080.specs.declared.item.Item.{Item}
-use Rattle.treecode.specs.declared.lists.Range.{Range}
-use Rattle.treecode.specs.declared.statement.StatementNumber.{StatementNumber}
-use Rattle.steps8080.specs.declared.facts.Facts.{Facts}
-use Rattle.statements8080.specs.declared.body.Body.{Body}
+use Rattle.measure_laws.proofs.Prelude.{◌≡◌, ℕ, suc, Bool, List, [], ◌∷◌, slice_get, Option, Some, sym, subst, ◌∙◌, same_Some, Item, Range, StatementNumber, Facts, Body, Here, AreAllCarriedOut, AreCarriedOut, IsCarriedOut, IsListCarriedOut, ListCarriedOut, ListPlanned, StatementCarriedOut, StepCarriedOut, FindsRoom, NothingThere, PushesAtMost, ListRuns, StatementRuns, StepsRun}
 use Rattle.statements8080.specs.declared.plan.Planned.TheVariants as planned
-use Rattle.codegen8080.specs.declared.meeting.Here.{Here}
-use Rattle.codegen8080.specs.Generated.{AreAllCarriedOut, AreCarriedOut, IsCarriedOut, IsListCarriedOut, ListCarriedOut, ListPlanned, MoreStatements, NoStatements, StatementCarriedOut, StepCarriedOut}
-use Rattle.measure_laws.specs.Heights.{FindsRoom, NothingThere, PushesAtMost}
-use Rattle.measure_laws.specs.internal.Bodies.{ListRuns, StatementRuns, StepsRun}
+use Rattle.codegen8080.specs.Generated.{MoreStatements, NoStatements}
 use Rattle.measure_laws.proofs.Heights.Planning.{none_room}
 use Rattle.measure_laws.proofs.Heights.Rooms.{room_joined}
 

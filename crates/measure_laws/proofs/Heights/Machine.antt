@@ -1,22 +1,8 @@
 -- What the count says of instructions, the machine does.
-use Rattle.std.proofs.Common.{◌≡◌, ℕ, ◌+◌, true, List, refl}
-use Rattle.std.proofs.lemmas.Bool.{false≢true}
-use Rattle.isa8080.specs.declared.instr.Instr.{Instr}
+use Rattle.measure_laws.proofs.Prelude.{◌≡◌, ℕ, ◌+◌, true, List, refl, false≢true, Instr, Operand, M, Of, Bc, De, Hl, Sp, Register, A, B, C, D, E, H, L, StackPair, Psw, StackBc, StackDe, StackHl, act, with_operand, decrement_of, increment_of, Registers, State, register_of, two_less, wrap, WordForm, instruction_with, keeps_stack, keeps_stack_with}
 use Rattle.isa8080.specs.declared.instr.Instr.TheVariants as instructions
-use Rattle.isa8080.specs.declared.instr.Operand.{Operand}
-use Rattle.isa8080.specs.declared.instr.Operand.TheVariants.{M, Of}
-use Rattle.isa8080.specs.declared.instr.Pair.TheVariants.{Bc, De, Hl, Sp}
-use Rattle.isa8080.specs.declared.instr.Register.{Register}
-use Rattle.isa8080.specs.declared.instr.Register.TheVariants.{A, B, C, D, E, H, L}
-use Rattle.isa8080.specs.declared.instr.StackPair.{StackPair}
-use Rattle.isa8080.specs.declared.instr.StackPair.TheVariants.{Psw, StackBc, StackDe, StackHl}
-use Rattle.isa8080.specs.Act.{act, with_operand}
-use Rattle.isa8080.specs.Arithmetic.{decrement_of, increment_of}
-use Rattle.isa8080.specs.State.{Registers, State, register_of, two_less, with_register, wrap}
-use Rattle.asm8080.specs.declared.item.WordForm.{WordForm}
+use Rattle.isa8080.specs.State.{with_register}
 use Rattle.asm8080.specs.declared.item.WordForm.TheVariants as forms
-use Rattle.asm8080.specs.Items.{instruction_with}
-use Rattle.measure_laws.specs.Heights.{keeps_stack, keeps_stack_with}
 
 -- the stack pointer and the program counter are as they were
 abbrev pub Stays : Registers → Registers → Type 0

@@ -1,39 +1,10 @@
 -- The code of a module pushes at most what heights and charges say.
-use Rattle.std.proofs.Common.{◌≡◌, ℕ, suc, ◌+◌, ◌-◌, ◌*◌, ◌<◌, ◌≤◌, ◌⊎◌, inl, inr, get_or, Bool, true, false, List, [], ◌∷◌, ◌++◌, length, Option, Some, None, slice_get, refl, sym, ap, subst, ◌∙◌, arith}
-use Rattle.std.proofs.lemmas.Option.{slice_get_cases, slice_get_within}
-use Rattle.std.specs.Option.{option_map_or}
-use Rattle.trees.specs.declared.declaration.ScalarType.{ScalarType}
-use Rattle.typed_trees.specs.declared.limits.TheConstants.{FRAME_LIMIT}
-use Rattle.typed_trees.specs.Charge.{charge_of, count_of_arguments, height_of, height_of_arguments, height_of_list, height_of_reference, height_of_statement, height_of_target}
-use Rattle.typed_trees.specs.Frames.{AreParameters, FramesFit, ParametersFit, home_of_parameters}
-use Rattle.typed_trees.specs.TypedTrees.{Home, TypedModule, TypedProcedure}
-use Rattle.typed_trees.specs.WellTyped.{IsWellTyped, TypesHoldInList, TypesHoldInProcedure, Within, WithinMain, WithinProcedure}
-use Rattle.layout.specs.Storage.{Storage}
-use Rattle.asm8080.specs.declared.item.Item.{Item}
-use Rattle.treecode.specs.declared.lists.Range.{Range}
-use Rattle.treecode.specs.declared.module.TreeModule.{TreeModule}
-use Rattle.treecode.specs.declared.procedure.ProcedureKind.{ProcedureKind}
+use Rattle.measure_laws.proofs.Prelude.{◌≡◌, ℕ, suc, ◌+◌, ◌-◌, ◌*◌, ◌<◌, ◌≤◌, ◌⊎◌, inl, inr, get_or, Bool, true, false, List, [], ◌∷◌, ◌++◌, length, Option, Some, None, slice_get, refl, sym, ap, subst, ◌∙◌, arith, slice_get_cases, slice_get_within, option_map_or, ScalarType, FRAME_LIMIT, charge_of, count_of_arguments, height_of, height_of_arguments, height_of_list, height_of_reference, height_of_statement, height_of_target, AreParameters, FramesFit, ParametersFit, home_of_parameters, TypedModule, TypedProcedure, IsWellTyped, TypesHoldInList, TypesHoldInProcedure, Within, WithinMain, WithinProcedure, Storage, Item, Range, TreeModule, ProcedureKind, TreeProcedure, StatementNumber, HasBody, IsLowered, IsProcedure, labels_numbered_in_list, nodes_of, has_frame, parameter_count, frame_fits, has_parameters, numbered_at, Facts, Part, Task, Site, IsWritten, Body, Here, IsCarriedOut, IsListCarriedOut, IsEndCode, IsFrameOf, FindsRoom, NothingThere, PushesAtMost, taken_by, IsOfTree, Source}
+use Rattle.typed_trees.specs.TypedTrees.{Home}
 use Rattle.treecode.specs.declared.procedure.ProcedureKind.TheVariants as kinds
-use Rattle.treecode.specs.declared.procedure.TreeProcedure.{TreeProcedure}
-use Rattle.treecode.specs.declared.statement.StatementNumber.{StatementNumber}
-use Rattle.treecode.specs.Lowered.{HasBody, IsLowered, IsProcedure, labels_numbered_in_list}
-use Rattle.treecode.specs.Nodes.{nodes_of}
 use Rattle.frames.specs.Calls.{call_bytes}
-use Rattle.frames.proofs.Frames.{has_frame, parameter_count}
-use Rattle.frames.proofs.Parameters.{frame_fits, has_parameters, numbered_at}
-use Rattle.steps8080.specs.declared.facts.Facts.{Facts}
-use Rattle.steps8080.specs.declared.step.Part.{Part}
-use Rattle.steps8080.specs.declared.step.Task.{Task}
 use Rattle.steps8080.specs.declared.step.Task.TheVariants as tasks
-use Rattle.steps8080.specs.declared.sites.site.Site.{Site}
-use Rattle.exprgen8080.specs.Emission.{IsWritten}
-use Rattle.statements8080.specs.declared.body.Body.{Body}
-use Rattle.codegen8080.specs.declared.meeting.Here.{Here}
-use Rattle.codegen8080.specs.Generated.{IsCarriedOut, IsListCarriedOut}
-use Rattle.codegen8080.specs.Modules.{IsEndCode, IsFrameOf}
 use Rattle.measure_laws.specs.internal.Charges.{ListPushes, PushesWithinCharges, Setting, StatementPushes, TaskPushes}
-use Rattle.measure_laws.specs.Heights.{FindsRoom, NothingThere, PushesAtMost, taken_by}
-use Rattle.measure_laws.specs.internal.Going.{IsOfTree, Source}
 use Rattle.measure_laws.proofs.Heights.Returns.{end_run}
 use Rattle.measure_laws.proofs.Heights.Rooms.{room_joined}
 use Rattle.measure_laws.proofs.Heights.Statements.{statement_run, whole_list_run}

@@ -1,23 +1,8 @@
 -- CALL MOVE.
-use Rattle.std.proofs.Common.{ℕ, ◌+◌, ◌-◌, ◌≤◌, Bool, true, false, if◌then◌else◌, List, [], ◌∷◌, ◌++◌, min, Option, Some, None, refl, arith}
-use Rattle.isa8080.specs.declared.instr.Instr.TheVariants.{Pop, Push, Xchg}
-use Rattle.isa8080.specs.declared.instr.Pair.TheVariants.{Bc, De}
-use Rattle.isa8080.specs.declared.instr.StackPair.TheVariants.{StackBc, StackDe, StackHl}
-use Rattle.asm8080.specs.declared.item.WordForm.TheVariants.{LoadPair}
-use Rattle.runtime8080.specs.declared.routine.Routine.TheVariants.{Move}
-use Rattle.treecode.specs.declared.expression.ExpressionNumber.{ExpressionNumber}
-use Rattle.treecode.specs.declared.place.Place.{Place}
+use Rattle.measure_laws.proofs.Prelude.{ℕ, ◌+◌, ◌-◌, ◌≤◌, Bool, true, false, if◌then◌else◌, List, [], ◌∷◌, ◌++◌, min, Option, Some, None, refl, arith, Pop, Push, Xchg, Bc, De, StackBc, StackDe, StackHl, LoadPair, Move, ExpressionNumber, Place, Site, keeps, known, Body, Planned, computed_ends_steps, ends_steps, known_move_steps, move_steps, part, plain, word, StepsRun, IsOperand, Source}
 use Rattle.steps8080.specs.declared.step.Step.TheVariants as steps
 use Rattle.steps8080.specs.declared.step.Task.TheVariants as tasks
-use Rattle.steps8080.specs.declared.sites.site.Site.{Site}
-use Rattle.steps8080.specs.Queries.{keeps, known}
-use Rattle.statements8080.specs.declared.body.Body.{Body}
-use Rattle.statements8080.specs.declared.plan.Planned.{Planned}
 use Rattle.statements8080.specs.declared.plan.Planned.TheVariants.{Code}
-use Rattle.statements8080.specs.Moves.{computed_ends_steps, ends_steps, known_move_steps, move_steps}
-use Rattle.statements8080.specs.Plans.{part, plain, word}
-use Rattle.measure_laws.specs.internal.Bodies.{StepsRun}
-use Rattle.measure_laws.specs.internal.Going.{IsOperand, Source}
 use Rattle.measure_laws.proofs.Heights.Parts.{word_runs}
 use Rattle.measure_laws.proofs.Heights.Planning.{both_run, code_run, then_run}
 

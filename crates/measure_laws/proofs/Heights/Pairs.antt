@@ -1,13 +1,6 @@
 -- Two words in HL and DE.
-use Rattle.std.proofs.Common.{ℕ, Bool, Option, Some, None, refl}
-use Rattle.treecode.specs.declared.expression.ExpressionNumber.{ExpressionNumber}
-use Rattle.steps8080.specs.declared.sites.site.Site.{Site}
-use Rattle.operands8080.specs.declared.pairs.PairForm.{PairForm}
-use Rattle.operands8080.specs.declared.pairs.PairForm.TheVariants.{RightKnown, LeftKnown, RightKeeps, LeftKeeps, RightFree, LeftFree, Pushed}
-use Rattle.operands8080.specs.declared.pairs.PairOrder.{PairOrder}
-use Rattle.operands8080.specs.declared.pairs.PairOrder.TheVariants.{LeftInHl, RightInHl}
-use Rattle.operands8080.specs.Pairs.{form_steps, order_of, pair_form, pair_in_order_steps, pair_steps, wish_for_left, wished_steps}
-use Rattle.measure_laws.specs.internal.Going.{IsBelow, Runs, Source}
+use Rattle.measure_laws.proofs.Prelude.{ℕ, Bool, Option, Some, None, refl, ExpressionNumber, Site, PairForm, RightKnown, LeftKnown, RightKeeps, LeftKeeps, PairOrder, LeftInHl, RightInHl, form_steps, order_of, pair_form, pair_in_order_steps, pair_steps, wish_for_left, wished_steps, IsBelow, Runs, Source}
+use Rattle.operands8080.specs.declared.pairs.PairForm.TheVariants.{RightFree, LeftFree, Pushed}
 use Rattle.measure_laws.proofs.Heights.Joining.{joined, lowered, restored, runs, two_free, weak}
 
 pair_form_runs :

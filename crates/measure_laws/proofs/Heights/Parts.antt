@@ -1,30 +1,8 @@
 -- Parts of expressions as planned steps.
-use Rattle.std.proofs.Common.{ℕ, ◌≤◌, Bool, true, false, List, [], ◌∷◌, ◌++◌, Option, Some, None, if◌then◌else◌, refl, arith}
-use Rattle.typed_trees.specs.TypedTrees.{NoSubscript, PartOf}
-use Rattle.asm8080.specs.declared.item.WordForm.TheVariants.{LoadA}
-use Rattle.treecode.specs.declared.expression.ExpressionNumber.{ExpressionNumber}
-use Rattle.treecode.specs.declared.lists.Range.{Range}
-use Rattle.treecode.specs.declared.place.Location.{Location}
-use Rattle.treecode.specs.declared.place.Location.TheVariants.{Static, Frame}
-use Rattle.treecode.specs.declared.place.Place.{Place}
-use Rattle.treecode.specs.declared.reference.Reference.{Reference}
-use Rattle.treecode.specs.declared.reference.Target.{Target}
-use Rattle.treecode.specs.Lowered.{IsAbsent, IsPart}
-use Rattle.steps8080.specs.declared.facts.Facts.{Facts}
-use Rattle.steps8080.specs.declared.step.LabelNumber.{LabelNumber}
-use Rattle.steps8080.specs.declared.step.Step.{Step}
+use Rattle.measure_laws.proofs.Prelude.{ℕ, ◌≤◌, Bool, true, false, List, [], ◌∷◌, ◌++◌, Option, Some, None, if◌then◌else◌, refl, arith, NoSubscript, PartOf, LoadA, ExpressionNumber, Range, Location, Static, Frame, Place, Reference, Target, IsAbsent, IsPart, Facts, LabelNumber, Step, is_at, location_of, knowing, Body, whole, part, byte_at_address_steps, byte_at_steps, byte_in_a, carried_steps, load_byte_steps, load_word_steps, site_of, word_at_steps, word_in_hl, StepsRun, AreGiven, Go, IsAimed, IsOperand, IsPlaced, Source}
 use Rattle.steps8080.specs.declared.step.Step.TheVariants as steps
 use Rattle.steps8080.specs.declared.step.Task.TheVariants as tasks
-use Rattle.steps8080.specs.Facts.{is_at}
-use Rattle.steps8080.specs.Queries.{location_of}
-use Rattle.exprgen8080.specs.Emission.{knowing}
-use Rattle.statements8080.specs.declared.body.Body.{Body}
 use Rattle.statements8080.specs.declared.plan.Planned.TheVariants as planned
-use Rattle.statements8080.specs.Bodies.{whole}
-use Rattle.statements8080.specs.Plans.{part}
-use Rattle.codegen8080.specs.Generated.{byte_at_address_steps, byte_at_steps, byte_in_a, carried_steps, load_byte_steps, load_word_steps, site_of, word_at_steps, word_in_hl}
-use Rattle.measure_laws.specs.internal.Bodies.{StepsRun}
-use Rattle.measure_laws.specs.internal.Going.{AreGiven, Go, IsAimed, IsOperand, IsPlaced, Source}
 use Rattle.measure_laws.proofs.Heights.Planning.{step_run, task_run}
 
 module _ (body : Body) (called : List Bool) (source : Source body.tree.now) (level : ℕ) where

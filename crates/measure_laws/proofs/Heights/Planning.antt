@@ -1,25 +1,8 @@
 -- Planned steps find room where each of them does.
-use Rattle.std.proofs.Common.{◌≡◌, ℕ, Bool, true, false, List, [], ◌∷◌, ◌++◌, Option, if◌then◌else◌, refl, sym, ap, subst, ◌∙◌, arith, append_assoc}
-use Rattle.std.proofs.lemmas.Bool.{false≢true}
-use Rattle.isa8080.specs.declared.instr.Pair.TheVariants.{Sp}
-use Rattle.asm8080.specs.declared.item.Item.{Item}
-use Rattle.asm8080.specs.declared.item.WordForm.{WordForm}
+use Rattle.measure_laws.proofs.Prelude.{◌≡◌, ℕ, Bool, true, false, List, [], ◌∷◌, ◌++◌, Option, if◌then◌else◌, refl, sym, ap, subst, ◌∙◌, arith, append_assoc, false≢true, Sp, Item, WordForm, TreeModule, Facts, LabelNumber, Step, Task, Body, Planned, part, Here, AreCarriedOut, HoldsNoStatement, ListCarriedOut, NoneCarriedOut, StatementCarriedOut, StepCarriedOut, carried_steps, jump_on_steps, site_of, FindsRoom, NothingThere, keeps_stack, keeps_stack_with, StepsRun, Go, GoesOnWithLabel, GoesOnWithWord, IsOfTree, Source}
 use Rattle.asm8080.specs.declared.item.WordForm.TheVariants as word_forms
-use Rattle.treecode.specs.declared.module.TreeModule.{TreeModule}
-use Rattle.steps8080.specs.declared.facts.Facts.{Facts}
-use Rattle.steps8080.specs.declared.step.LabelNumber.{LabelNumber}
-use Rattle.steps8080.specs.declared.step.Step.{Step}
 use Rattle.steps8080.specs.declared.step.Step.TheVariants as steps
-use Rattle.steps8080.specs.declared.step.Task.{Task}
-use Rattle.statements8080.specs.declared.body.Body.{Body}
-use Rattle.statements8080.specs.declared.plan.Planned.{Planned}
 use Rattle.statements8080.specs.declared.plan.Planned.TheVariants as planned
-use Rattle.statements8080.specs.Plans.{part}
-use Rattle.codegen8080.specs.declared.meeting.Here.{Here}
-use Rattle.codegen8080.specs.Generated.{AreCarriedOut, HoldsNoStatement, ListCarriedOut, NoneCarriedOut, StatementCarriedOut, StepCarriedOut, carried_steps, jump_on_steps, site_of}
-use Rattle.measure_laws.specs.Heights.{FindsRoom, NothingThere, keeps_stack, keeps_stack_with}
-use Rattle.measure_laws.specs.internal.Bodies.{StepsRun}
-use Rattle.measure_laws.specs.internal.Going.{Go, GoesOnWithLabel, GoesOnWithWord, IsOfTree, Source}
 use Rattle.measure_laws.proofs.Heights.Joining.{kept_plain}
 use Rattle.measure_laws.proofs.Heights.Rooms.{room_joined}
 use Rattle.measure_laws.proofs.Heights.Written.{steps_room}

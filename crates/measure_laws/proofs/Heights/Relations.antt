@@ -1,49 +1,15 @@
 -- Relations as values and as jumps, and jumps by conditions.
-use Rattle.std.proofs.Common.{◌≡◌, ℕ, Bool, true, false, ◌&&◌, IfSome, ◌∷◌, ◌++◌, Option, Some, None, option_map, option_and_then, if◌then◌else◌, refl, arith}
-use Rattle.isa8080.specs.declared.instr.Condition.{Condition}
-use Rattle.trees.specs.declared.declaration.ScalarType.{ScalarType}
+use Rattle.measure_laws.proofs.Prelude.{◌≡◌, ℕ, Bool, true, false, ◌&&◌, IfSome, ◌∷◌, ◌++◌, Option, Some, None, option_map, option_and_then, if◌then◌else◌, refl, arith, Condition, ScalarType, BinaryOperator, Not, Negate, Low, Double, Expression, ExpressionForm, ExpressionNumber, LabelNumber, label_of, Comparison, Inquiry, Between, WithNumber, Question, LeftBelow, RightBelow, Equal, Relation, Site, expression, is_quiet, agree, mirrored, question_of, relation_between, relation_by, relation_of, relation_of_form, relation_with_number, fits_byte, Setting, Junction, Shape, Known, SameAs, Opposite, Whatever, Joined, Other, Outcome, Words, PlaceAndHl, DeAndHl, branch_setting, branch_steps, equality_steps, is_odd, joined_steps, known_branch_steps, other_steps, outcome_branch_steps, relation_branch_steps, shape_of, shape_of_binary, shape_of_form, shape_of_junction, shape_steps, shape_with_number, carry_steps, inquiry_steps, outcome_value_steps, relation_outcome, relation_steps, relation_value_steps, value_setting, byte_relation_steps, word_relation_steps, equality_of_words, high_difference_steps, low_difference_steps, words_asked, words_compared, words_of, TreeModule, HasParts, IsBelow, IsOperand, Runs, Source}
 use Rattle.trees.specs.declared.declaration.ScalarType.TheVariants as scalars
-use Rattle.trees.specs.declared.expression.BinaryOperator.{BinaryOperator}
 use Rattle.trees.specs.declared.expression.BinaryOperator.TheVariants as operators
-use Rattle.trees.specs.declared.expression.UnaryOperator.TheVariants.{Not, Negate}
-use Rattle.typed_trees.specs.declared.parts.UnaryFunction.TheVariants.{Low, Double}
-use Rattle.treecode.specs.declared.expression.Expression.{Expression}
-use Rattle.treecode.specs.declared.expression.ExpressionForm.{ExpressionForm}
 use Rattle.treecode.specs.declared.expression.ExpressionForm.TheVariants as forms
-use Rattle.treecode.specs.declared.expression.ExpressionNumber.{ExpressionNumber}
-use Rattle.steps8080.specs.declared.step.LabelNumber.{LabelNumber}
 use Rattle.asm8080.specs.declared.item.WordForm.TheVariants as word_forms
 use Rattle.isa8080.specs.declared.instr.Condition.TheVariants as conditions
 use Rattle.steps8080.specs.declared.step.Step.TheVariants as steps
-use Rattle.steps8080.specs.Step.{label_of}
-use Rattle.steps8080.specs.declared.sites.questions.Comparison.{Comparison}
-use Rattle.steps8080.specs.declared.sites.questions.Inquiry.{Inquiry}
-use Rattle.steps8080.specs.declared.sites.questions.Inquiry.TheVariants.{Between, WithNumber}
-use Rattle.steps8080.specs.declared.sites.questions.Question.{Question}
-use Rattle.steps8080.specs.declared.sites.questions.Question.TheVariants.{LeftBelow, RightBelow, Equal}
-use Rattle.steps8080.specs.declared.sites.questions.Relation.{Relation}
-use Rattle.steps8080.specs.declared.sites.site.Site.{Site}
-use Rattle.steps8080.specs.Site.{expression}
 use Rattle.steps8080.specs.Queries as queries
-use Rattle.steps8080.specs.Queries.{is_quiet}
-use Rattle.steps8080.specs.Questions.{agree, mirrored, question_of, relation_between, relation_by, relation_of, relation_of_form, relation_with_number}
-use Rattle.steps8080.specs.Widths.{fits_byte}
-use Rattle.operands8080.specs.declared.answers.Setting.{Setting}
 use Rattle.operands8080.specs.declared.branches.Branch.{Branch}
-use Rattle.operands8080.specs.declared.branches.Junction.{Junction}
-use Rattle.operands8080.specs.declared.branches.Shape.{Shape}
-use Rattle.operands8080.specs.declared.branches.Shape.TheVariants.{Known, SameAs, Opposite, Whatever, Joined, Other}
-use Rattle.operands8080.specs.declared.relations.Outcome.{Outcome}
 use Rattle.operands8080.specs.declared.relations.Outcome.TheVariants as outcomes
-use Rattle.operands8080.specs.declared.word_relations.Words.{Words}
-use Rattle.operands8080.specs.declared.word_relations.Words.TheVariants.{PlaceAndHl, DeAndHl}
-use Rattle.operands8080.specs.Branches.{branch_setting, branch_steps, equality_steps, is_odd, joined_steps, known_branch_steps, other_steps, outcome_branch_steps, relation_branch_steps, shape_of, shape_of_binary, shape_of_form, shape_of_junction, shape_steps, shape_with_number}
-use Rattle.operands8080.specs.Relations.{carry_steps, inquiry_steps, outcome_value_steps, relation_outcome, relation_steps, relation_value_steps, value_setting}
-use Rattle.operands8080.specs.ByteRelations.{byte_relation_steps}
-use Rattle.operands8080.specs.WordRelations.{word_relation_steps, equality_of_words, high_difference_steps, low_difference_steps, words_asked, words_compared, words_of}
-use Rattle.treecode.specs.declared.module.TreeModule.{TreeModule}
 use Rattle.measure_laws.proofs.Sizes.Found.{of_found}
-use Rattle.measure_laws.specs.internal.Going.{HasParts, IsBelow, IsOperand, Runs, Source}
 use Rattle.measure_laws.proofs.Heights.ByteRelations.{byte_number_runs, byte_relation_runs}
 use Rattle.measure_laws.proofs.Heights.Joining.{after_part, by_finding, by_test, joined, runs, weak}
 use Rattle.measure_laws.proofs.Heights.Trees.{has_parts}

@@ -1,9 +1,5 @@
 -- Items that find room, one after another.
-use Rattle.std.proofs.Common.{ℕ, List, ◌++◌, sym, subst, append_assoc}
-use Rattle.asm8080.specs.declared.item.Item.{Item}
-use Rattle.treecode.specs.declared.module.TreeModule.{TreeModule}
-use Rattle.exprgen8080.specs.Emission.{module_call_items}
-use Rattle.measure_laws.specs.Heights.{BranchThere, ByteDropped, BytesDropped, CallThere, FindsRoom, HaltThere, InstructionThere, JumpThere, LabelThere, NothingThere, PopThere, PushThere, ReturnThere, RoutineThere, TableJumpThere, WordThere}
+use Rattle.measure_laws.proofs.Prelude.{ℕ, List, ◌++◌, sym, subst, append_assoc, Item, TreeModule, module_call_items, BranchThere, ByteDropped, BytesDropped, CallThere, FindsRoom, HaltThere, InstructionThere, JumpThere, LabelThere, NothingThere, PopThere, PushThere, ReturnThere, RoutineThere, TableJumpThere, WordThere}
 
 -- items after others
 pub room_joined :

@@ -1,39 +1,8 @@
 -- One target that gets a value.
-use Rattle.std.proofs.Common.{◌≡◌, ℕ, ◌+◌, ◌*◌, ◌≤◌, ◌&&◌, IfSome, Bool, true, false, List, [], ◌∷◌, Option, Some, None, if◌then◌else◌, refl}
-use Rattle.isa8080.specs.declared.instr.Instr.{Instr}
-use Rattle.isa8080.specs.declared.instr.Instr.TheVariants.{Inx, MovToMemory, Mvi}
-use Rattle.isa8080.specs.declared.instr.Operand.TheVariants.{M}
-use Rattle.isa8080.specs.declared.instr.Pair.TheVariants.{Hl}
-use Rattle.isa8080.specs.declared.instr.Register.TheVariants.{A}
-use Rattle.trees.specs.declared.declaration.ScalarType.{ScalarType}
-use Rattle.trees.specs.declared.declaration.ScalarType.TheVariants.{Byte, Address}
-use Rattle.trees.specs.declared.expression.BinaryOperator.{BinaryOperator}
+use Rattle.measure_laws.proofs.Prelude.{◌≡◌, ℕ, ◌+◌, ◌*◌, ◌≤◌, ◌&&◌, IfSome, Bool, true, false, List, [], ◌∷◌, Option, Some, None, if◌then◌else◌, refl, Instr, Inx, MovToMemory, Mvi, M, Hl, A, ScalarType, Byte, Address, BinaryOperator, TypedTarget, SentTo, StoredIn, height_of_target, ExpressionNumber, Expression, ExpressionForm, Binary, TreeModule, Reference, Target, Sent, Stored, IsSent, IsStored, IsTarget, nodes_of, high, low, Site, location_of, number, expression, Body, Planned, count_by, count_of, count_of_form, from_byte_steps, from_type, from_word_steps, is_address_first, is_one, is_value_of, number_steps, other_byte_steps, other_word_steps, single_steps, is_near, part, plain, keeps_stack, StepsRun, AimHolds, IsAimed, IsOperand, IsPlaced, Source}
 use Rattle.trees.specs.declared.expression.BinaryOperator.TheVariants.{Add, Subtract}
-use Rattle.typed_trees.specs.TypedTrees.{TypedTarget, SentTo, StoredIn}
-use Rattle.typed_trees.specs.Charge.{height_of_target}
-use Rattle.treecode.specs.declared.expression.ExpressionNumber.{ExpressionNumber}
-use Rattle.treecode.specs.declared.expression.Expression.{Expression}
-use Rattle.treecode.specs.declared.expression.ExpressionForm.{ExpressionForm}
-use Rattle.treecode.specs.declared.expression.ExpressionForm.TheVariants.{Binary}
-use Rattle.treecode.specs.declared.module.TreeModule.{TreeModule}
-use Rattle.treecode.specs.declared.reference.Reference.{Reference}
-use Rattle.treecode.specs.declared.reference.Target.{Target}
-use Rattle.treecode.specs.declared.reference.Target.TheVariants.{Sent, Stored}
-use Rattle.treecode.specs.Lowered.{IsSent, IsStored, IsTarget}
-use Rattle.treecode.specs.Nodes.{nodes_of}
 use Rattle.steps8080.specs.declared.step.Task.TheVariants as tasks
-use Rattle.steps8080.specs.Instructions.{high, low}
-use Rattle.steps8080.specs.declared.sites.site.Site.{Site}
-use Rattle.steps8080.specs.Queries.{location_of, number}
-use Rattle.steps8080.specs.Site.{expression}
-use Rattle.statements8080.specs.declared.body.Body.{Body}
-use Rattle.statements8080.specs.declared.plan.Planned.{Planned}
-use Rattle.statements8080.specs.Assignments.{byte_steps, count_by, count_of, count_of_form, from_byte_steps, from_type, from_word_steps, is_address_first, is_one, is_value_of, number_steps, other_byte_steps, other_word_steps, single_steps, word_steps}
-use Rattle.statements8080.specs.Bodies.{is_near}
-use Rattle.statements8080.specs.Plans.{part, plain}
-use Rattle.measure_laws.specs.Heights.{keeps_stack}
-use Rattle.measure_laws.specs.internal.Bodies.{StepsRun}
-use Rattle.measure_laws.specs.internal.Going.{AimHolds, IsAimed, IsOperand, IsPlaced, Source}
+use Rattle.statements8080.specs.Assignments.{byte_steps, word_steps}
 use Rattle.measure_laws.proofs.Heights.Parts.{address_runs, byte_runs, store_runs, word_runs}
 use Rattle.measure_laws.proofs.Heights.Planning.{plain_runs, plains_run, then_run}
 use Rattle.measure_laws.proofs.Heights.Stores.{placed_target}

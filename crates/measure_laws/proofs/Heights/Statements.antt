@@ -1,35 +1,7 @@
 -- Statements of each form push at most two bytes for each level of their height, and two more.
-use Rattle.std.proofs.Common.{◌≡◌, ℕ, ◌+◌, ◌*◌, ◌≤◌, Bool, true, false, IfSome, List, [], ◌∷◌, length, slice_get, Option, Some, None, refl, sym, subst, ◌∙◌, arith}
-use Rattle.std.proofs.lemmas.Option.{same_Some}
-use Rattle.isa8080.specs.declared.instr.Instr.TheVariants.{Hlt}
-use Rattle.asm8080.specs.declared.item.Item.{Item}
-use Rattle.asm8080.specs.declared.item.WordForm.TheVariants.{Jump}
-use Rattle.trees.specs.declared.declaration.ScalarType.{ScalarType}
-use Rattle.trees.specs.declared.declaration.ScalarType.TheVariants.{Byte, Address}
-use Rattle.typed_trees.specs.Charge.{height_of, height_of_else, height_of_list, height_of_optional, height_of_statement, height_of_statements}
-use Rattle.typed_trees.specs.ExpressionTypes.{type_of}
-use Rattle.typed_trees.specs.declared.limits.TheConstants.{FRAME_LIMIT}
-use Rattle.typed_trees.specs.TypedTrees.{TypedElse, TypedExpression, TypedList, TypedModule, TypedStatement, TypedStatements}
-use Rattle.typed_trees.specs.WellTyped.{IsReturned, TypesHold, TypesHoldIn, TypesHoldInElse, TypesHoldInList, TypesHoldInStatements, Within, WithinMain, WithinProcedure}
-use Rattle.treecode.specs.declared.expression.ExpressionNumber.{ExpressionNumber}
-use Rattle.treecode.specs.declared.lists.Range.{Range}
+use Rattle.measure_laws.proofs.Prelude.{◌≡◌, ℕ, ◌+◌, ◌*◌, ◌≤◌, Bool, true, false, IfSome, List, [], ◌∷◌, length, slice_get, Option, Some, None, refl, sym, subst, ◌∙◌, arith, same_Some, Hlt, Item, Jump, ScalarType, Byte, Address, height_of, height_of_else, height_of_list, height_of_optional, height_of_statement, height_of_statements, type_of, FRAME_LIMIT, TypedElse, TypedExpression, TypedList, TypedModule, TypedStatement, TypedStatements, IsReturned, TypesHold, TypesHoldIn, TypesHoldInElse, TypesHoldInList, TypesHoldInStatements, Within, WithinMain, WithinProcedure, ExpressionNumber, Range, StatementNumber, AreMoreStatements, AreNoStatements, AreStatements, IsAssignment, IsCall, IsCase, IsDo, IsElse, IsExpressionIn, IsGoto, IsHalt, IsIf, IsIterate, IsLabel, IsList, IsListOf, IsMove, IsNoElse, IsNoValue, IsNull, IsOptional, IsReturn, IsSomeElse, IsSomeValue, IsStatement, IsStatementForm, IsStatementNode, IsWhile, nodes_of, Facts, knowing, Body, Reaches, body_label, jump, mark, Here, AreCarriedOut, IsCarriedOut, StatementPlanned, site_of, return_of_steps, returned_value_steps, statement_steps, PushesAtMost, ListRuns, StatementRuns, StepsRun, IsOperand, Source}
 use Rattle.treecode.specs.declared.statement.Statement.{Statement}
-use Rattle.treecode.specs.declared.statement.StatementNumber.{StatementNumber}
-use Rattle.treecode.specs.Lowered.{AreMoreStatements, AreNoStatements, AreStatements, IsAssignment, IsCall, IsCase, IsDo, IsElse, IsExpressionIn, IsGoto, IsHalt, IsIf, IsIterate, IsLabel, IsList, IsListOf, IsMove, IsNoElse, IsNoValue, IsNull, IsOptional, IsReturn, IsSomeElse, IsSomeValue, IsStatement, IsStatementForm, IsStatementNode, IsWhile}
-use Rattle.treecode.specs.Nodes.{nodes_of}
-use Rattle.steps8080.specs.declared.facts.Facts.{Facts}
 use Rattle.steps8080.specs.declared.step.Step.TheVariants as steps
-use Rattle.exprgen8080.specs.Emission.{knowing}
-use Rattle.statements8080.specs.declared.body.Body.{Body}
-use Rattle.statements8080.specs.declared.plan.Planned.TheVariants.{Reaches}
-use Rattle.statements8080.specs.Bodies.{body_label}
-use Rattle.statements8080.specs.Plans.{jump, mark}
-use Rattle.codegen8080.specs.declared.meeting.Here.{Here}
-use Rattle.codegen8080.specs.Generated.{AreCarriedOut, IsCarriedOut, StatementPlanned, site_of}
-use Rattle.codegen8080.specs.Statements.{return_of_steps, returned_value_steps, statement_steps}
-use Rattle.measure_laws.specs.Heights.{PushesAtMost}
-use Rattle.measure_laws.specs.internal.Bodies.{ListRuns, StatementRuns, StepsRun}
-use Rattle.measure_laws.specs.internal.Going.{IsOperand, Source}
 use Rattle.measure_laws.proofs.Heights.Assignments.{assignment_runs}
 use Rattle.measure_laws.proofs.Heights.Branches.{AnyRuns, if_runs, while_runs}
 use Rattle.measure_laws.proofs.Heights.Cases.{case_runs}

@@ -1,25 +1,6 @@
 -- The parts of the tree of a number need no more bytes than it does.
-use Rattle.std.proofs.Common.{◌≡◌, ℕ, ◌+◌, ◌-◌, ◌*◌, ◌≤◌, List, length, Option, Some, None, IsSomeAnd, slice_get, refl, sym, ap, subst, ◌∙◌, arith}
-use Rattle.std.proofs.lemmas.Option.{same_Some}
-use Rattle.trees.specs.declared.declaration.ScalarType.{ScalarType}
-use Rattle.typed_trees.specs.Charge.{count_of_arguments, height_of, height_of_arguments, height_of_reference, height_of_subscript}
-use Rattle.typed_trees.specs.ExpressionTypes.{type_of}
-use Rattle.typed_trees.specs.TypedTrees.{MoreArguments, NoArguments, SentTo, StoredIn, Subscript, TypedArguments, TypedExpression, TypedModule, TypedProcedure, TypedReference, TypedTarget}
-use Rattle.typed_trees.specs.WellTyped.{Takes, TypesHold, TypesHoldInArguments, TypesHoldInReference, TypesHoldInSubscript, TypesHoldInTarget, Within, types_of}
-use Rattle.layout.specs.Storage.{Storage}
-use Rattle.treecode.specs.declared.expression.Expression.{Expression}
-use Rattle.treecode.specs.declared.expression.ExpressionForm.{ExpressionForm}
-use Rattle.treecode.specs.declared.expression.ExpressionNumber.{ExpressionNumber}
-use Rattle.treecode.specs.declared.lists.Range.{Range}
-use Rattle.treecode.specs.declared.module.TreeModule.{TreeModule}
-use Rattle.treecode.specs.declared.reference.Reference.{Reference}
-use Rattle.treecode.specs.declared.reference.Subscript.{Subscript as IndexNode}
-use Rattle.treecode.specs.Lowered.{AreArguments, AreMore, AreNone, IsAbsent, IsBinary, IsCallOf, IsConstantList, IsConversion, IsEmbedded, IsExpression, IsForm, IsFunction, IsIndex, IsInput, IsLocation, IsNode, IsNumber, IsPart, IsReference, IsShift, IsSubscript, IsUnary, IsValue}
-use Rattle.treecode.specs.Nodes.{Nodes, nodes_of}
-use Rattle.steps8080.specs.declared.sites.site.Site.{Site}
-use Rattle.steps8080.specs.Site.{expression}
-use Rattle.measure_laws.specs.Heights.{taken_by}
-use Rattle.measure_laws.specs.internal.Going.{AimHolds, AreGiven, HasParts, IsBelow, IsOperand, Source}
+use Rattle.measure_laws.proofs.Prelude.{◌≡◌, ℕ, ◌+◌, ◌-◌, ◌*◌, ◌≤◌, List, length, Option, Some, None, IsSomeAnd, slice_get, refl, sym, ap, subst, ◌∙◌, arith, same_Some, ScalarType, count_of_arguments, height_of, height_of_arguments, height_of_reference, height_of_subscript, type_of, MoreArguments, NoArguments, SentTo, StoredIn, TypedArguments, TypedExpression, TypedModule, TypedProcedure, TypedReference, TypedTarget, Takes, TypesHold, TypesHoldInArguments, TypesHoldInReference, TypesHoldInSubscript, TypesHoldInTarget, Within, types_of, Storage, Expression, ExpressionForm, ExpressionNumber, Range, TreeModule, Reference, IndexNode, AreArguments, AreMore, AreNone, IsAbsent, IsBinary, IsCallOf, IsConstantList, IsConversion, IsEmbedded, IsExpression, IsForm, IsFunction, IsIndex, IsInput, IsLocation, IsNode, IsNumber, IsPart, IsReference, IsShift, IsSubscript, IsUnary, IsValue, Nodes, nodes_of, Site, expression, taken_by, AimHolds, AreGiven, HasParts, IsBelow, IsOperand, Source}
+use Rattle.typed_trees.specs.TypedTrees.{Subscript}
 
 -- as many arguments as there are trees, and as many types
 pub count_is :

@@ -1,27 +1,8 @@
 -- Values of expressions in A and in HL.
-use Rattle.std.proofs.Common.{ℕ, true, refl}
-use Rattle.trees.specs.declared.declaration.ScalarType.{ScalarType}
+use Rattle.measure_laws.proofs.Prelude.{ℕ, true, refl, ScalarType, Not, Negate, Low, High, Double, Expression, ExpressionForm, ExpressionNumber, Range, Static, Place, Reference, place_number, source_of, low, Site, expression, scalar, known, memory, byte_form_steps, byte_function_steps, byte_of_two_steps, byte_steps, byte_unary_steps, called_byte_steps, known_byte_steps, low_of_value_steps, computed_word_steps, extended_byte_steps, word_form_steps, word_function_steps, word_of_two_steps, word_steps, byte_in_memory_steps, extended_byte_in_memory_steps, AreGiven, HasParts, IsOperand, IsPlaced, Runs, Source}
 use Rattle.trees.specs.declared.declaration.ScalarType.TheVariants as scalars
-use Rattle.trees.specs.declared.expression.UnaryOperator.TheVariants.{Not, Negate}
-use Rattle.typed_trees.specs.declared.parts.UnaryFunction.TheVariants.{Low, High, Double}
-use Rattle.treecode.specs.declared.expression.Expression.{Expression}
-use Rattle.treecode.specs.declared.expression.ExpressionForm.{ExpressionForm}
 use Rattle.treecode.specs.declared.expression.ExpressionForm.TheVariants as forms
-use Rattle.treecode.specs.declared.expression.ExpressionNumber.{ExpressionNumber}
-use Rattle.treecode.specs.declared.lists.Range.{Range}
-use Rattle.treecode.specs.declared.place.Location.TheVariants.{Static}
-use Rattle.treecode.specs.declared.place.Place.{Place}
-use Rattle.treecode.specs.declared.reference.Reference.{Reference}
-use Rattle.treecode.specs.Queries.{place_number, source as source_of}
-use Rattle.steps8080.specs.Instructions.{low}
-use Rattle.steps8080.specs.declared.sites.site.Site.{Site}
-use Rattle.steps8080.specs.Site.{expression, scalar}
-use Rattle.steps8080.specs.Queries.{known, memory}
-use Rattle.exprgen8080.specs.Bytes.{byte_form_steps, byte_function_steps, byte_of_two_steps, byte_steps, byte_unary_steps, called_byte_steps, known_byte_steps, low_of_value_steps}
-use Rattle.exprgen8080.specs.Words.{computed_word_steps, extended_byte_steps, word_form_steps, word_function_steps, word_of_two_steps, word_steps}
-use Rattle.operands8080.specs.Loads.{byte_in_memory_steps, extended_byte_in_memory_steps}
 use Rattle.measure_laws.proofs.Sizes.Found.{of_found}
-use Rattle.measure_laws.specs.internal.Going.{AreGiven, HasParts, IsOperand, IsPlaced, Runs, Source}
 use Rattle.measure_laws.proofs.Heights.Addresses.{byte_in_memory_runs, extended_byte_in_memory_runs, location_address_runs, word_in_memory_runs}
 use Rattle.measure_laws.proofs.Heights.Bytes.{byte_binary_runs, byte_number_runs, byte_shift_runs, high_byte_runs, low_of_word_runs}
 use Rattle.measure_laws.proofs.Heights.Calls.{call_runs, embedded_runs}

@@ -1,40 +1,14 @@
 -- Relations of ADDRESSes.
-use Rattle.std.proofs.Common.{◌≡◌, ℕ, ◌%◌, ◌/◌, ◌==◌, nat_lt, Bool, true, false, ◌&&◌, ◌||◌, IfSome, [], ◌∷◌, ◌++◌, Option, Some, None, if◌then◌else◌, refl}
-use Rattle.isa8080.specs.declared.instr.Instr.TheVariants.{Inx}
-use Rattle.isa8080.specs.declared.instr.Pair.TheVariants.{Hl}
+use Rattle.measure_laws.proofs.Prelude.{◌≡◌, ℕ, ◌%◌, ◌/◌, ◌==◌, nat_lt, Bool, true, false, ◌&&◌, ◌||◌, IfSome, [], ◌∷◌, ◌++◌, Option, Some, None, if◌then◌else◌, refl, Inx, Hl, Expression, ExpressionForm, ExpressionNumber, Place, Reference, Comparison, NumberQuestion, Never, Below, Is, Question, LeftBelow, RightBelow, Equal, Site, expression, direct, may_exchange, fits_byte, high_byte_in_memory, is_word_in_hl, negated, pair_order, Setting, Apart, WordRegisters, load, A, number_in_a_steps, apart_of, high_steps, in_hl, left_apart, load_a_steps, low_steps, masked, masked_form, masked_steps, operand_apart, other_word, place_apart, right_apart, taken_steps, with_place_steps, word_below_steps, word_is_steps, word_is_zero_steps, word_number_steps, word_question_steps, word_relation_steps, word_taken_from, words_steps, TreeModule, HasParts, IsBelow, IsPlaced, Runs, Source}
 use Rattle.trees.specs.declared.declaration.ScalarType.TheVariants as scalars
 use Rattle.trees.specs.declared.expression.BinaryOperator.TheVariants as operators
-use Rattle.treecode.specs.declared.expression.Expression.{Expression}
-use Rattle.treecode.specs.declared.expression.ExpressionForm.{ExpressionForm}
 use Rattle.treecode.specs.declared.expression.ExpressionForm.TheVariants as forms
-use Rattle.treecode.specs.declared.expression.ExpressionNumber.{ExpressionNumber}
-use Rattle.treecode.specs.declared.place.Place.{Place}
-use Rattle.treecode.specs.declared.reference.Reference.{Reference}
-use Rattle.steps8080.specs.declared.sites.questions.Comparison.{Comparison}
-use Rattle.steps8080.specs.declared.sites.questions.NumberQuestion.{NumberQuestion}
-use Rattle.steps8080.specs.declared.sites.questions.NumberQuestion.TheVariants.{Never, Below, Is}
-use Rattle.steps8080.specs.declared.sites.questions.Question.{Question}
-use Rattle.steps8080.specs.declared.sites.questions.Question.TheVariants.{LeftBelow, RightBelow, Equal}
-use Rattle.steps8080.specs.declared.sites.site.Site.{Site}
-use Rattle.steps8080.specs.Site.{expression}
 use Rattle.steps8080.specs.Queries as queries
-use Rattle.steps8080.specs.Queries.{direct, may_exchange}
-use Rattle.steps8080.specs.Widths.{fits_byte, high_byte_in_memory, is_word_in_hl}
-use Rattle.operands8080.specs.Addresses.{negated}
-use Rattle.operands8080.specs.Pairs.{pair_order}
-use Rattle.operands8080.specs.declared.answers.Setting.{Setting}
-use Rattle.operands8080.specs.declared.word_relations.Apart.{Apart}
-use Rattle.operands8080.specs.declared.word_relations.Word.{Word as WordRegisters}
 use Rattle.steps8080.specs.declared.step.Step.TheVariants as steps
 use Rattle.steps8080.specs.declared.step.Task.TheVariants as tasks
-use Rattle.steps8080.specs.Instructions.{load}
 use Rattle.steps8080.specs.Step.{part}
-use Rattle.isa8080.specs.declared.instr.Register.TheVariants.{A}
-use Rattle.operands8080.specs.ByteRelations.{number_in_a_steps}
-use Rattle.operands8080.specs.WordRelations.{apart_of, difference_steps, high_byte_steps, high_steps, in_hl, left_apart, load_a_steps, low_steps, masked, masked_form, masked_steps, operand_apart, other_word, place_apart, right_apart, taken_steps, with_pair_steps, with_place_steps, word_below_steps, word_is_steps, word_is_zero_steps, word_number_steps, word_question_steps, word_relation_steps, word_taken_from, words_steps}
-use Rattle.treecode.specs.declared.module.TreeModule.{TreeModule}
+use Rattle.operands8080.specs.WordRelations.{difference_steps, high_byte_steps, with_pair_steps}
 use Rattle.measure_laws.proofs.Sizes.Found.{of_found}
-use Rattle.measure_laws.specs.internal.Going.{HasParts, IsBelow, IsPlaced, Runs, Source}
 use Rattle.measure_laws.proofs.Heights.ByteRelations.{byte_number_runs, byte_relation_runs, number_in_a_runs}
 use Rattle.measure_laws.proofs.Heights.Found.{high_is_in_memory}
 use Rattle.measure_laws.proofs.Heights.Joining.{after_part, after_plain, by_finding, by_test, joined, repeated, runs, weak}

@@ -1,26 +1,10 @@
 -- What is written for steps that find room finds room, and so does what is written for a part.
-use Rattle.std.proofs.Common.{ℕ, ◌+◌, ◌-◌, Bool, true, false, List, [], ◌∷◌, ◌++◌, if◌then◌else◌, refl, sym, subst}
-use Rattle.isa8080.specs.declared.instr.Instr.{Instr}
+use Rattle.measure_laws.proofs.Prelude.{ℕ, ◌+◌, ◌-◌, Bool, true, false, List, [], ◌∷◌, ◌++◌, if◌then◌else◌, refl, sym, subst, Instr, Sp, Item, WordForm, TreeModule, Place, Facts, LabelNumber, Part, Step, Task, jump_item, word_item, Site, AreWritten, CallWritten, ChangeWritten, HoldsWritten, IsWritten, JumpWritten, MarkWritten, NoneWritten, PartWritten, PlainWritten, RoutineWritten, TestWritten, WordWritten, knowing, test_of_a, steps_of, task_steps, BranchThere, ByteDropped, CallThere, FindsRoom, HaltThere, InstructionThere, JumpThere, LabelThere, NothingThere, PopThere, PushThere, ReturnThere, RoutineThere, TableJumpThere, WordThere, Go, GoesOn, GoesOnWithLabel, GoesOnWithWord, IsOfTree, Runs, Source}
 use Rattle.isa8080.specs.declared.instr.Instr.TheVariants as instructions
-use Rattle.isa8080.specs.declared.instr.Pair.TheVariants.{Sp}
-use Rattle.asm8080.specs.declared.item.Item.{Item}
 use Rattle.asm8080.specs.declared.item.Item.TheVariants as items
-use Rattle.asm8080.specs.declared.item.WordForm.{WordForm}
 use Rattle.asm8080.specs.declared.item.WordForm.TheVariants as word_forms
-use Rattle.treecode.specs.declared.module.TreeModule.{TreeModule}
-use Rattle.treecode.specs.declared.place.Place.{Place}
-use Rattle.steps8080.specs.declared.facts.Facts.{Facts}
-use Rattle.steps8080.specs.declared.step.LabelNumber.{LabelNumber}
-use Rattle.steps8080.specs.declared.step.Part.{Part}
-use Rattle.steps8080.specs.declared.step.Step.{Step}
-use Rattle.steps8080.specs.declared.step.Task.{Task}
 use Rattle.steps8080.specs.declared.step.Task.TheVariants as tasks
-use Rattle.steps8080.specs.Writer.{jump_item, word_item}
-use Rattle.steps8080.specs.declared.sites.site.Site.{Site}
-use Rattle.exprgen8080.specs.Emission.{AreWritten, CallWritten, ChangeWritten, HoldsWritten, IsWritten, JumpWritten, MarkWritten, NoneWritten, PartWritten, PlainWritten, Planned, RoutineWritten, TestWritten, WordWritten, knowing, test_of_a}
-use Rattle.exprgen8080.specs.Forms.{steps_of, task_steps}
-use Rattle.measure_laws.specs.Heights.{BranchThere, ByteDropped, CallThere, FindsRoom, HaltThere, InstructionThere, JumpThere, LabelThere, NothingThere, PopThere, PushThere, ReturnThere, RoutineThere, TableJumpThere, WordThere}
-use Rattle.measure_laws.specs.internal.Going.{Go, GoesOn, GoesOnWithLabel, GoesOnWithWord, IsOfTree, Runs, Source}
+use Rattle.exprgen8080.specs.Emission.{Planned}
 use Rattle.measure_laws.proofs.Heights.Addresses.{address_runs}
 use Rattle.measure_laws.proofs.Heights.Calls.{call_runs, effects_run}
 use Rattle.measure_laws.proofs.Heights.Relations.{branch_runs}

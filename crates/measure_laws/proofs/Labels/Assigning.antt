@@ -1,34 +1,8 @@
 -- Assignments, CALL MOVE, returns and the tests of loops: which labels they go to.
-use Rattle.std.proofs.Common.{ℕ, ◌+◌, ◌-◌, ◌%◌, ◌/◌, min, nat_eq, nat_le, Bool, true, false, if◌then◌else◌, [], ◌∷◌, Option, Some, None, is_some}
-use Rattle.isa8080.specs.declared.instr.Instr.{Instr}
-use Rattle.isa8080.specs.declared.instr.Instr.TheVariants.{Dad, Inx, Lxi, Pop, Sphl}
-use Rattle.isa8080.specs.declared.instr.Pair.TheVariants.{Hl, Sp}
-use Rattle.isa8080.specs.declared.instr.StackPair.TheVariants.{StackBc}
-use Rattle.trees.specs.declared.declaration.ScalarType.{ScalarType}
-use Rattle.trees.specs.declared.declaration.ScalarType.TheVariants.{Byte, Address}
-use Rattle.treecode.specs.declared.expression.ExpressionNumber.{ExpressionNumber}
-use Rattle.treecode.specs.declared.lists.Range.{Range}
-use Rattle.treecode.specs.declared.procedure.ProcedureKind.{ProcedureKind}
+use Rattle.measure_laws.proofs.Prelude.{ℕ, ◌+◌, ◌-◌, ◌%◌, ◌/◌, min, nat_eq, nat_le, Bool, true, false, if◌then◌else◌, [], ◌∷◌, Option, Some, None, is_some, Instr, Dad, Inx, Lxi, Pop, Sphl, Hl, Sp, StackBc, ScalarType, Byte, Address, ExpressionNumber, Range, ProcedureKind, Reference, Target, Stored, Sent, StatementNumber, source, target_at, LabelNumber, Site, scalar, keeps, known, location_of, number, Body, Test, Counter, assignment_steps, count_of, each_at, each_steps, is_address_first, other_byte_steps, other_word_steps, several_by, single_steps, store_at, takes_byte, takes_word, any_target, types_by, together_steps, value_steps, is_near, ends_steps, move_steps, less_steps, test_steps, drop_steps, end_steps, kept_steps, pops_steps, return_of_frame_steps, return_over_any_steps, return_over_steps, return_steps, return_steps_by, zero_result_steps, return_of_steps, returned_value_steps}
 use Rattle.treecode.specs.declared.procedure.ProcedureKind.TheVariants as kinds
-use Rattle.treecode.specs.declared.reference.Reference.{Reference}
-use Rattle.treecode.specs.declared.reference.Target.{Target}
-use Rattle.treecode.specs.declared.reference.Target.TheVariants.{Stored, Sent}
-use Rattle.treecode.specs.declared.statement.StatementNumber.{StatementNumber}
-use Rattle.treecode.specs.Queries.{source, target as target_at}
-use Rattle.steps8080.specs.declared.step.LabelNumber.{LabelNumber}
-use Rattle.steps8080.specs.declared.sites.site.Site.{Site}
-use Rattle.steps8080.specs.Site.{scalar}
-use Rattle.steps8080.specs.Queries.{keeps, known, location_of, number}
-use Rattle.statements8080.specs.declared.body.Body.{Body}
-use Rattle.statements8080.specs.declared.bound.Test.{Test}
 use Rattle.statements8080.specs.declared.bound.Test.TheVariants as tests
-use Rattle.statements8080.specs.declared.iteration.Counter.{Counter}
-use Rattle.statements8080.specs.Assignments.{assignment_steps, byte_steps, count_of, each_at, each_steps, is_address_first, other_byte_steps, other_word_steps, several_by, single_steps, store_at, takes_byte, takes_word, any_target, types_by, together_steps, value_steps, word_steps}
-use Rattle.statements8080.specs.Bodies.{is_near}
-use Rattle.statements8080.specs.Moves.{ends_steps, move_steps}
-use Rattle.statements8080.specs.Tests.{less_steps, test_steps}
-use Rattle.codegen8080.specs.Procedures.{drop_steps, end_steps, kept_steps, pops_steps, return_of_frame_steps, return_over_any_steps, return_over_steps, return_steps, return_steps_by, zero_result_steps}
-use Rattle.codegen8080.specs.Statements.{return_of_steps, returned_value_steps}
+use Rattle.statements8080.specs.Assignments.{byte_steps, word_steps}
 use Rattle.measure_laws.proofs.Labels.Planning.{PlanGo, after_load, after_plain, after_word, either_go, each_go, finding_go, planned_go, plans_then, repeated_go}
 
 module _ {ok : ℕ → Type 0} {statement : StatementNumber → Type 0} {list : Range → Type 0} where

@@ -1,26 +1,9 @@
 -- Jumps by conditions go to their label, or to labels that they bind.
-use Rattle.std.proofs.Common.{inl, refl, ℕ, Bool, true, false, if◌then◌else◌, [], ◌∷◌, ◌++◌, Option, Some, None}
-use Rattle.isa8080.specs.declared.instr.Condition.TheVariants.{NotZero, Zero}
+use Rattle.measure_laws.proofs.Prelude.{inl, refl, ℕ, Bool, true, false, if◌then◌else◌, [], ◌∷◌, ◌++◌, Option, Some, None, NotZero, Zero, ExpressionNumber, LabelNumber, label_of, Comparison, Relation, Site, agree, relation_of, Junction, Shape, Known, SameAs, Opposite, Whatever, Joined, Other, Outcome, Words, branch_part, branch_setting, branch_steps, by_bit_steps, equality_steps, known_branch_steps, outcome_branch_steps, relation_branch_steps, shape_of, shape_steps, relation_outcome, relation_steps, equality_of_words, high_difference_steps, low_difference_steps, words_of, words_steps, StepsBind}
 use Rattle.asm8080.specs.declared.item.WordForm.TheVariants as forms
-use Rattle.treecode.specs.declared.expression.ExpressionNumber.{ExpressionNumber}
-use Rattle.steps8080.specs.declared.step.LabelNumber.{LabelNumber}
 use Rattle.steps8080.specs.declared.step.Step.TheVariants as steps
-use Rattle.steps8080.specs.Step.{label_of}
-use Rattle.steps8080.specs.declared.sites.questions.Comparison.{Comparison}
-use Rattle.steps8080.specs.declared.sites.questions.Relation.{Relation}
-use Rattle.steps8080.specs.declared.sites.site.Site.{Site}
-use Rattle.steps8080.specs.Questions.{agree, relation_of}
 use Rattle.operands8080.specs.declared.branches.Branch.{Branch}
-use Rattle.operands8080.specs.declared.branches.Junction.{Junction}
-use Rattle.operands8080.specs.declared.branches.Shape.{Shape}
-use Rattle.operands8080.specs.declared.branches.Shape.TheVariants.{Known, SameAs, Opposite, Whatever, Joined, Other}
-use Rattle.operands8080.specs.declared.relations.Outcome.{Outcome}
 use Rattle.operands8080.specs.declared.relations.Outcome.TheVariants as outcomes
-use Rattle.operands8080.specs.declared.word_relations.Words.{Words}
-use Rattle.operands8080.specs.Branches.{branch_part, branch_setting, branch_steps, by_bit_steps, equality_steps, known_branch_steps, outcome_branch_steps, relation_branch_steps, shape_of, shape_steps}
-use Rattle.operands8080.specs.Relations.{relation_outcome, relation_steps}
-use Rattle.operands8080.specs.WordRelations.{equality_of_words, high_difference_steps, low_difference_steps, words_of, words_steps}
-use Rattle.measure_laws.specs.internal.Steps.{StepsBind}
 use Rattle.measure_laws.proofs.Labels.Joining.{joined}
 use Rattle.measure_laws.proofs.Labels.Going.{Go, bound_later, either_go, free_go, go, then_go}
 use Rattle.measure_laws.proofs.Labels.Relations.{high_difference_free, low_difference_free, relation_free, words_free}

@@ -1,30 +1,8 @@
 -- The low bytes of values of operators and shifts have no labels.
-use Rattle.std.proofs.Common.{ℕ, ◌+◌, ◌-◌, ◌%◌, ◌==◌, nat_le, true, ◌&&◌, ◌||◌, [], ◌∷◌, ◌++◌, is_some}
-use Rattle.isa8080.specs.declared.instr.Instr.TheVariants.{Dad, Rlc, Rrc}
-use Rattle.isa8080.specs.declared.instr.Operation.{Operation}
-use Rattle.isa8080.specs.declared.instr.Operation.TheVariants.{Add, Subtract, And, ExclusiveOr, Or}
-use Rattle.isa8080.specs.declared.instr.Pair.TheVariants.{Hl}
-use Rattle.isa8080.specs.declared.instr.Register.TheVariants.{A}
-use Rattle.trees.specs.declared.declaration.ScalarType.{ScalarType}
+use Rattle.measure_laws.proofs.Prelude.{ℕ, ◌+◌, ◌-◌, ◌%◌, ◌==◌, nat_le, true, ◌&&◌, ◌||◌, [], ◌∷◌, ◌++◌, is_some, Dad, Rlc, Rrc, Operation, Add, Subtract, And, ExclusiveOr, Or, Hl, A, ScalarType, BinaryOperator, ShiftFunction, ShiftLeft, ShiftRight, RotateLeft, RotateRight, ExpressionNumber, high, low, with_register, Site, scalar, is_free, known, may_exchange, number_of, fits_byte, high_byte_in_memory, low_number, operand_in_memory, power, ByteForm, RightInMemory, LeftInMemory, LeftFree, RightFree, Pushed, Operands, Shifted, byte_number_steps, high_byte_steps, low_of_word_steps, by_number_steps, byte_routine, byte_shift_steps, byte_shifted_right_steps, count_in_memory_steps, low_byte_shifted_right_steps, middle_byte_steps, operands_steps, right_shift_steps, rotation_steps, shifted_left_steps, turned_right_steps, zero_steps, added_steps, byte_binary_steps, byte_operation_steps, commutes, form_of, from_number_steps, immediate_steps, in_form_steps, number_of_two, product_byte_steps, quotient_byte_steps, remainder_byte_steps, with_e_steps, with_memory_steps, with_number_steps, with_stack_steps}
 use Rattle.trees.specs.declared.declaration.ScalarType.TheVariants as scalars
-use Rattle.trees.specs.declared.expression.BinaryOperator.{BinaryOperator}
 use Rattle.trees.specs.declared.expression.BinaryOperator.TheVariants as operators
-use Rattle.typed_trees.specs.declared.parts.ShiftFunction.{ShiftFunction}
-use Rattle.typed_trees.specs.declared.parts.ShiftFunction.TheVariants.{ShiftLeft, ShiftRight, RotateLeft, RotateRight}
-use Rattle.treecode.specs.declared.expression.ExpressionNumber.{ExpressionNumber}
 use Rattle.steps8080.specs.declared.step.Step.TheVariants as steps
-use Rattle.steps8080.specs.Instructions.{high, low, with_register}
-use Rattle.steps8080.specs.declared.sites.site.Site.{Site}
-use Rattle.steps8080.specs.Site.{scalar}
-use Rattle.steps8080.specs.Queries.{is_free, known, may_exchange, number as number_of}
-use Rattle.steps8080.specs.Widths.{fits_byte, high_byte_in_memory, low_number, operand_in_memory, power}
-use Rattle.exprgen8080.specs.declared.byte_operators.ByteForm.{ByteForm}
-use Rattle.exprgen8080.specs.declared.byte_operators.ByteForm.TheVariants.{RightInMemory, LeftInMemory, LeftFree, RightFree, Pushed}
-use Rattle.exprgen8080.specs.declared.byte_operators.Operands.{Operands}
-use Rattle.exprgen8080.specs.declared.byte_shifts.Shifted.{Shifted}
-use Rattle.exprgen8080.specs.Halves.{byte_number_steps, high_byte_steps, low_of_word_steps}
-use Rattle.exprgen8080.specs.ByteShifts.{by_number_steps, byte_routine, byte_shift_steps, byte_shifted_right_steps, count_in_memory_steps, low_byte_shifted_right_steps, middle_byte_steps, operands_steps, right_shift_steps, rotation_steps, shifted_left_steps, turned_right_steps, zero_steps}
-use Rattle.exprgen8080.specs.ByteOperators.{added_steps, byte_binary_steps, byte_operation_steps, commutes, form_of, from_number_steps, immediate_steps, in_form_steps, number_of_two, product_byte_steps, quotient_byte_steps, remainder_byte_steps, with_e_steps, with_memory_steps, with_number_steps, with_stack_steps}
 use Rattle.measure_laws.proofs.Labels.Joining.{AreFree, after_byte, after_effects, after_plain, after_word, by_finding, by_test, free, joined, repeated}
 use Rattle.measure_laws.proofs.Labels.Operands.{byte_in_memory_free, byte_product_free, pair_free}
 use Rattle.measure_laws.proofs.Labels.Relations.{relation_value_free}

@@ -1,26 +1,8 @@
 -- What is written for planned steps goes to labels of some kind alone, where the steps do.
-use Rattle.std.proofs.Common.{◌≡◌, inl, inr, ℕ, Bool, true, false, List, [], ◌∷◌, ◌++◌, Option}
-use Rattle.asm8080.specs.declared.item.Item.{Item}
-use Rattle.treecode.specs.declared.place.Location.{Location}
-use Rattle.treecode.specs.declared.place.Location.TheVariants.{Static, Frame}
-use Rattle.treecode.specs.declared.reference.Reference.{Reference}
-use Rattle.steps8080.specs.declared.facts.Facts.{Facts}
-use Rattle.steps8080.specs.declared.step.LabelNumber.{LabelNumber}
+use Rattle.measure_laws.proofs.Prelude.{◌≡◌, inl, inr, ℕ, Bool, true, false, List, [], ◌∷◌, ◌++◌, Option, Item, Location, Static, Frame, Reference, Facts, LabelNumber, Task, is_at, Site, location_of, knowing, Body, Planned, Here, AreCarriedOut, HoldsNoStatement, ListCarriedOut, NoneCarriedOut, StatementCarriedOut, StepCarriedOut, byte_at_steps, carried_steps, jump_on_steps, load_byte_steps, load_word_steps, site_of, word_at_steps, ItemsBind, ItemsGo, ListGoes, PlanBinds, PlanGoes, PlannedBinds, StatementGoes, TaskThen, StepsBind, StepsGo, TaskGoes}
 use Rattle.steps8080.specs.declared.step.Step.TheVariants as steps
-use Rattle.steps8080.specs.declared.step.Task.{Task}
 use Rattle.steps8080.specs.declared.step.Task.TheVariants as tasks
-use Rattle.steps8080.specs.Facts.{is_at}
-use Rattle.steps8080.specs.declared.sites.site.Site.{Site}
-use Rattle.steps8080.specs.Queries.{location_of}
-use Rattle.exprgen8080.specs.Emission.{knowing}
-use Rattle.statements8080.specs.declared.body.Body.{Body}
-use Rattle.statements8080.specs.declared.plan.Planned.{Planned}
 use Rattle.statements8080.specs.declared.plan.Planned.TheVariants as planned
-use Rattle.codegen8080.specs.declared.meeting.Here.{Here}
-use Rattle.codegen8080.specs.Generated.{AreCarriedOut, HoldsNoStatement, ListCarriedOut, NoneCarriedOut, StatementCarriedOut, StepCarriedOut, byte_at_steps, carried_steps, jump_on_steps, load_byte_steps, load_word_steps, site_of, word_at_steps}
-use Rattle.measure_laws.specs.internal.Items.{ItemsBind, ItemsGo}
-use Rattle.measure_laws.specs.internal.Plans.{ListGoes, PlanBinds, PlanGoes, PlannedBinds, StatementGoes, TaskThen}
-use Rattle.measure_laws.specs.internal.Steps.{StepsBind, StepsGo, TaskGoes}
 use Rattle.measure_laws.proofs.Labels.Joining.{AreFree, by_finding, by_test, free, joined}
 use Rattle.measure_laws.proofs.Labels.Going.{free_go}
 use Rattle.measure_laws.proofs.Labels.Written.{Knows, bound_after, bound_first, items_both, steps_bound, steps_written}

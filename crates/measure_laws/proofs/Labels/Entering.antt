@@ -1,23 +1,7 @@
 -- How procedures begin: they go to labels that they bind.
-use Rattle.std.proofs.Common.{inl, inr, refl, ℕ, zero, suc, ◌-◌, ◌%◌, ◌/◌, nat_eq, nat_le, Bool, true, false, if◌then◌else◌, List, [], ◌∷◌, ◌++◌, length, replicate, take}
-use Rattle.std.specs.Prelude.{slice_get}
-use Rattle.isa8080.specs.declared.instr.Instr.TheVariants.{Lxi, Push}
-use Rattle.isa8080.specs.declared.instr.Pair.TheVariants.{De}
-use Rattle.isa8080.specs.declared.instr.StackPair.TheVariants.{StackDe}
-use Rattle.trees.specs.declared.declaration.ScalarType.{ScalarType}
-use Rattle.trees.specs.declared.declaration.ScalarType.TheVariants.{Byte, Address}
-use Rattle.treecode.specs.declared.lists.Range.{Range}
-use Rattle.treecode.specs.declared.place.Location.{Location}
-use Rattle.treecode.specs.declared.procedure.Parameter.{Parameter}
-use Rattle.treecode.specs.declared.procedure.ProcedureKind.{ProcedureKind}
+use Rattle.measure_laws.proofs.Prelude.{inl, inr, refl, ℕ, zero, suc, ◌-◌, ◌%◌, ◌/◌, nat_eq, nat_le, Bool, true, false, if◌then◌else◌, List, [], ◌∷◌, ◌++◌, length, replicate, take, slice_get, Lxi, Push, De, StackDe, ScalarType, Byte, Address, Range, Location, Parameter, ProcedureKind, StatementNumber, LabelNumber, label_of, Body, holds, plain, argument_step, below_return_steps, entry_steps, entry_steps_by, exchanged_steps, frame_entry_steps, is_address, last_argument_facts, odd_byte_steps, popped_at, popped_from, push_loop_steps, pushed_arguments_steps, pushes_steps, static_entry_steps, store_argument, stores_steps, zeros_steps, PlanBinds}
 use Rattle.treecode.specs.declared.procedure.ProcedureKind.TheVariants as kinds
-use Rattle.treecode.specs.declared.statement.StatementNumber.{StatementNumber}
-use Rattle.steps8080.specs.declared.step.LabelNumber.{LabelNumber}
-use Rattle.steps8080.specs.Step.{label_of}
-use Rattle.statements8080.specs.declared.body.Body.{Body}
-use Rattle.statements8080.specs.Plans.{holds, plain}
-use Rattle.codegen8080.specs.Procedures.{argument_step, below_return_steps, entry_steps, entry_steps_by, exchanged_steps, frame_entry_steps, is_address, last_argument_facts, last_argument_steps, odd_byte_steps, popped_at, popped_from, push_loop_steps, pushed_arguments_steps, pushes_steps, static_entry_steps, store_argument, stores_steps, zeros_steps}
-use Rattle.measure_laws.specs.internal.Plans.{PlanBinds}
+use Rattle.codegen8080.specs.Procedures.{last_argument_steps}
 use Rattle.measure_laws.proofs.Labels.Planning.{PlanGo, after_plain, either_go, finding_go, plan_first, plan_later, planned_go, plans_then, repeated_go}
 
 -- the loop that pushes zeros

@@ -1,10 +1,7 @@
 -- Steps that go to labels of some kind alone, one after another.
-use Rattle.std.proofs.Common.{inr, ℕ, Bool, true, false, if◌then◌else◌, List, [], ◌∷◌, ◌++◌}
-use Rattle.steps8080.specs.declared.step.Step.{Step}
+use Rattle.measure_laws.proofs.Prelude.{inr, ℕ, Bool, true, false, if◌then◌else◌, List, [], ◌∷◌, ◌++◌, Step, Task, NoLabels, StepsBind, StepsGo, TaskGoes, with_no_branch}
 use Rattle.steps8080.specs.declared.step.Step.TheVariants as steps
-use Rattle.steps8080.specs.declared.step.Task.{Task}
 use Rattle.steps8080.specs.declared.step.Task.TheVariants as tasks
-use Rattle.measure_laws.specs.internal.Steps.{NoLabels, StepsBind, StepsGo, TaskGoes, with_no_branch}
 use Rattle.measure_laws.proofs.Labels.Joining.{AreFree}
 
 pub record Go (ok : ℕ → Type 0) (planned : List Step) : Type 0 where

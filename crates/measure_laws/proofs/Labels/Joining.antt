@@ -1,13 +1,8 @@
 -- Steps without labels, one after another, and steps that depend on what is found.
-use Rattle.std.proofs.Common.{ℕ, zero, suc, Bool, true, false, if◌then◌else◌, List, [], ◌∷◌, ◌++◌, Option, Some, None}
-use Rattle.isa8080.specs.declared.instr.Instr.{Instr}
-use Rattle.treecode.specs.declared.expression.ExpressionNumber.{ExpressionNumber}
-use Rattle.steps8080.specs.declared.step.Step.{Step}
+use Rattle.measure_laws.proofs.Prelude.{ℕ, zero, suc, Bool, true, false, if◌then◌else◌, List, [], ◌∷◌, ◌++◌, Option, Some, None, Instr, ExpressionNumber, Step, Task, repeat_steps, NoLabels, with_no_branch}
 use Rattle.steps8080.specs.declared.step.Step.TheVariants as steps
-use Rattle.steps8080.specs.declared.step.Task.{Task}
 use Rattle.steps8080.specs.declared.step.Task.TheVariants as tasks
-use Rattle.steps8080.specs.Step.{part, repeat_steps}
-use Rattle.measure_laws.specs.internal.Steps.{NoLabels, with_no_branch}
+use Rattle.steps8080.specs.Step.{part}
 
 -- steps without labels
 pub record AreFree (planned : List Step) : Type 0 where

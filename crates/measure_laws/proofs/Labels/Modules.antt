@@ -1,32 +1,9 @@
 -- The code of a module goes to labels that it binds, and to those of routines that are called.
-use Rattle.std.proofs.Common.{◌≡◌, inl, inr, refl, sym, ap, subst, ℕ, zero, suc, ◌+◌, Bool, true, false, List, [], ◌∷◌, ◌++◌, length, Option, Some, None, arith}
-use Rattle.std.specs.Prelude.{All, slice_get}
-use Rattle.std.proofs.lemmas.Option.{none-some, same_Some}
-use Rattle.typed_trees.specs.Jumps.{BodyIsSound, JumpsAreSound}
-use Rattle.typed_trees.specs.TypedTrees.{TypedModule, TypedProcedure}
-use Rattle.layout.specs.Storage.{Storage}
-use Rattle.isa8080.specs.declared.instr.Instr.TheVariants.{Hlt}
-use Rattle.asm8080.specs.declared.item.Item.{Item}
+use Rattle.measure_laws.proofs.Prelude.{◌≡◌, inl, inr, refl, sym, ap, subst, ℕ, zero, suc, ◌+◌, Bool, true, false, List, [], ◌∷◌, ◌++◌, length, Option, Some, None, arith, All, slice_get, none-some, same_Some, BodyIsSound, JumpsAreSound, TypedModule, TypedProcedure, Storage, Hlt, Item, Content, TreeModule, Place, ProcedureKind, TreeProcedure, HasBody, IsList, IsLowered, labels_numbered_in_list, nodes_of, address_items, items_of_call, module_call_items, module_label_of_routine, Body, Here, site_of, AreCodeOf, IsCodeOf, IsCodeOfMain, IsEndCode, IsOwnCode, IsProcedureCode, content_items, contents_items, has_main, ItemsBind, ItemsGo, HasItsPlace, LabelsHavePlaces, ListGoes}
 use Rattle.asm8080.specs.declared.item.Item.TheVariants as items
-use Rattle.treecode.specs.declared.module.Content.{Content}
 use Rattle.treecode.specs.declared.module.Content.TheVariants as contents
-use Rattle.treecode.specs.declared.module.TreeModule.{TreeModule}
-use Rattle.treecode.specs.declared.place.Place.{Place}
 use Rattle.treecode.specs.declared.place.Place.TheVariants as places
-use Rattle.treecode.specs.declared.procedure.ProcedureKind.{ProcedureKind}
 use Rattle.treecode.specs.declared.procedure.ProcedureKind.TheVariants as kinds
-use Rattle.treecode.specs.declared.procedure.TreeProcedure.{TreeProcedure}
-use Rattle.treecode.specs.Lowered.{HasBody, IsList, IsLowered, labels_numbered_in_list}
-use Rattle.treecode.specs.Nodes.{nodes_of}
-use Rattle.steps8080.specs.Writer.{address_items}
-use Rattle.exprgen8080.specs.Emission.{items_of_call, module_call_items, module_label_of_routine}
-use Rattle.statements8080.specs.declared.body.Body.{Body}
-use Rattle.codegen8080.specs.declared.meeting.Here.{Here}
-use Rattle.codegen8080.specs.Generated.{site_of}
-use Rattle.codegen8080.specs.Modules.{AreCodeOf, IsCodeOf, IsCodeOfMain, IsEndCode, IsOwnCode, IsProcedureCode, content_items, contents_items, has_main}
-use Rattle.measure_laws.specs.internal.Items.{ItemsBind, ItemsGo}
-use Rattle.measure_laws.specs.internal.Modules.{HasItsPlace, LabelsHavePlaces}
-use Rattle.measure_laws.specs.internal.Plans.{ListGoes}
 use Rattle.measure_laws.proofs.Labels.Assigning.{end_go}
 use Rattle.measure_laws.proofs.Labels.Carried.{plan_bound, plan_carried}
 use Rattle.measure_laws.proofs.Labels.Entering.{entry_go}

@@ -1,47 +1,10 @@
 -- Addresses, values in memory, products with numbers, pairs of words and stores have no labels.
-use Rattle.std.proofs.Common.{ℕ, zero, suc, ◌+◌, ◌%◌, ◌/◌, ◌==◌, nat_le, Bool, true, false, ◌&&◌, ◌||◌, not, [], ◌∷◌, ◌++◌, Option, Some, None}
-use Rattle.isa8080.specs.declared.instr.Instr.{Instr}
-use Rattle.isa8080.specs.declared.instr.Instr.TheVariants.{Dad, Dcx, Inx, MovToMemory, Mvi}
-use Rattle.isa8080.specs.declared.instr.Operand.TheVariants.{M}
-use Rattle.isa8080.specs.declared.instr.Operation.TheVariants.{Add}
-use Rattle.isa8080.specs.declared.instr.Pair.TheVariants.{Bc, Hl}
-use Rattle.isa8080.specs.declared.instr.Register.TheVariants.{A, B, D, L}
-use Rattle.asm8080.specs.declared.item.WordForm.TheVariants.{LoadA, LoadHl, StoreA, StoreHl}
-use Rattle.trees.specs.declared.declaration.ScalarType.{ScalarType}
-use Rattle.trees.specs.declared.declaration.ScalarType.TheVariants.{Byte, Address}
-use Rattle.treecode.specs.declared.expression.ExpressionNumber.{ExpressionNumber}
-use Rattle.treecode.specs.declared.place.Location.{Location}
+use Rattle.measure_laws.proofs.Prelude.{ℕ, zero, suc, ◌+◌, ◌%◌, ◌/◌, ◌==◌, nat_le, Bool, true, false, ◌&&◌, ◌||◌, not, [], ◌∷◌, ◌++◌, Option, Some, None, Instr, Dad, Dcx, Inx, MovToMemory, Mvi, M, Add, Bc, Hl, A, B, D, L, LoadA, LoadHl, StoreA, StoreHl, ScalarType, Byte, Address, ExpressionNumber, Location, Place, Number, Reference, Subscript, Target, Stored, Sent, location_after, place_number, before, byte_for_l, byte_from_hl, is_at, copy, with_register, extension_steps, Base, Site, distance, keeps, located, location_of, power_of_two, unknown, addition_steps, address_steps, base_added_steps, base_steps, frame_word_steps, location_address_steps, location_word_steps, negated, new_address_steps, number_added_steps, second_steps, byte_in_memory_steps, byte_to_l_steps, extended_byte_in_memory_steps, frame_byte_steps, frame_byte_to_l_steps, location_byte_steps, word_in_memory_steps, form_steps, order_of, pair_form, pair_in_order_steps, pair_steps, wish_for_left, wished_steps, bit_steps, byte_multiple_steps, byte_product_steps, chain_from, has_bit, multiple_steps, product_steps, small_multiple_steps, address_beside_a_steps, address_beside_de_steps, byte_is_here_steps, goal_of, goal_steps, store_a_at_steps, store_a_steps, store_extended_steps, store_hl_at_steps, store_low_byte_at_steps, store_low_byte_steps, store_near_steps, store_steps, store_word_steps, value_back_steps, word_is_here_steps, word_near, PairForm, RightKnown, LeftKnown, RightKeeps, LeftKeeps, PairOrder, LeftInHl, RightInHl, Goal, Near, First, Second}
 use Rattle.treecode.specs.declared.place.Location.TheVariants as locations
-use Rattle.treecode.specs.declared.place.Place.{Place}
-use Rattle.treecode.specs.declared.place.Place.TheVariants.{Number}
-use Rattle.treecode.specs.declared.reference.Reference.{Reference}
-use Rattle.treecode.specs.declared.reference.Subscript.{Subscript}
-use Rattle.treecode.specs.declared.reference.Target.{Target}
-use Rattle.treecode.specs.declared.reference.Target.TheVariants.{Stored, Sent}
-use Rattle.treecode.specs.Homes.{location_after}
-use Rattle.treecode.specs.Queries.{place_number}
 use Rattle.steps8080.specs.declared.step.Step.TheVariants as steps
-use Rattle.steps8080.specs.Facts.{before, byte_for_l, byte_from_hl, is_at}
-use Rattle.steps8080.specs.Instructions.{copy, with_register}
-use Rattle.steps8080.specs.Step.{extension_steps, plain}
-use Rattle.steps8080.specs.declared.sites.queries.Base.{Base}
+use Rattle.steps8080.specs.Step.{plain}
 use Rattle.steps8080.specs.declared.sites.queries.Base.TheVariants as bases
-use Rattle.steps8080.specs.declared.sites.site.Site.{Site}
-use Rattle.steps8080.specs.Site.{distance}
-use Rattle.steps8080.specs.Queries.{keeps, located, location_of}
-use Rattle.steps8080.specs.Widths.{power_of_two, unknown}
-use Rattle.operands8080.specs.Addresses.{addition_steps, address_steps, base_added_steps, base_steps, frame_word_steps, location_address_steps, location_word_steps, negated, new_address_steps, number_added_steps, second_steps}
-use Rattle.operands8080.specs.Loads.{byte_in_memory_steps, byte_to_l_steps, extended_byte_in_memory_steps, frame_byte_steps, frame_byte_to_l_steps, location_byte_steps, word_in_memory_steps}
-use Rattle.operands8080.specs.Pairs.{form_steps, order_of, pair_form, pair_in_order_steps, pair_steps, wish_for_left, wished_steps}
-use Rattle.operands8080.specs.Products.{bit_steps, byte_multiple_steps, byte_product_steps, chain_from, has_bit, multiple_steps, product_steps, small_multiple_steps}
-use Rattle.operands8080.specs.Stores.{address_beside_a_steps, address_beside_de_steps, byte_is_here_steps, goal_of, goal_steps, store_a_at_steps, store_a_steps, store_extended_steps, store_hl_at_steps, store_low_byte_at_steps, store_low_byte_steps, store_near_steps, store_steps, store_word_steps, value_back_steps, word_is_here_steps, word_near}
-use Rattle.operands8080.specs.declared.pairs.PairForm.{PairForm}
-use Rattle.operands8080.specs.declared.pairs.PairForm.TheVariants.{RightKnown, LeftKnown, RightKeeps, LeftKeeps, RightFree, LeftFree, Pushed}
-use Rattle.operands8080.specs.declared.pairs.PairOrder.{PairOrder}
-use Rattle.operands8080.specs.declared.pairs.PairOrder.TheVariants.{LeftInHl, RightInHl}
-use Rattle.operands8080.specs.declared.stores.Goal.{Goal}
-use Rattle.operands8080.specs.declared.stores.Near.{Near}
-use Rattle.operands8080.specs.declared.stores.Near.TheVariants.{First, Second}
+use Rattle.operands8080.specs.declared.pairs.PairForm.TheVariants.{RightFree, LeftFree, Pushed}
 use Rattle.measure_laws.proofs.Labels.Joining.{AreFree, after_byte, after_plain, after_word, by_finding, by_test, free, joined, repeated}
 
 -- products with numbers

@@ -1,16 +1,7 @@
 -- The labels that the code of a soundly typed module goes to have their places.
-use Rattle.std.specs.Prelude.{◌≡◌, ℕ, Bool, List, Some, slice_get}
-use Rattle.typed_trees.specs.Jumps.{BodyIsSound}
-use Rattle.typed_trees.specs.TypedTrees.{TypedModule, TypedProcedure}
-use Rattle.layout.specs.Storage.{Storage}
-use Rattle.asm8080.specs.declared.item.Item.{Item}
-use Rattle.treecode.specs.declared.module.TreeModule.{TreeModule}
-use Rattle.treecode.specs.Lowered.{IsLowered, labels_numbered_in_list}
-use Rattle.codegen8080.specs.Modules.{IsOwnCode}
+use Rattle.measure_laws.proofs.Prelude.{◌≡◌, ℕ, Bool, List, Some, slice_get, BodyIsSound, TypedModule, TypedProcedure, Storage, Item, TreeModule, IsLowered, labels_numbered_in_list, IsOwnCode, IsSound, LabelsHavePlaces}
 use Rattle.procedure_laws.proofs.Labels.{main_label_has_one_number, procedure_label_has_one_number}
-use Rattle.measure_laws.specs.Sound.{IsSound}
 use Rattle.measure_laws.proofs.Bounds.Constants.{holds_at}
-use Rattle.measure_laws.specs.internal.Modules.{LabelsHavePlaces}
 use Rattle.measure_laws.proofs.Labels.Modules.{own_code_goes}
 use Rattle.measure_laws.proofs.Labels.Statements.{LabelsDiffer}
 

@@ -1,19 +1,8 @@
 -- Planned steps one after another, and planned steps that depend on what is found.
-use Rattle.std.proofs.Common.{◌≡◌, inl, inr, refl, ℕ, zero, suc, ◌+◌, ◌<◌, ◌≤◌, Bool, true, false, if◌then◌else◌, List, [], ◌∷◌, ◌++◌, Option, Some, None, replicate, arith, subst}
-use Rattle.std.proofs.lemmas.Bool.{cases_lt}
-use Rattle.isa8080.specs.declared.instr.Instr.{Instr}
-use Rattle.treecode.specs.declared.expression.ExpressionNumber.{ExpressionNumber}
-use Rattle.treecode.specs.declared.lists.Range.{Range}
-use Rattle.treecode.specs.declared.reference.Reference.{Reference}
-use Rattle.treecode.specs.declared.statement.StatementNumber.{StatementNumber}
-use Rattle.steps8080.specs.declared.step.LabelNumber.{LabelNumber}
+use Rattle.measure_laws.proofs.Prelude.{◌≡◌, inl, inr, refl, ℕ, zero, suc, ◌+◌, ◌<◌, ◌≤◌, Bool, true, false, if◌then◌else◌, List, [], ◌∷◌, ◌++◌, Option, Some, None, replicate, arith, subst, cases_lt, Instr, ExpressionNumber, Range, Reference, StatementNumber, LabelNumber, Task, Planned, mark, part, plain, steps_from, PlanBinds, PlanGoes, TaskThen}
 use Rattle.steps8080.specs.declared.step.Step.TheVariants as steps
-use Rattle.steps8080.specs.declared.step.Task.{Task}
 use Rattle.steps8080.specs.declared.step.Task.TheVariants as tasks
-use Rattle.statements8080.specs.declared.plan.Planned.{Planned}
 use Rattle.statements8080.specs.declared.plan.Planned.TheVariants as planned
-use Rattle.statements8080.specs.Plans.{mark, part, plain, steps_from}
-use Rattle.measure_laws.specs.internal.Plans.{PlanBinds, PlanGoes, TaskThen}
 
 pub record PlanGo
     (ok : ℕ → Type 0) (statement : StatementNumber → Type 0) (list : Range → Type 0) (plan : List Planned) :

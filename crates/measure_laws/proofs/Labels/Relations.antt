@@ -1,48 +1,12 @@
 -- Relations as flags and as values have no labels.
-use Rattle.std.proofs.Common.{ℕ, ◌%◌, ◌/◌, ◌==◌, nat_lt, true, false, ◌&&◌, ◌||◌, if◌then◌else◌, [], ◌∷◌, Some, None}
-use Rattle.isa8080.specs.declared.instr.Condition.{Condition}
+use Rattle.measure_laws.proofs.Prelude.{ℕ, ◌%◌, ◌/◌, ◌==◌, nat_lt, true, false, ◌&&◌, ◌||◌, if◌then◌else◌, [], ◌∷◌, Some, None, Condition, AccumulateImmediate, Dcr, Inr, Inx, Of, Compare, Subtract, Hl, A, ScalarType, ExpressionNumber, Reference, load, Comparison, Inquiry, Between, WithNumber, NumberQuestion, Never, Below, Is, Question, LeftBelow, RightBelow, Equal, Relation, Site, direct, relation_of, fits_byte, high_byte_in_memory, is_word_in_hl, negated, pair_order, Purpose, Branch, Value, Setting, Form, WithMemory, WithE, Outcome, Apart, WordRegisters, Words, PlaceAndHl, DeAndHl, byte_is_steps, byte_relation_steps, comparing, is_zero_steps, known_answer, left_back_steps, number_in_a_steps, pushed_steps, carry_steps, inquiry_steps, outcome_value_steps, relation_outcome, relation_steps, relation_value_steps, value_setting, high_difference_steps, high_steps, in_hl, load_a_steps, low_difference_steps, low_steps, masked, masked_steps, operand_apart, other_word, taken_steps, with_place_steps, word_below_steps, word_is_steps, word_is_zero_steps, word_number_steps, word_question_steps, word_relation_steps, word_taken_from, words_steps, zero_by_hl_steps}
 use Rattle.isa8080.specs.declared.instr.Condition.TheVariants as conditions
-use Rattle.isa8080.specs.declared.instr.Instr.TheVariants.{AccumulateImmediate, Dcr, Inr, Inx}
-use Rattle.isa8080.specs.declared.instr.Operand.TheVariants.{Of}
-use Rattle.isa8080.specs.declared.instr.Operation.TheVariants.{Compare, Subtract}
-use Rattle.isa8080.specs.declared.instr.Pair.TheVariants.{Hl}
-use Rattle.isa8080.specs.declared.instr.Register.TheVariants.{A}
-use Rattle.trees.specs.declared.declaration.ScalarType.{ScalarType}
 use Rattle.trees.specs.declared.declaration.ScalarType.TheVariants as scalars
-use Rattle.treecode.specs.declared.expression.ExpressionNumber.{ExpressionNumber}
-use Rattle.treecode.specs.declared.reference.Reference.{Reference}
 use Rattle.steps8080.specs.declared.step.Step.TheVariants as steps
 use Rattle.steps8080.specs.declared.step.Task.TheVariants as tasks
-use Rattle.steps8080.specs.Instructions.{load}
 use Rattle.steps8080.specs.Step.{part}
-use Rattle.steps8080.specs.declared.sites.questions.Comparison.{Comparison}
-use Rattle.steps8080.specs.declared.sites.questions.Inquiry.{Inquiry}
-use Rattle.steps8080.specs.declared.sites.questions.Inquiry.TheVariants.{Between, WithNumber}
-use Rattle.steps8080.specs.declared.sites.questions.NumberQuestion.{NumberQuestion}
-use Rattle.steps8080.specs.declared.sites.questions.NumberQuestion.TheVariants.{Never, Below, Is}
-use Rattle.steps8080.specs.declared.sites.questions.Question.{Question}
-use Rattle.steps8080.specs.declared.sites.questions.Question.TheVariants.{LeftBelow, RightBelow, Equal}
-use Rattle.steps8080.specs.declared.sites.questions.Relation.{Relation}
-use Rattle.steps8080.specs.declared.sites.site.Site.{Site}
-use Rattle.steps8080.specs.Queries.{direct}
-use Rattle.steps8080.specs.Questions.{relation_of}
-use Rattle.steps8080.specs.Widths.{fits_byte, high_byte_in_memory, is_word_in_hl}
-use Rattle.operands8080.specs.Addresses.{negated}
-use Rattle.operands8080.specs.Pairs.{pair_order}
-use Rattle.operands8080.specs.declared.answers.Purpose.{Purpose}
-use Rattle.operands8080.specs.declared.answers.Purpose.TheVariants.{Branch, Value}
-use Rattle.operands8080.specs.declared.answers.Setting.{Setting}
-use Rattle.operands8080.specs.declared.byte_relations.Form.{Form}
-use Rattle.operands8080.specs.declared.byte_relations.Form.TheVariants.{WithMemory, WithE, Pushed}
-use Rattle.operands8080.specs.declared.relations.Outcome.{Outcome}
+use Rattle.operands8080.specs.{declared.byte_relations.Form.TheVariants.{Pushed}, ByteRelations.{byte_number_steps, form_of, with_e_steps, with_memory_steps}, WordRelations.{difference_steps, high_byte_steps, with_pair_steps}}
 use Rattle.operands8080.specs.declared.relations.Outcome.TheVariants as outcomes
-use Rattle.operands8080.specs.declared.word_relations.Apart.{Apart}
-use Rattle.operands8080.specs.declared.word_relations.Word.{Word as WordRegisters}
-use Rattle.operands8080.specs.declared.word_relations.Words.{Words}
-use Rattle.operands8080.specs.declared.word_relations.Words.TheVariants.{PlaceAndHl, DeAndHl}
-use Rattle.operands8080.specs.ByteRelations.{byte_is_steps, byte_number_steps, byte_relation_steps, comparing, form_of, is_zero_steps, known_answer, left_back_steps, number_in_a_steps, pushed_steps, with_e_steps, with_memory_steps}
-use Rattle.operands8080.specs.Relations.{carry_steps, inquiry_steps, outcome_value_steps, relation_outcome, relation_steps, relation_value_steps, value_setting}
-use Rattle.operands8080.specs.WordRelations.{difference_steps, high_byte_steps, high_difference_steps, high_steps, in_hl, load_a_steps, low_difference_steps, low_steps, masked, masked_steps, operand_apart, other_word, taken_steps, with_pair_steps, with_place_steps, word_below_steps, word_is_steps, word_is_zero_steps, word_number_steps, word_question_steps, word_relation_steps, word_taken_from, words_steps, zero_by_hl_steps}
 use Rattle.measure_laws.proofs.Labels.Joining.{AreFree, after_byte, after_plain, after_word, by_finding, by_test, free, joined, repeated}
 use Rattle.measure_laws.proofs.Labels.Operands.{pair_free}
 

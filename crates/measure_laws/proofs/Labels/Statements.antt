@@ -1,33 +1,9 @@
 -- The code of statements goes to labels that it binds, and to those of the lists around it.
-use Rattle.std.proofs.Common.{◌≡◌, ◌⊎◌, inl, inr, refl, sym, ap, ◌∙◌, subst, ℕ, zero, suc, ◌+◌, ◌<◌, ◌≤◌, Bool, true, false, List, [], ◌∷◌, ◌++◌, length, Option, Some, None, Any, arith}
-use Rattle.std.specs.Prelude.{slice_get, nat_lt, if◌then◌else◌}
-use Rattle.std.specs.Option.{option_and_then}
-use Rattle.std.proofs.lemmas.Bool.{ltb-true}
-use Rattle.std.proofs.lemmas.Option.{none-some, same_Some}
-use Rattle.typed_trees.specs.Jumps.{IsAmongLabels, JumpsStay, JumpsStayInElse, JumpsStayInList, JumpsStayInStatements, LabelsOf, LabelsStand, ListStands, ListsStand, ListsStandInCases, ListsStandInElse, ListsStandInStatements, labels_of_list}
-use Rattle.typed_trees.specs.TypedTrees.{LabelStatement, MoreStatements, NoStatements, TypedElse, TypedList, TypedStatement, TypedStatements}
-use Rattle.layout.specs.Storage.{Storage}
-use Rattle.asm8080.specs.declared.item.Item.{Item}
-use Rattle.treecode.specs.declared.lists.Range.{Range}
+use Rattle.measure_laws.proofs.Prelude.{◌≡◌, ◌⊎◌, inl, inr, refl, sym, ap, ◌∙◌, subst, ℕ, zero, suc, ◌+◌, ◌<◌, ◌≤◌, Bool, true, false, List, [], ◌∷◌, ◌++◌, length, Option, Some, None, Any, arith, slice_get, nat_lt, if◌then◌else◌, option_and_then, ltb-true, none-some, same_Some, IsAmongLabels, JumpsStay, JumpsStayInElse, JumpsStayInList, JumpsStayInStatements, LabelsOf, LabelsStand, ListStands, ListsStand, ListsStandInCases, ListsStandInElse, ListsStandInStatements, labels_of_list, LabelStatement, MoreStatements, NoStatements, TypedElse, TypedList, TypedStatement, TypedStatements, Storage, Item, Range, StatementNumber, AreMoreStatements, AreNoStatements, AreStatements, IsAssignment, IsCall, IsCase, IsDo, IsElse, IsGoto, IsHalt, IsIf, IsIterate, IsLabel, IsList, IsListOf, IsMove, IsNoElse, IsNull, IsReturn, IsSomeElse, IsStatement, IsStatementForm, IsStatementNode, IsWhile, item_of, nodes_of, statement, Facts, LabelNumber, knowing, Body, body_label, goto_label, goto_label_of, Here, AreAllCarriedOut, AreCarriedOut, IsCarriedOut, IsListCarriedOut, ListPlanned, StatementPlanned, site_of, statement_steps, ItemsBind, ItemsGo, ListGoes, PlanBinds, StatementGoes}
 use Rattle.treecode.specs.declared.statement.Statement.{Statement}
 use Rattle.treecode.specs.declared.statement.Statement.TheVariants as statements
-use Rattle.treecode.specs.declared.statement.StatementNumber.{StatementNumber}
-use Rattle.treecode.specs.Lowered.{AreMoreStatements, AreNoStatements, AreStatements, IsAssignment, IsCall, IsCase, IsDo, IsElse, IsGoto, IsHalt, IsIf, IsIterate, IsLabel, IsList, IsListOf, IsMove, IsNoElse, IsNull, IsReturn, IsSomeElse, IsStatement, IsStatementForm, IsStatementNode, IsWhile}
-use Rattle.treecode.specs.Nodes.{item_of, nodes_of}
-use Rattle.treecode.specs.Queries.{statement}
 use Rattle.treecode.proofs.LabelNumbers.{first_or_later}
-use Rattle.steps8080.specs.declared.facts.Facts.{Facts}
-use Rattle.steps8080.specs.declared.step.LabelNumber.{LabelNumber}
-use Rattle.exprgen8080.specs.Emission.{knowing}
-use Rattle.statements8080.specs.declared.body.Body.{Body}
-use Rattle.statements8080.specs.Bodies.{body_label}
-use Rattle.statements8080.specs.Branches.{goto_label, goto_label_of}
-use Rattle.codegen8080.specs.declared.meeting.Here.{Here}
-use Rattle.codegen8080.specs.Generated.{AreAllCarriedOut, AreCarriedOut, IsCarriedOut, IsListCarriedOut, ListPlanned, StatementPlanned, site_of}
 use Rattle.codegen8080.specs.Generated as generated
-use Rattle.codegen8080.specs.Statements.{statement_steps}
-use Rattle.measure_laws.specs.internal.Items.{ItemsBind, ItemsGo}
-use Rattle.measure_laws.specs.internal.Plans.{ListGoes, PlanBinds, StatementGoes}
 use Rattle.measure_laws.proofs.Labels.Planning.{planned_go}
 use Rattle.measure_laws.proofs.Labels.Carried.{plan_bound, plan_carried}
 use Rattle.measure_laws.proofs.Labels.Written.{Knows, bound_after, bound_first, items_both}

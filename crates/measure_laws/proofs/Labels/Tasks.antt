@@ -1,29 +1,8 @@
 -- No task but a jump by a condition has labels.
-use Rattle.std.proofs.Common.{ℕ, zero, suc, ◌+◌, ◌-◌, ◌%◌, Bool, true, false, [], ◌∷◌, Option, Some, None}
-use Rattle.trees.specs.declared.declaration.ScalarType.{ScalarType}
+use Rattle.measure_laws.proofs.Prelude.{ℕ, zero, suc, ◌+◌, ◌-◌, ◌%◌, Bool, true, false, [], ◌∷◌, Option, Some, None, ScalarType, Not, Negate, Low, High, Double, Expression, ExpressionForm, ExpressionNumber, Range, Static, Place, Reference, Subscript, Target, argument, place_number, source, low, Site, expression, scalar, known, memory, byte_form_steps, byte_function_steps, byte_of_two_steps, byte_steps, byte_unary_steps, called_byte_steps, embedded_steps, known_byte_steps, low_of_value_steps, argument_steps, arguments_steps, call_steps, last_argument_steps, pushed_argument_steps, value_task, both_effects_steps, effects_steps, form_effects_steps, reference_effects_steps, subscript_effects_steps, computed_word_steps, extended_byte_steps, word_form_steps, word_function_steps, word_of_two_steps, word_steps}
 use Rattle.trees.specs.declared.declaration.ScalarType.TheVariants as scalars
-use Rattle.trees.specs.declared.expression.UnaryOperator.TheVariants.{Not, Negate}
-use Rattle.typed_trees.specs.declared.parts.UnaryFunction.TheVariants.{Low, High, Double}
-use Rattle.treecode.specs.declared.expression.Expression.{Expression}
-use Rattle.treecode.specs.declared.expression.ExpressionForm.{ExpressionForm}
 use Rattle.treecode.specs.declared.expression.ExpressionForm.TheVariants as forms
-use Rattle.treecode.specs.declared.expression.ExpressionNumber.{ExpressionNumber}
-use Rattle.treecode.specs.declared.lists.Range.{Range}
-use Rattle.treecode.specs.declared.place.Location.TheVariants.{Static}
-use Rattle.treecode.specs.declared.place.Place.{Place}
-use Rattle.treecode.specs.declared.reference.Reference.{Reference}
-use Rattle.treecode.specs.declared.reference.Subscript.{Subscript}
-use Rattle.treecode.specs.declared.reference.Target.{Target}
-use Rattle.treecode.specs.Queries.{argument, place_number, source}
-use Rattle.steps8080.specs.Instructions.{low}
 use Rattle.steps8080.specs.Step.{part}
-use Rattle.steps8080.specs.declared.sites.site.Site.{Site}
-use Rattle.steps8080.specs.Site.{expression, scalar}
-use Rattle.steps8080.specs.Queries.{known, memory}
-use Rattle.exprgen8080.specs.Bytes.{byte_form_steps, byte_function_steps, byte_of_two_steps, byte_steps, byte_unary_steps, called_byte_steps, embedded_steps, known_byte_steps, low_of_value_steps}
-use Rattle.exprgen8080.specs.Calls.{argument_steps, arguments_steps, call_steps, last_argument_steps, pushed_argument_steps, value_task}
-use Rattle.exprgen8080.specs.Effects.{both_effects_steps, effects_steps, form_effects_steps, reference_effects_steps, subscript_effects_steps}
-use Rattle.exprgen8080.specs.Words.{computed_word_steps, extended_byte_steps, word_form_steps, word_function_steps, word_of_two_steps, word_steps}
 use Rattle.measure_laws.proofs.Labels.Joining.{AreFree, after_word, by_finding, by_test, free, joined}
 use Rattle.measure_laws.proofs.Labels.Operands.{byte_in_memory_free, extended_byte_in_memory_free, location_address_free, word_in_memory_free}
 use Rattle.measure_laws.proofs.Labels.Bytes.{byte_binary_free, byte_number_free, byte_shift_free, high_byte_free, low_of_word_free}

@@ -1,37 +1,10 @@
 -- Shifts of words, and operators whose value comes into HL, have no labels.
-use Rattle.std.proofs.Common.{ℕ, ◌+◌, ◌-◌, ◌%◌, ◌==◌, nat_le, nat_lt, Bool, true, false, [], ◌∷◌, if◌then◌else◌}
-use Rattle.isa8080.specs.declared.instr.Instr.TheVariants.{Dad}
-use Rattle.isa8080.specs.declared.instr.Operation.{Operation}
-use Rattle.isa8080.specs.declared.instr.Operation.TheVariants.{Subtract, SubtractWithBorrow, And, ExclusiveOr, Or}
-use Rattle.isa8080.specs.declared.instr.Pair.TheVariants.{Hl}
-use Rattle.isa8080.specs.declared.instr.Register.{Register}
-use Rattle.isa8080.specs.declared.instr.Register.TheVariants.{A, H, L}
-use Rattle.trees.specs.declared.expression.BinaryOperator.{BinaryOperator}
+use Rattle.measure_laws.proofs.Prelude.{ℕ, ◌+◌, ◌-◌, ◌%◌, ◌==◌, nat_le, nat_lt, Bool, true, false, [], ◌∷◌, if◌then◌else◌, Dad, Operation, Subtract, SubtractWithBorrow, And, ExclusiveOr, Or, Hl, Register, A, H, L, BinaryOperator, UnaryOperator, Not, Negate, ShiftFunction, ShiftLeft, ShiftRight, RotateLeft, RotateRight, ExpressionNumber, Place, Number, clear_a, copy, high, low, set, with_register, Site, is_free, known, number_of, fits_byte, power, PairOrder, LeftInHl, RightInHl, pair_order, Operands, Shifted, Simple, number_of_two, computed_count_steps, count_beside_word_steps, shifted_half_steps, quarter_steps, shifted_right_little_steps, word_by_number_steps, word_shift_steps, word_shifted_right_steps, and_with_number_steps, both_halves_steps, computed_logic_steps, difference_steps, division_steps, half_steps, half_through_a_steps, high_half_steps, is_of_bytes, left_word, logic_steps, logic_with_byte_steps, logic_with_number_steps, logic_with_simple_steps, paired_steps, product_order, product_word_steps, quotient_steps, remainder_steps, sum_steps, taken_from_number_steps, with_pair_steps, with_simple, with_word_steps, word_binary_steps, word_unary_steps}
 use Rattle.trees.specs.declared.expression.BinaryOperator.TheVariants as operators
-use Rattle.trees.specs.declared.expression.UnaryOperator.{UnaryOperator}
-use Rattle.trees.specs.declared.expression.UnaryOperator.TheVariants.{Not, Negate}
-use Rattle.typed_trees.specs.declared.parts.ShiftFunction.{ShiftFunction}
-use Rattle.typed_trees.specs.declared.parts.ShiftFunction.TheVariants.{ShiftLeft, ShiftRight, RotateLeft, RotateRight}
-use Rattle.treecode.specs.declared.expression.ExpressionNumber.{ExpressionNumber}
-use Rattle.treecode.specs.declared.place.Place.{Place}
-use Rattle.treecode.specs.declared.place.Place.TheVariants.{Number}
 use Rattle.steps8080.specs.declared.step.Step.TheVariants as steps
-use Rattle.steps8080.specs.Instructions.{clear_a, copy, high, low, set, with_register}
 use Rattle.steps8080.specs.Step.{plain}
-use Rattle.steps8080.specs.declared.sites.site.Site.{Site}
-use Rattle.steps8080.specs.Queries.{is_free, known, number as number_of}
-use Rattle.steps8080.specs.Widths.{fits_byte, power}
-use Rattle.operands8080.specs.declared.pairs.PairOrder.{PairOrder}
-use Rattle.operands8080.specs.declared.pairs.PairOrder.TheVariants.{LeftInHl, RightInHl}
-use Rattle.operands8080.specs.Pairs.{pair_order}
-use Rattle.exprgen8080.specs.declared.byte_operators.Operands.{Operands}
-use Rattle.exprgen8080.specs.declared.byte_shifts.Shifted.{Shifted}
-use Rattle.exprgen8080.specs.declared.word_operators.Simple.{Simple}
 use Rattle.exprgen8080.specs.declared.word_operators.Simple.TheVariants as simple
-use Rattle.exprgen8080.specs.ByteOperators.{number_of_two}
-use Rattle.exprgen8080.specs.WordShifts.{computed_count_steps, count_beside_word_steps, half_steps as shifted_half_steps, quarter_steps, shifted_left_steps, shifted_right_little_steps, word_by_number_steps, word_shift_steps, word_shifted_right_steps, zero_steps}
-use Rattle.exprgen8080.specs.WordOperators.{and_with_number_steps, both_halves_steps, computed_logic_steps, difference_steps, division_steps, half_steps, half_through_a_steps, high_half_steps, is_of_bytes, left_word, logic_steps, logic_with_byte_steps, logic_with_number_steps, logic_with_simple_steps, paired_steps, product_order, product_word_steps, quotient_steps, remainder_steps, sum_steps, taken_from_number_steps, with_pair_steps, with_simple, with_word_steps, word_binary_steps}
-use Rattle.exprgen8080.specs.Words.{word_unary_steps}
+use Rattle.exprgen8080.specs.WordShifts.{shifted_left_steps, zero_steps}
 use Rattle.measure_laws.proofs.Labels.Joining.{AreFree, after_byte, after_plain, after_word, by_finding, by_test, free, joined, repeated}
 use Rattle.measure_laws.proofs.Labels.Operands.{addition_free, pair_free, pair_in_order_free, product_free}
 use Rattle.measure_laws.proofs.Labels.Bytes.{byte_operation_free, byte_shifted_right_free, high_byte_free, right_shift_free, with_number_free}

@@ -1,22 +1,9 @@
 -- What is written for steps goes to labels of some kind alone, where the steps do.
-use Rattle.std.proofs.Common.{◌≡◌, inl, inr, ℕ, Bool, true, false, if◌then◌else◌, List, [], ◌∷◌, ◌++◌}
-use Rattle.asm8080.specs.declared.item.Item.{Item}
+use Rattle.measure_laws.proofs.Prelude.{◌≡◌, inl, inr, ℕ, Bool, true, false, if◌then◌else◌, List, [], ◌∷◌, ◌++◌, Item, WordForm, Routine, Place, Number, Data, External, Facts, Part, Step, Task, word_item, Site, AreWritten, CallWritten, ChangeWritten, HoldsWritten, IsWritten, JumpWritten, MarkWritten, NoneWritten, PartWritten, PlainWritten, RoutineWritten, TestWritten, WordWritten, call_items, has_routine, knowing, label_of_routine, test_items, test_of_a, steps_of, task_steps, ItemGoes, ItemsBind, ItemsGo, StepsBind, StepsGo, TaskGoes}
 use Rattle.asm8080.specs.declared.item.Item.TheVariants as items
-use Rattle.asm8080.specs.declared.item.WordForm.{WordForm}
-use Rattle.runtime8080.specs.declared.routine.Routine.{Routine}
-use Rattle.treecode.specs.declared.place.Place.{Place}
-use Rattle.treecode.specs.declared.place.Place.TheVariants.{Number, Code, Data, External}
-use Rattle.steps8080.specs.declared.facts.Facts.{Facts}
-use Rattle.steps8080.specs.declared.step.Part.{Part}
-use Rattle.steps8080.specs.declared.step.Step.{Step}
-use Rattle.steps8080.specs.declared.step.Task.{Task}
+use Rattle.treecode.specs.declared.place.Place.TheVariants.{Code}
 use Rattle.steps8080.specs.declared.step.Task.TheVariants as tasks
-use Rattle.steps8080.specs.Writer.{word_item}
-use Rattle.steps8080.specs.declared.sites.site.Site.{Site}
-use Rattle.exprgen8080.specs.Emission.{AreWritten, CallWritten, ChangeWritten, HoldsWritten, IsWritten, JumpWritten, MarkWritten, NoneWritten, PartWritten, PlainWritten, Planned, RoutineWritten, TestWritten, WordWritten, call_items, has_routine, knowing, label_of_routine, test_items, test_of_a}
-use Rattle.exprgen8080.specs.Forms.{steps_of, task_steps}
-use Rattle.measure_laws.specs.internal.Items.{ItemGoes, ItemsBind, ItemsGo}
-use Rattle.measure_laws.specs.internal.Steps.{StepsBind, StepsGo, TaskGoes}
+use Rattle.exprgen8080.specs.Emission.{Planned}
 use Rattle.measure_laws.proofs.Labels.Going.{free_go}
 use Rattle.measure_laws.proofs.Labels.Branches.{branch_go}
 use Rattle.measure_laws.proofs.Labels.Operands.{address_free, store_free}

@@ -1,44 +1,12 @@
 -- Addresses of objects and their parts, and values in memory.
-use Rattle.std.proofs.Common.{◌≡◌, ℕ, ◌+◌, ◌-◌, ◌*◌, ◌%◌, ◌==◌, ◌≤◌, nat_le, Bool, true, false, IfSome, List, [], ◌∷◌, ◌++◌, Option, Some, None, option_and_then, unwrap_or, refl, arith}
-use Rattle.std.proofs.lemmas.Bool.{leb-true}
-use Rattle.trees.specs.declared.expression.BinaryOperator.{BinaryOperator}
+use Rattle.measure_laws.proofs.Prelude.{◌≡◌, ℕ, ◌+◌, ◌-◌, ◌*◌, ◌%◌, ◌==◌, ◌≤◌, nat_le, Bool, true, false, IfSome, List, [], ◌∷◌, ◌++◌, Option, Some, None, option_and_then, unwrap_or, refl, arith, leb-true, BinaryOperator, Storage, Instr, Dcx, Inx, Lxi, Hl, size_of_instruction, Expression, ExpressionForm, ExpressionNumber, Location, Place, Number, Reference, Subscript, location_after, IsAbsent, IsIndex, IsPart, IsReference, IsSubscript, nodes_of, home, place_number, TypedReference, TypedSubscript, LoadA, LoadHl, before, byte_for_l, byte_from_hl, is_at, Base, Located, Split, Site, distance, expression, base_after, base_of, keeps, located, located_at, location_of, number, split, split_computed, split_form, split_sum, split_whole, unknown, addition_steps, address_steps, base_added_steps, base_steps, frame_word_steps, location_address_steps, location_word_steps, located_steps, negated, new_address_steps, number_added_steps, second_steps, word_at_hl_steps, byte_in_memory_steps, byte_to_l_steps, extended_byte_in_memory_steps, frame_byte_steps, frame_byte_to_l_steps, location_byte_steps, word_in_memory_steps, beside_at, weight_of_index, Fit, beside, indices}
 use Rattle.trees.specs.declared.expression.BinaryOperator.TheVariants.{Add, Subtract}
 use Rattle.trees.specs.declared.declaration.ScalarType.TheVariants as scalars
-use Rattle.layout.specs.Storage.{Storage}
-use Rattle.isa8080.specs.declared.instr.Instr.{Instr}
-use Rattle.isa8080.specs.declared.instr.Instr.TheVariants.{Dcx, Inx, Lxi}
-use Rattle.isa8080.specs.declared.instr.Pair.TheVariants.{Hl}
-use Rattle.asm8080.specs.Standing.{size_of_instruction}
-use Rattle.treecode.specs.declared.expression.Expression.{Expression}
-use Rattle.treecode.specs.declared.expression.ExpressionForm.{ExpressionForm}
 use Rattle.treecode.specs.declared.expression.ExpressionForm.TheVariants as forms
-use Rattle.treecode.specs.declared.expression.ExpressionNumber.{ExpressionNumber}
-use Rattle.treecode.specs.declared.place.Location.{Location}
 use Rattle.treecode.specs.declared.place.Location.TheVariants as locations
-use Rattle.treecode.specs.declared.place.Place.{Place}
-use Rattle.treecode.specs.declared.place.Place.TheVariants.{Number}
-use Rattle.treecode.specs.declared.reference.Reference.{Reference}
-use Rattle.treecode.specs.declared.reference.Subscript.{Subscript}
-use Rattle.treecode.specs.Homes.{location_after}
-use Rattle.treecode.specs.Lowered.{IsAbsent, IsIndex, IsPart, IsReference, IsSubscript}
-use Rattle.treecode.specs.Nodes.{nodes_of}
-use Rattle.treecode.specs.Queries.{home, place_number}
-use Rattle.typed_trees.specs.TypedTrees.{TypedReference, Subscript as TypedSubscript}
-use Rattle.asm8080.specs.declared.item.WordForm.TheVariants.{LoadA, LoadHl}
 use Rattle.steps8080.specs.declared.step.Step.TheVariants as steps
-use Rattle.steps8080.specs.Facts.{before, byte_for_l, byte_from_hl, is_at}
-use Rattle.steps8080.specs.declared.sites.queries.Base.{Base}
 use Rattle.steps8080.specs.declared.sites.queries.Base.TheVariants as bases
-use Rattle.steps8080.specs.declared.sites.queries.Located.{Located}
-use Rattle.steps8080.specs.declared.sites.queries.Split.{Split}
-use Rattle.steps8080.specs.declared.sites.site.Site.{Site}
-use Rattle.steps8080.specs.Site.{distance, expression}
-use Rattle.steps8080.specs.Queries.{base_after, base_of, keeps, located, located_at, location_of, number, split, split_computed, split_form, split_sum, split_whole}
-use Rattle.steps8080.specs.Widths.{unknown}
-use Rattle.operands8080.specs.Addresses.{addition_steps, address_steps, base_added_steps, base_steps, frame_word_steps, location_address_steps, location_word_steps, located_steps, negated, new_address_steps, number_added_steps, second_steps, word_at_hl_steps}
-use Rattle.operands8080.specs.Loads.{byte_in_memory_steps, byte_to_l_steps, extended_byte_in_memory_steps, frame_byte_steps, frame_byte_to_l_steps, location_byte_steps, word_in_memory_steps}
-use Rattle.measure_laws.specs.Weights.{beside_at, weight_of_index}
-use Rattle.measure_laws.specs.internal.Parts.{Fit, HasParts, IsOperand, IsPlaced, beside, indices}
+use Rattle.measure_laws.specs.internal.Parts.{HasParts, IsOperand, IsPlaced}
 use Rattle.measure_laws.proofs.Sizes.Chains.{product_fits}
 use Rattle.measure_laws.proofs.Sizes.Found.{of_found}
 use Rattle.measure_laws.proofs.Sizes.Joining.{after_part, after_plain, by_asking, by_finding, by_test, fits, joined, repeated, within}

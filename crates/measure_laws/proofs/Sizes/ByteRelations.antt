@@ -1,32 +1,10 @@
 -- Relations of BYTEs.
-use Rattle.std.proofs.Common.{◌≡◌, ℕ, ◌+◌, ◌*◌, ◌%◌, ◌==◌, ◌≤◌, nat_lt, Bool, true, false, ◌&&◌, IfSome, List, [], ◌∷◌, ◌++◌, Option, Some, None, is_some, not, if◌then◌else◌, refl, arith}
-use Rattle.layout.specs.Storage.{Storage}
-use Rattle.isa8080.specs.declared.instr.Instr.TheVariants.{AccumulateImmediate, Dcr, Inr, Push}
-use Rattle.isa8080.specs.declared.instr.Operand.TheVariants.{Of}
-use Rattle.isa8080.specs.declared.instr.Operation.TheVariants.{Compare, Subtract}
-use Rattle.isa8080.specs.declared.instr.Register.TheVariants.{A}
-use Rattle.isa8080.specs.declared.instr.StackPair.TheVariants.{Psw}
+use Rattle.measure_laws.proofs.Prelude.{◌≡◌, ℕ, ◌+◌, ◌*◌, ◌%◌, ◌==◌, ◌≤◌, nat_lt, Bool, true, false, ◌&&◌, IfSome, List, [], ◌∷◌, ◌++◌, Option, Some, None, is_some, not, if◌then◌else◌, refl, arith, Storage, AccumulateImmediate, Dcr, Inr, Push, Of, Compare, Subtract, A, Psw, ExpressionNumber, Reference, Comparison, NumberQuestion, Never, Below, Is, Question, LeftBelow, RightBelow, Equal, Site, is_free, is_byte_in_register, operand_in_memory, Purpose, Branch, Value, Setting, Form, WithMemory, WithE, Sides, better_form, byte_is_steps, byte_relation_steps, comparing, exchanged, form_of_equality, form_or_push, in_order, is_better_exchanged, is_zero_steps, known_answer, left_back_steps, may_begin_with, memory_form, number_in_a_steps, pushed_steps, register_form, without_push, Fit, beside, indices}
 use Rattle.steps8080.specs.declared.step.Task.TheVariants as tasks
 use Rattle.steps8080.specs.Step.{part}
-use Rattle.treecode.specs.declared.expression.ExpressionNumber.{ExpressionNumber}
-use Rattle.treecode.specs.declared.reference.Reference.{Reference}
 use Rattle.steps8080.specs.declared.step.Step.TheVariants as steps
-use Rattle.steps8080.specs.declared.sites.questions.Comparison.{Comparison}
-use Rattle.steps8080.specs.declared.sites.questions.NumberQuestion.{NumberQuestion}
-use Rattle.steps8080.specs.declared.sites.questions.NumberQuestion.TheVariants.{Never, Below, Is}
-use Rattle.steps8080.specs.declared.sites.questions.Question.{Question}
-use Rattle.steps8080.specs.declared.sites.questions.Question.TheVariants.{LeftBelow, RightBelow, Equal}
-use Rattle.steps8080.specs.declared.sites.site.Site.{Site}
-use Rattle.steps8080.specs.Queries.{is_free}
-use Rattle.steps8080.specs.Widths.{is_byte_in_register, operand_in_memory}
-use Rattle.operands8080.specs.declared.answers.Purpose.{Purpose}
-use Rattle.operands8080.specs.declared.answers.Purpose.TheVariants.{Branch, Value}
-use Rattle.operands8080.specs.declared.answers.Setting.{Setting}
-use Rattle.operands8080.specs.declared.byte_relations.Form.{Form}
-use Rattle.operands8080.specs.declared.byte_relations.Form.TheVariants.{WithMemory, WithE, Pushed}
-use Rattle.operands8080.specs.declared.byte_relations.Sides.{Sides}
-use Rattle.operands8080.specs.ByteRelations.{better_form, byte_is_steps, byte_number_steps, byte_relation_steps, comparing, exchanged, form_of, form_of_equality, form_or_push, in_order, is_better_exchanged, is_zero_steps, known_answer, left_back_steps, may_begin_with, memory_form, number_in_a_steps, pushed_steps, register_form, with_e_steps, with_memory_steps, without_push}
-use Rattle.measure_laws.specs.internal.Parts.{Fit, IsOperand, beside, indices}
+use Rattle.operands8080.specs.{declared.byte_relations.Form.TheVariants.{Pushed}, ByteRelations.{byte_number_steps, form_of, with_e_steps, with_memory_steps}}
+use Rattle.measure_laws.specs.internal.Parts.{IsOperand}
 use Rattle.measure_laws.proofs.Sizes.Found.{IsInMemory, operand_is_in_memory}
 use Rattle.measure_laws.proofs.Sizes.Joining.{after_part, after_plain, by_finding, by_test, fits, joined, within}
 

@@ -1,41 +1,12 @@
 -- Values in A, but for calls and assignments.
-use Rattle.std.proofs.Common.{◌≡◌, ℕ, ◌+◌, ◌-◌, ◌*◌, ◌%◌, ◌/◌, ◌==◌, ◌≤◌, nat_le, Bool, true, false, ◌&&◌, ◌||◌, IfSome, List, [], ◌∷◌, ◌++◌, Option, Some, None, is_some, option_map, option_and_then, if◌then◌else◌, refl, ap, ◌∙◌, arith}
-use Rattle.std.proofs.lemmas.Bool.{false≢true, leb-true, leb-false}
-use Rattle.layout.specs.Storage.{Storage}
-use Rattle.isa8080.specs.declared.instr.Instr.TheVariants.{AccumulateImmediate, Cma, Dad, Dcr, Inr, Pop, Push, Rlc, Rrc}
-use Rattle.isa8080.specs.declared.instr.Operand.TheVariants.{Of}
-use Rattle.isa8080.specs.declared.instr.Operation.{Operation}
-use Rattle.isa8080.specs.declared.instr.Operation.TheVariants.{Add, Subtract, And, ExclusiveOr, Or}
-use Rattle.isa8080.specs.declared.instr.Pair.TheVariants.{Hl}
-use Rattle.isa8080.specs.declared.instr.Register.TheVariants.{A, L}
-use Rattle.isa8080.specs.declared.instr.StackPair.TheVariants.{Psw, StackBc}
+use Rattle.measure_laws.proofs.Prelude.{◌≡◌, ℕ, ◌+◌, ◌-◌, ◌*◌, ◌%◌, ◌/◌, ◌==◌, ◌≤◌, nat_le, Bool, true, false, ◌&&◌, ◌||◌, IfSome, List, [], ◌∷◌, ◌++◌, Option, Some, None, is_some, option_map, option_and_then, if◌then◌else◌, refl, ap, ◌∙◌, arith, false≢true, leb-true, leb-false, Storage, AccumulateImmediate, Cma, Dad, Dcr, Inr, Pop, Push, Rlc, Rrc, Of, Operation, Add, Subtract, And, ExclusiveOr, Or, Hl, A, L, Psw, StackBc, ScalarType, BinaryOperator, ShiftFunction, ShiftLeft, ShiftRight, RotateLeft, RotateRight, ExpressionNumber, Reference, Step, copy, high, low, with_register, Site, scalar, is_free, known, may_exchange, number_of, fits_byte, high_byte_in_memory, is_byte_in_register, low_number, operand_in_memory, power, power_of_two, byte_in_memory_steps, ByteForm, RightInMemory, LeftInMemory, LeftFree, RightFree, Pushed, Operands, Shifted, byte_number_steps, high_byte_steps, low_of_word_steps, by_number_steps, byte_routine, byte_shift_steps, byte_shifted_right_steps, count_in_memory_steps, low_byte_shifted_right_steps, middle_byte_steps, operands_steps, right_shift_steps, rotation_steps, shifted_left_steps, turned_right_steps, zero_steps, added_steps, byte_binary_steps, byte_operation_steps, commutes, form_after_right, form_from_register, form_of, form_with_left, form_without_memory, from_number_steps, immediate_steps, in_form_steps, number_of_two, product_byte_steps, quotient_byte_steps, remainder_byte_steps, with_e_steps, with_memory_steps, with_number_steps, with_stack_steps, Fit, HasTwo, beside, indices, more_for_byte, more_for_word, type_at}
 use Rattle.runtime8080.specs.declared.routine.Routine.TheVariants as routines
-use Rattle.trees.specs.declared.declaration.ScalarType.{ScalarType}
 use Rattle.trees.specs.declared.declaration.ScalarType.TheVariants as scalars
-use Rattle.trees.specs.declared.expression.BinaryOperator.{BinaryOperator}
 use Rattle.trees.specs.declared.expression.BinaryOperator.TheVariants as operators
-use Rattle.typed_trees.specs.declared.parts.ShiftFunction.{ShiftFunction}
-use Rattle.typed_trees.specs.declared.parts.ShiftFunction.TheVariants.{ShiftLeft, ShiftRight, RotateLeft, RotateRight}
-use Rattle.treecode.specs.declared.expression.ExpressionNumber.{ExpressionNumber}
-use Rattle.treecode.specs.declared.reference.Reference.{Reference}
-use Rattle.steps8080.specs.declared.step.Step.{Step}
 use Rattle.steps8080.specs.declared.step.Step.TheVariants as steps
 use Rattle.steps8080.specs.declared.step.Task.TheVariants as tasks
-use Rattle.steps8080.specs.Instructions.{copy, high, low, with_register}
-use Rattle.steps8080.specs.Step.{part}
-use Rattle.steps8080.specs.declared.sites.site.Site.{Site}
-use Rattle.steps8080.specs.Site.{scalar}
-use Rattle.steps8080.specs.Queries.{is_free, known, may_exchange, number as number_of}
-use Rattle.steps8080.specs.Widths.{fits_byte, high_byte_in_memory, is_byte, is_byte_in_register, low_number, operand_in_memory, power, power_of_two}
-use Rattle.operands8080.specs.Loads.{byte_in_memory_steps}
-use Rattle.exprgen8080.specs.declared.byte_operators.ByteForm.{ByteForm}
-use Rattle.exprgen8080.specs.declared.byte_operators.ByteForm.TheVariants.{RightInMemory, LeftInMemory, LeftFree, RightFree, Pushed}
-use Rattle.exprgen8080.specs.declared.byte_operators.Operands.{Operands}
-use Rattle.exprgen8080.specs.declared.byte_shifts.Shifted.{Shifted}
-use Rattle.exprgen8080.specs.Halves.{byte_number_steps, high_byte_steps, low_of_word_steps}
-use Rattle.exprgen8080.specs.ByteShifts.{by_number_steps, byte_routine, byte_shift_steps, byte_shifted_right_steps, count_in_memory_steps, low_byte_shifted_right_steps, middle_byte_steps, operands_steps, right_shift_steps, rotation_steps, shifted_left_steps, turned_right_steps, zero_steps}
-use Rattle.exprgen8080.specs.ByteOperators.{added_steps, byte_binary_steps, byte_operation_steps, commutes, form_after_right, form_from_register, form_of, form_with_left, form_without_memory, from_number_steps, immediate_steps, in_form_steps, number_of_two, product_byte_steps, quotient_byte_steps, remainder_byte_steps, with_e_steps, with_memory_steps, with_number_steps, with_stack_steps}
-use Rattle.measure_laws.specs.internal.Parts.{Fit, HasTwo, IsOperand, beside, indices, more_for_byte, more_for_word, type_at}
+use Rattle.steps8080.specs.{Step.{part}, Widths.{is_byte}}
+use Rattle.measure_laws.specs.internal.Parts.{IsOperand}
 use Rattle.measure_laws.proofs.Sizes.Addresses.{byte_in_memory_fits}
 use Rattle.measure_laws.proofs.Sizes.Chains.{byte_product_fits}
 use Rattle.measure_laws.proofs.Sizes.Found.{IsInMemory, high_is_in_memory, of_found, operand_is_in_memory}

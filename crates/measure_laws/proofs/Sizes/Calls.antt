@@ -1,33 +1,10 @@
 -- Calls, assignments, and what expressions do beside their values.
-use Rattle.std.proofs.Common.{◌≡◌, ℕ, zero, suc, ◌+◌, ◌-◌, ◌*◌, ◌%◌, ◌<◌, ◌≤◌, nat_lt, Bool, true, false, List, [], ◌∷◌, ◌++◌, Option, Some, None, IfSome, slice_get, if◌then◌else◌, refl, sym, ap, subst, ◌∙◌, arith}
-use Rattle.std.proofs.lemmas.Bool.{lt-ltb}
-use Rattle.std.specs.Option.{option_map_or}
-use Rattle.layout.specs.Storage.{Storage}
-use Rattle.trees.specs.declared.declaration.ScalarType.{ScalarType}
-use Rattle.trees.specs.declared.declaration.ScalarType.TheVariants.{Byte, Address}
-use Rattle.typed_trees.specs.TypedTrees.{TypedArguments}
-use Rattle.treecode.specs.declared.expression.Expression.{Expression}
-use Rattle.treecode.specs.declared.expression.ExpressionForm.{ExpressionForm}
+use Rattle.measure_laws.proofs.Prelude.{◌≡◌, ℕ, zero, suc, ◌+◌, ◌-◌, ◌*◌, ◌%◌, ◌<◌, ◌≤◌, nat_lt, Bool, true, false, List, [], ◌∷◌, ◌++◌, Option, Some, None, IfSome, slice_get, if◌then◌else◌, refl, sym, ap, subst, ◌∙◌, arith, lt-ltb, option_map_or, Storage, ScalarType, Byte, Address, TypedArguments, Expression, ExpressionForm, ExpressionNumber, Range, Reference, Subscript, Target, AreArguments, AreMore, AreNone, nodes_of, argument, source, Task, Site, expression, scalar, embedded_steps, argument_steps, arguments_steps, call_steps, last_argument_steps, push_of, pushed_argument_steps, value_task, both_effects_steps, effects_steps, form_effects_steps, reference_effects_steps, subscript_effects_steps, beside_at, weight_in_target, weight_of_given, weight_of_index, Fit, beside, given, indices, size_of_task}
 use Rattle.treecode.specs.declared.expression.ExpressionForm.TheVariants as forms
-use Rattle.treecode.specs.declared.expression.ExpressionNumber.{ExpressionNumber}
-use Rattle.treecode.specs.declared.lists.Range.{Range}
-use Rattle.treecode.specs.declared.reference.Reference.{Reference}
-use Rattle.treecode.specs.declared.reference.Subscript.{Subscript}
-use Rattle.treecode.specs.declared.reference.Target.{Target}
-use Rattle.treecode.specs.Lowered.{AreArguments, AreMore, AreNone}
-use Rattle.treecode.specs.Nodes.{nodes_of}
-use Rattle.treecode.specs.Queries.{argument, source}
 use Rattle.steps8080.specs.declared.step.Step.TheVariants as steps
-use Rattle.steps8080.specs.declared.step.Task.{Task}
 use Rattle.steps8080.specs.declared.step.Task.TheVariants as tasks
 use Rattle.steps8080.specs.Step.{part}
-use Rattle.steps8080.specs.declared.sites.site.Site.{Site}
-use Rattle.steps8080.specs.Site.{expression, scalar}
-use Rattle.exprgen8080.specs.Bytes.{embedded_steps}
-use Rattle.exprgen8080.specs.Calls.{argument_steps, arguments_steps, call_steps, last_argument_steps, push_of, pushed_argument_steps, value_task}
-use Rattle.exprgen8080.specs.Effects.{both_effects_steps, effects_steps, form_effects_steps, reference_effects_steps, subscript_effects_steps}
-use Rattle.measure_laws.specs.Weights.{beside_at, weight_in_target, weight_of_given, weight_of_index}
-use Rattle.measure_laws.specs.internal.Parts.{AreGiven, Fit, HasParts, IsAimed, IsOfTree, IsOperand, IsPlaced, beside, given, indices, size_of_task}
+use Rattle.measure_laws.specs.internal.Parts.{AreGiven, HasParts, IsAimed, IsOfTree, IsOperand, IsPlaced}
 use Rattle.measure_laws.proofs.Sizes.Addresses.{placed_indices}
 use Rattle.measure_laws.proofs.Sizes.Joining.{after_part, after_plain, by_finding, by_test, fits, joined, within}
 use Rattle.measure_laws.proofs.Sizes.Trees.{has_parts, operand}

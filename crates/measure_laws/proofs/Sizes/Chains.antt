@@ -1,18 +1,6 @@
 -- Products with numbers.
-use Rattle.std.proofs.Common.{◌≡◌, ℕ, zero, suc, ◌+◌, ◌*◌, ◌%◌, ◌/◌, ◌^◌, ◌==◌, ◌||◌, ◌≤◌, ◌<◌, Bool, true, false, IfSome, List, [], ◌∷◌, ◌++◌, Option, Some, None, if◌then◌else◌, refl, arith}
-use Rattle.isa8080.specs.declared.instr.Instr.{Instr}
-use Rattle.isa8080.specs.declared.instr.Instr.TheVariants.{Dad}
-use Rattle.isa8080.specs.declared.instr.Operation.TheVariants.{Add}
-use Rattle.isa8080.specs.declared.instr.Pair.TheVariants.{Bc, Hl}
-use Rattle.isa8080.specs.declared.instr.Register.TheVariants.{A, B}
-use Rattle.layout.specs.Storage.{Storage}
-use Rattle.asm8080.specs.Standing.{size_of_instruction}
-use Rattle.treecode.specs.declared.expression.ExpressionNumber.{ExpressionNumber}
-use Rattle.steps8080.specs.Instructions.{with_register}
-use Rattle.steps8080.specs.declared.sites.site.Site.{Site}
-use Rattle.steps8080.specs.Widths.{power_from, power_of_two}
-use Rattle.operands8080.specs.Products.{bit_steps, byte_multiple_steps, byte_product_steps, chain_from, has_bit, multiple_steps, product_steps, small_multiple_steps}
-use Rattle.measure_laws.specs.internal.Parts.{Fit, IsOperand, beside}
+use Rattle.measure_laws.proofs.Prelude.{◌≡◌, ℕ, zero, suc, ◌+◌, ◌*◌, ◌%◌, ◌/◌, ◌^◌, ◌==◌, ◌||◌, ◌≤◌, ◌<◌, Bool, true, false, IfSome, List, [], ◌∷◌, ◌++◌, Option, Some, None, if◌then◌else◌, refl, arith, Instr, Dad, Add, Bc, Hl, A, B, Storage, size_of_instruction, ExpressionNumber, with_register, Site, power_from, power_of_two, bit_steps, byte_multiple_steps, byte_product_steps, chain_from, has_bit, multiple_steps, product_steps, small_multiple_steps, Fit, beside}
+use Rattle.measure_laws.specs.internal.Parts.{IsOperand}
 use Rattle.measure_laws.proofs.Sizes.Found.{of_found}
 use Rattle.measure_laws.proofs.Sizes.Joining.{after_part, after_plain, by_finding, by_test, fits, joined, repeated, within}
 

@@ -1,16 +1,8 @@
 -- Steps one after another, steps that are repeated, and steps that depend on what is found.
-use Rattle.std.proofs.Common.{◌≡◌, ℕ, zero, suc, ◌+◌, ◌≤◌, Bool, true, false, if◌then◌else◌, List, [], ◌∷◌, ◌++◌, Option, Some, None, refl, arith}
-use Rattle.layout.specs.Storage.{Storage}
-use Rattle.isa8080.specs.declared.instr.Instr.{Instr}
-use Rattle.asm8080.specs.Standing.{size_of_instruction}
-use Rattle.steps8080.specs.declared.step.Part.{Part}
-use Rattle.steps8080.specs.declared.step.Step.{Step}
+use Rattle.measure_laws.proofs.Prelude.{◌≡◌, ℕ, zero, suc, ◌+◌, ◌≤◌, Bool, true, false, if◌then◌else◌, List, [], ◌∷◌, ◌++◌, Option, Some, None, refl, arith, Storage, Instr, size_of_instruction, Part, Step, Task, repeat_steps, Site, size_of_steps, AreOfTrees, Fit, size_of_task}
 use Rattle.steps8080.specs.declared.step.Step.TheVariants as steps
-use Rattle.steps8080.specs.declared.step.Task.{Task}
-use Rattle.steps8080.specs.Step.{part, repeat_steps}
-use Rattle.steps8080.specs.declared.sites.site.Site.{Site}
-use Rattle.measure_laws.specs.internal.Sizes.{size_of_steps}
-use Rattle.measure_laws.specs.internal.Parts.{AreOfTrees, Fit, IsOfTree, size_of_task}
+use Rattle.steps8080.specs.Step.{part}
+use Rattle.measure_laws.specs.internal.Parts.{IsOfTree}
 
 pub fits :
     {site : Site} {storage : Storage} {planned : List Step} {size : ℕ}

@@ -1,40 +1,11 @@
 -- A BYTE whose low byte would come by way of HL, and so by way of itself again, is never written: what is written ends.
-use Rattle.std.proofs.Common.{◌≡◌, ℕ, Bool, List, [], ◌∷◌, ◌++◌, Option, Some, None, is_some, option_and_then, slice_get, refl, sym, ap, subst, ◌∙◌}
-use Rattle.std.proofs.lemmas.Bool.{false≢true}
-use Rattle.std.specs.Option.{option_map_or}
-use Rattle.asm8080.specs.declared.item.Item.{Item}
-use Rattle.trees.specs.declared.declaration.ScalarType.{ScalarType}
+use Rattle.measure_laws.proofs.Prelude.{◌≡◌, ℕ, Bool, List, [], ◌∷◌, ◌++◌, Option, Some, None, is_some, option_and_then, slice_get, refl, sym, ap, subst, ◌∙◌, false≢true, option_map_or, Item, ScalarType, Low, High, Double, Expression, ExpressionForm, ExpressionNumber, Reference, Facts, Part, Step, Task, extension_steps, Static, Place, location_address_steps, byte_in_memory_steps, extended_byte_in_memory_steps, byte_product_steps, low_byte_shifted_right_steps, Site, expression, form_in_memory, high_in_memory, known, memory, number, plain_in_memory, same_low_byte, low_number, power, byte_form_steps, byte_of_two_steps, byte_steps, known_byte_steps, byte_binary_steps, product_byte_steps, quotient_byte_steps, AreWritten, IsWritten, PartWritten, knowing, steps_of, task_steps, low_of_word_steps, computed_word_steps, extended_byte_steps, word_form_steps, word_steps, type_at}
 use Rattle.trees.specs.declared.declaration.ScalarType.TheVariants as scalars
-use Rattle.typed_trees.specs.declared.parts.UnaryFunction.TheVariants.{Low, High, Double}
-use Rattle.treecode.specs.declared.expression.Expression.{Expression}
-use Rattle.treecode.specs.declared.expression.ExpressionForm.{ExpressionForm}
 use Rattle.treecode.specs.declared.expression.ExpressionForm.TheVariants as forms
-use Rattle.treecode.specs.declared.expression.ExpressionNumber.{ExpressionNumber}
-use Rattle.treecode.specs.declared.reference.Reference.{Reference}
-use Rattle.steps8080.specs.declared.facts.Facts.{Facts}
-use Rattle.steps8080.specs.declared.step.Part.{Part}
-use Rattle.steps8080.specs.declared.step.Step.{Step}
 use Rattle.steps8080.specs.declared.step.Step.TheVariants as steps
-use Rattle.steps8080.specs.declared.step.Task.{Task}
 use Rattle.steps8080.specs.declared.step.Task.TheVariants as tasks
-use Rattle.steps8080.specs.Step.{extension_steps, part}
-use Rattle.treecode.specs.declared.place.Location.TheVariants.{Static}
-use Rattle.treecode.specs.declared.place.Place.{Place}
-use Rattle.operands8080.specs.Addresses.{location_address_steps}
-use Rattle.operands8080.specs.Loads.{byte_in_memory_steps, extended_byte_in_memory_steps}
-use Rattle.operands8080.specs.Products.{byte_product_steps}
-use Rattle.exprgen8080.specs.ByteShifts.{low_byte_shifted_right_steps}
-use Rattle.steps8080.specs.declared.sites.site.Site.{Site}
-use Rattle.steps8080.specs.Site.{expression}
-use Rattle.steps8080.specs.Queries.{form_in_memory, high_in_memory, known, memory, number, plain_in_memory, same_low_byte}
-use Rattle.steps8080.specs.Widths.{low_number, power}
-use Rattle.exprgen8080.specs.Bytes.{byte_form_steps, byte_of_two_steps, byte_steps, known_byte_steps}
-use Rattle.exprgen8080.specs.ByteOperators.{byte_binary_steps, product_byte_steps, quotient_byte_steps}
-use Rattle.exprgen8080.specs.Emission.{AreWritten, IsWritten, PartWritten, Planned, knowing}
-use Rattle.exprgen8080.specs.Forms.{steps_of, task_steps}
-use Rattle.exprgen8080.specs.Halves.{low_of_word_steps}
-use Rattle.exprgen8080.specs.Words.{computed_word_steps, extended_byte_steps, word_form_steps, word_steps}
-use Rattle.measure_laws.specs.internal.Parts.{type_at}
+use Rattle.steps8080.specs.Step.{part}
+use Rattle.exprgen8080.specs.Emission.{Planned}
 use Rattle.measure_laws.proofs.Sizes.Trees.{type_found}
 use Rattle.measure_laws.proofs.Sizes.Values.{HasNoEnd, ListTurns, LocationTurns, NumberTurns, ProductTurns, QuotientTurns, Turns, ValueTurns}
 

@@ -1,28 +1,8 @@
 -- The code of a part of an expression is not too long for what it is of.
-use Rattle.std.proofs.Common.{◌≡◌, ℕ, ◌+◌, ◌*◌, ◌≤◌, Bool, List, [], ◌∷◌, refl, sym, arith}
-use Rattle.layout.specs.Storage.{Storage}
-use Rattle.asm8080.specs.declared.item.Item.{Item}
-use Rattle.asm8080.specs.Items.{size_of_items}
-use Rattle.typed_trees.specs.TypedTrees.{TypedArguments, TypedExpression, TypedReference, TypedTarget}
-use Rattle.typed_trees.specs.Weight.{weight_of_arguments, weight_of_expression, weight_of_reference, weight_of_target}
-use Rattle.treecode.specs.declared.expression.ExpressionNumber.{ExpressionNumber}
-use Rattle.treecode.specs.declared.lists.Range.{Range}
-use Rattle.treecode.specs.declared.reference.Reference.{Reference}
-use Rattle.treecode.specs.declared.reference.Target.{Target}
-use Rattle.treecode.specs.Lowered.{AreArguments, IsExpression, IsReference, IsTarget}
-use Rattle.treecode.specs.Nodes.{nodes_of}
-use Rattle.steps8080.specs.declared.facts.Facts.{Facts}
-use Rattle.steps8080.specs.declared.step.Part.{Part}
-use Rattle.steps8080.specs.declared.step.Step.{Step}
+use Rattle.measure_laws.proofs.Prelude.{◌≡◌, ℕ, ◌+◌, ◌*◌, ◌≤◌, Bool, List, [], ◌∷◌, refl, sym, arith, Storage, Item, size_of_items, TypedArguments, TypedExpression, TypedReference, TypedTarget, weight_of_arguments, weight_of_expression, weight_of_reference, weight_of_target, ExpressionNumber, Range, Reference, Target, AreArguments, IsExpression, IsReference, IsTarget, nodes_of, Facts, Part, Step, Task, Site, AreWritten, IsWritten, knowing, steps_of, task_steps, PartsFit, TaskFits, size_of_step, size_of_steps, beside_at, weight_in_target, weight_of_given, weight_of_indices, AreOfTrees, Fit, beside, given, indices, size_of_task}
 use Rattle.steps8080.specs.declared.step.Step.TheVariants as steps
-use Rattle.steps8080.specs.declared.step.Task.{Task}
 use Rattle.steps8080.specs.declared.step.Task.TheVariants as tasks
-use Rattle.steps8080.specs.declared.sites.site.Site.{Site}
-use Rattle.exprgen8080.specs.Emission.{AreWritten, IsWritten, knowing}
-use Rattle.exprgen8080.specs.Forms.{steps_of, task_steps}
-use Rattle.measure_laws.specs.internal.Sizes.{PartsFit, TaskFits, size_of_step, size_of_steps}
-use Rattle.measure_laws.specs.Weights.{beside_at, weight_in_target, weight_of_given, weight_of_indices}
-use Rattle.measure_laws.specs.internal.Parts.{AreGiven, AreOfTrees, Fit, IsAimed, IsOfTree, IsOperand, IsPlaced, beside, given, indices, size_of_task}
+use Rattle.measure_laws.specs.internal.Parts.{AreGiven, IsAimed, IsOfTree, IsOperand, IsPlaced}
 use Rattle.measure_laws.proofs.Sizes.Addresses.{address_fits}
 use Rattle.measure_laws.proofs.Sizes.Calls.{call_fits, effects_fit}
 use Rattle.measure_laws.proofs.Sizes.NoEnd.{ends_if_written}

@@ -1,32 +1,9 @@
 -- Stores of a value that is in A or HL.
-use Rattle.std.proofs.Common.{◌≡◌, ℕ, ◌+◌, ◌*◌, ◌%◌, ◌≤◌, Bool, true, false, ◌&&◌, not, List, [], ◌∷◌, ◌++◌, Option, Some, None, if◌then◌else◌, arith}
-use Rattle.trees.specs.declared.declaration.ScalarType.{ScalarType}
-use Rattle.trees.specs.declared.declaration.ScalarType.TheVariants.{Byte, Address}
-use Rattle.layout.specs.Storage.{Storage}
-use Rattle.isa8080.specs.declared.instr.Instr.TheVariants.{Inx, MovToMemory, Mvi}
-use Rattle.isa8080.specs.declared.instr.Operand.TheVariants.{M}
-use Rattle.isa8080.specs.declared.instr.Pair.TheVariants.{Hl}
-use Rattle.isa8080.specs.declared.instr.Register.TheVariants.{A, D, L}
-use Rattle.asm8080.specs.declared.item.WordForm.TheVariants.{StoreA, StoreHl}
-use Rattle.treecode.specs.declared.place.Location.{Location}
-use Rattle.treecode.specs.declared.place.Location.TheVariants.{Static, Frame}
-use Rattle.treecode.specs.declared.reference.Reference.{Reference}
-use Rattle.treecode.specs.declared.reference.Target.{Target}
-use Rattle.treecode.specs.declared.reference.Target.TheVariants.{Sent, Stored}
-use Rattle.treecode.specs.Lowered.{IsSent, IsStored, IsTarget}
-use Rattle.treecode.specs.Nodes.{nodes_of}
-use Rattle.typed_trees.specs.TypedTrees.{TypedTarget}
-use Rattle.steps8080.specs.declared.step.Step.{Step}
+use Rattle.measure_laws.proofs.Prelude.{◌≡◌, ℕ, ◌+◌, ◌*◌, ◌%◌, ◌≤◌, Bool, true, false, ◌&&◌, not, List, [], ◌∷◌, ◌++◌, Option, Some, None, if◌then◌else◌, arith, ScalarType, Byte, Address, Storage, Inx, MovToMemory, Mvi, M, Hl, A, D, L, StoreA, StoreHl, Location, Static, Frame, Reference, Target, Sent, Stored, IsSent, IsStored, IsTarget, nodes_of, TypedTarget, Step, copy, extension_steps, Site, Goal, Near, First, Second, address_beside_a_steps, address_beside_de_steps, byte_is_here_steps, goal_of, goal_steps, high_zero_steps, send_steps, store_a_at_steps, store_a_steps, store_extended_steps, store_hl_at_steps, store_low_byte_at_steps, store_low_byte_steps, store_near_steps, store_steps, store_word_steps, value_back_steps, word_is_here_steps, word_near, beside_at, weight_in_target, Fit, indices}
 use Rattle.steps8080.specs.declared.step.Step.TheVariants as steps
-use Rattle.steps8080.specs.Instructions.{copy}
-use Rattle.steps8080.specs.Step.{extension_steps, plain}
-use Rattle.steps8080.specs.declared.sites.site.Site.{Site}
-use Rattle.operands8080.specs.declared.stores.Goal.{Goal}
-use Rattle.operands8080.specs.declared.stores.Near.{Near}
-use Rattle.operands8080.specs.declared.stores.Near.TheVariants.{First, Second}
-use Rattle.operands8080.specs.Stores.{address_beside_a_steps, address_beside_de_steps, byte_is_here_steps, goal_of, goal_steps, high_byte_steps, high_zero_steps, send_steps, store_a_at_steps, store_a_steps, store_extended_steps, store_hl_at_steps, store_low_byte_at_steps, store_low_byte_steps, store_near_steps, store_steps, store_word_steps, value_back_steps, word_is_here_steps, word_near}
-use Rattle.measure_laws.specs.Weights.{beside_at, weight_in_target}
-use Rattle.measure_laws.specs.internal.Parts.{Fit, IsAimed, IsPlaced, indices}
+use Rattle.steps8080.specs.Step.{plain}
+use Rattle.operands8080.specs.Stores.{high_byte_steps}
+use Rattle.measure_laws.specs.internal.Parts.{IsAimed, IsPlaced}
 use Rattle.measure_laws.proofs.Sizes.Joining.{after_plain, by_finding, by_test, fits, joined, within}
 
 near_fits :

@@ -1,25 +1,8 @@
 -- What tree code at a site weighs is what the typed trees weigh, and the parts of a tree.
-use Rattle.std.proofs.Common.{◌≡◌, ℕ, zero, suc, ◌+◌, ◌≤◌, Option, Some, None, slice_get, refl, sym, ap, subst, ◌∙◌, arith}
-use Rattle.std.specs.Option.{option_map_or}
-use Rattle.trees.specs.declared.declaration.ScalarType.{ScalarType}
+use Rattle.measure_laws.proofs.Prelude.{◌≡◌, ℕ, zero, suc, ◌+◌, ◌≤◌, Option, Some, None, slice_get, refl, sym, ap, subst, ◌∙◌, arith, option_map_or, ScalarType, TypedArguments, TypedExpression, TypedReference, TypedTarget, weight_of_arguments, weight_of_expression, weight_of_reference, weight_of_subscript, weight_of_target, Storage, Expression, ExpressionForm, ExpressionNumber, Reference, IndexNode, Target, AreArguments, AreMore, AreNone, IsAbsent, IsBinary, IsCallOf, IsConstantList, IsConversion, IsEmbedded, IsExpression, IsForm, IsFunction, IsIndex, IsInput, IsLocation, IsNode, IsNumber, IsPart, IsReference, IsSent, IsShift, IsStored, IsSubscript, IsTarget, IsUnary, IsValue, Nodes, nodes_of, no_traits, Site, expression, scalar, beside_at, beside_within, weight_in_form, weight_in_target, weight_of_given, weight_of_index, weight_of_indices, beside, more_for_byte, more_for_word, type_at}
 use Rattle.trees.specs.declared.declaration.ScalarType.TheVariants as scalars
-use Rattle.typed_trees.specs.TypedTrees.{TypedArguments, TypedExpression, TypedReference, TypedTarget}
-use Rattle.typed_trees.specs.Weight.{weight_of_arguments, weight_of_expression, weight_of_reference, weight_of_subscript, weight_of_target}
 use Rattle.typed_trees.specs.TypedTrees.{Subscript}
-use Rattle.layout.specs.Storage.{Storage}
-use Rattle.treecode.specs.declared.expression.Expression.{Expression}
-use Rattle.treecode.specs.declared.expression.ExpressionForm.{ExpressionForm}
-use Rattle.treecode.specs.declared.expression.ExpressionNumber.{ExpressionNumber}
-use Rattle.treecode.specs.declared.reference.Reference.{Reference}
-use Rattle.treecode.specs.declared.reference.Subscript.{Subscript as IndexNode}
-use Rattle.treecode.specs.declared.reference.Target.{Target}
-use Rattle.treecode.specs.Lowered.{AreArguments, AreMore, AreNone, IsAbsent, IsBinary, IsCallOf, IsConstantList, IsConversion, IsEmbedded, IsExpression, IsForm, IsFunction, IsIndex, IsInput, IsLocation, IsNode, IsNumber, IsPart, IsReference, IsSent, IsShift, IsStored, IsSubscript, IsTarget, IsUnary, IsValue}
-use Rattle.treecode.specs.Nodes.{Nodes, nodes_of}
-use Rattle.treecode.specs.Traits.{no_traits}
-use Rattle.steps8080.specs.declared.sites.site.Site.{Site}
-use Rattle.steps8080.specs.Site.{expression, scalar}
-use Rattle.measure_laws.specs.Weights.{beside_at, beside_within, weight_in_form, weight_in_target, weight_of_given, weight_of_index, weight_of_indices}
-use Rattle.measure_laws.specs.internal.Parts.{HasParts, IsOperand, beside, more_for_byte, more_for_word, type_at}
+use Rattle.measure_laws.specs.internal.Parts.{HasParts, IsOperand}
 
 -- this is what the expressions of numbers below a limit weigh beside 1
 abbrev pub Weighs : Nodes → Storage → (limit : ℕ) → (beside : ℕ → ℕ) → Type 0

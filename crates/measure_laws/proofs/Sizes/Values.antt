@@ -1,33 +1,9 @@
 -- Values of expressions in A and in HL.
-use Rattle.std.proofs.Common.{◌≡◌, ℕ, ◌+◌, ◌*◌, ◌%◌, ◌≤◌, Bool, true, false, List, [], ◌∷◌, ◌++◌, Option, Some, None, refl, sym, ap, subst, ◌∙◌, arith}
-use Rattle.layout.specs.Storage.{Storage}
-use Rattle.trees.specs.declared.declaration.ScalarType.{ScalarType}
+use Rattle.measure_laws.proofs.Prelude.{◌≡◌, ℕ, ◌+◌, ◌*◌, ◌%◌, ◌≤◌, Bool, true, false, List, [], ◌∷◌, ◌++◌, Option, Some, None, refl, sym, ap, subst, ◌∙◌, arith, Storage, ScalarType, BinaryOperator, Not, Negate, Low, High, Double, Expression, ExpressionForm, ExpressionNumber, Range, Static, Place, Reference, nodes_of, place_number, source, Step, low, Site, expression, scalar, known, memory, low_number, power, byte_form_steps, byte_function_steps, byte_of_two_steps, byte_steps, byte_unary_steps, called_byte_steps, known_byte_steps, low_of_value_steps, computed_word_steps, extended_byte_steps, word_form_steps, word_function_steps, word_of_two_steps, word_steps, byte_in_memory_steps, extended_byte_in_memory_steps, beside_at, weight_in_target, Fit, beside, given, indices, more_for_byte, more_for_word, type_at}
 use Rattle.trees.specs.declared.declaration.ScalarType.TheVariants as scalars
-use Rattle.trees.specs.declared.expression.BinaryOperator.{BinaryOperator}
 use Rattle.trees.specs.declared.expression.BinaryOperator.TheVariants as operators
-use Rattle.trees.specs.declared.expression.UnaryOperator.TheVariants.{Not, Negate}
-use Rattle.typed_trees.specs.declared.parts.UnaryFunction.TheVariants.{Low, High, Double}
-use Rattle.treecode.specs.declared.expression.Expression.{Expression}
-use Rattle.treecode.specs.declared.expression.ExpressionForm.{ExpressionForm}
 use Rattle.treecode.specs.declared.expression.ExpressionForm.TheVariants as forms
-use Rattle.treecode.specs.declared.expression.ExpressionNumber.{ExpressionNumber}
-use Rattle.treecode.specs.declared.lists.Range.{Range}
-use Rattle.treecode.specs.declared.place.Location.TheVariants.{Static}
-use Rattle.treecode.specs.declared.place.Place.{Place}
-use Rattle.treecode.specs.declared.reference.Reference.{Reference}
-use Rattle.treecode.specs.Nodes.{nodes_of}
-use Rattle.treecode.specs.Queries.{place_number, source}
-use Rattle.steps8080.specs.declared.step.Step.{Step}
-use Rattle.steps8080.specs.Instructions.{low}
-use Rattle.steps8080.specs.declared.sites.site.Site.{Site}
-use Rattle.steps8080.specs.Site.{expression, scalar}
-use Rattle.steps8080.specs.Queries.{known, memory}
-use Rattle.steps8080.specs.Widths.{low_number, power}
-use Rattle.exprgen8080.specs.Bytes.{byte_form_steps, byte_function_steps, byte_of_two_steps, byte_steps, byte_unary_steps, called_byte_steps, known_byte_steps, low_of_value_steps}
-use Rattle.exprgen8080.specs.Words.{computed_word_steps, extended_byte_steps, word_form_steps, word_function_steps, word_of_two_steps, word_steps}
-use Rattle.operands8080.specs.Loads.{byte_in_memory_steps, extended_byte_in_memory_steps}
-use Rattle.measure_laws.specs.Weights.{beside_at, weight_in_target}
-use Rattle.measure_laws.specs.internal.Parts.{AreGiven, Fit, HasParts, IsOperand, beside, given, indices, more_for_byte, more_for_word, type_at}
+use Rattle.measure_laws.specs.internal.Parts.{AreGiven, HasParts, IsOperand}
 use Rattle.measure_laws.proofs.Sizes.Addresses.{byte_in_memory_fits, extended_byte_in_memory_fits, location_address_fits, word_in_memory_fits}
 use Rattle.measure_laws.proofs.Sizes.Bytes.{NeverTurns, byte_binary_fits, byte_number_fits, byte_shift_fits, high_byte_fits, low_of_word_fits}
 use Rattle.measure_laws.proofs.Sizes.Calls.{call_fits, embedded_fits}

@@ -1,42 +1,11 @@
 -- Shifts of words, and operators whose value comes into HL.
-use Rattle.std.proofs.Common.{◌≡◌, ℕ, ◌+◌, ◌-◌, ◌*◌, ◌%◌, ◌/◌, ◌==◌, ◌≤◌, nat_le, nat_lt, Bool, true, false, ◌&&◌, ◌||◌, IfSome, List, [], ◌∷◌, ◌++◌, Option, Some, None, if◌then◌else◌, refl, arith}
-use Rattle.std.proofs.lemmas.Bool.{leb-true, leb-false}
-use Rattle.layout.specs.Storage.{Storage}
-use Rattle.isa8080.specs.declared.instr.Instr.TheVariants.{Dad}
-use Rattle.isa8080.specs.declared.instr.Operation.{Operation}
-use Rattle.isa8080.specs.declared.instr.Operation.TheVariants.{Add, Subtract, SubtractWithBorrow, And, ExclusiveOr, Or, Compare}
-use Rattle.isa8080.specs.declared.instr.Pair.TheVariants.{Hl}
-use Rattle.isa8080.specs.declared.instr.Register.{Register}
-use Rattle.isa8080.specs.declared.instr.Register.TheVariants.{A, H, L}
-use Rattle.trees.specs.declared.expression.BinaryOperator.{BinaryOperator}
+use Rattle.measure_laws.proofs.Prelude.{◌≡◌, ℕ, ◌+◌, ◌-◌, ◌*◌, ◌%◌, ◌/◌, ◌==◌, ◌≤◌, nat_le, nat_lt, Bool, true, false, ◌&&◌, ◌||◌, IfSome, List, [], ◌∷◌, ◌++◌, Option, Some, None, if◌then◌else◌, refl, arith, leb-true, leb-false, Storage, Dad, Operation, Add, Subtract, SubtractWithBorrow, And, ExclusiveOr, Or, Compare, Hl, Register, A, H, L, BinaryOperator, UnaryOperator, Not, Negate, ShiftFunction, ShiftLeft, ShiftRight, RotateLeft, RotateRight, ExpressionNumber, Place, Number, Site, is_free, known, may_exchange, number_of, direct_word, fits_byte, is_word_in_hl, power, PairOrder, LeftInHl, RightInHl, addition_steps, pair_order, Operands, Shifted, Simple, number_of_two, computed_count_steps, count_beside_word_steps, shifted_half_steps, quarter_steps, shifted_right_little_steps, word_by_number_steps, word_shift_steps, word_shifted_right_steps, and_with_number_steps, both_halves_steps, computed_logic_steps, difference_steps, division_steps, exchanged_operand, first_and_simple, half_steps, half_through_a_steps, high_half_steps, is_of_bytes, left_word, logic_steps, logic_with_byte_steps, logic_with_number_steps, logic_with_simple_steps, paired_steps, product_order, product_word_steps, quotient_steps, remainder_steps, simple_operand, sum_steps, taken_from_number_steps, with_pair_steps, with_simple, with_word_steps, word_binary_steps, word_unary_steps, high_byte_steps, clear_a, copy, high, low, set, with_register, Fit, beside}
 use Rattle.trees.specs.declared.expression.BinaryOperator.TheVariants as operators
-use Rattle.trees.specs.declared.expression.UnaryOperator.{UnaryOperator}
-use Rattle.trees.specs.declared.expression.UnaryOperator.TheVariants.{Not, Negate}
-use Rattle.typed_trees.specs.declared.parts.ShiftFunction.{ShiftFunction}
-use Rattle.typed_trees.specs.declared.parts.ShiftFunction.TheVariants.{ShiftLeft, ShiftRight, RotateLeft, RotateRight}
-use Rattle.treecode.specs.declared.expression.ExpressionNumber.{ExpressionNumber}
-use Rattle.treecode.specs.declared.place.Place.{Place}
-use Rattle.treecode.specs.declared.place.Place.TheVariants.{Number}
-use Rattle.steps8080.specs.declared.sites.site.Site.{Site}
-use Rattle.steps8080.specs.Queries.{is_free, known, may_exchange, number as number_of}
-use Rattle.steps8080.specs.Widths.{direct_word, fits_byte, is_word_in_hl, power}
-use Rattle.operands8080.specs.declared.pairs.PairOrder.{PairOrder}
-use Rattle.operands8080.specs.declared.pairs.PairOrder.TheVariants.{LeftInHl, RightInHl}
-use Rattle.operands8080.specs.Addresses.{addition_steps}
-use Rattle.operands8080.specs.Pairs.{pair_order}
-use Rattle.exprgen8080.specs.declared.byte_operators.Operands.{Operands}
-use Rattle.exprgen8080.specs.declared.byte_shifts.Shifted.{Shifted}
-use Rattle.exprgen8080.specs.declared.word_operators.Simple.{Simple}
 use Rattle.exprgen8080.specs.declared.word_operators.Simple.TheVariants as simple
-use Rattle.exprgen8080.specs.ByteOperators.{number_of_two}
-use Rattle.exprgen8080.specs.WordShifts.{computed_count_steps, count_beside_word_steps, half_steps as shifted_half_steps, quarter_steps, shifted_left_steps, shifted_right_little_steps, word_by_number_steps, word_shift_steps, word_shifted_right_steps, zero_steps}
-use Rattle.exprgen8080.specs.WordOperators.{and_with_number_steps, both_halves_steps, computed_logic_steps, difference_steps, division_steps, exchanged_operand, first_and_simple, half_steps, half_through_a_steps, high_half_steps, is_of_bytes, left_word, logic_steps, logic_with_byte_steps, logic_with_number_steps, logic_with_simple_steps, paired_steps, product_order, product_word_steps, quotient_steps, remainder_steps, simple_operand, sum_steps, taken_from_number_steps, with_pair_steps, with_simple, with_word_steps, word_binary_steps}
-use Rattle.exprgen8080.specs.Words.{word_unary_steps}
-use Rattle.exprgen8080.specs.Halves.{high_byte_steps}
+use Rattle.exprgen8080.specs.WordShifts.{shifted_left_steps, zero_steps}
 use Rattle.steps8080.specs.declared.step.Step.TheVariants as steps
-use Rattle.steps8080.specs.Instructions.{clear_a, copy, high, low, set, with_register}
 use Rattle.steps8080.specs.Step.{plain}
-use Rattle.measure_laws.specs.internal.Parts.{Fit, IsOperand, beside}
+use Rattle.measure_laws.specs.internal.Parts.{IsOperand}
 use Rattle.measure_laws.proofs.Sizes.Addresses.{addition_fits}
 use Rattle.measure_laws.proofs.Sizes.Bytes.{byte_operation_fits, byte_shifted_right_fits, high_byte_fits, right_shift_fits, with_number_fits}
 use Rattle.measure_laws.proofs.Sizes.Chains.{product_fits}

@@ -1,20 +1,9 @@
 -- What is written for steps takes no more bytes than the steps do, where the code of each task does not.
-use Rattle.std.proofs.Common.{◌≡◌, ℕ, ◌+◌, ◌≤◌, Bool, true, false, List, [], ◌∷◌, ◌++◌, Option, Some, None, slice_get, if◌then◌else◌, arith}
-use Rattle.layout.specs.Storage.{Storage}
-use Rattle.asm8080.specs.declared.item.Item.{Item}
+use Rattle.measure_laws.proofs.Prelude.{◌≡◌, ℕ, ◌+◌, ◌≤◌, Bool, true, false, List, [], ◌∷◌, ◌++◌, Option, Some, None, slice_get, if◌then◌else◌, arith, Storage, Item, size_of_items, ProcedureKind, TreeProcedure, Facts, Part, Step, Site, AreWritten, CallWritten, ChangeWritten, HoldsWritten, IsWritten, JumpWritten, MarkWritten, NoneWritten, PartWritten, PlainWritten, RoutineWritten, TestWritten, WordWritten, call_items, items_of_call, knowing, test_items, test_of_a, task_steps, size_of_steps, AreOfTrees, Fit, size_of_task}
 use Rattle.asm8080.specs.declared.item.Item.TheVariants as items
-use Rattle.asm8080.specs.Items.{size_of_items}
-use Rattle.treecode.specs.declared.procedure.ProcedureKind.{ProcedureKind}
 use Rattle.treecode.specs.declared.procedure.ProcedureKind.TheVariants as kinds
-use Rattle.treecode.specs.declared.procedure.TreeProcedure.{TreeProcedure}
-use Rattle.steps8080.specs.declared.facts.Facts.{Facts}
-use Rattle.steps8080.specs.declared.step.Part.{Part}
-use Rattle.steps8080.specs.declared.step.Step.{Step}
-use Rattle.steps8080.specs.declared.sites.site.Site.{Site}
-use Rattle.exprgen8080.specs.Emission.{AreWritten, CallWritten, ChangeWritten, HoldsWritten, IsWritten, JumpWritten, MarkWritten, NoneWritten, PartWritten, PlainWritten, Planned, RoutineWritten, TestWritten, WordWritten, call_items, items_of_call, knowing, test_items, test_of_a}
-use Rattle.exprgen8080.specs.Forms.{task_steps}
-use Rattle.measure_laws.specs.internal.Sizes.{size_of_steps}
-use Rattle.measure_laws.specs.internal.Parts.{AreOfTrees, Fit, IsOfTree, size_of_task}
+use Rattle.exprgen8080.specs.Emission.{Planned}
+use Rattle.measure_laws.specs.internal.Parts.{IsOfTree}
 
 size_of_kind : (procedure : ℕ) (kind : ProcedureKind) → size_of_items (items_of_call procedure kind) ≤ 3
 size_of_kind procedure kinds.Static = omega arith

@@ -1,22 +1,6 @@
 -- The weight and the code bound of tree code are those of its module.
-use Rattle.std.proofs.Common.{◌≡◌, ℕ, suc, List, [], ◌∷◌, length, slice_get, Some, Ok, refl, ap, ◌∙◌, arith}
-use Rattle.std.specs.Prelude.{sum_by}
-use Rattle.std.proofs.lemmas.List.Sums.{sum_by-cons}
-use Rattle.typed_trees.specs.Frames.{ParametersFit}
-use Rattle.typed_trees.specs.Storable.{IsStorable}
-use Rattle.typed_trees.specs.TypedTrees.{TypedModule, TypedProcedure}
+use Rattle.measure_laws.proofs.Prelude.{◌≡◌, ℕ, suc, List, [], ◌∷◌, length, slice_get, Some, Ok, refl, ap, ◌∙◌, arith, sum_by, sum_by-cons, ParametersFit, IsStorable, TypedModule, TypedProcedure, code_bound, constant_bytes, weight_of, Storage, storage_of, Content, TreeModule, TreeProcedure, IsLowered, labels_numbered_in_list, nodes_of, stored, parameter_count, has_parameters, bound_of_tree, size_of_contents, weight_of_procedure, weight_of_tree}
 use Rattle.typed_trees.specs.Weight as typed_weight
-use Rattle.typed_trees.specs.Weight.{code_bound, constant_bytes, weight_of}
-use Rattle.layout.specs.Storage.{Storage, storage_of}
-use Rattle.treecode.specs.declared.module.Content.{Content}
-use Rattle.treecode.specs.declared.module.TreeModule.{TreeModule}
-use Rattle.treecode.specs.declared.procedure.TreeProcedure.{TreeProcedure}
-use Rattle.treecode.specs.Lowered.{IsLowered, labels_numbered_in_list}
-use Rattle.treecode.specs.Nodes.{nodes_of}
-use Rattle.treecode_laws.proofs.Slots.{stored}
-use Rattle.frames.proofs.Frames.{parameter_count}
-use Rattle.frames.proofs.Parameters.{has_parameters}
-use Rattle.measure_laws.specs.Bounds.{bound_of_tree, size_of_contents, weight_of_procedure, weight_of_tree}
 use Rattle.measure_laws.proofs.Trees.Constants.{constants_take}
 use Rattle.measure_laws.proofs.Trees.Statements.{body_weighs}
 

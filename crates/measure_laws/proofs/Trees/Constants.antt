@@ -1,29 +1,8 @@
 -- The constants of tree code take as many bytes as the objects with DATA and the constant lists of the module.
-use Rattle.std.proofs.Common.{◌≡◌, ℕ, suc, ◌+◌, ◌-◌, ◌≤◌, ◌==◌, Bool, true, false, ◌&&◌, min, if◌then◌else◌, nat_le, nat_lt, List, [], ◌∷◌, ◌++◌, length, map, slice_get, Option, Some, None, refl, sym, subst, ◌∙◌, arith}
-use Rattle.std.specs.Prelude.{filter_map, sum_by}
-use Rattle.std.specs.List.{AllByRecursion, cons_option, enumerate_from}
-use Rattle.std.specs.Option.{option_map_or}
-use Rattle.std.proofs.lemmas.Bool.{eqb-true}
-use Rattle.std.proofs.lemmas.List.Elements.{recursion_from_All}
-use Rattle.std.proofs.lemmas.List.Sums.{sum_by-append, sum_by-cons}
-use Rattle.std.proofs.lemmas.Option.{same_Some}
-use Rattle.typed_trees.specs.declared.parts.ConstantItem.{ConstantItem}
-use Rattle.typed_trees.specs.declared.parts.ConstantItem.TheVariants.{ConstantObject, ConstantList}
-use Rattle.typed_trees.specs.declared.parts.InitialValue.{InitialValue}
-use Rattle.typed_trees.specs.declared.parts.InitialValue.TheVariants.{ByteValue, WordValue, LocationValue}
-use Rattle.typed_trees.specs.Sizes.{size_of_object}
-use Rattle.typed_trees.specs.Storable.{IsStorable, bytes_filled, constant_number, numbered_constant, object_in, size_of_value}
-use Rattle.typed_trees.specs.TypedTrees.{Home as TypedHome, InData, InConstants, Placed, BasedOn, Elsewhere, Nowhere, InFrame, TypedObject, TypedModule}
-use Rattle.typed_trees.specs.Weight.{constant_bytes, size_of_constant}
-use Rattle.layout.specs.Storage.{Storage, bytes_in_constants}
+use Rattle.measure_laws.proofs.Prelude.{◌≡◌, ℕ, suc, ◌+◌, ◌-◌, ◌≤◌, ◌==◌, Bool, true, false, ◌&&◌, min, if◌then◌else◌, nat_le, nat_lt, List, [], ◌∷◌, ◌++◌, length, map, slice_get, Option, Some, None, refl, sym, subst, ◌∙◌, arith, filter_map, sum_by, AllByRecursion, cons_option, enumerate_from, option_map_or, eqb-true, recursion_from_All, sum_by-append, sum_by-cons, same_Some, ConstantItem, ConstantObject, ConstantList, InitialValue, ByteValue, WordValue, LocationValue, size_of_object, IsStorable, bytes_filled, constant_number, numbered_constant, object_in, size_of_value, TypedHome, InData, InConstants, Placed, BasedOn, Elsewhere, Nowhere, InFrame, TypedObject, TypedModule, constant_bytes, size_of_constant, Storage, bytes_in_constants, Content, Word, Gap, Home, constant_object, constants_from, constants_of, content_of, bytes_of_value, with_constant, with_gap, with_gap_if_any, with_object, constant_small, size_of_content, size_of_contents}
 use Rattle.layout.proofs.Segments.{of_all}
-use Rattle.treecode.specs.declared.module.Content.{Content}
-use Rattle.treecode.specs.declared.module.Content.TheVariants.{Byte, Word, Gap}
-use Rattle.treecode.specs.declared.place.Home.{Home}
-use Rattle.treecode.specs.Contents.{constant_object, constants_from, constants_of, content_of, size_of_value as bytes_of_value, with_constant, with_gap, with_gap_if_any, with_object}
+use Rattle.treecode.specs.declared.module.Content.TheVariants.{Byte}
 use Rattle.treecode_laws.specs.Laid.{IsStored}
-use Rattle.treecode_laws.proofs.Slots.{constant_small}
-use Rattle.measure_laws.specs.Bounds.{size_of_content, size_of_contents}
 
 -- a gap after contents
 joined_size :

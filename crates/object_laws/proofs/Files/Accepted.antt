@@ -1,24 +1,6 @@
 -- What a part may be that stands after others, and what the names, the entries and the publics of a file are.
-use Rattle.std.proofs.Common.{◌≡◌, ℕ, ◌<◌, ◌≤◌, Bool, true, false, not, ◌&&◌, ◌||◌, nat_lt, nat_le, List, [], ◌∷◌, ◌++◌, length, map, flat_map, filter_map, slice_get, IfSome, Option, Some, None, refl, ap, sym, ◌∙◌, arith}
-use Rattle.std.specs.List.{list_all, list_any, AllByRecursion}
-use Rattle.std.specs.Option.{option_map_or}
-use Rattle.std.specs.Str.{bytes_eq}
-use Rattle.std.proofs.lemmas.Bool.{and_parts, and_from, lt-ltb}
-use Rattle.std.proofs.lemmas.List.{append_assoc, map-append}
-use Rattle.std.proofs.lemmas.List.Folds.{list_all-append}
-use Rattle.omf80.specs.declared.kind.TheConstants.{BODY_LIMIT}
-use Rattle.omf80.specs.declared.kind.RecordKind.{RecordKind}
+use Rattle.object_laws.proofs.Prelude.{◌≡◌, ℕ, ◌<◌, ◌≤◌, Bool, true, false, not, ◌&&◌, ◌||◌, nat_lt, nat_le, List, [], ◌∷◌, ◌++◌, length, map, flat_map, filter_map, slice_get, IfSome, Option, Some, None, refl, ap, sym, ◌∙◌, arith, list_all, list_any, AllByRecursion, option_map_or, bytes_eq, and_parts, and_from, lt-ltb, append_assoc, map-append, list_all-append, BODY_LIMIT, RecordKind, none_holds, is_name, Fault, WrongBody, ContentMisplaced, FixMisplaced, WrongAlignment, Segment, Public, is_among, are_new, may_have_publics, is_valid_public, Definition, Part, HeaderPart, ExternalNamesPart, PublicsPart, ContentPart, ExternalReferencesPart, RelocationPart, IntersegmentPart, ModuleEndPart, EndOfFilePart, kind_of_part, body_of, rank_of, may_come_after, may_follow, is_empty, entries_of, externals_of, definition_names, names_of, content_of, latest_content, are_names, is_body, is_served, fits_segment, fit_content, part_fault, is_accepted, are_accepted, publics_of, start_of_end, start_in}
 use Rattle.omf80.specs.declared.kind.RecordKind.TheVariants as kinds
-use Rattle.omf80.proofs.Conditions.{none_holds}
-use Rattle.symbols.specs.Names.{is_name}
-use Rattle.object_modules.specs.declared.fault.Fault.{Fault}
-use Rattle.object_modules.specs.declared.fault.Fault.TheVariants.{WrongBody, ContentMisplaced, FixMisplaced, WrongAlignment}
-use Rattle.object_modules.specs.declared.segment.Segment.{Segment}
-use Rattle.object_modules.specs.Module.{Public, is_among, are_new, may_have_publics, is_valid_public}
-use Rattle.object_modules.specs.Parts.{Definition, Part, HeaderPart, ExternalNamesPart, PublicsPart, ContentPart, ExternalReferencesPart, RelocationPart, IntersegmentPart, ModuleEndPart, EndOfFilePart, kind_of_part, body_of}
-use Rattle.object_modules.specs.Before.{rank_of, may_come_after, may_follow, is_empty, entries_of, externals_of, definition_names, names_of, content_of, latest_content}
-use Rattle.object_modules.specs.Rules.{are_names, is_body, is_served, fits_segment, fit_content, part_fault, is_accepted, are_accepted}
-use Rattle.object_modules.specs.Spelling.{publics_of, start_of_end, start_in}
 use Rattle.object_laws.proofs.Files.Bytes.{InRange}
 
 -- the rules that a part keeps to after these

@@ -1,15 +1,6 @@
 -- Readers that count: with enough steps it doesn't matter how many there are, so each reads one item and
 -- then the rest.
-use Rattle.std.proofs.Common.{◌≡◌, ℕ, zero, suc, ◌+◌, ◌*◌, ◌<◌, ◌≤◌, ◌==◌, nat_le, List, [], ◌∷◌, length, take, drop, Option, Some, None, option_map, option_and_then, Result, refl, ap, sym, ◌∙◌, arith}
-use Rattle.std.proofs.lemmas.List.{length-drop}
-use Rattle.std.proofs.lemmas.Option.{none-some, cond_some, option_and_then_some, some_pair_parts}
-use Rattle.omf80.specs.Records.{record_end}
-use Rattle.object_modules.specs.declared.fault.Fault.{Fault}
-use Rattle.object_modules.specs.Parts.{Part}
-use Rattle.object_modules.specs.Reading.{Front, word_in_front, name_in_front, ended_name, listed_name_in_front, definition_in_front, at_most, all_in, first_part}
-use Rattle.object_modules.specs.Rules.{fault_at}
-use Rattle.object_modules.specs.internal.Judgement.{judged_by, judged_after}
-use Rattle.object_modules.proofs.Fronts.{option_map_some}
+use Rattle.object_laws.proofs.Prelude.{◌≡◌, ℕ, zero, suc, ◌+◌, ◌*◌, ◌<◌, ◌≤◌, ◌==◌, nat_le, List, [], ◌∷◌, length, take, drop, Option, Some, None, option_map, option_and_then, Result, refl, ap, sym, ◌∙◌, arith, length-drop, none-some, cond_some, option_and_then_some, some_pair_parts, record_end, Fault, Part, Front, word_in_front, name_in_front, ended_name, listed_name_in_front, definition_in_front, at_most, all_in, first_part, fault_at, judged_by, judged_after, option_map_some}
 
 -- what is read of bytes takes one of them at least
 abbrev pub Shortens : {A : Type 0} → (List ℕ → Front A) → Type 0

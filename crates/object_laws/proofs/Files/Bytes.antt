@@ -1,10 +1,6 @@
 -- What numbers a part of a file has: each is one that the bytes of its record can say.
-use Rattle.std.proofs.Common.{ℕ, zero, suc, ◌/◌, ◌<◌, List, [], ◌∷◌, ◌++◌, flat_map, get_or, IfSome, Option, Some, None, arith}
-use Rattle.std.specs.List.{AllByRecursion}
+use Rattle.object_laws.proofs.Prelude.{ℕ, zero, suc, ◌/◌, ◌<◌, List, [], ◌∷◌, ◌++◌, flat_map, get_or, IfSome, Option, Some, None, arith, AllByRecursion, record_bytes, without_checksum, IsBytes, SegmentEntry, Definition, Reference, Part, HeaderPart, ExternalNamesPart, PublicsPart, ContentPart, ExternalReferencesPart, RelocationPart, IntersegmentPart, ModuleEndPart, EndOfFilePart, name_bytes, segment_entry_bytes, definition_bytes, reference_bytes, body_of, part_bytes}
 use Rattle.mem80.specs.Sums.{checksum_of}
-use Rattle.omf80.specs.Records.{record_bytes, without_checksum}
-use Rattle.omf80.proofs.Conditions.{IsBytes}
-use Rattle.object_modules.specs.Parts.{SegmentEntry, Definition, Reference, Part, HeaderPart, ExternalNamesPart, PublicsPart, ContentPart, ExternalReferencesPart, RelocationPart, IntersegmentPart, ModuleEndPart, EndOfFilePart, name_bytes, segment_entry_bytes, definition_bytes, reference_bytes, body_of, part_bytes}
 
 -- each number of the part is a byte, or a word
 abbrev pub InRange : Part → Type 0

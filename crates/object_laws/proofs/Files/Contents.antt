@@ -1,20 +1,6 @@
 -- The contents of a file: those of a segment ascend, so each place is set by one of them alone, with a fix
 -- that is within it.
-use Rattle.std.proofs.Common.{◌≡◌, ℕ, zero, suc, ◌+◌, ◌-◌, ◌<◌, ◌≤◌, Bool, true, false, cond, not, ◌&&◌, ◌||◌, nat_lt, nat_le, List, [], ◌∷◌, ◌++◌, length, map, flat_map, find, Option, Some, None, option_map, refl, ap, sym, subst, ◌∙◌, le_trans, arith}
-use Rattle.std.specs.List.{list_all, list_any, range_with_len, AllByRecursion}
-use Rattle.std.specs.Option.{option_map_or}
-use Rattle.std.proofs.lemmas.Bool.{and_parts, and_from, or_left, or_right, or_parts, lt-ltb, ltb-true, le-leb, leb-true, eqb-true}
-use Rattle.std.proofs.lemmas.Option.{none-some, same_Some}
-use Rattle.std.proofs.lemmas.List.{append-nil, length-append}
-use Rattle.omf80.proofs.Conditions.{IsBytes, find_passes}
-use Rattle.object_modules.specs.declared.segment.Fix.{Fix}
-use Rattle.object_modules.specs.declared.segment.Segment.{Segment}
-use Rattle.object_modules.specs.Module.{Fixup, SetByte, width_of, is_both, begins_word, is_plain, words_are_whole, holds_bytes, is_target, is_valid_byte}
-use Rattle.object_modules.specs.Parts.{SegmentEntry, Content, Part, HeaderPart, ExternalNamesPart, PublicsPart, ContentPart, ExternalReferencesPart, RelocationPart, IntersegmentPart, ModuleEndPart, EndOfFilePart, segment_number}
-use Rattle.object_modules.specs.Reading.{segment_of}
-use Rattle.object_modules.specs.Before.{same_segment, is_empty, entries_of, externals_of, length_in, stated_length_of, content_end, end_by_content, filled_to, leading_fixes}
-use Rattle.object_modules.specs.Rules.{is_within, fix_end, are_accepted}
-use Rattle.object_modules.specs.Spelling.{FixedContent, fixed_contents, holds_place, set_at, set_in}
+use Rattle.object_laws.proofs.Prelude.{◌≡◌, ℕ, zero, suc, ◌+◌, ◌-◌, ◌<◌, ◌≤◌, Bool, true, false, cond, not, ◌&&◌, ◌||◌, nat_lt, nat_le, List, [], ◌∷◌, ◌++◌, length, map, flat_map, find, Option, Some, None, option_map, refl, ap, sym, subst, ◌∙◌, le_trans, arith, list_all, list_any, range_with_len, AllByRecursion, option_map_or, and_parts, and_from, or_left, or_right, or_parts, lt-ltb, ltb-true, le-leb, leb-true, eqb-true, none-some, same_Some, append-nil, length-append, IsBytes, find_passes, Fix, Segment, Fixup, SetByte, width_of, is_both, begins_word, is_plain, words_are_whole, holds_bytes, is_target, is_valid_byte, SegmentEntry, Content, Part, HeaderPart, ExternalNamesPart, PublicsPart, ContentPart, ExternalReferencesPart, RelocationPart, IntersegmentPart, ModuleEndPart, EndOfFilePart, segment_number, segment_of, same_segment, is_empty, entries_of, externals_of, length_in, stated_length_of, content_end, end_by_content, filled_to, leading_fixes, is_within, fix_end, are_accepted, FixedContent, fixed_contents, holds_place, set_at, set_in}
 use Rattle.object_laws.proofs.Files.FrontsAgain.{segment_again}
 use Rattle.object_laws.proofs.Files.Bytes.{InRange, byte_at}
 use Rattle.object_laws.proofs.Files.Accepted.{both_fit, kept, no_entries_in}

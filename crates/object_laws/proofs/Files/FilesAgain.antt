@@ -1,22 +1,6 @@
 -- A file with parts is judged as these, and one with a first fault as that: so there is one answer for each file.
-use Rattle.std.proofs.Common.{◌≡◌, ℕ, zero, suc, ◌+◌, ◌<◌, ◌≤◌, true, false, cond, ◌==◌, ◌&&◌, nat_le, List, [], ◌∷◌, ◌++◌, length, drop, flat_map, reverse, slice_index, Option, Some, None, option_map, option_and_then, Ok, Err, refl, ap, sym, ◌∙◌, arith}
-use Rattle.std.specs.Option.{option_or, option_map_or}
-use Rattle.std.proofs.lemmas.Bool.{leb-true}
-use Rattle.std.proofs.lemmas.List.{append_assoc, append-nil, reverse-append, reverse-reverse, length-append}
-use Rattle.omf80.specs.declared.kind.TheConstants.{BODY_LIMIT}
-use Rattle.omf80.specs.declared.kind.RecordKind.{RecordKind}
+use Rattle.object_laws.proofs.Prelude.{◌≡◌, ℕ, zero, suc, ◌+◌, ◌<◌, ◌≤◌, true, false, cond, ◌==◌, ◌&&◌, nat_le, List, [], ◌∷◌, ◌++◌, length, drop, flat_map, reverse, slice_index, Option, Some, None, option_map, option_and_then, Ok, Err, refl, ap, sym, ◌∙◌, arith, option_or, option_map_or, leb-true, append_assoc, append-nil, reverse-append, reverse-reverse, length-append, BODY_LIMIT, RecordKind, kind_of_type, record_end, first_body, record_bytes, record_fault, ReadAgain, read_again, Fault, OutOfOrder, WrongBody, rank_of, may_come_after, is_empty, is_ended, may_follow, Part, kind_of_part, body_of, part_bytes, part_in, first_part, part_fault, is_accepted, are_accepted, fault_from_record, fault_of_record, fault_at, IsFileOf, HasFirstFault, judged_by, judged_after, parts_of, both}
 use Rattle.omf80.specs.declared.kind.RecordKind.TheVariants as kinds
-use Rattle.omf80.specs.Records.{kind_of_type, record_end, first_body, record_bytes, record_fault}
-use Rattle.omf80.proofs.RecordsAgain.{ReadAgain, read_again}
-use Rattle.object_modules.specs.declared.fault.Fault.{Fault}
-use Rattle.object_modules.specs.declared.fault.Fault.TheVariants.{OutOfOrder, WrongBody}
-use Rattle.object_modules.specs.Before.{rank_of, may_come_after, is_empty, is_ended, may_follow}
-use Rattle.object_modules.specs.Parts.{Part, kind_of_part, body_of, part_bytes}
-use Rattle.object_modules.specs.Reading.{part_in, first_part}
-use Rattle.object_modules.specs.Rules.{part_fault, is_accepted, are_accepted, fault_from_record, fault_of_record, fault_at}
-use Rattle.object_modules.specs.Spelling.{IsFileOf, HasFirstFault}
-use Rattle.object_modules.specs.internal.Judgement.{judged_by, judged_after, parts_of}
-use Rattle.object_modules.proofs.ReadBack.{both}
 use Rattle.object_laws.proofs.Files.PartsAgain.{part_again}
 
 -- nothing follows the end of the file

@@ -1,20 +1,6 @@
 -- The fixes that stand after a content of a file: what they are fixed to, that they lie within it, and that no
 -- word begins right before another of them.
-use Rattle.std.proofs.Common.{◌≡◌, ℕ, suc, ◌+◌, ◌<◌, ◌≤◌, ◌==◌, Bool, true, false, cond, not, ◌&&◌, ◌||◌, nat_lt, List, [], ◌∷◌, ◌++◌, length, map, flat_map, take, Some, None, refl, ap, sym, ◌∙◌, arith}
-use Rattle.std.specs.List.{list_all, list_any, prefix_len, AllByRecursion}
-use Rattle.std.specs.Option.{option_or}
-use Rattle.std.proofs.lemmas.Bool.{and_parts, and_from, lt-ltb, ltb-true, eqb-true}
-use Rattle.std.proofs.lemmas.List.Folds.{list_all-append, list_any-append}
-use Rattle.object_modules.specs.declared.segment.Fix.{Fix}
-use Rattle.object_modules.specs.declared.segment.FixKind.{FixKind}
-use Rattle.object_modules.specs.declared.segment.FixKind.TheVariants.{Low, High, Both}
-use Rattle.object_modules.specs.declared.segment.Segment.{Segment}
-use Rattle.object_modules.specs.declared.segment.Segment.TheVariants.{Absolute, Code, Data, Stack}
-use Rattle.object_modules.specs.declared.segment.Target.TheVariants.{InSegment}
-use Rattle.object_modules.specs.Module.{width_of, is_both, holds_bytes, is_movable, is_target}
-use Rattle.object_modules.specs.Parts.{Reference, Content, Part, HeaderPart, ExternalNamesPart, PublicsPart, ContentPart, ExternalReferencesPart, RelocationPart, IntersegmentPart, ModuleEndPart, EndOfFilePart, kind_of_part}
-use Rattle.object_modules.specs.Before.{is_empty, is_fix_record, externals_of, content_of, latest_content, fixes_of, leading_fixes}
-use Rattle.object_modules.specs.Rules.{is_other_segment, is_body, is_within, fix_end, share_a_byte, are_apart, fit_content, are_accepted}
+use Rattle.object_laws.proofs.Prelude.{◌≡◌, ℕ, suc, ◌+◌, ◌<◌, ◌≤◌, ◌==◌, Bool, true, false, cond, not, ◌&&◌, ◌||◌, nat_lt, List, [], ◌∷◌, ◌++◌, length, map, flat_map, take, Some, None, refl, ap, sym, ◌∙◌, arith, list_all, list_any, prefix_len, AllByRecursion, option_or, and_parts, and_from, lt-ltb, ltb-true, eqb-true, list_all-append, list_any-append, Fix, FixKind, Low, High, Both, Segment, Absolute, Code, Data, Stack, InSegment, width_of, is_both, holds_bytes, is_movable, is_target, Reference, Content, Part, HeaderPart, ExternalNamesPart, PublicsPart, ContentPart, ExternalReferencesPart, RelocationPart, IntersegmentPart, ModuleEndPart, EndOfFilePart, kind_of_part, is_empty, is_fix_record, externals_of, content_of, latest_content, fixes_of, leading_fixes, is_other_segment, is_body, is_within, fix_end, share_a_byte, are_apart, fit_content, are_accepted}
 use Rattle.object_laws.proofs.Files.Bytes.{InRange}
 use Rattle.object_laws.proofs.Files.Accepted.{both_fit, any_moved}
 

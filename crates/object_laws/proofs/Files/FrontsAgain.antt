@@ -1,14 +1,5 @@
 -- What is spelled in front of bytes is read from their front.
-use Rattle.std.proofs.Common.{◌≡◌, ℕ, zero, suc, ◌+◌, ◌*◌, ◌/◌, ◌%◌, ◌<◌, ◌≤◌, cond, List, [], ◌∷◌, ◌++◌, length, take, drop, flat_map, Some, None, option_map, option_and_then, refl, ap, ◌∙◌, arith}
-use Rattle.std.proofs.lemmas.Bool.{le-leb}
-use Rattle.std.proofs.lemmas.List.{length-append, append_assoc, take_at, drop_at}
-use Rattle.omf80.specs.Records.{word_bytes}
-use Rattle.object_modules.specs.declared.segment.Segment.{Segment}
-use Rattle.object_modules.specs.declared.segment.Segment.TheVariants.{Absolute, Code, Data, Stack}
-use Rattle.object_modules.specs.declared.segment.FixKind.{FixKind}
-use Rattle.object_modules.specs.declared.segment.FixKind.TheVariants.{Low, High, Both}
-use Rattle.object_modules.specs.Parts.{SegmentEntry, Reference, segment_number, fix_kind_number, name_bytes, listed_name_bytes, segment_entry_bytes, definition_bytes, reference_bytes}
-use Rattle.object_modules.specs.Reading.{Front, segment_of, fix_kind_of, word_in_front, name_in_front, ended_name, listed_name_in_front, definition_in_front, words_in, references_in, segment_entries_in, at_most, all_in}
+use Rattle.object_laws.proofs.Prelude.{◌≡◌, ℕ, zero, suc, ◌+◌, ◌*◌, ◌/◌, ◌%◌, ◌<◌, ◌≤◌, cond, List, [], ◌∷◌, ◌++◌, length, take, drop, flat_map, Some, None, option_map, option_and_then, refl, ap, ◌∙◌, arith, le-leb, length-append, append_assoc, take_at, drop_at, word_bytes, Segment, Absolute, Code, Data, Stack, FixKind, Low, High, Both, SegmentEntry, Reference, segment_number, fix_kind_number, name_bytes, listed_name_bytes, segment_entry_bytes, definition_bytes, reference_bytes, Front, segment_of, fix_kind_of, word_in_front, name_in_front, ended_name, listed_name_in_front, definition_in_front, words_in, references_in, segment_entries_in, at_most, all_in}
 
 -- what is spelled is read, and the bytes after it are left; it has a byte at least
 pub record ReadsAgain {A : Type 0} (spell : A → List ℕ) (front : List ℕ → Front A) : Type 0 where

@@ -1,22 +1,5 @@
 -- What the judgement of a file gives: the parts of the file, or its first fault.
-use Rattle.std.proofs.Common.{◌≡◌, ℕ, zero, suc, ◌<◌, ◌≤◌, Bool, true, false, cond, ◌&&◌, List, [], ◌∷◌, ◌++◌, length, drop, flat_map, reverse, slice_index, Option, Some, None, option_map, option_and_then, Result, Ok, Err, refl, ap, sym, subst, ◌∙◌, arith}
-use Rattle.std.specs.Option.{option_or, option_map_or}
-use Rattle.std.proofs.lemmas.Bool.{le-leb}
-use Rattle.std.proofs.lemmas.List.{append_assoc, append-nil, reverse-append}
-use Rattle.omf80.specs.declared.kind.TheConstants.{BODY_LIMIT}
-use Rattle.omf80.specs.declared.kind.RecordKind.{RecordKind}
-use Rattle.omf80.specs.Records.{kind_of_type, record_end, first_body, record_bytes, record_fault, type_byte}
-use Rattle.omf80.proofs.Conditions.{IsBytes}
-use Rattle.omf80.proofs.RecordLaws.{Begins, begins}
-use Rattle.object_modules.specs.declared.fault.Fault.{Fault}
-use Rattle.object_modules.specs.declared.fault.Fault.TheVariants.{OutOfOrder, WrongBody}
-use Rattle.object_modules.specs.Before.{is_empty, is_ended, may_follow}
-use Rattle.object_modules.specs.Parts.{Part, kind_of_part, body_of, part_bytes}
-use Rattle.object_modules.specs.Reading.{part_in, first_part}
-use Rattle.object_modules.specs.Rules.{part_fault, is_accepted, are_accepted, fault_from_record, fault_of_record, fault_at}
-use Rattle.object_modules.specs.Spelling.{IsFileOf, HasFirstFault}
-use Rattle.object_modules.specs.internal.Judgement.{judged_by, judged_after, parts_of}
-use Rattle.object_modules.proofs.ReadBack.{part_back}
+use Rattle.object_laws.proofs.Prelude.{◌≡◌, ℕ, zero, suc, ◌<◌, ◌≤◌, Bool, true, false, cond, ◌&&◌, List, [], ◌∷◌, ◌++◌, length, drop, flat_map, reverse, slice_index, Option, Some, None, option_map, option_and_then, Result, Ok, Err, refl, ap, sym, subst, ◌∙◌, arith, option_or, option_map_or, le-leb, append_assoc, append-nil, reverse-append, BODY_LIMIT, RecordKind, kind_of_type, record_end, first_body, record_bytes, record_fault, type_byte, IsBytes, Begins, begins, Fault, OutOfOrder, WrongBody, is_empty, is_ended, may_follow, Part, kind_of_part, body_of, part_bytes, part_in, first_part, part_fault, is_accepted, are_accepted, fault_from_record, fault_of_record, fault_at, IsFileOf, HasFirstFault, judged_by, judged_after, parts_of, part_back}
 
 option_or_none : {A : Type 0} (a b : Option A) → option_or a b ≡ None → (a ≡ None) × (b ≡ None)
 option_or_none None b h = (refl, h)

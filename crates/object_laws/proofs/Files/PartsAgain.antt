@@ -1,10 +1,5 @@
 -- The body of a part is read as that part.
-use Rattle.std.proofs.Common.{◌≡◌, ℕ, ◌+◌, ◌*◌, ◌/◌, ◌%◌, List, ◌∷◌, flat_map, Some, None, option_map, option_and_then, refl, ap, ◌∙◌}
-use Rattle.omf80.specs.Records.{word_bytes}
-use Rattle.object_modules.specs.declared.segment.Segment.{Segment}
-use Rattle.object_modules.specs.declared.segment.FixKind.{FixKind}
-use Rattle.object_modules.specs.Parts.{Part, HeaderPart, ExternalNamesPart, PublicsPart, ContentPart, ExternalReferencesPart, RelocationPart, IntersegmentPart, ModuleEndPart, EndOfFilePart, kind_of_part, body_of, listed_name_bytes, segment_entry_bytes, definition_bytes, reference_bytes, fix_kind_number}
-use Rattle.object_modules.specs.Reading.{fix_kind_of, listed_name_in_front, definition_in_front, words_in, references_in, all_in, header_after_name, part_in}
+use Rattle.object_laws.proofs.Prelude.{◌≡◌, ℕ, ◌+◌, ◌*◌, ◌/◌, ◌%◌, List, ◌∷◌, flat_map, Some, None, option_map, option_and_then, refl, ap, ◌∙◌, word_bytes, Segment, FixKind, Part, HeaderPart, ExternalNamesPart, PublicsPart, ContentPart, ExternalReferencesPart, RelocationPart, IntersegmentPart, ModuleEndPart, EndOfFilePart, kind_of_part, body_of, listed_name_bytes, segment_entry_bytes, definition_bytes, reference_bytes, fix_kind_number, fix_kind_of, listed_name_in_front, definition_in_front, words_in, references_in, all_in, header_after_name, part_in}
 use Rattle.object_laws.proofs.Files.FrontsAgain.{segment_again, fix_kind_again, word_of, name_again, listed_name_again, definition_again, words_again, references_again, segment_entries_again, all_again}
 
 pub part_again : (part : Part) → part_in (kind_of_part part) (body_of part) ≡ Some part

@@ -1,11 +1,5 @@
 -- A file spells one module at most, and only where it has no fault; and it has one first fault at most.
-use Rattle.std.proofs.Common.{◌≡◌, ℕ, List, Result, Ok, Err, refl, sym, ap, ◌∙◌}
-use Rattle.object_modules.specs.declared.fault.Fault.{Fault}
-use Rattle.object_modules.specs.Module.{ObjectModule}
-use Rattle.object_modules.specs.Parts.{Part}
-use Rattle.object_modules.specs.Spelling.{module_of, IsFileOf, Spells, HasFirstFault}
-use Rattle.object_modules.specs.internal.Judgement.{parts_of, module_from, judgement_of}
-use Rattle.omf80.proofs.Conditions.{IsBytes}
+use Rattle.object_laws.proofs.Prelude.{◌≡◌, ℕ, List, Result, Ok, Err, refl, sym, ap, ◌∙◌, Fault, ObjectModule, Part, module_of, IsFileOf, Spells, HasFirstFault, parts_of, module_from, judgement_of, IsBytes}
 use Rattle.object_laws.proofs.Files.Judged.{JudgesFile, parts_law}
 use Rattle.object_laws.proofs.Files.FilesAgain.{parts_are, fault_is}
 

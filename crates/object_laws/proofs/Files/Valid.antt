@@ -1,20 +1,5 @@
 -- A file of bytes spells a valid module.
-use Rattle.std.proofs.Common.{◌≡◌, ℕ, ◌+◌, ◌<◌, ◌≤◌, ◌==◌, Bool, true, false, cond, not, ◌&&◌, ◌||◌, nat_lt, List, [], ◌∷◌, ◌++◌, length, map, flat_map, find, reverse, Option, Some, None, refl, ap, sym, subst, ◌∙◌, arith}
-use Rattle.std.specs.List.{list_all, range_with_len, AllByRecursion}
-use Rattle.std.specs.Option.{option_map_or}
-use Rattle.std.proofs.lemmas.Bool.{and_parts, and_from, le-leb}
-use Rattle.std.proofs.lemmas.List.{append-nil}
-use Rattle.std.proofs.lemmas.List.FromFn.{length-map-range_with_len}
-use Rattle.omf80.proofs.Conditions.{IsBytes}
-use Rattle.symbols.specs.Names.{is_name}
-use Rattle.object_modules.specs.declared.segment.Alignment.TheVariants.{Byte, Page}
-use Rattle.object_modules.specs.declared.segment.Segment.{Segment}
-use Rattle.object_modules.specs.declared.segment.Segment.TheVariants.{Code, Data, Stack}
-use Rattle.object_modules.specs.Module.{SetByte, ObjectModule, are_new, is_valid_byte, is_page, is_valid_segment, IsObjectModule}
-use Rattle.object_modules.specs.Parts.{SegmentEntry, Part, HeaderPart, ExternalNamesPart, PublicsPart, ContentPart, ExternalReferencesPart, RelocationPart, IntersegmentPart, ModuleEndPart, EndOfFilePart}
-use Rattle.object_modules.specs.Before.{same_segment, is_ended, entries_of, entry_in, externals_of, length_in, filled_to}
-use Rattle.object_modules.specs.Rules.{ascend_from, are_accepted}
-use Rattle.object_modules.specs.Spelling.{fixed_contents, set_in, alignment_with, alignment_in, places_in, module_of, Spells}
+use Rattle.object_laws.proofs.Prelude.{◌≡◌, ℕ, ◌+◌, ◌<◌, ◌≤◌, ◌==◌, Bool, true, false, cond, not, ◌&&◌, ◌||◌, nat_lt, List, [], ◌∷◌, ◌++◌, length, map, flat_map, find, reverse, Option, Some, None, refl, ap, sym, subst, ◌∙◌, arith, list_all, range_with_len, AllByRecursion, option_map_or, and_parts, and_from, le-leb, append-nil, length-map-range_with_len, IsBytes, is_name, Byte, Page, Segment, Code, Data, Stack, SetByte, ObjectModule, are_new, is_valid_byte, is_page, is_valid_segment, IsObjectModule, SegmentEntry, Part, HeaderPart, ExternalNamesPart, PublicsPart, ContentPart, ExternalReferencesPart, RelocationPart, IntersegmentPart, ModuleEndPart, EndOfFilePart, same_segment, is_ended, entries_of, entry_in, externals_of, length_in, filled_to, ascend_from, are_accepted, fixed_contents, set_in, alignment_with, alignment_in, places_in, module_of, Spells}
 use Rattle.object_laws.proofs.Files.Bytes.{InRange, parts_range}
 use Rattle.object_laws.proofs.Files.Accepted.{both_fit, all_names, names_ordered, no_entries, publics_valid, start_valid}
 use Rattle.object_laws.proofs.Files.Contents.{Follow, contents_ascend, place_valid, place_whole, all_places, places_whole}

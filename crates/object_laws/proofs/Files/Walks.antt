@@ -1,15 +1,5 @@
 -- The parts of a file are read from its bytes alone, and its module is what a walk over it tells.
-use Rattle.std.proofs.Common.{◌≡◌, ℕ, zero, suc, ◌+◌, ◌<◌, ◌≤◌, true, List, [], ◌∷◌, ◌++◌, length, drop, flat_map, option_and_then, refl, ap, sym, ◌∙◌, arith}
-use Rattle.std.proofs.lemmas.List.{length-drop, length-append}
-use Rattle.omf80.specs.declared.kind.TheConstants.{BODY_LIMIT}
-use Rattle.omf80.specs.Records.{record_end, record_fault, first_body}
-use Rattle.omf80.proofs.RecordsAgain.{read_again}
-use Rattle.object_modules.specs.Parts.{Part, kind_of_part, body_of, part_bytes}
-use Rattle.object_modules.specs.Reading.{part_in}
-use Rattle.object_modules.specs.Rules.{is_accepted, are_accepted}
-use Rattle.object_modules.specs.Spelling.{module_of, IsFileOf}
-use Rattle.object_modules.specs.Walking.{walk_over, module_by, sound_part, before_parts, parts_within, parts_from}
-use Rattle.object_modules.proofs.ReadBack.{both}
+use Rattle.object_laws.proofs.Prelude.{◌≡◌, ℕ, zero, suc, ◌+◌, ◌<◌, ◌≤◌, true, List, [], ◌∷◌, ◌++◌, length, drop, flat_map, option_and_then, refl, ap, sym, ◌∙◌, arith, length-drop, length-append, BODY_LIMIT, record_end, record_fault, first_body, read_again, Part, kind_of_part, body_of, part_bytes, part_in, is_accepted, are_accepted, module_of, IsFileOf, walk_over, module_by, sound_part, before_parts, parts_within, parts_from, both}
 use Rattle.object_laws.proofs.Files.PartsAgain.{part_again}
 use Rattle.object_laws.proofs.Files.FilesAgain.{limit_of, has_bytes}
 

@@ -1,20 +1,6 @@
 -- The fixes of rows of places: in the order of the places, of a row that is joined of parts, and of one that
 -- moves.
-use Rattle.std.proofs.Common.{◌≡◌, ℕ, zero, suc, ◌+◌, Bool, true, false, cond, ◌==◌, List, [], ◌∷◌, ◌++◌, length, flat_map, filter_map, replicate, Option, Some, None, option_map, option_and_then, refl, ap, sym, ◌∙◌, arith}
-use Rattle.std.specs.List.{cons_option}
-use Rattle.std.proofs.lemmas.Bool.{eqb-true}
-use Rattle.std.proofs.lemmas.List.{append-nil}
-use Rattle.std.proofs.lemmas.List.Elements.{filter_map-append}
-use Rattle.object_modules.specs.declared.segment.Fix.{Fix}
-use Rattle.object_modules.specs.declared.segment.FixKind.{FixKind}
-use Rattle.object_modules.specs.declared.segment.FixKind.TheVariants.{Low, High, Both}
-use Rattle.object_modules.specs.declared.segment.Segment.TheVariants.{Code, Data}
-use Rattle.object_modules.specs.declared.segment.Target.{Target}
-use Rattle.object_modules.specs.Module.{Fixup, SetByte, ObjectModule, places_of}
-use Rattle.object_modules.specs.Moving.{fixup_moved, moved_after, high_target, high_targets}
-use Rattle.object_modules.specs.Text.{Run, before_runs, runs_from, fixes_from}
-use Rattle.object_modules.specs.Runs.{fixes_of_run}
-use Rattle.object_modules.specs.internal.Joining.{run_at, before_fixes, place_fixes, fix_kept}
+use Rattle.object_laws.proofs.Prelude.{◌≡◌, ℕ, zero, suc, ◌+◌, Bool, true, false, cond, ◌==◌, List, [], ◌∷◌, ◌++◌, length, flat_map, filter_map, replicate, Option, Some, None, option_map, option_and_then, refl, ap, sym, ◌∙◌, arith, cons_option, eqb-true, append-nil, filter_map-append, Fix, FixKind, Low, High, Both, Code, Data, Target, Fixup, SetByte, ObjectModule, places_of, fixup_moved, moved_after, high_target, high_targets, Run, before_runs, runs_from, fixes_from, fixes_of_run, run_at, before_fixes, place_fixes, fix_kept}
 
 pub fixes_step :
     (offset value : ℕ) (fixup : Option Fixup) (others : List SetByte)

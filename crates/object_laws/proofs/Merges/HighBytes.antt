@@ -1,16 +1,5 @@
 -- Which high bytes of a module move, by its fixes.
-use Rattle.std.proofs.Common.{◌≡◌, ◌%◌, ◌==◌, Bool, false, not, ◌||◌, List, [], ◌∷◌, filter_map, Option, Some, None, refl, ap, sym, ◌∙◌}
-use Rattle.std.specs.List.{list_any, cons_option}
-use Rattle.std.specs.Option.{option_map_or}
-use Rattle.std.proofs.lemmas.List.Folds.{list_any-append}
-use Rattle.object_modules.specs.declared.segment.Fix.{Fix}
-use Rattle.object_modules.specs.declared.segment.Segment.TheVariants.{Code, Data}
-use Rattle.object_modules.specs.declared.segment.Target.{Target}
-use Rattle.object_modules.specs.Displacements.{Linked, gain_in}
-use Rattle.object_modules.specs.Merge.{some_high_byte_moves}
-use Rattle.object_modules.specs.Module.{Public}
-use Rattle.object_modules.specs.Runs.{fixes_in}
-use Rattle.object_modules.specs.internal.Joining.{place_fixes}
+use Rattle.object_laws.proofs.Prelude.{◌≡◌, ◌%◌, ◌==◌, Bool, false, not, ◌||◌, List, [], ◌∷◌, filter_map, Option, Some, None, refl, ap, sym, ◌∙◌, list_any, cons_option, option_map_or, list_any-append, Fix, Code, Data, Target, Linked, gain_in, some_high_byte_moves, Public, fixes_in, place_fixes}
 use Rattle.object_laws.proofs.Merges.FixesOfPlaces.{runs_fixes, high_of, high_fixes}
 
 -- a target gains no multiple of 256

@@ -1,21 +1,5 @@
 -- A merge of valid modules is a valid module.
-use Rattle.std.proofs.Common.{◌≡◌, ℕ, suc, ◌+◌, ◌-◌, ◌%◌, ◌<◌, ◌≤◌, ◌==◌, Bool, true, false, cond, not, ◌&&◌, ◌||◌, nat_lt, nat_le, List, [], ◌∷◌, ◌++◌, length, map, filter_map, sum_by, replicate, slice_get, IfSome, All, Option, Some, None, option_map, option_and_then, Result, Ok, Err, refl, ap, sym, subst, ◌∙◌, arith}
-use Rattle.std.specs.List.{list_all, list_any, cons_option, AllByRecursion}
-use Rattle.std.specs.Option.{option_map_or, option_or}
-use Rattle.std.proofs.lemmas.Bool.{and_parts, and_from, or_parts, lt-ltb, le-leb, leb-true, ltb-false, ltb-true}
-use Rattle.std.proofs.lemmas.List.{map-append, length-append}
-use Rattle.std.proofs.lemmas.List.Folds.{list_all-append}
-use Rattle.omf80.specs.Records.{first_that_holds}
-use Rattle.omf80.proofs.Conditions.{none_holds}
-use Rattle.symbols.specs.Names.{is_name}
-use Rattle.object_modules.specs.declared.segment.Alignment.{Alignment}
-use Rattle.object_modules.specs.declared.segment.Alignment.TheVariants.{Byte, Page}
-use Rattle.object_modules.specs.declared.segment.Segment.{Segment}
-use Rattle.object_modules.specs.declared.segment.Target.{Target}
-use Rattle.object_modules.specs.declared.segment.Target.TheVariants.{InSegment, External}
-use Rattle.object_modules.specs.Module.{SetByte, Places, Public, ObjectModule, words_are_whole, is_among, are_new, is_movable, is_target, is_page, is_valid_segment, may_have_publics, is_valid_public, IsObjectModule}
-use Rattle.object_modules.specs.Displacements.{start_after, Linked, code_end, data_end, displacement_in, linked_after, linked_from, linked_modules, public_moved, publics_moved, all_publics, public_meant, target_of_public, target_kept}
-use Rattle.object_modules.specs.Merge.{LinkRefusal, DuplicatePublic, UnresolvedExternal, SegmentTooLong, NotOneMain, HighByteMoves, joined_after, places_moved, code_piece, data_piece, joined_alignment, main_modules, joined, repeated_after, public_names, unresolved, last_end, is_too_long, some_segment_is_too_long, some_high_byte_moves, refusal_of, unless_refused, link_refusal, merge_of}
+use Rattle.object_laws.proofs.Prelude.{◌≡◌, ℕ, suc, ◌+◌, ◌-◌, ◌%◌, ◌<◌, ◌≤◌, ◌==◌, Bool, true, false, cond, not, ◌&&◌, ◌||◌, nat_lt, nat_le, List, [], ◌∷◌, ◌++◌, length, map, filter_map, sum_by, replicate, slice_get, IfSome, All, Option, Some, None, option_map, option_and_then, Result, Ok, Err, refl, ap, sym, subst, ◌∙◌, arith, list_all, list_any, cons_option, AllByRecursion, option_map_or, option_or, and_parts, and_from, or_parts, lt-ltb, le-leb, leb-true, ltb-false, ltb-true, map-append, length-append, list_all-append, first_that_holds, none_holds, is_name, Alignment, Byte, Page, Segment, Target, InSegment, External, SetByte, Places, Public, ObjectModule, words_are_whole, is_among, are_new, is_movable, is_target, is_page, is_valid_segment, may_have_publics, is_valid_public, IsObjectModule, start_after, Linked, code_end, data_end, displacement_in, linked_after, linked_from, linked_modules, public_moved, publics_moved, all_publics, public_meant, target_of_public, target_kept, LinkRefusal, DuplicatePublic, UnresolvedExternal, SegmentTooLong, NotOneMain, HighByteMoves, joined_after, places_moved, code_piece, data_piece, joined_alignment, main_modules, joined, repeated_after, public_names, unresolved, last_end, is_too_long, some_segment_is_too_long, some_high_byte_moves, refusal_of, unless_refused, link_refusal, merge_of}
 use Rattle.object_laws.proofs.Files.Accepted.{public_name}
 use Rattle.object_laws.proofs.Merges.MovedValid.{are_valid, Keeps, moved_valid, moved_whole, moved_length, Piece, joined_valid, joined_whole, PiecesFollow, end_after, joined_length}
 

@@ -1,13 +1,5 @@
 -- The parts of a merge: what they are made of, and that they are its parts.
-use Rattle.std.proofs.Common.{◌≡◌, ℕ, List, [], map, sum_by, slice_get, All, None, option_map, Ok, ap, sym, subst, ◌∙◌}
-use Rattle.std.specs.Option.{option_map_or}
-use Rattle.object_modules.specs.declared.object.ModuleParts.{ModuleParts}
-use Rattle.object_modules.specs.declared.segment.Segment.TheVariants.{Code, Data}
-use Rattle.object_modules.specs.Displacements.{linked_modules, all_publics}
-use Rattle.object_modules.specs.Merge.{joined_after, code_piece, data_piece, joined_alignment, main_modules, joined, unless_refused, link_refusal, merge_of}
-use Rattle.object_modules.specs.Module.{Places, ObjectModule, IsObjectModule}
-use Rattle.object_modules.specs.Stored.{IsStored, places_stored}
-use Rattle.object_modules.specs.Views.{AreKept, module_of_parts, owned_public_view}
+use Rattle.object_laws.proofs.Prelude.{◌≡◌, ℕ, List, [], map, sum_by, slice_get, All, None, option_map, Ok, ap, sym, subst, ◌∙◌, option_map_or, ModuleParts, Code, Data, linked_modules, all_publics, joined_after, code_piece, data_piece, joined_alignment, main_modules, joined, unless_refused, link_refusal, merge_of, Places, ObjectModule, IsObjectModule, IsStored, places_stored, AreKept, module_of_parts, owned_public_view}
 use Rattle.object_laws.proofs.Merges.MergeValid.{places_are, merge_is_object}
 use Rattle.object_laws.proofs.Merges.PlacesKept.{stored_of, kept_places, kept_stored}
 

@@ -1,16 +1,5 @@
 -- Places that are moved and joined stay valid: each byte, each word, and how many there are.
-use Rattle.std.proofs.Common.{◌≡◌, ℕ, zero, suc, ◌+◌, ◌-◌, ◌<◌, ◌≤◌, Bool, true, false, not, ◌||◌, nat_lt, List, [], ◌∷◌, ◌++◌, length, replicate, slice_get, Option, Some, None, option_map, option_and_then, refl, ap, ◌∙◌, arith}
-use Rattle.std.specs.List.{list_all, AllByRecursion}
-use Rattle.std.specs.Option.{option_map_or, option_flatten}
-use Rattle.std.proofs.lemmas.Bool.{and_parts, and_from, lt-ltb, ltb-true}
-use Rattle.std.proofs.lemmas.List.{length-append, length-replicate}
-use Rattle.std.proofs.lemmas.List.Folds.{list_all-append}
-use Rattle.object_modules.specs.declared.segment.FixKind.{FixKind}
-use Rattle.object_modules.specs.declared.segment.FixKind.TheVariants.{Low, High, Both}
-use Rattle.object_modules.specs.declared.segment.Target.{Target}
-use Rattle.object_modules.specs.Module.{Fixup, SetByte, is_both, begins_word, is_plain, words_are_whole, is_target, is_valid_byte}
-use Rattle.object_modules.specs.Moving.{first_byte_moved, after_fixup, value_after, value_moved, fixup_moved, byte_moved, moved_after}
-use Rattle.object_modules.specs.Merge.{joined_after}
+use Rattle.object_laws.proofs.Prelude.{◌≡◌, ℕ, zero, suc, ◌+◌, ◌-◌, ◌<◌, ◌≤◌, Bool, true, false, not, ◌||◌, nat_lt, List, [], ◌∷◌, ◌++◌, length, replicate, slice_get, Option, Some, None, option_map, option_and_then, refl, ap, ◌∙◌, arith, list_all, AllByRecursion, option_map_or, option_flatten, and_parts, and_from, lt-ltb, ltb-true, length-append, length-replicate, list_all-append, FixKind, Low, High, Both, Target, Fixup, SetByte, is_both, begins_word, is_plain, words_are_whole, is_target, is_valid_byte, first_byte_moved, after_fixup, value_after, value_moved, fixup_moved, byte_moved, moved_after, joined_after}
 
 -- each place has a valid byte, or none
 abbrev pub are_valid : (count : ℕ) → List (Option SetByte) → Bool

@@ -1,11 +1,5 @@
 -- Places that are moved in two parts, where no word is cut.
-use Rattle.std.proofs.Common.{◌≡◌, ℕ, true, false, List, [], ◌∷◌, ◌++◌, Option, Some, None, option_map, refl, ap, ◌∙◌}
-use Rattle.std.specs.Option.{option_map_or}
-use Rattle.object_modules.specs.declared.segment.FixKind.{FixKind}
-use Rattle.object_modules.specs.declared.segment.FixKind.TheVariants.{Low, High, Both}
-use Rattle.object_modules.specs.declared.segment.Target.{Target}
-use Rattle.object_modules.specs.Module.{Fixup, SetByte, is_both, begins_word}
-use Rattle.object_modules.specs.Moving.{after_fixup, value_after, value_moved, byte_moved, moved_after, moved}
+use Rattle.object_laws.proofs.Prelude.{◌≡◌, ℕ, true, false, List, [], ◌∷◌, ◌++◌, Option, Some, None, option_map, refl, ap, ◌∙◌, option_map_or, FixKind, Low, High, Both, Target, Fixup, SetByte, is_both, begins_word, after_fixup, value_after, value_moved, byte_moved, moved_after, moved}
 
 -- the last of places, or the one before them
 abbrev pub last_place : Option SetByte → List (Option SetByte) → Option SetByte

@@ -1,14 +1,6 @@
 -- A segment that is joined piece by piece: the runs and the fixes of what is made so far and of the next piece
 -- are those of both, so one pass over the modules makes the segment of their merge.
-use Rattle.std.proofs.Common.{◌≡◌, ℕ, ◌+◌, ◌-◌, ◌≤◌, List, [], ◌∷◌, ◌++◌, length, map, filter_map, replicate, Option, None, refl, ap, sym, ◌∙◌, arith}
-use Rattle.std.proofs.lemmas.List.{append_assoc}
-use Rattle.object_modules.specs.declared.segment.Target.{Target}
-use Rattle.object_modules.specs.Module.{SetByte}
-use Rattle.object_modules.specs.Moving.{moved}
-use Rattle.object_modules.specs.Text.{Run, runs_from}
-use Rattle.object_modules.specs.Runs.{bytes_of_run}
-use Rattle.object_modules.specs.Merge.{joined_after}
-use Rattle.object_modules.specs.internal.Joining.{with_runs, run_displaced, place_fixes, fix_kept, run_moved}
+use Rattle.object_laws.proofs.Prelude.{◌≡◌, ℕ, ◌+◌, ◌-◌, ◌≤◌, List, [], ◌∷◌, ◌++◌, length, map, filter_map, replicate, Option, None, refl, ap, sym, ◌∙◌, arith, append_assoc, Target, SetByte, moved, Run, runs_from, bytes_of_run, joined_after, with_runs, run_displaced, place_fixes, fix_kept, run_moved}
 use Rattle.object_laws.proofs.Merges.RunsJoined.{runs_append, runs_after_gap, runs_displaced, bytes_with_runs}
 use Rattle.object_laws.proofs.Merges.FixesOfPlaces.{fixes_append, fixes_after_gap, fixes_moved}
 use Rattle.object_laws.proofs.Merges.RunsMoved.{moved_runs}

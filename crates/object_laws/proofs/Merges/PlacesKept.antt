@@ -1,23 +1,5 @@
 -- Places are those of the segment that keeps their longest runs and their fixes.
-use Rattle.std.proofs.Common.{◌≡◌, ℕ, suc, ◌+◌, ◌-◌, ◌<◌, ◌≤◌, Bool, true, false, cond, not, ◌&&◌, ◌||◌, ◌==◌, nat_lt, nat_le, List, [], ◌∷◌, length, map, find, slice_get, slice_index, Option, Some, None, option_map, refl, ap, sym, ◌∙◌, true≢false, le_refl, arith}
-use Rattle.std.specs.List.{list_all, range_with_len, AllByRecursion}
-use Rattle.std.specs.Option.{option_map_or, option_flatten}
-use Rattle.std.proofs.lemmas.Bool.{and_parts, and_from, and_left, or_left, or_right, eqb-true, eq-eqb, ne_eqb, le-leb, lt-leb, lt-ltb, le-ltb, leb-true, ltb-true, ltb-false}
-use Rattle.object_modules.specs.declared.segment.Alignment.{Alignment}
-use Rattle.object_modules.specs.declared.segment.Fix.{Fix}
-use Rattle.object_modules.specs.declared.segment.FixKind.{FixKind}
-use Rattle.object_modules.specs.declared.segment.FixKind.TheVariants.{Low, High, Both}
-use Rattle.object_modules.specs.declared.segment.Segment.{Segment}
-use Rattle.object_modules.specs.declared.segment.Segment.TheVariants.{Absolute, Code, Data, Stack}
-use Rattle.object_modules.specs.declared.segment.Target.{Target}
-use Rattle.object_modules.specs.Before.{is_empty, same_segment}
-use Rattle.object_modules.specs.Module.{Fixup, SetByte, width_of, is_both, begins_word, is_plain, words_are_whole}
-use Rattle.object_modules.specs.Rules.{fix_end, is_within}
-use Rattle.object_modules.specs.Runs.{bytes_of_run, fixup_at}
-use Rattle.object_modules.specs.Spelling.{FixedContent, holds_place, set_at, set_in}
-use Rattle.object_modules.specs.Stored.{StoredSegment, IsStored, are_longest, fixes_ascend, is_in_a_run, content_of_run, places_stored}
-use Rattle.object_modules.specs.Text.{Run, before_runs, runs_from}
-use Rattle.object_modules.specs.internal.Joining.{run_at, before_fixes, place_fixes}
+use Rattle.object_laws.proofs.Prelude.{◌≡◌, ℕ, suc, ◌+◌, ◌-◌, ◌<◌, ◌≤◌, Bool, true, false, cond, not, ◌&&◌, ◌||◌, ◌==◌, nat_lt, nat_le, List, [], ◌∷◌, length, map, find, slice_get, slice_index, Option, Some, None, option_map, refl, ap, sym, ◌∙◌, true≢false, le_refl, arith, list_all, range_with_len, AllByRecursion, option_map_or, option_flatten, and_parts, and_from, and_left, or_left, or_right, eqb-true, eq-eqb, ne_eqb, le-leb, lt-leb, lt-ltb, le-ltb, leb-true, ltb-true, ltb-false, Alignment, Fix, FixKind, Low, High, Both, Segment, Absolute, Code, Data, Stack, Target, is_empty, same_segment, Fixup, SetByte, width_of, is_both, begins_word, is_plain, words_are_whole, fix_end, is_within, bytes_of_run, fixup_at, FixedContent, holds_place, set_at, set_in, StoredSegment, IsStored, are_longest, fixes_ascend, is_in_a_run, content_of_run, places_stored, Run, before_runs, runs_from, run_at, before_fixes, place_fixes}
 
 -- the segment that keeps places
 abbrev pub stored_of : Alignment → List (Option SetByte) → StoredSegment

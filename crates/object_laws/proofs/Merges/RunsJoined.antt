@@ -1,11 +1,5 @@
 -- The runs of places that are joined: those of each part, pushed one after another.
-use Rattle.std.proofs.Common.{◌≡◌, ℕ, zero, suc, ◌+◌, Bool, true, false, cond, ◌==◌, List, [], ◌∷◌, ◌++◌, length, map, replicate, Option, Some, None, refl, ap, sym, ◌∙◌, arith}
-use Rattle.std.proofs.lemmas.Bool.{eqb-true, eq-eqb}
-use Rattle.std.proofs.lemmas.List.{map-append, length-map}
-use Rattle.object_modules.specs.Module.{SetByte}
-use Rattle.object_modules.specs.Text.{Run, before_runs, runs_from}
-use Rattle.object_modules.specs.Runs.{bytes_of_run}
-use Rattle.object_modules.specs.internal.Joining.{run_at, with_run, with_runs, run_displaced}
+use Rattle.object_laws.proofs.Prelude.{◌≡◌, ℕ, zero, suc, ◌+◌, Bool, true, false, cond, ◌==◌, List, [], ◌∷◌, ◌++◌, length, map, replicate, Option, Some, None, refl, ap, sym, ◌∙◌, arith, eqb-true, eq-eqb, map-append, length-map, SetByte, Run, before_runs, runs_from, bytes_of_run, run_at, with_run, with_runs, run_displaced}
 
 -- an item before runs and another run after them
 one_before :

@@ -1,16 +1,5 @@
 -- Runs of places that move: each run by itself, its bytes by its fixes one after another.
-use Rattle.std.proofs.Common.{◌≡◌, ℕ, suc, ◌+◌, ◌-◌, ◌≤◌, Bool, true, false, cond, not, ◌||◌, ◌==◌, List, [], ◌∷◌, ◌++◌, length, map, slice_index, slice_set, Option, Some, None, refl, ap, sym, subst, ◌∙◌, le_refl, arith}
-use Rattle.std.specs.List.{AllByRecursion}
-use Rattle.std.specs.Option.{option_map_or}
-use Rattle.std.proofs.lemmas.Bool.{and_parts, eq-eqb, ne_eqb}
-use Rattle.object_modules.specs.declared.segment.Fix.{Fix}
-use Rattle.object_modules.specs.declared.segment.FixKind.{FixKind}
-use Rattle.object_modules.specs.declared.segment.FixKind.TheVariants.{Low, High, Both}
-use Rattle.object_modules.specs.declared.segment.Target.{Target}
-use Rattle.object_modules.specs.Module.{Fixup, SetByte, begins_word, is_plain, words_are_whole}
-use Rattle.object_modules.specs.Moving.{first_byte_moved, second_byte_moved, value_after, value_moved, byte_moved, moved_after}
-use Rattle.object_modules.specs.Text.{Run, before_runs, runs_from, fixes_from}
-use Rattle.object_modules.specs.internal.Joining.{run_at, before_fixes, items_moved, run_moved, bytes_fixed, bytes_after}
+use Rattle.object_laws.proofs.Prelude.{◌≡◌, ℕ, suc, ◌+◌, ◌-◌, ◌≤◌, Bool, true, false, cond, not, ◌||◌, ◌==◌, List, [], ◌∷◌, ◌++◌, length, map, slice_index, slice_set, Option, Some, None, refl, ap, sym, subst, ◌∙◌, le_refl, arith, AllByRecursion, option_map_or, and_parts, eq-eqb, ne_eqb, Fix, FixKind, Low, High, Both, Target, Fixup, SetByte, begins_word, is_plain, words_are_whole, first_byte_moved, second_byte_moved, value_after, value_moved, byte_moved, moved_after, Run, before_runs, runs_from, fixes_from, run_at, before_fixes, items_moved, run_moved, bytes_fixed, bytes_after}
 use Rattle.object_laws.proofs.Merges.FixesOfPlaces.{fixes_step}
 use Rattle.object_laws.proofs.Merges.Moves.{value_stays}
 

@@ -1,20 +1,6 @@
 -- When a part may stand after others, rule by rule, and what the parts before a place tell after some more.
-use Rattle.std.proofs.Common.{◌≡◌, ℕ, ◌+◌, ◌<◌, ◌≤◌, ◌==◌, Bool, true, false, cond, not, ◌&&◌, nat_le, List, [], ◌∷◌, ◌++◌, length, map, flat_map, take_while, Option, Some, None, refl, ap, sym, subst, ◌∙◌, arith}
-use Rattle.std.specs.List.{AllByRecursion, list_all}
-use Rattle.std.specs.Option.{option_or, option_map_or}
-use Rattle.std.proofs.lemmas.Bool.{and_parts, and_from, le-leb}
-use Rattle.std.proofs.lemmas.List.{length-append}
-use Rattle.std.proofs.lemmas.List.Sums.{take_while-cons}
-use Rattle.omf80.specs.declared.kind.TheConstants.{BODY_LIMIT}
-use Rattle.omf80.specs.declared.kind.RecordKind.{RecordKind}
+use Rattle.object_laws.proofs.Prelude.{◌≡◌, ℕ, ◌+◌, ◌<◌, ◌≤◌, ◌==◌, Bool, true, false, cond, not, ◌&&◌, nat_le, List, [], ◌∷◌, ◌++◌, length, map, flat_map, take_while, Option, Some, None, refl, ap, sym, subst, ◌∙◌, arith, AllByRecursion, list_all, option_or, option_map_or, and_parts, and_from, le-leb, length-append, take_while-cons, BODY_LIMIT, RecordKind, first_that_holds, Fault, WrongBody, ContentMisplaced, FixMisplaced, WrongAlignment, Segment, Content, Part, kind_of_part, body_of, rank_of, is_fix_record, may_come_after, is_empty, may_follow, entries_of, content_of, latest_content, end_by_content, filled_to, fixes_of, leading_fixes, is_body, is_served, fits_segment, is_within, are_apart, fit_content, part_fault, is_accepted, are_accepted}
 use Rattle.omf80.specs.declared.kind.RecordKind.TheVariants as kinds
-use Rattle.omf80.specs.Records.{first_that_holds}
-use Rattle.object_modules.specs.declared.fault.Fault.{Fault}
-use Rattle.object_modules.specs.declared.fault.Fault.TheVariants.{WrongBody, ContentMisplaced, FixMisplaced, WrongAlignment}
-use Rattle.object_modules.specs.declared.segment.Segment.{Segment}
-use Rattle.object_modules.specs.Parts.{Content, Part, kind_of_part, body_of}
-use Rattle.object_modules.specs.Before.{rank_of, is_fix_record, may_come_after, is_empty, may_follow, entries_of, content_of, latest_content, end_by_content, filled_to, fixes_of, leading_fixes}
-use Rattle.object_modules.specs.Rules.{is_body, is_served, fits_segment, is_within, are_apart, fit_content, part_fault, is_accepted, are_accepted}
 use Rattle.object_laws.proofs.Texts.Groups.{all_append}
 use Rattle.object_laws.proofs.Texts.Counted.{times, times_append}
 

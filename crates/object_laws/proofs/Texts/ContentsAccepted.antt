@@ -1,24 +1,5 @@
 -- The contents that are written may stand where they stand, and so may their fix records.
-use Rattle.std.proofs.Common.{◌≡◌, ℕ, suc, ◌+◌, ◌-◌, ◌<◌, ◌≤◌, ◌==◌, Bool, true, false, cond, not, ◌&&◌, nat_lt, nat_le, List, [], ◌∷◌, ◌++◌, length, map, flat_map, filter_map, Some, None, refl, ap, sym, subst, ◌∙◌, arith}
-use Rattle.std.specs.List.{AllByRecursion, cons_option, list_all}
-use Rattle.std.specs.Option.{option_or, option_map_or}
-use Rattle.std.proofs.lemmas.Bool.{and_parts, and_from, le-leb}
-use Rattle.std.proofs.lemmas.List.{length-map}
-use Rattle.std.proofs.lemmas.List.Folds.{list_all-append}
-use Rattle.omf80.specs.declared.kind.TheConstants.{BODY_LIMIT}
-use Rattle.omf80.specs.Records.{word_bytes}
-use Rattle.object_modules.specs.declared.segment.Fix.{Fix}
-use Rattle.object_modules.specs.declared.segment.FixKind.{FixKind}
-use Rattle.object_modules.specs.declared.segment.Segment.{Segment}
-use Rattle.object_modules.specs.declared.segment.Segment.TheVariants.{Absolute, Code, Data, Stack}
-use Rattle.object_modules.specs.declared.segment.Target.{Target}
-use Rattle.object_modules.specs.declared.segment.Target.TheVariants.{InSegment, External}
-use Rattle.object_modules.specs.Module.{SetByte, holds_bytes, is_movable, is_target}
-use Rattle.object_modules.specs.Parts.{Reference, Content, Part, ContentPart, ExternalReferencesPart, RelocationPart, IntersegmentPart, kind_of_part, body_of, fix_kind_number, reference_bytes}
-use Rattle.object_modules.specs.Before.{is_empty, same_segment, rank_of, is_fix_record, entries_of, externals_of, content_of, length_in, end_by_content, stated_length_of, latest_content, content_end, filled_to, fixes_of, leading_fixes}
-use Rattle.object_modules.specs.Rules.{is_served, is_other_segment, is_body, fits_segment, fix_end, is_within, are_apart, fit_content, is_accepted, are_accepted}
-use Rattle.object_modules.specs.Spelling.{publics_of, name_of_header, start_of_end}
-use Rattle.object_modules.specs.Text.{Run, packed, fixes_from, fix_kinds, reference_for, offset_for, external_fix_parts, relocation_parts, intersegment_parts, other_segments, fix_parts, content_parts}
+use Rattle.object_laws.proofs.Prelude.{◌≡◌, ℕ, suc, ◌+◌, ◌-◌, ◌<◌, ◌≤◌, ◌==◌, Bool, true, false, cond, not, ◌&&◌, nat_lt, nat_le, List, [], ◌∷◌, ◌++◌, length, map, flat_map, filter_map, Some, None, refl, ap, sym, subst, ◌∙◌, arith, AllByRecursion, cons_option, list_all, option_or, option_map_or, and_parts, and_from, le-leb, length-map, list_all-append, BODY_LIMIT, word_bytes, Fix, FixKind, Segment, Absolute, Code, Data, Stack, Target, InSegment, External, SetByte, holds_bytes, is_movable, is_target, Reference, Content, Part, ContentPart, ExternalReferencesPart, RelocationPart, IntersegmentPart, kind_of_part, body_of, fix_kind_number, reference_bytes, is_empty, same_segment, rank_of, is_fix_record, entries_of, externals_of, content_of, length_in, end_by_content, stated_length_of, latest_content, content_end, filled_to, fixes_of, leading_fixes, is_served, is_other_segment, is_body, fits_segment, fix_end, is_within, are_apart, fit_content, is_accepted, are_accepted, publics_of, name_of_header, start_of_end, Run, packed, fixes_from, fix_kinds, reference_for, offset_for, external_fix_parts, relocation_parts, intersegment_parts, other_segments, fix_parts, content_parts}
 use Rattle.object_laws.proofs.Texts.Groups.{total, Fits, packed_fit, packed_joined, length_total, count_total, all_append, all_in_groups}
 use Rattle.object_laws.proofs.Texts.Counted.{times, times_append, covers, once_apart}
 use Rattle.object_laws.proofs.Texts.Runs.{InOrder, order_ends}

@@ -1,18 +1,5 @@
 -- What the contents that are written tell, place by place, is what the places of their segment are.
-use Rattle.std.proofs.Common.{◌≡◌, ℕ, zero, suc, ◌+◌, ◌-◌, ◌<◌, ◌≤◌, Bool, true, false, cond, ◌&&◌, nat_lt, nat_le, List, [], ◌∷◌, ◌++◌, length, map, flat_map, find, slice_get, slice_index, Option, Some, None, option_map, refl, ap, sym, ◌∙◌, arith}
-use Rattle.std.specs.List.{AllByRecursion, range_with_len}
-use Rattle.std.specs.Option.{option_or, option_flatten}
-use Rattle.std.proofs.lemmas.Bool.{and_parts}
-use Rattle.std.proofs.lemmas.Bool.{leb-true, ltb-true}
-use Rattle.std.proofs.lemmas.List.{append_assoc}
-use Rattle.std.proofs.lemmas.Option.{slice_get-map, get_or_from_slice_get}
-use Rattle.object_modules.specs.declared.segment.Fix.{Fix}
-use Rattle.object_modules.specs.declared.segment.Segment.{Segment}
-use Rattle.object_modules.specs.Module.{Fixup, SetByte, holds_bytes}
-use Rattle.object_modules.specs.Parts.{Content, Part, HeaderPart, ExternalNamesPart, PublicsPart, ContentPart, ExternalReferencesPart, RelocationPart, IntersegmentPart, ModuleEndPart, EndOfFilePart, kind_of_part}
-use Rattle.object_modules.specs.Before.{same_segment, is_fix_record, content_of, content_end, fixes_of, leading_fixes}
-use Rattle.object_modules.specs.Spelling.{FixedContent, fixed_contents, holds_place, set_at, set_in}
-use Rattle.object_modules.specs.Text.{Run, fixes_from, fix_parts, content_parts}
+use Rattle.object_laws.proofs.Prelude.{◌≡◌, ℕ, zero, suc, ◌+◌, ◌-◌, ◌<◌, ◌≤◌, Bool, true, false, cond, ◌&&◌, nat_lt, nat_le, List, [], ◌∷◌, ◌++◌, length, map, flat_map, find, slice_get, slice_index, Option, Some, None, option_map, refl, ap, sym, ◌∙◌, arith, AllByRecursion, range_with_len, option_or, option_flatten, and_parts, leb-true, ltb-true, append_assoc, slice_get-map, get_or_from_slice_get, Fix, Segment, Fixup, SetByte, holds_bytes, Content, Part, HeaderPart, ExternalNamesPart, PublicsPart, ContentPart, ExternalReferencesPart, RelocationPart, IntersegmentPart, ModuleEndPart, EndOfFilePart, kind_of_part, same_segment, is_fix_record, content_of, content_end, fixes_of, leading_fixes, FixedContent, fixed_contents, holds_place, set_at, set_in, Run, fixes_from, fix_parts, content_parts}
 use Rattle.object_laws.proofs.Texts.Runs.{item_at}
 use Rattle.object_laws.proofs.Texts.Cuts.{IsCut}
 use Rattle.object_laws.proofs.Texts.Fixes.{begins_at, begins_once, fixup_of, fix_found, fixes_have_targets}

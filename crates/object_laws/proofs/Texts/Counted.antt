@@ -1,14 +1,5 @@
 -- Names that differ, and fixes that share no byte, by counting: each name, and each place, is counted at most once.
-use Rattle.std.proofs.Common.{◌≡◌, ℕ, zero, suc, ◌+◌, ◌<◌, ◌≤◌, Bool, true, false, cond, not, ◌&&◌, nat_lt, nat_le, List, [], ◌∷◌, ◌++◌, refl, ap, sym, subst, ◌∙◌, ⊎_elim, arith}
-use Rattle.std.specs.List.{list_any}
-use Rattle.std.specs.Str.{bytes_eq}
-use Rattle.std.proofs.lemmas.Bool.{and_parts, and_from, or_cases, or_parts, ltb-true, lt-ltb, le-leb, false_from_ne_true, not-true, not_from_false, cases_lt}
-use Rattle.std.proofs.lemmas.Slice.Eq.{bytes_eq-Decides}
-use Rattle.object_modules.specs.declared.segment.Fix.{Fix}
-use Rattle.object_modules.specs.declared.segment.FixKind.{FixKind}
-use Rattle.object_modules.specs.declared.segment.FixKind.TheVariants.{Low, High, Both}
-use Rattle.object_modules.specs.Module.{width_of, is_among, are_new}
-use Rattle.object_modules.specs.Rules.{fix_end, share_a_byte, are_apart}
+use Rattle.object_laws.proofs.Prelude.{◌≡◌, ℕ, zero, suc, ◌+◌, ◌<◌, ◌≤◌, Bool, true, false, cond, not, ◌&&◌, nat_lt, nat_le, List, [], ◌∷◌, ◌++◌, refl, ap, sym, subst, ◌∙◌, ⊎_elim, arith, list_any, bytes_eq, and_parts, and_from, or_cases, or_parts, ltb-true, lt-ltb, le-leb, false_from_ne_true, not-true, not_from_false, cases_lt, bytes_eq-Decides, Fix, FixKind, Low, High, Both, width_of, is_among, are_new, fix_end, share_a_byte, are_apart}
 
 -- how many items pass a test
 abbrev pub times : {A : Type 0} → (A → Bool) → List A → ℕ

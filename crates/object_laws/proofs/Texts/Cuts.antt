@@ -1,11 +1,5 @@
 -- The contents that runs are cut into: they stand in order, tell each place as the runs do, and cut no word.
-use Rattle.std.proofs.Common.{◌≡◌, ℕ, zero, suc, ◌+◌, ◌-◌, ◌<◌, ◌≤◌, Bool, true, false, cond, not, ◌&&◌, ◌||◌, nat_lt, nat_le, List, [], ◌∷◌, ◌++◌, length, map, flat_map, slice_get, Option, Some, None, refl, ap, sym, subst, ◌∙◌, ⊎_elim, arith}
-use Rattle.std.specs.List.{AllByRecursion, onto_first}
-use Rattle.std.specs.Option.{option_flatten}
-use Rattle.std.proofs.lemmas.Bool.{and_parts, cond-false, cond_both, le-ltb, ltb-false, cases_lt}
-use Rattle.std.proofs.lemmas.List.{length-append}
-use Rattle.object_modules.specs.Module.{Fixup, SetByte, begins_word, is_plain, words_are_whole}
-use Rattle.object_modules.specs.Text.{Run, content_limit, groups_after, groups_of, bytes_wanted, placed_from, contents_of_run}
+use Rattle.object_laws.proofs.Prelude.{◌≡◌, ℕ, zero, suc, ◌+◌, ◌-◌, ◌<◌, ◌≤◌, Bool, true, false, cond, not, ◌&&◌, ◌||◌, nat_lt, nat_le, List, [], ◌∷◌, ◌++◌, length, map, flat_map, slice_get, Option, Some, None, refl, ap, sym, subst, ◌∙◌, ⊎_elim, arith, AllByRecursion, onto_first, option_flatten, and_parts, cond-false, cond_both, le-ltb, ltb-false, cases_lt, length-append, Fixup, SetByte, begins_word, is_plain, words_are_whole, Run, content_limit, groups_after, groups_of, bytes_wanted, placed_from, contents_of_run}
 use Rattle.object_laws.proofs.Texts.Groups.{Fits, joined, groups_joined, groups_fit, all_append}
 use Rattle.object_laws.proofs.Texts.Runs.{InOrder, item_at, item_inside, item_past, item_before, order_earlier, AreWhole, whole_plain, whole_word, IsWholeRun}
 

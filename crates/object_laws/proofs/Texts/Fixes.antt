@@ -1,15 +1,5 @@
 -- The fixes of bytes in a row: they lie within the bytes, share none, and each is found at its byte.
-use Rattle.std.proofs.Common.{◌≡◌, ℕ, Bool, zero, suc, ◌+◌, ◌<◌, ◌≤◌, true, false, cond, not, ◌||◌, ◌==◌, nat_lt, nat_le, List, [], ◌∷◌, length, map, find, slice_get, Option, Some, None, option_map, refl, ap, ◌∙◌, ⊎_elim, arith}
-use Rattle.std.specs.List.{AllByRecursion}
-use Rattle.std.specs.Option.{option_flatten, option_map_or}
-use Rattle.std.proofs.lemmas.Bool.{and_parts, and_left, lt-leb, ltb-true, eq-eqb, ne_eqb, eqb-true, lt-ltb, le-leb, and_from, cases_Bool}
-use Rattle.std.proofs.lemmas.Option.{none-some, same_Some}
-use Rattle.object_modules.specs.declared.segment.Fix.{Fix}
-use Rattle.object_modules.specs.declared.segment.FixKind.{FixKind}
-use Rattle.object_modules.specs.declared.segment.FixKind.TheVariants.{Low, High, Both}
-use Rattle.object_modules.specs.Module.{Fixup, SetByte, width_of, is_both, begins_word, is_plain, words_are_whole, is_target}
-use Rattle.object_modules.specs.Rules.{fix_end}
-use Rattle.object_modules.specs.Text.{fixes_from}
+use Rattle.object_laws.proofs.Prelude.{◌≡◌, ℕ, Bool, zero, suc, ◌+◌, ◌<◌, ◌≤◌, true, false, cond, not, ◌||◌, ◌==◌, nat_lt, nat_le, List, [], ◌∷◌, length, map, find, slice_get, Option, Some, None, option_map, refl, ap, ◌∙◌, ⊎_elim, arith, AllByRecursion, option_flatten, option_map_or, and_parts, and_left, lt-leb, ltb-true, eq-eqb, ne_eqb, eqb-true, lt-ltb, le-leb, and_from, cases_Bool, none-some, same_Some, Fix, FixKind, Low, High, Both, Fixup, SetByte, width_of, is_both, begins_word, is_plain, words_are_whole, is_target, fix_end, fixes_from}
 use Rattle.object_laws.proofs.Texts.Counted.{times, times_pass, times_fail, covers, has_width}
 use Rattle.object_laws.proofs.Texts.Runs.{AreWhole}
 

@@ -1,9 +1,5 @@
 -- Lists cut into groups: together they are the list, none is empty, and each fits its limit.
-use Rattle.std.proofs.Common.{◌≡◌, ℕ, ◌+◌, ◌-◌, ◌<◌, ◌≤◌, nat_lt, List, [], ◌∷◌, ◌++◌, length, flat_map, refl, ap, sym, subst, ◌∙◌, arith}
-use Rattle.std.specs.List.{onto_first, AllByRecursion}
-use Rattle.std.proofs.lemmas.Bool.{ltb-false, le-ltb, cond-false, cond_both}
-use Rattle.std.proofs.lemmas.List.{length-append}
-use Rattle.object_modules.specs.Text.{groups_after, groups_of, packed}
+use Rattle.object_laws.proofs.Prelude.{◌≡◌, ℕ, ◌+◌, ◌-◌, ◌<◌, ◌≤◌, nat_lt, List, [], ◌∷◌, ◌++◌, length, flat_map, refl, ap, sym, subst, ◌∙◌, arith, onto_first, AllByRecursion, ltb-false, le-ltb, cond-false, cond_both, length-append, groups_after, groups_of, packed}
 
 -- the groups one after another
 abbrev pub joined : {A : Type 0} → List (List A) → List A

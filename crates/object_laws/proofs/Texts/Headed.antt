@@ -1,20 +1,5 @@
 -- The header that is written: it may come first, and tells lengths and alignments.
-use Rattle.std.proofs.Common.{◌≡◌, ℕ, suc, ◌+◌, ◌≤◌, ◌==◌, Bool, true, false, cond, not, ◌&&◌, ◌||◌, nat_lt, List, [], ◌∷◌, ◌++◌, length, flat_map, Option, Some, None, refl, ap, sym, ◌∙◌, arith}
-use Rattle.std.specs.List.{cons_option, list_all}
-use Rattle.std.proofs.lemmas.Bool.{and_from, eqb-true}
-use Rattle.std.proofs.lemmas.List.{length-append}
-use Rattle.symbols.specs.Names.{is_name}
-use Rattle.omf80.specs.declared.kind.TheConstants.{BODY_LIMIT}
-use Rattle.object_modules.specs.declared.segment.Alignment.{Alignment}
-use Rattle.object_modules.specs.declared.segment.Alignment.TheVariants.{Byte, Page}
-use Rattle.object_modules.specs.declared.segment.Segment.{Segment}
-use Rattle.object_modules.specs.declared.segment.Segment.TheVariants.{Code, Data, Stack}
-use Rattle.object_modules.specs.Module.{ObjectModule, holds_bytes, is_page, length_of}
-use Rattle.object_modules.specs.Parts.{SegmentEntry, segment_entry_bytes}
-use Rattle.object_modules.specs.Before.{length_in}
-use Rattle.object_modules.specs.Rules.{ascend_from, is_served, is_accepted}
-use Rattle.object_modules.specs.Spelling.{alignment_in}
-use Rattle.object_modules.specs.Text.{alignment_number, header_for}
+use Rattle.object_laws.proofs.Prelude.{◌≡◌, ℕ, suc, ◌+◌, ◌≤◌, ◌==◌, Bool, true, false, cond, not, ◌&&◌, ◌||◌, nat_lt, List, [], ◌∷◌, ◌++◌, length, flat_map, Option, Some, None, refl, ap, sym, ◌∙◌, arith, cons_option, list_all, and_from, eqb-true, length-append, is_name, BODY_LIMIT, Alignment, Byte, Page, Segment, Code, Data, Stack, ObjectModule, holds_bytes, is_page, length_of, SegmentEntry, segment_entry_bytes, length_in, ascend_from, is_served, is_accepted, alignment_in, alignment_number, header_for}
 use Rattle.object_laws.proofs.Texts.Accepting.{accepted_by}
 use Rattle.object_laws.proofs.Texts.NamesAccepted.{IsName, short_name}
 

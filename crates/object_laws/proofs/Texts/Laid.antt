@@ -1,23 +1,5 @@
 -- The fix records of a content: they list each of its fixes once.
-use Rattle.std.proofs.Common.{◌≡◌, ℕ, ◌+◌, ◌-◌, ◌≤◌, Bool, true, false, cond, not, List, [], ◌∷◌, ◌++◌, map, flat_map, filter_map, find, Option, Some, None, option_map, refl, ap, sym, subst, ◌∙◌, ⊎_elim, arith}
-use Rattle.std.specs.List.{AllByRecursion, cons_option, list_all}
-use Rattle.std.specs.Option.{option_or}
-use Rattle.std.proofs.lemmas.Bool.{cases_Bool, not_from_true, and_from}
-use Rattle.std.proofs.lemmas.List.{map-append}
-use Rattle.std.proofs.lemmas.Grind.{flat_map-append}
-use Rattle.std.proofs.lemmas.List.Folds.{find-append}
-use Rattle.omf80.specs.declared.kind.TheConstants.{BODY_LIMIT}
-use Rattle.object_modules.specs.declared.segment.Fix.{Fix}
-use Rattle.object_modules.specs.declared.segment.FixKind.{FixKind}
-use Rattle.object_modules.specs.declared.segment.FixKind.TheVariants.{Low, High, Both}
-use Rattle.object_modules.specs.declared.segment.Segment.{Segment}
-use Rattle.object_modules.specs.declared.segment.Segment.TheVariants.{Absolute, Code, Data, Stack}
-use Rattle.object_modules.specs.declared.segment.Target.{Target}
-use Rattle.object_modules.specs.declared.segment.Target.TheVariants.{InSegment, External}
-use Rattle.object_modules.specs.Module.{holds_bytes, is_target}
-use Rattle.object_modules.specs.Parts.{Part, Reference, ExternalReferencesPart, RelocationPart, IntersegmentPart}
-use Rattle.object_modules.specs.Before.{fixes_of}
-use Rattle.object_modules.specs.Text.{packed, fix_kinds, reference_for, offset_for, external_fix_parts, relocation_parts, intersegment_parts, other_segments, fix_parts}
+use Rattle.object_laws.proofs.Prelude.{◌≡◌, ℕ, ◌+◌, ◌-◌, ◌≤◌, Bool, true, false, cond, not, List, [], ◌∷◌, ◌++◌, map, flat_map, filter_map, find, Option, Some, None, option_map, refl, ap, sym, subst, ◌∙◌, ⊎_elim, arith, AllByRecursion, cons_option, list_all, option_or, cases_Bool, not_from_true, and_from, map-append, flat_map-append, find-append, BODY_LIMIT, Fix, FixKind, Low, High, Both, Segment, Absolute, Code, Data, Stack, Target, InSegment, External, holds_bytes, is_target, Part, Reference, ExternalReferencesPart, RelocationPart, IntersegmentPart, fixes_of, packed, fix_kinds, reference_for, offset_for, external_fix_parts, relocation_parts, intersegment_parts, other_segments, fix_parts}
 use Rattle.object_laws.proofs.Texts.Groups.{joined, packed_joined}
 use Rattle.object_laws.proofs.Texts.Counted.{times, times_append, times_pass, times_fail}
 

@@ -1,17 +1,5 @@
 -- The records of names that are written may stand where they stand.
-use Rattle.std.proofs.Common.{◌≡◌, ℕ, suc, ◌+◌, ◌≤◌, true, not, ◌&&◌, nat_le, List, [], ◌∷◌, ◌++◌, length, map, flat_map, None, refl, ap, ◌∙◌, arith}
-use Rattle.std.specs.List.{AllByRecursion, list_all}
-use Rattle.std.specs.Str.{bytes_eq}
-use Rattle.std.proofs.lemmas.Bool.{and_parts, and_from, leb-true}
-use Rattle.std.proofs.lemmas.List.{length-append, map-append}
-use Rattle.symbols.specs.Names.{is_name, is_name_character}
-use Rattle.std.specs.Char.{is_ascii_uppercase}
-use Rattle.omf80.specs.declared.kind.TheConstants.{BODY_LIMIT}
-use Rattle.object_modules.specs.declared.segment.Segment.{Segment}
-use Rattle.object_modules.specs.Module.{may_have_publics, are_new}
-use Rattle.object_modules.specs.Parts.{Definition, Part, ExternalNamesPart, PublicsPart, listed_name_bytes, definition_bytes}
-use Rattle.object_modules.specs.Before.{is_empty, definition_names, names_of, latest_content}
-use Rattle.object_modules.specs.Rules.{are_names, is_accepted, are_accepted}
+use Rattle.object_laws.proofs.Prelude.{◌≡◌, ℕ, suc, ◌+◌, ◌≤◌, true, not, ◌&&◌, nat_le, List, [], ◌∷◌, ◌++◌, length, map, flat_map, None, refl, ap, ◌∙◌, arith, AllByRecursion, list_all, bytes_eq, and_parts, and_from, leb-true, length-append, map-append, is_name, is_name_character, is_ascii_uppercase, BODY_LIMIT, Segment, may_have_publics, are_new, Definition, Part, ExternalNamesPart, PublicsPart, listed_name_bytes, definition_bytes, is_empty, definition_names, names_of, latest_content, are_names, is_accepted, are_accepted}
 use Rattle.object_laws.proofs.Texts.Groups.{joined, total, Fits, length_total}
 use Rattle.object_laws.proofs.Texts.Counted.{times, times_append, once_new}
 use Rattle.object_laws.proofs.Texts.Accepting.{accepted_by, fit_nothing, UpTo, follows_externals, follows_publics, some_items, all_pass}

@@ -1,20 +1,5 @@
 -- The records of names that are written: what they tell, and that they may stand where they stand.
-use Rattle.std.proofs.Common.{◌≡◌, ℕ, ◌+◌, ◌-◌, ◌≤◌, Bool, true, false, cond, List, [], ◌∷◌, ◌++◌, length, map, flat_map, None, refl, ap, sym, subst, ◌∙◌, arith}
-use Rattle.std.specs.List.{AllByRecursion}
-use Rattle.std.specs.Str.{bytes_eq}
-use Rattle.std.proofs.lemmas.Bool.{eqb-true}
-use Rattle.std.proofs.lemmas.List.{map-append}
-use Rattle.std.proofs.lemmas.Option.{same_Some}
-use Rattle.omf80.specs.declared.kind.TheConstants.{BODY_LIMIT}
-use Rattle.object_modules.specs.declared.segment.Segment.{Segment}
-use Rattle.object_modules.specs.declared.segment.Segment.TheVariants.{Absolute, Code, Data, Stack}
-use Rattle.object_modules.specs.Module.{Public, may_have_publics}
-use Rattle.object_modules.specs.Parts.{Definition, Part, ExternalNamesPart, PublicsPart, kind_of_part, segment_number, listed_name_bytes, definition_bytes}
-use Rattle.object_modules.specs.Reading.{segment_of}
-use Rattle.object_modules.specs.Before.{same_segment, rank_of, entries_of, externals_of, definition_names, names_of, content_of, latest_content}
-use Rattle.object_modules.specs.Rules.{are_accepted}
-use Rattle.object_modules.specs.Spelling.{publics_of, name_of_header, start_of_end}
-use Rattle.object_modules.specs.Text.{packed, external_parts, publics_in_segment, definition_of, public_parts}
+use Rattle.object_laws.proofs.Prelude.{◌≡◌, ℕ, ◌+◌, ◌-◌, ◌≤◌, Bool, true, false, cond, List, [], ◌∷◌, ◌++◌, length, map, flat_map, None, refl, ap, sym, subst, ◌∙◌, arith, AllByRecursion, bytes_eq, eqb-true, map-append, same_Some, BODY_LIMIT, Segment, Absolute, Code, Data, Stack, Public, may_have_publics, Definition, Part, ExternalNamesPart, PublicsPart, kind_of_part, segment_number, listed_name_bytes, definition_bytes, segment_of, same_segment, rank_of, entries_of, externals_of, definition_names, names_of, content_of, latest_content, are_accepted, publics_of, name_of_header, start_of_end, packed, external_parts, publics_in_segment, definition_of, public_parts}
 use Rattle.object_laws.proofs.Files.FrontsAgain.{segment_again}
 use Rattle.object_laws.proofs.Texts.Groups.{joined, packed_fit, packed_joined, all_in_groups}
 use Rattle.object_laws.proofs.Texts.Counted.{times}

@@ -1,10 +1,5 @@
 -- The longest runs of places: they stand in order, tell each place again, and cut no word.
-use Rattle.std.proofs.Common.{◌≡◌, ℕ, zero, suc, ◌+◌, ◌-◌, ◌<◌, ◌≤◌, Bool, true, false, cond, not, ◌&&◌, ◌||◌, ◌==◌, nat_lt, nat_le, List, [], ◌∷◌, length, map, slice_get, Option, Some, None, refl, ap, sym, subst, ◌∙◌, ⊎_elim, arith}
-use Rattle.std.specs.List.{AllByRecursion}
-use Rattle.std.specs.Option.{option_flatten}
-use Rattle.std.proofs.lemmas.Bool.{and_parts, and_from, and_left, and_right, cond-true, cond-false, le-leb, lt-leb, lt-ltb, le-ltb, eqb-true, eq-eqb, cases_lt}
-use Rattle.object_modules.specs.Module.{SetByte, begins_word, is_plain, words_are_whole}
-use Rattle.object_modules.specs.Text.{Run, before_runs, runs_from}
+use Rattle.object_laws.proofs.Prelude.{◌≡◌, ℕ, zero, suc, ◌+◌, ◌-◌, ◌<◌, ◌≤◌, Bool, true, false, cond, not, ◌&&◌, ◌||◌, ◌==◌, nat_lt, nat_le, List, [], ◌∷◌, length, map, slice_get, Option, Some, None, refl, ap, sym, subst, ◌∙◌, ⊎_elim, arith, AllByRecursion, option_flatten, and_parts, and_from, and_left, and_right, cond-true, cond-false, le-leb, lt-leb, lt-ltb, le-ltb, eqb-true, eq-eqb, cases_lt, SetByte, begins_word, is_plain, words_are_whole, Run, before_runs, runs_from}
 
 -- runs one after another within limits, each with an item
 abbrev pub InOrder : {A : Type 0} → (from to : ℕ) → List (Run A) → Type 0

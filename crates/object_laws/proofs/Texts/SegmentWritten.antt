@@ -1,14 +1,5 @@
 -- The records that are written for the contents of a segment: what they are, and what they leave as it was.
-use Rattle.std.proofs.Common.{◌≡◌, ℕ, ◌+◌, ◌≤◌, ◌==◌, Bool, true, false, cond, nat_lt, List, [], ◌∷◌, length, flat_map, slice_get, Option, Some, None, IfSome, refl, ap, sym, subst, ◌∙◌, arith}
-use Rattle.std.specs.List.{AllByRecursion, list_all}
-use Rattle.std.specs.Option.{option_map_or, option_flatten}
-use Rattle.std.proofs.lemmas.Bool.{and_parts}
-use Rattle.object_modules.specs.declared.segment.Segment.{Segment}
-use Rattle.object_modules.specs.Module.{Fixup, SetByte, is_target, is_valid_byte, words_are_whole}
-use Rattle.object_modules.specs.Parts.{Content, Part, ContentPart, kind_of_part}
-use Rattle.object_modules.specs.Before.{same_segment, rank_of, entries_of, externals_of, content_of, length_in, content_end, end_by_content, filled_to}
-use Rattle.object_modules.specs.Spelling.{publics_of, name_of_header, start_of_end}
-use Rattle.object_modules.specs.Text.{Run, before_runs, runs_from, contents_of_run, fixes_from, fix_parts, content_parts}
+use Rattle.object_laws.proofs.Prelude.{◌≡◌, ℕ, ◌+◌, ◌≤◌, ◌==◌, Bool, true, false, cond, nat_lt, List, [], ◌∷◌, length, flat_map, slice_get, Option, Some, None, IfSome, refl, ap, sym, subst, ◌∙◌, arith, AllByRecursion, list_all, option_map_or, option_flatten, and_parts, Segment, Fixup, SetByte, is_target, is_valid_byte, words_are_whole, Content, Part, ContentPart, kind_of_part, same_segment, rank_of, entries_of, externals_of, content_of, length_in, content_end, end_by_content, filled_to, publics_of, name_of_header, start_of_end, Run, before_runs, runs_from, contents_of_run, fixes_from, fix_parts, content_parts}
 use Rattle.object_laws.proofs.Texts.Groups.{all_append, all_in_groups}
 use Rattle.object_laws.proofs.Texts.Runs.{InOrder, item_at, runs_in_order, runs_tell, runs_whole}
 use Rattle.object_laws.proofs.Texts.Cuts.{IsCut, all_cut, placed_hold, run_groups, run_groups_joined, contents_in_order, contents_tell}

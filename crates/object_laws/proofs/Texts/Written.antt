@@ -1,22 +1,5 @@
 -- The one text of a module is a file of the records that are written, and these say the module.
-use Rattle.std.proofs.Common.{◌≡◌, ℕ, ◌+◌, ◌≤◌, Bool, true, not, ◌&&◌, ◌||◌, nat_lt, nat_le, List, [], ◌∷◌, ◌++◌, length, map, flat_map, Option, Some, None, refl, ap, subst, ◌∙◌, arith}
-use Rattle.std.specs.List.{AllByRecursion, list_all}
-use Rattle.std.specs.Option.{option_map_or}
-use Rattle.std.specs.Str.{bytes_eq}
-use Rattle.std.proofs.lemmas.Bool.{and_parts, and_from}
-use Rattle.std.proofs.lemmas.List.{append-nil}
-use Rattle.std.proofs.lemmas.Grind.{flat_map-append}
-use Rattle.symbols.specs.Names.{is_name}
-use Rattle.omf80.specs.declared.kind.TheConstants.{BODY_LIMIT}
-use Rattle.object_modules.specs.declared.segment.Segment.{Segment}
-use Rattle.object_modules.specs.declared.segment.Segment.TheVariants.{Absolute, Code, Data}
-use Rattle.object_modules.specs.declared.segment.TheConstants.{SEGMENT_LIMIT}
-use Rattle.object_modules.specs.Module.{Places, Public, ObjectModule, words_are_whole, is_page, is_valid_byte, is_valid_segment, linkage_names, IsObjectModule}
-use Rattle.object_modules.specs.Parts.{Part, ModuleEndPart, EndOfFilePart, kind_of_part, body_of}
-use Rattle.object_modules.specs.Before.{rank_of, entries_of, externals_of, names_of, content_of, latest_content, length_in, filled_to, end_by_content}
-use Rattle.object_modules.specs.Rules.{is_accepted, are_accepted}
-use Rattle.object_modules.specs.Spelling.{name_of_header, start_of_end}
-use Rattle.object_modules.specs.Text.{header_for, external_parts, public_parts, segment_parts, written_parts}
+use Rattle.object_laws.proofs.Prelude.{◌≡◌, ℕ, ◌+◌, ◌≤◌, Bool, true, not, ◌&&◌, ◌||◌, nat_lt, nat_le, List, [], ◌∷◌, ◌++◌, length, map, flat_map, Option, Some, None, refl, ap, subst, ◌∙◌, arith, AllByRecursion, list_all, option_map_or, bytes_eq, and_parts, and_from, append-nil, flat_map-append, is_name, BODY_LIMIT, Segment, Absolute, Code, Data, SEGMENT_LIMIT, Places, Public, ObjectModule, words_are_whole, is_page, is_valid_byte, is_valid_segment, linkage_names, IsObjectModule, Part, ModuleEndPart, EndOfFilePart, kind_of_part, body_of, rank_of, entries_of, externals_of, names_of, content_of, latest_content, length_in, filled_to, end_by_content, is_accepted, are_accepted, name_of_header, start_of_end, header_for, external_parts, public_parts, segment_parts, written_parts}
 use Rattle.object_laws.proofs.Texts.Groups.{all_append, all_halves}
 use Rattle.object_laws.proofs.Texts.Counted.{times, times_append, new_once}
 use Rattle.object_laws.proofs.Texts.Accepting.{onto, accepted_append, onto_append, accepted_by, fit_nothing, UpTo, up_to_onto, up_to_more, follows_end, flat_map_onto, times_onto, length_onto, latest_onto, filled_onto, each_passes, all_weaker}

@@ -1,22 +1,6 @@
 -- The records that are written for a module say it again, so its text spells it and no other module, and anything
 -- after its text is out of order.
-use Rattle.std.proofs.Common.{◌≡◌, ℕ, ◌+◌, true, cond, List, [], ◌∷◌, ◌++◌, length, map, flat_map, filter_map, reverse, slice_get, slice_index, Option, Some, None, option_map, option_and_then, refl, ap, sym, subst, ◌∙◌}
-use Rattle.std.specs.List.{AllByRecursion, cons_option, range_with_len}
-use Rattle.std.specs.Option.{option_or, option_flatten}
-use Rattle.std.proofs.lemmas.List.{append_assoc, append-nil, reverse-append}
-use Rattle.std.proofs.lemmas.Grind.{flat_map-append}
-use Rattle.omf80.specs.Records.{kind_of_type, first_body, record_fault}
-use Rattle.object_modules.specs.declared.fault.Fault.{Fault}
-use Rattle.object_modules.specs.declared.fault.Fault.TheVariants.{OutOfOrder}
-use Rattle.object_modules.specs.declared.segment.Alignment.{Alignment}
-use Rattle.object_modules.specs.declared.segment.Segment.{Segment}
-use Rattle.object_modules.specs.declared.segment.Segment.TheVariants.{Absolute, Code, Data, Stack}
-use Rattle.object_modules.specs.Module.{SetByte, Places, Public, ObjectModule, IsObjectModule}
-use Rattle.object_modules.specs.Parts.{SegmentEntry, Part, ModuleEndPart, EndOfFilePart}
-use Rattle.object_modules.specs.Before.{is_ended, entries_of, externals_of, content_of, length_in, stated_length_of}
-use Rattle.object_modules.specs.Rules.{are_accepted, fault_from_record, fault_of_record, fault_at}
-use Rattle.object_modules.specs.Spelling.{FixedContent, fixed_contents, set_in, alignment_in, places_in, publics_of, start_of_end, first_in, start_in, module_of, IsFileOf, Spells, HasFirstFault}
-use Rattle.object_modules.specs.Text.{header_for, external_parts, publics_in_segment, public_parts, segment_parts, written_parts, text_of, with_publics_in_order}
+use Rattle.object_laws.proofs.Prelude.{◌≡◌, ℕ, ◌+◌, true, cond, List, [], ◌∷◌, ◌++◌, length, map, flat_map, filter_map, reverse, slice_get, slice_index, Option, Some, None, option_map, option_and_then, refl, ap, sym, subst, ◌∙◌, AllByRecursion, cons_option, range_with_len, option_or, option_flatten, append_assoc, append-nil, reverse-append, flat_map-append, kind_of_type, first_body, record_fault, Fault, OutOfOrder, Alignment, Segment, Absolute, Code, Data, Stack, SetByte, Places, Public, ObjectModule, IsObjectModule, SegmentEntry, Part, ModuleEndPart, EndOfFilePart, is_ended, entries_of, externals_of, content_of, length_in, stated_length_of, are_accepted, fault_from_record, fault_of_record, fault_at, FixedContent, fixed_contents, set_in, alignment_in, places_in, publics_of, start_of_end, first_in, start_in, module_of, IsFileOf, Spells, HasFirstFault, header_for, external_parts, publics_in_segment, public_parts, segment_parts, written_parts, text_of, with_publics_in_order}
 use Rattle.object_laws.proofs.Files.Unique.{spells_one, no_fault, one_fault}
 use Rattle.object_laws.proofs.Texts.Runs.{item_at}
 use Rattle.object_laws.proofs.Texts.Accepting.{all_weaker}

@@ -1,55 +1,8 @@
 -- A REENTRANT procedure begins: its last argument is pushed, and zeros for its variables.
-use Rattle.std.proofs.Common.{◌≡◌, ℕ, zero, suc, ◌+◌, ◌-◌, ◌*◌, ◌<◌, ◌≤◌, ◌⊎◌, inl, inr, true, List, [], ◌∷◌, ◌++◌, length, zip, slice_get, Option, Some, None, refl, sym, ap, subst, ◌∙◌, arith}
-use Rattle.std.specs.Prelude.{option_map}
-use Rattle.std.proofs.lemmas.Option.{slice_get-map}
-use Rattle.mem80.specs.declared.memory.TheConstants.{MEMORY_SIZE}
-use Rattle.mem80.specs.Memory.{IsMemory, byte_at}
-use Rattle.trees.specs.declared.declaration.ScalarType.{ScalarType}
-use Rattle.trees.specs.declared.declaration.ScalarType.TheVariants.{Byte, Address}
-use Rattle.typed_trees.specs.Charge.{charge_of}
-use Rattle.typed_trees.specs.Frames.{AreParameters, HasParameters, home_of_parameters}
-use Rattle.typed_trees.specs.Sizes.{size_of_scalar}
-use Rattle.typed_trees.specs.TypedTrees.{Home, InFrame, TypedProcedure}
-use Rattle.meaning.specs.Meaning.{frame_of, parameters_set}
-use Rattle.meaning.specs.Outcomes.{Gave, State as SourceState}
-use Rattle.isa8080.specs.declared.instr.Instr.TheVariants.{Push}
-use Rattle.isa8080.specs.State.{HoldBytes, Registers, State, wrap}
-use Rattle.asm8080.specs.Standing.{AgreesIn, size_of_instruction}
-use Rattle.asm8080.proofs.Calls.{pushed, pushed_is_memory, pushed_keeps}
-use Rattle.treecode.specs.declared.place.Home.{Home as TreeHome}
+use Rattle.procedure_laws.proofs.Prelude.{◌≡◌, ℕ, zero, suc, ◌+◌, ◌-◌, ◌*◌, ◌<◌, ◌≤◌, ◌⊎◌, inl, inr, true, List, [], ◌∷◌, ◌++◌, length, zip, slice_get, Option, Some, None, refl, sym, ap, subst, ◌∙◌, arith, option_map, slice_get-map, MEMORY_SIZE, IsMemory, byte_at, ScalarType, Byte, Address, charge_of, AreParameters, HasParameters, home_of_parameters, size_of_scalar, Home, InFrame, TypedProcedure, frame_of, parameters_set, Gave, SourceState, Push, HoldBytes, Registers, State, wrap, AgreesIn, size_of_instruction, pushed, pushed_is_memory, pushed_keeps, TreeHome, Parameter, ProcedureKind, TreeProcedure, frame_number, location_of, parameter_at, parameters_of, IsProcedure, home_at, nodes_of, distance_of, parameter_distance, return_distance, return_of, parameter_count, home_in_frame, frame_fits, has_parameters, LiesWell, Owns, Does, at_place, gives, keeps_all, no_facts_hold, Facts, no_facts, with_facts, Body, Planned, holds, plain, Here, argument_facts, entry_steps, entry_steps_by, frame_entry_steps, last_argument_facts, last_argument_steps, pair_of, zeros_steps, InRegister, InWord, bytes_pushed, Know, does_same, BodyContext, Entries, IsEntered, IsOfCall, ModuleCode, ModuleLies, at_start, surroundings_in, IsBodyOf, ReentrantBegins, frame_level, reentrant_body, HasBegun}
 use Rattle.treecode.specs.declared.place.Home.TheVariants as homes
 use Rattle.treecode.specs.declared.place.Location.TheVariants as locations
-use Rattle.treecode.specs.declared.procedure.Parameter.{Parameter}
-use Rattle.treecode.specs.declared.procedure.ProcedureKind.{ProcedureKind}
 use Rattle.treecode.specs.declared.procedure.ProcedureKind.TheVariants as kinds
-use Rattle.treecode.specs.declared.procedure.TreeProcedure.{TreeProcedure}
-use Rattle.treecode.specs.Homes.{frame_number, location_of, parameter_at, parameters_of}
-use Rattle.treecode.specs.Lowered.{IsProcedure}
-use Rattle.treecode.specs.Nodes.{home_at, nodes_of}
-use Rattle.frames.specs.Frames.{distance_of, parameter_distance, return_distance, return_of}
-use Rattle.frames.proofs.Frames.{parameter_count}
-use Rattle.frames.proofs.Homes.{home_in_frame}
-use Rattle.frames.proofs.Parameters.{frame_fits, has_parameters}
-use Rattle.code_meaning.specs.Activations.{LiesWell, Owns}
-use Rattle.code_meaning.specs.Landing.{Does, at_place}
-use Rattle.code_meaning.proofs.Landing.{gives}
-use Rattle.code_meaning.proofs.Owning.{keeps_all}
-use Rattle.code_meaning.proofs.Facts.Changes.{no_facts_hold}
-use Rattle.steps8080.specs.declared.facts.Facts.{Facts}
-use Rattle.steps8080.specs.Facts.{no_facts, with_facts}
-use Rattle.statements8080.specs.declared.body.Body.{Body}
-use Rattle.statements8080.specs.declared.plan.Planned.{Planned}
-use Rattle.statements8080.specs.Plans.{holds, plain}
-use Rattle.codegen8080.specs.declared.meeting.Here.{Here}
-use Rattle.codegen8080.specs.Procedures.{argument_facts, entry_steps, entry_steps_by, frame_entry_steps, last_argument_facts, last_argument_steps, pair_of, zeros_steps}
-use Rattle.task_laws.specs.Contexts.{InRegister, InWord, bytes_pushed}
-use Rattle.task_laws.specs.Tasks.{Know}
-use Rattle.task_laws.proofs.Machine.Stages.{does_same}
-use Rattle.statement_laws.specs.Bodies.{BodyContext}
-use Rattle.procedure_laws.specs.Calls.{Entries, IsEntered, IsOfCall}
-use Rattle.procedure_laws.specs.Modules.{ModuleCode, ModuleLies, at_start, surroundings_in}
-use Rattle.procedure_laws.specs.Premises.{IsBodyOf, ReentrantBegins, frame_level, reentrant_body}
-use Rattle.procedure_laws.specs.Procedures.{HasBegun}
 use Rattle.procedure_laws.proofs.CallInstructions.{register_kept, word_kept}
 use Rattle.procedure_laws.proofs.Frames.FramesLast.{LastIs, NoneAre, facts_of_last, facts_of_none, last_in_word, last_is, last_pushed, pushed_word, pushed_word_small, steps_of_last, steps_of_none}
 use Rattle.procedure_laws.proofs.Frames.FramesNew.{IsObjectOf, home_reentrant, new_lies, object_of, parameters_in_words, size_in_frame_is}

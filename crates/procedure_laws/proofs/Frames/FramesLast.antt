@@ -1,26 +1,6 @@
 -- The last argument of a procedure: it is in its register, and goes to the word below the return address.
-use Rattle.std.proofs.Common.{◌≡◌, ℕ, suc, ◌+◌, ◌-◌, ◌*◌, ◌/◌, ◌%◌, ◌<◌, ◌≤◌, ◌⊎◌, inl, inr, List, [], ◌∷◌, length, zip, slice_get, Some, None, refl, ap, subst, ◌∙◌, arith}
-use Rattle.mem80.specs.declared.memory.TheConstants.{MEMORY_SIZE}
-use Rattle.mem80.specs.Memory.{byte_at}
-use Rattle.ports.specs.declared.event.Event.{Event}
-use Rattle.trees.specs.declared.declaration.ScalarType.{ScalarType}
-use Rattle.trees.specs.declared.declaration.ScalarType.TheVariants.{Byte, Address}
-use Rattle.typed_trees.specs.Frames.{AreParameters, IsParameter}
-use Rattle.typed_trees.specs.TypedTrees.{Home, TypedModule}
-use Rattle.isa8080.specs.declared.instr.Instr.TheVariants.{Push}
-use Rattle.isa8080.specs.declared.instr.StackPair.TheVariants.{Psw, StackHl}
-use Rattle.isa8080.specs.Act.{act}
-use Rattle.isa8080.specs.Flags.{flag_byte}
-use Rattle.isa8080.specs.State.{HoldBytes, Registers, word, wrap}
+use Rattle.procedure_laws.proofs.Prelude.{◌≡◌, ℕ, suc, ◌+◌, ◌-◌, ◌*◌, ◌/◌, ◌%◌, ◌<◌, ◌≤◌, ◌⊎◌, inl, inr, List, [], ◌∷◌, length, zip, slice_get, Some, None, refl, ap, subst, ◌∙◌, arith, MEMORY_SIZE, byte_at, Event, ScalarType, Byte, Address, AreParameters, IsParameter, Home, TypedModule, Push, Psw, StackHl, act, flag_byte, HoldBytes, Registers, word, wrap, pushed, pushed_is_pushed, push_does, Parameter, at_place, no_facts, plain, last_argument_facts, last_argument_steps, pair_of, with_argument, ArgumentsLie, InRegister, InWord}
 use Rattle.isa8080.proofs.FlagBytes.{flag_byte_small}
-use Rattle.asm8080.proofs.Calls.{pushed, pushed_is_pushed}
-use Rattle.asm8080.proofs.Stack.{push_does}
-use Rattle.treecode.specs.declared.procedure.Parameter.{Parameter}
-use Rattle.code_meaning.specs.Landing.{at_place}
-use Rattle.steps8080.specs.Facts.{no_facts}
-use Rattle.statements8080.specs.Plans.{plain}
-use Rattle.codegen8080.specs.Procedures.{last_argument_facts, last_argument_steps, pair_of, with_argument}
-use Rattle.task_laws.specs.Contexts.{ArgumentsLie, InRegister, InWord}
 use Rattle.procedure_laws.proofs.CallInstructions.{word_kept}
 use Rattle.procedure_laws.proofs.Frames.FramesSet.{LieInWords}
 

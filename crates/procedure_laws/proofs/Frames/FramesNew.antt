@@ -1,32 +1,7 @@
 -- A new frame: zeros for its variables lie where the plan has them, and its parameters lie in their words.
-use Rattle.std.proofs.Common.{◌≡◌, ℕ, zero, suc, ◌+◌, ◌-◌, ◌<◌, ◌≤◌, inl, inr, Bool, true, false, if◌then◌else◌, List, [], ◌∷◌, length, map, replicate, slice_get, slice_index_or, Option, Some, None, IsSomeAnd, refl, sym, ap, subst, ◌∙◌, arith}
-use Rattle.std.specs.Option.{option_map_or}
-use Rattle.std.proofs.lemmas.List.{get_or-replicate, length-replicate}
-use Rattle.std.proofs.lemmas.Bool.{eqb-true}
-use Rattle.std.proofs.lemmas.Option.{none-some}
-use Rattle.mem80.specs.Memory.{byte_at}
-use Rattle.trees.specs.declared.declaration.ScalarType.{ScalarType}
-use Rattle.typed_trees.specs.declared.parts.Visibility.{Visibility}
+use Rattle.procedure_laws.proofs.Prelude.{◌≡◌, ℕ, zero, suc, ◌+◌, ◌-◌, ◌<◌, ◌≤◌, inl, inr, Bool, true, false, if◌then◌else◌, List, [], ◌∷◌, length, map, replicate, slice_get, slice_index_or, Option, Some, None, IsSomeAnd, refl, sym, ap, subst, ◌∙◌, arith, option_map_or, get_or-replicate, length-replicate, eqb-true, none-some, byte_at, ScalarType, Visibility, AreParameters, HasParameters, IsParameter, home_of_parameters, is_in_frame, IsScalar, size_of_object, size_of_scalar, BasedOn, Elsewhere, Home, InConstants, InData, InFrame, Nowhere, Placed, TypedModule, TypedObject, TypedProcedure, InTheFrame, home_in, place_in, place_of, frame_of, is_frame_of, TreeProcedure, kind_of, IsProcedure, nodes_of, FramePlan, IsPlanOf, distance_of, parameter_distance, frame_number, listed, scalar_size, has_parameters, Entries, activation_in, frame_shape, size_in_frame, ModuleCode, ModuleLies, surroundings_in}
 use Rattle.typed_trees.specs.declared.parts.Visibility.TheVariants as visibilities
-use Rattle.typed_trees.specs.Frames.{AreParameters, HasParameters, IsParameter, home_of_parameters, is_in_frame}
-use Rattle.typed_trees.specs.ObjectParts.{IsScalar}
-use Rattle.typed_trees.specs.Sizes.{size_of_object, size_of_scalar}
-use Rattle.typed_trees.specs.TypedTrees.{BasedOn, Elsewhere, Home, InConstants, InData, InFrame, Nowhere, Placed, TypedModule, TypedObject, TypedProcedure}
-use Rattle.meaning.specs.Access.{InTheFrame, home_in, place_in, place_of}
-use Rattle.meaning.specs.Meaning.{frame_of, is_frame_of}
 use Rattle.treecode.specs.declared.procedure.ProcedureKind.TheVariants as kinds
-use Rattle.treecode.specs.declared.procedure.TreeProcedure.{TreeProcedure}
-use Rattle.treecode.specs.Homes.{kind_of}
-use Rattle.treecode.specs.Lowered.{IsProcedure}
-use Rattle.treecode.specs.Nodes.{nodes_of}
-use Rattle.frames.specs.declared.frame_plan.FramePlan.{FramePlan}
-use Rattle.frames.specs.Frames.{IsPlanOf, distance_of, parameter_distance}
-use Rattle.treecode.specs.Homes.{frame_number}
-use Rattle.frames.proofs.Bytes.{listed, scalar_size}
-use Rattle.frames.proofs.Parameters.{has_parameters}
-use Rattle.procedure_laws.specs.Calls.{Entries}
-use Rattle.procedure_laws.specs.Contexts.{activation_in, frame_shape, size_in_frame}
-use Rattle.procedure_laws.specs.Modules.{ModuleCode, ModuleLies, surroundings_in}
 use Rattle.procedure_laws.proofs.Frames.FramesPlanned.{parameter_lies, variable_lies}
 use Rattle.procedure_laws.proofs.ProcedureCalls.{as_many_parameters}
 use Rattle.procedure_laws.proofs.Soundness.{frame_home}

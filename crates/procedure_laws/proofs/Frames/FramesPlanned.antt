@@ -1,27 +1,5 @@
 -- Where the variables and the parameters in the frame of a procedure lie by the plan of its frame.
-use Rattle.std.proofs.Common.{◌≡◌, ◌≢◌, ℕ, zero, suc, [], ◌∷◌, ◌+◌, ◌-◌, ◌%◌, ◌<◌, ◌≤◌, min, Bool, true, false, List, length, take, slice_get, Option, Some, None, refl, ap, sym, ◌∙◌, subst, nat_lt, arith, mod-eq_of_lt, ltb-true, ltb-false}
-use Rattle.std.specs.Prelude.{AllPairs, option_map, unwrap_or}
-use Rattle.std.proofs.lemmas.Bool.{true≢false}
-use Rattle.std.proofs.lemmas.Option.{none-some, get_or_from_slice_get, slice_get-map, slice_get_within}
-use Rattle.trees.specs.declared.declaration.ScalarType.{ScalarType}
-use Rattle.typed_trees.specs.Frames.{FramesFit, HasParameters, ParametersFit}
-use Rattle.typed_trees.specs.ObjectParts.{IsScalar}
-use Rattle.typed_trees.specs.Sizes.{size_of_object, size_of_scalar}
-use Rattle.typed_trees.specs.TypedTrees.{InFrame, TypedModule, TypedObject, TypedProcedure}
-use Rattle.layout.specs.Storage.{Storage}
-use Rattle.treecode.specs.declared.procedure.FrameVariable.{FrameVariable}
-use Rattle.treecode.specs.declared.procedure.TreeProcedure.{TreeProcedure}
-use Rattle.treecode.specs.Homes.{frame_number, frame_variable, parameter_number}
-use Rattle.treecode.specs.Lowered.{IsProcedure}
-use Rattle.treecode.specs.Nodes.{Nodes}
-use Rattle.frames.specs.declared.frame_plan.FramePlan.{FramePlan}
-use Rattle.frames.specs.Frames.{IsPlanOf, bytes_by_parameter, distance_by_parameter, distance_in, distance_of, parameter_distance, variable_bytes}
-use Rattle.layout.specs.Sound.{TakeBytes}
-use Rattle.frames.proofs.Bytes.{bytes_are, object_fits, scalar_size}
-use Rattle.frames.proofs.Entries.{entries}
-use Rattle.frames.proofs.Frames.{parameter_count}
-use Rattle.frames.proofs.Objects.{entry_is}
-use Rattle.frames.proofs.Parameters.{frame_fits, framed, has_parameters, none_found}
+use Rattle.procedure_laws.proofs.Prelude.{◌≡◌, ◌≢◌, ℕ, zero, suc, [], ◌∷◌, ◌+◌, ◌-◌, ◌%◌, ◌<◌, ◌≤◌, min, Bool, true, false, List, length, take, slice_get, Option, Some, None, refl, ap, sym, ◌∙◌, subst, nat_lt, arith, mod-eq_of_lt, ltb-true, ltb-false, AllPairs, option_map, unwrap_or, true≢false, none-some, get_or_from_slice_get, slice_get-map, slice_get_within, ScalarType, FramesFit, HasParameters, ParametersFit, IsScalar, size_of_object, size_of_scalar, InFrame, TypedModule, TypedObject, TypedProcedure, Storage, FrameVariable, TreeProcedure, frame_number, frame_variable, parameter_number, IsProcedure, Nodes, FramePlan, IsPlanOf, bytes_by_parameter, distance_by_parameter, distance_in, distance_of, parameter_distance, variable_bytes, TakeBytes, bytes_are, object_fits, scalar_size, entries, parameter_count, entry_is, frame_fits, framed, has_parameters, none_found}
 
 -- the variables before one, and that one, are among all
 ends_within :

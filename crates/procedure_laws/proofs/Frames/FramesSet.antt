@@ -1,20 +1,7 @@
 -- The parameters are set in a new frame: beside the memory that the machine has in the end, in which each argument lies in
 -- the word of its parameter.
-use Rattle.std.proofs.Common.{◌≡◌, ◌≢◌, ℕ, zero, suc, ◌+◌, ◌-◌, ◌/◌, ◌%◌, ◌<◌, ◌≤◌, ◌==◌, ◌⊎◌, inl, inr, Bool, true, false, List, [], ◌∷◌, length, slice_set, refl, sym, ap, subst, ◌∙◌, arith}
-use Rattle.std.proofs.lemmas.Bool.{cases_lt, eqb-true, eqb-false}
-use Rattle.std.proofs.lemmas.List.{length-set, get_or-set_same, get_or-set_other}
-use Rattle.mem80.specs.Memory.{IsMemory, byte_at}
-use Rattle.mem80.proofs.MemoryLemmas.{byte_small}
-use Rattle.trees.specs.declared.declaration.ScalarType.{ScalarType}
-use Rattle.trees.specs.declared.declaration.ScalarType.TheVariants.{Byte, Address}
-use Rattle.typed_trees.specs.Sizes.{size_of_scalar}
-use Rattle.meaning.specs.Access.{InTheFrame, Place, Surroundings, frame_bytes, place_of, write_scalar}
-use Rattle.meaning.specs.Meaning.{parameters_set}
-use Rattle.meaning.specs.Outcomes.{Gave, Outcome, State as SourceState, then_do}
-use Rattle.asm8080.proofs.Kept.{byte_kept, byte_put}
-use Rattle.frames.specs.Frames.{parameter_distance, word_distance}
-use Rattle.code_meaning.specs.Activations.{Activation, FrameLies}
-use Rattle.task_laws.specs.Contexts.{InWord}
+use Rattle.procedure_laws.proofs.Prelude.{◌≡◌, ◌≢◌, ℕ, zero, suc, ◌+◌, ◌-◌, ◌/◌, ◌%◌, ◌<◌, ◌≤◌, ◌==◌, ◌⊎◌, inl, inr, Bool, true, false, List, [], ◌∷◌, length, slice_set, refl, sym, ap, subst, ◌∙◌, arith, cases_lt, eqb-true, eqb-false, length-set, get_or-set_same, get_or-set_other, IsMemory, byte_at, byte_small, ScalarType, Byte, Address, size_of_scalar, InTheFrame, Surroundings, frame_bytes, place_of, write_scalar, parameters_set, Gave, Outcome, SourceState, then_do, byte_kept, byte_put, parameter_distance, word_distance, Activation, FrameLies, InWord}
+use Rattle.meaning.specs.Access.{Place}
 
 -- a frame lies in a memory, but for some of its bytes
 pub record LiesBut

@@ -1,29 +1,7 @@
 -- Planned steps that stand in the code, taken one by one.
-use Rattle.std.proofs.Common.{◌≡◌, ℕ, ◌+◌, Bool, true, false, List, [], ◌∷◌, ◌++◌, None, refl, subst}
-use Rattle.ports.specs.declared.event.Event.{Event}
-use Rattle.meaning.specs.Outcomes.{State as SourceState, Outcome}
-use Rattle.isa8080.specs.declared.instr.Condition.{Condition}
-use Rattle.isa8080.specs.declared.instr.Instr.{Instr}
-use Rattle.isa8080.specs.State.{Registers, State, holds as holds_of}
-use Rattle.isa8080.specs.Act.{act}
-use Rattle.asm8080.specs.declared.item.Item.{Item}
+use Rattle.procedure_laws.proofs.Prelude.{◌≡◌, ℕ, ◌+◌, Bool, true, false, List, [], ◌∷◌, ◌++◌, None, refl, subst, Event, SourceState, Outcome, Condition, Instr, Registers, State, holds_of, act, Item, AtLabel, JumpWhere, AgreesIn, size_of_instruction, IsThere, LiesWell, Does, at_place, jump_passed, jump_taken, plain_first, after_mark, after_plain, mark_lies, Facts, LabelNumber, after, no_facts, with_facts, HoldsWritten, JumpWritten, MarkWritten, NoneWritten, PlainWritten, Planned, holds, jump, mark, plain, Here, AreCarriedOut, NoneCarriedOut, StepCarriedOut, carried_steps, here_after, waiting_after, BodyContext}
 use Rattle.asm8080.specs.declared.item.Item.TheVariants as items
-use Rattle.asm8080.specs.declared.item.Reference.TheVariants.{AtLabel}
-use Rattle.asm8080.specs.declared.item.WordForm.TheVariants.{JumpWhere}
-use Rattle.asm8080.specs.Standing.{AgreesIn, size_of_instruction}
-use Rattle.code_meaning.specs.Activations.{IsThere, LiesWell}
-use Rattle.code_meaning.specs.Landing.{Does, at_place}
-use Rattle.code_meaning.proofs.FirstItems.{jump_passed, jump_taken, plain_first}
-use Rattle.code_meaning.proofs.Standing.{after_mark, after_plain, after_word, mark_lies}
-use Rattle.steps8080.specs.declared.facts.Facts.{Facts}
-use Rattle.steps8080.specs.declared.step.LabelNumber.{LabelNumber}
-use Rattle.steps8080.specs.Facts.{after, no_facts, with_facts}
-use Rattle.exprgen8080.specs.Emission.{HoldsWritten, JumpWritten, MarkWritten, NoneWritten, PlainWritten}
-use Rattle.statements8080.specs.declared.plan.Planned.{Planned}
-use Rattle.statements8080.specs.Plans.{holds, jump, mark, plain}
-use Rattle.codegen8080.specs.declared.meeting.Here.{Here}
-use Rattle.codegen8080.specs.Generated.{AreCarriedOut, NoneCarriedOut, StepCarriedOut, carried_steps, here_after, waiting_after}
-use Rattle.statement_laws.specs.Bodies.{BodyContext}
+use Rattle.code_meaning.proofs.Standing.{after_word}
 
 -- planned steps whose code stands from one place to another, where the code is here before them and there after them
 pub record StepsLie (at : BodyContext) (here last : Here) (planned : List Planned) (from to : ℕ) : Type 0 where

@@ -1,30 +1,5 @@
 -- Bytes are dropped from the stack before a return; the result stays where it is.
-use Rattle.std.proofs.Common.{◌≡◌, ℕ, zero, suc, ◌+◌, ◌-◌, ◌*◌, ◌/◌, ◌%◌, ◌<◌, ◌≤◌, nat_le, Bool, true, false, if◌then◌else◌, List, [], ◌∷◌, ◌++◌, replicate, Option, Some, None, refl, sym, ap, subst, ◌∙◌, arith}
-use Rattle.std.proofs.lemmas.List.{append_assoc}
-use Rattle.mem80.specs.declared.memory.TheConstants.{MEMORY_SIZE}
-use Rattle.mem80.specs.Memory.{IsMemory, byte_at}
-use Rattle.mem80.proofs.MemoryLemmas.{byte_small}
-use Rattle.ports.specs.declared.event.Event.{Event}
-use Rattle.trees.specs.declared.declaration.ScalarType.{ScalarType}
-use Rattle.trees.specs.declared.declaration.ScalarType.TheVariants.{Byte, Address}
-use Rattle.meaning.specs.Outcomes.{State as SourceState, Outcome}
-use Rattle.isa8080.specs.declared.instr.Instr.TheVariants.{Dad, Inx, Lxi, Pop, Sphl, Xchg}
-use Rattle.isa8080.specs.declared.instr.Pair.TheVariants.{Hl, Sp}
-use Rattle.isa8080.specs.declared.instr.StackPair.{StackPair}
-use Rattle.isa8080.specs.declared.instr.StackPair.TheVariants.{StackBc}
-use Rattle.isa8080.specs.Act.{act}
-use Rattle.isa8080.specs.State.{HoldBytes, Registers, State, word, wrap, with_popped}
-use Rattle.asm8080.specs.Standing.{AgreesIn}
-use Rattle.asm8080.proofs.Calls.{IsPushed}
-use Rattle.asm8080.proofs.Stack.{pop_does}
-use Rattle.code_meaning.specs.Activations.{LiesWell}
-use Rattle.code_meaning.specs.Landing.{Does, at_place}
-use Rattle.statements8080.specs.declared.plan.Planned.{Planned}
-use Rattle.statements8080.specs.Plans.{plain}
-use Rattle.codegen8080.specs.declared.meeting.Here.{Here}
-use Rattle.codegen8080.specs.Procedures.{drop_steps, kept_steps, pops_steps}
-use Rattle.task_laws.specs.Contexts.{ResultLies}
-use Rattle.statement_laws.specs.Bodies.{BodyContext}
+use Rattle.procedure_laws.proofs.Prelude.{◌≡◌, ℕ, zero, suc, ◌+◌, ◌-◌, ◌*◌, ◌/◌, ◌%◌, ◌<◌, ◌≤◌, nat_le, Bool, true, false, if◌then◌else◌, List, [], ◌∷◌, ◌++◌, replicate, Option, Some, None, refl, sym, ap, subst, ◌∙◌, arith, append_assoc, MEMORY_SIZE, IsMemory, byte_at, byte_small, Event, ScalarType, Byte, Address, SourceState, Outcome, Dad, Inx, Lxi, Pop, Sphl, Xchg, Hl, Sp, StackPair, StackBc, act, HoldBytes, Registers, State, word, wrap, with_popped, AgreesIn, IsPushed, pop_does, LiesWell, Does, at_place, Planned, plain, Here, drop_steps, kept_steps, pops_steps, ResultLies, BodyContext}
 use Rattle.procedure_laws.proofs.Frames.FramesSteps.{StepsLie, plain_goes}
 use Rattle.procedure_laws.proofs.Returns.StaticReturns.{result_kept}
 use Rattle.procedure_laws.proofs.Zeros.{same_steps}

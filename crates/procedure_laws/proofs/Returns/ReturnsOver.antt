@@ -1,29 +1,5 @@
 -- A return over the words of arguments above the return address, and then all returns of REENTRANT procedures.
-use Rattle.std.proofs.Common.{◌≡◌, ◌≢◌, ℕ, zero, suc, ◌+◌, ◌-◌, ◌*◌, ◌/◌, ◌%◌, ◌<◌, ◌≤◌, nat_eq, min, inr, Bool, true, false, if◌then◌else◌, List, [], ◌∷◌, ◌++◌, length, slice_get, Option, Some, None, refl, sym, ap, subst, ◌∙◌, arith}
-use Rattle.std.proofs.lemmas.Bool.{eqb-true}
-use Rattle.std.proofs.lemmas.List.{length-set}
-use Rattle.mem80.specs.declared.memory.TheConstants.{MEMORY_SIZE}
-use Rattle.mem80.specs.Memory.{byte_at}
-use Rattle.trees.specs.declared.declaration.ScalarType.{ScalarType}
-use Rattle.trees.specs.declared.declaration.ScalarType.TheVariants.{Byte, Address}
-use Rattle.meaning.specs.Outcomes.{Gave, State as SourceState}
-use Rattle.isa8080.specs.declared.instr.Instr.TheVariants.{Pchl, Pop, Push, Ret}
-use Rattle.isa8080.specs.declared.instr.StackPair.TheVariants.{StackDe, StackHl}
-use Rattle.isa8080.specs.State.{HoldBytes, Registers, State, high_byte, low_byte, word, wrap, with_popped}
-use Rattle.isa8080.specs.Step.{running}
-use Rattle.asm8080.proofs.Calls.{pushed, pushed_is_memory, pushed_is_pushed, pushed_keeps}
-use Rattle.asm8080.proofs.Stack.{push_does}
-use Rattle.code_meaning.specs.Activations.{LiesWell, Shares}
-use Rattle.code_meaning.specs.Landing.{Does, at_place}
-use Rattle.code_meaning.proofs.Landing.{gives}
-use Rattle.code_meaning.proofs.Owning.{keeps_all}
-use Rattle.statements8080.specs.Plans.{plain}
-use Rattle.codegen8080.specs.declared.meeting.Here.{Here}
-use Rattle.codegen8080.specs.Procedures.{pops_steps, return_over_any_steps, return_over_steps}
-use Rattle.task_laws.specs.Contexts.{ResultLies}
-use Rattle.statement_laws.specs.Bodies.{BodyContext}
-use Rattle.procedure_laws.specs.Calls.{IsOfCall, ReturnLies}
-use Rattle.procedure_laws.specs.Procedures.{HasReturned}
+use Rattle.procedure_laws.proofs.Prelude.{◌≡◌, ◌≢◌, ℕ, zero, suc, ◌+◌, ◌-◌, ◌*◌, ◌/◌, ◌%◌, ◌<◌, ◌≤◌, nat_eq, min, inr, Bool, true, false, if◌then◌else◌, List, [], ◌∷◌, ◌++◌, length, slice_get, Option, Some, None, refl, sym, ap, subst, ◌∙◌, arith, eqb-true, length-set, MEMORY_SIZE, byte_at, ScalarType, Byte, Address, Gave, SourceState, Pchl, Pop, Push, Ret, StackDe, StackHl, HoldBytes, Registers, State, high_byte, low_byte, word, wrap, with_popped, running, pushed, pushed_is_memory, pushed_is_pushed, pushed_keeps, push_does, LiesWell, Shares, Does, at_place, gives, keeps_all, plain, Here, pops_steps, return_over_any_steps, return_over_steps, ResultLies, BodyContext, IsOfCall, ReturnLies, HasReturned}
 use Rattle.procedure_laws.proofs.Frames.FramesSteps.{StepsLie, plain_goes}
 use Rattle.procedure_laws.proofs.Returns.ReturnsDrop.{IsBack, pop_is, word_small, word_there, words_dropped}
 use Rattle.procedure_laws.proofs.Returns.StaticReturns.{result_kept, return_does}

@@ -1,26 +1,6 @@
 -- A REENTRANT procedure returns: its frame is dropped, and the words of its other arguments.
-use Rattle.std.proofs.Common.{◌≡◌, ◌≢◌, ℕ, suc, ◌+◌, ◌-◌, ◌*◌, ◌<◌, ◌≤◌, nat_eq, min, Bool, true, false, if◌then◌else◌, ◌++◌, length, refl, sym, ap, subst, ◌∙◌, arith}
-use Rattle.std.proofs.lemmas.Bool.{eqb-true, eqb-false}
-use Rattle.mem80.specs.declared.memory.TheConstants.{MEMORY_SIZE}
-use Rattle.typed_trees.specs.Frames.{HasParameters}
-use Rattle.meaning.specs.Outcomes.{Gave, State as SourceState}
-use Rattle.isa8080.specs.State.{State}
-use Rattle.treecode.specs.declared.procedure.ProcedureKind.{ProcedureKind}
+use Rattle.procedure_laws.proofs.Prelude.{◌≡◌, ◌≢◌, ℕ, suc, ◌+◌, ◌-◌, ◌*◌, ◌<◌, ◌≤◌, nat_eq, min, Bool, true, false, if◌then◌else◌, ◌++◌, length, refl, sym, ap, subst, ◌∙◌, arith, eqb-true, eqb-false, MEMORY_SIZE, HasParameters, Gave, SourceState, State, ProcedureKind, TreeProcedure, IsProcedure, nodes_of, return_distance, return_of, parameter_count, frame_fits, has_parameters, LiesWell, Does, at_place, Body, drop_steps, return_of_frame_steps, return_over_any_steps, return_steps, return_steps_by, Entries, ReturnLies, ModuleCode, ModuleLies, ReentrantReturns, frame_level, reentrant_body, HasReturned}
 use Rattle.treecode.specs.declared.procedure.ProcedureKind.TheVariants as kinds
-use Rattle.treecode.specs.declared.procedure.TreeProcedure.{TreeProcedure}
-use Rattle.treecode.specs.Lowered.{IsProcedure}
-use Rattle.treecode.specs.Nodes.{nodes_of}
-use Rattle.frames.specs.Frames.{return_distance, return_of}
-use Rattle.frames.proofs.Frames.{parameter_count}
-use Rattle.frames.proofs.Parameters.{frame_fits, has_parameters}
-use Rattle.code_meaning.specs.Activations.{LiesWell}
-use Rattle.code_meaning.specs.Landing.{Does, at_place}
-use Rattle.statements8080.specs.declared.body.Body.{Body}
-use Rattle.codegen8080.specs.Procedures.{drop_steps, return_of_frame_steps, return_over_any_steps, return_steps, return_steps_by}
-use Rattle.procedure_laws.specs.Calls.{Entries, ReturnLies}
-use Rattle.procedure_laws.specs.Modules.{ModuleCode, ModuleLies}
-use Rattle.procedure_laws.specs.Premises.{ReentrantReturns, frame_level, reentrant_body}
-use Rattle.procedure_laws.specs.Procedures.{HasReturned}
 use Rattle.procedure_laws.proofs.ProcedureCalls.{return_is}
 use Rattle.procedure_laws.proofs.Returns.ReturnsDrop.{frame_dropped}
 use Rattle.procedure_laws.proofs.Returns.ReturnsOver.{over_returns}

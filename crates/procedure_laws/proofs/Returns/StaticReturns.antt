@@ -1,36 +1,7 @@
 -- A procedure that is not REENTRANT returns by RET.
-use Rattle.std.proofs.Common.{◌≡◌, ℕ, ◌+◌, ◌-◌, ◌*◌, ◌/◌, ◌%◌, ◌≤◌, List, [], ◌∷◌, Option, Some, None, refl, ap, subst, ◌∙◌, arith}
-use Rattle.mem80.specs.declared.memory.TheConstants.{MEMORY_SIZE}
-use Rattle.mem80.specs.Memory.{byte_at, word_at}
-use Rattle.ports.specs.declared.event.Event.{Event}
-use Rattle.trees.specs.declared.declaration.ScalarType.{ScalarType}
-use Rattle.trees.specs.declared.declaration.ScalarType.TheVariants.{Byte, Address}
-use Rattle.meaning.specs.Outcomes.{Gave, State as SourceState}
-use Rattle.isa8080.specs.declared.instr.Instr.TheVariants.{Ret}
-use Rattle.isa8080.specs.Act.{act}
-use Rattle.isa8080.specs.State.{Registers, State, wrap}
-use Rattle.isa8080.specs.Step.{running, step_of}
-use Rattle.asm8080.specs.declared.item.Item.{Item}
+use Rattle.procedure_laws.proofs.Prelude.{◌≡◌, ℕ, ◌+◌, ◌-◌, ◌*◌, ◌/◌, ◌%◌, ◌≤◌, List, [], ◌∷◌, Option, Some, None, refl, ap, subst, ◌∙◌, arith, MEMORY_SIZE, byte_at, word_at, Event, ScalarType, Byte, Address, Gave, SourceState, Ret, act, Registers, State, wrap, running, step_of, Item, ProcedureKind, TreeProcedure, IsThere, LiesWell, Does, at_place, plain_step, after_step, gives, keeps_all, Body, Planned, plain, AreCarriedOut, return_steps, return_steps_by, ResultLies, BodyContext, IsOfCall, ReturnLies, ModuleCode, StaticReturns, static_body, static_level, HasReturned}
 use Rattle.asm8080.proofs.Stack as stack
-use Rattle.treecode.specs.declared.procedure.ProcedureKind.{ProcedureKind}
 use Rattle.treecode.specs.declared.procedure.ProcedureKind.TheVariants as kinds
-use Rattle.treecode.specs.declared.procedure.TreeProcedure.{TreeProcedure}
-use Rattle.code_meaning.specs.Activations.{IsThere, LiesWell}
-use Rattle.code_meaning.specs.Landing.{Does, at_place}
-use Rattle.code_meaning.proofs.FirstItems.{plain_step}
-use Rattle.code_meaning.proofs.Landing.{after_step, gives}
-use Rattle.code_meaning.proofs.Owning.{keeps_all}
-use Rattle.statements8080.specs.declared.body.Body.{Body}
-use Rattle.statements8080.specs.declared.plan.Planned.{Planned}
-use Rattle.statements8080.specs.Plans.{plain}
-use Rattle.codegen8080.specs.Generated.{AreCarriedOut}
-use Rattle.codegen8080.specs.Procedures.{return_steps, return_steps_by}
-use Rattle.task_laws.specs.Contexts.{ResultLies}
-use Rattle.statement_laws.specs.Bodies.{BodyContext}
-use Rattle.procedure_laws.specs.Calls.{IsOfCall, ReturnLies}
-use Rattle.procedure_laws.specs.Modules.{ModuleCode}
-use Rattle.procedure_laws.specs.Premises.{StaticReturns, static_body, static_level}
-use Rattle.procedure_laws.specs.Procedures.{HasReturned}
 use Rattle.procedure_laws.proofs.Ends.{plain_planned}
 
 -- a result lies where it does at another place of the program, with another stack pointer

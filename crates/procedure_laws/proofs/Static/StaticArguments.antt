@@ -1,35 +1,7 @@
 -- The arguments that a procedure which is not REENTRANT finds on the stack, under the return address.
-use Rattle.std.proofs.Common.{◌≡◌, ℕ, ◌+◌, ◌-◌, ◌*◌, ◌<◌, ◌≤◌, Bool, true, false, if◌then◌else◌, List, [], ◌∷◌, ◌++◌, length, slice_get, Some, None, refl, sym, ap, subst, ◌∙◌, arith, append_assoc}
-use Rattle.std.proofs.lemmas.Option.{same_Some}
-use Rattle.mem80.specs.declared.memory.TheConstants.{MEMORY_SIZE}
-use Rattle.mem80.specs.Memory.{byte_at}
-use Rattle.mem80.proofs.MemoryLemmas.{byte_small}
-use Rattle.ports.specs.declared.event.Event.{Event}
-use Rattle.trees.specs.declared.declaration.ScalarType.{ScalarType}
-use Rattle.trees.specs.declared.declaration.ScalarType.TheVariants.{Byte, Address}
-use Rattle.meaning.specs.Access.{frame_bytes}
-use Rattle.meaning.specs.Outcomes.{Outcome, State as SourceState}
-use Rattle.isa8080.specs.declared.instr.Instr.TheVariants.{Pop, Push, Xthl}
-use Rattle.isa8080.specs.declared.instr.StackPair.TheVariants.{StackDe, StackHl}
-use Rattle.isa8080.specs.State.{HoldBytes, Registers, State, high_byte, low_byte, wrap}
-use Rattle.asm8080.specs.declared.item.Item.{Item}
+use Rattle.procedure_laws.proofs.Prelude.{◌≡◌, ℕ, ◌+◌, ◌-◌, ◌*◌, ◌<◌, ◌≤◌, Bool, true, false, if◌then◌else◌, List, [], ◌∷◌, ◌++◌, length, slice_get, Some, None, refl, sym, ap, subst, ◌∙◌, arith, append_assoc, same_Some, MEMORY_SIZE, byte_at, byte_small, Event, ScalarType, Byte, Address, frame_bytes, Outcome, SourceState, Pop, Push, Xthl, StackDe, StackHl, HoldBytes, Registers, State, high_byte, low_byte, wrap, Item, pushed, pushed_is_pushed, Static, Parameter, IsThere, Does, at_place, Facts, after, after_word, word_item, Planned, plain, Here, AreCarriedOut, argument_facts, argument_step, below_return_steps, exchanged_steps, is_address, known_at, known_from, popped_from, pushed_arguments_steps, InRegister, InWord, IsSound, BodyContext, ReturnLies}
 use Rattle.asm8080.specs.declared.item.Item.TheVariants as items
-use Rattle.asm8080.proofs.Calls.{pushed, pushed_is_pushed}
-use Rattle.treecode.specs.declared.place.Location.TheVariants.{Static}
-use Rattle.treecode.specs.declared.procedure.Parameter.{Parameter}
-use Rattle.code_meaning.specs.Activations.{IsThere}
-use Rattle.code_meaning.specs.Landing.{Does, at_place}
-use Rattle.steps8080.specs.declared.facts.Facts.{Facts}
-use Rattle.steps8080.specs.Facts.{after, after_word}
-use Rattle.steps8080.specs.Writer.{word_item}
-use Rattle.statements8080.specs.declared.plan.Planned.{Planned}
-use Rattle.statements8080.specs.Plans.{plain, word}
-use Rattle.codegen8080.specs.declared.meeting.Here.{Here}
-use Rattle.codegen8080.specs.Generated.{AreCarriedOut}
-use Rattle.codegen8080.specs.Procedures.{argument_facts, argument_step, below_return_steps, exchanged_steps, is_address, known_at, known_from, popped_from, pushed_arguments_steps}
-use Rattle.task_laws.specs.Contexts.{InRegister, InWord, IsSound}
-use Rattle.statement_laws.specs.Bodies.{BodyContext}
-use Rattle.procedure_laws.specs.Calls.{ReturnLies}
+use Rattle.statements8080.specs.Plans.{word}
 use Rattle.procedure_laws.proofs.Planned.{IsBehind, plain_behind, word_behind}
 use Rattle.procedure_laws.proofs.Puts.{Slot, put, put_down}
 use Rattle.procedure_laws.proofs.Static.StaticLoops.{Held, IsTaken, PartedThere, held_then, high_of, low_of, loop_does, nth_is, plain_parted, store_is, word_parted}

@@ -1,21 +1,5 @@
 -- A procedure that is not REENTRANT takes its arguments, of which each has a place in memory.
-use Rattle.std.proofs.Common.{◌≡◌, ℕ, zero, suc, ◌+◌, ◌-◌, ◌*◌, ◌<◌, ◌≤◌, inl, inr, Bool, true, List, [], ◌∷◌, length, map, slice_get, Option, Some, None, refl, sym, ap, subst, ◌∙◌, arith}
-use Rattle.std.specs.Prelude.{take}
-use Rattle.mem80.specs.declared.memory.TheConstants.{MEMORY_SIZE}
-use Rattle.trees.specs.declared.declaration.ScalarType.{ScalarType}
-use Rattle.meaning.specs.Access.{frame_bytes, is_declared}
-use Rattle.meaning.specs.Outcomes.{Program}
-use Rattle.isa8080.specs.State.{Registers, wrap}
-use Rattle.treecode.specs.declared.place.Location.{Location}
-use Rattle.treecode.specs.declared.place.Location.TheVariants.{Static}
-use Rattle.treecode.specs.declared.procedure.Parameter.{Parameter}
-use Rattle.code_meaning.specs.Activations.{IsVariable, Shares}
-use Rattle.code_meaning.specs.Holding.{ByteHolds, WordHolds, place_at, AddressHolds, IsByteAt, IsWordAt, ZeroHolds, location_at}
-use Rattle.code_meaning.proofs.Facts.Steady.{declared_is_steady}
-use Rattle.steps8080.specs.declared.facts.Facts.{Facts}
-use Rattle.task_laws.specs.Contexts.{ArgumentsLie, InRegister, InWord, IsSound, distances_in}
-use Rattle.task_laws.specs.Tasks.{Know}
-use Rattle.statement_laws.specs.Bodies.{BodyContext}
+use Rattle.procedure_laws.proofs.Prelude.{◌≡◌, ℕ, zero, suc, ◌+◌, ◌-◌, ◌*◌, ◌<◌, ◌≤◌, inl, inr, Bool, true, List, [], ◌∷◌, length, map, slice_get, Option, Some, None, refl, sym, ap, subst, ◌∙◌, arith, take, MEMORY_SIZE, ScalarType, frame_bytes, is_declared, Program, Registers, wrap, Location, Static, Parameter, IsVariable, Shares, ByteHolds, WordHolds, place_at, AddressHolds, IsByteAt, IsWordAt, ZeroHolds, location_at, declared_is_steady, Facts, ArgumentsLie, InRegister, InWord, IsSound, distances_in, Know, BodyContext}
 use Rattle.procedure_laws.proofs.Puts.{AreVariables, EachApart, IsPart, Lies, Slot, lies_there, put_down}
 use Rattle.procedure_laws.proofs.Static.StaticLoops.{Held, HeldAs, HeldByte, HeldWord}
 

@@ -1,31 +1,6 @@
 -- The entry of a procedure that is not REENTRANT, from its first instruction to the begin of its body.
-use Rattle.std.proofs.Common.{◌≡◌, ℕ, suc, ◌+◌, ◌-◌, ◌*◌, ◌<◌, ◌≤◌, List, [], ◌∷◌, ◌++◌, length, map, slice_get, Option, Some, None, refl, sym, ap, subst, ◌∙◌, arith}
-use Rattle.std.specs.Prelude.{take}
-use Rattle.mem80.specs.declared.memory.TheConstants.{MEMORY_SIZE}
-use Rattle.meaning.specs.Access.{frame_bytes}
-use Rattle.meaning.specs.Outcomes.{Gave, State as SourceState}
-use Rattle.isa8080.specs.State.{Registers, State}
-use Rattle.asm8080.specs.declared.item.Item.{Item}
-use Rattle.treecode.specs.declared.place.Location.TheVariants.{Static}
-use Rattle.treecode.specs.declared.procedure.Parameter.{Parameter}
-use Rattle.code_meaning.specs.Activations.{IsReady, IsThere}
-use Rattle.code_meaning.specs.Landing.{Does, at_place}
-use Rattle.code_meaning.proofs.Landing.{gives}
-use Rattle.code_meaning.proofs.Facts.Changes.{with_facts_hold}
-use Rattle.steps8080.specs.declared.facts.Facts.{Facts}
-use Rattle.steps8080.specs.Facts.{after_word, no_facts}
-use Rattle.steps8080.specs.Writer.{word_item}
-use Rattle.statements8080.specs.declared.plan.Planned.{Planned}
-use Rattle.statements8080.specs.Plans.{holds, word}
-use Rattle.codegen8080.specs.declared.meeting.Here.{Here}
-use Rattle.codegen8080.specs.Generated.{AreCarriedOut}
-use Rattle.codegen8080.specs.Procedures.{below_return_steps, known_from, static_entry_steps, stores_steps, with_argument}
-use Rattle.task_laws.specs.Contexts.{ArgumentsLie, InRegister, InWord, IsSound}
-use Rattle.task_laws.specs.Tasks.{Know}
-use Rattle.statement_laws.specs.Bodies.{BodyContext}
-use Rattle.procedure_laws.specs.Calls.{ReturnLies}
-use Rattle.procedure_laws.specs.Modules.{at_start}
-use Rattle.procedure_laws.specs.Procedures.{HasBegun}
+use Rattle.procedure_laws.proofs.Prelude.{◌≡◌, ℕ, suc, ◌+◌, ◌-◌, ◌*◌, ◌<◌, ◌≤◌, List, [], ◌∷◌, ◌++◌, length, map, slice_get, Option, Some, None, refl, sym, ap, subst, ◌∙◌, arith, take, MEMORY_SIZE, frame_bytes, Gave, SourceState, Registers, State, Item, Static, Parameter, IsReady, IsThere, Does, at_place, gives, with_facts_hold, Facts, after_word, no_facts, word_item, Planned, holds, Here, AreCarriedOut, below_return_steps, known_from, static_entry_steps, stores_steps, with_argument, ArgumentsLie, InRegister, InWord, IsSound, Know, BodyContext, ReturnLies, at_start, HasBegun}
+use Rattle.statements8080.specs.Plans.{word}
 use Rattle.procedure_laws.proofs.Planned.{EndsKnowing, IsBehind, holds_last, word_behind}
 use Rattle.procedure_laws.proofs.Puts.{AreVariables, EachApart, Slot, put, put_down, set_all, set_down}
 use Rattle.procedure_laws.proofs.Static.StaticArguments.{IsBelow, below_does}

@@ -1,39 +1,7 @@
 -- Arguments on the stack go to their parameters, from the last of them on.
-use Rattle.std.proofs.Common.{◌≡◌, ℕ, zero, suc, ◌+◌, ◌-◌, ◌*◌, ◌/◌, ◌%◌, ◌<◌, ◌≤◌, false, List, [], ◌∷◌, ◌++◌, length, slice_get, Option, Some, None, refl, sym, ap, subst, ◌∙◌, arith}
-use Rattle.mem80.specs.declared.memory.TheConstants.{MEMORY_SIZE}
-use Rattle.mem80.specs.Memory.{byte_at}
-use Rattle.mem80.proofs.MemoryLemmas.{byte_small}
-use Rattle.ports.specs.declared.event.Event.{Event}
-use Rattle.trees.specs.declared.declaration.ScalarType.{ScalarType}
-use Rattle.trees.specs.declared.declaration.ScalarType.TheVariants.{Byte, Address}
-use Rattle.meaning.specs.Access.{frame_bytes}
-use Rattle.meaning.specs.Outcomes.{Outcome, State as SourceState}
-use Rattle.isa8080.specs.declared.instr.Instr.{Instr}
-use Rattle.isa8080.specs.declared.instr.Instr.TheVariants.{Pop}
-use Rattle.isa8080.specs.State.{HoldBytes, Registers, State, high_byte, low_byte, with_popped, wrap}
-use Rattle.asm8080.specs.declared.item.Item.{Item}
+use Rattle.procedure_laws.proofs.Prelude.{◌≡◌, ℕ, zero, suc, ◌+◌, ◌-◌, ◌*◌, ◌/◌, ◌%◌, ◌<◌, ◌≤◌, false, List, [], ◌∷◌, ◌++◌, length, slice_get, Option, Some, None, refl, sym, ap, subst, ◌∙◌, arith, MEMORY_SIZE, byte_at, byte_small, Event, ScalarType, Byte, Address, frame_bytes, Outcome, SourceState, Instr, Pop, HoldBytes, Registers, State, high_byte, low_byte, with_popped, wrap, Item, WordForm, size_of_instruction, Location, Static, Place, Parameter, Activation, IsThere, IsVariable, Does, at_place, both_there, place_at, Facts, after, after_word, word_item, Planned, plain, Here, AreCarriedOut, argument_facts, known_at, known_from, pair_of, popped_argument_steps, popped_at, popped_from, store_argument, with_argument, InRegister, InWord, IsSound, popped_bytes, BodyContext}
 use Rattle.asm8080.specs.declared.item.Item.TheVariants as items
-use Rattle.asm8080.specs.declared.item.WordForm.{WordForm}
-use Rattle.asm8080.specs.Standing.{size_of_instruction}
-use Rattle.treecode.specs.declared.place.Location.{Location}
-use Rattle.treecode.specs.declared.place.Location.TheVariants.{Static}
-use Rattle.treecode.specs.declared.place.Place.{Place}
-use Rattle.treecode.specs.declared.procedure.Parameter.{Parameter}
-use Rattle.code_meaning.specs.Activations.{Activation, IsThere, IsVariable}
-use Rattle.code_meaning.specs.Landing.{Does, at_place}
-use Rattle.code_meaning.proofs.Sequences.{both_there}
-use Rattle.code_meaning.specs.Holding.{place_at}
-use Rattle.steps8080.specs.declared.facts.Facts.{Facts}
-use Rattle.steps8080.specs.Facts.{after, after_word}
-use Rattle.steps8080.specs.Writer.{word_item}
-use Rattle.statements8080.specs.declared.plan.Planned.{Planned}
-use Rattle.statements8080.specs.Plans.{plain, word}
-use Rattle.codegen8080.specs.declared.meeting.Here.{Here}
-use Rattle.codegen8080.specs.Generated.{AreCarriedOut}
-use Rattle.codegen8080.specs.Procedures.{argument_facts, known_at, known_from, pair_of, popped_argument_steps, popped_at, popped_from, store_argument, with_argument}
-use Rattle.task_laws.specs.Contexts.{InRegister, InWord, IsSound}
-use Rattle.task_laws.proofs.Machine.Rules.{popped_bytes}
-use Rattle.statement_laws.specs.Bodies.{BodyContext}
+use Rattle.statements8080.specs.Plans.{word}
 use Rattle.procedure_laws.proofs.Planned.{IsBehind, plain_behind, word_behind}
 use Rattle.procedure_laws.proofs.Puts.{IsPart, Slot, put, put_down, put_nth}
 use Rattle.procedure_laws.proofs.Static.StaticStages.{Underway, pop_goes, store_form, store_goes}

@@ -1,40 +1,7 @@
 -- The procedures of a module that are not REENTRANT begin as they are meant to.
-use Rattle.std.proofs.Common.{◌≡◌, ◌≢◌, ℕ, zero, suc, ◌+◌, ◌-◌, ◌*◌, ◌≤◌, Bool, true, false, if◌then◌else◌, List, [], ◌∷◌, length, map, replicate, slice_get, slice_index_or, Some, None, refl, sym, ap, subst, ◌∙◌, arith, eqb-true}
-use Rattle.std.specs.Prelude.{AllPairs}
-use Rattle.trees.specs.declared.declaration.ScalarType.{ScalarType}
-use Rattle.typed_trees.specs.declared.parts.Visibility.{Visibility}
+use Rattle.procedure_laws.proofs.Prelude.{◌≡◌, ◌≢◌, ℕ, zero, suc, ◌+◌, ◌-◌, ◌*◌, ◌≤◌, Bool, true, false, if◌then◌else◌, List, [], ◌∷◌, length, map, replicate, slice_get, slice_index_or, Some, None, refl, sym, ap, subst, ◌∙◌, arith, eqb-true, AllPairs, ScalarType, Visibility, charge_of, AreParameters, HasParameters, home_of_parameters, size_of_object, BasedOn, Elsewhere, Home, InConstants, InData, InFrame, Nowhere, Placed, TypedModule, TypedObject, TypedProcedure, frame_bytes, frame_of, is_frame_of, parameters_set, Gave, SourceState, State, Parameter, ProcedureKind, TreeProcedure, kind_of, IsProcedure, nodes_of, has_parameters, Does, at_place, keeps_all, no_facts_hold, no_facts, Body, Planned, holds, AreCarriedOut, entry_steps, entry_steps_by, static_entry_steps, ArgumentsLie, bytes_pushed, BodyContext, Entries, IsOfCall, ModuleCode, ModuleLies, at_start, surroundings_in, StaticBegins, static_body, HasBegun}
 use Rattle.typed_trees.specs.declared.parts.Visibility.TheVariants as visibilities
-use Rattle.typed_trees.specs.Charge.{charge_of}
-use Rattle.typed_trees.specs.Frames.{AreParameters, HasParameters, home_of_parameters}
-use Rattle.typed_trees.specs.Sizes.{size_of_object}
-use Rattle.typed_trees.specs.TypedTrees.{BasedOn, Elsewhere, Home, InConstants, InData, InFrame, Nowhere, Placed, TypedModule, TypedObject, TypedProcedure}
-use Rattle.meaning.specs.Access.{frame_bytes}
-use Rattle.meaning.specs.Meaning.{frame_of, is_frame_of, parameters_set}
-use Rattle.meaning.specs.Outcomes.{Gave, State as SourceState}
-use Rattle.isa8080.specs.State.{State}
-use Rattle.treecode.specs.declared.procedure.Parameter.{Parameter}
-use Rattle.treecode.specs.declared.procedure.ProcedureKind.{ProcedureKind}
 use Rattle.treecode.specs.declared.procedure.ProcedureKind.TheVariants as kinds
-use Rattle.treecode.specs.declared.procedure.TreeProcedure.{TreeProcedure}
-use Rattle.treecode.specs.Homes.{kind_of}
-use Rattle.treecode.specs.Lowered.{IsProcedure}
-use Rattle.treecode.specs.Nodes.{nodes_of}
-use Rattle.frames.proofs.Parameters.{has_parameters}
-use Rattle.code_meaning.specs.Landing.{Does, at_place}
-use Rattle.code_meaning.proofs.Owning.{keeps_all}
-use Rattle.code_meaning.proofs.Facts.Changes.{no_facts_hold}
-use Rattle.steps8080.specs.Facts.{no_facts}
-use Rattle.statements8080.specs.declared.body.Body.{Body}
-use Rattle.statements8080.specs.declared.plan.Planned.{Planned}
-use Rattle.statements8080.specs.Plans.{holds}
-use Rattle.codegen8080.specs.Generated.{AreCarriedOut}
-use Rattle.codegen8080.specs.Procedures.{entry_steps, entry_steps_by, static_entry_steps}
-use Rattle.task_laws.specs.Contexts.{ArgumentsLie, bytes_pushed}
-use Rattle.statement_laws.specs.Bodies.{BodyContext}
-use Rattle.procedure_laws.specs.Calls.{Entries, IsOfCall}
-use Rattle.procedure_laws.specs.Modules.{ModuleCode, ModuleLies, at_start, surroundings_in}
-use Rattle.procedure_laws.specs.Premises.{StaticBegins, static_body}
-use Rattle.procedure_laws.specs.Procedures.{HasBegun}
 use Rattle.procedure_laws.proofs.ProcedureCalls.{as_many_values, charge_is}
 use Rattle.procedure_laws.proofs.Puts.{AreVariables, EachApart, Slot, put_down, set_all, set_does}
 use Rattle.procedure_laws.proofs.Static.StaticBegins.{parameter_of}

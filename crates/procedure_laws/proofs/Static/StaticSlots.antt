@@ -1,28 +1,6 @@
 -- Where the parameters of a procedure lie that is not REENTRANT.
-use Rattle.std.proofs.Common.{◌≡◌, ◌≢◌, ℕ, zero, suc, ◌+◌, ◌%◌, ◌<◌, inl, inr, true, List, [], ◌∷◌, length, map, slice_get, slice_index_or, Option, Some, None, AllPairs, refl, sym, ap, subst, ◌∙◌, arith}
-use Rattle.std.specs.Prelude.{IsSomeAnd, zip}
-use Rattle.std.specs.Option.{option_map_or}
-use Rattle.mem80.specs.declared.memory.TheConstants.{MEMORY_SIZE}
-use Rattle.trees.specs.declared.declaration.ScalarType.{ScalarType}
-use Rattle.trees.specs.declared.declaration.ScalarType.TheVariants.{Byte, Address}
-use Rattle.typed_trees.specs.Frames.{AreParameters}
-use Rattle.typed_trees.specs.ObjectParts.{IsScalar}
-use Rattle.typed_trees.specs.Sizes.{size_of_scalar}
-use Rattle.typed_trees.specs.TypedTrees.{Home, InData, TypedModule, TypedObject, Nowhere}
-use Rattle.meaning.specs.Access.{InMemory, Place as SourcePlace, home_in, home_of, place_in, place_of}
-use Rattle.meaning.specs.Meaning.{based_place}
-use Rattle.meaning.specs.Outcomes.{Gave, State as SourceState}
-use Rattle.isa8080.specs.State.{wrap}
-use Rattle.treecode.specs.declared.place.Home.{Home as TreeHome}
+use Rattle.procedure_laws.proofs.Prelude.{◌≡◌, ◌≢◌, ℕ, zero, suc, ◌+◌, ◌%◌, ◌<◌, inl, inr, true, List, [], ◌∷◌, length, map, slice_get, slice_index_or, Option, Some, None, AllPairs, refl, sym, ap, subst, ◌∙◌, arith, IsSomeAnd, zip, option_map_or, MEMORY_SIZE, ScalarType, Byte, Address, AreParameters, IsScalar, size_of_scalar, Home, InData, TypedModule, TypedObject, Nowhere, InMemory, SourcePlace, home_in, home_of, place_in, place_of, based_place, Gave, SourceState, wrap, TreeHome, Parameter, location_of, parameter_at, place_of_slot, home_at, scalar_size, home_in_data, place_at, Entries, ModuleCode, ModuleLies, surroundings_in}
 use Rattle.treecode.specs.declared.place.Home.TheVariants.{Static}
-use Rattle.treecode.specs.declared.procedure.Parameter.{Parameter}
-use Rattle.treecode.specs.Homes.{location_of, parameter_at, place_of_slot}
-use Rattle.treecode.specs.Nodes.{home_at}
-use Rattle.frames.proofs.Bytes.{scalar_size}
-use Rattle.frames.proofs.Homes.{home_in_data}
-use Rattle.code_meaning.specs.Holding.{place_at}
-use Rattle.procedure_laws.specs.Calls.{Entries}
-use Rattle.procedure_laws.specs.Modules.{ModuleCode, ModuleLies, surroundings_in}
 use Rattle.procedure_laws.proofs.Puts.{Apart, ApartFrom, AreMeant, EachApart, IsPart, Slot}
 use Rattle.procedure_laws.proofs.Static.StaticBegins.{parameter_of}
 

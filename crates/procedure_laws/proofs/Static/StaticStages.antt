@@ -1,47 +1,7 @@
 -- A machine within the code by which a procedure that is not REENTRANT takes its arguments, and what it does that comes
 -- to an instruction of it.
-use Rattle.std.proofs.Common.{◌≡◌, ◌≢◌, ℕ, ◌+◌, ◌-◌, ◌*◌, ◌/◌, ◌%◌, ◌<◌, ◌≤◌, inl, inr, List, [], ◌∷◌, Option, Some, None, length, slice_set, refl, sym, ap, subst, ◌∙◌, arith}
-use Rattle.std.proofs.lemmas.List.{length-set, set_comm}
-use Rattle.mem80.specs.declared.memory.TheConstants.{MEMORY_SIZE}
-use Rattle.mem80.specs.Memory.{byte_at, word_at}
-use Rattle.ports.specs.declared.event.Event.{Event}
-use Rattle.trees.specs.declared.declaration.ScalarType.{ScalarType}
-use Rattle.trees.specs.declared.declaration.ScalarType.TheVariants.{Byte, Address}
-use Rattle.meaning.specs.Access.{frame_bytes}
-use Rattle.meaning.specs.Outcomes.{Outcome, State as SourceState}
-use Rattle.isa8080.specs.declared.instr.Instr.{Instr}
-use Rattle.isa8080.specs.declared.instr.Instr.TheVariants.{Pop, Push, Xthl}
-use Rattle.isa8080.specs.declared.instr.StackPair.{StackPair}
-use Rattle.isa8080.specs.declared.instr.StackPair.TheVariants.{Psw, StackBc, StackDe, StackHl}
-use Rattle.isa8080.specs.Act.{act}
-use Rattle.isa8080.specs.State.{HoldBytes, Registers, State, high_byte, low_byte, with_popped, wrap}
+use Rattle.procedure_laws.proofs.Prelude.{◌≡◌, ◌≢◌, ℕ, ◌+◌, ◌-◌, ◌*◌, ◌/◌, ◌%◌, ◌<◌, ◌≤◌, inl, inr, List, [], ◌∷◌, Option, Some, None, length, slice_set, refl, sym, ap, subst, ◌∙◌, arith, length-set, set_comm, MEMORY_SIZE, byte_at, word_at, Event, ScalarType, Byte, Address, frame_bytes, Outcome, SourceState, Instr, Pop, Push, Xthl, StackPair, Psw, StackBc, StackDe, StackHl, act, HoldBytes, Registers, State, high_byte, low_byte, with_popped, wrap, WordForm, StoreA, StoreHl, instruction_with, Keeps, size_of_instruction, pushed, pushed_is_memory, pushed_keeps, pop_does, push_does, Location, Frame, Static, Place, Activation, FrameLies, IsReady, IsThere, IsVariable, LiesWell, Owns, Shares, Does, at_place, plain_first, keeps_all, keeps_put, ready_with_variable, Asks, WordAsks, AddressHolds, ByteHolds, Distances, FactsHold, IsByteAt, IsSteady, IsWordAt, WordHolds, location_at, place_at, facts_after, facts_after_word, declared_is_steady, push_asks, Facts, after, after_word, word_item, Context, InRegister, IsSound, distances_in, Know, bytes_at_place, popped_bytes, word_acts, BodyContext, IsOfCall}
 use Rattle.asm8080.specs.declared.item.Item.TheVariants as items
-use Rattle.asm8080.specs.declared.item.WordForm.{WordForm}
-use Rattle.asm8080.specs.declared.item.WordForm.TheVariants.{StoreA, StoreHl}
-use Rattle.asm8080.specs.Items.{instruction_with}
-use Rattle.asm8080.specs.Standing.{Keeps, size_of_instruction}
-use Rattle.asm8080.proofs.Calls.{pushed, pushed_is_memory, pushed_keeps}
-use Rattle.asm8080.proofs.Stack.{pop_does, push_does}
-use Rattle.treecode.specs.declared.place.Location.{Location}
-use Rattle.treecode.specs.declared.place.Location.TheVariants.{Frame, Static}
-use Rattle.treecode.specs.declared.place.Place.{Place}
-use Rattle.code_meaning.specs.Activations.{Activation, FrameLies, IsReady, IsThere, IsVariable, LiesWell, Owns, Shares}
-use Rattle.code_meaning.specs.Landing.{Does, at_place}
-use Rattle.code_meaning.proofs.FirstItems.{plain_first}
-use Rattle.code_meaning.proofs.Owning.{keeps_all}
-use Rattle.code_meaning.proofs.Stores.{keeps_put, ready_with_variable}
-use Rattle.code_meaning.specs.Asking.{Asks, WordAsks}
-use Rattle.code_meaning.specs.Holding.{AddressHolds, ByteHolds, Distances, FactsHold, IsByteAt, IsSteady, IsWordAt, WordHolds, location_at, place_at}
-use Rattle.code_meaning.proofs.Facts.After.{facts_after, facts_after_word}
-use Rattle.code_meaning.proofs.Facts.Steady.{declared_is_steady, push_asks}
-use Rattle.steps8080.specs.declared.facts.Facts.{Facts}
-use Rattle.steps8080.specs.Facts.{after, after_word}
-use Rattle.steps8080.specs.Writer.{word_item}
-use Rattle.task_laws.specs.Contexts.{Context, InRegister, IsSound, distances_in}
-use Rattle.task_laws.specs.Tasks.{Know}
-use Rattle.task_laws.proofs.Machine.Rules.{bytes_at_place, popped_bytes, word_acts}
-use Rattle.statement_laws.specs.Bodies.{BodyContext}
-use Rattle.procedure_laws.specs.Calls.{IsOfCall}
 use Rattle.procedure_laws.proofs.Puts.{IsPart, Slot, put, put_kept}
 
 -- the instruction that stores a value of a type from its register

@@ -1,44 +1,6 @@
 -- An assignment does what it says.
-use Rattle.std.proofs.Common.{◌≡◌, ℕ, suc, ◌+◌, ◌*◌, ◌<◌, ◌≤◌, max, Bool, true, false, if◌then◌else◌, is_some, nat_eq, List, [], ◌∷◌, ◌++◌, Option, Some, None, refl, sym, ap, subst, ◌∙◌, arith}
-use Rattle.std.proofs.lemmas.Bool.{eqb-true}
-use Rattle.trees.specs.declared.declaration.ScalarType.{ScalarType}
-use Rattle.trees.specs.declared.declaration.ScalarType.TheVariants.{Byte, Address}
-use Rattle.typed_trees.specs.Charge.{height_of, height_of_targets}
-use Rattle.typed_trees.specs.ExpressionTypes.{type_of}
-use Rattle.typed_trees.specs.TypedTrees.{TypedExpression, TypedTarget}
-use Rattle.typed_trees.specs.WellTyped.{TypesHold, TypesHoldInTargets}
-use Rattle.meaning.specs.Meaning.{stored, stored_in_each, value}
-use Rattle.meaning.specs.Outcomes.{State as SourceState, Outcome, Gave, then_do, Flow, Onward}
-use Rattle.meaning.specs.Values.{values_of}
-use Rattle.isa8080.specs.State.{Registers}
-use Rattle.treecode.specs.declared.expression.Expression.{Expression}
-use Rattle.treecode.specs.declared.expression.ExpressionNumber.{ExpressionNumber}
-use Rattle.treecode.specs.declared.lists.Range.{Range}
-use Rattle.treecode.specs.declared.reference.Target.{Target}
+use Rattle.statement_laws.proofs.Prelude.{◌≡◌, ℕ, suc, ◌+◌, ◌*◌, ◌<◌, ◌≤◌, max, Bool, true, false, if◌then◌else◌, is_some, nat_eq, List, [], ◌∷◌, ◌++◌, Option, Some, None, refl, sym, ap, subst, ◌∙◌, arith, eqb-true, ScalarType, Byte, Address, height_of, height_of_targets, type_of, TypedExpression, TypedTarget, TypesHold, TypesHoldInTargets, stored, stored_in_each, value, SourceState, Outcome, Gave, then_do, Flow, Onward, values_of, Registers, Expression, ExpressionNumber, Range, Target, AreTargets, IsAssignment, IsExpressionIn, IsTarget, MoreTargets, NoTargets, target_at, Does, at_place, Facts, Site, number, scalar, value_task, knowing, Planned, any_target, assignment_steps, each_at, each_steps, several_by, several_steps, single_steps, stores_steps, takes_byte, takes_word, together_steps, types_by, value_steps, part, steps_from, Here, site_of, statement_steps, nodes_in, then_again, number_means, node_of, does_same, script_of, without_more, BodyContext, IsSoundBody, Leaves, StatementStands}
 use Rattle.treecode.specs.declared.statement.Statement.TheVariants as statements
-use Rattle.treecode.specs.Lowered.{AreTargets, IsAssignment, IsExpressionIn, IsTarget, MoreTargets, NoTargets}
-use Rattle.treecode.specs.Queries.{target as target_at}
-use Rattle.code_meaning.specs.Landing.{Does, at_place}
-use Rattle.steps8080.specs.declared.facts.Facts.{Facts}
-use Rattle.steps8080.specs.declared.sites.site.Site.{Site}
-use Rattle.steps8080.specs.Queries.{number}
-use Rattle.steps8080.specs.Site.{scalar}
-use Rattle.exprgen8080.specs.Calls.{value_task}
-use Rattle.exprgen8080.specs.Emission.{knowing}
-use Rattle.statements8080.specs.declared.plan.Planned.{Planned}
-use Rattle.statements8080.specs.Assignments.{any_target, assignment_steps, each_at, each_steps, several_by, several_steps, single_steps, stores_steps, takes_byte, takes_word, together_steps, types_by, value_steps}
-use Rattle.statements8080.specs.Plans.{part, steps_from}
-use Rattle.codegen8080.specs.declared.meeting.Here.{Here}
-use Rattle.codegen8080.specs.Generated.{site_of}
-use Rattle.codegen8080.specs.Statements.{statement_steps}
-use Rattle.task_laws.specs.Contexts.{nodes_in}
-use Rattle.task_laws.proofs.Machine.Effects.{then_again}
-use Rattle.task_laws.proofs.Machine.SiteNodes.{number_means}
-use Rattle.task_laws.proofs.Machine.Nodes.{node_of}
-use Rattle.task_laws.proofs.Machine.Stages.{does_same, script_of}
-use Rattle.task_laws.proofs.Machine.StoredValues.{without_more}
-use Rattle.statement_laws.specs.Bodies.{BodyContext, IsSoundBody, Leaves}
-use Rattle.statement_laws.specs.Statements.{StatementStands}
 use Rattle.statement_laws.proofs.Assignments.Assignments.{Counted, single_does}
 use Rattle.statement_laws.proofs.Assignments.Firsts.{then_each}
 use Rattle.statement_laws.proofs.FirstSteps.{Stand, ended, going, part_first}

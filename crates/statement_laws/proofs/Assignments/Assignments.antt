@@ -1,40 +1,7 @@
 -- Assignments.
-use Rattle.std.proofs.Common.{◌≡◌, ℕ, ◌+◌, ◌*◌, ◌%◌, ◌<◌, ◌≤◌, Bool, true, false, if◌then◌else◌, List, [], ◌∷◌, ◌++◌, Option, Some, None, refl, sym, ap, subst, ◌∙◌, arith}
-use Rattle.trees.specs.declared.declaration.ScalarType.{ScalarType}
-use Rattle.trees.specs.declared.declaration.ScalarType.TheVariants.{Byte, Address}
-use Rattle.typed_trees.specs.Charge.{height_of, height_of_reference, height_of_target}
-use Rattle.typed_trees.specs.ExpressionTypes.{type_of}
-use Rattle.typed_trees.specs.TypedTrees.{TypedExpression, TypedReference, TypedTarget, SentTo, StoredIn}
-use Rattle.typed_trees.specs.WellTyped.{RefersToScalar, TypesHold, TypesHoldInReference, TypesHoldInTarget}
-use Rattle.meaning.specs.Meaning.{value}
-use Rattle.meaning.specs.Outcomes.{State as SourceState, Outcome, Gave}
-use Rattle.meaning.specs.Values.{values_of}
-use Rattle.isa8080.specs.declared.instr.Instr.{Instr}
-use Rattle.isa8080.specs.declared.instr.Instr.TheVariants.{MovToMemory}
-use Rattle.isa8080.specs.declared.instr.Register.TheVariants.{A}
-use Rattle.isa8080.specs.State.{Registers, State}
-use Rattle.treecode.specs.declared.expression.ExpressionNumber.{ExpressionNumber}
-use Rattle.treecode.specs.declared.reference.Reference.{Reference}
-use Rattle.treecode.specs.declared.reference.Target.{Target}
-use Rattle.treecode.specs.declared.reference.Target.TheVariants.{Stored, Sent}
-use Rattle.treecode.specs.Lowered.{IsExpressionIn, IsReference, IsSent, IsStored, IsTarget}
-use Rattle.steps8080.specs.declared.facts.Facts.{Facts}
+use Rattle.statement_laws.proofs.Prelude.{◌≡◌, ℕ, ◌+◌, ◌*◌, ◌%◌, ◌<◌, ◌≤◌, Bool, true, false, if◌then◌else◌, List, [], ◌∷◌, ◌++◌, Option, Some, None, refl, sym, ap, subst, ◌∙◌, arith, ScalarType, Byte, Address, height_of, height_of_reference, height_of_target, type_of, TypedExpression, TypedReference, TypedTarget, SentTo, StoredIn, RefersToScalar, TypesHold, TypesHoldInReference, TypesHoldInTarget, value, SourceState, Outcome, Gave, values_of, Instr, MovToMemory, A, Registers, State, ExpressionNumber, Reference, Target, Stored, Sent, IsExpressionIn, IsReference, IsSent, IsStored, IsTarget, Facts, Site, location_of, number, scalar, value_task, knowing, Planned, byte_steps, count_of, from_byte_steps, from_word_steps, is_address_first, number_steps, other_byte_steps, other_word_steps, single_steps, word_steps, is_near, part, Here, site_of, nodes_in, number_small, number_means, BodyContext, IsSoundBody}
 use Rattle.steps8080.specs.declared.step.Task.TheVariants as tasks
-use Rattle.steps8080.specs.declared.sites.site.Site.{Site}
-use Rattle.steps8080.specs.Queries.{location_of, number}
-use Rattle.steps8080.specs.Site.{scalar}
-use Rattle.exprgen8080.specs.Calls.{value_task}
-use Rattle.exprgen8080.specs.Emission.{knowing}
-use Rattle.statements8080.specs.declared.plan.Planned.{Planned}
-use Rattle.statements8080.specs.Assignments.{byte_steps, count_of, from_byte_steps, from_word_steps, is_address_first, number_steps, other_byte_steps, other_word_steps, single_steps, word_steps}
-use Rattle.statements8080.specs.Bodies.{is_near}
-use Rattle.statements8080.specs.Plans.{part, plain}
-use Rattle.codegen8080.specs.declared.meeting.Here.{Here}
-use Rattle.codegen8080.specs.Generated.{site_of}
-use Rattle.task_laws.specs.Contexts.{nodes_in}
-use Rattle.task_laws.proofs.Machine.KnownOperands.{number_small}
-use Rattle.task_laws.proofs.Machine.SiteNodes.{number_means}
-use Rattle.statement_laws.specs.Bodies.{BodyContext, IsSoundBody}
+use Rattle.statements8080.specs.Plans.{plain}
 use Rattle.statement_laws.proofs.Assignments.Firsts.{address_first_does}
 use Rattle.statement_laws.proofs.FirstSteps.{Stand}
 use Rattle.statement_laws.proofs.Outcomes.{Between}

@@ -1,44 +1,7 @@
 -- A BYTE whose address comes before its value.
-use Rattle.std.proofs.Common.{◌≡◌, ℕ, ◌+◌, ◌*◌, ◌%◌, ◌≤◌, Bool, true, false, ◌&&◌, not, List, ◌∷◌, Option, Some, None, refl, sym, ap, subst, ◌∙◌, arith}
-use Rattle.trees.specs.declared.declaration.ScalarType.{ScalarType}
-use Rattle.trees.specs.declared.declaration.ScalarType.TheVariants.{Byte}
-use Rattle.typed_trees.specs.Charge.{height_of, height_of_reference}
-use Rattle.typed_trees.specs.ExpressionTypes.{type_of}
-use Rattle.typed_trees.specs.TypedTrees.{TypedExpression, TypedReference, StoredIn}
-use Rattle.typed_trees.specs.WellTyped.{RefersToScalar, TypesHold, TypesHoldInReference}
-use Rattle.meaning.specs.Access.{write_byte, write_scalar}
-use Rattle.meaning.specs.Meaning.{located, value}
-use Rattle.meaning.specs.Outcomes.{State as SourceState, Ended, More, Outside, Outcome, Gave, Stopped, then_do}
-use Rattle.meaning.specs.Values.{as_type}
-use Rattle.isa8080.specs.declared.instr.Instr.TheVariants.{MovToMemory}
-use Rattle.isa8080.specs.declared.instr.Register.TheVariants.{A}
-use Rattle.isa8080.specs.State.{Registers, State, word}
-use Rattle.treecode.specs.declared.expression.ExpressionNumber.{ExpressionNumber}
-use Rattle.treecode.specs.declared.reference.Reference.{Reference}
-use Rattle.treecode.specs.declared.reference.Subscript.{Subscript as IndexNode}
-use Rattle.treecode.specs.Lowered.{IsExpressionIn, IsReference}
-use Rattle.treecode.specs.Traits.{reference_is_quiet, subscript_is_quiet}
-use Rattle.treecode_laws.specs.internal.Evaluations.{AreAlike, AreSame, BothOutside, GoesOutside}
-use Rattle.treecode_laws.specs.internal.Trees.{stores_nothing}
-use Rattle.treecode_laws.proofs.FreeNodes.{free_stores_nothing}
-use Rattle.treecode_laws.proofs.Operands.{location_exchanged}
-use Rattle.code_meaning.specs.Landing.{Does}
-use Rattle.code_meaning.specs.Holding.{IsSteady, place_at}
-use Rattle.code_meaning.proofs.Facts.Steady.{address_asks}
-use Rattle.steps8080.specs.declared.facts.Facts.{Facts}
+use Rattle.statement_laws.proofs.Prelude.{◌≡◌, ℕ, ◌+◌, ◌*◌, ◌%◌, ◌≤◌, Bool, true, false, ◌&&◌, not, List, ◌∷◌, Option, Some, None, refl, sym, ap, subst, ◌∙◌, arith, ScalarType, Byte, height_of, height_of_reference, type_of, TypedExpression, TypedReference, StoredIn, RefersToScalar, TypesHold, TypesHoldInReference, write_byte, write_scalar, located, value, SourceState, Ended, More, Outside, Outcome, Gave, Stopped, then_do, as_type, MovToMemory, A, Registers, State, word, ExpressionNumber, Reference, IndexNode, IsExpressionIn, IsReference, reference_is_quiet, subscript_is_quiet, AreAlike, AreSame, BothOutside, GoesOutside, stores_nothing, free_stores_nothing, location_exchanged, Does, IsSteady, place_at, address_asks, Facts, is_free, keeps_of_address, knowing, Planned, is_address_first, is_quiet_subscript, part, Here, distances_in, nodes_in, ByteIsGiven, address_on_machine, located_fits, free_is, quiet_is, at_byte, does_same, BodyContext, IsSoundBody}
 use Rattle.steps8080.specs.declared.step.Task.TheVariants as tasks
-use Rattle.steps8080.specs.Queries.{is_free, keeps_of_address}
-use Rattle.exprgen8080.specs.Emission.{knowing}
-use Rattle.statements8080.specs.declared.plan.Planned.{Planned}
-use Rattle.statements8080.specs.Assignments.{is_address_first, is_quiet_subscript}
-use Rattle.statements8080.specs.Plans.{part, plain}
-use Rattle.codegen8080.specs.declared.meeting.Here.{Here}
-use Rattle.task_laws.specs.Contexts.{distances_in, nodes_in}
-use Rattle.task_laws.specs.Tasks.{ByteIsGiven, address_on_machine}
-use Rattle.task_laws.proofs.Places.Fitting.{located_fits}
-use Rattle.task_laws.proofs.Machine.SiteNodes.{free_is, quiet_is}
-use Rattle.task_laws.proofs.Machine.Stages.{at_byte, does_same}
-use Rattle.statement_laws.specs.Bodies.{BodyContext, IsSoundBody}
+use Rattle.statements8080.specs.Plans.{plain}
 use Rattle.statement_laws.proofs.FirstSteps.{Stand, part_first, plain_first}
 use Rattle.statement_laws.proofs.Outcomes.{Between}
 use Rattle.statement_laws.proofs.Assignments.Singles.{Goal, Rest, at_address, byte_goes}

@@ -1,24 +1,5 @@
 -- Steps to spare: a store makes one, which what follows it may spend.
-use Rattle.std.proofs.Common.{ℕ, ◌+◌, ◌*◌, ◌<◌, ◌≤◌, false, List, sym, ap, subst, arith}
-use Rattle.trees.specs.declared.declaration.ScalarType.{ScalarType}
-use Rattle.typed_trees.specs.Charge.{height_of_target}
-use Rattle.typed_trees.specs.TypedTrees.{TypedTarget}
-use Rattle.typed_trees.specs.WellTyped.{TypesHoldInTarget}
-use Rattle.meaning.specs.Meaning.{stored}
-use Rattle.meaning.specs.Outcomes.{State as SourceState, Ended, More, Outside, Outcome, Gave, Stopped, then_do}
-use Rattle.meaning.specs.Values.{values_of}
-use Rattle.isa8080.specs.State.{Registers, State}
-use Rattle.asm8080.proofs.RunLaws.{comes_on}
-use Rattle.treecode.specs.declared.reference.Target.{Target}
-use Rattle.treecode.specs.Lowered.{IsTarget}
-use Rattle.code_meaning.specs.Landing.{Does, Lands, Told, at_place}
-use Rattle.code_meaning.proofs.Landing.{told_on}
-use Rattle.steps8080.specs.declared.facts.Facts.{Facts}
-use Rattle.statements8080.specs.Assignments.{from_type}
-use Rattle.task_laws.specs.Contexts.{InRegister, nodes_in}
-use Rattle.task_laws.specs.Tasks.{StoreDoes}
-use Rattle.task_laws.proofs.Machine.Stages.{does_same, has_less_room, script_of}
-use Rattle.statement_laws.specs.Bodies.{BodyContext}
+use Rattle.statement_laws.proofs.Prelude.{ℕ, ◌+◌, ◌*◌, ◌<◌, ◌≤◌, false, List, sym, ap, subst, arith, ScalarType, height_of_target, TypedTarget, TypesHoldInTarget, stored, SourceState, Ended, More, Outside, Outcome, Gave, Stopped, then_do, values_of, Registers, State, comes_on, Target, IsTarget, Does, Lands, Told, at_place, told_on, Facts, from_type, InRegister, nodes_in, StoreDoes, does_same, has_less_room, script_of, BodyContext}
 use Rattle.statement_laws.proofs.Outcomes.{Between}
 use Rattle.statement_laws.proofs.Targets.{Suits, retyped, retyped_height, retyped_is, retyped_types, stored_alike}
 

@@ -1,34 +1,6 @@
 -- References that are seen to be the same are located without a change, at one address.
-use Rattle.std.proofs.Common.{◌≡◌, ℕ, ◌+◌, ◌%◌, ◌⊎◌, inl, inr, Bool, true, false, ◌&&◌, nat_eq, List, Option, Some, None, option_map, refl, sym, ap, subst, ◌∙◌, arith}
-use Rattle.std.proofs.lemmas.Bool.{and_parts, eqb-true}
-use Rattle.trees.specs.declared.declaration.ScalarType.{ScalarType}
-use Rattle.typed_trees.specs.TypedTrees.{PartOf, Subscript, TypedExpression, TypedReference, ValueNode}
-use Rattle.typed_trees.specs.WellTyped.{RefersToScalar, TypesHold, TypesHoldInReference, TypesHoldInSubscript}
-use Rattle.meaning.specs.Access.{Place, home_of, read_scalar}
-use Rattle.meaning.specs.Meaning.{Displacement, based_place, displaced, displacement, located, no_displacement, value}
-use Rattle.meaning.specs.Outcomes.{State as SourceState, Outcome, Gave, then_do}
-use Rattle.meaning.specs.Values.{as_type}
-use Rattle.isa8080.specs.State.{Registers}
-use Rattle.treecode.specs.declared.expression.Expression.{Expression}
-use Rattle.treecode.specs.declared.expression.ExpressionForm.{ExpressionForm}
-use Rattle.treecode.specs.declared.expression.ExpressionNumber.{ExpressionNumber}
-use Rattle.treecode.specs.declared.place.Location.{Location}
-use Rattle.treecode.specs.declared.reference.Reference.{Reference}
-use Rattle.treecode.specs.declared.reference.Subscript.{Subscript as IndexNode}
-use Rattle.treecode.specs.Lowered.{IsAbsent, IsExpression, IsForm, IsIndex, IsNumber, IsPart, IsReference, IsSubscript, IsValue, IsLocation, IsConstantList, IsConversion, IsEmbedded, IsUnary, IsBinary, IsCallOf, IsFunction, IsShift, IsInput}
-use Rattle.treecode_laws.specs.internal.Evaluations.{Answer, Fails, Found, IsQuiet, outcome_of}
-use Rattle.treecode_laws.proofs.Evaluating.{quiet_base, quiet_gave, quiet_scalar, quiet_then}
-use Rattle.code_meaning.specs.Activations.{IsReady}
-use Rattle.steps8080.specs.declared.facts.Facts.{Facts}
-use Rattle.steps8080.specs.Queries.{location_of, number}
-use Rattle.exprgen8080.specs.Emission.{knowing}
-use Rattle.statements8080.specs.SamePlaces.{are_same, are_same_leaf, are_same_scalar, are_same_subscripts, inside_conversion, scalar_at, scalar_of_form, unconverted}
-use Rattle.task_laws.specs.Contexts.{Context, IsSound, nodes_in}
-use Rattle.task_laws.specs.Tasks.{address_on_machine}
-use Rattle.task_laws.proofs.Places.Fitting.{refers_is_referred}
-use Rattle.task_laws.proofs.Machine.SiteNodes.{number_means}
-use Rattle.task_laws.proofs.Loads.Loads.{lies_there}
-use Rattle.task_laws.proofs.Machine.Nodes.{node_of}
+use Rattle.statement_laws.proofs.Prelude.{◌≡◌, ℕ, ◌+◌, ◌%◌, ◌⊎◌, inl, inr, Bool, true, false, ◌&&◌, nat_eq, List, Option, Some, None, option_map, refl, sym, ap, subst, ◌∙◌, arith, and_parts, eqb-true, ScalarType, PartOf, Subscript, TypedExpression, TypedReference, ValueNode, RefersToScalar, TypesHold, TypesHoldInReference, TypesHoldInSubscript, home_of, read_scalar, Displacement, based_place, displaced, displacement, located, no_displacement, value, SourceState, Outcome, Gave, then_do, as_type, Registers, Expression, ExpressionForm, ExpressionNumber, Location, Reference, IndexNode, IsAbsent, IsExpression, IsForm, IsIndex, IsNumber, IsPart, IsReference, IsSubscript, IsValue, IsLocation, IsConstantList, IsConversion, IsEmbedded, IsUnary, IsBinary, IsCallOf, IsFunction, IsShift, IsInput, Answer, Fails, Found, IsQuiet, outcome_of, quiet_base, quiet_gave, quiet_scalar, quiet_then, IsReady, Facts, location_of, number, knowing, are_same, are_same_leaf, are_same_scalar, are_same_subscripts, inside_conversion, scalar_at, scalar_of_form, unconverted, Context, IsSound, nodes_in, address_on_machine, refers_is_referred, number_means, lies_there, node_of}
+use Rattle.meaning.specs.Access.{Place}
 use Rattle.statement_laws.proofs.Assignments.SameParts.{either_true, same_bases, same_displacements}
 use Rattle.statement_laws.proofs.Assignments.SameValues.{gave_before, given_same, one_scalar}
 

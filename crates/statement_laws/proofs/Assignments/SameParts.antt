@@ -1,30 +1,7 @@
 -- References that are seen to be the same have one address on the machine, and to locate them changes nothing.
-use Rattle.std.proofs.Common.{◌≡◌, ℕ, ◌+◌, ◌*◌, ◌%◌, ◌<◌, ◌⊎◌, inl, inr, Bool, true, false, ◌||◌, nat_eq, List, Option, Some, None, refl, sym, ap, subst, ◌∙◌, arith}
-use Rattle.std.proofs.lemmas.Bool.{and_parts, eqb-true}
-use Rattle.std.proofs.lemmas.Nat.{mul-mod_first}
-use Rattle.mem80.specs.declared.memory.TheConstants.{MEMORY_SIZE}
-use Rattle.trees.specs.declared.declaration.ScalarType.{ScalarType}
-use Rattle.trees.specs.declared.declaration.ScalarType.TheVariants.{Address}
-use Rattle.typed_trees.specs.ExpressionTypes.{type_of}
-use Rattle.typed_trees.specs.TypedTrees.{BasedOn, Home, InFrame, Subscript, TypedExpression}
-use Rattle.typed_trees.specs.WellTyped.{TypesHold, TypesHoldInSubscript}
-use Rattle.meaning.specs.Access.{InMemory, Place, place_of, read_scalar}
-use Rattle.meaning.specs.Meaning.{Displacement, based_place, displaced, displacement, value}
-use Rattle.meaning.specs.Outcomes.{State as SourceState, Gave}
-use Rattle.meaning.specs.Values.{as_type}
-use Rattle.isa8080.specs.State.{Registers}
-use Rattle.treecode.specs.declared.expression.Expression.{Expression}
-use Rattle.treecode.specs.declared.expression.ExpressionForm.{ExpressionForm}
-use Rattle.treecode.specs.declared.expression.ExpressionNumber.{ExpressionNumber}
-use Rattle.treecode.specs.declared.reference.Subscript.{Subscript as IndexNode}
-use Rattle.treecode.specs.Lowered.{IsAbsent, IsExpression, IsForm, IsIndex, IsNumber, IsSubscript, IsValue, IsLocation, IsConstantList, IsConversion, IsEmbedded, IsUnary, IsBinary, IsCallOf, IsFunction, IsShift, IsInput}
-use Rattle.code_meaning.specs.Activations.{IsReady}
-use Rattle.steps8080.specs.declared.facts.Facts.{Facts}
-use Rattle.exprgen8080.specs.Emission.{knowing}
-use Rattle.statements8080.specs.SamePlaces.{are_same_leaf, are_same_scalar, are_same_subscripts, inside_conversion, unconverted}
-use Rattle.task_laws.specs.Contexts.{Context, IsSound, nodes_in}
-use Rattle.task_laws.specs.Tasks.{address_on_machine}
-use Rattle.task_laws.proofs.Machine.Nodes.{node_of}
+use Rattle.statement_laws.proofs.Prelude.{◌≡◌, ℕ, ◌+◌, ◌*◌, ◌%◌, ◌<◌, ◌⊎◌, inl, inr, Bool, true, false, ◌||◌, nat_eq, List, Option, Some, None, refl, sym, ap, subst, ◌∙◌, arith, and_parts, eqb-true, mul-mod_first, MEMORY_SIZE, ScalarType, Address, type_of, BasedOn, InFrame, Subscript, TypedExpression, TypesHold, TypesHoldInSubscript, InMemory, place_of, read_scalar, Displacement, based_place, displaced, displacement, value, SourceState, Gave, as_type, Registers, Expression, ExpressionForm, ExpressionNumber, IndexNode, IsAbsent, IsExpression, IsForm, IsIndex, IsNumber, IsSubscript, IsValue, IsLocation, IsConstantList, IsConversion, IsEmbedded, IsUnary, IsBinary, IsCallOf, IsFunction, IsShift, IsInput, IsReady, Facts, knowing, are_same_leaf, are_same_scalar, are_same_subscripts, inside_conversion, unconverted, Context, IsSound, nodes_in, address_on_machine, node_of}
+use Rattle.typed_trees.specs.TypedTrees.{Home}
+use Rattle.meaning.specs.Access.{Place}
 use Rattle.statement_laws.proofs.Assignments.SameValues.{gave_before, given_same, same_leaves, same_scalars}
 
 -- the same number of bytes in memory, in two places of one object, is at one address

@@ -1,43 +1,6 @@
 -- Scalars at one place have one value, which is that of the machine's memory.
-use Rattle.std.proofs.Common.{◌≡◌, ℕ, ◌+◌, ◌*◌, ◌<◌, ◌≤◌, Bool, true, false, if◌then◌else◌, nat_eq, List, Option, Some, None, option_map, refl, sym, ap, ◌∙◌, arith}
-use Rattle.std.proofs.lemmas.Bool.{and_parts, eqb-true}
-use Rattle.std.proofs.lemmas.Option.{same_Some}
-use Rattle.mem80.specs.Memory.{byte_at}
-use Rattle.mem80.proofs.MemoryLemmas.{byte_small}
-use Rattle.trees.specs.declared.declaration.ScalarType.{ScalarType}
-use Rattle.trees.specs.declared.declaration.ScalarType.TheVariants.{Byte, Address}
-use Rattle.typed_trees.specs.ExpressionTypes.{type_of}
-use Rattle.typed_trees.specs.Sizes.{size_of_scalar}
-use Rattle.typed_trees.specs.TypedTrees.{TypedExpression, TypedReference, ValueNode}
-use Rattle.typed_trees.specs.WellTyped.{RefersToScalar, TypesHold, TypesHoldInReference}
-use Rattle.meaning.specs.declared.reason.Reason.TheVariants.{Byte as UndeclaredByte}
-use Rattle.meaning.specs.Access.{InMemory, InTheFrame, Place, is_declared, next_place, read_byte, read_scalar}
-use Rattle.meaning.specs.Meaning.{value}
-use Rattle.meaning.specs.Outcomes.{State as SourceState, Outside, Outcome, Gave, Stopped, then_do}
-use Rattle.isa8080.specs.State.{Registers, wrap}
-use Rattle.treecode.specs.declared.expression.Expression.{Expression}
-use Rattle.treecode.specs.declared.expression.ExpressionForm.{ExpressionForm}
-use Rattle.treecode.specs.declared.expression.ExpressionNumber.{ExpressionNumber}
-use Rattle.treecode.specs.declared.place.Location.{Location}
-use Rattle.treecode.specs.declared.reference.Reference.{Reference}
-use Rattle.treecode.specs.Lowered.{IsExpression, IsForm, IsReference, IsNumber, IsValue, IsLocation, IsConstantList, IsConversion, IsEmbedded, IsUnary, IsBinary, IsCallOf, IsFunction, IsShift, IsInput}
-use Rattle.code_meaning.specs.Activations.{IsReady}
-use Rattle.code_meaning.proofs.Facts.Steady.{declared_is_steady}
-use Rattle.code_meaning.specs.Holding.{IsSteady, location_at}
-use Rattle.code_meaning.proofs.Facts.Places.{same_locations}
-use Rattle.steps8080.specs.declared.facts.Facts.{Facts}
-use Rattle.steps8080.specs.Facts.{same_location}
-use Rattle.steps8080.specs.Queries.{location_of, number}
-use Rattle.exprgen8080.specs.Emission.{knowing}
-use Rattle.statements8080.specs.SamePlaces.{are_same_leaf, are_same_placed, are_same_scalar, same_scalar, scalar_at, scalar_of_form}
-use Rattle.task_laws.specs.Contexts.{Context, IsSound, distances_in, nodes_in}
-use Rattle.task_laws.specs.Tasks.{address_on_machine}
-use Rattle.task_laws.proofs.Places.Fitting.{located_fits, refers_is_referred}
-use Rattle.task_laws.proofs.Machine.SiteNodes.{number_means}
-use Rattle.task_laws.proofs.Loads.Loads.{lies_there}
-use Rattle.task_laws.proofs.Machine.Nodes.{node_of}
-use Rattle.task_laws.proofs.Places.Reading.{FitsIn, frame_is, of_frame}
-use Rattle.task_laws.proofs.Stores.WordWriting.{first_fits, next_address, second_fits}
+use Rattle.statement_laws.proofs.Prelude.{◌≡◌, ℕ, ◌+◌, ◌*◌, ◌<◌, ◌≤◌, Bool, true, false, if◌then◌else◌, nat_eq, List, Option, Some, None, option_map, refl, sym, ap, ◌∙◌, arith, and_parts, eqb-true, same_Some, byte_at, byte_small, ScalarType, Byte, Address, type_of, size_of_scalar, TypedExpression, TypedReference, ValueNode, RefersToScalar, TypesHold, TypesHoldInReference, UndeclaredByte, InMemory, InTheFrame, is_declared, next_place, read_byte, read_scalar, value, SourceState, Outside, Outcome, Gave, Stopped, then_do, Registers, wrap, Expression, ExpressionForm, ExpressionNumber, Location, Reference, IsExpression, IsForm, IsReference, IsNumber, IsValue, IsLocation, IsConstantList, IsConversion, IsEmbedded, IsUnary, IsBinary, IsCallOf, IsFunction, IsShift, IsInput, IsReady, declared_is_steady, IsSteady, location_at, same_locations, Facts, same_location, location_of, number, knowing, are_same_leaf, are_same_placed, are_same_scalar, same_scalar, scalar_at, scalar_of_form, Context, IsSound, distances_in, nodes_in, address_on_machine, located_fits, refers_is_referred, number_means, lies_there, node_of, FitsIn, frame_is, of_frame, first_fits, next_address, second_fits}
+use Rattle.meaning.specs.Access.{Place}
 
 -- what a part gave that others follow
 pub record GaveBefore

@@ -1,50 +1,9 @@
 -- One target that gets a value.
-use Rattle.std.proofs.Common.{◌≡◌, ℕ, ◌+◌, ◌*◌, ◌/◌, ◌%◌, ◌<◌, ◌≤◌, true, false, List, [], ◌∷◌, ◌++◌, slice_set, None, refl, sym, ap, subst, ◌∙◌, arith}
-use Rattle.trees.specs.declared.declaration.ScalarType.{ScalarType}
-use Rattle.trees.specs.declared.declaration.ScalarType.TheVariants.{Byte, Address}
-use Rattle.typed_trees.specs.Charge.{height_of, height_of_reference, height_of_target}
-use Rattle.typed_trees.specs.ExpressionTypes.{type_of}
-use Rattle.typed_trees.specs.TypedTrees.{TypedExpression, TypedReference, TypedTarget, StoredIn}
-use Rattle.typed_trees.specs.WellTyped.{RefersToScalar, TypesHold, TypesHoldInReference, TypesHoldInTarget}
-use Rattle.meaning.specs.Access.{Place, next_place, write_byte, write_scalar}
-use Rattle.meaning.specs.Meaning.{located, stored, value}
-use Rattle.meaning.specs.Outcomes.{State as SourceState, Outcome, Gave, then_do}
-use Rattle.meaning.specs.Values.{as_type, values_of}
-use Rattle.isa8080.specs.declared.instr.Instr.{Instr}
-use Rattle.isa8080.specs.declared.instr.Instr.TheVariants.{Mvi}
-use Rattle.isa8080.specs.declared.instr.Operand.TheVariants.{M}
-use Rattle.isa8080.specs.Act.{act}
-use Rattle.isa8080.specs.State.{HoldBytes, Registers, State, high_byte, low_byte, word, wrap}
+use Rattle.statement_laws.proofs.Prelude.{◌≡◌, ℕ, ◌+◌, ◌*◌, ◌/◌, ◌%◌, ◌<◌, ◌≤◌, true, false, List, [], ◌∷◌, ◌++◌, slice_set, None, refl, sym, ap, subst, ◌∙◌, arith, ScalarType, Byte, Address, height_of, height_of_reference, height_of_target, type_of, TypedExpression, TypedReference, TypedTarget, StoredIn, RefersToScalar, TypesHold, TypesHoldInReference, TypesHoldInTarget, next_place, write_byte, write_scalar, located, stored, value, SourceState, Outcome, Gave, then_do, as_type, values_of, Instr, Mvi, M, act, HoldBytes, Registers, State, high_byte, low_byte, word, wrap, size_of_instruction, ExpressionNumber, Reference, Target, IsExpressionIn, IsReference, IsTarget, IsReady, IsThere, Does, at_place, Asks, IsSteadyByte, Facts, after, high, low, value_task, Planned, from_type, number_steps, part, Here, distances_in, nodes_in, AddressDoes, AddressIsGiven, address_on_machine, then_again, located_fits, refers_is_referred, FitsIn, ready_with_registers, registers_go, at_carried, does_same, script_of, without_more, plain_gains, first_fits, next_address, second_fits, byte_written, BodyContext, IsSoundBody}
+use Rattle.meaning.specs.Access.{Place}
 use Rattle.asm8080.specs.declared.item.Item.TheVariants as items
-use Rattle.asm8080.specs.Standing.{size_of_instruction}
-use Rattle.treecode.specs.declared.expression.ExpressionNumber.{ExpressionNumber}
-use Rattle.treecode.specs.declared.reference.Reference.{Reference}
-use Rattle.treecode.specs.declared.reference.Target.{Target}
-use Rattle.treecode.specs.Lowered.{IsExpressionIn, IsReference, IsTarget}
-use Rattle.code_meaning.specs.Activations.{IsReady, IsThere}
-use Rattle.code_meaning.specs.Landing.{Does, at_place}
-use Rattle.code_meaning.specs.Asking.{Asks, IsSteadyByte}
-use Rattle.steps8080.specs.declared.facts.Facts.{Facts}
 use Rattle.steps8080.specs.declared.step.Task.TheVariants as tasks
-use Rattle.steps8080.specs.Facts.{after}
-use Rattle.steps8080.specs.Instructions.{high, low}
-use Rattle.exprgen8080.specs.Calls.{value_task}
-use Rattle.statements8080.specs.declared.plan.Planned.{Planned}
-use Rattle.statements8080.specs.Assignments.{from_type, number_steps}
-use Rattle.statements8080.specs.Plans.{part, plain}
-use Rattle.codegen8080.specs.declared.meeting.Here.{Here}
-use Rattle.task_laws.specs.Contexts.{distances_in, nodes_in}
-use Rattle.task_laws.specs.Tasks.{AddressDoes, AddressIsGiven, address_on_machine}
-use Rattle.task_laws.proofs.Machine.Effects.{then_again}
-use Rattle.task_laws.proofs.Places.Fitting.{located_fits, refers_is_referred}
-use Rattle.task_laws.proofs.Places.Reading.{FitsIn}
-use Rattle.task_laws.proofs.Machine.Rules.{ready_with_registers, registers_go}
-use Rattle.task_laws.proofs.Machine.Stages.{at_carried, does_same, script_of}
-use Rattle.task_laws.proofs.Machine.StoredValues.{without_more}
-use Rattle.task_laws.proofs.Stores.Stores.{plain_gains}
-use Rattle.task_laws.proofs.Stores.WordWriting.{first_fits, next_address, second_fits}
-use Rattle.task_laws.proofs.Stores.Writing.{byte_written}
-use Rattle.statement_laws.specs.Bodies.{BodyContext, IsSoundBody}
+use Rattle.statements8080.specs.Plans.{plain}
 use Rattle.statement_laws.proofs.FirstSteps.{Stand, going, part_first, plain_first}
 use Rattle.statement_laws.proofs.Assignments.Gains.{target_spares}
 use Rattle.statement_laws.proofs.Outcomes.{Between}

@@ -1,34 +1,6 @@
 -- The statement that DO CASE chooses, and the jump into it.
-use Rattle.std.proofs.Common.{◌≡◌, ℕ, zero, suc, ◌+◌, ◌*◌, ◌<◌, ◌≤◌, max, Bool, true, nat_eq, if◌then◌else◌, List, slice_get, Option, Some, None, refl, sym, ap, subst, ◌∙◌, arith}
-use Rattle.std.specs.Option.{option_and_then}
-use Rattle.std.proofs.lemmas.Bool.{lt-ltb, eq-eqb}
-use Rattle.typed_trees.specs.Charge.{height_of_statement, height_of_statements}
-use Rattle.typed_trees.specs.Jumps.{ListsStand, ListsStandInCases}
-use Rattle.typed_trees.specs.TypedTrees.{TypedStatement, TypedStatements, NoStatements, MoreStatements}
-use Rattle.typed_trees.specs.WellTyped.{TypesHoldIn, TypesHoldInStatements}
-use Rattle.meaning.specs.Meaning.{done, done_case}
-use Rattle.meaning.specs.Outcomes.{State as SourceState, Outcome, Gave, Flow, Onward, Returned, Jumped}
-use Rattle.isa8080.specs.State.{Registers, State}
-use Rattle.isa8080.specs.Step.{step_of}
-use Rattle.treecode.specs.declared.lists.Range.{Range}
-use Rattle.treecode.specs.declared.statement.Statement.{Statement}
+use Rattle.statement_laws.proofs.Prelude.{◌≡◌, ℕ, zero, suc, ◌+◌, ◌*◌, ◌<◌, ◌≤◌, max, Bool, true, nat_eq, if◌then◌else◌, List, slice_get, Option, Some, None, refl, sym, ap, subst, ◌∙◌, arith, option_and_then, lt-ltb, eq-eqb, height_of_statement, height_of_statements, ListsStand, ListsStandInCases, TypedStatement, TypedStatements, NoStatements, MoreStatements, TypesHoldIn, TypesHoldInStatements, done, done_case, SourceState, Outcome, Gave, Flow, Onward, Returned, Jumped, Registers, State, step_of, Range, Statement, StatementNumber, AreStatements, AreNoStatements, AreMoreStatements, IsGoto, IsNull, IsStatement, IsStatementForm, IsStatementNode, Nodes, nodes_of, item, statement, Does, at_place, after_step, gives, Facts, LabelNumber, Site, body_label, entry_of, entry_of_statement, label_at, Here, nodes_in, Stage, does_same, script_of, BodyContext, IsSoundBody, Leaves}
 use Rattle.treecode.specs.declared.statement.Statement.TheVariants as statements
-use Rattle.treecode.specs.declared.statement.StatementNumber.{StatementNumber}
-use Rattle.treecode.specs.Lowered.{AreStatements, AreNoStatements, AreMoreStatements, IsGoto, IsNull, IsStatement, IsStatementForm, IsStatementNode}
-use Rattle.treecode.specs.Nodes.{Nodes, nodes_of}
-use Rattle.treecode.specs.Queries.{item, statement}
-use Rattle.code_meaning.specs.Landing.{Does, at_place}
-use Rattle.code_meaning.proofs.Landing.{after_step, gives}
-use Rattle.steps8080.specs.declared.facts.Facts.{Facts}
-use Rattle.steps8080.specs.declared.step.LabelNumber.{LabelNumber}
-use Rattle.steps8080.specs.declared.sites.site.Site.{Site}
-use Rattle.statements8080.specs.Bodies.{body_label}
-use Rattle.statements8080.specs.Cases.{entry_of, entry_of_statement}
-use Rattle.statements8080.specs.Plans.{label_at}
-use Rattle.codegen8080.specs.declared.meeting.Here.{Here}
-use Rattle.task_laws.specs.Contexts.{nodes_in}
-use Rattle.task_laws.proofs.Machine.Stages.{Stage, does_same, script_of}
-use Rattle.statement_laws.specs.Bodies.{BodyContext, IsSoundBody, Leaves}
 use Rattle.statement_laws.proofs.Cases.CaseTables.{EntriesStand, EntryStands, reaches_end}
 use Rattle.statement_laws.proofs.Loops.LoopTurns.{step_pays}
 

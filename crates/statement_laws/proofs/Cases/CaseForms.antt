@@ -1,39 +1,7 @@
 -- DO CASE: the number comes into DE by its type, or is known, or there are no statements.
-use Rattle.std.proofs.Common.{◌≡◌, ℕ, ◌+◌, ◌*◌, ◌/◌, ◌%◌, ◌<◌, ◌≤◌, nat_lt, List, [], ◌∷◌, ◌++◌, sym, ap, subst, ◌∙◌, arith}
-use Rattle.std.proofs.lemmas.Bool.{ltb-true, ltb-false, lt-ltb, le-ltb}
-use Rattle.trees.specs.declared.declaration.ScalarType.{ScalarType}
-use Rattle.trees.specs.declared.declaration.ScalarType.TheVariants.{Byte, Address}
-use Rattle.typed_trees.specs.Charge.{height_of, height_of_statements}
-use Rattle.typed_trees.specs.ExpressionTypes.{type_of}
-use Rattle.typed_trees.specs.TypedTrees.{TypedExpression, TypedStatements}
-use Rattle.typed_trees.specs.WellTyped.{TypesHold}
-use Rattle.meaning.specs.Meaning.{done_case}
-use Rattle.meaning.specs.Outcomes.{State as SourceState, Outcome, then_do, Flow}
-use Rattle.meaning.specs.Values.{values_of}
-use Rattle.isa8080.specs.declared.instr.Instr.{Instr}
-use Rattle.isa8080.specs.declared.instr.Instr.TheVariants.{AccumulateImmediate, Xchg}
-use Rattle.isa8080.specs.declared.instr.Operation.TheVariants.{Compare, Subtract, SubtractWithBorrow}
-use Rattle.isa8080.specs.declared.instr.Register.TheVariants.{A, D, E, H, L}
-use Rattle.isa8080.specs.State.{Registers, State, word}
-use Rattle.treecode.specs.declared.expression.ExpressionNumber.{ExpressionNumber}
-use Rattle.treecode.specs.declared.lists.Range.{Range}
-use Rattle.treecode.specs.Lowered.{IsExpressionIn}
-use Rattle.code_meaning.specs.Landing.{Does, at_place}
-use Rattle.code_meaning.proofs.ByteResults.{borrow_shows, same_test}
-use Rattle.steps8080.specs.declared.facts.Facts.{Facts}
-use Rattle.steps8080.specs.declared.step.LabelNumber.{LabelNumber}
-use Rattle.steps8080.specs.declared.step.Step.{Step}
+use Rattle.statement_laws.proofs.Prelude.{◌≡◌, ℕ, ◌+◌, ◌*◌, ◌/◌, ◌%◌, ◌<◌, ◌≤◌, nat_lt, List, [], ◌∷◌, ◌++◌, sym, ap, subst, ◌∙◌, arith, ltb-true, ltb-false, lt-ltb, le-ltb, ScalarType, Byte, Address, height_of, height_of_statements, type_of, TypedExpression, TypedStatements, TypesHold, done_case, SourceState, Outcome, then_do, Flow, values_of, Instr, AccumulateImmediate, Xchg, Compare, Subtract, SubtractWithBorrow, A, D, E, H, L, Registers, State, word, ExpressionNumber, Range, IsExpressionIn, Does, at_place, borrow_shows, same_test, Facts, LabelNumber, Step, copy, high, low, set, plain, Here, nodes_in, PartThere, effect, value_in, Stage, at_instructions, has_less_room, script_of, then_does_where, BodyContext, Leaves}
 use Rattle.steps8080.specs.declared.step.Step.TheVariants as steps
 use Rattle.steps8080.specs.declared.step.Task.TheVariants as tasks
-use Rattle.steps8080.specs.Instructions.{copy, high, low, set}
-use Rattle.steps8080.specs.Step.{plain}
-use Rattle.codegen8080.specs.declared.meeting.Here.{Here}
-use Rattle.task_laws.specs.Contexts.{nodes_in}
-use Rattle.task_laws.specs.Steps.{PartThere}
-use Rattle.task_laws.proofs.Machine.RegisterCode.{effect}
-use Rattle.task_laws.proofs.Machine.SiteNodes.{value_in}
-use Rattle.task_laws.proofs.Machine.Stages.{Stage, at_instructions, has_less_room, script_of, then_does_where}
-use Rattle.statement_laws.specs.Bodies.{BodyContext, Leaves}
 use Rattle.statement_laws.proofs.Cases.Cases.{CaseParts, ChoiceStands, bounded, bounded_goes, chosen}
 use Rattle.statement_laws.proofs.Loops.LoopCode.{Steps}
 use Rattle.statement_laws.proofs.Loops.WordCode.{word_is_less}

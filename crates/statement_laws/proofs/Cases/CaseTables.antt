@@ -1,34 +1,7 @@
 -- The table of DO CASE and the statements after it.
-use Rattle.std.proofs.Common.{◌≡◌, ℕ, zero, suc, ◌+◌, ◌-◌, ◌*◌, ◌<◌, Bool, true, false, nat_lt, nat_eq, if◌then◌else◌, List, [], ◌∷◌, ◌++◌, Option, Some, None, refl, sym, ap, subst, ◌∙◌, arith}
-use Rattle.std.proofs.lemmas.Bool.{ltb-false}
-use Rattle.std.proofs.lemmas.Option.{same_Some}
-use Rattle.meaning.specs.Outcomes.{State as SourceState, Gave, Onward}
-use Rattle.isa8080.specs.State.{Registers}
-use Rattle.asm8080.specs.declared.item.Reference.TheVariants.{AtLabel}
-use Rattle.asm8080.specs.declared.item.WordForm.TheVariants.{Jump}
-use Rattle.treecode.specs.declared.lists.Range.{Range}
-use Rattle.treecode.specs.declared.statement.StatementNumber.{StatementNumber}
-use Rattle.treecode.specs.Queries.{item}
-use Rattle.code_meaning.specs.Activations.{IsThere}
-use Rattle.code_meaning.specs.Landing.{Does, at_place}
-use Rattle.code_meaning.proofs.FirstItems.{word_step}
-use Rattle.code_meaning.proofs.Landing.{after_step, gives}
-use Rattle.steps8080.specs.declared.facts.Facts.{Facts}
-use Rattle.steps8080.specs.declared.step.LabelNumber.{LabelNumber}
+use Rattle.statement_laws.proofs.Prelude.{◌≡◌, ℕ, zero, suc, ◌+◌, ◌-◌, ◌*◌, ◌<◌, Bool, true, false, nat_lt, nat_eq, if◌then◌else◌, List, [], ◌∷◌, ◌++◌, Option, Some, None, refl, sym, ap, subst, ◌∙◌, arith, ltb-false, same_Some, SourceState, Gave, Onward, Registers, AtLabel, Jump, Range, StatementNumber, item, IsThere, Does, at_place, word_step, after_step, gives, Facts, LabelNumber, after_form, no_facts, jump_item, Planned, cases_end_steps, entry_of, statement_at, jump, label_at, mark, steps_from, Here, jump_on_steps, JumpThere, Know, Stage, script_of, BodyContext, IsSoundBody, Leaves, StatementDoes}
 use Rattle.steps8080.specs.declared.step.Step.TheVariants as steps
-use Rattle.steps8080.specs.Facts.{after_form, no_facts}
-use Rattle.steps8080.specs.Writer.{jump_item}
-use Rattle.statements8080.specs.declared.plan.Planned.{Planned}
 use Rattle.statements8080.specs.declared.plan.Planned.TheVariants as planned
-use Rattle.statements8080.specs.Cases.{cases_end_steps, entry_of, statement_at}
-use Rattle.statements8080.specs.Plans.{jump, label_at, mark, steps_from}
-use Rattle.codegen8080.specs.declared.meeting.Here.{Here}
-use Rattle.codegen8080.specs.Generated.{jump_on_steps}
-use Rattle.task_laws.specs.Steps.{JumpThere}
-use Rattle.task_laws.specs.Tasks.{Know}
-use Rattle.task_laws.proofs.Machine.Stages.{Stage, script_of}
-use Rattle.statement_laws.specs.Bodies.{BodyContext, IsSoundBody, Leaves}
-use Rattle.statement_laws.specs.Statements.{StatementDoes}
 use Rattle.statement_laws.proofs.Loops.LoopCode.{Steps}
 use Rattle.statement_laws.proofs.FirstSteps.{Stand, ended, going, jump_first, jump_on_first, mark_first, reaches_first, statement_first}
 

@@ -1,45 +1,8 @@
 -- Code of DO CASE does what it says.
-use Rattle.std.proofs.Common.{◌≡◌, ℕ, ◌+◌, ◌*◌, ◌<◌, ◌≤◌, not, Bool, true, false, nat_lt, List, [], ◌∷◌, ◌++◌, map, Option, None, refl, sym, ap, subst, ◌∙◌, arith}
-use Rattle.std.proofs.lemmas.Bool.{ltb-true, ltb-false}
-use Rattle.typed_trees.specs.Charge.{height_of_statements}
-use Rattle.typed_trees.specs.Jumps.{ListsStandInCases}
-use Rattle.typed_trees.specs.TypedTrees.{TypedStatements}
-use Rattle.typed_trees.specs.WellTyped.{TypesHoldInStatements}
-use Rattle.meaning.specs.Meaning.{done_case}
-use Rattle.meaning.specs.Outcomes.{State as SourceState, Outcome, Gave, Flow, Onward}
-use Rattle.isa8080.specs.declared.instr.Condition.TheVariants.{NoCarry}
-use Rattle.isa8080.specs.declared.instr.Instr.TheVariants.{Dad, Pchl}
-use Rattle.isa8080.specs.declared.instr.Pair.TheVariants.{De, Hl}
-use Rattle.isa8080.specs.State.{Registers, State, high_byte, low_byte, word, wrap}
-use Rattle.isa8080.specs.Step.{running}
-use Rattle.asm8080.specs.declared.item.Reference.TheVariants.{AtLabel}
-use Rattle.asm8080.specs.declared.item.WordForm.TheVariants.{Jump, JumpWhere, LoadPair}
-use Rattle.treecode.specs.declared.lists.Range.{Range}
-use Rattle.treecode.specs.Lowered.{AreStatements}
-use Rattle.code_meaning.specs.Landing.{Does, at_place}
-use Rattle.code_meaning.proofs.FirstItems.{plain_step, word_step}
-use Rattle.code_meaning.proofs.Landing.{after_step}
-use Rattle.code_meaning.proofs.Facts.Changes.{no_facts_hold}
-use Rattle.steps8080.specs.declared.facts.Facts.{Facts}
-use Rattle.steps8080.specs.declared.step.LabelNumber.{LabelNumber}
-use Rattle.steps8080.specs.declared.step.Step.{Step}
+use Rattle.statement_laws.proofs.Prelude.{◌≡◌, ℕ, ◌+◌, ◌*◌, ◌<◌, ◌≤◌, not, Bool, true, false, nat_lt, List, [], ◌∷◌, ◌++◌, map, Option, None, refl, sym, ap, subst, ◌∙◌, arith, ltb-true, ltb-false, height_of_statements, ListsStandInCases, TypedStatements, TypesHoldInStatements, done_case, SourceState, Outcome, Gave, Flow, Onward, NoCarry, Dad, Pchl, De, Hl, Registers, State, high_byte, low_byte, word, wrap, running, AtLabel, Jump, JumpWhere, LoadPair, Range, AreStatements, Does, at_place, plain_step, word_step, after_step, no_facts_hold, Facts, LabelNumber, Step, no_facts, plain, cases_end_steps, entry_of, into_table_steps, statements_steps, table_at, table_steps, Instr, label_at, Here, Context, nodes_in, JumpThere, MarkThere, NoneThere, PlainThere, AreOnRegisters, effect, ready_with_registers, Stage, at_instructions, does_same, script_of, BodyContext, IsSoundBody, Leaves, IsThere, jump_item}
 use Rattle.steps8080.specs.declared.step.Step.TheVariants as steps
-use Rattle.steps8080.specs.Facts.{no_facts}
-use Rattle.steps8080.specs.Step.{plain}
 use Rattle.statements8080.specs.declared.plan.Planned.TheVariants as planned
-use Rattle.statements8080.specs.Cases.{cases_end_steps, entry_of, into_table_steps, statements_steps, table_at, table_steps}
-use Rattle.isa8080.specs.declared.instr.Instr.{Instr}
-use Rattle.statements8080.specs.Plans.{label_at}
-use Rattle.codegen8080.specs.declared.meeting.Here.{Here}
-use Rattle.task_laws.specs.Contexts.{Context, nodes_in}
-use Rattle.task_laws.specs.Steps.{JumpThere, MarkThere, NoneThere, PlainThere}
-use Rattle.task_laws.proofs.Machine.RegisterCode.{AreOnRegisters, effect}
-use Rattle.task_laws.proofs.Machine.Rules.{ready_with_registers}
-use Rattle.task_laws.proofs.Machine.Stages.{Stage, at_instructions, does_same, script_of}
-use Rattle.statement_laws.specs.Bodies.{BodyContext, IsSoundBody, Leaves}
 use Rattle.statement_laws.proofs.Cases.CaseChoices.{IsNth, enters, from_none, nth_is, past_all}
-use Rattle.code_meaning.specs.Activations.{IsThere}
-use Rattle.steps8080.specs.Writer.{jump_item}
 use Rattle.statement_laws.proofs.Cases.CaseTables.{EntriesStand, TableStands, behind_parted, behind_table, reaches_end, table_parted}
 use Rattle.statement_laws.proofs.FirstSteps.{Stand}
 use Rattle.statement_laws.proofs.Loops.PlannedParts.{code_parted}

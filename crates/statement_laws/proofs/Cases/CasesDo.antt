@@ -1,58 +1,9 @@
 -- Code of DO CASE does what it says.
-use Rattle.std.proofs.Common.{◌≡◌, ℕ, ◌+◌, ◌*◌, ◌%◌, ◌≤◌, max, Bool, true, false, nat_lt, nat_eq, if◌then◌else◌, List, [], ◌∷◌, ◌++◌, slice_get, Option, Some, None, refl, sym, ap, subst, ◌∙◌, arith}
-use Rattle.std.specs.Option.{option_and_then}
-use Rattle.std.proofs.lemmas.Bool.{ltb-true, ltb-false, eqb-true}
-use Rattle.std.proofs.lemmas.Option.{same_Some}
-use Rattle.trees.specs.declared.declaration.ScalarType.{ScalarType}
-use Rattle.trees.specs.declared.declaration.ScalarType.TheVariants.{Byte, Address}
-use Rattle.typed_trees.specs.Charge.{height_of, height_of_statement, height_of_statements}
-use Rattle.typed_trees.specs.ExpressionTypes.{type_of}
-use Rattle.typed_trees.specs.Jumps.{ListsStand}
-use Rattle.typed_trees.specs.TypedTrees.{TypedExpression, TypedStatement, TypedStatements}
-use Rattle.typed_trees.specs.WellTyped.{TypesHoldIn}
-use Rattle.meaning.specs.Meaning.{done, done_case}
-use Rattle.meaning.specs.Outcomes.{State as SourceState, Outcome, Gave, then_do, Onward}
-use Rattle.isa8080.specs.declared.instr.Condition.TheVariants.{NoCarry}
-use Rattle.isa8080.specs.declared.instr.Instr.TheVariants.{AccumulateImmediate, Xchg}
-use Rattle.isa8080.specs.declared.instr.Operation.TheVariants.{Compare, Subtract, SubtractWithBorrow}
-use Rattle.isa8080.specs.declared.instr.Register.TheVariants.{A, D, E, H, L}
-use Rattle.isa8080.specs.State.{Registers}
-use Rattle.asm8080.specs.declared.item.WordForm.TheVariants.{JumpWhere}
-use Rattle.treecode.specs.declared.expression.ExpressionNumber.{ExpressionNumber}
-use Rattle.treecode.specs.declared.lists.Range.{Range}
-use Rattle.treecode.specs.declared.statement.Statement.{Statement}
+use Rattle.statement_laws.proofs.Prelude.{◌≡◌, ℕ, ◌+◌, ◌*◌, ◌%◌, ◌≤◌, max, Bool, true, false, nat_lt, nat_eq, if◌then◌else◌, List, [], ◌∷◌, ◌++◌, slice_get, Option, Some, None, refl, sym, ap, subst, ◌∙◌, arith, option_and_then, ltb-true, ltb-false, eqb-true, same_Some, ScalarType, Byte, Address, height_of, height_of_statement, height_of_statements, type_of, ListsStand, TypedExpression, TypedStatement, TypedStatements, TypesHoldIn, done, done_case, SourceState, Outcome, Gave, then_do, Onward, NoCarry, AccumulateImmediate, Xchg, Compare, Subtract, SubtractWithBorrow, A, D, E, H, L, Registers, JumpWhere, ExpressionNumber, Range, Statement, StatementNumber, IsCase, IsExpression, IsStatementForm, IsStatementNode, Nodes, nodes_of, item, HasRoom, Does, at_place, gives, Facts, LabelNumber, copy, high, low, set, label_of, plain, Site, number, scalar, knowing, Planned, case_steps, cases_end_steps, choice_at_steps, choice_steps, computed_case_steps, into_table_steps, known_case_steps, number_in_de_steps, statements_steps, table_steps, all, jump, nth_label, part, plan, Here, statement_steps, Context, IsSound, nodes_in, node_of, number_means, value_in, Stage, at_effects, does_same, script_of, PartThere, Know, BodyContext, IsSoundBody, Leaves, StatementDoes, StatementStands}
 use Rattle.treecode.specs.declared.statement.Statement.TheVariants as statements
-use Rattle.treecode.specs.declared.statement.StatementNumber.{StatementNumber}
-use Rattle.treecode.specs.Lowered.{IsCase, IsExpression, IsStatementForm, IsStatementNode}
-use Rattle.treecode.specs.Nodes.{Nodes, nodes_of}
-use Rattle.treecode.specs.Queries.{item}
-use Rattle.code_meaning.specs.Activations.{HasRoom}
-use Rattle.code_meaning.specs.Landing.{Does, at_place}
-use Rattle.code_meaning.proofs.Landing.{gives}
-use Rattle.steps8080.specs.declared.facts.Facts.{Facts}
-use Rattle.steps8080.specs.declared.step.LabelNumber.{LabelNumber}
 use Rattle.steps8080.specs.declared.step.Step.TheVariants as steps
 use Rattle.steps8080.specs.declared.step.Task.TheVariants as tasks
-use Rattle.steps8080.specs.Instructions.{copy, high, low, set}
-use Rattle.steps8080.specs.Step.{label_of, plain}
-use Rattle.steps8080.specs.declared.sites.site.Site.{Site}
-use Rattle.steps8080.specs.Queries.{number}
-use Rattle.steps8080.specs.Site.{scalar}
-use Rattle.exprgen8080.specs.Emission.{knowing}
-use Rattle.statements8080.specs.declared.plan.Planned.{Planned}
 use Rattle.statements8080.specs.declared.plan.Planned.TheVariants as planned
-use Rattle.statements8080.specs.Cases.{case_steps, cases_end_steps, choice_at_steps, choice_steps, computed_case_steps, into_table_steps, known_case_steps, number_in_de_steps, statements_steps, table_steps}
-use Rattle.statements8080.specs.Plans.{all, jump, nth_label, part, plain as plan}
-use Rattle.codegen8080.specs.declared.meeting.Here.{Here}
-use Rattle.codegen8080.specs.Statements.{statement_steps}
-use Rattle.task_laws.specs.Contexts.{Context, IsSound, nodes_in}
-use Rattle.task_laws.proofs.Machine.Nodes.{node_of}
-use Rattle.task_laws.proofs.Machine.SiteNodes.{number_means, value_in}
-use Rattle.task_laws.proofs.Machine.Stages.{Stage, at_effects, does_same, script_of}
-use Rattle.task_laws.specs.Steps.{PartThere}
-use Rattle.task_laws.specs.Tasks.{Know}
-use Rattle.statement_laws.specs.Bodies.{BodyContext, IsSoundBody, Leaves}
-use Rattle.statement_laws.specs.Statements.{StatementDoes, StatementStands}
 use Rattle.statement_laws.proofs.Cases.CaseChoices.{IsNth, leaves_whole, nth_is, past_all}
 use Rattle.statement_laws.proofs.Cases.CaseForms.{Choice, byte_bounded, byte_bring, byte_compare, byte_part, byte_unbounded, case_of, high_bounded, high_compare, word_bounded, word_compare, word_part, word_unbounded}
 use Rattle.statement_laws.proofs.Cases.Cases.{bounded, choice_parted}

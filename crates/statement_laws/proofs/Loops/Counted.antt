@@ -1,43 +1,7 @@
 -- The code of a BYTE that is counted by 1 does what the assignment says.
-use Rattle.std.proofs.Common.{◌≡◌, ℕ, ◌+◌, ◌-◌, ◌%◌, ◌*◌, ◌<◌, ◌≤◌, List, [], slice_set, Option, Some, refl, sym, ap, subst, ◌∙◌, arith}
-use Rattle.std.proofs.lemmas.Option.{same_Some}
-use Rattle.mem80.specs.Memory.{byte_at}
-use Rattle.trees.specs.declared.declaration.ScalarType.TheVariants.{Byte}
-use Rattle.trees.specs.declared.expression.BinaryOperator.{BinaryOperator}
+use Rattle.statement_laws.proofs.Prelude.{◌≡◌, ℕ, ◌+◌, ◌-◌, ◌%◌, ◌*◌, ◌<◌, ◌≤◌, List, [], slice_set, Option, Some, refl, sym, ap, subst, ◌∙◌, arith, same_Some, byte_at, Byte, BinaryOperator, StoredIn, TypedExpression, TypedReference, read_byte, read_scalar, write_byte, write_scalar, computed, located, stored, SourceState, Outcome, Gave, then_do, Onward, as_type, result_of, Event, Instr, Dcr, Inr, M, Flags, act, decrement_of, increment_of, Registers, State, word, Answer, Fails, Found, outcome_of, quiet_byte, Does, at_place, Asks, Facts, Site, knowing, count_by, count_of, distances_in, nodes_in, address_on_machine, then_again, located_fits, does_same, script_of, height_of, TypesHold, ExpressionNumber, IsExpressionIn, Planned, Here, BodyContext, IsSoundBody, Leaves}
 use Rattle.trees.specs.declared.expression.BinaryOperator.TheVariants as operators
-use Rattle.typed_trees.specs.TypedTrees.{StoredIn, TypedExpression, TypedReference}
-use Rattle.meaning.specs.Access.{Place, read_byte, read_scalar, write_byte, write_scalar}
-use Rattle.meaning.specs.Meaning.{computed, located, stored}
-use Rattle.meaning.specs.Outcomes.{State as SourceState, Outcome, Gave, then_do, Onward}
-use Rattle.meaning.specs.Values.{as_type, result_of}
-use Rattle.ports.specs.declared.event.Event.{Event}
-use Rattle.isa8080.specs.declared.instr.Instr.{Instr}
-use Rattle.isa8080.specs.declared.instr.Instr.TheVariants.{Dcr, Inr}
-use Rattle.isa8080.specs.declared.instr.Operand.TheVariants.{M}
-use Rattle.isa8080.specs.declared.registers.Flags.{Flags}
-use Rattle.isa8080.specs.Act.{act}
-use Rattle.isa8080.specs.Arithmetic.{decrement_of, increment_of}
-use Rattle.isa8080.specs.State.{Registers, State, word}
-use Rattle.treecode_laws.specs.internal.Evaluations.{Answer, Fails, Found, outcome_of}
-use Rattle.treecode_laws.proofs.Evaluating.{quiet_byte}
-use Rattle.code_meaning.specs.Landing.{Does, at_place}
-use Rattle.code_meaning.specs.Asking.{Asks}
-use Rattle.steps8080.specs.declared.facts.Facts.{Facts}
-use Rattle.steps8080.specs.declared.sites.site.Site.{Site}
-use Rattle.exprgen8080.specs.Emission.{knowing}
-use Rattle.statements8080.specs.Assignments.{count_by, count_of}
-use Rattle.task_laws.specs.Contexts.{distances_in, nodes_in}
-use Rattle.task_laws.specs.Tasks.{address_on_machine}
-use Rattle.task_laws.proofs.Machine.Effects.{then_again}
-use Rattle.task_laws.proofs.Places.Fitting.{located_fits}
-use Rattle.task_laws.proofs.Machine.Stages.{does_same, script_of}
-use Rattle.typed_trees.specs.Charge.{height_of}
-use Rattle.typed_trees.specs.WellTyped.{TypesHold}
-use Rattle.treecode.specs.declared.expression.ExpressionNumber.{ExpressionNumber}
-use Rattle.treecode.specs.Lowered.{IsExpressionIn}
-use Rattle.statements8080.specs.declared.plan.Planned.{Planned}
-use Rattle.codegen8080.specs.declared.meeting.Here.{Here}
-use Rattle.statement_laws.specs.Bodies.{BodyContext, IsSoundBody, Leaves}
+use Rattle.meaning.specs.Access.{Place}
 use Rattle.statement_laws.proofs.Assignments.Assigned.{CountsDo}
 use Rattle.statement_laws.proofs.Assignments.Assignments.{Counted as CountedAs}
 use Rattle.statement_laws.proofs.Loops.Counts.{is_count}

@@ -1,29 +1,7 @@
 -- A BYTE that is counted by 1 up to a last value that is known, with the test at the end.
-use Rattle.std.proofs.Common.{◌≡◌, ℕ, ◌+◌, ◌%◌, ◌<◌, ◌≤◌, ◌==◌, Bool, true, false, not, nat_lt, List, [], ◌∷◌, slice_set, refl, sym, ap, subst, ◌∙◌, arith}
-use Rattle.std.proofs.lemmas.Bool.{ltb-true, ltb-false, eqb-true, eqb-false}
-use Rattle.mem80.specs.Memory.{byte_at}
-use Rattle.trees.specs.declared.declaration.ScalarType.TheVariants.{Byte}
-use Rattle.meaning.specs.Meaning.{step_value, value}
-use Rattle.meaning.specs.Outcomes.{State as SourceState, Outcome, Gave, then_do, Onward}
-use Rattle.isa8080.specs.declared.instr.Condition.TheVariants.{Carry, NotZero}
-use Rattle.isa8080.specs.declared.instr.Instr.TheVariants.{AccumulateImmediate, Inr}
-use Rattle.isa8080.specs.declared.instr.Operand.TheVariants.{M}
-use Rattle.isa8080.specs.declared.instr.Operation.TheVariants.{Compare}
+use Rattle.statement_laws.proofs.Prelude.{◌≡◌, ℕ, ◌+◌, ◌%◌, ◌<◌, ◌≤◌, ◌==◌, Bool, true, false, not, nat_lt, List, [], ◌∷◌, slice_set, refl, sym, ap, subst, ◌∙◌, arith, ltb-true, ltb-false, eqb-true, eqb-false, byte_at, Byte, step_value, value, SourceState, Outcome, Gave, then_do, Onward, Carry, NotZero, AccumulateImmediate, Inr, M, Compare, increment_of, subtract_of, Registers, word, JumpWhere, byte_put, Does, at_place, borrow_shows, count_shows, Facts, LabelNumber, Step, load, low, Know, at_instructions, does_same, script_of, BodyContext, IsSoundBody}
 use Rattle.isa8080.specs.declared.instr.Register.TheVariants as registers
-use Rattle.isa8080.specs.Arithmetic.{increment_of, subtract_of}
-use Rattle.isa8080.specs.State.{Registers, word}
-use Rattle.asm8080.specs.declared.item.WordForm.TheVariants.{JumpWhere}
-use Rattle.asm8080.proofs.Kept.{byte_put}
-use Rattle.code_meaning.specs.Landing.{Does, at_place}
-use Rattle.code_meaning.proofs.ByteResults.{borrow_shows, count_shows}
-use Rattle.steps8080.specs.declared.facts.Facts.{Facts}
-use Rattle.steps8080.specs.declared.step.LabelNumber.{LabelNumber}
-use Rattle.steps8080.specs.declared.step.Step.{Step}
 use Rattle.steps8080.specs.declared.step.Step.TheVariants as steps
-use Rattle.steps8080.specs.Instructions.{load, low}
-use Rattle.task_laws.specs.Tasks.{Know}
-use Rattle.task_laws.proofs.Machine.Stages.{at_instructions, does_same, script_of}
-use Rattle.statement_laws.specs.Bodies.{BodyContext, IsSoundBody}
 use Rattle.statement_laws.proofs.Loops.CountedVariables.{IsCounted, variable_address, variable_place}
 use Rattle.statement_laws.proofs.Loops.LoopCode.{Steps, address_step, address_then, byte_then, jump_then, load_then}
 use Rattle.statement_laws.proofs.Loops.LoopMeaning.{stepped_by, stepped_with_is, turns_again, turns_end}

@@ -1,36 +1,9 @@
 -- The variable of an iterative DO: where the source has it, and where the machine does.
-use Rattle.std.proofs.Common.{◌≡◌, ℕ, ◌+◌, ◌%◌, ◌<◌, ◌≤◌, Bool, true, false, List, Option, Some, None, refl, sym, ap, subst, ◌∙◌, arith}
-use Rattle.std.specs.Prelude.{IsSomeAnd, slice_get}
-use Rattle.trees.specs.declared.declaration.ScalarType.{ScalarType}
-use Rattle.typed_trees.specs.ObjectParts.{IsScalar, IsScalarOf}
-use Rattle.typed_trees.specs.Sizes.{size_of_scalar}
-use Rattle.typed_trees.specs.TypedTrees.{Home as TypedHome, InData, InConstants, Placed, BasedOn, Elsewhere, Nowhere, InFrame, ObjectType, ScalarObject, PartOf, NoSubscript, TypedIteration, TypedModule, TypedObject, TypedReference}
-use Rattle.typed_trees.specs.WellTyped.{Counts, IsSeen, LiesFor, RefersToScalar, TypesHoldInReference, Within}
-use Rattle.meaning.specs.Access.{Place as SourcePlace, Surroundings, place_in, place_of}
-use Rattle.meaning.specs.Meaning.{based_place}
-use Rattle.meaning.specs.Outcomes.{State as SourceState, Gave}
+use Rattle.statement_laws.proofs.Prelude.{◌≡◌, ℕ, ◌+◌, ◌%◌, ◌<◌, ◌≤◌, Bool, true, false, List, Option, Some, None, refl, sym, ap, subst, ◌∙◌, arith, IsSomeAnd, slice_get, ScalarType, IsScalar, IsScalarOf, size_of_scalar, TypedHome, InData, InConstants, Placed, BasedOn, Elsewhere, Nowhere, InFrame, ObjectType, ScalarObject, PartOf, NoSubscript, TypedIteration, TypedModule, TypedObject, TypedReference, Counts, IsSeen, LiesFor, RefersToScalar, TypesHoldInReference, Within, SourcePlace, Surroundings, place_in, place_of, based_place, SourceState, Gave, Home, Location, home_at, keeps_both, keeps_of_part, no_facts, Begins, BeginsAtBase, BeginsInFrame, BeginsInMemory, IsReference, IsPart, IsAbsent, location_at, Facts, base_after, base_of, keeps_of_address, base_location, location_of, split, knowing, whole, Context, IsSound, distances_in, nodes_in, IsReferred, address_on_machine, begins_there, has_some, home_there, located_fits, refers_is_referred, lies_there, located_in, FitsIn}
 use Rattle.layout.specs.Storage.{Storage}
-use Rattle.treecode.specs.declared.place.Home.{Home}
 use Rattle.treecode.specs.declared.place.Home.TheVariants as homes
-use Rattle.treecode.specs.declared.place.Location.{Location}
 use Rattle.treecode.specs.declared.traits.Keeps.{Keeps}
-use Rattle.treecode.specs.Nodes.{home_at}
-use Rattle.treecode.specs.Traits.{keeps_both, keeps_of_part}
-use Rattle.steps8080.specs.Facts.{no_facts}
-use Rattle.task_laws.proofs.Places.Homes.{Begins, BeginsAtBase, BeginsInFrame, BeginsInMemory}
-use Rattle.treecode.specs.Lowered.{IsReference, IsPart, IsAbsent}
-use Rattle.code_meaning.specs.Holding.{location_at}
-use Rattle.steps8080.specs.declared.facts.Facts.{Facts}
-use Rattle.steps8080.specs.Queries.{base_after, base_of, keeps_of_address, located, location_at as base_location, location_of, split}
-use Rattle.exprgen8080.specs.Emission.{knowing}
-use Rattle.statements8080.specs.Bodies.{whole}
-use Rattle.task_laws.specs.Contexts.{Context, IsSound, distances_in, nodes_in}
-use Rattle.task_laws.specs.Tasks.{IsReferred, address_on_machine}
-use Rattle.task_laws.proofs.Places.Bases.{begins_there, has_some, home_there}
-use Rattle.task_laws.proofs.Places.Fitting.{located_fits, refers_is_referred}
-use Rattle.task_laws.proofs.Loads.Loads.{lies_there}
-use Rattle.task_laws.proofs.Places.Located.{located_in}
-use Rattle.task_laws.proofs.Places.Reading.{FitsIn}
+use Rattle.steps8080.specs.Queries.{located}
 
 -- a whole object, as the source refers to it
 abbrev pub whole_tree : (object : ℕ) → TypedReference

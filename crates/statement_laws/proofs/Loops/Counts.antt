@@ -1,32 +1,6 @@
 -- A BYTE that is counted by 1 in memory.
-use Rattle.std.proofs.Common.{◌≡◌, ℕ, Bool, true, false, ◌&&◌, if◌then◌else◌, nat_eq, Option, Some, None, refl, sym, ap, subst, ◌∙◌}
-use Rattle.std.proofs.lemmas.Bool.{and_parts, eqb-true}
-use Rattle.trees.specs.declared.declaration.ScalarType.{ScalarType}
-use Rattle.trees.specs.declared.declaration.ScalarType.TheVariants.{Byte, Address}
-use Rattle.trees.specs.declared.expression.BinaryOperator.{BinaryOperator}
-use Rattle.typed_trees.specs.TypedTrees.{BinaryNode, TypedExpression, TypedReference, ValueNode}
-use Rattle.typed_trees.specs.WellTyped.{RefersToScalar, TypesHold, TypesHoldInReference}
-use Rattle.meaning.specs.Access.{read_scalar}
-use Rattle.meaning.specs.Meaning.{computed, located, value}
-use Rattle.meaning.specs.Outcomes.{State as SourceState, Outcome, then_do}
-use Rattle.meaning.specs.Values.{result_of}
-use Rattle.isa8080.specs.declared.instr.Instr.{Instr}
-use Rattle.treecode.specs.declared.expression.Expression.{Expression}
-use Rattle.treecode.specs.declared.expression.ExpressionForm.{ExpressionForm}
-use Rattle.treecode.specs.declared.expression.ExpressionNumber.{ExpressionNumber}
-use Rattle.treecode.specs.declared.reference.Reference.{Reference}
-use Rattle.treecode.specs.Lowered.{IsBinary, IsExpression, IsForm, IsReference, IsValue}
-use Rattle.steps8080.specs.declared.facts.Facts.{Facts}
-use Rattle.steps8080.specs.Queries.{number}
-use Rattle.exprgen8080.specs.Emission.{knowing}
-use Rattle.statements8080.specs.Assignments.{count_by, count_of, count_of_form, is_one, is_value_by, is_value_of}
-use Rattle.statements8080.specs.SamePlaces.{are_same}
-use Rattle.task_laws.specs.Contexts.{Context, IsSound, nodes_in}
-use Rattle.treecode.specs.Lowered.{IsNumber, IsLocation, IsConstantList, IsConversion, IsEmbedded, IsUnary, IsCallOf, IsFunction, IsShift, IsInput}
-use Rattle.task_laws.proofs.Machine.Effects.{then_again}
-use Rattle.task_laws.proofs.Machine.SiteNodes.{number_means}
+use Rattle.statement_laws.proofs.Prelude.{◌≡◌, ℕ, Bool, true, false, ◌&&◌, if◌then◌else◌, nat_eq, Option, Some, None, refl, sym, ap, subst, ◌∙◌, and_parts, eqb-true, ScalarType, Byte, Address, BinaryOperator, BinaryNode, TypedExpression, TypedReference, ValueNode, RefersToScalar, TypesHold, TypesHoldInReference, read_scalar, computed, located, value, SourceState, Outcome, then_do, result_of, Instr, Expression, ExpressionForm, ExpressionNumber, Reference, IsBinary, IsExpression, IsForm, IsReference, IsValue, Facts, number, knowing, count_by, count_of, count_of_form, is_one, is_value_by, is_value_of, are_same, Context, IsSound, nodes_in, IsNumber, IsLocation, IsConstantList, IsConversion, IsEmbedded, IsUnary, IsCallOf, IsFunction, IsShift, IsInput, then_again, number_means, node_of}
 use Rattle.statement_laws.proofs.Assignments.Firsts.{then_each}
-use Rattle.task_laws.proofs.Machine.Nodes.{node_of}
 
 -- a value that counts a BYTE
 pub record IsCount (context : Context) (facts : Facts) (reference : Reference) (i : Instr) (tree : TypedExpression) : Type 0 where

@@ -1,21 +1,5 @@
 -- An iterative DO enters its turns: where it is known that there is one, or that there is none, and by a test before it.
-use Rattle.std.proofs.Common.{◌≡◌, ℕ, ◌-◌, ◌<◌, ◌≤◌, true, List, None, sym, ap, subst, ◌∙◌, arith}
-use Rattle.std.proofs.lemmas.Bool.{ltb-true, ltb-false}
-use Rattle.trees.specs.declared.declaration.ScalarType.{ScalarType}
-use Rattle.trees.specs.declared.declaration.ScalarType.TheVariants.{Byte, Address}
-use Rattle.meaning.specs.Meaning.{value, write_variable}
-use Rattle.meaning.specs.Access.{write_scalar}
-use Rattle.meaning.specs.Outcomes.{State as SourceState, Outcome, Gave, then_do, Flow, Onward}
-use Rattle.meaning.specs.Values.{as_type, values_of}
-use Rattle.isa8080.specs.State.{Registers, State}
-use Rattle.steps8080.specs.declared.facts.Facts.{Facts}
-use Rattle.statements8080.specs.declared.plan.Planned.{Planned}
-use Rattle.code_meaning.specs.Activations.{IsReady}
-use Rattle.code_meaning.specs.Landing.{Does, at_place}
-use Rattle.task_laws.specs.Tasks.{Know}
-use Rattle.task_laws.proofs.Machine.Stages.{script_of, then_does_where}
-use Rattle.task_laws.proofs.Machine.StoredValues.{without_more}
-use Rattle.statement_laws.specs.Bodies.{BodyContext, IsSoundBody}
+use Rattle.statement_laws.proofs.Prelude.{◌≡◌, ℕ, ◌-◌, ◌<◌, ◌≤◌, true, List, None, sym, ap, subst, ◌∙◌, arith, ltb-true, ltb-false, ScalarType, Byte, Address, value, write_variable, write_scalar, SourceState, Outcome, Gave, then_do, Flow, Onward, as_type, values_of, Registers, State, Facts, Planned, IsReady, Does, at_place, Know, script_of, then_does_where, without_more, BodyContext, IsSoundBody}
 use Rattle.statement_laws.proofs.Loops.CountedVariables.{IsCounted, variable_address, variable_place}
 use Rattle.statement_laws.proofs.Loops.FirstValues.{written_is}
 use Rattle.statement_laws.proofs.Loops.LoopMeaning.{IsSteadyScalar, scalar_at, tested}

@@ -1,33 +1,5 @@
 -- The variable of an iterative DO gets its first value, with a step to spare, and what is planned after it stands.
-use Rattle.std.proofs.Common.{◌≡◌, ℕ, true, List, ◌++◌, None, refl, sym, ap, subst, ◌∙◌}
-use Rattle.trees.specs.declared.declaration.ScalarType.{ScalarType}
-use Rattle.typed_trees.specs.ExpressionTypes.{type_of}
-use Rattle.typed_trees.specs.TypedTrees.{StoredIn}
-use Rattle.meaning.specs.Access.{Place as SourcePlace, write_scalar}
-use Rattle.meaning.specs.Meaning.{stored, value, write_variable}
-use Rattle.meaning.specs.Outcomes.{State as SourceState, Outcome, Gave, Stopped, then_do}
-use Rattle.meaning.specs.Values.{as_type}
-use Rattle.isa8080.specs.State.{Registers, State}
-use Rattle.treecode.specs.declared.lists.Range.{Range}
-use Rattle.treecode.specs.declared.reference.Target.TheVariants.{Stored}
-use Rattle.treecode.specs.declared.statement.Iteration.{Iteration}
-use Rattle.treecode.specs.Lowered.{IsStored}
-use Rattle.code_meaning.specs.Activations.{Arrives}
-use Rattle.code_meaning.specs.Landing.{Does, at_place}
-use Rattle.code_meaning.proofs.Landing.{gives}
-use Rattle.steps8080.specs.declared.facts.Facts.{Facts}
-use Rattle.steps8080.specs.declared.sites.site.Site.{Site}
-use Rattle.steps8080.specs.Site.{scalar}
-use Rattle.exprgen8080.specs.Emission.{knowing}
-use Rattle.statements8080.specs.declared.plan.Planned.{Planned}
-use Rattle.statements8080.specs.Assignments.{single_steps}
-use Rattle.statements8080.specs.Bodies.{whole}
-use Rattle.statements8080.specs.Counters.{counter_of}
-use Rattle.statements8080.specs.Iterations.{first_steps}
-use Rattle.codegen8080.specs.Generated.{site_of}
-use Rattle.task_laws.specs.Tasks.{Know}
-use Rattle.task_laws.proofs.Machine.Stages.{does_same, script_of}
-use Rattle.statement_laws.specs.Bodies.{BodyContext}
+use Rattle.statement_laws.proofs.Prelude.{◌≡◌, ℕ, true, List, ◌++◌, None, refl, sym, ap, subst, ◌∙◌, ScalarType, type_of, StoredIn, SourcePlace, write_scalar, stored, value, write_variable, SourceState, Outcome, Gave, Stopped, then_do, as_type, Registers, State, Range, Stored, Iteration, IsStored, Arrives, Does, at_place, gives, Facts, Site, scalar, knowing, Planned, single_steps, whole, counter_of, first_steps, site_of, Know, does_same, script_of, BodyContext}
 use Rattle.statement_laws.proofs.Assignments.Assigned.{scalar_there}
 use Rattle.statement_laws.proofs.Assignments.Assignments.{single_does}
 use Rattle.statement_laws.proofs.Loops.Counted.{counted_does}

@@ -1,26 +1,6 @@
 -- The first value of the variable of an iterative DO is there after its store.
-use Rattle.std.proofs.Common.{◌≡◌, ℕ, ◌+◌, ◌*◌, ◌/◌, ◌%◌, ◌<◌, ◌≤◌, Bool, true, false, if◌then◌else◌, List, [], slice_set, refl, sym, ap, subst, ◌∙◌, arith}
-use Rattle.mem80.specs.declared.memory.TheConstants.{MEMORY_SIZE}
-use Rattle.mem80.specs.Memory.{byte_at}
-use Rattle.trees.specs.declared.declaration.ScalarType.{ScalarType}
-use Rattle.trees.specs.declared.declaration.ScalarType.TheVariants.{Byte, Address}
-use Rattle.typed_trees.specs.Sizes.{size_of_scalar}
-use Rattle.meaning.specs.declared.reason.Reason.TheVariants.{Byte as UndeclaredByte, Constant}
-use Rattle.meaning.specs.Access.{Place, InMemory, InTheFrame, is_constant, is_declared, next_place, write_byte, write_scalar}
-use Rattle.meaning.specs.Outcomes.{State as SourceState, Outside, Outcome, Gave, Stopped, then_do}
-use Rattle.meaning.specs.Values.{values_of}
-use Rattle.isa8080.specs.State.{Registers, State, wrap}
-use Rattle.isa8080.specs.Step.{running}
-use Rattle.asm8080.proofs.Kept.{byte_put}
-use Rattle.code_meaning.specs.Landing.{Does, Lands}
-use Rattle.code_meaning.specs.Activations.{Activation, IsReady}
-use Rattle.code_meaning.proofs.Landing.{gives}
-use Rattle.task_laws.specs.Contexts.{Context, IsSound}
-use Rattle.task_laws.specs.Tasks.{address_on_machine}
-use Rattle.task_laws.proofs.Places.Reading.{FitsIn, frame_is}
-use Rattle.task_laws.proofs.Machine.Stages.{script_of}
-use Rattle.task_laws.proofs.Stores.Writing.{byte_written}
-use Rattle.task_laws.proofs.Stores.WordWriting.{first_fits, next_address, second_fits, word_written}
+use Rattle.statement_laws.proofs.Prelude.{◌≡◌, ℕ, ◌+◌, ◌*◌, ◌/◌, ◌%◌, ◌<◌, ◌≤◌, Bool, true, false, if◌then◌else◌, List, [], slice_set, refl, sym, ap, subst, ◌∙◌, arith, MEMORY_SIZE, byte_at, ScalarType, Byte, Address, size_of_scalar, UndeclaredByte, Constant, InMemory, InTheFrame, is_constant, is_declared, next_place, write_byte, write_scalar, SourceState, Outside, Outcome, Gave, Stopped, then_do, values_of, Registers, State, wrap, running, byte_put, Does, Lands, Activation, IsReady, gives, Context, IsSound, address_on_machine, FitsIn, frame_is, script_of, byte_written, first_fits, next_address, second_fits, word_written}
+use Rattle.meaning.specs.Access.{Place}
 use Rattle.statement_laws.proofs.Loops.CountedVariables.{IsCounted, variable_address, variable_place}
 use Rattle.statement_laws.proofs.Loops.LoopMeaning.{IsSteadyScalar, scalar_at}
 use Rattle.statement_laws.proofs.Loops.WordCode.{with_word, word_put}

@@ -1,23 +1,6 @@
 -- An iterative DO in its general form does what it says, and with it each iterative DO.
-use Rattle.std.proofs.Common.{◌≡◌, ℕ, ◌≤◌, Bool, true, false, List, Some, None, refl, subst, arith}
-use Rattle.std.proofs.lemmas.Bool.{leb-true}
-use Rattle.treecode.specs.declared.lists.Range.{Range}
-use Rattle.treecode.specs.declared.statement.Iteration.{Iteration}
+use Rattle.statement_laws.proofs.Prelude.{◌≡◌, ℕ, ◌≤◌, Bool, true, false, List, Some, None, refl, subst, arith, leb-true, Range, Iteration, Facts, label_of, Site, knowing, Counter, Planned, general_steps, test_of, Here, site_of, Does, at_place, script_of, BodyContext, IsSoundBody, StatementStands}
 use Rattle.treecode.specs.declared.statement.Statement.TheVariants as statements
-use Rattle.steps8080.specs.declared.facts.Facts.{Facts}
-use Rattle.steps8080.specs.Step.{label_of}
-use Rattle.steps8080.specs.declared.sites.site.Site.{Site}
-use Rattle.exprgen8080.specs.Emission.{knowing}
-use Rattle.statements8080.specs.declared.iteration.Counter.{Counter}
-use Rattle.statements8080.specs.declared.plan.Planned.{Planned}
-use Rattle.statements8080.specs.Iterations.{general_steps}
-use Rattle.statements8080.specs.Tests.{test_of}
-use Rattle.codegen8080.specs.declared.meeting.Here.{Here}
-use Rattle.codegen8080.specs.Generated.{site_of}
-use Rattle.code_meaning.specs.Landing.{Does, at_place}
-use Rattle.task_laws.proofs.Machine.Stages.{script_of}
-use Rattle.statement_laws.specs.Bodies.{BodyContext, IsSoundBody}
-use Rattle.statement_laws.specs.Statements.{StatementStands}
 use Rattle.statement_laws.proofs.Loops.EnteredLoops.{enters_surely, enters_then, whole_loop}
 use Rattle.statement_laws.proofs.Loops.FirstStored.{FirstThere, first_stored}
 use Rattle.statement_laws.proofs.Loops.GeneralLoops.{FormsDo, GeneralEntry, general_stands}

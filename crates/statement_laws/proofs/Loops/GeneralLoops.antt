@@ -1,25 +1,7 @@
 -- Turns of an iterative DO in its general form: where its step and its test do what they mean, so do all turns.
-use Rattle.std.proofs.Common.{◌≡◌, ℕ, Bool, true, false, not, ◌&&◌, if◌then◌else◌, List, [], ◌∷◌, ◌++◌, Option, Some, None, refl, sym, subst, arith}
-use Rattle.treecode.specs.declared.lists.Range.{Range}
-use Rattle.treecode.specs.declared.statement.Iteration.{Iteration}
-use Rattle.code_meaning.proofs.Landing.{after_step}
-use Rattle.steps8080.specs.declared.facts.Facts.{Facts}
+use Rattle.statement_laws.proofs.Prelude.{◌≡◌, ℕ, Bool, true, false, not, ◌&&◌, if◌then◌else◌, List, [], ◌∷◌, ◌++◌, Option, Some, None, refl, sym, subst, arith, Range, Iteration, after_step, Facts, no_facts, Jump, Site, Test, Counter, label_of, nth_label, Planned, counts_by_one, general_begin_steps, general_end_steps, general_steps, is_byte_type, loop_labels, step_steps, test_label_steps, facts_of_test, test_of, test_steps, Here, common, BodyContext}
 use Rattle.steps8080.specs.declared.step.Step.TheVariants as steps
-use Rattle.steps8080.specs.Facts.{no_facts}
-use Rattle.asm8080.specs.declared.item.WordForm.TheVariants.{Jump}
-use Rattle.steps8080.specs.declared.sites.site.Site.{Site}
-use Rattle.statements8080.specs.declared.bound.Test.{Test}
-use Rattle.statements8080.specs.declared.iteration.Counter.{Counter}
-use Rattle.steps8080.specs.Step.{label_of}
-use Rattle.statements8080.specs.Plans.{nth_label}
-use Rattle.statements8080.specs.declared.plan.Planned.{Planned}
 use Rattle.statements8080.specs.declared.plan.Planned.TheVariants as planned
-use Rattle.statements8080.specs.Counters.{counts_by_one}
-use Rattle.statements8080.specs.Iterations.{general_begin_steps, general_end_steps, general_steps, is_byte_type, loop_labels, step_steps, test_label_steps}
-use Rattle.statements8080.specs.Tests.{facts_of_test, test_of, test_steps}
-use Rattle.codegen8080.specs.declared.meeting.Here.{Here}
-use Rattle.codegen8080.specs.Generated.{common}
-use Rattle.statement_laws.specs.Bodies.{BodyContext}
 use Rattle.statement_laws.proofs.Loops.GeneralParts.{AreCode, LabelParted, RunParted, StepDoes, TestDoes, label_parted, run_parted, weaker_checks}
 use Rattle.statement_laws.proofs.Loops.LoopCode.{jump_always}
 use Rattle.statement_laws.proofs.Loops.LoopEnds.{EndsKnown, Iterates, ends_known, goes_at_end}

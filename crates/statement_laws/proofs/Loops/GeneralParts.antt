@@ -1,23 +1,8 @@
 -- Parts of the general form of an iterative DO: code that stands before other steps, the label of the test, and what is asked
 -- of the step and of the test.
-use Rattle.std.proofs.Common.{◌≡◌, ℕ, ◌<◌, ◌≤◌, Bool, true, false, if◌then◌else◌, List, [], ◌∷◌, ◌++◌, map, Option, Some, None, sym, subst}
-use Rattle.meaning.specs.Outcomes.{State as SourceState, Onward}
-use Rattle.isa8080.specs.State.{Registers}
-use Rattle.code_meaning.proofs.Facts.Changes.{no_facts_hold}
-use Rattle.code_meaning.specs.Landing.{Does, at_place}
-use Rattle.steps8080.specs.declared.facts.Facts.{Facts}
-use Rattle.steps8080.specs.declared.step.LabelNumber.{LabelNumber}
-use Rattle.steps8080.specs.declared.step.Step.{Step}
+use Rattle.statement_laws.proofs.Prelude.{◌≡◌, ℕ, ◌<◌, ◌≤◌, Bool, true, false, if◌then◌else◌, List, [], ◌∷◌, ◌++◌, map, Option, Some, None, sym, subst, SourceState, Onward, Registers, no_facts_hold, Does, at_place, Facts, LabelNumber, Step, no_facts, Planned, Here, arriving, carried_steps, here_after, known_here, met, waiting_after, Know, script_of, BodyContext, NonePlanned, StepPlanned}
 use Rattle.steps8080.specs.declared.step.Step.TheVariants as steps
-use Rattle.steps8080.specs.Facts.{no_facts}
-use Rattle.statements8080.specs.declared.plan.Planned.{Planned}
 use Rattle.statements8080.specs.declared.plan.Planned.TheVariants as planned
-use Rattle.codegen8080.specs.declared.meeting.Here.{Here}
-use Rattle.codegen8080.specs.Generated.{arriving, carried_steps, here_after, known_here, met, waiting_after}
-use Rattle.task_laws.specs.Tasks.{Know}
-use Rattle.task_laws.proofs.Machine.Stages.{script_of}
-use Rattle.statement_laws.specs.Bodies.{BodyContext}
-use Rattle.statement_laws.specs.Statements.{NonePlanned, StepPlanned}
 use Rattle.statement_laws.proofs.Loops.CountedBytes.{Goes}
 use Rattle.statement_laws.proofs.Loops.LoopCode.{Steps, mark_then, steps_over}
 use Rattle.statement_laws.proofs.Loops.LoopRules.{Checks}

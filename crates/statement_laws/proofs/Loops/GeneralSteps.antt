@@ -1,52 +1,10 @@
 -- The step of an iterative DO in its general form does what it means, in each of its forms.
-use Rattle.std.proofs.Common.{◌≡◌, ℕ, ◌*◌, ◌<◌, ◌≤◌, Bool, true, false, not, ◌&&◌, nat_lt, if◌then◌else◌, List, [], ◌∷◌, ◌++◌, map, Option, Some, None, refl, sym, ap, subst, ◌∙◌, arith}
-use Rattle.std.specs.Prelude.{IfSome}
-use Rattle.std.proofs.lemmas.Bool.{ltb-true}
-use Rattle.trees.specs.declared.declaration.ScalarType.{ScalarType}
-use Rattle.trees.specs.declared.declaration.ScalarType.TheVariants.{Byte, Address}
-use Rattle.typed_trees.specs.Charge.{height_of_optional}
-use Rattle.typed_trees.specs.ExpressionTypes.{type_of}
-use Rattle.typed_trees.specs.TypedTrees.{TypedExpression}
-use Rattle.typed_trees.specs.WellTyped.{TypesHold}
-use Rattle.meaning.specs.Meaning.{step_value, value}
-use Rattle.meaning.specs.Outcomes.{State as SourceState, Gave, then_do, Onward}
-use Rattle.meaning.specs.Values.{values_of}
-use Rattle.isa8080.specs.declared.instr.Condition.TheVariants.{Carry, NotZero, Zero}
-use Rattle.isa8080.specs.declared.instr.Instr.TheVariants.{Accumulate, Dad, Inr, Inx, MovToMemory, Xchg}
-use Rattle.isa8080.specs.declared.instr.Operand.TheVariants.{M}
-use Rattle.isa8080.specs.declared.instr.Operation.TheVariants.{Add, AddWithCarry, Or}
-use Rattle.isa8080.specs.declared.instr.Pair.TheVariants.{De, Hl}
-use Rattle.isa8080.specs.declared.instr.Register.TheVariants.{A, D, E}
-use Rattle.asm8080.specs.declared.item.WordForm.TheVariants.{JumpWhere, LoadPair, StoreHl}
-use Rattle.treecode.specs.declared.expression.ExpressionNumber.{ExpressionNumber}
-use Rattle.treecode.specs.declared.lists.Range.{Range}
-use Rattle.treecode.specs.declared.place.Location.{Location}
+use Rattle.statement_laws.proofs.Prelude.{◌≡◌, ℕ, ◌*◌, ◌<◌, ◌≤◌, Bool, true, false, not, ◌&&◌, nat_lt, if◌then◌else◌, List, [], ◌∷◌, ◌++◌, map, Option, Some, None, refl, sym, ap, subst, ◌∙◌, arith, IfSome, ltb-true, ScalarType, Byte, Address, height_of_optional, type_of, TypedExpression, TypesHold, step_value, value, SourceState, Gave, then_do, Onward, values_of, Carry, NotZero, Zero, Accumulate, Dad, Inr, Inx, MovToMemory, Xchg, M, Add, AddWithCarry, Or, De, Hl, A, D, E, JumpWhere, LoadPair, StoreHl, ExpressionNumber, Range, Location, Place, Iteration, IsOptional, IsNoValue, IsSomeValue, Facts, LabelNumber, copy, load, set, with_register, Site, known, number, place_in_memory, scalar_of, Counter, Planned, whole, counts_by_one, counter_place, add_de_steps, add_steps, count_at_hl_steps, count_steps, is_byte, is_byte_type, loop_labels, step_in_de_steps, step_steps, sum_of_byte_steps, sum_of_word_steps, add_byte_steps, add_word_to_byte_steps, jump, nth_label, part, Here, load_word_steps, site_of, knowing, nodes_in, number_means, does_same, BodyContext, IsSoundBody}
 use Rattle.treecode.specs.declared.place.Location.TheVariants as locations
-use Rattle.treecode.specs.declared.place.Place.{Place}
-use Rattle.treecode.specs.declared.statement.Iteration.{Iteration}
-use Rattle.treecode.specs.Lowered.{IsOptional, IsNoValue, IsSomeValue}
-use Rattle.steps8080.specs.declared.facts.Facts.{Facts}
-use Rattle.steps8080.specs.declared.step.LabelNumber.{LabelNumber}
 use Rattle.steps8080.specs.declared.step.Step.TheVariants as steps
 use Rattle.steps8080.specs.declared.step.Task.TheVariants as tasks
-use Rattle.steps8080.specs.Instructions.{copy, load, set, with_register}
-use Rattle.steps8080.specs.declared.sites.site.Site.{Site}
-use Rattle.steps8080.specs.Queries.{known, number, place_in_memory}
-use Rattle.steps8080.specs.Site.{scalar as scalar_of}
-use Rattle.statements8080.specs.declared.iteration.Counter.{Counter}
-use Rattle.statements8080.specs.declared.plan.Planned.{Planned}
 use Rattle.statements8080.specs.declared.plan.Planned.TheVariants as planned
-use Rattle.statements8080.specs.Bodies.{whole}
-use Rattle.statements8080.specs.Counters.{counts_by_one, counter_place}
-use Rattle.statements8080.specs.Iterations.{add_de_steps, add_steps, count_at_hl_steps, count_steps, is_byte, is_byte_type, loop_labels, step_in_de_steps, step_steps, sum_of_byte_steps, sum_of_word_steps, add_byte_steps, add_word_to_byte_steps}
-use Rattle.statements8080.specs.Plans.{jump, nth_label, part, plain, word}
-use Rattle.codegen8080.specs.declared.meeting.Here.{Here}
-use Rattle.codegen8080.specs.Generated.{load_word_steps, site_of}
-use Rattle.exprgen8080.specs.Emission.{knowing}
-use Rattle.task_laws.specs.Contexts.{nodes_in}
-use Rattle.task_laws.proofs.Machine.SiteNodes.{number_means}
-use Rattle.task_laws.proofs.Machine.Stages.{does_same}
-use Rattle.statement_laws.specs.Bodies.{BodyContext, IsSoundBody}
+use Rattle.statements8080.specs.Plans.{plain, word}
 use Rattle.statement_laws.proofs.Assignments.Assigned.{scalar_there}
 use Rattle.statement_laws.proofs.Loops.CountedVariables.{IsCounted}
 use Rattle.statement_laws.proofs.Loops.GeneralParts.{AreCode, StepDoes, all_code, both_code, run_parted}

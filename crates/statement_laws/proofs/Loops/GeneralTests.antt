@@ -1,40 +1,8 @@
 -- The test of an iterative DO in its general form does what it means, in each of its forms.
-use Rattle.std.proofs.Common.{◌≡◌, ℕ, ◌+◌, ◌%◌, ◌≤◌, Bool, true, false, nat_le, nat_eq, if◌then◌else◌, [], ◌∷◌, ◌++◌, Option, Some, None, refl, sym, ap, ◌∙◌, arith}
-use Rattle.std.proofs.lemmas.Bool.{leb-true, leb-false, eqb-true}
-use Rattle.trees.specs.declared.declaration.ScalarType.{ScalarType}
-use Rattle.trees.specs.declared.declaration.ScalarType.TheVariants.{Byte, Address}
-use Rattle.typed_trees.specs.ExpressionTypes.{type_of}
-use Rattle.meaning.specs.Meaning.{value}
-use Rattle.meaning.specs.Outcomes.{State as SourceState, Gave}
-use Rattle.isa8080.specs.declared.instr.Condition.TheVariants.{Carry, NoCarry}
-use Rattle.isa8080.specs.declared.instr.Instr.TheVariants.{Accumulate, AccumulateImmediate, Inx, Xchg}
-use Rattle.isa8080.specs.declared.instr.Operand.TheVariants.{M}
-use Rattle.isa8080.specs.declared.instr.Operation.TheVariants.{Compare, Subtract, SubtractWithBorrow}
-use Rattle.isa8080.specs.declared.instr.Pair.TheVariants.{Hl}
-use Rattle.isa8080.specs.declared.instr.Register.TheVariants.{A, D, E, H, L}
-use Rattle.asm8080.specs.declared.item.WordForm.TheVariants.{Jump, JumpWhere}
-use Rattle.treecode.specs.declared.expression.ExpressionNumber.{ExpressionNumber}
-use Rattle.treecode.specs.declared.place.Location.{Location}
+use Rattle.statement_laws.proofs.Prelude.{◌≡◌, ℕ, ◌+◌, ◌%◌, ◌≤◌, Bool, true, false, nat_le, nat_eq, if◌then◌else◌, [], ◌∷◌, ◌++◌, Option, Some, None, refl, sym, ap, ◌∙◌, arith, leb-true, leb-false, eqb-true, ScalarType, Byte, Address, type_of, value, SourceState, Gave, Carry, NoCarry, Accumulate, AccumulateImmediate, Inx, Xchg, M, Compare, Subtract, SubtractWithBorrow, Hl, A, D, E, H, L, Jump, JumpWhere, ExpressionNumber, Location, Place, Facts, LabelNumber, copy, low, with_register, high, plain, Site, number, place_in_memory, scalar_of, Test, Counter, whole, computed_test, facts_of_test, known_test, test_of, test_steps, word_at, word_test_by, Here, load_byte_steps, load_word_steps, site_of, knowing, number_means, BodyContext, IsSoundBody, all, jump, LoadWord}
 use Rattle.treecode.specs.declared.place.Location.TheVariants as locations
-use Rattle.treecode.specs.declared.place.Place.{Place}
-use Rattle.steps8080.specs.declared.facts.Facts.{Facts}
-use Rattle.steps8080.specs.declared.step.LabelNumber.{LabelNumber}
 use Rattle.steps8080.specs.declared.step.Step.TheVariants as steps
-use Rattle.steps8080.specs.Instructions.{copy, low, with_register, high}
-use Rattle.steps8080.specs.Step.{plain}
-use Rattle.steps8080.specs.declared.sites.site.Site.{Site}
-use Rattle.steps8080.specs.Queries.{number, place_in_memory}
-use Rattle.steps8080.specs.Site.{scalar as scalar_of}
-use Rattle.statements8080.specs.declared.bound.Test.{Test}
 use Rattle.statements8080.specs.declared.bound.Test.TheVariants as tests
-use Rattle.statements8080.specs.declared.iteration.Counter.{Counter}
-use Rattle.statements8080.specs.Bodies.{whole}
-use Rattle.statements8080.specs.Tests.{computed_test, facts_of_test, known_test, test_of, test_steps, word_at, word_test_by}
-use Rattle.codegen8080.specs.declared.meeting.Here.{Here}
-use Rattle.codegen8080.specs.Generated.{load_byte_steps, load_word_steps, site_of}
-use Rattle.exprgen8080.specs.Emission.{knowing}
-use Rattle.task_laws.proofs.Machine.SiteNodes.{number_means}
-use Rattle.statement_laws.specs.Bodies.{BodyContext, IsSoundBody}
 use Rattle.statement_laws.proofs.Assignments.Assigned.{scalar_there}
 use Rattle.statement_laws.proofs.Loops.CountedVariables.{IsCounted}
 use Rattle.statement_laws.proofs.Loops.GeneralParts.{AreCode, TestDoes, all_code}
@@ -46,8 +14,6 @@ use Rattle.statement_laws.proofs.Loops.LoopTurns.{Loop, Runs, from_list}
 use Rattle.statement_laws.proofs.FirstSteps.{Stand}
 use Rattle.statement_laws.proofs.Loops.PlannedParts.{byte_parted, code_parted, word_parted}
 use Rattle.statement_laws.proofs.Loops.TestedLoops.{word_test as word_compare}
-use Rattle.statements8080.specs.Plans.{all, jump}
-use Rattle.statements8080.specs.declared.plan.Planned.TheVariants.{LoadWord}
 
 -- the code of a comparison with a number
 below_code :

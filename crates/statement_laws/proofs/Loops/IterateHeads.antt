@@ -1,37 +1,5 @@
 -- What is known of the head of an iterative DO: its numbers, and the variable by which its code counts.
-use Rattle.std.proofs.Common.{◌≡◌, ℕ, ◌+◌, ◌*◌, ◌<◌, Bool, true, false, nat_eq, nat_le, List, Option, Some, None, refl, sym, ap, ◌∙◌, arith}
-use Rattle.std.specs.Prelude.{IfSome}
-use Rattle.std.proofs.lemmas.Bool.{eqb-true}
-use Rattle.std.proofs.lemmas.Option.{same_Some}
-use Rattle.trees.specs.declared.declaration.ScalarType.{ScalarType}
-use Rattle.trees.specs.declared.declaration.ScalarType.TheVariants.{Byte, Address}
-use Rattle.typed_trees.specs.Charge.{height_of_statement}
-use Rattle.typed_trees.specs.ExpressionTypes.{type_of}
-use Rattle.typed_trees.specs.Jumps.{ListStands}
-use Rattle.typed_trees.specs.TypedTrees.{IterateStatement, TypedExpression, TypedIteration, TypedList}
-use Rattle.typed_trees.specs.WellTyped.{TypesHold, TypesHoldInHead, TypesHoldInList}
-use Rattle.meaning.specs.Meaning.{step_value, value}
-use Rattle.meaning.specs.Outcomes.{State as SourceState, Gave}
-use Rattle.meaning.specs.Values.{as_type, values_of}
-use Rattle.isa8080.specs.State.{Registers}
-use Rattle.treecode.specs.declared.expression.ExpressionNumber.{ExpressionNumber}
-use Rattle.treecode.specs.declared.lists.Range.{Range}
-use Rattle.treecode.specs.declared.place.Location.{Location}
-use Rattle.treecode.specs.declared.statement.Iteration.{Iteration}
-use Rattle.treecode.specs.Lowered.{IsExpressionIn, IsIteration, IsList, IsNoValue, IsOptional, IsSomeValue}
-use Rattle.code_meaning.specs.Activations.{IsReady}
-use Rattle.steps8080.specs.declared.facts.Facts.{Facts}
-use Rattle.steps8080.specs.declared.sites.site.Site.{Site}
-use Rattle.steps8080.specs.Queries.{location_of, number}
-use Rattle.exprgen8080.specs.Emission.{knowing}
-use Rattle.statements8080.specs.Bodies.{whole}
-use Rattle.statements8080.specs.Counters.{converted, counter_of, counts_by_one, has_a_turn}
-use Rattle.codegen8080.specs.declared.meeting.Here.{Here}
-use Rattle.codegen8080.specs.Generated.{site_of}
-use Rattle.task_laws.specs.Contexts.{nodes_in}
-use Rattle.task_laws.proofs.Machine.KnownOperands.{number_small}
-use Rattle.task_laws.proofs.Machine.SiteNodes.{number_means}
-use Rattle.statement_laws.specs.Bodies.{BodyContext, IsSoundBody}
+use Rattle.statement_laws.proofs.Prelude.{◌≡◌, ℕ, ◌+◌, ◌*◌, ◌<◌, Bool, true, false, nat_eq, nat_le, List, Option, Some, None, refl, sym, ap, ◌∙◌, arith, IfSome, eqb-true, same_Some, ScalarType, Byte, Address, height_of_statement, type_of, ListStands, IterateStatement, TypedExpression, TypedIteration, TypedList, TypesHold, TypesHoldInHead, TypesHoldInList, step_value, value, SourceState, Gave, as_type, values_of, Registers, ExpressionNumber, Range, Location, Iteration, IsExpressionIn, IsIteration, IsList, IsNoValue, IsOptional, IsSomeValue, IsReady, Facts, Site, location_of, number, knowing, whole, converted, counter_of, counts_by_one, has_a_turn, Here, site_of, nodes_in, number_small, number_means, BodyContext, IsSoundBody}
 use Rattle.statement_laws.proofs.Loops.CountedVariables.{is_counted, variable_address}
 use Rattle.statement_laws.proofs.Loops.EnteredLoops.{first_value_is}
 use Rattle.statement_laws.proofs.Loops.FirstStored.{first_stored}

@@ -1,30 +1,6 @@
 -- An iterative DO, by the form that its code has.
-use Rattle.std.proofs.Common.{◌≡◌, ℕ, Bool, true, false, if◌then◌else◌, List, [], ◌++◌, Option, Some, None, refl, sym, arith}
-use Rattle.std.proofs.lemmas.Bool.{leb-false}
-use Rattle.meaning.specs.Meaning.{value, write_variable}
-use Rattle.meaning.specs.Outcomes.{State as SourceState}
-use Rattle.meaning.specs.Values.{as_type}
-use Rattle.isa8080.specs.State.{Registers}
-use Rattle.treecode.specs.declared.lists.Range.{Range}
-use Rattle.treecode.specs.declared.statement.Iteration.{Iteration}
+use Rattle.statement_laws.proofs.Prelude.{◌≡◌, ℕ, Bool, true, false, if◌then◌else◌, List, [], ◌++◌, Option, Some, None, refl, sym, arith, leb-false, value, write_variable, SourceState, as_type, Registers, Range, Iteration, IsIterate, Does, at_place, Facts, Site, number, knowing, Counter, Planned, counter_of, has_a_turn, counts_in_place, first_steps, general_steps, to_known_steps, turns_if_any, turns_steps, Here, site_of, statement_steps, then_again, does_same, script_of, BodyContext, IsSoundBody, StatementStands}
 use Rattle.treecode.specs.declared.statement.Statement.TheVariants as statements
-use Rattle.treecode.specs.Lowered.{IsIterate}
-use Rattle.code_meaning.specs.Landing.{Does, at_place}
-use Rattle.steps8080.specs.declared.facts.Facts.{Facts}
-use Rattle.steps8080.specs.declared.sites.site.Site.{Site}
-use Rattle.steps8080.specs.Queries.{number}
-use Rattle.exprgen8080.specs.Emission.{knowing}
-use Rattle.statements8080.specs.declared.iteration.Counter.{Counter}
-use Rattle.statements8080.specs.declared.plan.Planned.{Planned}
-use Rattle.statements8080.specs.Counters.{counter_of, has_a_turn}
-use Rattle.statements8080.specs.Iterations.{counts_in_place, first_steps, general_steps, to_known_steps, turns_if_any, turns_steps}
-use Rattle.codegen8080.specs.declared.meeting.Here.{Here}
-use Rattle.codegen8080.specs.Generated.{site_of}
-use Rattle.codegen8080.specs.Statements.{statement_steps}
-use Rattle.task_laws.proofs.Machine.Effects.{then_again}
-use Rattle.task_laws.proofs.Machine.Stages.{does_same, script_of}
-use Rattle.statement_laws.specs.Bodies.{BodyContext, IsSoundBody}
-use Rattle.statement_laws.specs.Statements.{StatementStands}
 use Rattle.statement_laws.proofs.Loops.EnteredLoops.{enters_never, whole_loop}
 use Rattle.statement_laws.proofs.Loops.FirstStored.{FirstThere, first_stored, first_stores}
 use Rattle.statement_laws.proofs.Loops.IterateHeads.{KnownEntry, entry_value, iterates_so, known_entry, loop_of, number_of_head}

@@ -1,39 +1,10 @@
 -- Turns of an iterative DO that counts by 1 to a known last value, with the test at the end.
-use Rattle.std.proofs.Common.{◌≡◌, ℕ, ◌+◌, ◌<◌, ◌≤◌, Bool, true, false, nat_le, if◌then◌else◌, List, [], ◌∷◌, ◌++◌, Option, Some, None, refl, sym, ap, subst, ◌∙◌, arith}
-use Rattle.std.proofs.lemmas.Bool.{leb-true, leb-false}
-use Rattle.trees.specs.declared.declaration.ScalarType.{ScalarType}
-use Rattle.trees.specs.declared.declaration.ScalarType.TheVariants.{Byte, Address}
-use Rattle.meaning.specs.Meaning.{next_turn, step_value, value}
-use Rattle.meaning.specs.Outcomes.{State as SourceState, Outcome, Gave, then_do, Onward}
-use Rattle.meaning.specs.Values.{as_type}
-use Rattle.isa8080.specs.State.{Registers, wrap}
-use Rattle.treecode.specs.declared.lists.Range.{Range}
-use Rattle.treecode.specs.declared.place.Location.{Location}
+use Rattle.statement_laws.proofs.Prelude.{◌≡◌, ℕ, ◌+◌, ◌<◌, ◌≤◌, Bool, true, false, nat_le, if◌then◌else◌, List, [], ◌∷◌, ◌++◌, Option, Some, None, refl, sym, ap, subst, ◌∙◌, arith, leb-true, leb-false, ScalarType, Byte, Address, next_turn, step_value, value, SourceState, Outcome, Gave, then_do, Onward, as_type, Registers, wrap, Range, Location, Place, Iteration, Facts, LabelNumber, no_facts, plain, location_of, knowing, Counter, Planned, whole, address_fact, word_fact, asked_mark, next_byte_steps, arriving, common, known_here, load_word_steps, met, site_of, Site, Does, at_place, script_of, word_known, BodyContext, IsSoundBody, write_scalar}
 use Rattle.treecode.specs.declared.place.Location.TheVariants as locations
-use Rattle.treecode.specs.declared.place.Place.{Place}
-use Rattle.treecode.specs.declared.statement.Iteration.{Iteration}
-use Rattle.steps8080.specs.declared.facts.Facts.{Facts}
-use Rattle.steps8080.specs.declared.step.LabelNumber.{LabelNumber}
-use Rattle.steps8080.specs.Facts.{no_facts}
-use Rattle.steps8080.specs.Step.{plain}
-use Rattle.steps8080.specs.Queries.{location_of}
-use Rattle.exprgen8080.specs.Emission.{knowing}
-use Rattle.statements8080.specs.declared.iteration.Counter.{Counter}
-use Rattle.statements8080.specs.declared.plan.Planned.{Planned}
 use Rattle.statements8080.specs.declared.plan.Planned.TheVariants as planned
-use Rattle.statements8080.specs.Bodies.{whole}
-use Rattle.statements8080.specs.Counters.{address_fact, word_fact}
-use Rattle.statements8080.specs.Iterations.{asked_mark, next_byte_steps}
-use Rattle.codegen8080.specs.Generated.{arriving, common, known_here, load_word_steps, met, site_of}
-use Rattle.steps8080.specs.declared.sites.site.Site.{Site}
-use Rattle.code_meaning.specs.Landing.{Does, at_place}
-use Rattle.task_laws.proofs.Machine.Stages.{script_of}
-use Rattle.task_laws.proofs.Places.LocationWords.{word_known}
-use Rattle.statement_laws.specs.Bodies.{BodyContext, IsSoundBody}
 use Rattle.statement_laws.proofs.Loops.CountedBytes.{CountsBytes, Goes, count_to, count_to_top, counts_to, counts_to_top}
 use Rattle.statement_laws.proofs.Loops.CountedVariables.{IsCounted, variable_address, variable_place}
 use Rattle.statement_laws.proofs.Loops.SteadyReads.{steady_read}
-use Rattle.meaning.specs.Access.{write_scalar}
 use Rattle.statement_laws.proofs.Loops.CountedWords.{CountsWords, compared_and_counted, counts_word, stored_and_on}
 use Rattle.statement_laws.proofs.Loops.LoadedVariables.{word_loaded}
 use Rattle.statement_laws.proofs.Loops.LoopCode.{Steps, address_known, address_step}

@@ -1,28 +1,10 @@
 -- The variable of an iterative DO comes into A or HL, where it is not there.
-use Rattle.std.proofs.Common.{◌≡◌, ℕ, ◌+◌, ◌*◌, ◌/◌, ◌%◌, ◌<◌, ◌≤◌, Bool, true, false, if◌then◌else◌, List, [], ◌∷◌, ◌++◌, Option, Some, None, refl, sym, ap, subst, ◌∙◌, arith}
-use Rattle.mem80.specs.Memory.{byte_at, word_at}
-use Rattle.trees.specs.declared.declaration.ScalarType.TheVariants.{Byte, Address}
-use Rattle.meaning.specs.Outcomes.{State as SourceState, Outcome}
-use Rattle.isa8080.specs.State.{Registers, State, high_byte, low_byte, wrap}
-use Rattle.asm8080.specs.declared.item.WordForm.TheVariants.{LoadA, LoadHl}
-use Rattle.treecode.specs.declared.place.Location.{Location}
+use Rattle.statement_laws.proofs.Prelude.{◌≡◌, ℕ, ◌+◌, ◌*◌, ◌/◌, ◌%◌, ◌<◌, ◌≤◌, Bool, true, false, if◌then◌else◌, List, [], ◌∷◌, ◌++◌, Option, Some, None, refl, sym, ap, subst, ◌∙◌, arith, byte_at, Byte, Address, SourceState, Outcome, Registers, State, high_byte, low_byte, wrap, LoadA, LoadHl, Location, Does, at_place, IsSteady, location_at, place_at, byte_in_a_is, word_in_hl_is, Facts, is_at, byte_at_address_steps, byte_at_steps, byte_in_a, load_byte_steps, load_word_steps, word_at_steps, word_in_hl, word_at_hl_goes, word_known, byte_small, knowing, whole, Context, IsSound, distances_in, NoneThere, HoldsThere, WordThere, ready_with_registers, word_goes, Stage, at_end, at_load_a, script_of}
+use Rattle.mem80.specs.Memory.{word_at}
 use Rattle.treecode.specs.declared.place.Location.TheVariants as locations
-use Rattle.code_meaning.specs.Landing.{Does, at_place}
-use Rattle.code_meaning.specs.Holding.{IsSteady, location_at, place_at}
-use Rattle.code_meaning.proofs.Facts.Uses.{byte_in_a_is, word_in_hl_is}
-use Rattle.steps8080.specs.declared.facts.Facts.{Facts}
 use Rattle.steps8080.specs.declared.step.Step.TheVariants as steps
-use Rattle.steps8080.specs.Facts.{is_at}
-use Rattle.codegen8080.specs.Generated.{byte_at_address_steps, byte_at_steps, byte_in_a, load_byte_steps, load_word_steps, word_at_steps, word_in_hl}
 use Rattle.operands8080.specs.Addresses.{word_at_hl_steps}
-use Rattle.task_laws.proofs.Places.LocationWords.{word_at_hl_goes, word_known}
-use Rattle.mem80.proofs.MemoryLemmas.{byte_small}
-use Rattle.exprgen8080.specs.Emission.{knowing}
-use Rattle.statements8080.specs.Bodies.{whole}
-use Rattle.task_laws.specs.Contexts.{Context, IsSound, distances_in}
-use Rattle.task_laws.specs.Steps.{NoneThere, HoldsThere, WordThere}
-use Rattle.task_laws.proofs.Machine.Rules.{ready_with_registers, split, word_goes}
-use Rattle.task_laws.proofs.Machine.Stages.{Stage, at_end, at_load_a, script_of}
+use Rattle.task_laws.proofs.Machine.Rules.{split}
 use Rattle.statement_laws.proofs.Loops.CountedVariables.{IsCounted, variable_address}
 use Rattle.statement_laws.proofs.Loops.LoopCode.{Steps, address_then, load_then}
 

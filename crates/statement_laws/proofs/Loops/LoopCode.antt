@@ -1,46 +1,8 @@
 -- What code of loops does that comes to the address of the variable, to a byte that it changes, and to a jump.
-use Rattle.std.proofs.Common.{◌≡◌, ℕ, ◌+◌, ◌*◌, ◌<◌, ◌≤◌, Bool, true, false, Option, Some, None, if◌then◌else◌, List, [], ◌∷◌, slice_set, refl, sym, ap, subst, ◌∙◌, arith}
-use Rattle.mem80.specs.Memory.{byte_at}
-use Rattle.mem80.proofs.MemoryLemmas.{byte_small}
+use Rattle.statement_laws.proofs.Prelude.{◌≡◌, ℕ, ◌+◌, ◌*◌, ◌<◌, ◌≤◌, Bool, true, false, Option, Some, None, if◌then◌else◌, List, [], ◌∷◌, slice_set, refl, sym, ap, subst, ◌∙◌, arith, byte_at, byte_small, Location, IsSteady, address_asks, load, knowing, Event, height_of_reference, SourcePlace, write_byte, SourceState, Outcome, Gave, then_do, ScalarType, Condition, Instr, HoldBytes, Registers, State, holds, word, wrap, act, step_of, AtLabel, Jump, JumpWhere, size_of_instruction, Does, at_place, IsReady, jump_passed, word_step, Asks, IsSteadyByte, no_facts_hold, Facts, LabelNumber, Step, after, no_facts, keeps_of_address, location_of, whole, Context, IsSound, distances_in, StepsStand, NoneThere, PlainThere, JumpThere, MarkThere, PartThere, AddressIsGiven, Know, Left, PartDoes, address_on_machine, FitsIn, plain_goes, ready_with_registers, Stage, at_carried, at_registers, script_of, byte_written}
 use Rattle.isa8080.specs.declared.instr.Register.TheVariants as registers
-use Rattle.treecode.specs.declared.place.Location.{Location}
-use Rattle.code_meaning.specs.Holding.{IsSteady}
-use Rattle.code_meaning.proofs.Facts.Steady.{address_asks}
-use Rattle.steps8080.specs.Instructions.{load}
-use Rattle.exprgen8080.specs.Emission.{knowing}
-use Rattle.ports.specs.declared.event.Event.{Event}
-use Rattle.typed_trees.specs.Charge.{height_of_reference}
-use Rattle.meaning.specs.Access.{Place as SourcePlace, write_byte}
-use Rattle.meaning.specs.Outcomes.{State as SourceState, Outcome, Gave, then_do}
-use Rattle.trees.specs.declared.declaration.ScalarType.{ScalarType}
-use Rattle.isa8080.specs.declared.instr.Condition.{Condition}
-use Rattle.isa8080.specs.declared.instr.Instr.{Instr}
-use Rattle.isa8080.specs.State.{HoldBytes, Registers, State, holds, word, wrap}
-use Rattle.isa8080.specs.Act.{act}
-use Rattle.isa8080.specs.Step.{step_of}
-use Rattle.asm8080.specs.declared.item.Reference.TheVariants.{AtLabel}
-use Rattle.asm8080.specs.declared.item.WordForm.TheVariants.{Jump, JumpWhere}
-use Rattle.asm8080.specs.Standing.{size_of_instruction}
-use Rattle.code_meaning.specs.Landing.{Does, at_place}
-use Rattle.code_meaning.specs.Activations.{IsReady}
-use Rattle.code_meaning.proofs.FirstItems.{jump_passed, word_step}
-use Rattle.code_meaning.specs.Asking.{Asks, IsSteadyByte}
-use Rattle.code_meaning.proofs.Facts.Changes.{no_facts_hold}
-use Rattle.steps8080.specs.declared.facts.Facts.{Facts}
-use Rattle.steps8080.specs.declared.step.LabelNumber.{LabelNumber}
-use Rattle.steps8080.specs.declared.step.Step.{Step}
 use Rattle.steps8080.specs.declared.step.Step.TheVariants as steps
 use Rattle.steps8080.specs.declared.step.Task.TheVariants as tasks
-use Rattle.steps8080.specs.Facts.{after, no_facts}
-use Rattle.steps8080.specs.Queries.{keeps_of_address, location_of}
-use Rattle.statements8080.specs.Bodies.{whole}
-use Rattle.task_laws.specs.Contexts.{Context, IsSound, distances_in}
-use Rattle.task_laws.specs.Steps.{StepsStand, NoneThere, PlainThere, JumpThere, MarkThere, PartThere}
-use Rattle.task_laws.specs.Tasks.{AddressIsGiven, Know, Left, PartDoes, address_on_machine}
-use Rattle.task_laws.proofs.Places.Reading.{FitsIn}
-use Rattle.task_laws.proofs.Machine.Rules.{plain_goes, ready_with_registers}
-use Rattle.task_laws.proofs.Machine.Stages.{Stage, at_carried, at_registers, script_of}
-use Rattle.task_laws.proofs.Stores.Writing.{byte_written}
 use Rattle.statement_laws.proofs.Loops.CountedVariables.{IsCounted, location_is, variable_address, whole_is, whole_tree, whole_types}
 
 -- steps that stand in a context, whose parts do what they mean

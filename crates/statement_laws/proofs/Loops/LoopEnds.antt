@@ -1,24 +1,7 @@
 -- The ends of loops, and entering them.
-use Rattle.std.proofs.Common.{◌≡◌, ℕ, ◌+◌, ◌*◌, ◌≤◌, Bool, true, false, [], ◌∷◌, ◌++◌, Option, sym, ap, subst, ◌∙◌}
-use Rattle.std.specs.Prelude.{IfSome}
-use Rattle.typed_trees.specs.Charge.{height_of, height_of_list, height_of_optional}
-use Rattle.typed_trees.specs.Jumps.{ListStands}
-use Rattle.typed_trees.specs.WellTyped.{TypesHold, TypesHoldInList}
-use Rattle.meaning.specs.Outcomes.{Gave, Onward}
-use Rattle.treecode.specs.declared.lists.Range.{Range}
-use Rattle.treecode.specs.declared.statement.Iteration.{Iteration}
-use Rattle.treecode.specs.Lowered.{IsIteration, IsList}
-use Rattle.steps8080.specs.declared.facts.Facts.{Facts}
-use Rattle.steps8080.specs.declared.step.LabelNumber.{LabelNumber}
+use Rattle.statement_laws.proofs.Prelude.{◌≡◌, ℕ, ◌+◌, ◌*◌, ◌≤◌, Bool, true, false, [], ◌∷◌, ◌++◌, Option, sym, ap, subst, ◌∙◌, IfSome, height_of, height_of_list, height_of_optional, ListStands, TypesHold, TypesHoldInList, Gave, Onward, Range, Iteration, IsIteration, IsList, Facts, LabelNumber, no_facts, asked_mark, Here, Does, at_place, nodes_in, script_of, BodyContext, IsSoundBody}
 use Rattle.steps8080.specs.declared.step.Step.TheVariants as steps
-use Rattle.steps8080.specs.Facts.{no_facts}
 use Rattle.statements8080.specs.declared.plan.Planned.TheVariants as planned
-use Rattle.statements8080.specs.Iterations.{asked_mark}
-use Rattle.codegen8080.specs.declared.meeting.Here.{Here}
-use Rattle.code_meaning.specs.Landing.{Does, at_place}
-use Rattle.task_laws.specs.Contexts.{nodes_in}
-use Rattle.task_laws.proofs.Machine.Stages.{script_of}
-use Rattle.statement_laws.specs.Bodies.{BodyContext, IsSoundBody}
 use Rattle.statement_laws.proofs.Loops.CountedBytes.{Goes}
 use Rattle.statement_laws.proofs.Loops.CountedVariables.{IsCounted}
 use Rattle.statement_laws.proofs.Loops.LoopCode.{knowing_nothing, mark_then, steps_over}

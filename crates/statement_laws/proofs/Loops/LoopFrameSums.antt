@@ -1,35 +1,6 @@
 -- The step of an iterative DO whose variable is an ADDRESS in the frame: DE is added to it, byte by byte.
-use Rattle.std.proofs.Common.{◌≡◌, ℕ, ◌+◌, ◌*◌, ◌/◌, ◌%◌, ◌<◌, ◌≤◌, Bool, true, false, nat_le, List, [], ◌∷◌, slice_set, refl, sym, ap, subst, ◌∙◌, arith}
-use Rattle.std.proofs.lemmas.Bool.{leb-true, leb-false, le-leb, lt-leb}
-use Rattle.mem80.specs.declared.memory.TheConstants.{MEMORY_SIZE}
-use Rattle.mem80.specs.Memory.{byte_at}
-use Rattle.mem80.proofs.MemoryLemmas.{byte_small}
-use Rattle.trees.specs.declared.declaration.ScalarType.TheVariants.{Address}
-use Rattle.meaning.specs.Access.{Place as SourcePlace, next_place, write_byte}
-use Rattle.meaning.specs.Meaning.{next_turn}
-use Rattle.meaning.specs.Outcomes.{State as SourceState, Outcome, then_do, Flow}
-use Rattle.isa8080.specs.declared.instr.Condition.TheVariants.{Carry}
-use Rattle.isa8080.specs.declared.instr.Instr.TheVariants.{Inx, MovToMemory}
-use Rattle.isa8080.specs.declared.instr.Operation.TheVariants.{Add, AddWithCarry}
-use Rattle.isa8080.specs.declared.instr.Pair.TheVariants.{Hl}
-use Rattle.isa8080.specs.declared.instr.Register.TheVariants.{A, D, E}
-use Rattle.isa8080.specs.Flags.{bit}
-use Rattle.isa8080.specs.State.{Registers, word, wrap}
-use Rattle.asm8080.specs.declared.item.WordForm.TheVariants.{JumpWhere}
-use Rattle.asm8080.proofs.Kept.{byte_kept}
-use Rattle.code_meaning.proofs.Facts.Steady.{address_asks}
-use Rattle.code_meaning.specs.Landing.{Does, at_place}
-use Rattle.code_meaning.proofs.ByteResults.{carry_shows, same_test}
-use Rattle.steps8080.specs.declared.facts.Facts.{Facts}
-use Rattle.steps8080.specs.declared.step.LabelNumber.{LabelNumber}
-use Rattle.steps8080.specs.declared.step.Step.{Step}
+use Rattle.statement_laws.proofs.Prelude.{◌≡◌, ℕ, ◌+◌, ◌*◌, ◌/◌, ◌%◌, ◌<◌, ◌≤◌, Bool, true, false, nat_le, List, [], ◌∷◌, slice_set, refl, sym, ap, subst, ◌∙◌, arith, leb-true, leb-false, le-leb, lt-leb, MEMORY_SIZE, byte_at, byte_small, Address, SourcePlace, next_place, write_byte, next_turn, SourceState, Outcome, then_do, Flow, Carry, Inx, MovToMemory, Add, AddWithCarry, Hl, A, D, E, bit, Registers, word, wrap, JumpWhere, byte_kept, address_asks, Does, at_place, carry_shows, same_test, Facts, LabelNumber, Step, load, with_register, distances_in, effect, at_instructions, does_same, script_of, first_fits, next_address, second_fits, then_next, BodyContext}
 use Rattle.steps8080.specs.declared.step.Step.TheVariants as steps
-use Rattle.steps8080.specs.Instructions.{load, with_register}
-use Rattle.task_laws.specs.Contexts.{distances_in}
-use Rattle.task_laws.proofs.Machine.RegisterCode.{effect}
-use Rattle.task_laws.proofs.Machine.Stages.{at_instructions, does_same, script_of}
-use Rattle.task_laws.proofs.Stores.WordWriting.{first_fits, next_address, second_fits, then_next}
-use Rattle.statement_laws.specs.Bodies.{BodyContext}
 use Rattle.statement_laws.proofs.Loops.CountedBytes.{stays}
 use Rattle.statement_laws.proofs.Loops.CountedVariables.{variable_address, variable_place}
 use Rattle.statement_laws.proofs.Loops.LoopCode.{Steps, address_step, address_then, byte_then, load_then}

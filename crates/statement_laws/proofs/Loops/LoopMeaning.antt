@@ -1,22 +1,5 @@
 -- What a turn of an iterative DO means, where the machine has its variable.
-use Rattle.std.proofs.Common.{◌≡◌, ℕ, ◌+◌, ◌*◌, ◌<◌, ◌≤◌, Bool, true, false, nat_lt, if◌then◌else◌, List, refl, sym, ap, subst, ◌∙◌, arith}
-use Rattle.std.proofs.lemmas.Bool.{ltb-true, ltb-false}
-use Rattle.mem80.specs.Memory.{byte_at}
-use Rattle.mem80.proofs.MemoryLemmas.{byte_small}
-use Rattle.trees.specs.declared.declaration.ScalarType.{ScalarType}
-use Rattle.trees.specs.declared.declaration.ScalarType.TheVariants.{Byte, Address}
-use Rattle.meaning.specs.Access.{read_scalar, write_scalar}
-use Rattle.meaning.specs.Meaning.{next_turn, step_value, value}
-use Rattle.meaning.specs.Outcomes.{State as SourceState, Outcome, Gave, then_do, taking_one, Flow, Onward}
-use Rattle.meaning.specs.Values.{as_type, values_of}
-use Rattle.isa8080.specs.State.{Registers, State, wrap}
-use Rattle.code_meaning.specs.Landing.{Does}
-use Rattle.code_meaning.specs.Activations.{Activation, IsReady}
-use Rattle.code_meaning.specs.Holding.{IsSteady}
-use Rattle.task_laws.specs.Contexts.{Context, IsSound}
-use Rattle.task_laws.proofs.Places.Reading.{byte_read, word_read}
-use Rattle.task_laws.proofs.Machine.Stages.{script_of}
-use Rattle.statement_laws.specs.Bodies.{BodyContext, IsSoundBody}
+use Rattle.statement_laws.proofs.Prelude.{◌≡◌, ℕ, ◌+◌, ◌*◌, ◌<◌, ◌≤◌, Bool, true, false, nat_lt, if◌then◌else◌, List, refl, sym, ap, subst, ◌∙◌, arith, ltb-true, ltb-false, byte_at, byte_small, ScalarType, Byte, Address, read_scalar, write_scalar, next_turn, step_value, value, SourceState, Outcome, Gave, then_do, taking_one, Flow, Onward, as_type, values_of, Registers, State, wrap, Does, Activation, IsReady, IsSteady, Context, IsSound, byte_read, word_read, script_of, BodyContext, IsSoundBody}
 use Rattle.statement_laws.proofs.Loops.CountedVariables.{IsCounted, variable_address, variable_place}
 use Rattle.statement_laws.proofs.Loops.LoopTurns.{Loop, Out, after_list, from_list, from_test, next_is}
 

@@ -1,51 +1,13 @@
 -- Rules for code of loops in general: values of parts, operations with a byte of memory, and the jumps after a test and
 -- after a sum.
-use Rattle.std.proofs.Common.{◌≡◌, ℕ, ◌+◌, ◌*◌, ◌/◌, ◌%◌, ◌<◌, ◌≤◌, Bool, true, false, not, nat_lt, nat_le, if◌then◌else◌, List, [], ◌∷◌, refl, sym, ap, subst, ◌∙◌, arith, Some}
-use Rattle.std.proofs.lemmas.Bool.{ltb-true, ltb-false, lt-ltb, le-ltb, leb-true, leb-false}
-use Rattle.mem80.specs.Memory.{byte_at}
-use Rattle.trees.specs.declared.declaration.ScalarType.{ScalarType}
-use Rattle.trees.specs.declared.declaration.ScalarType.TheVariants.{Byte, Address}
-use Rattle.typed_trees.specs.Charge.{height_of}
-use Rattle.typed_trees.specs.ExpressionTypes.{type_of}
-use Rattle.typed_trees.specs.TypedTrees.{TypedExpression}
-use Rattle.typed_trees.specs.WellTyped.{TypesHold}
-use Rattle.meaning.specs.Access.{read_scalar}
-use Rattle.meaning.specs.Meaning.{next_turn, value}
-use Rattle.meaning.specs.Outcomes.{State as SourceState, Outcome, Gave, then_do, taking_one, Flow, Onward}
-use Rattle.meaning.specs.Values.{values_of}
-use Rattle.isa8080.specs.declared.instr.Condition.{Condition}
-use Rattle.isa8080.specs.declared.instr.Instr.TheVariants.{Accumulate}
-use Rattle.isa8080.specs.declared.instr.Operand.TheVariants.{M}
-use Rattle.isa8080.specs.declared.instr.Operation.{Operation}
-use Rattle.isa8080.specs.declared.instr.Operation.TheVariants.{Add, AddWithCarry, Compare, Subtract, SubtractWithBorrow}
-use Rattle.isa8080.specs.Arithmetic.{operate, subtract_of}
-use Rattle.isa8080.specs.Flags.{bit}
-use Rattle.isa8080.specs.State.{Registers, State, high_byte, holds, low_byte, word, wrap}
-use Rattle.asm8080.specs.declared.item.WordForm.TheVariants.{JumpWhere}
-use Rattle.treecode.specs.declared.expression.ExpressionNumber.{ExpressionNumber}
-use Rattle.treecode.specs.Lowered.{IsExpressionIn}
-use Rattle.code_meaning.specs.Holding.{IsSteady}
-use Rattle.code_meaning.specs.Landing.{Does, at_place}
-use Rattle.code_meaning.proofs.ByteResults.{borrow_shows, borrow_shows_more, word_borrow}
-use Rattle.code_meaning.proofs.Landing.{after_step}
-use Rattle.steps8080.specs.declared.facts.Facts.{Facts}
-use Rattle.steps8080.specs.declared.step.LabelNumber.{LabelNumber}
-use Rattle.steps8080.specs.declared.step.Step.{Step}
+use Rattle.statement_laws.proofs.Prelude.{◌≡◌, ℕ, ◌+◌, ◌*◌, ◌/◌, ◌%◌, ◌<◌, ◌≤◌, Bool, true, false, not, nat_lt, nat_le, if◌then◌else◌, List, [], ◌∷◌, refl, sym, ap, subst, ◌∙◌, arith, Some, ltb-true, ltb-false, lt-ltb, le-ltb, leb-true, leb-false, byte_at, ScalarType, Byte, Address, height_of, type_of, TypedExpression, TypesHold, read_scalar, next_turn, value, SourceState, Outcome, Gave, then_do, taking_one, Flow, Onward, values_of, Condition, Accumulate, M, Operation, Add, AddWithCarry, Compare, Subtract, SubtractWithBorrow, operate, subtract_of, bit, Registers, State, high_byte, holds, low_byte, word, wrap, JumpWhere, ExpressionNumber, IsExpressionIn, IsSteady, Does, at_place, borrow_shows, borrow_shows_more, word_borrow, after_step, Facts, LabelNumber, Step, no_facts, Context, IsSound, nodes_in, PartThere, PlainThere, Know, word_known, Stage, at_registers, has_less_room, script_of, then_does_where, BodyContext, IsSoundBody, step_of}
 use Rattle.steps8080.specs.declared.step.Step.TheVariants as steps
 use Rattle.steps8080.specs.declared.step.Task.TheVariants as tasks
-use Rattle.steps8080.specs.Facts.{no_facts}
-use Rattle.task_laws.specs.Contexts.{Context, IsSound, nodes_in}
-use Rattle.task_laws.specs.Steps.{PartThere, PlainThere}
-use Rattle.task_laws.specs.Tasks.{Know}
-use Rattle.task_laws.proofs.Places.LocationWords.{word_known}
-use Rattle.task_laws.proofs.Machine.Stages.{Stage, at_registers, has_less_room, script_of, then_does_where}
-use Rattle.statement_laws.specs.Bodies.{BodyContext, IsSoundBody}
 use Rattle.statement_laws.proofs.Loops.CountedBytes.{Goes}
 use Rattle.statement_laws.proofs.Loops.CountedVariables.{IsCounted, variable_address, variable_place}
 use Rattle.statement_laws.proofs.Loops.LoopCode.{Steps, jump_then, knowing_nothing, steps_over}
 use Rattle.statement_laws.proofs.Loops.LoopMeaning.{next_tests}
 use Rattle.statement_laws.proofs.Loops.LoopTurns.{Loop, Out, Runs, StageAt, from_list, from_test, to_turn}
-use Rattle.isa8080.specs.Step.{step_of}
 
 -- where the value of a part is: its low byte in A,
 pub record ComesToA (number : ℕ) (scalar : ScalarType) (now : Registers) : Type 0 where

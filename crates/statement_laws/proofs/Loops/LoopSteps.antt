@@ -1,42 +1,7 @@
 -- The step of an iterative DO in general, counting by 1: the variable is counted where it lies, and where it becomes 0 the
 -- loop ends.
-use Rattle.std.proofs.Common.{◌≡◌, ◌≢◌, ℕ, ◌+◌, ◌*◌, ◌/◌, ◌%◌, ◌<◌, ◌≤◌, ◌==◌, Bool, true, false, not, nat_le, List, [], ◌∷◌, slice_set, refl, sym, ap, subst, ◌∙◌, arith}
-use Rattle.std.proofs.lemmas.Bool.{eqb-true, eqb-false, le-leb, lt-leb}
-use Rattle.mem80.specs.declared.memory.TheConstants.{MEMORY_SIZE}
-use Rattle.mem80.specs.Memory.{byte_at}
-use Rattle.mem80.proofs.MemoryLemmas.{byte_small}
-use Rattle.ports.specs.declared.event.Event.{Event}
-use Rattle.trees.specs.declared.declaration.ScalarType.{ScalarType}
-use Rattle.trees.specs.declared.declaration.ScalarType.TheVariants.{Byte, Address}
-use Rattle.meaning.specs.Access.{Place as SourcePlace, next_place, write_byte}
-use Rattle.meaning.specs.Meaning.{next_turn, step_value}
-use Rattle.meaning.specs.Outcomes.{State as SourceState, Outcome, Gave, then_do, Flow, Onward}
-use Rattle.isa8080.specs.declared.instr.Condition.TheVariants.{NotZero, Zero}
-use Rattle.isa8080.specs.declared.instr.Instr.TheVariants.{Inr, Inx}
-use Rattle.isa8080.specs.declared.instr.Operand.TheVariants.{M}
-use Rattle.isa8080.specs.declared.instr.Pair.TheVariants.{Hl}
-use Rattle.isa8080.specs.declared.registers.Flags.{Flags}
-use Rattle.isa8080.specs.Arithmetic.{increment_of}
-use Rattle.isa8080.specs.State.{Registers, word, wrap}
-use Rattle.isa8080.specs.Step.{step_of}
-use Rattle.asm8080.specs.declared.item.WordForm.TheVariants.{JumpWhere}
-use Rattle.asm8080.proofs.Kept.{byte_kept}
-use Rattle.code_meaning.specs.Landing.{Does, at_place}
-use Rattle.code_meaning.specs.Activations.{IsReady}
-use Rattle.code_meaning.proofs.Facts.Changes.{no_facts_hold}
-use Rattle.code_meaning.proofs.ByteResults.{count_shows, same_test}
-use Rattle.code_meaning.proofs.Landing.{after_step}
-use Rattle.steps8080.specs.declared.facts.Facts.{Facts}
-use Rattle.steps8080.specs.declared.step.LabelNumber.{LabelNumber}
+use Rattle.statement_laws.proofs.Prelude.{◌≡◌, ◌≢◌, ℕ, ◌+◌, ◌*◌, ◌/◌, ◌%◌, ◌<◌, ◌≤◌, ◌==◌, Bool, true, false, not, nat_le, List, [], ◌∷◌, slice_set, refl, sym, ap, subst, ◌∙◌, arith, eqb-true, eqb-false, le-leb, lt-leb, MEMORY_SIZE, byte_at, byte_small, Event, ScalarType, Byte, Address, SourcePlace, next_place, write_byte, next_turn, step_value, SourceState, Outcome, Gave, then_do, Flow, Onward, NotZero, Zero, Inr, Inx, M, Hl, Flags, increment_of, Registers, word, wrap, step_of, JumpWhere, byte_kept, Does, at_place, IsReady, no_facts_hold, count_shows, same_test, after_step, Facts, LabelNumber, no_facts, address_on_machine, set_same, effect, at_instructions, does_same, script_of, first_fits, next_address, second_fits, then_next, byte_written, BodyContext, IsSoundBody}
 use Rattle.steps8080.specs.declared.step.Step.TheVariants as steps
-use Rattle.steps8080.specs.Facts.{no_facts}
-use Rattle.task_laws.specs.Tasks.{address_on_machine}
-use Rattle.task_laws.proofs.Places.LocationWords.{set_same}
-use Rattle.task_laws.proofs.Machine.RegisterCode.{effect}
-use Rattle.task_laws.proofs.Machine.Stages.{at_instructions, does_same, script_of}
-use Rattle.task_laws.proofs.Stores.WordWriting.{first_fits, next_address, second_fits, then_next}
-use Rattle.task_laws.proofs.Stores.Writing.{byte_written}
-use Rattle.statement_laws.specs.Bodies.{BodyContext, IsSoundBody}
 use Rattle.statement_laws.proofs.Loops.CountedBytes.{Goes, stays, one_more_now}
 use Rattle.statement_laws.proofs.Loops.CountedVariables.{IsCounted, variable_address, variable_place}
 use Rattle.statement_laws.proofs.Loops.LoopCode.{Steps, address_step, address_then, byte_then, jump_then}

@@ -1,39 +1,6 @@
 -- The step of an iterative DO in general, where it is added to the variable: where the sum passes the type the loop ends.
-use Rattle.std.proofs.Common.{◌≡◌, ℕ, ◌+◌, ◌*◌, ◌/◌, ◌%◌, ◌<◌, ◌≤◌, ◌==◌, Bool, true, false, not, nat_le, List, [], ◌∷◌, slice_set, Option, Some, refl, sym, ap, subst, ◌∙◌, arith, bit_or}
-use Rattle.std.proofs.lemmas.Bool.{leb-true, leb-false, le-leb, lt-leb, eqb-true, eqb-false}
-use Rattle.std.specs.Int.Bits.{or_self}
-use Rattle.mem80.specs.Memory.{byte_at}
-use Rattle.mem80.proofs.MemoryLemmas.{byte_small}
-use Rattle.trees.specs.declared.declaration.ScalarType.TheVariants.{Byte}
-use Rattle.typed_trees.specs.Charge.{height_of}
-use Rattle.typed_trees.specs.ExpressionTypes.{type_of}
-use Rattle.typed_trees.specs.TypedTrees.{TypedExpression}
-use Rattle.typed_trees.specs.WellTyped.{TypesHold}
-use Rattle.meaning.specs.Meaning.{next_turn, step_value, value}
-use Rattle.meaning.specs.Outcomes.{State as SourceState, Gave, then_do, Onward}
-use Rattle.meaning.specs.Values.{values_of}
-use Rattle.isa8080.specs.declared.instr.Condition.TheVariants.{Carry, NotZero}
-use Rattle.isa8080.specs.declared.instr.Instr.TheVariants.{Accumulate, MovToMemory, Xchg}
-use Rattle.isa8080.specs.declared.instr.Operand.TheVariants.{M}
-use Rattle.isa8080.specs.declared.instr.Operation.TheVariants.{Add, AddWithCarry, Or}
-use Rattle.isa8080.specs.declared.instr.Register.TheVariants.{A, D, E}
-use Rattle.isa8080.specs.Flags.{bit}
-use Rattle.isa8080.specs.State.{Registers, word}
-use Rattle.asm8080.specs.declared.item.WordForm.TheVariants.{JumpWhere}
-use Rattle.treecode.specs.declared.expression.ExpressionNumber.{ExpressionNumber}
-use Rattle.treecode.specs.Lowered.{IsExpressionIn}
-use Rattle.code_meaning.proofs.Facts.Steady.{address_asks}
-use Rattle.code_meaning.specs.Landing.{Does, at_place}
-use Rattle.code_meaning.proofs.ByteResults.{carry_shows, same_test}
-use Rattle.code_meaning.proofs.Landing.{after_step}
-use Rattle.steps8080.specs.declared.facts.Facts.{Facts}
-use Rattle.steps8080.specs.declared.step.LabelNumber.{LabelNumber}
+use Rattle.statement_laws.proofs.Prelude.{◌≡◌, ℕ, ◌+◌, ◌*◌, ◌/◌, ◌%◌, ◌<◌, ◌≤◌, ◌==◌, Bool, true, false, not, nat_le, List, [], ◌∷◌, slice_set, Option, Some, refl, sym, ap, subst, ◌∙◌, arith, bit_or, leb-true, leb-false, le-leb, lt-leb, eqb-true, eqb-false, or_self, byte_at, byte_small, Byte, height_of, type_of, TypedExpression, TypesHold, next_turn, step_value, value, SourceState, Gave, then_do, Onward, values_of, Carry, NotZero, Accumulate, MovToMemory, Xchg, M, Add, AddWithCarry, Or, A, D, E, bit, Registers, word, JumpWhere, ExpressionNumber, IsExpressionIn, address_asks, Does, at_place, carry_shows, same_test, after_step, Facts, LabelNumber, copy, set, with_register, distances_in, nodes_in, effect, at_instructions, does_same, script_of, BodyContext}
 use Rattle.steps8080.specs.declared.step.Step.TheVariants as steps
-use Rattle.steps8080.specs.Instructions.{copy, set, with_register}
-use Rattle.task_laws.specs.Contexts.{distances_in, nodes_in}
-use Rattle.task_laws.proofs.Machine.RegisterCode.{effect}
-use Rattle.task_laws.proofs.Machine.Stages.{at_instructions, does_same, script_of}
-use Rattle.statement_laws.specs.Bodies.{BodyContext}
 use Rattle.statement_laws.proofs.Loops.CountedBytes.{stays}
 use Rattle.statement_laws.proofs.Loops.CountedVariables.{variable_address, variable_place}
 use Rattle.statement_laws.proofs.Loops.LoopCode.{Steps, address_step, address_then, byte_then, jump_then, knowing_nothing}

@@ -1,44 +1,7 @@
 -- The test of an iterative DO in general, by its form: the last value against the variable.
-use Rattle.std.proofs.Common.{◌≡◌, ℕ, ◌+◌, ◌*◌, ◌/◌, ◌%◌, ◌<◌, ◌≤◌, Bool, true, false, not, nat_lt, if◌then◌else◌, List, [], ◌∷◌, ◌++◌, Some, refl, ap, subst, ◌∙◌, arith}
-use Rattle.std.proofs.lemmas.Bool.{ltb-true}
-use Rattle.mem80.specs.Memory.{byte_at}
-use Rattle.mem80.proofs.MemoryLemmas.{byte_small}
-use Rattle.trees.specs.declared.declaration.ScalarType.{ScalarType}
-use Rattle.trees.specs.declared.declaration.ScalarType.TheVariants.{Byte, Address}
-use Rattle.typed_trees.specs.Charge.{height_of}
-use Rattle.typed_trees.specs.ExpressionTypes.{type_of}
-use Rattle.typed_trees.specs.WellTyped.{TypesHold}
-use Rattle.meaning.specs.Meaning.{value}
-use Rattle.meaning.specs.Outcomes.{State as SourceState, Outcome, Gave, then_do, taking_one, Onward}
-use Rattle.meaning.specs.Values.{values_of}
-use Rattle.isa8080.specs.declared.instr.Condition.TheVariants.{Carry, NoCarry}
-use Rattle.isa8080.specs.declared.instr.Instr.TheVariants.{Accumulate, AccumulateImmediate, Inx, Xchg}
-use Rattle.isa8080.specs.declared.instr.Operand.TheVariants.{M}
-use Rattle.isa8080.specs.declared.instr.Operation.TheVariants.{Compare, Subtract, SubtractWithBorrow}
-use Rattle.isa8080.specs.declared.instr.Pair.TheVariants.{Hl}
-use Rattle.isa8080.specs.declared.instr.Register.TheVariants.{A, D, E, H, L}
-use Rattle.isa8080.specs.State.{Registers, wrap}
-use Rattle.asm8080.specs.declared.item.WordForm.TheVariants.{Jump, JumpWhere}
-use Rattle.treecode.specs.declared.expression.ExpressionNumber.{ExpressionNumber}
-use Rattle.treecode.specs.Lowered.{IsExpressionIn}
-use Rattle.code_meaning.specs.Landing.{Does, at_place}
-use Rattle.code_meaning.proofs.ByteResults.{borrow_shows}
-use Rattle.steps8080.specs.declared.facts.Facts.{Facts}
-use Rattle.steps8080.specs.declared.step.LabelNumber.{LabelNumber}
-use Rattle.steps8080.specs.declared.step.Step.{Step}
+use Rattle.statement_laws.proofs.Prelude.{◌≡◌, ℕ, ◌+◌, ◌*◌, ◌/◌, ◌%◌, ◌<◌, ◌≤◌, Bool, true, false, not, nat_lt, if◌then◌else◌, List, [], ◌∷◌, ◌++◌, Some, refl, ap, subst, ◌∙◌, arith, ltb-true, byte_at, byte_small, ScalarType, Byte, Address, height_of, type_of, TypesHold, value, SourceState, Outcome, Gave, then_do, taking_one, Onward, values_of, Carry, NoCarry, Accumulate, AccumulateImmediate, Inx, Xchg, M, Compare, Subtract, SubtractWithBorrow, Hl, A, D, E, H, L, Registers, wrap, Jump, JumpWhere, ExpressionNumber, IsExpressionIn, Does, at_place, borrow_shows, Facts, LabelNumber, Step, no_facts, copy, high, low, with_register, plain, load_byte_steps, load_word_steps, knowing, whole, nodes_in, Know, effect, at_instructions, does_same, script_of, at_end, BodyContext}
 use Rattle.steps8080.specs.declared.step.Step.TheVariants as steps
 use Rattle.steps8080.specs.declared.step.Task.TheVariants as tasks
-use Rattle.steps8080.specs.Facts.{no_facts}
-use Rattle.steps8080.specs.Instructions.{copy, high, low, with_register}
-use Rattle.steps8080.specs.Step.{plain}
-use Rattle.codegen8080.specs.Generated.{load_byte_steps, load_word_steps}
-use Rattle.exprgen8080.specs.Emission.{knowing}
-use Rattle.statements8080.specs.Bodies.{whole}
-use Rattle.task_laws.specs.Contexts.{nodes_in}
-use Rattle.task_laws.specs.Tasks.{Know}
-use Rattle.task_laws.proofs.Machine.RegisterCode.{effect}
-use Rattle.task_laws.proofs.Machine.Stages.{at_instructions, does_same, script_of, at_end}
-use Rattle.statement_laws.specs.Bodies.{BodyContext}
 use Rattle.statement_laws.proofs.Loops.CountedBytes.{Goes}
 use Rattle.statement_laws.proofs.Loops.CountedVariables.{variable_address, variable_place}
 use Rattle.statement_laws.proofs.Loops.LoadedVariables.{byte_loaded, word_loaded}

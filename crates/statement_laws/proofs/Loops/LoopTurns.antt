@@ -1,28 +1,5 @@
 -- Turns of an iterative DO: each takes one of the budget, for which a step pays that leads to its code.
-use Rattle.std.proofs.Common.{◌≡◌, ◌≢◌, ℕ, zero, suc, ◌+◌, ◌-◌, ◌*◌, ◌<◌, ◌≤◌, ◌==◌, Bool, true, false, nat_lt, if◌then◌else◌, List, refl, sym, ap, subst, arith}
-use Rattle.std.proofs.lemmas.Bool.{eqb-true, eqb-false}
-use Rattle.asm8080.proofs.Spending.{same_after}
-use Rattle.typed_trees.specs.Charge.{height_of_list}
-use Rattle.typed_trees.specs.TypedTrees.{TypedIteration, TypedList}
-use Rattle.typed_trees.specs.Jumps.{ListStands}
-use Rattle.typed_trees.specs.WellTyped.{TypesHoldInList}
-use Rattle.meaning.specs.Meaning.{IterateTurn, Later, done_list, iterated, next_turn, stepped, turn_of}
-use Rattle.meaning.specs.Outcomes.{State as SourceState, Ended, More, Outside, Outcome, Gave, Stopped, then_do, taking_one, Flow, Onward, Returned, Jumped}
-use Rattle.meaning.specs.Values.{values_of}
-use Rattle.meaning.proofs.AgreementStatements.{again_is}
-use Rattle.isa8080.specs.declared.registers.Status.TheVariants.{Running}
-use Rattle.isa8080.specs.State.{Registers, State}
-use Rattle.isa8080.specs.Step.{step_of}
-use Rattle.treecode.specs.declared.lists.Range.{Range}
-use Rattle.treecode.specs.Lowered.{IsList}
-use Rattle.steps8080.specs.declared.facts.Facts.{Facts}
-use Rattle.codegen8080.specs.declared.meeting.Here.{Here}
-use Rattle.code_meaning.specs.Landing.{Does, Lands, at_place}
-use Rattle.code_meaning.proofs.Landing.{after_paid_step, gives, then_does, told_on}
-use Rattle.task_laws.specs.Contexts.{nodes_in}
-use Rattle.task_laws.proofs.Machine.Stages.{Stage, script_of}
-use Rattle.statement_laws.specs.Bodies.{BodyContext, IsSoundBody, Leaves}
-use Rattle.statement_laws.specs.Statements.{ListDoes}
+use Rattle.statement_laws.proofs.Prelude.{◌≡◌, ◌≢◌, ℕ, zero, suc, ◌+◌, ◌-◌, ◌*◌, ◌<◌, ◌≤◌, ◌==◌, Bool, true, false, nat_lt, if◌then◌else◌, List, refl, sym, ap, subst, arith, eqb-true, eqb-false, same_after, height_of_list, TypedIteration, TypedList, ListStands, TypesHoldInList, IterateTurn, Later, done_list, iterated, next_turn, stepped, turn_of, SourceState, Ended, More, Outside, Outcome, Gave, Stopped, then_do, taking_one, Flow, Onward, Returned, Jumped, values_of, again_is, Running, Registers, State, step_of, Range, IsList, Facts, Here, Does, Lands, at_place, after_paid_step, gives, then_does, told_on, nodes_in, Stage, script_of, BodyContext, IsSoundBody, Leaves, ListDoes}
 
 -- a machine at nothing pushed, of which this is known
 abbrev pub StageAt :

@@ -1,40 +1,8 @@
 -- The step of an iterative DO whose variable is an ADDRESS, where it is added: it comes into DE, and is added to the variable in
 -- memory.
-use Rattle.std.proofs.Common.{◌≡◌, ℕ, ◌+◌, ◌*◌, ◌/◌, ◌%◌, ◌<◌, ◌≤◌, List, [], ◌∷◌, Option, Some, None, refl, ap, ◌∙◌, arith}
-use Rattle.mem80.specs.Memory.{byte_at}
-use Rattle.trees.specs.declared.declaration.ScalarType.TheVariants.{Address}
-use Rattle.typed_trees.specs.ExpressionTypes.{type_of}
-use Rattle.typed_trees.specs.TypedTrees.{TypedExpression}
-use Rattle.meaning.specs.Meaning.{next_turn, value}
-use Rattle.meaning.specs.Access.{write_scalar}
-use Rattle.meaning.specs.Outcomes.{State as SourceState, Outcome, then_do, Flow}
-use Rattle.meaning.specs.Values.{as_type}
-use Rattle.isa8080.specs.declared.instr.Condition.TheVariants.{Carry}
-use Rattle.isa8080.specs.declared.instr.Instr.TheVariants.{Dad, Xchg}
-use Rattle.isa8080.specs.declared.instr.Pair.TheVariants.{De}
-use Rattle.isa8080.specs.State.{Registers, carries, high_byte, low_byte, word, wrap}
-use Rattle.asm8080.specs.declared.item.WordForm.TheVariants.{JumpWhere, LoadPair, StoreHl}
-use Rattle.treecode.specs.declared.expression.ExpressionNumber.{ExpressionNumber}
+use Rattle.statement_laws.proofs.Prelude.{◌≡◌, ℕ, ◌+◌, ◌*◌, ◌/◌, ◌%◌, ◌<◌, ◌≤◌, List, [], ◌∷◌, Option, Some, None, refl, ap, ◌∙◌, arith, byte_at, Address, type_of, TypedExpression, next_turn, value, write_scalar, SourceState, Outcome, then_do, Flow, as_type, Carry, Dad, Xchg, De, Registers, carries, high_byte, low_byte, word, wrap, JumpWhere, LoadPair, StoreHl, ExpressionNumber, Place, location_at, place_at, Does, at_place, Facts, LabelNumber, Step, known, knowing, load_word_steps, whole, distances_in, NoneThere, WordThere, known_small, effect, ready_with_registers, word_goes, known_means, at_end, at_instructions, does_same, script_of, BodyContext, IsSoundBody}
 use Rattle.treecode.specs.declared.place.Location.TheVariants as locations
-use Rattle.treecode.specs.declared.place.Place.{Place}
-use Rattle.code_meaning.specs.Holding.{location_at, place_at}
-use Rattle.code_meaning.specs.Landing.{Does, at_place}
-use Rattle.steps8080.specs.declared.facts.Facts.{Facts}
-use Rattle.steps8080.specs.declared.step.LabelNumber.{LabelNumber}
-use Rattle.steps8080.specs.declared.step.Step.{Step}
 use Rattle.steps8080.specs.declared.step.Step.TheVariants as steps
-use Rattle.steps8080.specs.Queries.{known}
-use Rattle.exprgen8080.specs.Emission.{knowing}
-use Rattle.codegen8080.specs.Generated.{load_word_steps}
-use Rattle.statements8080.specs.Bodies.{whole}
-use Rattle.task_laws.specs.Contexts.{distances_in}
-use Rattle.task_laws.specs.Steps.{NoneThere, WordThere}
-use Rattle.task_laws.proofs.Machine.KnownOperands.{known_small}
-use Rattle.task_laws.proofs.Machine.RegisterCode.{effect}
-use Rattle.task_laws.proofs.Machine.Rules.{ready_with_registers, word_goes}
-use Rattle.task_laws.proofs.Machine.SiteNodes.{known_means}
-use Rattle.task_laws.proofs.Machine.Stages.{at_end, at_instructions, does_same, script_of}
-use Rattle.statement_laws.specs.Bodies.{BodyContext, IsSoundBody}
 use Rattle.statement_laws.proofs.Loops.CountedBytes.{stays}
 use Rattle.statement_laws.proofs.Loops.CountedVariables.{variable_address, variable_place}
 use Rattle.statement_laws.proofs.Loops.LoadedVariables.{word_loaded}

@@ -1,47 +1,7 @@
 -- The test of an ADDRESS in memory against an ADDRESS at a place, which stays there.
-use Rattle.std.proofs.Common.{◌≡◌, ℕ, ◌+◌, ◌*◌, ◌/◌, ◌%◌, ◌≤◌, ◌⊎◌, inl, inr, false, not, nat_lt, List, [], ◌∷◌, Option, Some, None, refl, sym, ap, subst, ◌∙◌, arith}
-use Rattle.mem80.specs.Memory.{byte_at}
-use Rattle.mem80.proofs.MemoryLemmas.{byte_small}
-use Rattle.trees.specs.declared.declaration.ScalarType.{ScalarType}
-use Rattle.trees.specs.declared.declaration.ScalarType.TheVariants.{Byte, Address}
-use Rattle.meaning.specs.Meaning.{value}
-use Rattle.meaning.specs.Outcomes.{State as SourceState, Outcome, Gave}
-use Rattle.isa8080.specs.declared.instr.Condition.TheVariants.{NoCarry}
-use Rattle.isa8080.specs.declared.instr.Operation.TheVariants.{Subtract, SubtractWithBorrow}
-use Rattle.isa8080.specs.declared.instr.Register.TheVariants.{H, L}
-use Rattle.isa8080.specs.Arithmetic.{subtract_of}
-use Rattle.isa8080.specs.State.{Registers, wrap}
-use Rattle.asm8080.specs.declared.item.WordForm.TheVariants.{JumpWhere, LoadA}
-use Rattle.treecode.specs.declared.expression.Expression.{Expression}
-use Rattle.treecode.specs.declared.expression.ExpressionForm.{ExpressionForm}
+use Rattle.statement_laws.proofs.Prelude.{◌≡◌, ℕ, ◌+◌, ◌*◌, ◌/◌, ◌%◌, ◌≤◌, ◌⊎◌, inl, inr, false, not, nat_lt, List, [], ◌∷◌, Option, Some, None, refl, sym, ap, subst, ◌∙◌, arith, byte_at, byte_small, ScalarType, Byte, Address, value, SourceState, Outcome, Gave, NoCarry, Subtract, SubtractWithBorrow, H, L, subtract_of, Registers, wrap, JumpWhere, LoadA, Expression, ExpressionForm, ExpressionNumber, Place, place_after, IsSteady, place_at, Does, at_place, GoesOutside, Facts, LabelNumber, Step, no_facts, with_register, Site, direct, expression, option_and_then, direct_word, word_in_memory, word_of, knowing, load_word_steps, site_of, whole, test_steps, word_at, word_of_form, PlainThere, WordThere, WordAtPlace, words_at_places, read_then, at_a, at_load_a, does_same, script_of, BodyContext, IsSoundBody}
 use Rattle.treecode.specs.declared.expression.ExpressionForm.TheVariants as forms
-use Rattle.treecode.specs.declared.expression.ExpressionNumber.{ExpressionNumber}
-use Rattle.treecode.specs.declared.place.Place.{Place}
-use Rattle.treecode.specs.Homes.{place_after}
-use Rattle.code_meaning.specs.Holding.{IsSteady, place_at}
-use Rattle.code_meaning.specs.Landing.{Does, at_place}
-use Rattle.treecode_laws.specs.internal.Evaluations.{GoesOutside}
-use Rattle.steps8080.specs.declared.facts.Facts.{Facts}
-use Rattle.steps8080.specs.declared.step.LabelNumber.{LabelNumber}
-use Rattle.steps8080.specs.declared.step.Step.{Step}
 use Rattle.steps8080.specs.declared.step.Step.TheVariants as steps
-use Rattle.steps8080.specs.Facts.{no_facts}
-use Rattle.steps8080.specs.Instructions.{with_register}
-use Rattle.steps8080.specs.declared.sites.site.Site.{Site}
-use Rattle.steps8080.specs.Queries.{direct}
-use Rattle.steps8080.specs.Site.{expression}
-use Rattle.std.specs.Prelude.{option_and_then}
-use Rattle.steps8080.specs.Widths.{direct_word, word_in_memory, word_of}
-use Rattle.exprgen8080.specs.Emission.{knowing}
-use Rattle.codegen8080.specs.Generated.{load_word_steps, site_of}
-use Rattle.statements8080.specs.Bodies.{whole}
-use Rattle.statements8080.specs.Tests.{test_steps, word_at, word_of_form}
-use Rattle.task_laws.specs.Steps.{PlainThere, WordThere}
-use Rattle.task_laws.proofs.Bytes.BytesAsked.{WordAtPlace}
-use Rattle.task_laws.proofs.Bytes.HighBytesAsked.{words_at_places}
-use Rattle.task_laws.proofs.Relations.PlaceComparisons.{read_then}
-use Rattle.task_laws.proofs.Machine.Stages.{at_a, at_load_a, does_same, script_of}
-use Rattle.statement_laws.specs.Bodies.{BodyContext, IsSoundBody}
 use Rattle.statement_laws.proofs.Loops.CountedBytes.{Goes}
 use Rattle.statement_laws.proofs.Loops.CountedVariables.{variable_address, variable_place}
 use Rattle.statement_laws.proofs.Loops.GeneralParts.{all_code}

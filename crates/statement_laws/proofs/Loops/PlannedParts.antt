@@ -1,18 +1,6 @@
 -- Planned steps that stand, taken apart from the front.
-use Rattle.std.proofs.Common.{ℕ, List, [], ◌∷◌, ◌++◌, map, Option}
-use Rattle.treecode.specs.declared.reference.Reference.{Reference}
-use Rattle.steps8080.specs.declared.facts.Facts.{Facts}
-use Rattle.steps8080.specs.declared.step.Part.{Part}
-use Rattle.steps8080.specs.declared.step.Step.{Step}
-use Rattle.exprgen8080.specs.Emission.{knowing}
-use Rattle.statements8080.specs.declared.plan.Planned.{Planned}
+use Rattle.statement_laws.proofs.Prelude.{ℕ, List, [], ◌∷◌, ◌++◌, map, Option, Reference, Facts, Part, Step, knowing, Planned, Here, carried_steps, here_after, load_byte_steps, load_word_steps, site_of, waiting_after, Context, StepsStand, NoneThere, PlainThere, WordThere, JumpThere, MarkThere, RoutineThere, CallThere, TestThere, HoldsThere, ChangeThere, PartThere, BodyContext, StepPlanned}
 use Rattle.statements8080.specs.declared.plan.Planned.TheVariants as planned
-use Rattle.codegen8080.specs.declared.meeting.Here.{Here}
-use Rattle.codegen8080.specs.Generated.{carried_steps, here_after, load_byte_steps, load_word_steps, site_of, waiting_after}
-use Rattle.task_laws.specs.Contexts.{Context}
-use Rattle.task_laws.specs.Steps.{StepsStand, NoneThere, PlainThere, WordThere, JumpThere, MarkThere, RoutineThere, CallThere, TestThere, HoldsThere, ChangeThere, PartThere}
-use Rattle.statement_laws.specs.Bodies.{BodyContext}
-use Rattle.statement_laws.specs.Statements.{StepPlanned}
 use Rattle.statement_laws.proofs.FirstSteps.{CarriedFirst, Stand, going}
 
 -- a step before others

@@ -1,17 +1,6 @@
 -- The bytes of a place that the source reads are steady, or it goes outside.
-use Rattle.std.proofs.Common.{◌≡◌, ℕ, ◌+◌, ◌*◌, ◌<◌, ◌≤◌, Bool, true, false, if◌then◌else◌, refl, sym, subst, arith}
-use Rattle.mem80.specs.Memory.{byte_at}
-use Rattle.trees.specs.declared.declaration.ScalarType.TheVariants.{Byte, Address}
-use Rattle.meaning.specs.declared.reason.Reason.TheVariants.{Byte as UndeclaredByte}
-use Rattle.meaning.specs.Outcomes.{State as SourceState, Outside, Outcome, Gave, Stopped, then_do}
-use Rattle.meaning.specs.Access.{Place, InMemory, InTheFrame, is_declared, read_scalar}
-use Rattle.isa8080.specs.State.{State, wrap}
-use Rattle.code_meaning.specs.Landing.{Does}
-use Rattle.code_meaning.proofs.Facts.Steady.{declared_is_steady}
-use Rattle.code_meaning.specs.Holding.{IsSteady}
-use Rattle.task_laws.specs.Contexts.{Context, IsSound}
-use Rattle.task_laws.specs.Tasks.{address_on_machine}
-use Rattle.task_laws.proofs.Places.Reading.{FitsIn, frame_is, frame_next, of_frame}
+use Rattle.statement_laws.proofs.Prelude.{◌≡◌, ℕ, ◌+◌, ◌*◌, ◌<◌, ◌≤◌, Bool, true, false, if◌then◌else◌, refl, sym, subst, arith, byte_at, Byte, Address, UndeclaredByte, SourceState, Outside, Outcome, Gave, Stopped, then_do, InMemory, InTheFrame, is_declared, read_scalar, State, wrap, Does, declared_is_steady, IsSteady, Context, IsSound, address_on_machine, FitsIn, frame_is, frame_next, of_frame}
+use Rattle.meaning.specs.Access.{Place}
 
 -- of an ADDRESS
 pub steady_read :

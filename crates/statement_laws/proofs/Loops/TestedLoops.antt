@@ -1,38 +1,6 @@
 -- A BYTE is tested before the first turn of a loop to a known value.
-use Rattle.std.proofs.Common.{◌≡◌, ℕ, ◌+◌, ◌*◌, ◌/◌, ◌%◌, ◌<◌, ◌≤◌, Bool, true, false, not, nat_lt, if◌then◌else◌, List, [], ◌∷◌, ◌++◌, refl, sym, ap, ◌∙◌, arith}
-use Rattle.std.proofs.lemmas.Bool.{ltb-true, ltb-false}
-use Rattle.mem80.specs.Memory.{byte_at}
-use Rattle.trees.specs.declared.declaration.ScalarType.{ScalarType}
-use Rattle.trees.specs.declared.declaration.ScalarType.TheVariants.{Byte, Address}
-use Rattle.meaning.specs.Access.{read_scalar}
-use Rattle.meaning.specs.Outcomes.{State as SourceState, Outcome, Gave, then_do, taking_one, Onward}
-use Rattle.isa8080.specs.declared.instr.Condition.TheVariants.{NoCarry}
-use Rattle.isa8080.specs.declared.instr.Instr.TheVariants.{AccumulateImmediate}
-use Rattle.isa8080.specs.declared.instr.Operation.TheVariants.{Compare, Subtract, SubtractWithBorrow}
-use Rattle.isa8080.specs.State.{Registers, holds, wrap}
-use Rattle.asm8080.specs.declared.item.Reference.TheVariants.{AtLabel}
-use Rattle.asm8080.specs.declared.item.WordForm.TheVariants.{JumpWhere}
-use Rattle.code_meaning.specs.Landing.{Does, at_place}
-use Rattle.code_meaning.proofs.FirstItems.{word_step}
-use Rattle.code_meaning.proofs.Landing.{after_step}
-use Rattle.code_meaning.proofs.ByteResults.{borrow_shows}
-use Rattle.steps8080.specs.declared.facts.Facts.{Facts}
-use Rattle.steps8080.specs.declared.step.LabelNumber.{LabelNumber}
-use Rattle.steps8080.specs.declared.step.Step.{Step}
+use Rattle.statement_laws.proofs.Prelude.{◌≡◌, ℕ, ◌+◌, ◌*◌, ◌/◌, ◌%◌, ◌<◌, ◌≤◌, Bool, true, false, not, nat_lt, if◌then◌else◌, List, [], ◌∷◌, ◌++◌, refl, sym, ap, ◌∙◌, arith, ltb-true, ltb-false, byte_at, ScalarType, Byte, Address, read_scalar, SourceState, Outcome, Gave, then_do, taking_one, Onward, NoCarry, AccumulateImmediate, Compare, Subtract, SubtractWithBorrow, Registers, holds, wrap, AtLabel, JumpWhere, Does, at_place, word_step, after_step, borrow_shows, Facts, LabelNumber, Step, no_facts, copy, high, low, plain, Instr, A, H, L, load_byte_steps, load_word_steps, knowing, whole, JumpThere, NoneThere, Know, AreOnRegisters, effect, at_instructions, does_same, script_of, BodyContext, IsSoundBody}
 use Rattle.steps8080.specs.declared.step.Step.TheVariants as steps
-use Rattle.steps8080.specs.Facts.{no_facts}
-use Rattle.steps8080.specs.Instructions.{copy, high, low}
-use Rattle.steps8080.specs.Step.{plain}
-use Rattle.isa8080.specs.declared.instr.Instr.{Instr}
-use Rattle.isa8080.specs.declared.instr.Register.TheVariants.{A, H, L}
-use Rattle.codegen8080.specs.Generated.{load_byte_steps, load_word_steps}
-use Rattle.exprgen8080.specs.Emission.{knowing}
-use Rattle.statements8080.specs.Bodies.{whole}
-use Rattle.task_laws.specs.Steps.{JumpThere, NoneThere}
-use Rattle.task_laws.specs.Tasks.{Know}
-use Rattle.task_laws.proofs.Machine.RegisterCode.{AreOnRegisters, effect}
-use Rattle.task_laws.proofs.Machine.Stages.{at_instructions, does_same, script_of}
-use Rattle.statement_laws.specs.Bodies.{BodyContext, IsSoundBody}
 use Rattle.statement_laws.proofs.Loops.CountedVariables.{IsCounted, variable_address, variable_place}
 use Rattle.statement_laws.proofs.Loops.KnownLoops.{ToKnown}
 use Rattle.statement_laws.proofs.Cases.CaseForms.{high_is_less}

@@ -1,39 +1,8 @@
 -- An iterative DO that counts by 1 to a known last value does what it says.
-use Rattle.std.proofs.Common.{◌≡◌, ℕ, ◌+◌, ◌%◌, ◌<◌, ◌≤◌, Bool, true, false, not, ◌&&◌, ◌||◌, if◌then◌else◌, is_some, nat_eq, nat_le, List, [], ◌∷◌, ◌++◌, Some, None, refl, sym, ap, subst, ◌∙◌, arith}
-use Rattle.std.proofs.lemmas.Bool.{eqb-true, leb-true, leb-false}
-use Rattle.std.proofs.lemmas.Option.{same_Some}
-use Rattle.mem80.specs.Memory.{IsMemory}
-use Rattle.trees.specs.declared.declaration.ScalarType.{ScalarType}
-use Rattle.trees.specs.declared.declaration.ScalarType.TheVariants.{Byte, Address}
-use Rattle.meaning.specs.Outcomes.{State as SourceState, Gave, Onward}
-use Rattle.meaning.specs.Values.{values_of}
-use Rattle.isa8080.specs.declared.instr.Condition.TheVariants.{NoCarry}
-use Rattle.isa8080.specs.State.{Registers}
-use Rattle.asm8080.specs.declared.item.WordForm.TheVariants.{JumpWhere}
-use Rattle.treecode.specs.declared.lists.Range.{Range}
-use Rattle.treecode.specs.declared.place.Location.{Location}
+use Rattle.statement_laws.proofs.Prelude.{◌≡◌, ℕ, ◌+◌, ◌%◌, ◌<◌, ◌≤◌, Bool, true, false, not, ◌&&◌, ◌||◌, if◌then◌else◌, is_some, nat_eq, nat_le, List, [], ◌∷◌, ◌++◌, Some, None, refl, sym, ap, subst, ◌∙◌, arith, eqb-true, leb-true, leb-false, same_Some, IsMemory, ScalarType, Byte, Address, SourceState, Gave, Onward, values_of, NoCarry, Registers, JumpWhere, Range, Location, Iteration, IsReady, Does, at_place, Facts, LabelNumber, no_facts, label_of, plain, number, place_in_memory, knowing, Counter, Planned, whole, address_fact, counter_of, counter_place, counts_by_one, word_fact, asked_mark, asked_test_steps, below_steps, counts_in_place, facts_of_turn, first_test_steps, is_byte_type, next_turn_steps, to_known_steps, all, jump, nth_label, load_byte_steps, load_word_steps, site_of, Know, script_of, BodyContext}
 use Rattle.treecode.specs.declared.place.Location.TheVariants as locations
-use Rattle.treecode.specs.declared.statement.Iteration.{Iteration}
-use Rattle.code_meaning.specs.Activations.{IsReady}
-use Rattle.code_meaning.specs.Landing.{Does, at_place}
-use Rattle.steps8080.specs.declared.facts.Facts.{Facts}
-use Rattle.steps8080.specs.declared.step.LabelNumber.{LabelNumber}
 use Rattle.steps8080.specs.declared.step.Step.TheVariants as steps
-use Rattle.steps8080.specs.Facts.{no_facts}
-use Rattle.steps8080.specs.Step.{label_of, plain}
-use Rattle.steps8080.specs.Queries.{number, place_in_memory}
-use Rattle.exprgen8080.specs.Emission.{knowing}
-use Rattle.statements8080.specs.declared.iteration.Counter.{Counter}
-use Rattle.statements8080.specs.declared.plan.Planned.{Planned}
 use Rattle.statements8080.specs.declared.plan.Planned.TheVariants as planned
-use Rattle.statements8080.specs.Bodies.{whole}
-use Rattle.statements8080.specs.Counters.{address_fact, counter_of, counter_place, counts_by_one, word_fact}
-use Rattle.statements8080.specs.Iterations.{asked_mark, asked_test_steps, below_steps, counts_in_place, facts_of_turn, first_test_steps, is_byte_type, next_turn_steps, to_known_steps}
-use Rattle.statements8080.specs.Plans.{all, jump, nth_label}
-use Rattle.codegen8080.specs.Generated.{load_byte_steps, load_word_steps, site_of}
-use Rattle.task_laws.specs.Tasks.{Know}
-use Rattle.task_laws.proofs.Machine.Stages.{script_of}
-use Rattle.statement_laws.specs.Bodies.{BodyContext}
 use Rattle.statement_laws.proofs.Loops.CountedVariables.{variable_address}
 use Rattle.statement_laws.proofs.Loops.EnteredLoops.{enters_surely, enters_then, whole_loop}
 use Rattle.statement_laws.proofs.Loops.FirstStored.{FirstThere, first_stored}

@@ -1,33 +1,6 @@
 -- What code of loops does that comes to a store of the ADDRESS in HL, and to a comparison of it with a number.
-use Rattle.std.proofs.Common.{◌≡◌, ◌≢◌, ℕ, ◌+◌, ◌*◌, ◌/◌, ◌%◌, ◌<◌, Bool, false, nat_lt, List, ◌∷◌, length, slice_set, sym, ap, subst, ◌∙◌, arith}
-use Rattle.std.proofs.lemmas.List.{length-set}
-use Rattle.mem80.specs.declared.memory.TheConstants.{MEMORY_SIZE}
-use Rattle.mem80.specs.Memory.{byte_at}
-use Rattle.ports.specs.declared.event.Event.{Event}
-use Rattle.trees.specs.declared.declaration.ScalarType.TheVariants.{Address}
-use Rattle.meaning.specs.Access.{Place as SourcePlace, write_scalar}
-use Rattle.meaning.specs.Outcomes.{State as SourceState, Outcome, then_do}
-use Rattle.isa8080.specs.Arithmetic.{subtract_of}
-use Rattle.isa8080.specs.Flags.{bit}
-use Rattle.isa8080.specs.State.{Registers, State, high_byte, low_byte, word, wrap}
-use Rattle.asm8080.specs.declared.item.WordForm.TheVariants.{StoreHl}
-use Rattle.asm8080.proofs.Kept.{byte_kept, byte_put}
-use Rattle.treecode.specs.declared.place.Place.{Place}
-use Rattle.code_meaning.specs.Landing.{Does, at_place}
-use Rattle.code_meaning.proofs.ByteResults.{borrow_shows, borrow_shows_more, word_borrow}
-use Rattle.code_meaning.specs.Asking.{IsSteadyByte}
-use Rattle.code_meaning.specs.Holding.{place_at}
-use Rattle.steps8080.specs.declared.facts.Facts.{Facts}
-use Rattle.steps8080.specs.declared.step.Step.{Step}
+use Rattle.statement_laws.proofs.Prelude.{◌≡◌, ◌≢◌, ℕ, ◌+◌, ◌*◌, ◌/◌, ◌%◌, ◌<◌, Bool, false, nat_lt, List, ◌∷◌, length, slice_set, sym, ap, subst, ◌∙◌, arith, length-set, MEMORY_SIZE, byte_at, Event, Address, SourcePlace, write_scalar, SourceState, Outcome, then_do, subtract_of, bit, Registers, State, high_byte, low_byte, word, wrap, StoreHl, byte_kept, byte_put, Place, Does, at_place, borrow_shows, borrow_shows_more, word_borrow, IsSteadyByte, place_at, Facts, Step, after_word, Context, IsSound, WordThere, address_on_machine, FitsIn, word_goes, Stage, script_of, word_written}
 use Rattle.steps8080.specs.declared.step.Step.TheVariants as steps
-use Rattle.steps8080.specs.Facts.{after_word}
-use Rattle.task_laws.specs.Contexts.{Context, IsSound}
-use Rattle.task_laws.specs.Steps.{WordThere}
-use Rattle.task_laws.specs.Tasks.{address_on_machine}
-use Rattle.task_laws.proofs.Places.Reading.{FitsIn}
-use Rattle.task_laws.proofs.Machine.Rules.{word_goes}
-use Rattle.task_laws.proofs.Machine.Stages.{Stage, script_of}
-use Rattle.task_laws.proofs.Stores.WordWriting.{word_written}
 use Rattle.statement_laws.proofs.Loops.LoopCode.{Steps}
 use Rattle.statement_laws.proofs.Loops.LoopMeaning.{scalar_at}
 

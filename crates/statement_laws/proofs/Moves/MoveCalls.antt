@@ -1,34 +1,6 @@
 -- The call of the routine of MOVE.
-use Rattle.std.proofs.Common.{◌≡◌, ℕ, ◌+◌, ◌-◌, ◌<◌, ◌≤◌, true, List, [], ◌∷◌, refl, sym, ap, subst, ◌∙◌, arith}
-use Rattle.mem80.specs.declared.memory.TheConstants.{MEMORY_SIZE}
+use Rattle.statement_laws.proofs.Prelude.{◌≡◌, ℕ, ◌+◌, ◌-◌, ◌<◌, ◌≤◌, true, List, [], ◌∷◌, refl, sym, ap, subst, ◌∙◌, arith, MEMORY_SIZE, IsIn, is_declared, SourceState, Outcome, Gave, then_do, Call, bytes_of, Registers, State, word, wrap, CallTo, InstructionStands, Keeps, below, Move, BlockMisses, HasReturned, IsInBlock, Returns, copied, moved, IsReady, IsVariable, Does, Lands, Told, at_place, told_on, stands_now, no_facts_hold, bytes_alike, stands_in, Facts, CallRoutine, no_facts, jump_item, label_of_routine, Context, IsSound, RoutineIsAt, RoutineThere, NoneThere, in_memory, machine_is, ready_after_routine, small, twice_wrapped, wrapped_once, bytes_at_place, Stage, does_same, script_of}
 use Rattle.mem80.specs.declared.range.Range.{Range}
-use Rattle.mem80.specs.Range.{IsIn}
-use Rattle.meaning.specs.Access.{is_declared}
-use Rattle.meaning.specs.Outcomes.{State as SourceState, Outcome, Gave, then_do}
-use Rattle.isa8080.specs.declared.instr.Instr.TheVariants.{Call}
-use Rattle.isa8080.specs.Code.{bytes_of}
-use Rattle.isa8080.specs.State.{Registers, State, word, wrap}
-use Rattle.asm8080.specs.declared.item.WordForm.TheVariants.{CallTo}
-use Rattle.asm8080.specs.Standing.{InstructionStands, Keeps, below}
-use Rattle.runtime8080.specs.declared.routine.Routine.TheVariants.{Move}
-use Rattle.runtime8080.specs.Routines.{BlockMisses, HasReturned, IsInBlock, Returns, copied}
-use Rattle.meaning.specs.Meaning.{moved}
-use Rattle.code_meaning.specs.Activations.{IsReady, IsVariable}
-use Rattle.code_meaning.specs.Landing.{Does, Lands, Told, at_place}
-use Rattle.code_meaning.proofs.Landing.{told_on}
-use Rattle.code_meaning.proofs.Standing.{stands_now}
-use Rattle.code_meaning.proofs.Facts.Changes.{no_facts_hold}
-use Rattle.asm8080.proofs.Kept.{bytes_alike, stands_in}
-use Rattle.steps8080.specs.declared.facts.Facts.{Facts}
-use Rattle.steps8080.specs.declared.step.Step.TheVariants.{CallRoutine}
-use Rattle.steps8080.specs.Facts.{no_facts}
-use Rattle.steps8080.specs.Writer.{jump_item}
-use Rattle.exprgen8080.specs.Emission.{label_of_routine}
-use Rattle.task_laws.specs.Contexts.{Context, IsSound, RoutineIsAt}
-use Rattle.task_laws.specs.Steps.{RoutineThere, NoneThere}
-use Rattle.task_laws.proofs.Machine.RoutineCalls.{in_memory, machine_is, ready_after_routine, small, twice_wrapped, wrapped_once}
-use Rattle.task_laws.proofs.Machine.Rules.{bytes_at_place}
-use Rattle.task_laws.proofs.Machine.Stages.{Stage, does_same, script_of}
 use Rattle.statement_laws.proofs.Loops.LoopCode.{Steps}
 use Rattle.statement_laws.proofs.Moves.MovedBlocks.{Moved, MovesAll, MovesOutside, copied_ready, declared_in_block, moved_is, variable_in_block}
 

@@ -1,17 +1,5 @@
 -- The bytes that MOVE copies: the source goes outside, or all of them are declared, and those that it writes variables.
-use Rattle.std.proofs.Common.{◌≡◌, ℕ, zero, suc, ◌+◌, ◌<◌, Bool, true, false, if◌then◌else◌, List, slice_set, refl, ap, subst, ◌∙◌, arith}
-use Rattle.mem80.specs.declared.memory.TheConstants.{MEMORY_SIZE}
-use Rattle.mem80.specs.Memory.{byte_at}
-use Rattle.mem80.proofs.MemoryLemmas.{byte_small}
-use Rattle.meaning.specs.declared.reason.Reason.{Reason}
-use Rattle.meaning.specs.declared.reason.Reason.TheVariants.{Byte as UndeclaredByte, Constant}
-use Rattle.meaning.specs.Access.{is_constant, is_declared}
-use Rattle.meaning.specs.Meaning.{moved}
-use Rattle.meaning.specs.Outcomes.{Program, State as SourceState, Outside, Outcome, Gave, Stopped, then_do}
-use Rattle.isa8080.specs.State.{Registers, wrap}
-use Rattle.runtime8080.specs.Routines.{copied}
-use Rattle.code_meaning.specs.Activations.{Activation, IsReady, IsVariable, LiesWell}
-use Rattle.code_meaning.proofs.Stores.{ready_with_variable}
+use Rattle.statement_laws.proofs.Prelude.{◌≡◌, ℕ, zero, suc, ◌+◌, ◌<◌, Bool, true, false, if◌then◌else◌, List, slice_set, refl, ap, subst, ◌∙◌, arith, MEMORY_SIZE, byte_at, byte_small, Reason, UndeclaredByte, Constant, is_constant, is_declared, moved, Program, SourceState, Outside, Outcome, Gave, Stopped, then_do, Registers, wrap, copied, Activation, IsReady, IsVariable, LiesWell, ready_with_variable}
 
 -- all bytes of a block are declared
 abbrev pub AreDeclared : Program → (count source : ℕ) → Type 0

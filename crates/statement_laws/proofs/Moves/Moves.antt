@@ -1,53 +1,9 @@
 -- Code of CALL MOVE does what it says.
-use Rattle.std.proofs.Common.{◌≡◌, ℕ, ◌+◌, ◌-◌, ◌*◌, ◌/◌, ◌%◌, ◌<◌, ◌≤◌, min, max, Bool, true, false, if◌then◌else◌, List, [], ◌∷◌, ◌++◌, map, slice_get, Option, Some, None, refl, sym, ap, subst, ◌∙◌, arith}
-use Rattle.std.proofs.lemmas.Option.{same_Some}
-use Rattle.trees.specs.declared.declaration.ScalarType.{ScalarType}
-use Rattle.trees.specs.declared.declaration.ScalarType.TheVariants.{Address}
-use Rattle.typed_trees.specs.Charge.{height_of, height_of_statement}
-use Rattle.typed_trees.specs.ExpressionTypes.{type_of}
-use Rattle.typed_trees.specs.TypedTrees.{TypedExpression, TypedStatement, MoveStatement}
-use Rattle.typed_trees.specs.WellTyped.{HasType, TypesHoldIn}
-use Rattle.meaning.specs.Meaning.{done, moved}
-use Rattle.meaning.specs.Outcomes.{State as SourceState, Outcome, Gave, then_do, Flow, Onward}
-use Rattle.meaning.specs.Values.{values_of}
-use Rattle.isa8080.specs.declared.instr.Instr.TheVariants.{Pop, Push, Xchg}
-use Rattle.isa8080.specs.declared.instr.Pair.TheVariants.{Bc, De}
-use Rattle.isa8080.specs.declared.instr.StackPair.TheVariants.{StackBc, StackDe, StackHl}
-use Rattle.isa8080.specs.State.{Registers, State, high_byte, low_byte, with_popped, word, wrap}
-use Rattle.asm8080.specs.declared.item.WordForm.TheVariants.{LoadPair}
-use Rattle.runtime8080.specs.declared.routine.Routine.TheVariants.{Move}
-use Rattle.treecode.specs.declared.expression.ExpressionNumber.{ExpressionNumber}
-use Rattle.treecode.specs.declared.place.Place.{Place}
-use Rattle.treecode.specs.declared.statement.Statement.{Statement}
+use Rattle.statement_laws.proofs.Prelude.{◌≡◌, ℕ, ◌+◌, ◌-◌, ◌*◌, ◌/◌, ◌%◌, ◌<◌, ◌≤◌, min, max, Bool, true, false, if◌then◌else◌, List, [], ◌∷◌, ◌++◌, map, slice_get, Option, Some, None, refl, sym, ap, subst, ◌∙◌, arith, same_Some, ScalarType, Address, height_of, height_of_statement, type_of, TypedExpression, TypedStatement, MoveStatement, HasType, TypesHoldIn, done, moved, SourceState, Outcome, Gave, then_do, Flow, Onward, values_of, Pop, Push, Xchg, Bc, De, StackBc, StackDe, StackHl, Registers, State, high_byte, low_byte, with_popped, word, wrap, LoadPair, Move, ExpressionNumber, Place, Statement, StatementNumber, IsExpressionIn, IsMove, IsStatementForm, IsStatementNode, pushed_word, Does, at_place, gives, place_at, Facts, Step, Site, keeps, known, expression, knowing, Planned, ends_steps, move_steps, Here, statement_steps, Context, IsSound, nodes_in, PartThere, PlainThere, WordThere, NoneThere, WordIsGiven, known_small, ready_with_registers, word_goes, known_means, value_in, Stage, at_instructions, at_pop, at_push, at_word, does_same, script_of, BodyContext, IsSoundBody, Leaves, StatementDoes, StatementStands}
 use Rattle.treecode.specs.declared.statement.Statement.TheVariants as statements
-use Rattle.treecode.specs.declared.statement.StatementNumber.{StatementNumber}
-use Rattle.treecode.specs.Lowered.{IsExpressionIn, IsMove, IsStatementForm, IsStatementNode}
-use Rattle.asm8080.proofs.Calls.{pushed as pushed_word}
-use Rattle.code_meaning.specs.Landing.{Does, at_place}
-use Rattle.code_meaning.proofs.Landing.{gives}
-use Rattle.code_meaning.specs.Holding.{place_at}
-use Rattle.steps8080.specs.declared.facts.Facts.{Facts}
-use Rattle.steps8080.specs.declared.step.Step.{Step}
 use Rattle.steps8080.specs.declared.step.Step.TheVariants as steps
 use Rattle.steps8080.specs.declared.step.Task.TheVariants as tasks
-use Rattle.steps8080.specs.declared.sites.site.Site.{Site}
-use Rattle.steps8080.specs.Queries.{keeps, known}
-use Rattle.steps8080.specs.Site.{expression}
-use Rattle.exprgen8080.specs.Emission.{knowing}
-use Rattle.statements8080.specs.declared.plan.Planned.{Planned}
 use Rattle.statements8080.specs.declared.plan.Planned.TheVariants as planned
-use Rattle.statements8080.specs.Moves.{ends_steps, move_steps}
-use Rattle.codegen8080.specs.declared.meeting.Here.{Here}
-use Rattle.codegen8080.specs.Statements.{statement_steps}
-use Rattle.task_laws.specs.Contexts.{Context, IsSound, nodes_in}
-use Rattle.task_laws.specs.Steps.{PartThere, PlainThere, WordThere, NoneThere}
-use Rattle.task_laws.specs.Tasks.{WordIsGiven}
-use Rattle.task_laws.proofs.Machine.KnownOperands.{known_small}
-use Rattle.task_laws.proofs.Machine.Rules.{ready_with_registers, word_goes}
-use Rattle.task_laws.proofs.Machine.SiteNodes.{known_means, value_in}
-use Rattle.task_laws.proofs.Machine.Stages.{Stage, at_instructions, at_pop, at_push, at_word, does_same, script_of}
-use Rattle.statement_laws.specs.Bodies.{BodyContext, IsSoundBody, Leaves}
-use Rattle.statement_laws.specs.Statements.{StatementDoes, StatementStands}
 use Rattle.statement_laws.proofs.Loops.LoopCode.{Steps}
 use Rattle.statement_laws.proofs.Moves.MoveCalls.{move_then}
 use Rattle.statement_laws.proofs.FirstSteps.{Stand, ended}

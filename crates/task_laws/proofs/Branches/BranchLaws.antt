@@ -1,50 +1,8 @@
 -- The code of jumps where a condition holds does so.
-use Rattle.std.proofs.Common.{◌≡◌, ℕ, zero, suc, ◌+◌, ◌-◌, ◌*◌, ◌/◌, ◌%◌, ◌<◌, ◌≤◌, ◌==◌, Bool, true, false, not, ◌&&◌, List, [], ◌∷◌, ◌++◌, Option, Some, None, max, bit_and, bit_or, refl, sym, ap, ◌∙◌, subst, arith, if◌then◌else◌}
-use Rattle.std.proofs.lemmas.Bool.{false≢true}
-use Rattle.std.proofs.lemmas.Option.{none-some, same_Some}
-use lib.Bits.{and_comm, or_comm}
-use Rattle.trees.specs.declared.declaration.ScalarType.{ScalarType}
+use Rattle.task_laws.proofs.Prelude.{◌≡◌, ℕ, zero, suc, ◌+◌, ◌-◌, ◌*◌, ◌/◌, ◌%◌, ◌<◌, ◌≤◌, ◌==◌, Bool, true, false, not, ◌&&◌, List, [], ◌∷◌, ◌++◌, Option, Some, None, max, bit_and, bit_or, refl, sym, ap, ◌∙◌, subst, arith, if◌then◌else◌, false≢true, none-some, same_Some, and_comm, or_comm, ScalarType, BinaryOperator, Not, Negate, Low, High, Double, height_of, type_of, TypedExpression, BinaryNode, TypesHold, computed, SourceState, Outcome, Gave, then_do, as_type, is_true, result_of, result_of_one, truth, values_of, Registers, Expression, ExpressionForm, ExpressionNumber, IsExpression, IsForm, IsNumber, IsValue, IsLocation, IsConstantList, IsConversion, IsEmbedded, IsUnary, IsBinary, IsCallOf, IsFunction, IsShift, IsInput, Facts, LabelNumber, Step, Does, at_place, Comparison, Question, LeftBelow, RightBelow, Equal, Between, Relation, Site, expression, is_quiet, number, agree, question_of, relation_of, fits_byte, SameAs, Opposite, Whatever, Joined, Other, branch_setting, branch_steps, by_bit_steps, equality_steps, is_odd, outcome_branch_steps, shape_of, shape_of_form, shape_steps, other_steps, relation_outcome, relation_steps, equality_of_words, low_difference_steps, words_asked, words_of, words_steps, knowing, jumps_once, Context, IsSound, nodes_in, StepsStand, PartThere, BranchDoes, Parts, PartDoes, in_order}
 use Rattle.trees.specs.declared.declaration.ScalarType.TheVariants as scalars
-use Rattle.trees.specs.declared.expression.BinaryOperator.{BinaryOperator}
 use Rattle.trees.specs.declared.expression.BinaryOperator.TheVariants as operators
-use Rattle.trees.specs.declared.expression.UnaryOperator.TheVariants.{Not, Negate}
-use Rattle.typed_trees.specs.declared.parts.UnaryFunction.TheVariants.{Low, High, Double}
-use Rattle.typed_trees.specs.Charge.{height_of}
-use Rattle.typed_trees.specs.ExpressionTypes.{type_of}
-use Rattle.typed_trees.specs.TypedTrees.{TypedExpression, BinaryNode}
-use Rattle.typed_trees.specs.WellTyped.{TypesHold}
-use Rattle.meaning.specs.Meaning.{computed}
-use Rattle.meaning.specs.Outcomes.{State as SourceState, Outcome, Gave, then_do}
-use Rattle.meaning.specs.Values.{as_type, is_true, result_of, result_of_one, truth, values_of}
-use Rattle.isa8080.specs.State.{Registers}
-use Rattle.treecode.specs.declared.expression.Expression.{Expression}
-use Rattle.treecode.specs.declared.expression.ExpressionForm.{ExpressionForm}
-use Rattle.treecode.specs.declared.expression.ExpressionNumber.{ExpressionNumber}
-use Rattle.treecode.specs.Lowered.{IsExpression, IsForm, IsNumber, IsValue, IsLocation, IsConstantList, IsConversion, IsEmbedded, IsUnary, IsBinary, IsCallOf, IsFunction, IsShift, IsInput}
-use Rattle.steps8080.specs.declared.facts.Facts.{Facts}
-use Rattle.steps8080.specs.declared.step.LabelNumber.{LabelNumber}
-use Rattle.steps8080.specs.declared.step.Step.{Step}
-use Rattle.code_meaning.specs.Landing.{Does, at_place}
-use Rattle.steps8080.specs.declared.sites.questions.Comparison.{Comparison}
-use Rattle.steps8080.specs.declared.sites.questions.Question.{Question}
-use Rattle.steps8080.specs.declared.sites.questions.Question.TheVariants.{LeftBelow, RightBelow, Equal}
-use Rattle.steps8080.specs.declared.sites.questions.Inquiry.TheVariants.{Between}
-use Rattle.steps8080.specs.declared.sites.questions.Relation.{Relation}
-use Rattle.steps8080.specs.declared.sites.site.Site.{Site}
-use Rattle.steps8080.specs.Site.{expression}
-use Rattle.steps8080.specs.Queries.{is_quiet, number}
-use Rattle.steps8080.specs.Questions.{agree, question_of, relation_of}
-use Rattle.steps8080.specs.Widths.{fits_byte}
-use Rattle.operands8080.specs.declared.branches.Branch.{Branch}
-use Rattle.operands8080.specs.declared.branches.Shape.TheVariants.{Known, SameAs, Opposite, Whatever, Joined, Other}
-use Rattle.operands8080.specs.Branches.{branch_setting, branch_steps, by_bit_steps, equality_steps, is_odd, outcome_branch_steps, shape_of, shape_of_form, shape_steps, other_steps}
-use Rattle.operands8080.specs.Relations.{relation_outcome, relation_steps}
-use Rattle.operands8080.specs.WordRelations.{equality_of_words, low_difference_steps, words_asked, words_of, words_steps}
-use Rattle.exprgen8080.specs.Emission.{knowing}
-use Rattle.task_laws.specs.Conditions.{jumps_once}
-use Rattle.task_laws.specs.Contexts.{Context, IsSound, nodes_in}
-use Rattle.task_laws.specs.Steps.{StepsStand, PartThere}
-use Rattle.task_laws.specs.Tasks.{BranchDoes, Parts, PartDoes}
+use Rattle.operands8080.specs.{declared.branches.Branch.{Branch}, declared.branches.Shape.TheVariants.{Known}}
 use Rattle.task_laws.proofs.Relations.Answers.{relation_gives}
 use Rattle.task_laws.proofs.Branches.Branches.{bit_jumps, given_itself, relation_jumps, truth_is_true}
 use Rattle.task_laws.proofs.Bytes.BytesAsked.{BytesAsked}
@@ -53,7 +11,6 @@ use Rattle.task_laws.proofs.Branches.Conditions.{joined_jumps, only_part, part_j
 use Rattle.task_laws.proofs.Relations.EqualityJumps.{equal_jumps}
 use Rattle.task_laws.proofs.Relations.EqualityRelations.{words_come}
 use Rattle.task_laws.proofs.Branches.Jumps.{jumps_known}
-use Rattle.treecode_laws.proofs.Exchanging.{in_order}
 use Rattle.task_laws.proofs.Relations.LowestBits.{and_with_one, and_with_zero, complement_turns_bit, low_keeps_bit, negation_keeps_bit, or_with_one, or_with_zero, type_keeps_bit}
 use Rattle.task_laws.proofs.Machine.Nodes.{node_of}
 use Rattle.task_laws.proofs.Relations.Relations.{IsRelation, Relates, between, between_is, in_order_of, relation_is}

@@ -1,29 +1,8 @@
 -- Code that jumps where a condition holds.
-use Rattle.std.proofs.Common.{◌≡◌, ℕ, ◌*◌, ◌%◌, ◌≤◌, ◌==◌, Bool, true, false, not, List, ◌++◌, refl, sym, ap, ◌∙◌, arith}
-use Rattle.typed_trees.specs.Charge.{height_of}
-use Rattle.typed_trees.specs.TypedTrees.{TypedExpression}
-use Rattle.typed_trees.specs.WellTyped.{TypesHold}
-use Rattle.meaning.specs.Outcomes.{State as SourceState, Outcome, Gave, Stopped, then_do}
-use Rattle.meaning.specs.Values.{is_true, truth}
-use Rattle.isa8080.specs.declared.instr.Condition.{Condition}
-use Rattle.isa8080.specs.declared.instr.Condition.TheVariants.{NotZero, Zero, NoCarry, Carry}
-use Rattle.isa8080.specs.Arithmetic.{rotate_right_of}
-use Rattle.isa8080.specs.State.{Registers}
-use Rattle.treecode.specs.declared.expression.ExpressionNumber.{ExpressionNumber}
-use Rattle.treecode.specs.Lowered.{IsExpression}
-use Rattle.steps8080.specs.declared.facts.Facts.{Facts}
-use Rattle.code_meaning.specs.Landing.{Does, at_place}
-use Rattle.steps8080.specs.declared.sites.questions.Relation.{Relation}
+use Rattle.task_laws.proofs.Prelude.{◌≡◌, ℕ, ◌*◌, ◌%◌, ◌≤◌, ◌==◌, Bool, true, false, not, List, ◌++◌, refl, sym, ap, ◌∙◌, arith, height_of, TypedExpression, TypesHold, SourceState, Outcome, Gave, Stopped, then_do, is_true, truth, Condition, NotZero, NoCarry, rotate_right_of, Registers, ExpressionNumber, IsExpression, Facts, Does, at_place, Relation, Shown, Known, Where, branch_setting, by_bit_steps, outcome_branch_steps, relation_outcome, relation_steps, knowing, Context, IsSound, nodes_in, StepsStand, PartThere, PlainThere, Parts, PartDoes}
+use Rattle.isa8080.specs.declared.instr.Condition.TheVariants.{Zero, Carry}
 use Rattle.operands8080.specs.declared.answers.Purpose.TheVariants as purposes
 use Rattle.operands8080.specs.declared.branches.Branch.{Branch}
-use Rattle.operands8080.specs.declared.relations.Outcome.{Outcome as Shown}
-use Rattle.operands8080.specs.declared.relations.Outcome.TheVariants.{Known, Where}
-use Rattle.operands8080.specs.Branches.{branch_setting, by_bit_steps, outcome_branch_steps}
-use Rattle.operands8080.specs.Relations.{relation_outcome, relation_steps}
-use Rattle.exprgen8080.specs.Emission.{knowing}
-use Rattle.task_laws.specs.Contexts.{Context, IsSound, nodes_in}
-use Rattle.task_laws.specs.Steps.{StepsStand, PartThere, PlainThere}
-use Rattle.task_laws.specs.Tasks.{Parts, PartDoes}
 use Rattle.task_laws.proofs.Bytes.BytesAsked.{BytesAsked}
 use Rattle.task_laws.proofs.Branches.Jumps.{jumps_known, jumps_where}
 use Rattle.task_laws.proofs.Relations.Relations.{IsRelation, OutcomeShows, relation_shown}

@@ -1,31 +1,8 @@
 -- Conditions whose lowest bit is that of a part, or of both.
-use Rattle.std.proofs.Common.{◌≡◌, ℕ, ◌*◌, ◌≤◌, Bool, true, false, not, List, [], ◌∷◌, refl, sym, ap, ◌∙◌, subst, arith, if◌then◌else◌}
-use Rattle.std.proofs.lemmas.Bool.{false≢true}
-use Rattle.typed_trees.specs.Charge.{height_of}
-use Rattle.typed_trees.specs.TypedTrees.{TypedExpression}
-use Rattle.typed_trees.specs.WellTyped.{TypesHold}
-use Rattle.meaning.specs.Outcomes.{State as SourceState, Outcome, Gave, then_do}
-use Rattle.meaning.specs.Values.{is_true}
-use Rattle.isa8080.specs.State.{Registers, State}
-use Rattle.treecode.specs.declared.expression.ExpressionNumber.{ExpressionNumber}
-use Rattle.treecode.specs.Lowered.{IsExpression}
-use Rattle.steps8080.specs.declared.facts.Facts.{Facts}
-use Rattle.steps8080.specs.declared.step.LabelNumber.{LabelNumber}
-use Rattle.steps8080.specs.declared.step.Part.{Part}
+use Rattle.task_laws.proofs.Prelude.{◌≡◌, ℕ, ◌*◌, ◌≤◌, Bool, true, false, not, List, [], ◌∷◌, refl, sym, ap, ◌∙◌, subst, arith, if◌then◌else◌, false≢true, height_of, TypedExpression, TypesHold, SourceState, Outcome, Gave, then_do, is_true, Registers, State, ExpressionNumber, IsExpression, Facts, LabelNumber, Part, label_of, Does, at_place, after_step, gives, no_facts_hold, Found, Fails, IsQuiet, outcome_of, in_order, branch_part, joined_steps, agree, jumps_once, Context, nodes_in, StepsStand, NoneThere, PartThere, MarkThere, BranchDoes, Know, Parts, Goes, Passes, PartDoes}
 use Rattle.steps8080.specs.declared.step.Step.TheVariants as steps
-use Rattle.steps8080.specs.Step.{label_of}
-use Rattle.code_meaning.specs.Landing.{Does, at_place}
-use Rattle.code_meaning.proofs.Landing.{after_step, gives}
-use Rattle.code_meaning.proofs.Facts.Changes.{no_facts_hold}
-use Rattle.treecode_laws.specs.internal.Evaluations.{Answer, Found, Fails, IsQuiet, outcome_of}
-use Rattle.treecode_laws.proofs.Exchanging.{in_order}
+use Rattle.treecode_laws.specs.internal.Evaluations.{Answer}
 use Rattle.operands8080.specs.declared.branches.Branch.{Branch}
-use Rattle.operands8080.specs.Branches.{branch_part, joined_steps}
-use Rattle.steps8080.specs.Questions.{agree}
-use Rattle.task_laws.specs.Conditions.{jumps_once}
-use Rattle.task_laws.specs.Contexts.{Context, nodes_in}
-use Rattle.task_laws.specs.Steps.{StepsStand, NoneThere, PartThere, MarkThere}
-use Rattle.task_laws.specs.Tasks.{BranchDoes, Know, Parts, Goes, Passes, PartDoes}
 use Rattle.task_laws.proofs.Machine.SiteNodes.{value_in}
 use Rattle.task_laws.proofs.Machine.Stages.{Stage, does_same, has_less_room, script_of, then_does_where}
 

@@ -1,27 +1,8 @@
 -- Jumps by flags, and without them.
-use Rattle.std.proofs.Common.{◌≡◌, ℕ, ◌+◌, Bool, true, false, not, List, [], ◌∷◌, refl, sym, ap, ◌∙◌, if◌then◌else◌}
-use Rattle.typed_trees.specs.TypedTrees.{TypedExpression}
-use Rattle.meaning.specs.Outcomes.{State as SourceState, Gave}
-use Rattle.meaning.specs.Values.{is_true}
-use Rattle.isa8080.specs.declared.instr.Condition.{Condition}
-use Rattle.isa8080.specs.declared.instr.Condition.TheVariants.{NotZero, Zero, NoCarry, Carry, ParityOdd, ParityEven, Plus, Minus}
-use Rattle.isa8080.specs.declared.registers.Flags.{Flags}
-use Rattle.isa8080.specs.State.{Registers, holds}
-use Rattle.asm8080.specs.declared.item.Reference.TheVariants.{AtLabel}
+use Rattle.task_laws.proofs.Prelude.{◌≡◌, ℕ, ◌+◌, Bool, true, false, not, List, [], ◌∷◌, refl, sym, ap, ◌∙◌, if◌then◌else◌, TypedExpression, SourceState, Gave, is_true, Condition, NotZero, NoCarry, ParityOdd, ParityEven, Plus, Minus, Flags, Registers, holds, AtLabel, Facts, LabelNumber, Jump, Does, at_place, jump_passed, word_step, gives, no_facts_hold, known_branch_steps, opposite_condition, where_flags_steps, agree, Context, IsSound, StepsStand, JumpThere, NoneThere, Parts, Goes, Passes, PartDoes}
+use Rattle.isa8080.specs.declared.instr.Condition.TheVariants.{Zero, Carry}
 use Rattle.asm8080.specs.declared.item.WordForm.TheVariants as forms
-use Rattle.steps8080.specs.declared.facts.Facts.{Facts}
-use Rattle.steps8080.specs.declared.step.LabelNumber.{LabelNumber}
-use Rattle.steps8080.specs.declared.step.Step.TheVariants.{Jump}
-use Rattle.code_meaning.specs.Landing.{Does, at_place}
-use Rattle.code_meaning.proofs.FirstItems.{jump_passed, word_step}
-use Rattle.code_meaning.proofs.Landing.{gives}
-use Rattle.code_meaning.proofs.Facts.Changes.{no_facts_hold}
 use Rattle.operands8080.specs.declared.branches.Branch.{Branch}
-use Rattle.operands8080.specs.Branches.{known_branch_steps, opposite_condition, where_flags_steps}
-use Rattle.steps8080.specs.Questions.{agree}
-use Rattle.task_laws.specs.Contexts.{Context, IsSound}
-use Rattle.task_laws.specs.Steps.{StepsStand, JumpThere, NoneThere}
-use Rattle.task_laws.specs.Tasks.{Parts, Goes, Passes, PartDoes}
 use Rattle.task_laws.proofs.Machine.Stages.{Stage, at_end, script_of}
 
 -- a machine that has come to the end of code that jumps

@@ -1,5 +1,5 @@
 -- What the laws of comparisons and branches ask is met.
-use Rattle.task_laws.specs.Contexts.{Context, IsSound}
+use Rattle.task_laws.proofs.Prelude.{Context, IsSound}
 use Rattle.task_laws.proofs.Bytes.BytesAsked.{BytesAsked}
 use Rattle.task_laws.proofs.Bytes.GivenPairs.{pairs_given}
 use Rattle.task_laws.proofs.Bytes.HighBytesAsked.{high_bytes_given, words_at_places}

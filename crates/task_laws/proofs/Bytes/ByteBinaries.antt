@@ -1,45 +1,8 @@
 -- The low byte of operators with two operands.
-use Rattle.std.proofs.Common.{◌≡◌, ℕ, ◌-◌, ◌*◌, ◌%◌, ◌<◌, ◌&&◌, Bool, true, false, [], ◌∷◌, ◌++◌, Option, Some, None, is_some, option_map, refl, sym, ap, ◌∙◌, subst, arith}
-use Rattle.std.proofs.lemmas.Bool.{and_parts, false≢true}
-use Rattle.std.proofs.lemmas.Option.{none-some}
-use Rattle.trees.specs.declared.declaration.ScalarType.{ScalarType}
+use Rattle.task_laws.proofs.Prelude.{◌≡◌, ℕ, ◌-◌, ◌*◌, ◌%◌, ◌<◌, ◌&&◌, Bool, true, false, [], ◌∷◌, ◌++◌, Option, Some, None, is_some, option_map, refl, sym, ap, ◌∙◌, subst, arith, and_parts, false≢true, none-some, ScalarType, BinaryOperator, ShiftFunction, RotateLeft, RotateRight, ShiftLeft, ShiftRight, type_of, type_of_result, BinaryNode, ShiftNode, TypedExpression, ShiftsIn, TypesHold, computed, Gave, then_do, result_of, shifted, turned, values_of, Operation, Add, Subtract, And, ExclusiveOr, Or, Expression, ExpressionForm, ExpressionNumber, Number, IsExpression, free_at, has_immediate, is_free_form, is_free_with, is_of_low_byte, known_of, memory_of_form, number_at, Facts, CallRoutine, low, Relation, is_free, number_of, relation_of, relation_of_form, scalar_of, fits_byte, fits_byte_by, low_number, byte_product_steps, outcome_value_steps, relation_outcome, relation_steps, relation_value_steps, value_setting, byte_binary_steps, byte_operation_steps, form_of, from_number_steps, in_form_steps, product_byte_steps, with_number_steps, by_number_steps, byte_routine, byte_shift_steps, operands_steps, knowing, low_of_word_steps, Context, IsSound, nodes_in, StepsStand, PartDoes}
 use Rattle.trees.specs.declared.declaration.ScalarType.TheVariants as scalars
-use Rattle.trees.specs.declared.expression.BinaryOperator.{BinaryOperator}
 use Rattle.trees.specs.declared.expression.BinaryOperator.TheVariants as operators
-use Rattle.typed_trees.specs.declared.parts.ShiftFunction.{ShiftFunction}
-use Rattle.typed_trees.specs.declared.parts.ShiftFunction.TheVariants.{RotateLeft, RotateRight, ShiftLeft, ShiftRight}
-use Rattle.typed_trees.specs.ExpressionTypes.{type_of, type_of_result}
-use Rattle.typed_trees.specs.TypedTrees.{BinaryNode, ShiftNode, TypedExpression}
-use Rattle.typed_trees.specs.WellTyped.{ShiftsIn, TypesHold}
-use Rattle.meaning.specs.Meaning.{computed}
-use Rattle.meaning.specs.Outcomes.{Gave, then_do}
-use Rattle.meaning.specs.Values.{result_of, shifted, turned, values_of}
-use Rattle.isa8080.specs.declared.instr.Operation.{Operation}
-use Rattle.isa8080.specs.declared.instr.Operation.TheVariants.{Add, Subtract, And, ExclusiveOr, Or}
-use Rattle.treecode.specs.declared.expression.Expression.{Expression}
-use Rattle.treecode.specs.declared.expression.ExpressionForm.{ExpressionForm}
 use Rattle.treecode.specs.declared.expression.ExpressionForm.TheVariants as forms
-use Rattle.treecode.specs.declared.expression.ExpressionNumber.{ExpressionNumber}
-use Rattle.treecode.specs.declared.place.Place.TheVariants.{Number}
-use Rattle.treecode.specs.Lowered.{IsExpression}
-use Rattle.treecode.specs.Traits.{free_at, has_immediate, is_free_form, is_free_with, is_of_low_byte, known_of, memory_of_form, number_at}
-use Rattle.steps8080.specs.declared.facts.Facts.{Facts}
-use Rattle.steps8080.specs.declared.step.Step.TheVariants.{CallRoutine}
-use Rattle.steps8080.specs.Instructions.{low}
-use Rattle.steps8080.specs.declared.sites.questions.Relation.{Relation}
-use Rattle.steps8080.specs.Queries.{is_free, number as number_of}
-use Rattle.steps8080.specs.Questions.{relation_of, relation_of_form}
-use Rattle.steps8080.specs.Site.{scalar as scalar_of}
-use Rattle.steps8080.specs.Widths.{fits_byte, fits_byte_by, low_number}
-use Rattle.operands8080.specs.Products.{byte_product_steps}
-use Rattle.operands8080.specs.Relations.{outcome_value_steps, relation_outcome, relation_steps, relation_value_steps, value_setting}
-use Rattle.exprgen8080.specs.ByteOperators.{byte_binary_steps, byte_operation_steps, form_of, from_number_steps, in_form_steps, product_byte_steps, with_number_steps}
-use Rattle.exprgen8080.specs.ByteShifts.{by_number_steps, byte_routine, byte_shift_steps, operands_steps}
-use Rattle.exprgen8080.specs.Emission.{knowing}
-use Rattle.exprgen8080.specs.Halves.{low_of_word_steps}
-use Rattle.task_laws.specs.Contexts.{Context, IsSound, nodes_in}
-use Rattle.task_laws.specs.Steps.{StepsStand}
-use Rattle.task_laws.specs.Tasks.{PartDoes}
 use Rattle.task_laws.proofs.Bytes.ByteCode.{ByteCarried, OfOne}
 use Rattle.task_laws.proofs.Bytes.ByteNumbers.{from_number, low_of_result, with_number}
 use Rattle.task_laws.proofs.Bytes.ByteProducts.{product_by_number}

@@ -1,34 +1,6 @@
 -- The low byte of a value that has one part whose value counts: code on registers follows that of the part.
-use Rattle.std.proofs.Common.{◌≡◌, ℕ, zero, suc, ◌*◌, ◌/◌, ◌%◌, ◌<◌, ◌≤◌, Bool, true, false, List, [], ◌∷◌, replicate, refl, sym, ap, ◌∙◌, subst, arith}
-use Rattle.std.proofs.lemmas.Bool.{false≢true}
-use Rattle.typed_trees.specs.Charge.{height_of}
-use Rattle.typed_trees.specs.ExpressionTypes.{type_of}
-use Rattle.typed_trees.specs.TypedTrees.{TypedExpression}
-use Rattle.typed_trees.specs.WellTyped.{TypesHold}
-use Rattle.meaning.specs.Outcomes.{State as SourceState, Ended, More, Outside, Outcome, Gave, Stopped, then_do}
-use Rattle.meaning.specs.Values.{values_of}
-use Rattle.isa8080.specs.declared.instr.Instr.{Instr}
-use Rattle.isa8080.specs.declared.instr.Instr.TheVariants.{Dcr, Inr}
-use Rattle.isa8080.specs.declared.instr.Operand.TheVariants.{Of}
-use Rattle.isa8080.specs.declared.instr.Register.TheVariants.{A}
-use Rattle.isa8080.specs.declared.registers.Flags.{Flags}
-use Rattle.isa8080.specs.Arithmetic.{decrement_of, increment_of}
-use Rattle.isa8080.specs.State.{Registers, State}
-use Rattle.runtime8080.proofs.Bits.{times}
-use Rattle.treecode.specs.declared.expression.ExpressionNumber.{ExpressionNumber}
-use Rattle.treecode.specs.Lowered.{IsExpression}
-use Rattle.steps8080.specs.declared.facts.Facts.{Facts}
-use Rattle.steps8080.specs.declared.step.Part.{Part}
-use Rattle.steps8080.specs.declared.step.Step.{Step}
+use Rattle.task_laws.proofs.Prelude.{◌≡◌, ℕ, zero, suc, ◌*◌, ◌/◌, ◌%◌, ◌<◌, ◌≤◌, Bool, true, false, List, [], ◌∷◌, replicate, refl, sym, ap, ◌∙◌, subst, arith, false≢true, height_of, type_of, TypedExpression, TypesHold, SourceState, Ended, More, Outside, Outcome, Gave, Stopped, then_do, values_of, Instr, Dcr, Inr, Of, A, Flags, decrement_of, increment_of, Registers, State, times, ExpressionNumber, IsExpression, Facts, Part, Step, part, plain, Arrives, Does, Lands, at_place, gives, is_free, Context, IsSound, SourceFits, nodes_in, StepsStand, PartThere, PlainThere, ByteIsGiven, Carries, ChangesAOnly, EffectsDo, Know, Nothing, PartDoes}
 use Rattle.steps8080.specs.declared.step.Task.TheVariants as tasks
-use Rattle.steps8080.specs.Step.{part, plain}
-use Rattle.code_meaning.specs.Activations.{Arrives}
-use Rattle.code_meaning.specs.Landing.{Does, Lands, at_place}
-use Rattle.code_meaning.proofs.Landing.{gives}
-use Rattle.steps8080.specs.Queries.{is_free}
-use Rattle.task_laws.specs.Contexts.{Context, IsSound, SourceFits, nodes_in}
-use Rattle.task_laws.specs.Steps.{StepsStand, PartThere, PlainThere}
-use Rattle.task_laws.specs.Tasks.{ByteIsGiven, Carries, ChangesAOnly, EffectsDo, Know, Nothing, PartDoes}
 use Rattle.task_laws.proofs.Bytes.ByteForms.{byte_given}
 use Rattle.task_laws.proofs.Ranges.Ranges.{ready_fits}
 use Rattle.task_laws.proofs.Machine.RegisterCode.{AreOnRegisters, IsOnRegisters, does_to, effect}

@@ -1,36 +1,6 @@
 -- The low byte of a value that has one part: conversions, LOW, DOUBLE, NOT and `-`.
-use Rattle.std.proofs.Common.{◌≡◌, ℕ, ◌+◌, ◌-◌, ◌*◌, ◌%◌, ◌<◌, ◌≤◌, true, List, [], ◌∷◌, Option, None, refl, ap, ◌∙◌, arith}
-use Rattle.std.specs.Option.{option_map_or}
-use Rattle.trees.specs.declared.declaration.ScalarType.{ScalarType}
-use Rattle.trees.specs.declared.declaration.ScalarType.TheVariants.{Byte, Address}
-use Rattle.trees.specs.declared.expression.UnaryOperator.TheVariants.{Not, Negate}
-use Rattle.typed_trees.specs.Charge.{height_of}
-use Rattle.typed_trees.specs.ExpressionTypes.{type_of}
-use Rattle.typed_trees.specs.TypedTrees.{TypedExpression}
-use Rattle.typed_trees.specs.WellTyped.{TypesHold}
-use Rattle.meaning.specs.Outcomes.{State as SourceState, Gave, then_do}
-use Rattle.meaning.specs.Values.{as_type, result_of_one, values_of}
-use Rattle.isa8080.specs.declared.instr.Instr.TheVariants.{Cma, Inr}
-use Rattle.isa8080.specs.declared.instr.Operand.TheVariants.{Of}
-use Rattle.isa8080.specs.declared.instr.Register.TheVariants.{A}
-use Rattle.isa8080.specs.Arithmetic.{increment_of}
-use Rattle.isa8080.specs.State.{Registers}
-use Rattle.treecode.specs.declared.expression.Expression.{Expression}
-use Rattle.treecode.specs.declared.expression.ExpressionNumber.{ExpressionNumber}
-use Rattle.treecode.specs.declared.place.Place.{Place}
-use Rattle.treecode.specs.Lowered.{IsExpression}
-use Rattle.treecode.specs.Traits.{is_free_form, is_free_of, known_of, no_traits, traits_of}
-use Rattle.steps8080.specs.declared.facts.Facts.{Facts}
-use Rattle.steps8080.specs.declared.step.Step.TheVariants.{Plain}
+use Rattle.task_laws.proofs.Prelude.{◌≡◌, ℕ, ◌+◌, ◌-◌, ◌*◌, ◌%◌, ◌<◌, ◌≤◌, true, List, [], ◌∷◌, Option, None, refl, ap, ◌∙◌, arith, option_map_or, ScalarType, Byte, Address, Not, Negate, height_of, type_of, TypedExpression, TypesHold, SourceState, Gave, then_do, as_type, result_of_one, values_of, Cma, Inr, Of, A, increment_of, Registers, Expression, ExpressionNumber, Place, IsExpression, is_free_form, is_free_of, known_of, no_traits, traits_of, Facts, Plain, part, Arrives, Does, at_place, gives, is_free, Context, IsSound, nodes_in, StepsStand, PartThere, PlainThere, ByteIsGiven, Carries, ChangesAOnly, Nothing, PartDoes}
 use Rattle.steps8080.specs.declared.step.Task.TheVariants as tasks
-use Rattle.steps8080.specs.Step.{part}
-use Rattle.code_meaning.specs.Activations.{Arrives}
-use Rattle.code_meaning.specs.Landing.{Does, at_place}
-use Rattle.code_meaning.proofs.Landing.{gives}
-use Rattle.steps8080.specs.Queries.{is_free}
-use Rattle.task_laws.specs.Contexts.{Context, IsSound, nodes_in}
-use Rattle.task_laws.specs.Steps.{StepsStand, PartThere, PlainThere}
-use Rattle.task_laws.specs.Tasks.{ByteIsGiven, Carries, ChangesAOnly, Nothing, PartDoes}
 use Rattle.task_laws.proofs.Machine.Nodes.{NodeOf}
 use Rattle.task_laws.proofs.Machine.SiteNodes.{free_is, value_in}
 use Rattle.task_laws.proofs.Machine.Stages.{Stage, at_a, at_byte, at_end, script_of}

@@ -1,36 +1,5 @@
 -- The low byte of a value that is known but for where things lie.
-use Rattle.std.proofs.Common.{◌≡◌, ℕ, ◌/◌, ◌%◌, ◌<◌, true, false, [], ◌∷◌, Option, Some, None, is_some, refl, sym, ap, ◌∙◌, subst, arith}
-use Rattle.std.proofs.lemmas.Bool.{false≢true}
-use Rattle.std.specs.Option.{option_map_or}
-use Rattle.trees.specs.declared.declaration.ScalarType.TheVariants.{Byte}
-use Rattle.typed_trees.specs.ExpressionTypes.{type_of}
-use Rattle.typed_trees.specs.TypedTrees.{TypedExpression}
-use Rattle.typed_trees.specs.WellTyped.{TypesHold}
-use Rattle.meaning.specs.Values.{values_of}
-use Rattle.isa8080.specs.declared.instr.Register.TheVariants.{A, L}
-use Rattle.isa8080.specs.State.{Registers}
-use Rattle.asm8080.specs.declared.item.WordForm.TheVariants.{LoadPair}
-use Rattle.isa8080.specs.declared.instr.Pair.TheVariants.{Hl}
-use Rattle.treecode.specs.declared.expression.Expression.{Expression}
-use Rattle.treecode.specs.declared.expression.ExpressionNumber.{ExpressionNumber}
-use Rattle.treecode.specs.declared.place.Place.{Place}
-use Rattle.treecode.specs.declared.place.Place.TheVariants.{Number, Code, Data, External}
-use Rattle.treecode.specs.Homes.{number_of_place}
-use Rattle.treecode.specs.Lowered.{IsExpression}
-use Rattle.treecode.specs.Queries.{place_number}
-use Rattle.treecode.specs.Traits.{is_free_of, known_of, no_traits, traits_of}
-use Rattle.treecode.proofs.KeptValues.{known_kept}
-use Rattle.code_meaning.specs.Holding.{place_at}
-use Rattle.steps8080.specs.declared.facts.Facts.{Facts}
-use Rattle.steps8080.specs.declared.step.Step.TheVariants.{Plain, Word}
-use Rattle.steps8080.specs.Instructions.{copy, low}
-use Rattle.steps8080.specs.Queries.{is_free, known}
-use Rattle.exprgen8080.specs.Bytes.{known_byte_steps}
-use Rattle.exprgen8080.specs.Emission.{knowing}
-use Rattle.exprgen8080.specs.Halves.{byte_number_steps}
-use Rattle.task_laws.specs.Contexts.{Context, IsSound, nodes_in}
-use Rattle.task_laws.specs.Steps.{StepsStand, WordThere}
-use Rattle.task_laws.specs.Tasks.{PartDoes}
+use Rattle.task_laws.proofs.Prelude.{◌≡◌, ℕ, ◌/◌, ◌%◌, ◌<◌, true, false, [], ◌∷◌, Option, Some, None, is_some, refl, sym, ap, ◌∙◌, subst, arith, false≢true, option_map_or, Byte, type_of, TypedExpression, TypesHold, values_of, A, L, Registers, LoadPair, Hl, Expression, ExpressionNumber, Place, Number, Code, Data, External, number_of_place, IsExpression, place_number, is_free_of, known_of, no_traits, traits_of, known_kept, place_at, Facts, Plain, Word, copy, low, is_free, known, known_byte_steps, knowing, byte_number_steps, Context, IsSound, nodes_in, StepsStand, WordThere, PartDoes}
 use Rattle.task_laws.proofs.Bytes.ByteCode.{ByteCarried, at_last_instructions, changes_on}
 use Rattle.task_laws.proofs.Bytes.ByteForms.{byte_given}
 use Rattle.task_laws.proofs.Bytes.HighHalves.{byte_number_code}

@@ -1,30 +1,7 @@
 -- The low byte of an operator with a number.
-use Rattle.std.proofs.Common.{◌≡◌, ℕ, ◌+◌, ◌-◌, ◌%◌, ◌<◌, ◌==◌, Bool, true, false, List, [], ◌∷◌, bit_and, bit_or, bit_xor, refl, sym, ap, ◌∙◌, arith, if◌then◌else◌}
-use Rattle.std.proofs.lemmas.Bool.{eqb-true}
-use Rattle.std.specs.Int.Bits.{and_zero_r, xor_self}
-use lib.Bits.{and_comm, and_mod, or_comm, or_mod, xor_comm, xor_mod}
-use Rattle.trees.specs.declared.declaration.ScalarType.{ScalarType}
+use Rattle.task_laws.proofs.Prelude.{◌≡◌, ℕ, ◌+◌, ◌-◌, ◌%◌, ◌<◌, ◌==◌, Bool, true, false, List, [], ◌∷◌, bit_and, bit_or, bit_xor, refl, sym, ap, ◌∙◌, arith, if◌then◌else◌, eqb-true, and_zero_r, xor_self, and_comm, and_mod, or_comm, or_mod, xor_comm, xor_mod, ScalarType, TypedExpression, values_of, AccumulateImmediate, Cma, Dcr, Inr, Of, Operation, Add, AddWithCarry, Subtract, SubtractWithBorrow, And, ExclusiveOr, Or, Compare, A, Registers, ExpressionNumber, Facts, Step, Plain, clear_a, set, part, added_steps, commutes, from_number_steps, immediate_steps, with_number_steps, byte_number_steps, Context, IsSound, StepsStand, PartDoes}
 use Rattle.trees.specs.declared.declaration.ScalarType.TheVariants as scalars
-use Rattle.typed_trees.specs.TypedTrees.{TypedExpression}
-use Rattle.meaning.specs.Values.{values_of}
-use Rattle.isa8080.specs.declared.instr.Instr.TheVariants.{AccumulateImmediate, Cma, Dcr, Inr}
-use Rattle.isa8080.specs.declared.instr.Operand.TheVariants.{Of}
-use Rattle.isa8080.specs.declared.instr.Operation.{Operation}
-use Rattle.isa8080.specs.declared.instr.Operation.TheVariants.{Add, AddWithCarry, Subtract, SubtractWithBorrow, And, ExclusiveOr, Or, Compare}
-use Rattle.isa8080.specs.declared.instr.Register.TheVariants.{A}
-use Rattle.isa8080.specs.State.{Registers}
-use Rattle.treecode.specs.declared.expression.ExpressionNumber.{ExpressionNumber}
-use Rattle.steps8080.specs.declared.facts.Facts.{Facts}
-use Rattle.steps8080.specs.declared.step.Step.{Step}
-use Rattle.steps8080.specs.declared.step.Step.TheVariants.{Plain}
 use Rattle.steps8080.specs.declared.step.Task.TheVariants as tasks
-use Rattle.steps8080.specs.Instructions.{clear_a, set}
-use Rattle.steps8080.specs.Step.{part}
-use Rattle.exprgen8080.specs.ByteOperators.{added_steps, commutes, from_number_steps, immediate_steps, with_number_steps}
-use Rattle.exprgen8080.specs.Halves.{byte_number_steps}
-use Rattle.task_laws.specs.Contexts.{Context, IsSound}
-use Rattle.task_laws.specs.Steps.{StepsStand}
-use Rattle.task_laws.specs.Tasks.{PartDoes}
 use Rattle.task_laws.proofs.Bytes.ByteCode.{ByteCarried, CodeOfA, OfOne, beside_a, beside_itself, beside_on, byte_alone, byte_by_code}
 use Rattle.task_laws.proofs.Words.LogicNumbers.{and_full, or_full, or_none, xor_full, xor_none}
 use Rattle.task_laws.proofs.Bytes.TwoBytes.{IsSimple, result_by}

@@ -1,40 +1,6 @@
 -- An operation of the low bytes of two values, in each of the ways in which these come to it.
-use Rattle.std.proofs.Common.{◌≡◌, ℕ, ◌+◌, ◌*◌, ◌/◌, ◌%◌, ◌<◌, ◌≤◌, true, List, [], ◌∷◌, Some, refl, sym, ap, ◌∙◌, subst, arith}
-use Rattle.std.proofs.lemmas.Option.{cond_some, option_and_then_some}
-use Rattle.std.proofs.lemmas.Nat.{or_of_8, xor_of_8}
-use lib.Bits.{and_le_l}
-use Rattle.mem80.specs.Memory.{byte_at}
-use Rattle.typed_trees.specs.Charge.{height_of}
-use Rattle.typed_trees.specs.ExpressionTypes.{type_of}
-use Rattle.typed_trees.specs.TypedTrees.{TypedExpression, NumberNode, ValueNode, LocationNode, ListNode, ConversionNode, AssignmentNode, UnaryNode, BinaryNode, CallNode, FunctionNode, ShiftNode, InputNode, PartOf}
-use Rattle.typed_trees.specs.WellTyped.{TypesHold}
-use Rattle.meaning.specs.Outcomes.{State as SourceState, Outcome, Gave}
-use Rattle.meaning.specs.Values.{values_of}
-use Rattle.isa8080.specs.declared.instr.Instr.TheVariants.{Pop, Push}
-use Rattle.isa8080.specs.declared.instr.Operation.{Operation}
-use Rattle.isa8080.specs.declared.instr.Operation.TheVariants.{Add, AddWithCarry, Subtract, SubtractWithBorrow, And, ExclusiveOr, Or, Compare}
-use Rattle.isa8080.specs.declared.instr.Register.TheVariants.{A, B, E}
-use Rattle.isa8080.specs.declared.instr.StackPair.TheVariants.{Psw, StackBc}
-use Rattle.isa8080.specs.declared.registers.Flags.{Flags}
-use Rattle.isa8080.specs.Arithmetic.{operate}
-use Rattle.isa8080.specs.Flags.{flag_byte}
-use Rattle.isa8080.specs.State.{Registers, State, with_popped, word, wrap}
-use Rattle.treecode.specs.declared.expression.ExpressionNumber.{ExpressionNumber}
-use Rattle.treecode.specs.declared.reference.Reference.{Reference}
-use Rattle.treecode.specs.Lowered.{IsExpression}
-use Rattle.steps8080.specs.declared.facts.Facts.{Facts}
-use Rattle.steps8080.specs.declared.step.Step.TheVariants.{Plain}
+use Rattle.task_laws.proofs.Prelude.{◌≡◌, ℕ, ◌+◌, ◌*◌, ◌/◌, ◌%◌, ◌<◌, ◌≤◌, true, List, [], ◌∷◌, Some, refl, sym, ap, ◌∙◌, subst, arith, cond_some, option_and_then_some, or_of_8, xor_of_8, and_le_l, byte_at, height_of, type_of, TypedExpression, NumberNode, ValueNode, LocationNode, ListNode, ConversionNode, AssignmentNode, UnaryNode, BinaryNode, CallNode, FunctionNode, ShiftNode, InputNode, PartOf, TypesHold, SourceState, Outcome, Gave, values_of, Pop, Push, Operation, Add, AddWithCarry, Subtract, SubtractWithBorrow, And, ExclusiveOr, Or, Compare, A, B, E, Psw, StackBc, Flags, operate, flag_byte, Registers, State, with_popped, word, wrap, ExpressionNumber, Reference, IsExpression, Facts, Plain, copy, with_memory, with_register, part, Does, at_place, is_free, keeps_of_address, memory, fits_byte, operand_in_memory, exchanged, in_order, knowing, Context, IsSound, nodes_in, StepsStand, PartThere, PlainThere, PartDoes}
 use Rattle.steps8080.specs.declared.step.Task.TheVariants.{Address, Byte}
-use Rattle.steps8080.specs.Instructions.{copy, with_memory, with_register}
-use Rattle.steps8080.specs.Step.{part}
-use Rattle.code_meaning.specs.Landing.{Does, at_place}
-use Rattle.steps8080.specs.Queries.{is_free, keeps_of_address, memory}
-use Rattle.steps8080.specs.Widths.{fits_byte, operand_in_memory}
-use Rattle.treecode_laws.proofs.Exchanging.{exchanged, in_order}
-use Rattle.exprgen8080.specs.Emission.{knowing}
-use Rattle.task_laws.specs.Contexts.{Context, IsSound, nodes_in}
-use Rattle.task_laws.specs.Steps.{StepsStand, PartThere, PlainThere}
-use Rattle.task_laws.specs.Tasks.{PartDoes}
 use Rattle.task_laws.proofs.Bytes.BytesAsked.{BytesAsked, ByteIsAtHl}
 use Rattle.task_laws.proofs.Machine.SiteNodes.{value_in}
 use Rattle.task_laws.proofs.Machine.Stages.{Stage, at_a, at_byte, at_carried, at_end, at_pop, at_push, at_registers, flag_byte_is_small, pushed_is_small, script_of}

@@ -1,28 +1,6 @@
 -- The low byte of products with a number.
-use Rattle.std.proofs.Common.{◌≡◌, ℕ, zero, suc, ◌+◌, ◌*◌, ◌/◌, ◌%◌, ◌^◌, ◌<◌, ◌≤◌, ◌==◌, ◌||◌, Bool, true, false, nat_le, List, [], ◌∷◌, Option, Some, None, refl, sym, ap, ◌∙◌, subst, arith, if◌then◌else◌}
-use Rattle.std.proofs.lemmas.Bool.{eqb-true, eqb-false, leb-true, leb-false, false≢true}
-use Rattle.std.proofs.lemmas.Nat.{mul-mod}
-use Rattle.std.proofs.Math.Nat.{pow-le-pow_right}
-use Rattle.trees.specs.declared.declaration.ScalarType.{ScalarType}
-use Rattle.typed_trees.specs.TypedTrees.{TypedExpression}
-use Rattle.meaning.specs.Values.{values_of}
-use Rattle.isa8080.specs.declared.instr.Instr.{Instr}
-use Rattle.isa8080.specs.declared.instr.Operation.TheVariants.{Add}
-use Rattle.isa8080.specs.declared.instr.Register.TheVariants.{A, B}
-use Rattle.isa8080.specs.State.{Registers}
-use Rattle.treecode.specs.declared.expression.ExpressionNumber.{ExpressionNumber}
-use Rattle.steps8080.specs.declared.facts.Facts.{Facts}
-use Rattle.steps8080.specs.declared.step.Step.{Step}
-use Rattle.steps8080.specs.declared.step.Step.TheVariants.{Plain}
+use Rattle.task_laws.proofs.Prelude.{◌≡◌, ℕ, zero, suc, ◌+◌, ◌*◌, ◌/◌, ◌%◌, ◌^◌, ◌<◌, ◌≤◌, ◌==◌, ◌||◌, Bool, true, false, nat_le, List, [], ◌∷◌, Option, Some, None, refl, sym, ap, ◌∙◌, subst, arith, if◌then◌else◌, eqb-true, eqb-false, leb-true, leb-false, false≢true, mul-mod, pow-le-pow_right, ScalarType, TypedExpression, values_of, Instr, Add, A, B, Registers, ExpressionNumber, Facts, Step, Plain, clear_a, copy, with_register, part, repeat_steps, is_free, power_of_two, byte_multiple_steps, byte_product_steps, chain_steps, has_bit, Context, IsSound, StepsStand, PartDoes}
 use Rattle.steps8080.specs.declared.step.Task.TheVariants as tasks
-use Rattle.steps8080.specs.Instructions.{clear_a, copy, with_register}
-use Rattle.steps8080.specs.Step.{part, repeat_steps}
-use Rattle.steps8080.specs.Queries.{is_free}
-use Rattle.steps8080.specs.Widths.{power_of_two}
-use Rattle.operands8080.specs.Products.{byte_multiple_steps, byte_product_steps, chain_steps, has_bit}
-use Rattle.task_laws.specs.Contexts.{Context, IsSound}
-use Rattle.task_laws.specs.Steps.{StepsStand}
-use Rattle.task_laws.specs.Tasks.{PartDoes}
 use Rattle.task_laws.proofs.Bytes.ByteCode.{ByteCarried, OfOne, all_straight, byte_by_code, byte_makes}
 use Rattle.task_laws.proofs.Bytes.ByteNumbers.{zero_after}
 use Rattle.task_laws.proofs.Bytes.ByteShiftNumbers.{doubled_code, low_of_type}

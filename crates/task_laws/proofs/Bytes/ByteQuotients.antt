@@ -1,46 +1,8 @@
 -- The low byte of operators with one operand that is a number, by what they mean; quotients and remainders.
-use Rattle.std.proofs.Common.{◌≡◌, ℕ, ◌+◌, ◌-◌, ◌/◌, ◌%◌, ◌^◌, ◌<◌, ◌≤◌, ◌==◌, true, false, List, [], ◌∷◌, ◌++◌, Option, Some, None, is_some, option_and_then, bit_and, refl, sym, ap, ◌∙◌, subst, arith, if◌then◌else◌}
-use Rattle.std.proofs.lemmas.Bool.{ne_eqb}
-use Rattle.std.proofs.lemmas.Nat.{and_mask, pow_pos}
-use Rattle.std.proofs.Math.Nat.{mod-le}
-use Rattle.std.proofs.lemmas.Option.{none-some, same_Some}
-use lib.Bits.{and_mod}
-use Rattle.trees.specs.declared.declaration.ScalarType.{ScalarType}
+use Rattle.task_laws.proofs.Prelude.{◌≡◌, ℕ, ◌+◌, ◌-◌, ◌/◌, ◌%◌, ◌^◌, ◌<◌, ◌≤◌, ◌==◌, true, false, List, [], ◌∷◌, ◌++◌, Option, Some, None, is_some, option_and_then, bit_and, refl, sym, ap, ◌∙◌, subst, arith, if◌then◌else◌, ne_eqb, and_mask, pow_pos, mod-le, none-some, same_Some, and_mod, ScalarType, BinaryOperator, height_of, type_of, type_of_result, BinaryNode, TypedExpression, TypesHold, computed, SourceState, Outcome, Gave, result_of, values_of, And, A, E, Registers, State, word, Event, ExpressionNumber, Number, IsExpression, Does, at_place, gives, Facts, Part, CallRoutine, Plain, copy, low, is_free, number_of, power, power_of_two, LeftInHl, pair_steps, number_of_two, quotient_byte_steps, remainder_byte_steps, with_number_steps, low_byte_shifted_right_steps, knowing, low_of_word_steps, Context, IsSound, nodes_in, StepsStand, NoneThere, PartDoes}
 use Rattle.trees.specs.declared.declaration.ScalarType.TheVariants as scalars
-use Rattle.trees.specs.declared.expression.BinaryOperator.{BinaryOperator}
 use Rattle.trees.specs.declared.expression.BinaryOperator.TheVariants as operators
-use Rattle.typed_trees.specs.Charge.{height_of}
-use Rattle.typed_trees.specs.ExpressionTypes.{type_of, type_of_result}
-use Rattle.typed_trees.specs.TypedTrees.{BinaryNode, TypedExpression}
-use Rattle.typed_trees.specs.WellTyped.{TypesHold}
-use Rattle.meaning.specs.Meaning.{computed}
-use Rattle.meaning.specs.Outcomes.{State as SourceState, Outcome, Gave}
-use Rattle.meaning.specs.Values.{result_of, values_of}
-use Rattle.isa8080.specs.declared.instr.Operation.TheVariants.{And}
-use Rattle.isa8080.specs.declared.instr.Register.TheVariants.{A, E}
-use Rattle.isa8080.specs.State.{Registers, State, word}
-use Rattle.ports.specs.declared.event.Event.{Event}
 use Rattle.runtime8080.specs.declared.routine.Routine.TheVariants as routines
-use Rattle.treecode.specs.declared.expression.ExpressionNumber.{ExpressionNumber}
-use Rattle.treecode.specs.declared.place.Place.TheVariants.{Number}
-use Rattle.treecode.specs.Lowered.{IsExpression}
-use Rattle.code_meaning.specs.Landing.{Does, at_place}
-use Rattle.code_meaning.proofs.Landing.{gives}
-use Rattle.steps8080.specs.declared.facts.Facts.{Facts}
-use Rattle.steps8080.specs.declared.step.Part.{Part}
-use Rattle.steps8080.specs.declared.step.Step.TheVariants.{CallRoutine, Plain}
-use Rattle.steps8080.specs.Instructions.{copy, low}
-use Rattle.steps8080.specs.Queries.{is_free, number as number_of}
-use Rattle.steps8080.specs.Widths.{power, power_of_two}
-use Rattle.operands8080.specs.declared.pairs.PairOrder.TheVariants.{LeftInHl}
-use Rattle.operands8080.specs.Pairs.{pair_steps}
-use Rattle.exprgen8080.specs.ByteOperators.{number_of_two, quotient_byte_steps, remainder_byte_steps, with_number_steps}
-use Rattle.exprgen8080.specs.ByteShifts.{low_byte_shifted_right_steps}
-use Rattle.exprgen8080.specs.Emission.{knowing}
-use Rattle.exprgen8080.specs.Halves.{low_of_word_steps}
-use Rattle.task_laws.specs.Contexts.{Context, IsSound, nodes_in}
-use Rattle.task_laws.specs.Steps.{StepsStand, NoneThere}
-use Rattle.task_laws.specs.Tasks.{PartDoes}
 use Rattle.task_laws.proofs.Bytes.ByteCode.{ByteCarried, OfOne}
 use Rattle.task_laws.proofs.Bytes.ByteNumbers.{with_number}
 use Rattle.task_laws.proofs.Bytes.ByteShiftsRight.{right_shifted}

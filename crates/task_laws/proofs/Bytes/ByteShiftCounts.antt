@@ -1,40 +1,8 @@
 -- Shifts and rotations of a BYTE by a count that is not known: by routines.
-use Rattle.std.proofs.Common.{◌≡◌, ℕ, ◌+◌, ◌*◌, ◌/◌, ◌%◌, ◌<◌, ◌≤◌, ◌&&◌, ◌||◌, Bool, true, false, List, [], ◌∷◌, ◌++◌, Option, Some, None, is_some, refl, sym, ap, ◌∙◌, subst, arith, if◌then◌else◌}
-use Rattle.std.proofs.lemmas.Bool.{and_parts, false≢true}
-use Rattle.mem80.specs.Memory.{byte_at}
-use Rattle.trees.specs.declared.declaration.ScalarType.{ScalarType}
+use Rattle.task_laws.proofs.Prelude.{◌≡◌, ℕ, ◌+◌, ◌*◌, ◌/◌, ◌%◌, ◌<◌, ◌≤◌, ◌&&◌, ◌||◌, Bool, true, false, List, [], ◌∷◌, ◌++◌, Option, Some, None, is_some, refl, sym, ap, ◌∙◌, subst, arith, if◌then◌else◌, and_parts, false≢true, byte_at, ScalarType, ShiftFunction, RotateLeft, RotateRight, ShiftLeft, ShiftRight, height_of, type_of, TypedExpression, ShiftNode, ShiftsIn, SourceState, Gave, shifted, values_of, Pop, Push, A, E, Psw, flag_byte, Registers, with_popped, word, wrap, ExpressionNumber, Place, Reference, Arrives, Does, at_place, Facts, CallRoutine, Plain, copy, load, part, is_free, known, may_exchange, operand_in_memory, byte_routine, count_in_memory_steps, operands_steps, knowing, Context, IsSound, StepsStand, PartThere, PlainThere, ByteIsGiven, PartDoes}
 use Rattle.trees.specs.declared.declaration.ScalarType.TheVariants as scalars
-use Rattle.typed_trees.specs.declared.parts.ShiftFunction.{ShiftFunction}
-use Rattle.typed_trees.specs.declared.parts.ShiftFunction.TheVariants.{RotateLeft, RotateRight, ShiftLeft, ShiftRight}
-use Rattle.typed_trees.specs.Charge.{height_of}
-use Rattle.typed_trees.specs.ExpressionTypes.{type_of}
-use Rattle.typed_trees.specs.TypedTrees.{TypedExpression, ShiftNode}
-use Rattle.typed_trees.specs.WellTyped.{ShiftsIn}
-use Rattle.meaning.specs.Outcomes.{State as SourceState, Gave}
-use Rattle.meaning.specs.Values.{shifted, values_of}
-use Rattle.isa8080.specs.declared.instr.Instr.TheVariants.{Pop, Push}
-use Rattle.isa8080.specs.declared.instr.Register.TheVariants.{A, E}
-use Rattle.isa8080.specs.declared.instr.StackPair.TheVariants.{Psw}
-use Rattle.isa8080.specs.Flags.{flag_byte}
-use Rattle.isa8080.specs.State.{Registers, with_popped, word, wrap}
 use Rattle.runtime8080.specs.declared.routine.Routine.TheVariants as routines
-use Rattle.treecode.specs.declared.expression.ExpressionNumber.{ExpressionNumber}
-use Rattle.treecode.specs.declared.place.Place.{Place}
-use Rattle.treecode.specs.declared.reference.Reference.{Reference}
-use Rattle.code_meaning.specs.Activations.{Arrives}
-use Rattle.code_meaning.specs.Landing.{Does, at_place}
-use Rattle.steps8080.specs.declared.facts.Facts.{Facts}
-use Rattle.steps8080.specs.declared.step.Step.TheVariants.{CallRoutine, Plain}
 use Rattle.steps8080.specs.declared.step.Task.TheVariants as tasks
-use Rattle.steps8080.specs.Instructions.{copy, load}
-use Rattle.steps8080.specs.Step.{part}
-use Rattle.steps8080.specs.Queries.{is_free, known, may_exchange}
-use Rattle.steps8080.specs.Widths.{operand_in_memory}
-use Rattle.exprgen8080.specs.ByteShifts.{byte_routine, count_in_memory_steps, operands_steps}
-use Rattle.exprgen8080.specs.Emission.{knowing}
-use Rattle.task_laws.specs.Contexts.{Context, IsSound}
-use Rattle.task_laws.specs.Steps.{StepsStand, PartThere, PlainThere}
-use Rattle.task_laws.specs.Tasks.{ByteIsGiven, PartDoes}
 use Rattle.task_laws.proofs.Relations.Answers.{low_is_all}
 use Rattle.task_laws.proofs.Bytes.ByteCode.{ByteCarried}
 use Rattle.task_laws.proofs.Bytes.ByteForms.{byte_given}

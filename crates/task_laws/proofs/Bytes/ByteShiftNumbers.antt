@@ -1,28 +1,8 @@
 -- The low byte of shifts and rotations by a number.
-use Rattle.std.proofs.Common.{◌≡◌, ℕ, zero, suc, ◌+◌, ◌-◌, ◌*◌, ◌/◌, ◌%◌, ◌^◌, ◌<◌, ◌==◌, Bool, true, false, nat_le, nat_lt, bit_and, bit_or, List, [], ◌∷◌, ◌++◌, replicate, refl, sym, ap, ◌∙◌, subst, arith, if◌then◌else◌}
-use Rattle.std.proofs.lemmas.Bool.{eqb-true, leb-true, leb-false, lt-ltb}
-use Rattle.std.specs.Int.Bits.{or_self}
-use Rattle.trees.specs.declared.declaration.ScalarType.{ScalarType}
+use Rattle.task_laws.proofs.Prelude.{◌≡◌, ℕ, zero, suc, ◌+◌, ◌-◌, ◌*◌, ◌/◌, ◌%◌, ◌^◌, ◌<◌, ◌==◌, Bool, true, false, nat_le, nat_lt, bit_and, bit_or, List, [], ◌∷◌, ◌++◌, replicate, refl, sym, ap, ◌∙◌, subst, arith, if◌then◌else◌, eqb-true, leb-true, leb-false, lt-ltb, or_self, ScalarType, TypedExpression, turned, values_of, Instr, AccumulateImmediate, Rar, Rlc, Rrc, Add, And, Or, A, Registers, equal_below, none_right, shift_left, shifted_left, times, turn_left, turn_right, turned_left, turned_right, ExpressionNumber, Facts, Step, Plain, clear_a, with_register, part, plain, repeat_steps, byte_shifted_right_steps, kept_bits, right_shift_steps, rotation_steps, shifted_left_steps, turned_right_steps, zero_steps, Context, IsSound, StepsStand, PartDoes}
 use Rattle.trees.specs.declared.declaration.ScalarType.TheVariants as scalars
-use Rattle.typed_trees.specs.TypedTrees.{TypedExpression}
-use Rattle.meaning.specs.Values.{turned, values_of}
-use Rattle.isa8080.specs.declared.instr.Instr.{Instr}
-use Rattle.isa8080.specs.declared.instr.Instr.TheVariants.{AccumulateImmediate, Rar, Rlc, Rrc}
-use Rattle.isa8080.specs.declared.instr.Operation.TheVariants.{Add, And, Or}
-use Rattle.isa8080.specs.declared.instr.Register.TheVariants.{A}
-use Rattle.isa8080.specs.State.{Registers}
-use Rattle.runtime8080.proofs.Bits.{equal_below, none_left, none_right, shift_left, shifted_left, times, turn_left, turn_right, turned_left, turned_right}
-use Rattle.treecode.specs.declared.expression.ExpressionNumber.{ExpressionNumber}
-use Rattle.steps8080.specs.declared.facts.Facts.{Facts}
-use Rattle.steps8080.specs.declared.step.Step.{Step}
-use Rattle.steps8080.specs.declared.step.Step.TheVariants.{Plain}
+use Rattle.runtime8080.proofs.Bits.{none_left}
 use Rattle.steps8080.specs.declared.step.Task.TheVariants as tasks
-use Rattle.steps8080.specs.Instructions.{clear_a, with_register}
-use Rattle.steps8080.specs.Step.{part, plain, repeat_steps}
-use Rattle.exprgen8080.specs.ByteShifts.{byte_shifted_right_steps, kept_bits, right_shift_steps, rotation_steps, shifted_left_steps, turned_right_steps, zero_steps}
-use Rattle.task_laws.specs.Contexts.{Context, IsSound}
-use Rattle.task_laws.specs.Steps.{StepsStand}
-use Rattle.task_laws.specs.Tasks.{PartDoes}
 use Rattle.task_laws.proofs.Bytes.ByteCode.{AreStraight, ByteCarried, CodeOfA, IsBeside, OfOne, all_straight, beside_a, beside_itself, beside_on, byte_by_code, repeats_on_a}
 use Rattle.task_laws.proofs.Bytes.ByteNumbers.{zero_after}
 use Rattle.task_laws.proofs.Machine.KnownOperands.{quotient_less, turned_fits}

@@ -1,33 +1,7 @@
 -- The low byte of any value shifted to the right by a number.
-use Rattle.std.proofs.Common.{◌≡◌, ℕ, zero, suc, ◌+◌, ◌-◌, ◌*◌, ◌/◌, ◌%◌, ◌^◌, ◌<◌, ◌≤◌, ◌==◌, Bool, true, false, nat_le, List, [], ◌∷◌, ◌++◌, replicate, pow-add, refl, sym, ap, ◌∙◌, subst, arith, if◌then◌else◌}
-use Rattle.std.proofs.lemmas.Bool.{eqb-true, eqb-false, leb-true, leb-false, false≢true}
-use Rattle.std.proofs.Math.Nat.{div-div-eq-div-mul, div-eq_of_lt, pow-le-pow_right}
-use Rattle.trees.specs.declared.declaration.ScalarType.{ScalarType}
+use Rattle.task_laws.proofs.Prelude.{◌≡◌, ℕ, zero, suc, ◌+◌, ◌-◌, ◌*◌, ◌/◌, ◌%◌, ◌^◌, ◌<◌, ◌≤◌, ◌==◌, Bool, true, false, nat_le, List, [], ◌∷◌, ◌++◌, replicate, pow-add, refl, sym, ap, ◌∙◌, subst, arith, if◌then◌else◌, eqb-true, eqb-false, leb-true, leb-false, false≢true, div-div-eq-div-mul, div-eq_of_lt, pow-le-pow_right, ScalarType, type_of, TypedExpression, values_of, Instr, Dad, Rar, Or, Hl, A, H, L, bit, Registers, ExpressionNumber, Facts, Plain, clear_a, copy, with_register, part, plain, repeat_steps, is_free, fits_byte, byte_shifted_right_steps, low_byte_shifted_right_steps, middle_byte_steps, right_shift_steps, zero_steps, knowing, high_byte_steps, Context, IsSound, StepsStand, PartDoes}
 use Rattle.trees.specs.declared.declaration.ScalarType.TheVariants as scalars
-use Rattle.typed_trees.specs.ExpressionTypes.{type_of}
-use Rattle.typed_trees.specs.TypedTrees.{TypedExpression}
-use Rattle.meaning.specs.Values.{values_of}
-use Rattle.isa8080.specs.declared.instr.Instr.{Instr}
-use Rattle.isa8080.specs.declared.instr.Instr.TheVariants.{Dad, Rar}
-use Rattle.isa8080.specs.declared.instr.Operation.TheVariants.{Or}
-use Rattle.isa8080.specs.declared.instr.Pair.TheVariants.{Hl}
-use Rattle.isa8080.specs.declared.instr.Register.TheVariants.{A, H, L}
-use Rattle.isa8080.specs.Flags.{bit}
-use Rattle.isa8080.specs.State.{Registers}
-use Rattle.treecode.specs.declared.expression.ExpressionNumber.{ExpressionNumber}
-use Rattle.steps8080.specs.declared.facts.Facts.{Facts}
-use Rattle.steps8080.specs.declared.step.Step.TheVariants.{Plain}
 use Rattle.steps8080.specs.declared.step.Task.TheVariants as tasks
-use Rattle.steps8080.specs.Instructions.{clear_a, copy, with_register}
-use Rattle.steps8080.specs.Step.{part, plain, repeat_steps}
-use Rattle.steps8080.specs.Queries.{is_free}
-use Rattle.steps8080.specs.Widths.{fits_byte}
-use Rattle.exprgen8080.specs.ByteShifts.{byte_shifted_right_steps, low_byte_shifted_right_steps, middle_byte_steps, right_shift_steps, zero_steps}
-use Rattle.exprgen8080.specs.Emission.{knowing}
-use Rattle.exprgen8080.specs.Halves.{high_byte_steps}
-use Rattle.task_laws.specs.Contexts.{Context, IsSound}
-use Rattle.task_laws.specs.Steps.{StepsStand}
-use Rattle.task_laws.specs.Tasks.{PartDoes}
 use Rattle.task_laws.proofs.Bytes.ByteCode.{ByteCarried, OfOne, all_straight, at_last_instructions, beside_itself, byte_makes, byte_of_word}
 use Rattle.task_laws.proofs.Bytes.ByteForms.{byte_given}
 use Rattle.task_laws.proofs.Bytes.ByteNumbers.{zero_after}

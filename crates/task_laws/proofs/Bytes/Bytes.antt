@@ -1,44 +1,7 @@
 -- The code of the low byte of an expression does what the expression means.
-use Rattle.std.proofs.Common.{◌≡◌, ℕ, ◌+◌, ◌-◌, ◌*◌, ◌/◌, ◌%◌, ◌<◌, ◌≤◌, true, false, [], ◌∷◌, ◌++◌, Option, Some, None, option_and_then, refl, sym, ap, ◌∙◌, subst, arith}
-use Rattle.std.proofs.lemmas.Bool.{false≢true}
-use Rattle.std.proofs.lemmas.Option.{none-some}
-use Rattle.std.specs.Option.{option_map_or}
-use Rattle.trees.specs.declared.declaration.ScalarType.{ScalarType}
+use Rattle.task_laws.proofs.Prelude.{◌≡◌, ℕ, ◌+◌, ◌-◌, ◌*◌, ◌/◌, ◌%◌, ◌<◌, ◌≤◌, true, false, [], ◌∷◌, ◌++◌, Option, Some, None, option_and_then, refl, sym, ap, ◌∙◌, subst, arith, false≢true, none-some, option_map_or, ScalarType, UnaryOperator, Not, Negate, Low, High, Double, height_of, type_of, type_of_target, AssignmentNode, ConversionNode, FunctionNode, TypedExpression, TypedTarget, UnaryNode, TypesHold, TypesHoldInTarget, SourceState, Gave, then_do, as_type, result_of_one, values_of, Cma, Inr, Of, A, Expression, ExpressionForm, ExpressionNumber, Place, Reference, Target, IsExpression, IsTarget, IsStored, IsSent, IsForm, IsNumber, IsValue, IsLocation, IsConstantList, IsConversion, IsEmbedded, IsUnary, IsBinary, IsCallOf, IsFunction, IsShift, IsInput, source, known_of, place_of_reference, Facts, part, is_free, known, memory_of, relation_of, relation_of_form, expression, scalar_of, byte_in_memory_steps, byte_form_steps, byte_function_steps, byte_of_two_steps, byte_steps, byte_unary_steps, called_byte_steps, embedded_steps, known_byte_steps, low_of_value_steps, call_steps, value_task, knowing, Context, IsSound, nodes_in, StepsStand, ByteDoes, PartDoes}
 use Rattle.trees.specs.declared.declaration.ScalarType.TheVariants as scalars
-use Rattle.trees.specs.declared.expression.UnaryOperator.{UnaryOperator}
-use Rattle.trees.specs.declared.expression.UnaryOperator.TheVariants.{Not, Negate}
-use Rattle.typed_trees.specs.declared.parts.UnaryFunction.TheVariants.{Low, High, Double}
-use Rattle.typed_trees.specs.Charge.{height_of}
-use Rattle.typed_trees.specs.ExpressionTypes.{type_of, type_of_target}
-use Rattle.typed_trees.specs.TypedTrees.{AssignmentNode, ConversionNode, FunctionNode, TypedExpression, TypedTarget, UnaryNode}
-use Rattle.typed_trees.specs.WellTyped.{TypesHold, TypesHoldInTarget}
-use Rattle.meaning.specs.Outcomes.{State as SourceState, Gave, then_do}
-use Rattle.meaning.specs.Values.{as_type, result_of_one, values_of}
-use Rattle.isa8080.specs.declared.instr.Instr.TheVariants.{Cma, Inr}
-use Rattle.isa8080.specs.declared.instr.Operand.TheVariants.{Of}
-use Rattle.isa8080.specs.declared.instr.Register.TheVariants.{A}
-use Rattle.treecode.specs.declared.expression.Expression.{Expression}
-use Rattle.treecode.specs.declared.expression.ExpressionForm.{ExpressionForm}
-use Rattle.treecode.specs.declared.expression.ExpressionNumber.{ExpressionNumber}
-use Rattle.treecode.specs.declared.place.Place.{Place}
-use Rattle.treecode.specs.declared.reference.Reference.{Reference}
-use Rattle.treecode.specs.declared.reference.Target.{Target}
-use Rattle.treecode.specs.Lowered.{IsExpression, IsTarget, IsStored, IsSent, IsForm, IsNumber, IsValue, IsLocation, IsConstantList, IsConversion, IsEmbedded, IsUnary, IsBinary, IsCallOf, IsFunction, IsShift, IsInput}
-use Rattle.treecode.specs.Queries.{source}
-use Rattle.treecode.specs.Traits.{known_of, place_of_reference}
-use Rattle.steps8080.specs.declared.facts.Facts.{Facts}
 use Rattle.steps8080.specs.declared.step.Task.TheVariants as tasks
-use Rattle.steps8080.specs.Step.{part}
-use Rattle.steps8080.specs.Queries.{is_free, known, memory as memory_of}
-use Rattle.steps8080.specs.Questions.{relation_of, relation_of_form}
-use Rattle.steps8080.specs.Site.{expression, scalar as scalar_of}
-use Rattle.operands8080.specs.Loads.{byte_in_memory_steps}
-use Rattle.exprgen8080.specs.Bytes.{byte_form_steps, byte_function_steps, byte_of_two_steps, byte_steps, byte_unary_steps, called_byte_steps, embedded_steps, known_byte_steps, low_of_value_steps}
-use Rattle.exprgen8080.specs.Calls.{call_steps, value_task}
-use Rattle.exprgen8080.specs.Emission.{knowing}
-use Rattle.task_laws.specs.Contexts.{Context, IsSound, nodes_in}
-use Rattle.task_laws.specs.Steps.{StepsStand}
-use Rattle.task_laws.specs.Tasks.{ByteDoes, PartDoes}
 use Rattle.task_laws.proofs.Bytes.ByteBinaries.{IsElsewhere, binary_law, never_free, shift_law}
 use Rattle.task_laws.proofs.Bytes.ByteCode.{ByteCarried, OfOne, beside_a, beside_itself, byte_makes}
 use Rattle.task_laws.proofs.Bytes.ByteForms.{byte_given, complement_byte, complement_small, free_by_form, negative_byte, negative_small, type_byte, type_small}

@@ -1,39 +1,8 @@
 -- What is asked here of other parts of the proof: where the low byte of an expression lies in memory, its address comes
 -- into HL by the code of the reference.
-use Rattle.std.proofs.Common.{◌≡◌, ℕ, ◌+◌, ◌*◌, ◌/◌, ◌%◌, ◌<◌, ◌==◌, ◌⊎◌, max, List, Bool, Some, true}
-use Rattle.mem80.specs.Memory.{byte_at}
-use Rattle.trees.specs.declared.declaration.ScalarType.{ScalarType}
+use Rattle.task_laws.proofs.Prelude.{◌≡◌, ℕ, ◌+◌, ◌*◌, ◌/◌, ◌%◌, ◌<◌, ◌==◌, ◌⊎◌, max, List, Bool, Some, true, byte_at, ScalarType, height_of, type_of, TypedExpression, TypesHold, SourceState, Outcome, Gave, values_of, Registers, word, ExpressionNumber, Place, Reference, place_after, IsExpression, Facts, keeps_of_address, memory, direct_word, fits_byte, IsReady, IsSteady, place_at, PairOrder, LeftInHl, RightInHl, pair_order, pair_steps, Purpose, Branch, Value, Setting, word_is_zero_steps, GoesOutside, in_order, knowing, Context, nodes_in, StepsStand, AddressDoes, Carries, Know, Left, Nothing, PartDoes}
 use Rattle.trees.specs.declared.declaration.ScalarType.TheVariants as scalars
-use Rattle.typed_trees.specs.Charge.{height_of}
-use Rattle.typed_trees.specs.ExpressionTypes.{type_of}
-use Rattle.typed_trees.specs.TypedTrees.{TypedExpression}
-use Rattle.typed_trees.specs.WellTyped.{TypesHold}
-use Rattle.meaning.specs.Outcomes.{State as SourceState, Outcome, Gave}
-use Rattle.meaning.specs.Values.{values_of}
-use Rattle.isa8080.specs.State.{Registers, word}
-use Rattle.treecode.specs.declared.expression.ExpressionNumber.{ExpressionNumber}
-use Rattle.treecode.specs.declared.place.Place.{Place}
-use Rattle.treecode.specs.declared.reference.Reference.{Reference}
-use Rattle.treecode.specs.Homes.{place_after}
-use Rattle.treecode.specs.Lowered.{IsExpression}
-use Rattle.steps8080.specs.declared.facts.Facts.{Facts}
-use Rattle.steps8080.specs.Queries.{keeps_of_address, memory}
-use Rattle.steps8080.specs.Widths.{direct_word, fits_byte}
-use Rattle.code_meaning.specs.Activations.{IsReady}
-use Rattle.code_meaning.specs.Holding.{IsSteady, place_at}
-use Rattle.operands8080.specs.declared.pairs.PairOrder.{PairOrder}
-use Rattle.operands8080.specs.declared.pairs.PairOrder.TheVariants.{LeftInHl, RightInHl}
-use Rattle.operands8080.specs.Pairs.{pair_order, pair_steps}
-use Rattle.operands8080.specs.declared.answers.Purpose.{Purpose}
-use Rattle.operands8080.specs.declared.answers.Purpose.TheVariants.{Branch, Value}
-use Rattle.operands8080.specs.declared.answers.Setting.{Setting}
-use Rattle.operands8080.specs.WordRelations.{high_byte_steps, word_is_zero_steps}
-use Rattle.treecode_laws.specs.internal.Evaluations.{GoesOutside}
-use Rattle.treecode_laws.proofs.Exchanging.{in_order}
-use Rattle.exprgen8080.specs.Emission.{knowing}
-use Rattle.task_laws.specs.Contexts.{Context, nodes_in}
-use Rattle.task_laws.specs.Steps.{StepsStand}
-use Rattle.task_laws.specs.Tasks.{AddressDoes, Carries, Know, Left, Nothing, PartDoes}
+use Rattle.operands8080.specs.WordRelations.{high_byte_steps}
 use Rattle.task_laws.proofs.Machine.SiteNodes.{value_in}
 
 -- the low byte of a value lies at the address in HL; A is left alone where the tree says so

@@ -1,43 +1,9 @@
 -- The low byte of a value that lies in memory.
-use Rattle.std.proofs.Common.{◌≡◌, ℕ, ◌*◌, ◌/◌, ◌%◌, ◌<◌, ◌≤◌, true, false, Option, Some, None, is_some, option_and_then, refl, sym, ap, ◌∙◌, subst, arith}
-use Rattle.std.proofs.lemmas.Bool.{false≢true}
-use Rattle.std.proofs.lemmas.Option.{none-some, same_Some}
-use Rattle.std.specs.Option.{option_map_or}
-use Rattle.trees.specs.declared.declaration.ScalarType.{ScalarType}
-use Rattle.trees.specs.declared.declaration.ScalarType.TheVariants.{Byte, Address}
-use Rattle.typed_trees.specs.declared.parts.UnaryFunction.TheVariants.{Low, High, Double}
-use Rattle.typed_trees.specs.Charge.{height_of, height_of_reference}
-use Rattle.typed_trees.specs.ExpressionTypes.{type_of}
-use Rattle.typed_trees.specs.TypedTrees.{FunctionNode, TypedExpression, TypedReference, ValueNode}
-use Rattle.typed_trees.specs.WellTyped.{RefersToScalar, TypesHold, TypesHoldInReference}
-use Rattle.meaning.specs.Access.{read_scalar}
-use Rattle.meaning.specs.Outcomes.{State as SourceState, Outcome, Gave, then_do}
-use Rattle.meaning.specs.Values.{as_type, values_of}
-use Rattle.treecode.specs.declared.expression.Expression.{Expression}
-use Rattle.treecode.specs.declared.expression.ExpressionForm.{ExpressionForm}
+use Rattle.task_laws.proofs.Prelude.{◌≡◌, ℕ, ◌*◌, ◌/◌, ◌%◌, ◌<◌, ◌≤◌, true, false, Option, Some, None, is_some, option_and_then, refl, sym, ap, ◌∙◌, subst, arith, false≢true, none-some, same_Some, option_map_or, ScalarType, Byte, Address, Low, High, Double, height_of, height_of_reference, type_of, FunctionNode, TypedExpression, TypedReference, ValueNode, RefersToScalar, TypesHold, TypesHoldInReference, read_scalar, SourceState, Outcome, Gave, then_do, as_type, values_of, Expression, ExpressionForm, ExpressionNumber, Home, Place, Reference, IndexNode, converted_place, function_of_place, known_distance, place_of_part, IsExpression, IsReference, IsForm, IsNumber, IsValue, IsLocation, IsConstantList, IsConversion, IsEmbedded, IsUnary, IsBinary, IsCallOf, IsFunction, IsShift, IsInput, home_at, byte_after, distance_of, free_at, is_free_form, known_at, known_of, memory_of_form, memory_of_inner, no_traits, place_of_reference, same_low_byte, traits_of, Arrives, Does, at_place, Facts, Base, Split, base_after, base_of, is_free, location_of, located_at, memory_of, number_of, reference_after, split, split_computed, byte_in_memory_steps, knowing, Context, IsSound, nodes_in, StepsStand, ByteIsGiven, PartDoes}
 use Rattle.treecode.specs.declared.expression.ExpressionForm.TheVariants as forms
-use Rattle.treecode.specs.declared.expression.ExpressionNumber.{ExpressionNumber}
-use Rattle.treecode.specs.declared.place.Home.{Home}
 use Rattle.treecode.specs.declared.place.Home.TheVariants as homes
 use Rattle.treecode.specs.declared.place.Location.TheVariants as locations
-use Rattle.treecode.specs.declared.place.Place.{Place}
-use Rattle.treecode.specs.declared.reference.Reference.{Reference}
-use Rattle.treecode.specs.declared.reference.Subscript.{Subscript as IndexNode}
-use Rattle.treecode.specs.Known.{converted_place, function_of_place, known_distance, place_of_part}
-use Rattle.treecode.specs.Lowered.{IsExpression, IsReference, IsForm, IsNumber, IsValue, IsLocation, IsConstantList, IsConversion, IsEmbedded, IsUnary, IsBinary, IsCallOf, IsFunction, IsShift, IsInput}
-use Rattle.treecode.specs.Nodes.{home_at}
-use Rattle.treecode.specs.Traits.{byte_after, distance_of, free_at, is_free_form, known_at, known_of, memory_of_form, memory_of_inner, no_traits, place_of_reference, same_low_byte, traits_of}
-use Rattle.code_meaning.specs.Activations.{Arrives}
-use Rattle.code_meaning.specs.Landing.{Does, at_place}
-use Rattle.steps8080.specs.declared.facts.Facts.{Facts}
-use Rattle.steps8080.specs.declared.sites.queries.Base.{Base}
-use Rattle.steps8080.specs.declared.sites.queries.Split.{Split}
-use Rattle.steps8080.specs.Queries.{base_after, base_of, is_free, location_at, location_of, located, located_at, memory as memory_of, number as number_of, reference_after, split, split_computed}
-use Rattle.operands8080.specs.Loads.{byte_in_memory_steps}
-use Rattle.exprgen8080.specs.Emission.{knowing}
-use Rattle.task_laws.specs.Contexts.{Context, IsSound, nodes_in}
-use Rattle.task_laws.specs.Steps.{StepsStand}
-use Rattle.task_laws.specs.Tasks.{ByteIsGiven, PartDoes}
+use Rattle.steps8080.specs.Queries.{location_at, located}
 use Rattle.task_laws.proofs.Branches.Branches.{given_itself}
 use Rattle.task_laws.proofs.Bytes.ByteCode.{ByteCarried}
 use Rattle.task_laws.proofs.Bytes.ByteForms.{byte_given, free_by_form, type_byte, type_small}

@@ -1,17 +1,5 @@
 -- Two operands come into HL and DE, as comparisons ask for them.
-use Rattle.std.proofs.Common.{ℕ, List, [], refl, sym, subst, arith}
-use Rattle.std.proofs.lemmas.List.{append-nil}
-use Rattle.meaning.specs.Outcomes.{Gave}
-use Rattle.isa8080.specs.State.{Registers}
-use Rattle.steps8080.specs.declared.step.Step.{Step}
-use Rattle.code_meaning.proofs.Landing.{gives}
-use Rattle.operands8080.specs.declared.pairs.PairOrder.{PairOrder}
-use Rattle.operands8080.specs.declared.pairs.PairOrder.TheVariants.{LeftInHl, RightInHl}
-use Rattle.operands8080.specs.Pairs.{pair_order, pair_steps, wish_for_left}
-use Rattle.exprgen8080.specs.Emission.{knowing}
-use Rattle.task_laws.specs.Contexts.{Context, IsSound}
-use Rattle.task_laws.specs.Steps.{StepsStand}
-use Rattle.task_laws.specs.Tasks.{PartDoes}
+use Rattle.task_laws.proofs.Prelude.{ℕ, List, [], refl, sym, subst, arith, append-nil, Gave, Registers, Step, gives, PairOrder, LeftInHl, RightInHl, pair_order, pair_steps, wish_for_left, knowing, Context, IsSound, StepsStand, PartDoes}
 use Rattle.task_laws.proofs.Machine.Addresses.{nothing_goes}
 use Rattle.task_laws.proofs.Bytes.BytesAsked.{PairLies, PairsGiven}
 use Rattle.task_laws.proofs.Words.PairedWords.{pair_below}

@@ -1,36 +1,8 @@
 -- The high byte of a value, into A.
-use Rattle.std.proofs.Common.{◌≡◌, ℕ, ◌+◌, ◌*◌, ◌/◌, ◌%◌, ◌<◌, ◌≤◌, ◌&&◌, Bool, true, List, [], ◌∷◌, Option, Some, None, refl, sym, ap, ◌∙◌, subst, arith}
-use Rattle.mem80.specs.declared.memory.TheConstants.{MEMORY_SIZE}
-use Rattle.mem80.specs.Memory.{byte_at}
-use Rattle.mem80.proofs.MemoryLemmas.{byte_small}
-use Rattle.trees.specs.declared.declaration.ScalarType.TheVariants.{Address}
-use Rattle.typed_trees.specs.Charge.{height_of_reference}
-use Rattle.typed_trees.specs.TypedTrees.{Home, InData, InConstants, Placed, BasedOn, Elsewhere, Nowhere, InFrame, PartOf, TypedReference}
-use Rattle.typed_trees.specs.WellTyped.{RefersToScalar, TypesHoldInReference}
-use Rattle.meaning.specs.Access.{InMemory, InTheFrame, Place as SourcePlace, Surroundings, home_of, next_place, place_of, read_scalar}
-use Rattle.meaning.specs.Meaning.{Displacement, based_place, displacement}
-use Rattle.meaning.specs.Outcomes.{State as SourceState, Ended, More, Outside, Outcome, Gave, Stopped, then_do}
+use Rattle.task_laws.proofs.Prelude.{◌≡◌, ℕ, ◌+◌, ◌*◌, ◌/◌, ◌%◌, ◌<◌, ◌≤◌, ◌&&◌, Bool, true, List, [], ◌∷◌, Option, Some, None, refl, sym, ap, ◌∙◌, subst, arith, MEMORY_SIZE, byte_at, byte_small, Address, height_of_reference, InData, InConstants, Placed, BasedOn, Elsewhere, Nowhere, InFrame, PartOf, TypedReference, RefersToScalar, TypesHoldInReference, InMemory, InTheFrame, SourcePlace, Surroundings, home_of, next_place, place_of, read_scalar, Displacement, based_place, displacement, SourceState, Ended, More, Outside, Outcome, Gave, Stopped, then_do, Registers, State, wrap, Location, Reference, IsReference, is_static_location, Activation, Arrives, HasRoom, Does, Lands, at_place, gives, told_on, IsSteady, location_at, Facts, Plain, load, part, location_of, reference_after, byte_in_memory_steps, location_byte_steps, knowing, Context, IsSound, distances_in, nodes_in, StepsStand, PartThere, AddressIsGiven, Carries, ChangesAOnly, IsReferred, Know, Nothing, PartDoes, address_on_machine}
+use Rattle.typed_trees.specs.TypedTrees.{Home}
 use Rattle.isa8080.specs.declared.instr.Register.TheVariants as registers
-use Rattle.isa8080.specs.State.{Registers, State, wrap}
-use Rattle.treecode.specs.declared.place.Location.{Location}
-use Rattle.treecode.specs.declared.reference.Reference.{Reference}
-use Rattle.treecode.specs.Lowered.{IsReference}
-use Rattle.treecode.specs.Traits.{is_static_location}
-use Rattle.code_meaning.specs.Activations.{Activation, Arrives, HasRoom}
-use Rattle.code_meaning.specs.Landing.{Does, Lands, at_place}
-use Rattle.code_meaning.proofs.Landing.{gives, told_on}
-use Rattle.code_meaning.specs.Holding.{IsSteady, location_at}
-use Rattle.steps8080.specs.declared.facts.Facts.{Facts}
-use Rattle.steps8080.specs.declared.step.Step.TheVariants.{Plain}
 use Rattle.steps8080.specs.declared.step.Task.TheVariants as tasks
-use Rattle.steps8080.specs.Instructions.{load}
-use Rattle.steps8080.specs.Step.{part}
-use Rattle.steps8080.specs.Queries.{location_of, reference_after}
-use Rattle.operands8080.specs.Loads.{byte_in_memory_steps, location_byte_steps}
-use Rattle.exprgen8080.specs.Emission.{knowing}
-use Rattle.task_laws.specs.Contexts.{Context, IsSound, distances_in, nodes_in}
-use Rattle.task_laws.specs.Steps.{StepsStand, PartThere}
-use Rattle.task_laws.specs.Tasks.{AddressIsGiven, Carries, ChangesAOnly, IsReferred, Know, Nothing, PartDoes, address_on_machine}
 use Rattle.task_laws.proofs.Places.Fitting.{located_fits, refers_is_referred}
 use Rattle.task_laws.proofs.Loads.Loads.{LiesThere, given_last, lies_there, same_location_found, static_only}
 use Rattle.task_laws.proofs.Places.Located.{located_in}

@@ -1,44 +1,10 @@
 -- The high byte of an ADDRESS comes into A; and a word that an ADDRESS expression is lies in memory.
-use Rattle.std.proofs.Common.{◌≡◌, ℕ, ◌+◌, ◌*◌, ◌/◌, ◌≤◌, ◌⊎◌, inl, inr, Bool, true, false, if◌then◌else◌, List, [], ◌∷◌, Option, Some, None, option_map, refl, sym, ap, subst, ◌∙◌, arith}
-use Rattle.std.specs.Option.{option_and_then}
-use Rattle.mem80.specs.Memory.{byte_at}
-use Rattle.trees.specs.declared.declaration.ScalarType.{ScalarType}
+use Rattle.task_laws.proofs.Prelude.{◌≡◌, ℕ, ◌+◌, ◌*◌, ◌/◌, ◌≤◌, ◌⊎◌, inl, inr, Bool, true, false, if◌then◌else◌, List, [], ◌∷◌, Option, Some, None, option_map, refl, sym, ap, subst, ◌∙◌, arith, option_and_then, byte_at, ScalarType, height_of, height_of_reference, type_of, TypedExpression, TypedReference, ValueNode, TypesHold, SourcePlace, next_place, read_scalar, SourceState, Outcome, Gave, then_do, Registers, State, word, wrap, Expression, ExpressionForm, ExpressionNumber, Location, Place, Reference, place_after, IsExpression, IsForm, IsReference, IsValue, Does, at_place, Arrives, gives, IsSteady, place_at, location_after_is, Facts, Plain, load, part, GoesOutside, direct, location_of, place_in_memory, reference_after, direct_word, high_byte_in_memory, is_word_in_hl, word_in_memory, word_of, high_by_hl_steps, load_a_steps, knowing, Context, IsSound, distances_in, nodes_in, PartThere, PlainThere, StepsStand, WordThere, PartDoes, address_on_machine}
 use Rattle.trees.specs.declared.declaration.ScalarType.TheVariants as scalars
-use Rattle.typed_trees.specs.Charge.{height_of, height_of_reference}
-use Rattle.typed_trees.specs.ExpressionTypes.{type_of}
-use Rattle.typed_trees.specs.TypedTrees.{TypedExpression, TypedReference, ValueNode}
-use Rattle.typed_trees.specs.WellTyped.{TypesHold}
-use Rattle.meaning.specs.Access.{Place as SourcePlace, next_place, read_scalar}
-use Rattle.meaning.specs.Outcomes.{State as SourceState, Outcome, Gave, then_do}
 use Rattle.isa8080.specs.declared.instr.Register.TheVariants as registers
-use Rattle.isa8080.specs.State.{Registers, State, word, wrap}
-use Rattle.treecode.specs.declared.expression.Expression.{Expression}
-use Rattle.treecode.specs.declared.expression.ExpressionForm.{ExpressionForm}
-use Rattle.treecode.specs.declared.expression.ExpressionNumber.{ExpressionNumber}
-use Rattle.treecode.specs.declared.place.Location.{Location}
 use Rattle.treecode.specs.declared.place.Location.TheVariants as locations
-use Rattle.treecode.specs.declared.place.Place.{Place}
-use Rattle.treecode.specs.declared.reference.Reference.{Reference}
-use Rattle.treecode.specs.Homes.{place_after}
-use Rattle.treecode.specs.Lowered.{IsExpression, IsForm, IsReference, IsValue}
-use Rattle.code_meaning.specs.Landing.{Does, at_place}
-use Rattle.code_meaning.specs.Activations.{Arrives}
-use Rattle.code_meaning.proofs.Landing.{gives}
-use Rattle.code_meaning.specs.Holding.{IsSteady, place_at}
-use Rattle.code_meaning.proofs.Facts.Places.{location_after_is}
-use Rattle.steps8080.specs.declared.facts.Facts.{Facts}
-use Rattle.steps8080.specs.declared.step.Step.TheVariants.{Plain}
 use Rattle.steps8080.specs.declared.step.Task.TheVariants as tasks
-use Rattle.steps8080.specs.Instructions.{load}
-use Rattle.steps8080.specs.Step.{part}
-use Rattle.treecode_laws.specs.internal.Evaluations.{GoesOutside}
-use Rattle.steps8080.specs.Queries.{direct, location_of, place_in_memory, reference_after}
-use Rattle.steps8080.specs.Widths.{direct_word, high_byte_in_memory, is_word_in_hl, word_in_memory, word_of}
-use Rattle.operands8080.specs.WordRelations.{high_by_hl_steps, high_byte_steps, load_a_steps}
-use Rattle.exprgen8080.specs.Emission.{knowing}
-use Rattle.task_laws.specs.Contexts.{Context, IsSound, distances_in, nodes_in}
-use Rattle.task_laws.specs.Steps.{PartThere, PlainThere, StepsStand, WordThere}
-use Rattle.task_laws.specs.Tasks.{PartDoes, address_on_machine}
+use Rattle.operands8080.specs.WordRelations.{high_byte_steps}
 use Rattle.task_laws.proofs.Bytes.BytesAsked.{HighBytesGiven, HighIsGiven, WordAtPlace, WordsAtPlaces}
 use Rattle.task_laws.proofs.Places.Fitting.{located_fits, refers_is_referred}
 use Rattle.task_laws.proofs.Loads.Loads.{given_last, lies_there}

@@ -1,37 +1,9 @@
 -- The low byte of an expression that lies in memory: it lies at the place of the part of an object that the tree names.
-use Rattle.std.proofs.Common.{◌≡◌, ◌&&◌, ℕ, ◌+◌, ◌*◌, ◌/◌, ◌%◌, ◌<◌, ◌≤◌, ◌⊎◌, inl, inr, List, Option, Some, refl, sym, ap, subst, ◌∙◌, arith}
-use Rattle.std.specs.Option.{option_and_then, option_map_or}
-use Rattle.mem80.specs.declared.memory.TheConstants.{MEMORY_SIZE}
-use Rattle.mem80.specs.Memory.{byte_at}
-use Rattle.trees.specs.declared.declaration.ScalarType.{ScalarType}
-use Rattle.trees.specs.declared.declaration.ScalarType.TheVariants.{Byte, Address}
-use Rattle.typed_trees.specs.declared.parts.UnaryFunction.TheVariants.{Low, High, Double}
-use Rattle.typed_trees.specs.Charge.{height_of, height_of_reference}
-use Rattle.typed_trees.specs.ExpressionTypes.{type_of}
-use Rattle.typed_trees.specs.TypedTrees.{BasedOn, ConversionNode, Elsewhere, FunctionNode, Home, InConstants, InData, InFrame, Nowhere, PartOf, Placed, TypedExpression, TypedReference, ValueNode}
-use Rattle.typed_trees.specs.WellTyped.{RefersToScalar, TypesHold, TypesHoldInReference}
-use Rattle.meaning.specs.Access.{InMemory, InTheFrame, Place, Surroundings, home_of, next_place, place_in, place_of, read_scalar}
-use Rattle.meaning.specs.Meaning.{Displacement, based_place, displacement}
-use Rattle.meaning.specs.Outcomes.{State as SourceState, Outcome, Gave, Stop, Stopped, then_do}
-use Rattle.meaning.specs.Values.{as_type, values_of}
-use Rattle.isa8080.specs.State.{Registers, State}
-use Rattle.treecode.specs.declared.expression.Expression.{Expression}
-use Rattle.treecode.specs.declared.expression.ExpressionForm.{ExpressionForm}
+use Rattle.task_laws.proofs.Prelude.{◌≡◌, ◌&&◌, ℕ, ◌+◌, ◌*◌, ◌/◌, ◌%◌, ◌<◌, ◌≤◌, ◌⊎◌, inl, inr, List, Option, Some, refl, sym, ap, subst, ◌∙◌, arith, option_and_then, option_map_or, MEMORY_SIZE, byte_at, ScalarType, Byte, Address, Low, High, Double, height_of, height_of_reference, type_of, BasedOn, ConversionNode, Elsewhere, FunctionNode, InConstants, InData, InFrame, Nowhere, PartOf, Placed, TypedExpression, TypedReference, ValueNode, RefersToScalar, TypesHold, TypesHoldInReference, InMemory, InTheFrame, Surroundings, home_of, next_place, place_in, place_of, read_scalar, Displacement, based_place, displacement, SourceState, Outcome, Gave, Stop, Stopped, then_do, as_type, values_of, Registers, State, Expression, ExpressionForm, ExpressionNumber, Reference, IsBinary, IsCallOf, IsConstantList, IsConversion, IsEmbedded, IsExpression, IsForm, IsFunction, IsInput, IsLocation, IsNumber, IsReference, IsShift, IsUnary, IsValue, Does, at_place, Arrives, IsReady, gives, IsSteady, Facts, GoesOutside, memory, reference_after, knowing, Context, IsSound, nodes_in, AddressIsGiven, IsReferred, address_on_machine}
+use Rattle.typed_trees.specs.TypedTrees.{Home}
+use Rattle.meaning.specs.Access.{Place}
 use Rattle.treecode.specs.declared.expression.ExpressionForm.TheVariants as forms
-use Rattle.treecode.specs.declared.expression.ExpressionNumber.{ExpressionNumber}
-use Rattle.treecode.specs.declared.reference.Reference.{Reference}
-use Rattle.treecode.specs.Lowered.{IsBinary, IsCallOf, IsConstantList, IsConversion, IsEmbedded, IsExpression, IsForm, IsFunction, IsInput, IsLocation, IsNumber, IsReference, IsShift, IsUnary, IsValue}
 use Rattle.treecode.specs.Traits as traits
-use Rattle.code_meaning.specs.Landing.{Does, at_place}
-use Rattle.code_meaning.specs.Activations.{Arrives, IsReady}
-use Rattle.code_meaning.proofs.Landing.{gives}
-use Rattle.code_meaning.specs.Holding.{IsSteady}
-use Rattle.steps8080.specs.declared.facts.Facts.{Facts}
-use Rattle.treecode_laws.specs.internal.Evaluations.{GoesOutside}
-use Rattle.steps8080.specs.Queries.{memory, reference_after}
-use Rattle.exprgen8080.specs.Emission.{knowing}
-use Rattle.task_laws.specs.Contexts.{Context, IsSound, nodes_in}
-use Rattle.task_laws.specs.Tasks.{AddressIsGiven, IsReferred, address_on_machine}
 use Rattle.task_laws.proofs.Bytes.BytesAsked.{ByteIsAtHl, LocatesBytes}
 use Rattle.task_laws.proofs.Loads.BytesInMemory.{memory_same}
 use Rattle.task_laws.proofs.Bytes.ByteForms.{type_byte, type_small}

@@ -1,33 +1,6 @@
 -- The low byte of values that come by way of HL, of calls and of ports.
-use Rattle.std.proofs.Common.{◌≡◌, ℕ, ◌*◌, ◌%◌, ◌<◌, true, List, [], ◌∷◌, ◌++◌, Some, refl, sym, subst, arith}
-use Rattle.trees.specs.declared.declaration.ScalarType.{ScalarType}
+use Rattle.task_laws.proofs.Prelude.{◌≡◌, ℕ, ◌*◌, ◌%◌, ◌<◌, true, List, [], ◌∷◌, ◌++◌, Some, refl, sym, subst, arith, ScalarType, height_of, type_of, CallNode, InputNode, TypedArguments, TypedExpression, Takes, TypesHold, TypesHoldInArguments, SourceState, Outcome, Gave, values_of, In, A, L, Registers, State, ExpressionNumber, Range, AreArguments, IsExpression, Arrives, IsReady, Does, at_place, gives, Facts, Plain, copy, is_free, low_of_value_steps, call_steps, knowing, low_of_word_steps, Context, InRegister, IsSound, nodes_in, StepsStand, PlainThere, ByteIsGiven, Know, PartDoes}
 use Rattle.trees.specs.declared.declaration.ScalarType.TheVariants as scalars
-use Rattle.typed_trees.specs.Charge.{height_of}
-use Rattle.typed_trees.specs.ExpressionTypes.{type_of}
-use Rattle.typed_trees.specs.TypedTrees.{CallNode, InputNode, TypedArguments, TypedExpression}
-use Rattle.typed_trees.specs.WellTyped.{Takes, TypesHold, TypesHoldInArguments}
-use Rattle.meaning.specs.Outcomes.{State as SourceState, Outcome, Gave}
-use Rattle.meaning.specs.Values.{values_of}
-use Rattle.isa8080.specs.declared.instr.Instr.TheVariants.{In}
-use Rattle.isa8080.specs.declared.instr.Register.TheVariants.{A, L}
-use Rattle.isa8080.specs.State.{Registers, State}
-use Rattle.treecode.specs.declared.expression.ExpressionNumber.{ExpressionNumber}
-use Rattle.treecode.specs.declared.lists.Range.{Range}
-use Rattle.treecode.specs.Lowered.{AreArguments, IsExpression}
-use Rattle.code_meaning.specs.Activations.{Arrives, IsReady}
-use Rattle.code_meaning.specs.Landing.{Does, at_place}
-use Rattle.code_meaning.proofs.Landing.{gives}
-use Rattle.steps8080.specs.declared.facts.Facts.{Facts}
-use Rattle.steps8080.specs.declared.step.Step.TheVariants.{Plain}
-use Rattle.steps8080.specs.Instructions.{copy}
-use Rattle.steps8080.specs.Queries.{is_free}
-use Rattle.exprgen8080.specs.Bytes.{low_of_value_steps}
-use Rattle.exprgen8080.specs.Calls.{call_steps}
-use Rattle.exprgen8080.specs.Emission.{knowing}
-use Rattle.exprgen8080.specs.Halves.{low_of_word_steps}
-use Rattle.task_laws.specs.Contexts.{Context, InRegister, IsSound, nodes_in}
-use Rattle.task_laws.specs.Steps.{StepsStand, PlainThere}
-use Rattle.task_laws.specs.Tasks.{ByteIsGiven, Know, PartDoes}
 use Rattle.task_laws.proofs.Branches.Branches.{given_itself}
 use Rattle.task_laws.proofs.Bytes.ByteCode.{ByteCarried, OfOne, at_last_instructions, byte_of_word, with_outcome}
 use Rattle.task_laws.proofs.Bytes.ByteForms.{byte_given}

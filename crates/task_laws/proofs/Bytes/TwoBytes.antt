@@ -1,46 +1,7 @@
 -- The low byte of sums, differences, AND, OR and XOR of two values, neither of which is a number.
-use Rattle.std.proofs.Common.{◌≡◌, ℕ, ◌+◌, ◌-◌, ◌*◌, ◌%◌, ◌<◌, Bool, true, false, ◌&&◌, List, [], ◌∷◌, ◌++◌, Option, Some, None, option_map, max, bit_and, bit_or, bit_xor, refl, sym, ◌∙◌, subst, arith, if◌then◌else◌}
-use Rattle.std.proofs.lemmas.Bool.{and_parts, false≢true}
-use Rattle.std.proofs.lemmas.Nat.{or_of_8, or_of_16, xor_of_8, xor_of_16}
-use lib.Bits.{and_comm, and_le_l, and_mod, or_comm, or_mod, xor_comm, xor_mod}
-use Rattle.trees.specs.declared.declaration.ScalarType.{ScalarType}
+use Rattle.task_laws.proofs.Prelude.{◌≡◌, ℕ, ◌+◌, ◌-◌, ◌*◌, ◌%◌, ◌<◌, Bool, true, false, ◌&&◌, List, [], ◌∷◌, ◌++◌, Option, Some, None, option_map, max, bit_and, bit_or, bit_xor, refl, sym, ◌∙◌, subst, arith, if◌then◌else◌, and_parts, false≢true, or_of_8, or_of_16, xor_of_8, xor_of_16, and_comm, and_le_l, and_mod, or_comm, or_mod, xor_comm, xor_mod, ScalarType, height_of, type_of, TypedExpression, TypesHold, SourceState, Gave, values_of, Operation, Add, AddWithCarry, Subtract, SubtractWithBorrow, And, ExclusiveOr, Or, Compare, Flags, operate, Registers, ExpressionNumber, Reference, IsExpression, Facts, Plain, copy, with_register, part, Pop, Push, A, B, Psw, StackBc, Arrives, Does, at_place, Site, is_free, may_exchange, is_byte_in_register, operand_in_memory, in_order, ByteForm, RightInMemory, LeftInMemory, LeftFree, RightFree, Pushed, Operands, commutes, form_after_right, form_from_register, form_of, form_with_left, form_without_memory, in_form_steps, with_e_steps, with_memory_steps, with_stack_steps, knowing, Context, IsSound, nodes_in, StepsStand, ByteIsGiven, Carries, Nothing, PartDoes}
 use Rattle.trees.specs.declared.declaration.ScalarType.TheVariants as scalars
-use Rattle.typed_trees.specs.Charge.{height_of}
-use Rattle.typed_trees.specs.ExpressionTypes.{type_of}
-use Rattle.typed_trees.specs.TypedTrees.{TypedExpression}
-use Rattle.typed_trees.specs.WellTyped.{TypesHold}
-use Rattle.meaning.specs.Outcomes.{State as SourceState, Gave}
-use Rattle.meaning.specs.Values.{values_of}
-use Rattle.isa8080.specs.declared.instr.Operation.{Operation}
-use Rattle.isa8080.specs.declared.instr.Operation.TheVariants.{Add, AddWithCarry, Subtract, SubtractWithBorrow, And, ExclusiveOr, Or, Compare}
-use Rattle.isa8080.specs.declared.registers.Flags.{Flags}
-use Rattle.isa8080.specs.Arithmetic.{operate}
-use Rattle.isa8080.specs.State.{Registers}
-use Rattle.treecode.specs.declared.expression.ExpressionNumber.{ExpressionNumber}
-use Rattle.treecode.specs.declared.reference.Reference.{Reference}
-use Rattle.treecode.specs.Lowered.{IsExpression}
-use Rattle.steps8080.specs.declared.facts.Facts.{Facts}
-use Rattle.steps8080.specs.declared.step.Step.TheVariants.{Plain}
 use Rattle.steps8080.specs.declared.step.Task.TheVariants as tasks
-use Rattle.steps8080.specs.Instructions.{copy, with_register}
-use Rattle.steps8080.specs.Step.{part}
-use Rattle.isa8080.specs.declared.instr.Instr.TheVariants.{Pop, Push}
-use Rattle.isa8080.specs.declared.instr.Register.TheVariants.{A, B}
-use Rattle.isa8080.specs.declared.instr.StackPair.TheVariants.{Psw, StackBc}
-use Rattle.code_meaning.specs.Activations.{Arrives}
-use Rattle.code_meaning.specs.Landing.{Does, at_place}
-use Rattle.steps8080.specs.declared.sites.site.Site.{Site}
-use Rattle.steps8080.specs.Queries.{is_free, may_exchange}
-use Rattle.steps8080.specs.Widths.{is_byte_in_register, operand_in_memory}
-use Rattle.treecode_laws.proofs.Exchanging.{in_order}
-use Rattle.exprgen8080.specs.declared.byte_operators.ByteForm.{ByteForm}
-use Rattle.exprgen8080.specs.declared.byte_operators.ByteForm.TheVariants.{RightInMemory, LeftInMemory, LeftFree, RightFree, Pushed}
-use Rattle.exprgen8080.specs.declared.byte_operators.Operands.{Operands}
-use Rattle.exprgen8080.specs.ByteOperators.{commutes, form_after_right, form_from_register, form_of, form_with_left, form_without_memory, in_form_steps, with_e_steps, with_memory_steps, with_stack_steps}
-use Rattle.exprgen8080.specs.Emission.{knowing}
-use Rattle.task_laws.specs.Contexts.{Context, IsSound, nodes_in}
-use Rattle.task_laws.specs.Steps.{StepsStand}
-use Rattle.task_laws.specs.Tasks.{ByteIsGiven, Carries, Nothing, PartDoes}
 use Rattle.task_laws.proofs.Bytes.BytesAsked.{BytesAsked}
 use Rattle.task_laws.proofs.Bytes.ByteForms.{byte_given}
 use Rattle.task_laws.proofs.Bytes.ByteOperations.{IsOperated, IsValueOf, operand_at, operated_with_e, operated_with_first_in_b, operated_with_memory, operated_with_second_in_b}

@@ -1,33 +1,9 @@
 -- Whether an ADDRESS is 0 is shown by the steps that ask it.
-use Rattle.std.proofs.Common.{◌≡◌, ℕ, ◌*◌, ◌%◌, ◌==◌, Bool, true, false, ◌||◌, nat_lt, bit_and, ◌++◌, Option, Some, None, refl, sym, ap, ◌∙◌, subst, arith, if◌then◌else◌}
-use Rattle.std.proofs.lemmas.Option.{none-some, same_Some}
-use lib.Bits.{and_comm}
+use Rattle.task_laws.proofs.Prelude.{◌≡◌, ℕ, ◌*◌, ◌%◌, ◌==◌, Bool, true, false, ◌||◌, nat_lt, bit_and, ◌++◌, Option, Some, None, refl, sym, ap, ◌∙◌, subst, arith, if◌then◌else◌, none-some, same_Some, and_comm, height_of, TypedExpression, TypesHold, SourceState, Outcome, Gave, Stopped, then_do, ExpressionNumber, IsExpression, Facts, part, Is, Setting, number_in_a_steps, masked_steps, zero_by_hl_steps, knowing, Context, IsSound, nodes_in, StepsStand, Carries, Nothing, PartDoes, BinaryNode, Expression, ExpressionForm, IsForm, IsNumber, IsValue, IsLocation, IsConstantList, IsConversion, IsEmbedded, IsUnary, IsBinary, IsCallOf, IsFunction, IsShift, IsInput, number, masked, masked_form, word_is_zero_steps}
 use Rattle.trees.specs.declared.declaration.ScalarType.TheVariants as scalars
-use Rattle.typed_trees.specs.Charge.{height_of}
-use Rattle.typed_trees.specs.TypedTrees.{TypedExpression}
-use Rattle.typed_trees.specs.WellTyped.{TypesHold}
-use Rattle.meaning.specs.Outcomes.{State as SourceState, Outcome, Gave, Stopped, then_do}
-use Rattle.treecode.specs.declared.expression.ExpressionNumber.{ExpressionNumber}
-use Rattle.treecode.specs.Lowered.{IsExpression}
-use Rattle.steps8080.specs.declared.facts.Facts.{Facts}
-use Rattle.steps8080.specs.Step.{part}
-use Rattle.steps8080.specs.declared.sites.questions.NumberQuestion.TheVariants.{Is}
-use Rattle.operands8080.specs.declared.answers.Setting.{Setting}
-use Rattle.operands8080.specs.ByteRelations.{number_in_a_steps}
-use Rattle.operands8080.specs.WordRelations.{masked_steps, zero_by_hl_steps}
-use Rattle.exprgen8080.specs.Emission.{knowing}
-use Rattle.task_laws.specs.Contexts.{Context, IsSound, nodes_in}
-use Rattle.task_laws.specs.Steps.{StepsStand}
-use Rattle.task_laws.specs.Tasks.{Carries, Nothing, PartDoes}
 use Rattle.task_laws.proofs.Bytes.BytesAsked.{HighBytesGiven, ZeroIsShown}
 use Rattle.task_laws.proofs.Machine.SiteNodes.{value_in}
-use Rattle.typed_trees.specs.TypedTrees.{BinaryNode}
 use Rattle.trees.specs.declared.expression.BinaryOperator.TheVariants as operators
-use Rattle.treecode.specs.declared.expression.Expression.{Expression}
-use Rattle.treecode.specs.declared.expression.ExpressionForm.{ExpressionForm}
-use Rattle.treecode.specs.Lowered.{IsForm, IsNumber, IsValue, IsLocation, IsConstantList, IsConversion, IsEmbedded, IsUnary, IsBinary, IsCallOf, IsFunction, IsShift, IsInput}
-use Rattle.steps8080.specs.Queries.{number}
-use Rattle.operands8080.specs.WordRelations.{masked, masked_form, word_is_zero_steps}
 use Rattle.task_laws.proofs.Bytes.BytesAsked.{ZerosShown}
 use Rattle.task_laws.proofs.Machine.Nodes.{node_of}
 use Rattle.task_laws.proofs.Machine.SiteNodes.{number_means}

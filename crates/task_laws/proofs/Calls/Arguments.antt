@@ -1,34 +1,6 @@
 -- Code of the arguments of a call: all but the last are pushed.
-use Rattle.std.proofs.Common.{◌≡◌, ℕ, zero, suc, ◌+◌, ◌-◌, ◌*◌, ◌%◌, ◌<◌, ◌≤◌, inl, inr, nat_lt, true, List, [], ◌∷◌, ◌++◌, length, slice_get, Some, None, refl, sym, ap, subst, ◌∙◌, arith, lt-ltb, length-set}
-use Rattle.mem80.specs.declared.memory.TheConstants.{MEMORY_SIZE}
-use Rattle.mem80.specs.Memory.{byte_at}
-use Rattle.trees.specs.declared.declaration.ScalarType.{ScalarType}
-use Rattle.trees.specs.declared.declaration.ScalarType.TheVariants.{Byte, Address}
-use Rattle.typed_trees.specs.Charge.{count_of_arguments, height_of_arguments}
-use Rattle.typed_trees.specs.ExpressionTypes.{type_of}
-use Rattle.typed_trees.specs.TypedTrees.{MoreArguments, NoArguments, TypedArguments, TypedExpression}
-use Rattle.typed_trees.specs.WellTyped.{TypesHoldInArguments, types_of}
-use Rattle.meaning.specs.Meaning.{value, values}
-use Rattle.meaning.specs.Outcomes.{State as SourceState, Outcome, Gave, then_do}
-use Rattle.isa8080.specs.Flags.{flag_byte}
-use Rattle.isa8080.specs.State.{Registers, State, word, wrap}
+use Rattle.task_laws.proofs.Prelude.{◌≡◌, ℕ, zero, suc, ◌+◌, ◌-◌, ◌*◌, ◌%◌, ◌<◌, ◌≤◌, inl, inr, nat_lt, true, List, [], ◌∷◌, ◌++◌, length, slice_get, Some, None, refl, sym, ap, subst, ◌∙◌, arith, lt-ltb, length-set, MEMORY_SIZE, byte_at, ScalarType, Byte, Address, count_of_arguments, height_of_arguments, type_of, MoreArguments, NoArguments, TypedArguments, TypedExpression, TypesHoldInArguments, types_of, value, values, SourceState, Outcome, Gave, then_do, flag_byte, Registers, State, word, wrap, pushed_word, pushed_keeps, IsPushed, pushed_is_pushed, ExpressionNumber, Range, AreArguments, AreMore, AreNone, IsExpression, argument, Facts, Step, scalar, Activation, IsReady, LiesWell, Owns, Does, at_place, keeps_all, keeps_both, keeps_wider, owns_more, pushed_is_not_owned, argument_steps, arguments_steps, last_argument_steps, push_of, pushed_argument_steps, value_task, knowing, ArgumentsLie, Context, InRegister, InWord, IsSound, bytes_pushed, nodes_in, NoneThere, PartThere, PlainThere, StepsStand, PartDoes, TaskDoes}
 use Rattle.asm8080.specs.Standing.{Keeps}
-use Rattle.asm8080.proofs.Calls.{pushed as pushed_word, pushed_keeps, IsPushed, pushed_is_pushed}
-use Rattle.treecode.specs.declared.expression.ExpressionNumber.{ExpressionNumber}
-use Rattle.treecode.specs.declared.lists.Range.{Range}
-use Rattle.treecode.specs.Lowered.{AreArguments, AreMore, AreNone, IsExpression}
-use Rattle.treecode.specs.Queries.{argument}
-use Rattle.steps8080.specs.declared.facts.Facts.{Facts}
-use Rattle.steps8080.specs.declared.step.Step.{Step}
-use Rattle.steps8080.specs.Site.{scalar}
-use Rattle.code_meaning.specs.Activations.{Activation, IsReady, LiesWell, Owns}
-use Rattle.code_meaning.specs.Landing.{Does, at_place}
-use Rattle.code_meaning.proofs.Owning.{keeps_all, keeps_both, keeps_wider, owns_more, pushed_is_not_owned}
-use Rattle.exprgen8080.specs.Calls.{argument_steps, arguments_steps, last_argument_steps, push_of, pushed_argument_steps, value_task}
-use Rattle.exprgen8080.specs.Emission.{knowing}
-use Rattle.task_laws.specs.Contexts.{ArgumentsLie, Context, InRegister, InWord, IsSound, bytes_pushed, nodes_in}
-use Rattle.task_laws.specs.Steps.{NoneThere, PartThere, PlainThere, StepsStand}
-use Rattle.task_laws.specs.Tasks.{PartDoes, TaskDoes}
 use Rattle.task_laws.proofs.Machine.Nodes.{node_of}
 use Rattle.task_laws.proofs.Machine.Rules.{Parted, split}
 use Rattle.task_laws.proofs.Machine.Stages.{Stage, at_push, does_same, flag_byte_is_small, script_of}

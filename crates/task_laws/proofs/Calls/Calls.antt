@@ -1,33 +1,8 @@
 -- Code of a call of a procedure.
-use Rattle.std.proofs.Common.{◌≡◌, ℕ, suc, ◌+◌, ◌%◌, ◌-◌, ◌*◌, ◌<◌, ◌≤◌, ◌⊎◌, inl, inr, get_or, List, [], ◌∷◌, ◌++◌, length, slice_get, Option, Some, None, refl, sym, ap, subst, ◌∙◌, arith}
-use Rattle.std.proofs.lemmas.Option.{slice_get_cases, slice_get_within}
-use Rattle.std.specs.Prelude.{IsSomeAnd}
-use Rattle.trees.specs.declared.declaration.ScalarType.{ScalarType}
-use Rattle.typed_trees.specs.Charge.{count_of_arguments, height_of_arguments}
-use Rattle.typed_trees.specs.TypedTrees.{MoreArguments, NoArguments, TypedArguments, TypedProcedure}
-use Rattle.typed_trees.specs.WellTyped.{Takes, TypesHoldInArguments, types_of}
-use Rattle.meaning.specs.Meaning.{called_for, callee_in, values}
-use Rattle.meaning.specs.Outcomes.{State as SourceState, then_do}
-use Rattle.isa8080.specs.State.{Registers}
+use Rattle.task_laws.proofs.Prelude.{◌≡◌, ℕ, suc, ◌+◌, ◌%◌, ◌-◌, ◌*◌, ◌<◌, ◌≤◌, ◌⊎◌, inl, inr, get_or, List, [], ◌∷◌, ◌++◌, length, slice_get, Option, Some, None, refl, sym, ap, subst, ◌∙◌, arith, slice_get_cases, slice_get_within, IsSomeAnd, ScalarType, count_of_arguments, height_of_arguments, MoreArguments, NoArguments, TypedArguments, TypedProcedure, Takes, TypesHoldInArguments, types_of, called_for, callee_in, values, SourceState, then_do, Registers, Range, ProcedureKind, TreeProcedure, AreArguments, AreMore, AreNone, Facts, no_facts, Arrives, IsReady, IsThere, Owns, Does, at_place, gives, keeps_both, no_facts_hold, arguments_steps, call_steps, call_items, items_of_call, knowing, ArgumentsLie, Context, IsSound, ResultLies, bytes_pushed, nodes_in, CallThere, NoneThere, StepsStand, CallDoes, PartDoes, ResultIsGiven}
 use Rattle.asm8080.specs.Standing.{Keeps}
-use Rattle.treecode.specs.declared.lists.Range.{Range}
-use Rattle.treecode.specs.declared.procedure.ProcedureKind.{ProcedureKind}
 use Rattle.treecode.specs.declared.procedure.ProcedureKind.TheVariants as kinds
-use Rattle.treecode.specs.declared.procedure.TreeProcedure.{TreeProcedure}
-use Rattle.treecode.specs.Lowered.{AreArguments, AreMore, AreNone}
-use Rattle.steps8080.specs.declared.facts.Facts.{Facts}
 use Rattle.steps8080.specs.declared.step.Step.TheVariants as steps
-use Rattle.steps8080.specs.Facts.{no_facts}
-use Rattle.code_meaning.specs.Activations.{Arrives, IsReady, IsThere, Owns}
-use Rattle.code_meaning.specs.Landing.{Does, at_place}
-use Rattle.code_meaning.proofs.Landing.{gives}
-use Rattle.code_meaning.proofs.Owning.{keeps_both}
-use Rattle.code_meaning.proofs.Facts.Changes.{no_facts_hold}
-use Rattle.exprgen8080.specs.Calls.{arguments_steps, call_steps}
-use Rattle.exprgen8080.specs.Emission.{call_items, items_of_call, knowing}
-use Rattle.task_laws.specs.Contexts.{ArgumentsLie, Context, IsSound, ResultLies, bytes_pushed, nodes_in}
-use Rattle.task_laws.specs.Steps.{CallThere, NoneThere, StepsStand}
-use Rattle.task_laws.specs.Tasks.{CallDoes, PartDoes, ResultIsGiven}
 use Rattle.task_laws.proofs.Machine.Rules.{split}
 use Rattle.task_laws.proofs.Machine.Stages.{Stage, gives_then, script_of}
 use Rattle.task_laws.proofs.Calls.Arguments.{ArePassed, at_arguments, ready_now}

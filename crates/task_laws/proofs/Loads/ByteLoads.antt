@@ -1,38 +1,7 @@
 -- The code of the low byte of a value in memory, into A.
-use Rattle.std.proofs.Common.{◌≡◌, ℕ, ◌+◌, ◌*◌, ◌%◌, ◌<◌, true, List, [], ◌∷◌, Option, Some, None, refl, sym, ap, subst, ◌∙◌, arith}
-use Rattle.mem80.specs.declared.memory.TheConstants.{MEMORY_SIZE}
-use Rattle.mem80.specs.Memory.{byte_at}
-use Rattle.mem80.proofs.MemoryLemmas.{byte_small}
-use Rattle.trees.specs.declared.declaration.ScalarType.{ScalarType}
-use Rattle.trees.specs.declared.declaration.ScalarType.TheVariants.{Byte, Address}
-use Rattle.typed_trees.specs.Charge.{height_of_reference}
-use Rattle.typed_trees.specs.Sizes.{size_of_scalar}
-use Rattle.typed_trees.specs.TypedTrees.{TypedReference}
-use Rattle.typed_trees.specs.WellTyped.{RefersToScalar, TypesHoldInReference}
-use Rattle.meaning.specs.Access.{Place as SourcePlace, InMemory, InTheFrame, read_scalar}
-use Rattle.meaning.specs.Outcomes.{State as SourceState, Outcome, Gave, then_do}
-use Rattle.meaning.specs.Values.{values_of}
+use Rattle.task_laws.proofs.Prelude.{◌≡◌, ℕ, ◌+◌, ◌*◌, ◌%◌, ◌<◌, true, List, [], ◌∷◌, Option, Some, None, refl, sym, ap, subst, ◌∙◌, arith, MEMORY_SIZE, byte_at, byte_small, ScalarType, Byte, Address, height_of_reference, size_of_scalar, TypedReference, RefersToScalar, TypesHoldInReference, SourcePlace, InMemory, InTheFrame, read_scalar, SourceState, Outcome, Gave, then_do, values_of, Registers, State, wrap, Location, Reference, IsReference, is_static_location, Does, at_place, Activation, Arrives, IsReady, gives, IsSteady, Facts, Plain, load, part, location_of, byte_in_memory_steps, location_byte_steps, knowing, Context, IsSound, nodes_in, StepsStand, PartThere, Carries, ChangesAOnly, Know, Nothing, PartDoes, address_on_machine}
 use Rattle.isa8080.specs.declared.instr.Register.TheVariants as registers
-use Rattle.isa8080.specs.State.{Registers, State, wrap}
-use Rattle.treecode.specs.declared.place.Location.{Location}
-use Rattle.treecode.specs.declared.reference.Reference.{Reference}
-use Rattle.treecode.specs.Lowered.{IsReference}
-use Rattle.treecode.specs.Traits.{is_static_location}
-use Rattle.code_meaning.specs.Landing.{Does, at_place}
-use Rattle.code_meaning.specs.Activations.{Activation, Arrives, IsReady}
-use Rattle.code_meaning.proofs.Landing.{gives}
-use Rattle.code_meaning.specs.Holding.{IsSteady}
-use Rattle.steps8080.specs.declared.facts.Facts.{Facts}
-use Rattle.steps8080.specs.declared.step.Step.TheVariants.{Plain}
 use Rattle.steps8080.specs.declared.step.Task.TheVariants as tasks
-use Rattle.steps8080.specs.Instructions.{load}
-use Rattle.steps8080.specs.Step.{part}
-use Rattle.steps8080.specs.Queries.{location_of}
-use Rattle.operands8080.specs.Loads.{byte_in_memory_steps, location_byte_steps}
-use Rattle.exprgen8080.specs.Emission.{knowing}
-use Rattle.task_laws.specs.Contexts.{Context, IsSound, nodes_in}
-use Rattle.task_laws.specs.Steps.{StepsStand, PartThere}
-use Rattle.task_laws.specs.Tasks.{Carries, ChangesAOnly, Know, Nothing, PartDoes, address_on_machine}
 use Rattle.task_laws.proofs.Machine.Values.{then_does_where}
 use Rattle.task_laws.proofs.Places.Reading.{FitsIn, byte_read, word_read}
 use Rattle.task_laws.proofs.Places.Located.{located_in}

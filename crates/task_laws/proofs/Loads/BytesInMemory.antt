@@ -1,22 +1,8 @@
 -- The byte in memory that an expression is, at a site and as its node tells it.
-use Rattle.std.proofs.Common.{◌≡◌, ℕ, Option, Some, None, slice_get, refl, sym, ap, ◌∙◌}
-use Rattle.std.specs.Option.{option_map_or, option_and_then}
-use Rattle.trees.specs.declared.declaration.ScalarType.{ScalarType}
-use Rattle.trees.specs.declared.declaration.ScalarType.TheVariants.{Address, Byte}
-use Rattle.typed_trees.specs.declared.parts.UnaryFunction.TheVariants.{Low, High, Double}
-use Rattle.typed_trees.specs.TypedTrees.{TypedExpression}
-use Rattle.treecode.specs.declared.expression.Expression.{Expression}
-use Rattle.treecode.specs.declared.expression.ExpressionForm.{ExpressionForm}
+use Rattle.task_laws.proofs.Prelude.{◌≡◌, ℕ, Option, Some, None, slice_get, refl, sym, ap, ◌∙◌, option_map_or, option_and_then, ScalarType, Address, Byte, Low, High, Double, TypedExpression, Expression, ExpressionForm, ExpressionNumber, IsExpression, IsForm, IsNumber, IsValue, IsLocation, IsConstantList, IsConversion, IsEmbedded, IsUnary, IsBinary, IsCallOf, IsFunction, IsShift, IsInput, inside, Facts, form_in_memory, high_in_memory, high_of, memory, plain_in_memory, expression, knowing, Context, IsSound, nodes_in}
 use Rattle.treecode.specs.declared.expression.ExpressionForm.TheVariants as forms
-use Rattle.treecode.specs.declared.expression.ExpressionNumber.{ExpressionNumber}
-use Rattle.treecode.specs.Lowered.{IsExpression, IsForm, IsNumber, IsValue, IsLocation, IsConstantList, IsConversion, IsEmbedded, IsUnary, IsBinary, IsCallOf, IsFunction, IsShift, IsInput}
-use Rattle.treecode.specs.Queries.{inside}
 use Rattle.treecode.specs.Traits as traits
-use Rattle.steps8080.specs.declared.facts.Facts.{Facts}
-use Rattle.steps8080.specs.Queries.{form_in_memory, high_in_memory, high_of, memory, plain_in_memory, same_low_byte}
-use Rattle.steps8080.specs.Site.{expression}
-use Rattle.exprgen8080.specs.Emission.{knowing}
-use Rattle.task_laws.specs.Contexts.{Context, IsSound, nodes_in}
+use Rattle.steps8080.specs.Queries.{same_low_byte}
 use Rattle.task_laws.proofs.Machine.Nodes.{NodeOf, node_of}
 
 same_high : (form : ExpressionForm) (scalar : ScalarType) → high_of form scalar ≡ traits.byte_after scalar form

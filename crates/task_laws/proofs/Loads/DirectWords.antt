@@ -1,37 +1,5 @@
 -- Operations of a word in memory, at a known place, and the word in HL.
-use Rattle.std.proofs.Common.{◌≡◌, ℕ, ◌+◌, ◌-◌, ◌/◌, ◌%◌, ◌<◌, Bool, true, false, List, [], ◌∷◌, Option, Some, None, if◌then◌else◌, refl, sym, ◌∙◌, subst, arith}
-use Rattle.mem80.specs.Memory.{byte_at}
-use Rattle.trees.specs.declared.declaration.ScalarType.{ScalarType}
-use Rattle.trees.specs.declared.declaration.ScalarType.TheVariants.{Address}
-use Rattle.typed_trees.specs.Charge.{height_of}
-use Rattle.typed_trees.specs.ExpressionTypes.{type_of}
-use Rattle.meaning.specs.Outcomes.{State as SourceState, Gave}
-use Rattle.meaning.specs.Values.{values_of}
-use Rattle.isa8080.specs.declared.instr.Operation.{Operation}
-use Rattle.isa8080.specs.declared.instr.Operation.TheVariants.{Subtract, SubtractWithBorrow}
-use Rattle.isa8080.specs.declared.instr.Register.TheVariants.{A, H, L}
-use Rattle.isa8080.specs.State.{Registers}
-use Rattle.treecode.specs.declared.expression.ExpressionNumber.{ExpressionNumber}
-use Rattle.treecode.specs.declared.place.Place.{Place}
-use Rattle.treecode.specs.Homes.{place_after}
-use Rattle.treecode.specs.Traits.{keeps_none}
-use Rattle.code_meaning.specs.Landing.{Does, at_place}
-use Rattle.code_meaning.specs.Activations.{Arrives}
-use Rattle.code_meaning.specs.Holding.{IsSteady, place_at}
-use Rattle.steps8080.specs.declared.facts.Facts.{Facts}
-use Rattle.steps8080.specs.declared.step.Step.TheVariants.{Plain, Word}
-use Rattle.asm8080.specs.declared.item.WordForm.TheVariants.{LoadA}
-use Rattle.steps8080.specs.Instructions.{copy, with_register}
-use Rattle.steps8080.specs.declared.sites.site.Site.{Site}
-use Rattle.steps8080.specs.Queries.{keeps, may_exchange}
-use Rattle.steps8080.specs.Widths.{direct_word}
-use Rattle.operands8080.specs.declared.pairs.PairOrder.TheVariants.{RightInHl}
-use Rattle.exprgen8080.specs.declared.byte_operators.Operands.{Operands}
-use Rattle.exprgen8080.specs.Emission.{knowing}
-use Rattle.exprgen8080.specs.WordOperators.{left_word, with_word_steps}
-use Rattle.task_laws.specs.Contexts.{Context, IsSound}
-use Rattle.task_laws.specs.Steps.{StepsStand, PartThere, WordThere}
-use Rattle.task_laws.specs.Tasks.{PartDoes, WordIsGiven}
+use Rattle.task_laws.proofs.Prelude.{◌≡◌, ℕ, ◌+◌, ◌-◌, ◌/◌, ◌%◌, ◌<◌, Bool, true, false, List, [], ◌∷◌, Option, Some, None, if◌then◌else◌, refl, sym, ◌∙◌, subst, arith, byte_at, ScalarType, Address, height_of, type_of, SourceState, Gave, values_of, Operation, Subtract, SubtractWithBorrow, A, H, L, Registers, ExpressionNumber, Place, place_after, keeps_none, Does, at_place, Arrives, IsSteady, place_at, Facts, Plain, Word, LoadA, copy, with_register, Site, keeps, may_exchange, direct_word, RightInHl, Operands, knowing, left_word, with_word_steps, Context, IsSound, StepsStand, PartThere, WordThere, PartDoes, WordIsGiven}
 use Rattle.task_laws.proofs.Bytes.BytesAsked.{WordAtPlace, WordsAtPlaces}
 use Rattle.task_laws.proofs.Words.PairedWords.{Makes, byte_instructions, difference_makes, kept_none}
 use Rattle.task_laws.proofs.Relations.PlaceComparisons.{read_then}

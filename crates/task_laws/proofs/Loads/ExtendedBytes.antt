@@ -1,59 +1,10 @@
 -- Bytes in memory that come into HL with zeros added.
-use Rattle.std.proofs.Common.{◌≡◌, ℕ, ◌+◌, ◌*◌, ◌/◌, ◌%◌, ◌<◌, ◌==◌, ◌&&◌, ◌⊎◌, inl, inr, Bool, true, false, if◌then◌else◌, List, [], ◌∷◌, ◌++◌, Option, Some, None, refl, sym, ap, ◌∙◌, subst, arith}
-use Rattle.std.specs.Option.{option_map_or}
-use Rattle.std.proofs.lemmas.Bool.{eqb-true, false≢true}
-use Rattle.mem80.specs.declared.memory.TheConstants.{MEMORY_SIZE}
-use Rattle.mem80.specs.Memory.{byte_at, word_at}
-use Rattle.mem80.proofs.MemoryLemmas.{byte_small}
-use Rattle.ports.specs.declared.event.Event.{Event}
-use Rattle.trees.specs.declared.declaration.ScalarType.{ScalarType}
-use Rattle.trees.specs.declared.declaration.ScalarType.TheVariants.{Address, Byte}
-use Rattle.typed_trees.specs.Charge.{height_of_reference}
-use Rattle.typed_trees.specs.ExpressionTypes.{type_of}
-use Rattle.typed_trees.specs.TypedTrees.{Home as TypedHome, InData, InConstants, Placed, BasedOn, Elsewhere, Nowhere, InFrame, PartOf, TypedExpression, TypedReference}
-use Rattle.typed_trees.specs.WellTyped.{TypesHold}
-use Rattle.meaning.specs.Access.{Place as SourcePlace, InMemory, home_of, place_of, read_scalar}
-use Rattle.meaning.specs.Meaning.{based_place, displacement}
-use Rattle.meaning.specs.Outcomes.{State as SourceState, Outcome, Gave, then_do}
-use Rattle.meaning.specs.Values.{values_of}
-use Rattle.isa8080.specs.declared.instr.Instr.{Instr}
+use Rattle.task_laws.proofs.Prelude.{◌≡◌, ℕ, ◌+◌, ◌*◌, ◌/◌, ◌%◌, ◌<◌, ◌==◌, ◌&&◌, ◌⊎◌, inl, inr, Bool, true, false, if◌then◌else◌, List, [], ◌∷◌, ◌++◌, Option, Some, None, refl, sym, ap, ◌∙◌, subst, arith, option_map_or, eqb-true, false≢true, MEMORY_SIZE, byte_at, word_at, byte_small, Event, ScalarType, Address, Byte, height_of_reference, type_of, TypedHome, InData, InConstants, Placed, BasedOn, Elsewhere, Nowhere, InFrame, PartOf, TypedExpression, TypedReference, TypesHold, SourcePlace, InMemory, home_of, place_of, read_scalar, based_place, displacement, SourceState, Outcome, Gave, then_do, values_of, Instr, H, L, Registers, State, high_byte, low_byte, word, wrap, LoadHl, ExpressionForm, ExpressionNumber, Location, Place, Reference, Keeps, IsExpression, IsForm, IsNumber, IsValue, IsLocation, IsConstantList, IsConversion, IsEmbedded, IsUnary, IsBinary, IsCallOf, IsFunction, IsShift, IsInput, keeps_none, keeps_of_form, memory_of_form, Does, at_place, Arrives, HasRoom, plain_first, location_at, place_at, without_hl_holds, address_in_hl_is, byte_in_a_is, byte_in_h_is, word_in_hl_is, GoesOutside, Facts, Part, Step, Plain, Word, before, is_at, copy, load, set, part_of, plain, keeps, keeps_at_site, location_of, memory_of, distance, location_address_steps, byte_to_l_steps, extended_byte_in_memory_steps, frame_byte_to_l_steps, top_word_steps, knowing, Context, IsSound, distances_in, nodes_in, StepsStand, NoneThere, PartThere, PlainThere, WordThere, Know, PartDoes, WordIsGiven, address_on_machine}
 use Rattle.isa8080.specs.declared.instr.Register.TheVariants as registers
-use Rattle.isa8080.specs.declared.instr.Register.TheVariants.{H, L}
-use Rattle.isa8080.specs.State.{Registers, State, high_byte, low_byte, word, wrap}
-use Rattle.asm8080.specs.declared.item.WordForm.TheVariants.{LoadHl}
-use Rattle.treecode.specs.declared.expression.ExpressionForm.{ExpressionForm}
 use Rattle.treecode.specs.declared.expression.ExpressionForm.TheVariants as forms
-use Rattle.treecode.specs.declared.expression.ExpressionNumber.{ExpressionNumber}
-use Rattle.treecode.specs.declared.place.Location.{Location}
 use Rattle.treecode.specs.declared.place.Location.TheVariants as locations
-use Rattle.treecode.specs.declared.place.Place.{Place}
-use Rattle.treecode.specs.declared.reference.Reference.{Reference}
-use Rattle.treecode.specs.declared.traits.Keeps.{Keeps}
-use Rattle.treecode.specs.Lowered.{IsExpression, IsForm, IsNumber, IsValue, IsLocation, IsConstantList, IsConversion, IsEmbedded, IsUnary, IsBinary, IsCallOf, IsFunction, IsShift, IsInput}
-use Rattle.treecode.specs.Traits.{keeps_none, keeps_of_address, keeps_of_form, memory_of_form}
-use Rattle.code_meaning.specs.Landing.{Does, at_place}
-use Rattle.code_meaning.specs.Activations.{Arrives, HasRoom}
-use Rattle.code_meaning.proofs.FirstItems.{plain_first}
-use Rattle.code_meaning.specs.Holding.{location_at, place_at}
-use Rattle.code_meaning.proofs.Facts.Changes.{without_hl_holds}
-use Rattle.code_meaning.proofs.Facts.Uses.{address_in_hl_is, byte_in_a_is, byte_in_h_is, word_in_hl_is}
-use Rattle.treecode_laws.specs.internal.Evaluations.{GoesOutside}
-use Rattle.steps8080.specs.declared.facts.Facts.{Facts}
-use Rattle.steps8080.specs.declared.step.Part.{Part}
-use Rattle.steps8080.specs.declared.step.Step.{Step}
-use Rattle.steps8080.specs.declared.step.Step.TheVariants.{Plain, Word}
+use Rattle.treecode.specs.Traits.{keeps_of_address}
 use Rattle.steps8080.specs.declared.step.Task.TheVariants as tasks
-use Rattle.steps8080.specs.Facts.{before, is_at}
-use Rattle.steps8080.specs.Instructions.{copy, load, set}
-use Rattle.steps8080.specs.Step.{part as part_of, plain}
-use Rattle.steps8080.specs.Queries.{keeps, keeps_of_address as keeps_at_site, location_of, memory as memory_of}
-use Rattle.steps8080.specs.Site.{distance}
-use Rattle.operands8080.specs.Addresses.{location_address_steps}
-use Rattle.operands8080.specs.Loads.{byte_to_l_steps, extended_byte_in_memory_steps, frame_byte_to_l_steps, top_word_steps}
-use Rattle.exprgen8080.specs.Emission.{knowing}
-use Rattle.task_laws.specs.Contexts.{Context, IsSound, distances_in, nodes_in}
-use Rattle.task_laws.specs.Steps.{StepsStand, NoneThere, PartThere, PlainThere, WordThere}
-use Rattle.task_laws.specs.Tasks.{Know, PartDoes, WordIsGiven, address_on_machine}
 use Rattle.task_laws.proofs.Machine.Addresses.{location_address_goes, nothing_goes, registers_end}
 use Rattle.task_laws.proofs.Places.Fitting.{gave_first}
 use Rattle.task_laws.proofs.Words.KeptInside.{IsKeptBy}

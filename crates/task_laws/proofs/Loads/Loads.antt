@@ -1,38 +1,8 @@
 -- The code of values in memory.
-use Rattle.std.proofs.Common.{◌≡◌, ℕ, ◌&&◌, ◌+◌, ◌*◌, ◌/◌, ◌%◌, ◌<◌, Bool, true, List, ◌∷◌, Option, Some, None, refl, sym, ap, subst, ◌∙◌, arith}
-use Rattle.std.specs.Prelude.{IsSomeAnd, slice_get}
-use Rattle.mem80.specs.Memory.{byte_at}
-use Rattle.mem80.proofs.MemoryLemmas.{byte_small}
-use Rattle.trees.specs.declared.declaration.ScalarType.TheVariants.{Address}
-use Rattle.typed_trees.specs.Charge.{height_of_reference}
-use Rattle.typed_trees.specs.TypedTrees.{PartOf, Subscript, TypedObject, TypedReference}
-use Rattle.typed_trees.specs.WellTyped.{IsSeen, RefersToScalar, TypesHoldInReference}
-use Rattle.meaning.specs.Access.{Place as SourcePlace, InMemory, InTheFrame, home_of, read_scalar}
-use Rattle.meaning.specs.Meaning.{Displacement, based_place, displacement}
-use Rattle.meaning.specs.Outcomes.{State as SourceState, Outcome, Gave, Stopped, then_do}
-use Rattle.isa8080.specs.State.{Registers, State, wrap}
-use Rattle.treecode.specs.declared.place.Location.{Location}
-use Rattle.treecode.specs.declared.reference.Reference.{Reference}
-use Rattle.treecode.specs.declared.reference.Subscript.{Subscript as IndexNode}
-use Rattle.treecode.specs.Lowered.{IsPart, IsReference}
-use Rattle.treecode.specs.Queries.{home}
-use Rattle.treecode.specs.Traits.{is_static_location}
-use Rattle.code_meaning.specs.Landing.{Does, at_place}
-use Rattle.code_meaning.specs.Activations.{Arrives}
-use Rattle.code_meaning.proofs.Landing.{gives}
-use Rattle.code_meaning.specs.Holding.{IsSteady, location_at, place_at}
-use Rattle.steps8080.specs.declared.facts.Facts.{Facts}
+use Rattle.task_laws.proofs.Prelude.{◌≡◌, ℕ, ◌&&◌, ◌+◌, ◌*◌, ◌/◌, ◌%◌, ◌<◌, Bool, true, List, ◌∷◌, Option, Some, None, refl, sym, ap, subst, ◌∙◌, arith, IsSomeAnd, slice_get, byte_at, byte_small, Address, height_of_reference, PartOf, Subscript, TypedObject, TypedReference, IsSeen, RefersToScalar, TypesHoldInReference, SourcePlace, InMemory, InTheFrame, home_of, read_scalar, Displacement, based_place, displacement, SourceState, Outcome, Gave, Stopped, then_do, Registers, State, wrap, Location, Reference, IndexNode, IsPart, IsReference, home, is_static_location, Does, at_place, Arrives, gives, IsSteady, location_at, place_at, Facts, part, Base, base_after, base_of, keeps_of_address, location_of, base_location, located_at, location_word_steps, word_at_hl_steps, word_in_memory_steps, knowing, Context, IsSound, distances_in, nodes_in, StepsStand, PartThere, Carries, IsReferred, Know, Left, Nothing, PartDoes, address_on_machine}
 use Rattle.steps8080.specs.declared.step.Task.TheVariants as tasks
-use Rattle.steps8080.specs.Step.{part}
-use Rattle.steps8080.specs.declared.sites.queries.Base.{Base}
 use Rattle.steps8080.specs.declared.sites.queries.Base.TheVariants as bases
-use Rattle.steps8080.specs.Queries.{base_after, base_of, keeps_of_address, located, location_of, location_at as base_location, located_at}
-use Rattle.operands8080.specs.Addresses.{location_word_steps, word_at_hl_steps}
-use Rattle.operands8080.specs.Loads.{word_in_memory_steps}
-use Rattle.exprgen8080.specs.Emission.{knowing}
-use Rattle.task_laws.specs.Contexts.{Context, IsSound, distances_in, nodes_in}
-use Rattle.task_laws.specs.Steps.{StepsStand, PartThere}
-use Rattle.task_laws.specs.Tasks.{Carries, IsReferred, Know, Left, Nothing, PartDoes, address_on_machine}
+use Rattle.steps8080.specs.Queries.{located}
 use Rattle.task_laws.proofs.Machine.Values.{then_does_where}
 use Rattle.task_laws.proofs.Places.LocationWords.{location_word_goes, word_at_hl_goes}
 use Rattle.task_laws.proofs.Places.Reading.{word_read}

@@ -1,34 +1,6 @@
 -- The code of addresses of locations, and of words there: HL holds them then, and what is beside stays.
-use Rattle.std.proofs.Common.{◌≡◌, ℕ, zero, suc, ◌+◌, ◌*◌, ◌%◌, ◌<◌, Bool, true, false, if◌then◌else◌, nat_le, List, [], ◌∷◌, ◌++◌, Some, refl, sym, ap, subst, append-nil, ◌∙◌, arith}
-use Rattle.ports.specs.declared.event.Event.{Event}
-use Rattle.meaning.specs.Outcomes.{State as SourceState, Outcome}
-use Rattle.isa8080.specs.declared.instr.Instr.{Instr}
-use Rattle.isa8080.specs.declared.instr.Instr.TheVariants.{Dad, Dcx, Inx, Lxi}
-use Rattle.isa8080.specs.declared.instr.Pair.TheVariants.{Bc, Hl, Sp}
-use Rattle.isa8080.specs.State.{Registers, State, high_byte, low_byte, word, wrap}
-use Rattle.asm8080.specs.declared.item.WordForm.TheVariants.{LoadPair}
-use Rattle.treecode.specs.declared.place.Place.{Place}
-use Rattle.treecode.specs.declared.place.Place.TheVariants.{Number, Code, Data, External}
-use Rattle.treecode.specs.declared.place.Location.{Location}
+use Rattle.task_laws.proofs.Prelude.{◌≡◌, ℕ, zero, suc, ◌+◌, ◌*◌, ◌%◌, ◌<◌, Bool, true, false, if◌then◌else◌, nat_le, List, [], ◌∷◌, ◌++◌, Some, refl, sym, ap, subst, append-nil, ◌∙◌, arith, Event, SourceState, Outcome, Instr, Dad, Dcx, Inx, Lxi, Bc, Hl, Sp, Registers, State, high_byte, low_byte, word, wrap, LoadPair, Place, Number, Code, Data, External, Location, location_after, Does, at_place, HasRoom, location_at, place_at, after_before, location_after_is, address_in_hl_is, Facts, Part, Step, Plain, Word, before, is_at, no_facts, plain, repeat_steps, distance, addition_steps, hold_address_steps, location_address_steps, negated, new_address_steps, number_added_steps, knowing, Context, IsSound, distances_in, StepsStand, NoneThere, WordThere, HoldsThere, Know}
 use Rattle.treecode.specs.declared.place.Location.TheVariants as locations
-use Rattle.treecode.specs.Homes.{location_after}
-use Rattle.code_meaning.specs.Landing.{Does, at_place}
-use Rattle.code_meaning.specs.Activations.{HasRoom}
-use Rattle.code_meaning.specs.Holding.{location_at, place_at}
-use Rattle.code_meaning.proofs.Facts.Places.{after_before, location_after_is}
-use Rattle.code_meaning.proofs.Facts.Uses.{address_in_hl_is}
-use Rattle.steps8080.specs.declared.facts.Facts.{Facts}
-use Rattle.steps8080.specs.declared.step.Part.{Part}
-use Rattle.steps8080.specs.declared.step.Step.{Step}
-use Rattle.steps8080.specs.declared.step.Step.TheVariants.{Plain, Word}
-use Rattle.steps8080.specs.Facts.{before, is_at, no_facts}
-use Rattle.steps8080.specs.Step.{plain, repeat_steps}
-use Rattle.steps8080.specs.Site.{distance}
-use Rattle.operands8080.specs.Addresses.{addition_steps, hold_address_steps, location_address_steps, negated, new_address_steps, number_added_steps}
-use Rattle.exprgen8080.specs.Emission.{knowing}
-use Rattle.task_laws.specs.Contexts.{Context, IsSound, distances_in}
-use Rattle.task_laws.specs.Steps.{StepsStand, NoneThere, WordThere, HoldsThere}
-use Rattle.task_laws.specs.Tasks.{Know}
 use Rattle.task_laws.proofs.Machine.Rules.{GoesOn, holds_go, ready_with_registers, word_goes}
 use Rattle.task_laws.proofs.Machine.RegisterCode.{AreOnRegisters, effect, registers_then}
 

@@ -1,47 +1,9 @@
 -- Code of what an expression of each form does beside its value.
-use Rattle.std.proofs.Common.{◌≡◌, ℕ, ◌+◌, ◌*◌, ◌<◌, ◌≤◌, ◌⊎◌, inl, inr, Bool, true, false, if◌then◌else◌, List, [], ◌∷◌, ◌++◌, Option, Some, None, refl, sym, ap, subst, ◌∙◌, arith, zero, suc, All, slice_get, slice_index_or}
-use Rattle.ports.specs.Events.{read_event}
-use Rattle.ports.specs.Input.{input_value, queue_of}
-use Rattle.trees.specs.declared.declaration.ScalarType.{ScalarType}
-use Rattle.typed_trees.specs.Charge.{height_of}
-use Rattle.typed_trees.specs.TypedTrees.{TypedExpression}
-use Rattle.typed_trees.specs.WellTyped.{TypesHold}
-use Rattle.meaning.specs.Meaning.{address_in_memory, computed, value}
-use Rattle.meaning.specs.Access.{read_scalar}
-use Rattle.meaning.specs.Outcomes.{State as SourceState, Outcome, Gave, Stopped, then_do}
-use Rattle.meaning.specs.Values.{as_type, function_of, result_of, result_of_one, shifted}
-use Rattle.isa8080.specs.declared.instr.Instr.TheVariants.{In}
+use Rattle.task_laws.proofs.Prelude.{◌≡◌, ℕ, ◌+◌, ◌*◌, ◌<◌, ◌≤◌, ◌⊎◌, inl, inr, Bool, true, false, if◌then◌else◌, List, [], ◌∷◌, ◌++◌, Option, Some, None, refl, sym, ap, subst, ◌∙◌, arith, zero, suc, All, slice_get, slice_index_or, read_event, input_value, queue_of, ScalarType, height_of, TypedExpression, TypesHold, address_in_memory, computed, value, read_scalar, SourceState, Outcome, Gave, Stopped, then_do, as_type, function_of, result_of, result_of_one, shifted, In, after, Registers, State, Expression, ExpressionForm, ExpressionNumber, IsExpression, IsForm, IsNumber, IsValue, IsLocation, IsConstantList, IsConversion, IsEmbedded, IsUnary, IsBinary, IsCallOf, IsFunction, IsShift, IsInput, is_free, is_quiet, keeps, option_map_or, is_some, left_true, right_true, Low, High, Double, Site, expression, Keeps, nodes_of, free_at, has_immediate, is_free_form, is_free_with, is_of_low_byte, is_quiet_form, keeps_at, no_traits, number_at, quiet_at, quiet_computed, quiet_gave, quiet_scalar, false_is_true, Facts, Arrives, IsThere, Does, at_place, gives, both_effects_steps, effects_steps, form_effects_steps, knowing, Context, IsSound, nodes_in, NoneThere, PartThere, PlainThere, StepsStand, ChangesAOnly, EffectsAreGiven, EffectsDo, Know, NothingIsGiven, PartDoes}
 use Rattle.asm8080.specs.declared.item.Item.TheVariants as items
-use Rattle.steps8080.specs.Facts.{after}
-use Rattle.isa8080.specs.State.{Registers, State}
-use Rattle.treecode.specs.declared.expression.Expression.{Expression}
-use Rattle.treecode.specs.declared.expression.ExpressionForm.{ExpressionForm}
 use Rattle.treecode.specs.declared.expression.ExpressionForm.TheVariants as forms
-use Rattle.treecode.specs.declared.expression.ExpressionNumber.{ExpressionNumber}
-use Rattle.treecode.specs.Lowered.{IsExpression, IsForm, IsNumber, IsValue, IsLocation, IsConstantList, IsConversion, IsEmbedded, IsUnary, IsBinary, IsCallOf, IsFunction, IsShift, IsInput}
-use Rattle.steps8080.specs.Queries.{is_free, is_quiet, keeps}
-use Rattle.std.specs.Option.{option_map_or}
-use Rattle.std.specs.Prelude.{is_some}
-use Rattle.asm8080.proofs.Segments.{left_true, right_true}
-use Rattle.typed_trees.specs.declared.parts.UnaryFunction.TheVariants.{Low, High, Double}
-use Rattle.steps8080.specs.declared.sites.site.Site.{Site}
-use Rattle.steps8080.specs.Site.{expression}
-use Rattle.treecode.specs.declared.traits.Keeps.{Keeps}
-use Rattle.treecode.specs.Nodes.{nodes_of}
-use Rattle.treecode.specs.Traits.{free_at, has_immediate, is_free_form, is_free_with, is_of_low_byte, is_quiet_form, keeps_at, no_traits, number_at, quiet_at}
 use Rattle.task_laws.proofs.Machine.FreeForms.{high_is_quiet, not_known, number_is_free, value_is_quiet}
 use Rattle.task_laws.proofs.Machine.KeptCode.{kept_quiet, quiet_of_entry}
-use Rattle.treecode_laws.proofs.Evaluating.{quiet_computed, quiet_gave, quiet_scalar}
-use Rattle.treecode_laws.proofs.QuietTrees.{false_is_true}
-use Rattle.steps8080.specs.declared.facts.Facts.{Facts}
-use Rattle.code_meaning.specs.Activations.{Arrives, IsThere}
-use Rattle.code_meaning.specs.Landing.{Does, at_place}
-use Rattle.code_meaning.proofs.Landing.{gives}
-use Rattle.exprgen8080.specs.Effects.{both_effects_steps, effects_steps, form_effects_steps}
-use Rattle.exprgen8080.specs.Emission.{knowing}
-use Rattle.task_laws.specs.Contexts.{Context, IsSound, nodes_in}
-use Rattle.task_laws.specs.Steps.{NoneThere, PartThere, PlainThere, StepsStand}
-use Rattle.task_laws.specs.Tasks.{ChangesAOnly, EffectsAreGiven, EffectsDo, Know, NothingIsGiven, PartDoes}
 use Rattle.task_laws.proofs.Machine.Nodes.{node_of}
 use Rattle.task_laws.proofs.Machine.Rules.{plain_goes, ready_with_registers}
 use Rattle.task_laws.proofs.Machine.Stages.{Stage, at_effects, does_same, gives_then, has_less_room, script_of}

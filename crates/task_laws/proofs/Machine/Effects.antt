@@ -1,26 +1,7 @@
 -- Code of what an expression does beside its value.
-use Rattle.std.proofs.Common.{◌≡◌, ℕ, ◌+◌, ◌*◌, ◌≤◌, ◌&&◌, List, Option, refl, ap, arith}
-use Rattle.typed_trees.specs.Charge.{height_of_reference, height_of_subscript}
-use Rattle.typed_trees.specs.TypedTrees.{TypedReference, Subscript}
-use Rattle.typed_trees.specs.WellTyped.{TypesHoldInReference, TypesHoldInSubscript}
-use Rattle.meaning.specs.Meaning.{Displacement, based_place, displacement, displaced, located, no_displacement, value}
-use Rattle.meaning.specs.Access.{Place, home_of}
-use Rattle.meaning.specs.Outcomes.{State as SourceState, Outcome, Gave, Stopped, then_do}
-use Rattle.isa8080.specs.State.{Registers, State}
-use Rattle.treecode.specs.declared.reference.Reference.{Reference}
-use Rattle.treecode.specs.declared.reference.Subscript.{Subscript as IndexNode}
-use Rattle.treecode.specs.Lowered.{IsReference, IsPart, IsSubscript, IsAbsent, IsIndex}
-use Rattle.treecode_laws.specs.internal.Evaluations.{Answer, Found, Fails, IsQuiet, outcome_of}
-use Rattle.treecode_laws.proofs.Evaluating.{quiet_base}
-use Rattle.steps8080.specs.declared.facts.Facts.{Facts}
-use Rattle.code_meaning.specs.Activations.{Arrives}
-use Rattle.code_meaning.specs.Landing.{Does, at_place}
-use Rattle.code_meaning.proofs.Access.{outside_does}
-use Rattle.code_meaning.proofs.Landing.{gives}
-use Rattle.exprgen8080.specs.Effects.{reference_effects_steps, subscript_effects_steps}
-use Rattle.task_laws.specs.Contexts.{Context, nodes_in}
-use Rattle.task_laws.specs.Steps.{NoneThere, PartThere, StepsStand}
-use Rattle.task_laws.specs.Tasks.{NothingIsGiven, PartDoes}
+use Rattle.task_laws.proofs.Prelude.{◌≡◌, ℕ, ◌+◌, ◌*◌, ◌≤◌, ◌&&◌, List, Option, refl, ap, arith, height_of_reference, height_of_subscript, TypedReference, Subscript, TypesHoldInReference, TypesHoldInSubscript, Displacement, based_place, displacement, displaced, located, no_displacement, value, home_of, SourceState, Outcome, Gave, Stopped, then_do, Registers, State, Reference, IndexNode, IsReference, IsPart, IsSubscript, IsAbsent, IsIndex, Found, Fails, IsQuiet, outcome_of, quiet_base, Facts, Arrives, Does, at_place, outside_does, gives, reference_effects_steps, subscript_effects_steps, Context, nodes_in, NoneThere, PartThere, StepsStand, NothingIsGiven, PartDoes}
+use Rattle.meaning.specs.Access.{Place}
+use Rattle.treecode_laws.specs.internal.Evaluations.{Answer}
 use Rattle.task_laws.proofs.Machine.Rules.{split}
 use Rattle.task_laws.proofs.Machine.Stages.{Stage, at_effects, does_same, script_of}
 

@@ -1,27 +1,6 @@
 -- Expressions that are free: one that is a number is, and one that lies in memory is quiet.
-use Rattle.std.proofs.Common.{◌≡◌, ℕ, ◌+◌, ◌%◌, ◌&&◌, Bool, true, false, Option, Some, None, refl, sym, ap, ◌∙◌}
-use Rattle.std.specs.Prelude.{is_some, slice_get}
-use Rattle.std.specs.Option.{option_and_then, option_map_or}
-use Rattle.trees.specs.declared.declaration.ScalarType.{ScalarType}
-use Rattle.trees.specs.declared.declaration.ScalarType.TheVariants.{Byte, Address}
-use Rattle.typed_trees.specs.declared.parts.UnaryFunction.TheVariants.{High}
-use Rattle.typed_trees.specs.TypedTrees.{TypedExpression, TypedReference}
-use Rattle.layout.specs.Storage.{Storage}
-use Rattle.treecode.proofs.KeptValues.{node_traits}
-use Rattle.treecode_laws.proofs.QuietTrees.{false_is_true}
-use Rattle.treecode.specs.declared.expression.Expression.{Expression}
-use Rattle.treecode.specs.declared.expression.ExpressionForm.{ExpressionForm}
+use Rattle.task_laws.proofs.Prelude.{◌≡◌, ℕ, ◌+◌, ◌%◌, ◌&&◌, Bool, true, false, Option, Some, None, refl, sym, ap, ◌∙◌, is_some, slice_get, option_and_then, option_map_or, ScalarType, Byte, Address, High, TypedExpression, TypedReference, Storage, node_traits, false_is_true, Expression, ExpressionForm, ExpressionNumber, Place, Code, Data, External, Number, Reference, Traits, number_of_place, known_number, IsExpression, IsForm, IsNode, IsPart, IsReference, IsValue, Nodes, home_at, KeepTraits, byte_after, distance_of, free_at, is_direct, is_free_form, is_free_of, is_quiet_form, known_of, number_at, place_of_reference, quiet_at, traits_of}
 use Rattle.treecode.specs.declared.expression.ExpressionForm.TheVariants as forms
-use Rattle.treecode.specs.declared.expression.ExpressionNumber.{ExpressionNumber}
-use Rattle.treecode.specs.declared.place.Place.{Place}
-use Rattle.treecode.specs.declared.place.Place.TheVariants.{Code, Data, External, Number}
-use Rattle.treecode.specs.declared.reference.Reference.{Reference}
-use Rattle.treecode.specs.declared.traits.Traits.{Traits}
-use Rattle.treecode.specs.Homes.{number_of_place}
-use Rattle.treecode.specs.Known.{known_number}
-use Rattle.treecode.specs.Lowered.{IsExpression, IsForm, IsNode, IsPart, IsReference, IsValue}
-use Rattle.treecode.specs.Nodes.{Nodes, home_at}
-use Rattle.treecode.specs.Traits.{KeepTraits, byte_after, distance_of, free_at, is_direct, is_free_form, is_free_of, is_quiet_form, known_of, number_at, place_of_reference, quiet_at, traits_of}
 use Rattle.task_laws.proofs.Machine.KeptCode.{index_known_quiet, known_of_entry, known_quiet, part_known_quiet, place_known, quiet_of_entry}
 
 both_true : (one other : Bool) → one ≡ true → other ≡ true → (one && other) ≡ true

@@ -1,31 +1,9 @@
 -- An expression whose code keeps A or DE is quiet, and so is one that is known.
-use Rattle.std.proofs.Common.{◌≡◌, ℕ, zero, suc, ◌%◌, ◌<◌, ◌≤◌, ◌&&◌, ◌⊎◌, inl, inr, Bool, true, false, not, ◌||◌, if◌then◌else◌, Option, Some, None, is_some, option_and_then, option_map, slice_get, refl, sym, ap, subst, ◌∙◌, arith}
-use Rattle.std.proofs.lemmas.Bool.{and_parts}
-use Rattle.trees.specs.declared.declaration.ScalarType.{ScalarType}
-use Rattle.trees.specs.declared.declaration.ScalarType.TheVariants.{Byte, Address}
-use Rattle.trees.specs.declared.expression.BinaryOperator.TheVariants.{Or, Xor, And, Equal, Less, Greater, LessOrEqual, GreaterOrEqual, Unequal, Add, Subtract, Multiply, Divide, Modulo}
-use Rattle.typed_trees.specs.TypedTrees.{Subscript, TypedExpression, TypedReference}
-use Rattle.layout.specs.Storage.{Storage}
-use Rattle.treecode.specs.declared.expression.Expression.{Expression}
-use Rattle.treecode.specs.declared.expression.ExpressionForm.{ExpressionForm}
+use Rattle.task_laws.proofs.Prelude.{◌≡◌, ℕ, zero, suc, ◌%◌, ◌<◌, ◌≤◌, ◌&&◌, ◌⊎◌, inl, inr, Bool, true, false, not, ◌||◌, if◌then◌else◌, Option, Some, None, is_some, option_and_then, option_map, slice_get, refl, sym, ap, subst, ◌∙◌, arith, and_parts, ScalarType, Byte, Address, Xor, Less, Greater, LessOrEqual, GreaterOrEqual, Unequal, Multiply, Divide, Modulo, Subscript, TypedExpression, TypedReference, Storage, Expression, ExpressionForm, Home, Place, Reference, IndexNode, Keeps, Traits, place_of_part, IsExpression, IsNode, IsForm, IsNumber, IsValue, IsLocation, IsConstantList, IsConversion, IsEmbedded, IsUnary, IsBinary, IsCallOf, IsFunction, IsShift, IsInput, IsReference, IsPart, IsSubscript, IsAbsent, IsIndex, Nodes, home_at, option_map_or, ShiftLeft, ShiftRight, RotateLeft, RotateRight, Low, High, Double, ExpressionNumber, KeepTraits, byte_after, distance_of, form_at, is_quiet_form, is_static_location, keeps_at, keeps_of, keeps_none, keeps_of_byte, keeps_of_extended, keeps_of_form, keeps_of_index, keeps_of_part, keeps_of_shift, keeps_of_subscript, keeps_of_sum, known_at, known_of, memory_of_form, memory_of_inner, number_at, place_of_reference, quiet_at, reference_is_quiet, same_low_byte, subscript_is_quiet, traits_at, traits_of, node_traits, false_is_true}
+use Rattle.trees.specs.declared.expression.BinaryOperator.TheVariants.{Or, And, Equal, Add, Subtract}
 use Rattle.treecode.specs.declared.expression.ExpressionForm.TheVariants as forms
-use Rattle.treecode.specs.declared.place.Home.{Home}
 use Rattle.treecode.specs.declared.place.Home.TheVariants as homes
-use Rattle.treecode.specs.declared.place.Place.{Place}
-use Rattle.treecode.specs.declared.reference.Reference.{Reference}
-use Rattle.treecode.specs.declared.reference.Subscript.{Subscript as IndexNode}
-use Rattle.treecode.specs.declared.traits.Keeps.{Keeps}
-use Rattle.treecode.specs.declared.traits.Traits.{Traits}
-use Rattle.treecode.specs.Known.{place_of_part}
-use Rattle.treecode.specs.Lowered.{IsExpression, IsNode, IsForm, IsNumber, IsValue, IsLocation, IsConstantList, IsConversion, IsEmbedded, IsUnary, IsBinary, IsCallOf, IsFunction, IsShift, IsInput, IsReference, IsPart, IsSubscript, IsAbsent, IsIndex}
-use Rattle.treecode.specs.Nodes.{Nodes, home_at}
-use Rattle.std.specs.Option.{option_map_or}
-use Rattle.typed_trees.specs.declared.parts.ShiftFunction.TheVariants.{ShiftLeft, ShiftRight, RotateLeft, RotateRight}
-use Rattle.typed_trees.specs.declared.parts.UnaryFunction.TheVariants.{Low, High, Double}
-use Rattle.treecode.specs.declared.expression.ExpressionNumber.{ExpressionNumber}
-use Rattle.treecode.specs.Traits.{KeepTraits, byte_after, distance_of, form_at, is_quiet_form, is_static_location, keeps_at, keeps_of, keeps_none, keeps_of_address, keeps_of_byte, keeps_of_extended, keeps_of_form, keeps_of_index, keeps_of_part, keeps_of_shift, keeps_of_subscript, keeps_of_sum, known_at, known_of, memory_of_form, memory_of_inner, number_at, place_of_reference, quiet_at, reference_is_quiet, same_low_byte, subscript_is_quiet, traits_at, traits_of}
-use Rattle.treecode.proofs.KeptValues.{node_traits}
-use Rattle.treecode_laws.proofs.QuietTrees.{false_is_true}
+use Rattle.treecode.specs.Traits.{keeps_of_address}
 
 -- what follows something that is there
 some_then : {A B : Type 0} (go : A → Option B) (found : Option A) → is_some (option_and_then go found) ≡ true → is_some found ≡ true

@@ -1,51 +1,10 @@
 -- What is known of expressions at a site: values that are known but for where things lie, their range, and operands
 -- that may be evaluated in the other order.
-use Rattle.std.proofs.Common.{◌≡◌, ℕ, ◌+◌, ◌-◌, ◌*◌, ◌/◌, ◌%◌, ◌^◌, ◌<◌, ◌≤◌, ◌==◌, Bool, true, false, ◌&&◌, ◌||◌, not, nat_lt, nat_le, if◌then◌else◌, Option, Some, None, is_some, option_map, slice_get, List, bit_and, refl, sym, ap, ◌∙◌, subst, arith, length}
-use Rattle.std.specs.Option.{option_and_then, option_map_or}
-use Rattle.std.proofs.lemmas.Nat.{and_le_l, or_of_8, or_of_16, xor_of_8, xor_of_16}
-use Rattle.trees.specs.declared.declaration.ScalarType.{ScalarType}
-use Rattle.trees.specs.declared.declaration.ScalarType.TheVariants.{Byte, Address}
-use Rattle.trees.specs.declared.expression.BinaryOperator.{BinaryOperator}
+use Rattle.task_laws.proofs.Prelude.{◌≡◌, ℕ, ◌+◌, ◌-◌, ◌*◌, ◌/◌, ◌%◌, ◌^◌, ◌<◌, ◌≤◌, ◌==◌, Bool, true, false, ◌&&◌, ◌||◌, not, nat_lt, nat_le, if◌then◌else◌, Option, Some, None, is_some, option_map, slice_get, List, bit_and, refl, sym, ap, ◌∙◌, subst, arith, length, option_and_then, option_map_or, and_le_l, or_of_8, or_of_16, xor_of_8, xor_of_16, ScalarType, Byte, Address, BinaryOperator, UnaryOperator, Not, Negate, ShiftFunction, ShiftLeft, ShiftRight, RotateLeft, RotateRight, UnaryFunction, Low, High, Double, type_of, type_of_function, type_of_result, TypedExpression, NumberNode, ValueNode, LocationNode, ListNode, ConversionNode, AssignmentNode, UnaryNode, BinaryNode, CallNode, FunctionNode, ShiftNode, InputNode, TypedModule, TypedReference, PartOf, Subscript, NoSubscript, At, ShiftsIn, TypesHold, TypesHoldInReference, TypesHoldInSubscript, Within, WorksOn, value, Ended, More, Outside, Outcome, Gave, Stopped, result_of, result_of_one, shifted, truth, turned, values_of, Machine, Expression, ExpressionForm, ExpressionNumber, Home, Place, Number, Code, Data, External, number_of_place, place_after, converted_place, function_of_place, known_number, known_subscript, known_value, place_of_part, result_of_known, result_of_place, shift_of_known, IsExpression, IsNode, IsForm, IsNumber, IsValue, IsLocation, IsConstantList, IsConversion, IsEmbedded, IsUnary, IsBinary, IsCallOf, IsFunction, IsShift, IsInput, home_at, HaveOperands, PartHasOperands, SubscriptHasOperands, known_at, no_traits, known_kept, AreAlike, AreSame, BothOutside, GoesOutside, may_exchange_at, in_order, exchanged, known_gives, operands_exchanged, Does, place_at, Facts, is_quiet, known, may_exchange, number, stores_nothing, expression, knowing, equal_below, Context, IsSound, NumbersAreWords, nodes_in}
 use Rattle.trees.specs.declared.expression.BinaryOperator.TheVariants as operators
-use Rattle.trees.specs.declared.expression.UnaryOperator.{UnaryOperator}
-use Rattle.trees.specs.declared.expression.UnaryOperator.TheVariants.{Not, Negate}
-use Rattle.typed_trees.specs.declared.parts.ShiftFunction.{ShiftFunction}
-use Rattle.typed_trees.specs.declared.parts.ShiftFunction.TheVariants.{ShiftLeft, ShiftRight, RotateLeft, RotateRight}
-use Rattle.typed_trees.specs.declared.parts.UnaryFunction.{UnaryFunction}
-use Rattle.typed_trees.specs.declared.parts.UnaryFunction.TheVariants.{Low, High, Double}
-use Rattle.typed_trees.specs.ExpressionTypes.{type_of, type_of_function, type_of_result}
-use Rattle.typed_trees.specs.TypedTrees.{TypedExpression, NumberNode, ValueNode, LocationNode, ListNode, ConversionNode, AssignmentNode, UnaryNode, BinaryNode, CallNode, FunctionNode, ShiftNode, InputNode, TypedModule, TypedReference, PartOf, Subscript, NoSubscript, At}
-use Rattle.typed_trees.specs.WellTyped.{ShiftsIn, TypesHold, TypesHoldInReference, TypesHoldInSubscript, Within, WorksOn}
-use Rattle.meaning.specs.Meaning.{value}
-use Rattle.meaning.specs.Outcomes.{State, Ended, More, Outside, Outcome, Gave, Stopped}
-use Rattle.meaning.specs.Values.{result_of, result_of_one, shifted, truth, turned, values_of}
-use Rattle.isa8080.specs.State.{State as Machine}
-use Rattle.treecode.specs.declared.expression.Expression.{Expression}
-use Rattle.treecode.specs.declared.expression.ExpressionForm.{ExpressionForm}
+use Rattle.meaning.specs.Outcomes.{State}
 use Rattle.treecode.specs.declared.expression.ExpressionForm.TheVariants as forms
-use Rattle.treecode.specs.declared.expression.ExpressionNumber.{ExpressionNumber}
-use Rattle.treecode.specs.declared.place.Home.{Home}
 use Rattle.treecode.specs.declared.place.Home.TheVariants as homes
-use Rattle.treecode.specs.declared.place.Place.{Place}
-use Rattle.treecode.specs.declared.place.Place.TheVariants.{Number, Code, Data, External}
-use Rattle.treecode.specs.Homes.{number_of_place, place_after}
-use Rattle.treecode.specs.Known.{converted_place, function_of_place, known_number, known_subscript, known_value, place_of_part, result_of_known, result_of_place, shift_of_known}
-use Rattle.treecode.specs.Lowered.{IsExpression, IsNode, IsForm, IsNumber, IsValue, IsLocation, IsConstantList, IsConversion, IsEmbedded, IsUnary, IsBinary, IsCallOf, IsFunction, IsShift, IsInput}
-use Rattle.treecode.specs.Nodes.{home_at}
-use Rattle.treecode.specs.Resolved.{HaveOperands, PartHasOperands, SubscriptHasOperands}
-use Rattle.treecode.specs.Traits.{known_at, no_traits}
-use Rattle.treecode.proofs.KeptValues.{known_kept}
-use Rattle.treecode_laws.specs.internal.Evaluations.{AreAlike, AreSame, BothOutside, GoesOutside, may_exchange as may_exchange_at}
-use Rattle.treecode_laws.proofs.Exchanging.{in_order, exchanged}
-use Rattle.treecode_laws.proofs.Operands.{known_gives, operands_exchanged}
-use Rattle.code_meaning.specs.Landing.{Does}
-use Rattle.code_meaning.specs.Holding.{place_at}
-use Rattle.steps8080.specs.declared.facts.Facts.{Facts}
-use Rattle.steps8080.specs.Queries.{is_quiet, known, may_exchange, number, stores_nothing}
-use Rattle.steps8080.specs.Site.{expression}
-use Rattle.exprgen8080.specs.Emission.{knowing}
-use Rattle.runtime8080.proofs.Bits.{equal_below}
-use Rattle.task_laws.specs.Contexts.{Context, IsSound, NumbersAreWords, nodes_in}
 use Rattle.task_laws.proofs.Machine.SiteNodes.{have_operands, known_is, number_is, place_of_number}
 
 -- a known number is a known place

@@ -1,15 +1,5 @@
 -- The node of a number: what stands in the tables where the expression of a number is a tree.
-use Rattle.std.proofs.Common.{◌≡◌, ℕ, Some, slice_get, ap, ◌∙◌}
-use Rattle.typed_trees.specs.ExpressionTypes.{type_of}
-use Rattle.typed_trees.specs.TypedTrees.{TypedExpression}
-use Rattle.treecode.specs.declared.expression.Expression.{Expression}
-use Rattle.treecode.specs.declared.expression.ExpressionNumber.{ExpressionNumber}
-use Rattle.treecode.specs.Lowered.{IsExpression, IsNode, IsForm}
-use Rattle.treecode.specs.Traits.{traits_of}
-use Rattle.steps8080.specs.declared.facts.Facts.{Facts}
-use Rattle.steps8080.specs.Site.{expression}
-use Rattle.exprgen8080.specs.Emission.{knowing}
-use Rattle.task_laws.specs.Contexts.{Context, IsSound, nodes_in}
+use Rattle.task_laws.proofs.Prelude.{◌≡◌, ℕ, Some, slice_get, ap, ◌∙◌, type_of, TypedExpression, Expression, ExpressionNumber, IsExpression, IsNode, IsForm, traits_of, Facts, expression, knowing, Context, IsSound, nodes_in}
 
 -- what is found at the number of a tree
 pub record NodeOf (context : Context) (number : ExpressionNumber) (tree : TypedExpression) : Type 0 where

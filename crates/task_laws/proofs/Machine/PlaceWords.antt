@@ -1,14 +1,6 @@
 -- Where a static object lies has the width of a word, where the numbers of tree code have.
-use Rattle.std.proofs.Common.{◌≡◌, ℕ, ◌<◌, List}
-use Rattle.mem80.specs.declared.memory.TheConstants.{MEMORY_SIZE}
-use Rattle.asm8080.specs.Items.{Layout}
-use Rattle.runtime8080.proofs.Bodies.{wrapped_small}
-use Rattle.treecode.specs.declared.place.Home.{Home}
+use Rattle.task_laws.proofs.Prelude.{◌≡◌, ℕ, ◌<◌, List, MEMORY_SIZE, Layout, wrapped_small, Home, Place, Number, Code, Data, External, home_at, place_at}
 use Rattle.treecode.specs.declared.place.Home.TheVariants.{Static}
-use Rattle.treecode.specs.declared.place.Place.{Place}
-use Rattle.treecode.specs.declared.place.Place.TheVariants.{Number, Code, Data, External}
-use Rattle.treecode.specs.Nodes.{home_at}
-use Rattle.code_meaning.specs.Holding.{place_at}
 
 pub place_is_word : (layout : Layout) (homes : List Home)
     → ((object number : ℕ) → home_at homes object ≡ Static (Number number) → number < MEMORY_SIZE)

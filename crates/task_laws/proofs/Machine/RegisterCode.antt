@@ -1,40 +1,7 @@
 -- Steps that touch registers alone, one after another.
-use Rattle.std.proofs.Common.{◌≡◌, ℕ, ◌+◌, ◌*◌, ◌/◌, ◌%◌, ◌<◌, ◌≤◌, Bool, true, false, List, [], ◌∷◌, ◌++◌, bit_and, refl, sym, ap, ◌∙◌, arith, subst}
-use Rattle.std.proofs.lemmas.Nat.{and_le_l, or_of_8, xor_of_8}
-use Rattle.mem80.specs.Memory.{IsMemory, byte_at}
-use Rattle.mem80.proofs.MemoryLemmas.{byte_small}
-use Rattle.ports.specs.declared.event.Event.{Event}
-use Rattle.meaning.specs.Outcomes.{State as SourceState, Outcome}
-use Rattle.isa8080.specs.declared.instr.Instr.{Instr}
-use Rattle.isa8080.specs.declared.instr.Instr.TheVariants.{Accumulate, AccumulateImmediate, Cma, Dad, Dcx, Inx, Lxi, Mov, Mvi, Rar, Rlc, Rrc, Ral, Xchg}
-use Rattle.isa8080.specs.declared.instr.Operand.TheVariants.{Of}
-use Rattle.isa8080.specs.declared.instr.Operation.{Operation}
-use Rattle.isa8080.specs.declared.instr.Operation.TheVariants.{Add, AddWithCarry, Subtract, SubtractWithBorrow, And, ExclusiveOr, Or, Compare}
-use Rattle.isa8080.specs.declared.instr.Pair.TheVariants.{Bc, De, Hl}
-use Rattle.isa8080.specs.declared.instr.Register.{Register}
-use Rattle.isa8080.specs.declared.instr.Register.TheVariants.{A, B, C, D, E, H, L}
-use Rattle.isa8080.specs.declared.registers.Flags.{Flags}
-use Rattle.isa8080.specs.Flags.{bit}
-use Rattle.isa8080.specs.State.{HoldBytes, Registers, State, register_of, with_register, wrap}
-use Rattle.isa8080.specs.Arithmetic.{operate}
-use Rattle.isa8080.specs.Act.{act}
-use Rattle.isa8080.specs.Step.{running}
+use Rattle.task_laws.proofs.Prelude.{◌≡◌, ℕ, ◌+◌, ◌*◌, ◌/◌, ◌%◌, ◌<◌, ◌≤◌, Bool, true, false, List, [], ◌∷◌, ◌++◌, bit_and, refl, sym, ap, ◌∙◌, arith, subst, and_le_l, or_of_8, xor_of_8, IsMemory, byte_at, byte_small, Event, SourceState, Outcome, Instr, Accumulate, AccumulateImmediate, Cma, Dad, Dcx, Inx, Lxi, Mov, Mvi, Rar, Rlc, Rrc, Ral, Xchg, Of, Operation, Add, AddWithCarry, Subtract, SubtractWithBorrow, And, ExclusiveOr, Or, Compare, Bc, De, Hl, Register, A, B, C, D, E, H, L, Flags, bit, HoldBytes, Registers, State, register_of, wrap, operate, act, running, InstructionStands, size_of_instruction, Does, at_place, plain_first, stands_now, Asks, FactsHold, facts_after, Facts, Part, Step, after, plain, Context, IsSound, distances_in, StepsStand, PlainThere, Know}
+use Rattle.isa8080.specs.State.{with_register}
 use Rattle.asm8080.specs.declared.item.Item.TheVariants as items
-use Rattle.asm8080.specs.Standing.{InstructionStands, size_of_instruction}
-use Rattle.code_meaning.specs.Landing.{Does, at_place}
-use Rattle.code_meaning.proofs.FirstItems.{plain_first}
-use Rattle.code_meaning.proofs.Standing.{stands_now}
-use Rattle.code_meaning.specs.Asking.{Asks}
-use Rattle.code_meaning.specs.Holding.{FactsHold}
-use Rattle.code_meaning.proofs.Facts.After.{facts_after}
-use Rattle.steps8080.specs.declared.facts.Facts.{Facts}
-use Rattle.steps8080.specs.declared.step.Part.{Part}
-use Rattle.steps8080.specs.declared.step.Step.{Step}
-use Rattle.steps8080.specs.Facts.{after}
-use Rattle.steps8080.specs.Step.{plain}
-use Rattle.task_laws.specs.Contexts.{Context, IsSound, distances_in}
-use Rattle.task_laws.specs.Steps.{StepsStand, PlainThere}
-use Rattle.task_laws.specs.Tasks.{Know}
 use Rattle.task_laws.proofs.Machine.Rules.{GoesOn, ready_with_registers}
 
 -- an instruction of code for words that touches registers alone, and not the stack pointer

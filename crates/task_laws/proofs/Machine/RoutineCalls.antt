@@ -1,36 +1,9 @@
 -- Calls of routines.
-use Rattle.std.proofs.Common.{◌≡◌, ℕ, ◌+◌, ◌-◌, ◌<◌, ◌≤◌, inl, inr, List, [], ◌∷◌, refl, sym, ap, ◌∙◌, arith, subst}
-use Rattle.mem80.specs.declared.memory.TheConstants.{MEMORY_SIZE}
+use Rattle.task_laws.proofs.Prelude.{◌≡◌, ℕ, ◌+◌, ◌-◌, ◌<◌, ◌≤◌, inl, inr, List, [], ◌∷◌, refl, sym, ap, ◌∙◌, arith, subst, MEMORY_SIZE, byte_at, IsIn, Event, SourceState, Outcome, Call, Running, bytes_of, HoldBytes, Registers, State, wrap, CallTo, InstructionStands, below, Does, Lands, at_place, Activation, HasRoom, IsReady, LiesWell, Owns, told_on, keeps_both, keeps_wider, stands_now, no_facts_hold, bytes_alike, stands_in, Facts, Part, Step, CallRoutine, no_facts, jump_item, label_of_routine, Context, IsSound, RoutineIsAt, StepsStand, RoutineThere}
 use Rattle.mem80.specs.declared.range.Range.{Range}
-use Rattle.mem80.specs.Memory.{byte_at}
-use Rattle.mem80.specs.Range.{IsIn}
-use Rattle.ports.specs.declared.event.Event.{Event}
-use Rattle.meaning.specs.Outcomes.{State as SourceState, Outcome}
-use Rattle.isa8080.specs.declared.instr.Instr.TheVariants.{Call}
-use Rattle.isa8080.specs.declared.registers.Status.TheVariants.{Running}
-use Rattle.isa8080.specs.Code.{bytes_of}
-use Rattle.isa8080.specs.State.{HoldBytes, Registers, State, wrap}
-use Rattle.asm8080.specs.declared.item.WordForm.TheVariants.{CallTo}
-use Rattle.asm8080.specs.Standing.{InstructionStands, Keeps, below}
-use Rattle.runtime8080.specs.declared.routine.Routine.{Routine}
+use Rattle.asm8080.specs.Standing.{Keeps}
+use Rattle.runtime8080.specs.{declared.routine.Routine.{Routine}, Routines.{BlocksMiss, Computes, CopyMisses, HasReturned, Leaves, Returns, memory_after}}
 use Rattle.runtime8080.specs.declared.routine.Routine.TheVariants as routines
-use Rattle.runtime8080.specs.Routines.{BlocksMiss, Computes, CopyMisses, HasReturned, Leaves, Returns, memory_after}
-use Rattle.code_meaning.specs.Landing.{Does, Lands, at_place}
-use Rattle.code_meaning.specs.Activations.{Activation, HasRoom, IsReady, LiesWell, Owns}
-use Rattle.code_meaning.proofs.Landing.{told_on}
-use Rattle.code_meaning.proofs.Owning.{keeps_both, keeps_wider}
-use Rattle.code_meaning.proofs.Standing.{stands_now}
-use Rattle.code_meaning.proofs.Facts.Changes.{no_facts_hold}
-use Rattle.asm8080.proofs.Kept.{bytes_alike, stands_in}
-use Rattle.steps8080.specs.declared.facts.Facts.{Facts}
-use Rattle.steps8080.specs.declared.step.Part.{Part}
-use Rattle.steps8080.specs.declared.step.Step.{Step}
-use Rattle.steps8080.specs.declared.step.Step.TheVariants.{CallRoutine}
-use Rattle.steps8080.specs.Facts.{no_facts}
-use Rattle.steps8080.specs.Writer.{jump_item}
-use Rattle.exprgen8080.specs.Emission.{label_of_routine}
-use Rattle.task_laws.specs.Contexts.{Context, IsSound, RoutineIsAt}
-use Rattle.task_laws.specs.Steps.{StepsStand, RoutineThere}
 use Rattle.task_laws.proofs.Machine.Rules.{GoesOn, bytes_at_place}
 
 -- all routines but MOVE leave memory as it was, but for the bytes below the stack

@@ -1,44 +1,7 @@
 -- The rules by which code of steps is followed: what the machine does that comes to a step.
-use Rattle.std.proofs.Common.{◌≡◌, ℕ, ◌+◌, ◌-◌, ◌%◌, ◌<◌, ◌≤◌, Bool, true, false, if◌then◌else◌, List, [], ◌∷◌, ◌++◌, ◌==◌, bit_or, refl, sym, ap, subst, ◌∙◌, arith}
-use Rattle.mem80.specs.declared.memory.TheConstants.{MEMORY_SIZE}
-use Rattle.ports.specs.declared.event.Event.{Event}
-use Rattle.meaning.specs.Outcomes.{State as SourceState, Outcome}
-use Rattle.isa8080.specs.declared.instr.Instr.{Instr}
-use Rattle.isa8080.specs.declared.instr.Instr.TheVariants.{Pop, Push}
-use Rattle.isa8080.specs.declared.instr.StackPair.{StackPair}
-use Rattle.isa8080.specs.declared.instr.StackPair.TheVariants.{StackBc, StackDe, StackHl, Psw}
-use Rattle.isa8080.specs.State.{HoldBytes, Registers, State, pushed_of, with_popped, wrap}
-use Rattle.isa8080.specs.declared.instr.Operation.TheVariants.{Or}
-use Rattle.isa8080.specs.Arithmetic.{operate}
-use Rattle.isa8080.specs.Act.{act}
-use Rattle.isa8080.proofs.FlagBytes.{flag_byte_small}
+use Rattle.task_laws.proofs.Prelude.{◌≡◌, ℕ, ◌+◌, ◌-◌, ◌%◌, ◌<◌, ◌≤◌, Bool, true, false, if◌then◌else◌, List, [], ◌∷◌, ◌++◌, ◌==◌, bit_or, refl, sym, ap, subst, ◌∙◌, arith, MEMORY_SIZE, Event, SourceState, Outcome, Instr, Pop, Push, StackPair, StackBc, StackDe, StackHl, Psw, HoldBytes, Registers, State, pushed_of, with_popped, wrap, Or, operate, act, flag_byte_small, WordForm, instruction_with, AgreesIn, size_of_instruction, pushed, pop_does, push_does, Place, Does, at_place, Activation, HasRoom, IsReady, IsThere, LiesWell, plain_first, word_first, ready_after_pop, ready_after_push, still_pushed, Asks, WordAsks, or_self, after_test, test_items, test_of_a, ZeroHolds, place_at, facts_after, facts_after_word, with_facts_hold, without_memory_holds, push_asks, Facts, Part, Step, after, after_word, with_facts, without_memory, word_item, Context, IsSound, distances_in, StepsStand, NoneThere, PlainThere, WordThere, JumpThere, MarkThere, RoutineThere, CallThere, TestThere, HoldsThere, ChangeThere, PartThere, Know}
 use Rattle.asm8080.specs.declared.item.Item.TheVariants as items
-use Rattle.asm8080.specs.declared.item.WordForm.{WordForm}
-use Rattle.asm8080.specs.Items.{instruction_with}
-use Rattle.asm8080.specs.Standing.{AgreesIn, size_of_instruction}
-use Rattle.asm8080.proofs.Calls.{pushed}
-use Rattle.asm8080.proofs.Stack.{pop_does, push_does}
-use Rattle.treecode.specs.declared.place.Place.{Place}
-use Rattle.code_meaning.specs.Landing.{Does, at_place}
-use Rattle.code_meaning.specs.Activations.{Activation, HasRoom, IsReady, IsThere, LiesWell}
-use Rattle.code_meaning.proofs.FirstItems.{plain_first, word_first}
-use Rattle.code_meaning.proofs.Pushes.{ready_after_pop, ready_after_push, still_pushed}
-use Rattle.code_meaning.specs.Asking.{Asks, WordAsks}
-use Rattle.std.specs.Int.Bits.{or_self}
-use Rattle.exprgen8080.specs.Emission.{after_test, test_items, test_of_a}
-use Rattle.code_meaning.specs.Holding.{ZeroHolds, place_at}
-use Rattle.code_meaning.proofs.Facts.After.{facts_after, facts_after_word}
-use Rattle.code_meaning.proofs.Facts.Changes.{with_facts_hold, without_memory_holds}
-use Rattle.code_meaning.proofs.Facts.Steady.{push_asks}
-use Rattle.steps8080.specs.declared.facts.Facts.{Facts}
-use Rattle.steps8080.specs.declared.step.Part.{Part}
-use Rattle.steps8080.specs.declared.step.Step.{Step}
 use Rattle.steps8080.specs.declared.step.Step.TheVariants as steps
-use Rattle.steps8080.specs.Facts.{after, after_word, with_facts, without_memory}
-use Rattle.steps8080.specs.Writer.{word_item}
-use Rattle.task_laws.specs.Contexts.{Context, IsSound, distances_in}
-use Rattle.task_laws.specs.Steps.{StepsStand, NoneThere, PlainThere, WordThere, JumpThere, MarkThere, RoutineThere, CallThere, TestThere, HoldsThere, ChangeThere, PartThere}
-use Rattle.task_laws.specs.Tasks.{Know}
 
 -- steps that stand in two parts
 pub record Parted

@@ -1,36 +1,6 @@
 -- What the code asks of nodes, in the words of trees.
-use Rattle.std.proofs.Common.{◌≡◌, ℕ, ◌&&◌, ◌||◌, true, false, Option, Some, None, is_some, slice_get, refl, sym, ap, ◌∙◌, List, length, subst}
-use Rattle.std.specs.Option.{option_map_or}
-use Rattle.typed_trees.specs.TypedTrees.{TypedModule, TypedExpression, NumberNode, ValueNode, LocationNode, ListNode, ConversionNode, AssignmentNode, UnaryNode, BinaryNode, CallNode, FunctionNode, ShiftNode, InputNode, TypedReference, PartOf, Subscript, NoSubscript, At}
-use Rattle.typed_trees.specs.WellTyped.{TypesHold, TypesHoldInReference, TypesHoldInSubscript, Within}
-use Rattle.meaning.specs.Meaning.{value}
-use Rattle.meaning.specs.Outcomes.{State as SourceState, Ended, More, Outside, Outcome, Gave, Stopped}
-use Rattle.isa8080.specs.State.{State}
-use Rattle.treecode.specs.declared.expression.Expression.{Expression}
-use Rattle.treecode.specs.declared.expression.ExpressionNumber.{ExpressionNumber}
-use Rattle.treecode.specs.declared.place.Place.{Place}
-use Rattle.treecode.specs.declared.place.Place.TheVariants.{Number, Code, Data, External}
-use Rattle.treecode.specs.Known.{known_number}
-use Rattle.treecode.specs.Lowered.{IsExpression}
-use Rattle.treecode.specs.Nodes.{nodes_of}
-use Rattle.treecode.specs.Queries.{place_number}
-use Rattle.treecode.specs.Resolved.{HaveOperands, PartHasOperands, SubscriptHasOperands}
-use Rattle.treecode.specs.Traits.{free_at, known_at, no_traits, number_at, quiet_at, storing_nothing_at}
-use Rattle.treecode.proofs.KeptValues.{known_kept}
-use Rattle.treecode_laws.specs.internal.Evaluations.{AreAlike, AreSame, BothOutside, GoesOutside, IsQuiet}
+use Rattle.task_laws.proofs.Prelude.{◌≡◌, ℕ, ◌&&◌, ◌||◌, true, false, Option, Some, None, is_some, slice_get, refl, sym, ap, ◌∙◌, List, length, subst, option_map_or, TypedModule, TypedExpression, NumberNode, ValueNode, LocationNode, ListNode, ConversionNode, AssignmentNode, UnaryNode, BinaryNode, CallNode, FunctionNode, ShiftNode, InputNode, TypedReference, PartOf, Subscript, NoSubscript, At, TypesHold, TypesHoldInReference, TypesHoldInSubscript, Within, value, SourceState, Ended, More, Outside, Outcome, Gave, Stopped, State, Expression, ExpressionNumber, Place, Number, Code, Data, External, known_number, IsExpression, nodes_of, place_number, HaveOperands, PartHasOperands, SubscriptHasOperands, free_at, known_at, no_traits, number_at, quiet_at, storing_nothing_at, known_kept, AreAlike, AreSame, BothOutside, GoesOutside, IsQuiet, exchanged, in_order, quiet_kept, known_gives, operands_exchanged, quiet_value, Does, place_at, Site, expression, is_free, is_quiet, known, may_exchange, number, stores_nothing, Facts, knowing, Context, IsSound, nodes_in}
 use Rattle.treecode_laws.specs.internal.Evaluations as evaluations
-use Rattle.treecode_laws.proofs.Exchanging.{exchanged, in_order}
-use Rattle.treecode_laws.proofs.KeptTraits.{quiet_kept}
-use Rattle.treecode_laws.proofs.Operands.{known_gives, operands_exchanged}
-use Rattle.treecode_laws.proofs.QuietTrees.{quiet_value}
-use Rattle.code_meaning.specs.Landing.{Does}
-use Rattle.code_meaning.specs.Holding.{place_at}
-use Rattle.steps8080.specs.declared.sites.site.Site.{Site}
-use Rattle.steps8080.specs.Site.{expression}
-use Rattle.steps8080.specs.Queries.{is_free, is_quiet, known, may_exchange, number, stores_nothing}
-use Rattle.steps8080.specs.declared.facts.Facts.{Facts}
-use Rattle.exprgen8080.specs.Emission.{knowing}
-use Rattle.task_laws.specs.Contexts.{Context, IsSound, nodes_in}
 use Rattle.task_laws.proofs.Machine.Stages.{does_same}
 
 -- operands of the types that are asked of them are those that known values ask for

@@ -1,50 +1,8 @@
 -- A machine within the code of a body, and what it does that comes to a step.
-use Rattle.std.proofs.Common.{◌≡◌, ℕ, ◌+◌, ◌-◌, ◌*◌, ◌%◌, ◌<◌, ◌≤◌, Bool, true, false, List, [], ◌∷◌, ◌++◌, refl, sym, ap, ◌∙◌, subst, arith}
-use Rattle.mem80.specs.declared.memory.TheConstants.{MEMORY_SIZE}
-use Rattle.mem80.specs.Memory.{byte_at}
-use Rattle.mem80.proofs.MemoryLemmas.{byte_small}
-use Rattle.typed_trees.specs.Charge.{height_of}
-use Rattle.typed_trees.specs.ExpressionTypes.{type_of}
-use Rattle.typed_trees.specs.TypedTrees.{TypedExpression}
-use Rattle.typed_trees.specs.WellTyped.{TypesHold}
-use Rattle.meaning.specs.Meaning.{value}
-use Rattle.meaning.specs.Outcomes.{State as SourceState, Ended, More, Outside, Outcome, Gave, Stopped, then_do}
-use Rattle.isa8080.specs.declared.instr.Instr.{Instr}
-use Rattle.isa8080.specs.declared.instr.Instr.TheVariants.{Pop, Push}
-use Rattle.isa8080.specs.declared.instr.StackPair.{StackPair}
-use Rattle.isa8080.specs.declared.instr.StackPair.TheVariants.{StackBc, StackDe, StackHl, Psw}
-use Rattle.isa8080.specs.declared.registers.Flags.{Flags}
-use Rattle.isa8080.specs.Act.{act}
-use Rattle.isa8080.specs.Flags.{bit, flag_byte}
-use Rattle.isa8080.specs.State.{HoldBytes, Registers, State, pushed_of, with_popped, wrap}
+use Rattle.task_laws.proofs.Prelude.{◌≡◌, ℕ, ◌+◌, ◌-◌, ◌*◌, ◌%◌, ◌<◌, ◌≤◌, Bool, true, false, List, [], ◌∷◌, ◌++◌, refl, sym, ap, ◌∙◌, subst, arith, MEMORY_SIZE, byte_at, byte_small, height_of, type_of, TypedExpression, TypesHold, value, SourceState, Ended, More, Outside, Outcome, Gave, Stopped, then_do, Instr, Pop, Push, StackPair, StackBc, StackDe, StackHl, Psw, Flags, act, bit, flag_byte, HoldBytes, Registers, State, pushed_of, with_popped, wrap, size_of_instruction, pushed_word, pop_does, push_does, ExpressionNumber, IsExpression, Facts, Part, Step, after, after_word, plain, word_item, LoadA, Place, Activation, HasRoom, IsReady, IsThere, Does, Lands, at_place, plain_first, then_does, told_on, ready_after_pop, ready_after_push, still_pushed, Asks, FactsHold, IsSteady, place_at, facts_after, push_asks, Context, IsSound, distances_in, nodes_in, StepsStand, NoneThere, ByteDoes, ByteIsGiven, Carries, EffectsDo, Know, EffectsAreGiven, WordDoes, WordIsGiven}
 use Rattle.asm8080.specs.declared.item.Item.TheVariants as items
-use Rattle.asm8080.specs.Standing.{size_of_instruction}
-use Rattle.asm8080.proofs.Calls.{pushed as pushed_word}
-use Rattle.asm8080.proofs.Stack.{pop_does, push_does}
-use Rattle.treecode.specs.declared.expression.ExpressionNumber.{ExpressionNumber}
-use Rattle.treecode.specs.Lowered.{IsExpression}
-use Rattle.steps8080.specs.declared.facts.Facts.{Facts}
-use Rattle.steps8080.specs.declared.step.Part.{Part}
-use Rattle.steps8080.specs.declared.step.Step.{Step}
-use Rattle.steps8080.specs.Facts.{after, after_word}
-use Rattle.steps8080.specs.Step.{plain}
-use Rattle.steps8080.specs.Writer.{word_item}
-use Rattle.asm8080.specs.declared.item.WordForm.TheVariants.{LoadA}
-use Rattle.treecode.specs.declared.place.Place.{Place}
-use Rattle.code_meaning.specs.Activations.{Activation, HasRoom, IsReady, IsThere}
-use Rattle.code_meaning.specs.Landing.{Does, Lands, at_place}
-use Rattle.code_meaning.proofs.FirstItems.{plain_first}
-use Rattle.code_meaning.proofs.Landing.{then_does, told_on}
-use Rattle.code_meaning.proofs.Pushes.{ready_after_pop, ready_after_push, still_pushed}
-use Rattle.code_meaning.specs.Asking.{Asks}
-use Rattle.code_meaning.specs.Holding.{FactsHold, IsSteady, place_at}
-use Rattle.code_meaning.proofs.Facts.After.{facts_after}
-use Rattle.code_meaning.proofs.Facts.Steady.{push_asks}
-use Rattle.task_laws.specs.Contexts.{Context, IsSound, distances_in, nodes_in}
-use Rattle.task_laws.specs.Steps.{StepsStand, NoneThere}
 use Rattle.task_laws.proofs.Machine.RegisterCode.{AreOnRegisters, effect, registers_then}
 use Rattle.task_laws.proofs.Machine.Rules.{ready_with_registers, word_goes}
-use Rattle.task_laws.specs.Tasks.{ByteDoes, ByteIsGiven, Carries, EffectsDo, Know, EffectsAreGiven, WordDoes, WordIsGiven}
 
 -- what ports give
 abbrev pub script_of : Context → List (List ℕ)

@@ -1,26 +1,5 @@
 -- A value in its register, and one that is stored where it is evaluated.
-use Rattle.std.proofs.Common.{◌≡◌, ℕ, ◌+◌, ◌*◌, ◌%◌, ◌<◌, ◌≤◌, Bool, true, List, sym, subst, ◌∙◌, arith}
-use Rattle.trees.specs.declared.declaration.ScalarType.{ScalarType}
-use Rattle.trees.specs.declared.declaration.ScalarType.TheVariants.{Byte, Address}
-use Rattle.typed_trees.specs.Charge.{height_of, height_of_target}
-use Rattle.typed_trees.specs.ExpressionTypes.{type_of}
-use Rattle.typed_trees.specs.TypedTrees.{TypedExpression, TypedTarget, AssignmentNode}
-use Rattle.typed_trees.specs.WellTyped.{TypesHold, TypesHoldInTarget}
-use Rattle.meaning.specs.Meaning.{stored, value}
-use Rattle.meaning.specs.Outcomes.{State as SourceState, Ended, More, Outside, Outcome, Gave, Stopped, then_do}
-use Rattle.meaning.specs.Values.{values_of}
-use Rattle.isa8080.specs.State.{Registers, State}
-use Rattle.treecode.specs.declared.expression.ExpressionNumber.{ExpressionNumber}
-use Rattle.treecode.specs.declared.reference.Target.{Target}
-use Rattle.treecode.specs.Lowered.{IsExpression, IsTarget, IsStored, IsSent}
-use Rattle.treecode.specs.Queries.{source}
-use Rattle.steps8080.specs.declared.facts.Facts.{Facts}
-use Rattle.code_meaning.specs.Landing.{Does, Lands, at_place}
-use Rattle.exprgen8080.specs.Bytes.{embedded_steps}
-use Rattle.exprgen8080.specs.Calls.{value_task}
-use Rattle.task_laws.specs.Contexts.{Context, InRegister, nodes_in}
-use Rattle.task_laws.specs.Steps.{NoneThere, PartThere, StepsStand}
-use Rattle.task_laws.specs.Tasks.{ByteIsGiven, Carries, IsStored as WasStored, PartDoes, StoreDoes, TaskDoes, WordIsGiven}
+use Rattle.task_laws.proofs.Prelude.{◌≡◌, ℕ, ◌+◌, ◌*◌, ◌%◌, ◌<◌, ◌≤◌, Bool, true, List, sym, subst, ◌∙◌, arith, ScalarType, Byte, Address, height_of, height_of_target, type_of, TypedExpression, TypedTarget, AssignmentNode, TypesHold, TypesHoldInTarget, stored, value, SourceState, Ended, More, Outside, Outcome, Gave, Stopped, then_do, values_of, Registers, State, ExpressionNumber, Target, IsExpression, IsTarget, IsStored, IsSent, source, Facts, Does, Lands, at_place, embedded_steps, value_task, Context, InRegister, nodes_in, NoneThere, PartThere, StepsStand, ByteIsGiven, Carries, WasStored, PartDoes, StoreDoes, TaskDoes, WordIsGiven}
 use Rattle.task_laws.proofs.Machine.Stages.{Stage, at_byte, at_carried, at_word, does_same, script_of}
 use Rattle.task_laws.proofs.Machine.Effects.{then_again}
 

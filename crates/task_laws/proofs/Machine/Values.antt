@@ -1,27 +1,6 @@
 -- Parts of code that give values: what follows them is done with the value in its register.
-use Rattle.std.proofs.Common.{◌≡◌, ℕ, ◌*◌, ◌/◌, ◌%◌, ◌<◌, ◌≤◌, List, [], ◌∷◌, refl, sym, subst, arith}
-use Rattle.trees.specs.declared.declaration.ScalarType.{ScalarType}
-use Rattle.typed_trees.specs.Charge.{height_of}
-use Rattle.typed_trees.specs.ExpressionTypes.{type_of}
-use Rattle.typed_trees.specs.TypedTrees.{TypedExpression}
-use Rattle.typed_trees.specs.WellTyped.{TypesHold}
-use Rattle.meaning.specs.Meaning.{value}
-use Rattle.meaning.specs.Outcomes.{State as SourceState, Ended, More, Outside, Outcome, Gave, Stopped, then_do}
-use Rattle.meaning.specs.Values.{values_of}
-use Rattle.isa8080.specs.State.{Registers, State}
-use Rattle.treecode.specs.declared.expression.ExpressionNumber.{ExpressionNumber}
-use Rattle.treecode.specs.Lowered.{IsExpression}
-use Rattle.code_meaning.specs.Landing.{Does, Lands, at_place}
-use Rattle.code_meaning.specs.Activations.{Arrives, HasRoom, IsReady}
-use Rattle.code_meaning.proofs.Landing.{gives, told_on}
-use Rattle.steps8080.specs.declared.facts.Facts.{Facts}
-use Rattle.steps8080.specs.declared.step.Part.{Part}
-use Rattle.steps8080.specs.declared.step.Step.{Step}
+use Rattle.task_laws.proofs.Prelude.{◌≡◌, ℕ, ◌*◌, ◌/◌, ◌%◌, ◌<◌, ◌≤◌, List, [], ◌∷◌, refl, sym, subst, arith, ScalarType, height_of, type_of, TypedExpression, TypesHold, value, SourceState, Ended, More, Outside, Outcome, Gave, Stopped, then_do, values_of, Registers, State, ExpressionNumber, IsExpression, Does, Lands, at_place, Arrives, HasRoom, IsReady, gives, told_on, Facts, Part, Step, keeps, Context, nodes_in, StepsStand, NoneThere, PartThere, PartDoes, ByteDoes, ByteIsGiven, EffectsDo, Left, EffectsAreGiven, WordDoes, WordIsGiven}
 use Rattle.steps8080.specs.declared.step.Step.TheVariants as steps
-use Rattle.steps8080.specs.Queries.{keeps}
-use Rattle.task_laws.specs.Contexts.{Context, nodes_in}
-use Rattle.task_laws.specs.Steps.{StepsStand, NoneThere, PartThere}
-use Rattle.task_laws.specs.Tasks.{PartDoes, ByteDoes, ByteIsGiven, EffectsDo, Left, EffectsAreGiven, WordDoes, WordIsGiven}
 use Rattle.task_laws.proofs.Machine.Rules.{GoesOn, room_for}
 
 -- a part that gave something, then others, which know what it gave

@@ -1,24 +1,7 @@
 -- Items that are written for steps and stand in the code are steps that stand there; where each task is carried out by
 -- its steps, so is each part.
-use Rattle.std.proofs.Common.{◌≡◌, ℕ, ◌+◌, Bool, List, [], ◌∷◌, refl, sym, subst, ap, ◌∙◌, arith}
-use Rattle.asm8080.specs.declared.item.Item.{Item}
+use Rattle.task_laws.proofs.Prelude.{◌≡◌, ℕ, ◌+◌, Bool, List, [], ◌∷◌, refl, sym, subst, ap, ◌∙◌, arith, Item, size_of, size_of_instruction, stands_size, Activation, IsThere, both_there, after_mark, mark_lies, Facts, Part, Step, word_item, Site, AreWritten, CallWritten, ChangeWritten, HoldsWritten, IsWritten, JumpWritten, MarkWritten, NoneWritten, PartWritten, PlainWritten, Planned, RoutineWritten, TestWritten, WordWritten, call_items, has_routine, knowing, test_items, task_steps, Context, PartDoes, CallThere, ChangeThere, HoldsThere, JumpThere, MarkThere, NoneThere, PartThere, PlainThere, RoutineThere, StepsStand, TestThere, WordThere}
 use Rattle.asm8080.specs.declared.item.Item.TheVariants as items
-use Rattle.asm8080.specs.Items.{size_of}
-use Rattle.asm8080.specs.Standing.{size_of_instruction}
-use Rattle.asm8080.proofs.Kept.{stands_size}
-use Rattle.code_meaning.specs.Activations.{Activation, IsThere}
-use Rattle.code_meaning.proofs.Sequences.{both_there}
-use Rattle.code_meaning.proofs.Standing.{after_mark, mark_lies}
-use Rattle.steps8080.specs.declared.facts.Facts.{Facts}
-use Rattle.steps8080.specs.declared.step.Part.{Part}
-use Rattle.steps8080.specs.declared.step.Step.{Step}
-use Rattle.steps8080.specs.Writer.{word_item}
-use Rattle.steps8080.specs.declared.sites.site.Site.{Site}
-use Rattle.exprgen8080.specs.Emission.{AreWritten, CallWritten, ChangeWritten, HoldsWritten, IsWritten, JumpWritten, MarkWritten, NoneWritten, PartWritten, PlainWritten, Planned, RoutineWritten, TestWritten, WordWritten, call_items, has_routine, knowing, test_items}
-use Rattle.exprgen8080.specs.Forms.{task_steps}
-use Rattle.task_laws.specs.Contexts.{Context}
-use Rattle.task_laws.specs.Tasks.{PartDoes}
-use Rattle.task_laws.specs.Steps.{CallThere, ChangeThere, HoldsThere, JumpThere, MarkThere, NoneThere, PartThere, PlainThere, RoutineThere, StepsStand, TestThere, WordThere}
 
 -- the first item, and the others
 pub record FirstThere (activation : Activation) (item : Item) (more : List Item) (from size to : ℕ) : Type 0 where

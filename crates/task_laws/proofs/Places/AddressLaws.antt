@@ -1,12 +1,5 @@
 -- The code of an address does what the reference means.
-use Rattle.std.proofs.Common.{ℕ}
-use Rattle.treecode.specs.declared.reference.Reference.{Reference}
-use Rattle.steps8080.specs.declared.facts.Facts.{Facts}
-use Rattle.operands8080.specs.Addresses.{address_steps}
-use Rattle.exprgen8080.specs.Emission.{knowing}
-use Rattle.task_laws.specs.Contexts.{Context, IsSound}
-use Rattle.task_laws.specs.Steps.{StepsStand}
-use Rattle.task_laws.specs.Tasks.{AddressDoes, PartDoes}
+use Rattle.task_laws.proofs.Prelude.{ℕ, Reference, Facts, address_steps, knowing, Context, IsSound, StepsStand, AddressDoes, PartDoes}
 use Rattle.task_laws.proofs.Places.Located.{address_law}
 use Rattle.task_laws.proofs.Words.Multiples.{products_always_do}
 

@@ -1,31 +1,7 @@
 -- The code that has the address of a base: without computed subscripts, or with their sum in HL.
-use Rattle.std.proofs.Common.{◌≡◌, ℕ, ◌+◌, ◌*◌, ◌<◌, Bool, true, false, List, [], ◌∷◌, ◌++◌, refl, sym, ap, subst, ◌∙◌, arith}
-use Rattle.mem80.specs.Memory.{byte_at}
-use Rattle.meaning.specs.Access.{Place as SourcePlace, InMemory, InTheFrame, home_of, place_of}
-use Rattle.meaning.specs.Meaning.{based_place}
-use Rattle.meaning.specs.Outcomes.{State as SourceState, Outcome, Gave}
-use Rattle.isa8080.specs.declared.instr.Instr.TheVariants.{Dad, Lxi, Xchg}
-use Rattle.isa8080.specs.declared.instr.Pair.TheVariants.{Bc, De, Sp}
-use Rattle.isa8080.specs.State.{Registers, State, high_byte, low_byte, word, wrap}
-use Rattle.treecode.specs.declared.place.Place.TheVariants.{Number}
+use Rattle.task_laws.proofs.Prelude.{◌≡◌, ℕ, ◌+◌, ◌*◌, ◌<◌, Bool, true, false, List, [], ◌∷◌, ◌++◌, refl, sym, ap, subst, ◌∙◌, arith, byte_at, SourcePlace, InMemory, InTheFrame, home_of, place_of, based_place, SourceState, Outcome, Gave, Dad, Lxi, Xchg, Bc, De, Sp, Registers, State, high_byte, low_byte, word, wrap, Number, is_static_location, Does, at_place, Activation, HasRoom, location_at, place_at, no_facts_hold, Facts, Part, Plain, no_facts, Base, distance, addition_steps, base_added_steps, base_steps, location_word_steps, knowing, Context, IsSound, distances_in, StepsStand, Know, Left, address_on_machine}
 use Rattle.treecode.specs.declared.place.Location.TheVariants as locations
-use Rattle.treecode.specs.Traits.{is_static_location}
-use Rattle.code_meaning.specs.Landing.{Does, at_place}
-use Rattle.code_meaning.specs.Activations.{Activation, HasRoom}
-use Rattle.code_meaning.specs.Holding.{location_at, place_at}
-use Rattle.code_meaning.proofs.Facts.Changes.{no_facts_hold}
-use Rattle.steps8080.specs.declared.facts.Facts.{Facts}
-use Rattle.steps8080.specs.declared.step.Part.{Part}
-use Rattle.steps8080.specs.declared.step.Step.TheVariants.{Plain}
-use Rattle.steps8080.specs.Facts.{no_facts}
-use Rattle.steps8080.specs.declared.sites.queries.Base.{Base}
 use Rattle.steps8080.specs.declared.sites.queries.Base.TheVariants as bases
-use Rattle.steps8080.specs.Site.{distance}
-use Rattle.operands8080.specs.Addresses.{addition_steps, base_added_steps, base_steps, location_word_steps}
-use Rattle.exprgen8080.specs.Emission.{knowing}
-use Rattle.task_laws.specs.Contexts.{Context, IsSound, distances_in}
-use Rattle.task_laws.specs.Steps.{StepsStand}
-use Rattle.task_laws.specs.Tasks.{Know, Left, address_on_machine}
 use Rattle.task_laws.proofs.Machine.Rules.{GoesOn, split}
 use Rattle.task_laws.proofs.Machine.RegisterCode.{registers_then}
 use Rattle.task_laws.proofs.Machine.Addresses.{addition_goes, back_together, location_address_goes, registers_end}

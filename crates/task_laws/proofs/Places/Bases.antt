@@ -1,32 +1,9 @@
 -- The base of an object: where it lies by the tree and by the source, and the code that has its address.
-use Rattle.std.proofs.Common.{◌≡◌, ℕ, ◌+◌, ◌*◌, ◌%◌, ◌<◌, Bool, true, List, [], Option, Some, None, slice_get, refl, sym, ap, subst, ◌∙◌, arith}
-use Rattle.std.specs.Prelude.{IsSomeAnd}
-use Rattle.std.specs.Option.{option_map_or}
-use Rattle.trees.specs.declared.declaration.ScalarType.{ScalarType}
-use Rattle.trees.specs.declared.declaration.ScalarType.TheVariants.{Address}
-use Rattle.typed_trees.specs.ObjectParts.{IsScalar}
-use Rattle.typed_trees.specs.Sizes.{count_of, size_of_element, size_of_object}
-use Rattle.typed_trees.specs.TypedTrees.{Home as TypedHome, InData, InConstants, Placed, BasedOn, Elsewhere, Nowhere, InFrame, ObjectType, TypedObject, TypedModule}
-use Rattle.typed_trees.specs.WellTyped.{IsSeen, LiesFor, Within, WithinMain, WithinProcedure}
-use Rattle.meaning.specs.Access.{Place as SourcePlace, InMemory, InTheFrame, Surroundings, home_in, home_of, place_in, place_of, read_scalar}
-use Rattle.meaning.specs.Meaning.{based_place}
-use Rattle.meaning.specs.Outcomes.{State as SourceState, Outcome, Gave, Stopped, then_do}
-use Rattle.isa8080.specs.State.{wrap}
-use Rattle.treecode.specs.declared.place.Home.{Home}
+use Rattle.task_laws.proofs.Prelude.{◌≡◌, ℕ, ◌+◌, ◌*◌, ◌%◌, ◌<◌, Bool, true, List, [], Option, Some, None, slice_get, refl, sym, ap, subst, ◌∙◌, arith, IsSomeAnd, option_map_or, ScalarType, Address, IsScalar, count_of, size_of_element, size_of_object, TypedHome, InData, InConstants, Placed, BasedOn, Elsewhere, Nowhere, InFrame, ObjectType, TypedObject, TypedModule, IsSeen, LiesFor, Within, WithinMain, WithinProcedure, SourcePlace, InMemory, InTheFrame, Surroundings, home_in, home_of, place_in, place_of, read_scalar, based_place, SourceState, Outcome, Gave, Stopped, then_do, wrap, Home, Place, Location, frame_number, homes_of, place_after, home_at, home, location_at, place_at, location_after_is, Base, base_after, base_of, Context, IsSound, distances_in, address_on_machine}
 use Rattle.treecode.specs.declared.place.Home.TheVariants as homes
-use Rattle.treecode.specs.declared.place.Place.{Place}
-use Rattle.treecode.specs.declared.place.Location.{Location}
 use Rattle.treecode.specs.declared.place.Location.TheVariants as locations
-use Rattle.treecode.specs.Homes.{frame_number, homes_of, location_of, place_after}
-use Rattle.treecode.specs.Nodes.{home_at}
-use Rattle.treecode.specs.Queries.{home}
-use Rattle.code_meaning.specs.Holding.{location_at, place_at}
-use Rattle.code_meaning.proofs.Facts.Places.{location_after_is}
-use Rattle.steps8080.specs.declared.sites.queries.Base.{Base}
+use Rattle.treecode.specs.Homes.{location_of}
 use Rattle.steps8080.specs.declared.sites.queries.Base.TheVariants as bases
-use Rattle.steps8080.specs.Queries.{base_after, base_of}
-use Rattle.task_laws.specs.Contexts.{Context, IsSound, distances_in}
-use Rattle.task_laws.specs.Tasks.{address_on_machine}
 use Rattle.task_laws.proofs.Places.Homes.{Begins, BeginsAtBase, BeginsInFrame, BeginsInMemory, begins}
 use Rattle.task_laws.proofs.Places.Reading.{FitsIn}
 

@@ -1,20 +1,7 @@
 -- What is located is a scalar that lies within its object, where each subscript is below its dimension.
-use Rattle.std.proofs.Common.{◌≡◌, ℕ, ◌+◌, ◌%◌, ◌<◌, ◌≤◌, ◌&&◌, Bool, true, Option, Some, None, refl, sym, ap, subst, ◌∙◌, arith}
-use Rattle.std.specs.Prelude.{IsSomeAnd, slice_get}
-use Rattle.std.proofs.lemmas.Bool.{ltb-true}
-use Rattle.mem80.specs.declared.memory.TheConstants.{MEMORY_SIZE}
-use Rattle.asm8080.proofs.Segments.{left_true, right_true}
-use Rattle.trees.specs.declared.declaration.ScalarType.{ScalarType}
-use Rattle.typed_trees.specs.ObjectParts.{IsScalarOf}
-use Rattle.typed_trees.specs.Sizes.{size_of_object, size_of_scalar}
-use Rattle.typed_trees.specs.TypedTrees.{Home as TypedHome, InData, InConstants, Placed, BasedOn, Elsewhere, Nowhere, InFrame, PartOf, Subscript, NoSubscript, At, TypedObject, TypedReference}
-use Rattle.typed_trees.specs.WellTyped.{IsSeen, RefersToScalar}
+use Rattle.task_laws.proofs.Prelude.{◌≡◌, ℕ, ◌+◌, ◌%◌, ◌<◌, ◌≤◌, ◌&&◌, Bool, true, Option, Some, None, refl, sym, ap, subst, ◌∙◌, arith, IsSomeAnd, slice_get, ltb-true, MEMORY_SIZE, left_true, right_true, ScalarType, IsScalarOf, size_of_object, size_of_scalar, TypedHome, InData, InConstants, Placed, BasedOn, Elsewhere, Nowhere, InFrame, PartOf, Subscript, NoSubscript, At, TypedObject, TypedReference, IsSeen, RefersToScalar, InMemory, home_of, place_of, read_scalar, Displacement, based_place, displaced, displacement, located, value, Outcome, Gave, Stopped, then_do, Context, IsSound, IsReferred}
 use Rattle.typed_trees.proofs.Inside.{LiesAt, scalar_lies_within}
-use Rattle.meaning.specs.Access.{Place, InMemory, home_of, place_of, read_scalar}
-use Rattle.meaning.specs.Meaning.{Displacement, based_place, displaced, displacement, located, value}
-use Rattle.meaning.specs.Outcomes.{State, Outcome, Gave, Stopped, then_do}
-use Rattle.task_laws.specs.Contexts.{Context, IsSound}
-use Rattle.task_laws.specs.Tasks.{IsReferred}
+use Rattle.meaning.specs.{Access.{Place}, Outcomes.{State}}
 use Rattle.task_laws.proofs.Places.Bases.{has_some, home_there, own_frame}
 use Rattle.task_laws.proofs.Places.Reading.{FitsIn}
 

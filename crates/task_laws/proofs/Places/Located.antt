@@ -1,35 +1,7 @@
 -- The code of the address of an object or a part of it puts the address of its place into HL.
-use Rattle.std.proofs.Common.{◌≡◌, ℕ, ◌+◌, ◌*◌, ◌%◌, ◌<◌, ◌≤◌, Bool, true, false, not, ◌&&◌, ◌||◌, List, ◌++◌, Option, Some, None, is_some, max, refl, sym, ap, subst, ◌∙◌, arith}
-use Rattle.std.specs.Prelude.{IsSomeAnd, slice_get}
-use Rattle.typed_trees.specs.Charge.{height_of, height_of_reference, height_of_subscript}
-use Rattle.typed_trees.specs.TypedTrees.{PartOf, Subscript, TypedObject, TypedReference}
-use Rattle.typed_trees.specs.WellTyped.{IsSeen}
-use Rattle.meaning.specs.Access.{Place as SourcePlace, home_of}
-use Rattle.meaning.specs.Meaning.{Displacement, based_place, displacement, value}
-use Rattle.meaning.specs.Outcomes.{State as SourceState, Outcome, Gave, Stopped, then_do}
-use Rattle.isa8080.specs.State.{Registers, word, wrap}
-use Rattle.asm8080.proofs.Segments.{left_true, right_true}
-use Rattle.treecode.specs.declared.place.Home.{Home}
+use Rattle.task_laws.proofs.Prelude.{◌≡◌, ℕ, ◌+◌, ◌*◌, ◌%◌, ◌<◌, ◌≤◌, Bool, true, false, not, ◌&&◌, ◌||◌, List, ◌++◌, Option, Some, None, is_some, max, refl, sym, ap, subst, ◌∙◌, arith, IsSomeAnd, slice_get, height_of, height_of_reference, height_of_subscript, PartOf, Subscript, TypedObject, TypedReference, IsSeen, SourcePlace, home_of, Displacement, based_place, displacement, value, SourceState, Outcome, Gave, Stopped, then_do, Registers, word, wrap, left_true, right_true, Home, Reference, IndexNode, Keeps, IsPart, home_at, home, is_static_location, keeps_of_part, keeps_of_subscript, keeps_of_sum, Does, at_place, Arrives, HasRoom, gives, Facts, Base, base_after, base_of, keeps_of_address, located_at, address_steps, base_added_steps, located_steps, second_steps, product_steps, knowing, Context, IsSound, nodes_in, StepsStand, AddressDoes, AddressIsGiven, PartDoes}
 use Rattle.treecode.specs.declared.place.Home.TheVariants as homes
-use Rattle.treecode.specs.declared.reference.Reference.{Reference}
-use Rattle.treecode.specs.declared.reference.Subscript.{Subscript as IndexNode}
-use Rattle.treecode.specs.declared.traits.Keeps.{Keeps}
-use Rattle.treecode.specs.Lowered.{IsPart}
-use Rattle.treecode.specs.Nodes.{home_at}
-use Rattle.treecode.specs.Queries.{home}
-use Rattle.treecode.specs.Traits.{is_static_location, keeps_of_part, keeps_of_subscript, keeps_of_sum}
-use Rattle.code_meaning.specs.Landing.{Does, at_place}
-use Rattle.code_meaning.specs.Activations.{Arrives, HasRoom}
-use Rattle.code_meaning.proofs.Landing.{gives}
-use Rattle.steps8080.specs.declared.facts.Facts.{Facts}
-use Rattle.steps8080.specs.declared.sites.queries.Base.{Base}
-use Rattle.steps8080.specs.Queries.{base_after, base_of, keeps_of_address, located, located_at}
-use Rattle.operands8080.specs.Addresses.{address_steps, base_added_steps, located_steps, second_steps}
-use Rattle.operands8080.specs.Products.{product_steps}
-use Rattle.exprgen8080.specs.Emission.{knowing}
-use Rattle.task_laws.specs.Contexts.{Context, IsSound, nodes_in}
-use Rattle.task_laws.specs.Steps.{StepsStand}
-use Rattle.task_laws.specs.Tasks.{AddressDoes, AddressIsGiven, PartDoes}
+use Rattle.steps8080.specs.Queries.{located}
 use Rattle.task_laws.proofs.Machine.Rules.{GoesOn, split as split_steps}
 use Rattle.task_laws.proofs.Places.Products.{ProductsDo, product_then}
 use Rattle.task_laws.proofs.Places.Subscripts.{IsSplit, AllKnown, IsComputed, is_split}

@@ -1,39 +1,6 @@
 -- The code of the byte at a location, which comes into A.
-use Rattle.std.proofs.Common.{◌≡◌, ℕ, ◌+◌, ◌<◌, ◌≤◌, ◌⊎◌, inl, inr, ◌==◌, Bool, true, false, if◌then◌else◌, List, [], ◌∷◌, ◌++◌, Option, Some, None, refl, sym, ap, subst, ◌∙◌, arith}
-use Rattle.std.proofs.lemmas.Bool.{cases_lt, eqb-true}
-use Rattle.mem80.specs.declared.memory.TheConstants.{MEMORY_SIZE}
-use Rattle.mem80.specs.Memory.{byte_at, word_at}
-use Rattle.mem80.proofs.MemoryLemmas.{byte_small}
-use Rattle.ports.specs.declared.event.Event.{Event}
-use Rattle.meaning.specs.Outcomes.{State as SourceState, Outcome}
-use Rattle.isa8080.specs.declared.instr.Instr.{Instr}
-use Rattle.isa8080.specs.declared.instr.Register.TheVariants.{A, H, L}
-use Rattle.isa8080.specs.State.{Registers, State, high_byte, low_byte, word, wrap}
-use Rattle.asm8080.specs.declared.item.WordForm.TheVariants.{LoadA}
-use Rattle.treecode.specs.declared.place.Place.{Place}
-use Rattle.treecode.specs.declared.place.Location.{Location}
+use Rattle.task_laws.proofs.Prelude.{◌≡◌, ℕ, ◌+◌, ◌<◌, ◌≤◌, ◌⊎◌, inl, inr, ◌==◌, Bool, true, false, if◌then◌else◌, List, [], ◌∷◌, ◌++◌, Option, Some, None, refl, sym, ap, subst, ◌∙◌, arith, cases_lt, eqb-true, MEMORY_SIZE, byte_at, word_at, byte_small, Event, SourceState, Outcome, Instr, A, H, L, Registers, State, high_byte, low_byte, word, wrap, LoadA, Place, Location, is_static_location, Does, at_place, Item, Activation, HasRoom, IsThere, LiesWell, IsSteady, location_at, place_at, after_before, location_after_is, address_asks, address_in_hl_is, byte_in_a_is, byte_in_h_is, word_in_hl_is, Facts, Part, Step, Plain, Word, before, is_at, no_facts, copy, load, distance, hold_word_steps, location_address_steps, frame_byte_steps, location_byte_steps, top_word_steps, knowing, Context, IsSound, distances_in, StepsStand, PlainThere, WordThere, HoldsThere, ChangesAOnly, Know}
 use Rattle.treecode.specs.declared.place.Location.TheVariants as locations
-use Rattle.treecode.specs.Traits.{is_static_location}
-use Rattle.code_meaning.specs.Landing.{Does, at_place}
-use Rattle.asm8080.specs.declared.item.Item.{Item}
-use Rattle.code_meaning.specs.Activations.{Activation, HasRoom, IsThere, LiesWell}
-use Rattle.code_meaning.specs.Holding.{IsSteady, location_at, place_at}
-use Rattle.code_meaning.proofs.Facts.Places.{after_before, location_after_is}
-use Rattle.code_meaning.proofs.Facts.Steady.{address_asks}
-use Rattle.code_meaning.proofs.Facts.Uses.{address_in_hl_is, byte_in_a_is, byte_in_h_is, word_in_hl_is}
-use Rattle.steps8080.specs.declared.facts.Facts.{Facts}
-use Rattle.steps8080.specs.declared.step.Part.{Part}
-use Rattle.steps8080.specs.declared.step.Step.{Step}
-use Rattle.steps8080.specs.declared.step.Step.TheVariants.{Plain, Word}
-use Rattle.steps8080.specs.Facts.{before, is_at, no_facts}
-use Rattle.steps8080.specs.Instructions.{copy, load}
-use Rattle.steps8080.specs.Site.{distance}
-use Rattle.operands8080.specs.Addresses.{hold_word_steps, location_address_steps}
-use Rattle.operands8080.specs.Loads.{frame_byte_steps, location_byte_steps, top_word_steps}
-use Rattle.exprgen8080.specs.Emission.{knowing}
-use Rattle.task_laws.specs.Contexts.{Context, IsSound, distances_in}
-use Rattle.task_laws.specs.Steps.{StepsStand, PlainThere, WordThere, HoldsThere}
-use Rattle.task_laws.specs.Tasks.{ChangesAOnly, Know}
 use Rattle.task_laws.proofs.Machine.Rules.{GoesOn, holds_go, ready_with_registers, registers_go, split, word_goes}
 use Rattle.task_laws.proofs.Machine.Addresses.{location_address_goes, nothing_goes}
 use Rattle.task_laws.proofs.Places.LocationWords.{frame_away, high_there, low_there, top_word_goes, word_known}

@@ -1,42 +1,6 @@
 -- The code of the word at a location, which comes into HL.
-use Rattle.std.proofs.Common.{◌≡◌, ℕ, zero, suc, ◌+◌, ◌*◌, ◌<◌, ◌==◌, Bool, true, false, if◌then◌else◌, List, [], ◌∷◌, ◌++◌, Some, slice_set, slice_index, refl, sym, ap, subst, ◌∙◌, arith}
-use Rattle.std.proofs.lemmas.Bool.{eqb-true}
-use Rattle.mem80.specs.declared.memory.TheConstants.{MEMORY_SIZE}
-use Rattle.mem80.specs.Memory.{IsMemory, byte_at, word_at}
-use Rattle.mem80.proofs.MemoryLemmas.{byte_small}
-use Rattle.ports.specs.declared.event.Event.{Event}
-use Rattle.meaning.specs.Outcomes.{State as SourceState, Outcome}
-use Rattle.isa8080.specs.declared.instr.Instr.TheVariants.{Mov, Pop, Push}
-use Rattle.isa8080.specs.declared.instr.Operand.TheVariants.{Of}
-use Rattle.isa8080.specs.declared.instr.Register.TheVariants.{A, L}
-use Rattle.isa8080.specs.declared.instr.StackPair.{StackPair}
-use Rattle.isa8080.specs.declared.instr.StackPair.TheVariants.{StackBc, StackHl}
-use Rattle.isa8080.specs.State.{Registers, State, high_byte, low_byte, one_less, pushed_of, two_less, word, wrap}
-use Rattle.isa8080.specs.Act.{act}
-use Rattle.asm8080.specs.declared.item.WordForm.TheVariants.{LoadHl}
-use Rattle.treecode.specs.declared.place.Place.{Place}
-use Rattle.treecode.specs.declared.place.Location.{Location}
+use Rattle.task_laws.proofs.Prelude.{◌≡◌, ℕ, zero, suc, ◌+◌, ◌*◌, ◌<◌, ◌==◌, Bool, true, false, if◌then◌else◌, List, [], ◌∷◌, ◌++◌, Some, slice_set, slice_index, refl, sym, ap, subst, ◌∙◌, arith, eqb-true, MEMORY_SIZE, IsMemory, byte_at, word_at, byte_small, Event, SourceState, Outcome, Mov, Pop, Push, Of, A, L, StackPair, StackBc, StackHl, Registers, State, high_byte, low_byte, one_less, pushed_of, two_less, word, wrap, act, LoadHl, Place, Location, is_static_location, Does, at_place, HasRoom, plain_first, IsSteady, location_at, place_at, without_hl_holds, address_asks, word_in_hl_is, Facts, Part, Step, Word, is_at, no_facts, plain, distance, frame_word_steps, hold_word_steps, location_address_steps, location_word_steps, word_at_hl_steps, knowing, Context, IsSound, distances_in, StepsStand, NoneThere, PlainThere, WordThere, HoldsThere, Know}
 use Rattle.treecode.specs.declared.place.Location.TheVariants as locations
-use Rattle.treecode.specs.Traits.{is_static_location}
-use Rattle.code_meaning.specs.Landing.{Does, at_place}
-use Rattle.code_meaning.specs.Activations.{HasRoom}
-use Rattle.code_meaning.proofs.FirstItems.{plain_first}
-use Rattle.code_meaning.specs.Holding.{IsSteady, location_at, place_at}
-use Rattle.code_meaning.proofs.Facts.Changes.{without_hl_holds}
-use Rattle.code_meaning.proofs.Facts.Steady.{address_asks}
-use Rattle.code_meaning.proofs.Facts.Uses.{word_in_hl_is}
-use Rattle.steps8080.specs.declared.facts.Facts.{Facts}
-use Rattle.steps8080.specs.declared.step.Part.{Part}
-use Rattle.steps8080.specs.declared.step.Step.{Step}
-use Rattle.steps8080.specs.declared.step.Step.TheVariants.{Word}
-use Rattle.steps8080.specs.Facts.{is_at, no_facts}
-use Rattle.steps8080.specs.Step.{plain}
-use Rattle.steps8080.specs.Site.{distance}
-use Rattle.operands8080.specs.Addresses.{frame_word_steps, hold_word_steps, location_address_steps, location_word_steps, word_at_hl_steps}
-use Rattle.exprgen8080.specs.Emission.{knowing}
-use Rattle.task_laws.specs.Contexts.{Context, IsSound, distances_in}
-use Rattle.task_laws.specs.Steps.{StepsStand, NoneThere, PlainThere, WordThere, HoldsThere}
-use Rattle.task_laws.specs.Tasks.{Know}
 use Rattle.task_laws.proofs.Machine.Rules.{GoesOn, holds_go, pushed_anywhere, ready_with_registers, registers_go, split, word_goes}
 use Rattle.task_laws.proofs.Machine.Addresses.{frame_address, location_address_goes, nothing_goes, registers_end}
 

@@ -1,24 +1,5 @@
 -- What is asked here of the code of products, and how it is followed.
-use Rattle.std.proofs.Common.{◌≡◌, ℕ, ◌*◌, ◌%◌, ◌<◌, ◌≤◌, List, sym, subst}
-use Rattle.trees.specs.declared.declaration.ScalarType.TheVariants.{Address}
-use Rattle.typed_trees.specs.Charge.{height_of}
-use Rattle.typed_trees.specs.ExpressionTypes.{type_of}
-use Rattle.typed_trees.specs.TypedTrees.{TypedExpression}
-use Rattle.typed_trees.specs.WellTyped.{TypesHold}
-use Rattle.meaning.specs.Meaning.{value}
-use Rattle.meaning.specs.Outcomes.{State as SourceState, Outcome, then_do}
-use Rattle.isa8080.specs.State.{Registers, State, word}
-use Rattle.treecode.specs.declared.expression.ExpressionNumber.{ExpressionNumber}
-use Rattle.treecode.specs.Lowered.{IsExpression}
-use Rattle.code_meaning.specs.Landing.{Does, at_place}
-use Rattle.code_meaning.specs.Activations.{HasRoom}
-use Rattle.code_meaning.proofs.Landing.{then_does}
-use Rattle.steps8080.specs.declared.facts.Facts.{Facts}
-use Rattle.steps8080.specs.Queries.{keeps}
-use Rattle.operands8080.specs.Products.{product_steps}
-use Rattle.task_laws.specs.Contexts.{Context, nodes_in}
-use Rattle.task_laws.specs.Steps.{StepsStand}
-use Rattle.task_laws.specs.Tasks.{Carries, Know, Left, Nothing, PartDoes}
+use Rattle.task_laws.proofs.Prelude.{◌≡◌, ℕ, ◌*◌, ◌%◌, ◌<◌, ◌≤◌, List, sym, subst, Address, height_of, type_of, TypedExpression, TypesHold, value, SourceState, Outcome, then_do, Registers, State, word, ExpressionNumber, IsExpression, Does, at_place, HasRoom, then_does, Facts, keeps, product_steps, Context, nodes_in, StepsStand, Carries, Know, Left, Nothing, PartDoes}
 use Rattle.task_laws.proofs.Machine.Rules.{GoesOn, room_for}
 
 -- a value times a number, modulo the size of memory, is in HL; A and DE are left alone where the tree says so

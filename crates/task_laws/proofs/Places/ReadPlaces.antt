@@ -1,22 +1,6 @@
 -- What is read at places, on both sides: the bytes of the machine's memory, or the read goes outside the language.
-use Rattle.std.proofs.Common.{◌≡◌, ℕ, ◌+◌, ◌*◌, ◌/◌, ◌%◌, ◌<◌, ◌≤◌, ◌⊎◌, inl, inr, Bool, true, false, if◌then◌else◌, List, refl, sym, ap, ◌∙◌, arith}
-use Rattle.mem80.specs.Memory.{byte_at}
-use Rattle.mem80.proofs.MemoryLemmas.{byte_small}
-use Rattle.trees.specs.declared.declaration.ScalarType.{ScalarType}
-use Rattle.trees.specs.declared.declaration.ScalarType.TheVariants.{Byte, Address}
-use Rattle.typed_trees.specs.Sizes.{size_of_scalar}
-use Rattle.meaning.specs.declared.reason.Reason.TheVariants.{Byte as UndeclaredByte}
-use Rattle.meaning.specs.Outcomes.{State as SourceState, Ended, More, Outside, Outcome, Gave, Stopped, then_do}
-use Rattle.meaning.specs.Access.{Place, InMemory, InTheFrame, is_declared, next_place, read_byte, read_scalar}
-use Rattle.meaning.specs.Values.{values_of}
-use Rattle.isa8080.specs.State.{Registers, State, wrap}
-use Rattle.code_meaning.specs.Landing.{Does}
-use Rattle.code_meaning.specs.Activations.{IsReady}
-use Rattle.code_meaning.specs.Holding.{IsSteady}
-use Rattle.code_meaning.proofs.Facts.Steady.{declared_is_steady}
-use Rattle.treecode_laws.specs.internal.Evaluations.{GoesOutside}
-use Rattle.task_laws.specs.Contexts.{Context, IsSound}
-use Rattle.task_laws.specs.Tasks.{address_on_machine}
+use Rattle.task_laws.proofs.Prelude.{◌≡◌, ℕ, ◌+◌, ◌*◌, ◌/◌, ◌%◌, ◌<◌, ◌≤◌, ◌⊎◌, inl, inr, Bool, true, false, if◌then◌else◌, List, refl, sym, ap, ◌∙◌, arith, byte_at, byte_small, ScalarType, Byte, Address, size_of_scalar, UndeclaredByte, SourceState, Ended, More, Outside, Outcome, Gave, Stopped, then_do, InMemory, InTheFrame, is_declared, next_place, read_byte, read_scalar, values_of, Registers, State, wrap, Does, IsReady, IsSteady, declared_is_steady, GoesOutside, Context, IsSound, address_on_machine}
+use Rattle.meaning.specs.Access.{Place}
 use Rattle.task_laws.proofs.Places.Reading.{FitsIn, frame_is, of_frame}
 use Rattle.task_laws.proofs.Stores.WordWriting.{first_fits, second_fits}
 

@@ -1,18 +1,6 @@
 -- Scalars that are read: the machine has their bytes at the address of their place, and they are steady.
-use Rattle.std.proofs.Common.{◌≡◌, ℕ, ◌+◌, ◌*◌, ◌<◌, ◌≤◌, Bool, true, false, if◌then◌else◌, List, slice_index, refl, ap, subst, ◌∙◌, arith}
-use Rattle.mem80.specs.declared.memory.TheConstants.{MEMORY_SIZE}
-use Rattle.mem80.specs.Memory.{byte_at}
-use Rattle.trees.specs.declared.declaration.ScalarType.TheVariants.{Byte, Address}
-use Rattle.meaning.specs.declared.reason.Reason.TheVariants.{Byte as UndeclaredByte}
-use Rattle.meaning.specs.Outcomes.{State as SourceState, Outside, Outcome, Gave, Stopped, then_do}
-use Rattle.meaning.specs.Access.{Place, InMemory, InTheFrame, frame_bytes, is_declared, read_scalar}
-use Rattle.isa8080.specs.State.{Registers, State, wrap}
-use Rattle.code_meaning.specs.Landing.{Does}
-use Rattle.code_meaning.specs.Activations.{Activation, IsReady}
-use Rattle.code_meaning.specs.Holding.{IsSteady}
-use Rattle.code_meaning.proofs.Facts.Steady.{declared_is_steady}
-use Rattle.task_laws.specs.Contexts.{Context, IsSound}
-use Rattle.task_laws.specs.Tasks.{address_on_machine}
+use Rattle.task_laws.proofs.Prelude.{◌≡◌, ℕ, ◌+◌, ◌*◌, ◌<◌, ◌≤◌, Bool, true, false, if◌then◌else◌, List, slice_index, refl, ap, subst, ◌∙◌, arith, MEMORY_SIZE, byte_at, Byte, Address, UndeclaredByte, SourceState, Outside, Outcome, Gave, Stopped, then_do, InMemory, InTheFrame, frame_bytes, is_declared, read_scalar, Registers, State, wrap, Does, Activation, IsReady, IsSteady, declared_is_steady, Context, IsSound, address_on_machine}
+use Rattle.meaning.specs.Access.{Place}
 
 -- so many bytes from a place on are those of an object, where the place is inside of it
 abbrev pub FitsIn : Activation → (size : ℕ) → Place → Type 0

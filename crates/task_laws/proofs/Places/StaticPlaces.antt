@@ -1,22 +1,7 @@
 -- Where the place of a part of an object is known from its node, its location is known at the site.
-use Rattle.std.proofs.Common.{◌≡◌, ℕ, ◌*◌, ◌%◌, true, Option, Some, None, is_some, refl, ap, ◌∙◌}
-use Rattle.std.proofs.lemmas.Bool.{false≢true}
-use Rattle.treecode.specs.declared.place.Home.{Home}
+use Rattle.task_laws.proofs.Prelude.{◌≡◌, ℕ, ◌*◌, ◌%◌, true, Option, Some, None, is_some, refl, ap, ◌∙◌, false≢true, Home, Location, Static, Place, Reference, IndexNode, known_distance, place_of_part, home_at, distance_of, number_at, place_of_reference, Facts, Base, Split, base_after, base_of, located_at, location_of, number_of, split, split_computed, knowing, Context, nodes_in}
 use Rattle.treecode.specs.declared.place.Home.TheVariants as homes
-use Rattle.treecode.specs.declared.place.Location.{Location}
-use Rattle.treecode.specs.declared.place.Location.TheVariants.{Static}
-use Rattle.treecode.specs.declared.place.Place.{Place}
-use Rattle.treecode.specs.declared.reference.Reference.{Reference}
-use Rattle.treecode.specs.declared.reference.Subscript.{Subscript as IndexNode}
-use Rattle.treecode.specs.Known.{known_distance, place_of_part}
-use Rattle.treecode.specs.Nodes.{home_at}
-use Rattle.treecode.specs.Traits.{distance_of, number_at, place_of_reference}
-use Rattle.steps8080.specs.declared.facts.Facts.{Facts}
-use Rattle.steps8080.specs.declared.sites.queries.Base.{Base}
-use Rattle.steps8080.specs.declared.sites.queries.Split.{Split}
-use Rattle.steps8080.specs.Queries.{base_after, base_of, located, located_at, location_at, location_of, number as number_of, split, split_computed}
-use Rattle.exprgen8080.specs.Emission.{knowing}
-use Rattle.task_laws.specs.Contexts.{Context, nodes_in}
+use Rattle.steps8080.specs.Queries.{located, location_at}
 use Rattle.task_laws.proofs.Machine.KeptCode.{place_known}
 use Rattle.task_laws.proofs.Machine.SiteNodes.{number_is}
 

@@ -1,22 +1,8 @@
 -- The strides of computed subscripts are below the size of memory, also where a subscript is taken apart.
-use Rattle.std.proofs.Common.{ℕ, ◌*◌, ◌%◌, ◌<◌, Option, Some, None, unwrap_or, arith}
-use Rattle.std.specs.Option.{option_and_then}
+use Rattle.task_laws.proofs.Prelude.{ℕ, ◌*◌, ◌%◌, ◌<◌, Option, Some, None, unwrap_or, arith, option_and_then, BinaryOperator, Subscript, Storage, Expression, ExpressionForm, ExpressionNumber, IndexNode, IsSubscript, IsAbsent, IsIndex, Nodes, Split, Site, number_of, split, split_computed, split_form, split_sum, split_whole, expression}
 use Rattle.trees.specs.declared.declaration.ScalarType.TheVariants as scalars
-use Rattle.trees.specs.declared.expression.BinaryOperator.{BinaryOperator}
 use Rattle.trees.specs.declared.expression.BinaryOperator.TheVariants as operators
-use Rattle.typed_trees.specs.TypedTrees.{Subscript}
-use Rattle.layout.specs.Storage.{Storage}
-use Rattle.treecode.specs.declared.expression.Expression.{Expression}
-use Rattle.treecode.specs.declared.expression.ExpressionForm.{ExpressionForm}
 use Rattle.treecode.specs.declared.expression.ExpressionForm.TheVariants as forms
-use Rattle.treecode.specs.declared.expression.ExpressionNumber.{ExpressionNumber}
-use Rattle.treecode.specs.declared.reference.Subscript.{Subscript as IndexNode}
-use Rattle.treecode.specs.Lowered.{IsSubscript, IsAbsent, IsIndex}
-use Rattle.treecode.specs.Nodes.{Nodes}
-use Rattle.steps8080.specs.declared.sites.queries.Split.{Split}
-use Rattle.steps8080.specs.declared.sites.site.Site.{Site}
-use Rattle.steps8080.specs.Queries.{number as number_of, split, split_computed, split_form, split_sum, split_whole}
-use Rattle.steps8080.specs.Site.{expression}
 
 -- the stride of a subscript that is computed, if it is, is below the size of memory
 abbrev pub HasStride : Option IndexNode → Type 0

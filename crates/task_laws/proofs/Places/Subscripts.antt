@@ -1,39 +1,10 @@
 -- Subscripts as tree code takes them apart: what is computed, and how many bytes are known, are the source's
 -- displacement modulo the size of memory.
-use Rattle.std.proofs.Common.{◌≡◌, ℕ, ◌+◌, ◌-◌, ◌*◌, ◌%◌, ◌<◌, ◌≤◌, true, Option, Some, None, is_some, slice_get, max, if◌then◌else◌, refl, sym, ap, ◌∙◌, subst, arith, mul_comm, unwrap_or}
-use Rattle.std.proofs.Math.Nat.{mul-add}
-use Rattle.std.proofs.lemmas.Nat.{mul-mod_second}
-use Rattle.std.specs.Option.{option_and_then, option_map_or}
-use Rattle.trees.specs.declared.declaration.ScalarType.{ScalarType}
-use Rattle.trees.specs.declared.declaration.ScalarType.TheVariants.{Address}
-use Rattle.trees.specs.declared.expression.BinaryOperator.{BinaryOperator}
+use Rattle.task_laws.proofs.Prelude.{◌≡◌, ℕ, ◌+◌, ◌-◌, ◌*◌, ◌%◌, ◌<◌, ◌≤◌, true, Option, Some, None, is_some, slice_get, max, if◌then◌else◌, refl, sym, ap, ◌∙◌, subst, arith, mul_comm, unwrap_or, mul-add, mul-mod_second, option_and_then, option_map_or, ScalarType, Address, BinaryOperator, height_of, height_of_subscript, type_of, TypedExpression, BinaryNode, Subscript, At, TypesHold, TypesHoldInSubscript, Displacement, computed, displaced, displacement, no_displacement, value, Outcome, Gave, Stopped, then_do, result_of, values_of, Expression, ExpressionForm, ExpressionNumber, Place, Number, Code, Data, External, IndexNode, Keeps, Traits, IsExpression, IsForm, IsBinary, IsSubscript, IsAbsent, IsIndex, known_number, result_of_known, none_kept, place_number, keeps_at, keeps_none, keeps_of, keeps_of_index, keeps_of_subscript, known_of, known_at, no_traits, number_at, traits_at, traits_of, wrap, Facts, keeps, known, number, split, split_computed, split_form, split_sum, split_whole, expression, knowing, Context, IsSound, nodes_in}
 use Rattle.trees.specs.declared.expression.BinaryOperator.TheVariants as operators
-use Rattle.typed_trees.specs.Charge.{height_of, height_of_subscript}
-use Rattle.typed_trees.specs.ExpressionTypes.{type_of}
-use Rattle.typed_trees.specs.TypedTrees.{TypedExpression, BinaryNode, Subscript, At}
-use Rattle.typed_trees.specs.WellTyped.{TypesHold, TypesHoldInSubscript}
-use Rattle.meaning.specs.Meaning.{Displacement, computed, displaced, displacement, no_displacement, value}
-use Rattle.meaning.specs.Outcomes.{State, Outcome, Gave, Stopped, then_do}
-use Rattle.meaning.specs.Values.{result_of, values_of}
-use Rattle.treecode.specs.declared.expression.Expression.{Expression}
-use Rattle.treecode.specs.declared.expression.ExpressionForm.{ExpressionForm}
+use Rattle.meaning.specs.Outcomes.{State}
 use Rattle.treecode.specs.declared.expression.ExpressionForm.TheVariants as forms
-use Rattle.treecode.specs.declared.expression.ExpressionNumber.{ExpressionNumber}
-use Rattle.treecode.specs.declared.place.Place.{Place}
-use Rattle.treecode.specs.declared.place.Place.TheVariants.{Number, Code, Data, External}
-use Rattle.treecode.specs.declared.reference.Subscript.{Subscript as IndexNode}
-use Rattle.treecode.specs.declared.traits.Keeps.{Keeps}
-use Rattle.treecode.specs.declared.traits.Traits.{Traits}
-use Rattle.treecode.specs.Lowered.{IsExpression, IsForm, IsBinary, IsSubscript, IsAbsent, IsIndex}
-use Rattle.treecode.specs.Known.{known_number, result_of_known}
-use Rattle.treecode.specs.Queries.{none_kept, place_number}
-use Rattle.treecode.specs.Traits.{keeps_at, keeps_both, keeps_none, keeps_of, keeps_of_index, keeps_of_subscript, known_of, known_at, no_traits, number_at, traits_at, traits_of}
-use Rattle.isa8080.specs.State.{wrap}
-use Rattle.steps8080.specs.declared.facts.Facts.{Facts}
-use Rattle.steps8080.specs.Queries.{keeps, known, number, split, split_computed, split_form, split_sum, split_whole}
-use Rattle.steps8080.specs.Site.{expression}
-use Rattle.exprgen8080.specs.Emission.{knowing}
-use Rattle.task_laws.specs.Contexts.{Context, IsSound, nodes_in}
+use Rattle.treecode.specs.Traits.{keeps_both}
 use Rattle.task_laws.proofs.Machine.Nodes.{NodeOf, node_of}
 use Rattle.task_laws.proofs.Machine.KnownOperands.{number_small}
 use Rattle.task_laws.proofs.Machine.SiteNodes.{number_means}

@@ -1,38 +1,8 @@
 -- Values of expressions are of their types, as long as calls give such values.
-use Rattle.std.proofs.Common.{◌≡◌, ℕ, ◌+◌, ◌-◌, ◌/◌, ◌%◌, ◌^◌, ◌<◌, ◌≤◌, ◌==◌, nat_lt, Bool, true, false, ◌||◌, bit_and, List, [], All, Option, Some, None, if◌then◌else◌, refl, sym, ap, ◌∙◌, subst, arith}
-use Rattle.std.proofs.lemmas.List.Elements.{All-from_get_or}
-use Rattle.std.proofs.lemmas.Nat.{and_le_l, and_le_r}
-use Rattle.std.proofs.lemmas.Bool.{false≢true, ltb-true, leb-true, eqb-false}
-use Rattle.mem80.specs.Memory.{byte_at}
-use Rattle.mem80.proofs.MemoryLemmas.{byte_small}
-use Rattle.trees.specs.declared.declaration.ScalarType.{ScalarType}
-use Rattle.trees.specs.declared.declaration.ScalarType.TheVariants.{Byte, Address}
-use Rattle.trees.specs.declared.expression.BinaryOperator.{BinaryOperator}
-use Rattle.trees.specs.declared.expression.BinaryOperator.TheVariants.{And, Equal, Greater, GreaterOrEqual, Less, LessOrEqual, Modulo, Unequal}
-use Rattle.typed_trees.specs.declared.parts.ShiftFunction.{ShiftFunction}
-use Rattle.typed_trees.specs.declared.parts.ShiftFunction.TheVariants.{ShiftRight}
-use Rattle.typed_trees.specs.declared.parts.UnaryFunction.TheVariants.{Low, High, Double}
-use Rattle.typed_trees.specs.ExpressionTypes.{type_of, type_of_result}
-use Rattle.typed_trees.specs.TypedTrees.{TypedExpression, BinaryNode, ShiftNode}
-use Rattle.typed_trees.specs.WellTyped.{TypesHold}
-use Rattle.meaning.specs.Access.{frame_bytes}
-use Rattle.meaning.specs.Meaning.{called_for, callee_in, computed, value}
-use Rattle.meaning.specs.Outcomes.{State, Outcome, Gave, then_do}
-use Rattle.meaning.specs.Values.{as_type, result_of, shifted, values_of}
-use Rattle.treecode.specs.declared.expression.Expression.{Expression}
-use Rattle.treecode.specs.declared.expression.ExpressionForm.{ExpressionForm}
-use Rattle.treecode.specs.Lowered.{IsBinary, IsCallOf, IsConstantList, IsConversion, IsEmbedded, IsExpression, IsForm, IsFunction, IsInput, IsLocation, IsNumber, IsShift, IsUnary, IsValue}
-use Rattle.code_meaning.specs.Activations.{IsReady}
-use Rattle.isa8080.specs.State.{Registers}
-use Rattle.runtime8080.proofs.AddressBits.{by_eight}
-use Rattle.treecode.specs.declared.expression.ExpressionNumber.{ExpressionNumber}
-use Rattle.steps8080.specs.declared.facts.Facts.{Facts}
-use Rattle.steps8080.specs.Queries.{number as number_of}
-use Rattle.steps8080.specs.Site.{expression, scalar as scalar_at}
-use Rattle.steps8080.specs.Widths.{fits_byte, fits_byte_by, shift_by_fits_byte, form_fits_byte, is_byte, is_number_below, result_fits_byte, shift_fits_byte}
-use Rattle.exprgen8080.specs.Emission.{knowing}
+use Rattle.task_laws.proofs.Prelude.{◌≡◌, ℕ, ◌+◌, ◌-◌, ◌/◌, ◌%◌, ◌^◌, ◌<◌, ◌≤◌, ◌==◌, nat_lt, Bool, true, false, ◌||◌, bit_and, List, [], All, Option, Some, None, if◌then◌else◌, refl, sym, ap, ◌∙◌, subst, arith, All-from_get_or, and_le_l, and_le_r, false≢true, ltb-true, leb-true, eqb-false, byte_at, byte_small, ScalarType, Byte, Address, BinaryOperator, Greater, GreaterOrEqual, Less, LessOrEqual, Modulo, Unequal, ShiftFunction, ShiftRight, Low, High, Double, type_of, type_of_result, TypedExpression, BinaryNode, ShiftNode, TypesHold, frame_bytes, called_for, callee_in, computed, value, Outcome, Gave, then_do, as_type, result_of, shifted, values_of, Expression, ExpressionForm, IsBinary, IsCallOf, IsConstantList, IsConversion, IsEmbedded, IsExpression, IsForm, IsFunction, IsInput, IsLocation, IsNumber, IsShift, IsUnary, IsValue, IsReady, Registers, by_eight, ExpressionNumber, Facts, number_of, expression, scalar_at, fits_byte, fits_byte_by, shift_by_fits_byte, form_fits_byte, is_byte, is_number_below, result_fits_byte, shift_fits_byte, knowing, Context, IsSound, SourceFits, nodes_in}
+use Rattle.trees.specs.declared.expression.BinaryOperator.TheVariants.{And, Equal}
+use Rattle.meaning.specs.Outcomes.{State}
 use Rattle.task_laws.proofs.Machine.Nodes.{NodeOf, node_of}
-use Rattle.task_laws.specs.Contexts.{Context, IsSound, SourceFits, nodes_in}
 use Rattle.task_laws.proofs.Machine.KnownOperands.{quotient_less}
 use Rattle.task_laws.proofs.Ranges.NumbersOfTrees.{in_node}
 use Rattle.task_laws.proofs.Ranges.RangesOfBytes.{Gives, IsGiven, IsStopped, given_by, gives_from, gives_then, of_type}

@@ -1,30 +1,7 @@
 -- What is read and written has its type: bytes of a state of the source, places, operators and functions.
-use Rattle.std.proofs.Common.{◌≡◌, ◌≢◌, ◌⊎◌, inl, inr, ℕ, ◌+◌, ◌*◌, ◌/◌, ◌%◌, ◌<◌, ◌≤◌, Bool, true, false, List, [], length, All, option_map, Option, Some, None, slice_get, slice_index_or, slice_set, if◌then◌else◌, refl, subst, arith}
-use Rattle.std.specs.Option.{option_map_or}
-use Rattle.std.proofs.lemmas.List.Elements.{All-get_or, All-nil, All-set}
-use Rattle.std.proofs.lemmas.List.{get_or_past, length-set}
-use Rattle.std.proofs.lemmas.Bool.{cases_lt, cases_eq}
-use Rattle.mem80.specs.declared.memory.TheConstants.{MEMORY_SIZE}
-use Rattle.mem80.specs.Memory.{byte_at}
-use Rattle.ports.specs.Input.{input_value, queue_of, reads_of, IsScript}
-use Rattle.trees.specs.declared.declaration.ScalarType.{ScalarType}
-use Rattle.trees.specs.declared.declaration.ScalarType.TheVariants.{Byte, Address}
-use Rattle.typed_trees.specs.declared.parts.UnaryFunction.{UnaryFunction}
-use Rattle.typed_trees.specs.declared.parts.UnaryFunction.TheVariants.{Low, High, Double}
-use Rattle.typed_trees.specs.ExpressionTypes.{type_of_function, type_of_target}
-use Rattle.typed_trees.specs.TypedTrees.{Home, InData, InConstants, Placed, BasedOn, Elsewhere, Nowhere, InFrame, TypedModule, TypedTarget, StoredIn, SentTo}
-use Rattle.typed_trees.specs.WellTyped.{TypesHoldInTarget, Within}
-use Rattle.meaning.specs.declared.reason.Reason.{Reason}
-use Rattle.meaning.specs.declared.reason.Reason.TheVariants.{Constant}
-use Rattle.meaning.specs.Access.{InMemory, InTheFrame, Place, Surroundings, frame_bytes, is_constant, is_declared, next_place, place_of, read_byte, read_scalar, write_byte, write_scalar}
-use Rattle.meaning.specs.Meaning.{address_in_memory, address_of_list, based_place, computed}
-use Rattle.meaning.specs.Outcomes.{State, Outside, Outcome, Gave, Stop, Stopped, then_do}
-use Rattle.meaning.specs.Values.{as_type, function_of, values_of}
-use Rattle.treecode.specs.declared.place.Place.TheVariants.{Number}
-use Rattle.layout.specs.Placement.{ModulePlacement}
-use Rattle.ports.specs.declared.event.Event.{Event}
-use Rattle.asm8080.proofs.Kept.{byte_kept, byte_put}
-use Rattle.task_laws.specs.Contexts.{SourceFits}
+use Rattle.task_laws.proofs.Prelude.{◌≡◌, ◌≢◌, ◌⊎◌, inl, inr, ℕ, ◌+◌, ◌*◌, ◌/◌, ◌%◌, ◌<◌, ◌≤◌, Bool, true, false, List, [], length, All, option_map, Option, Some, None, slice_get, slice_index_or, slice_set, if◌then◌else◌, refl, subst, arith, option_map_or, All-get_or, All-nil, All-set, get_or_past, length-set, cases_lt, cases_eq, MEMORY_SIZE, byte_at, input_value, queue_of, reads_of, IsScript, ScalarType, Byte, Address, UnaryFunction, Low, High, Double, type_of_function, type_of_target, InData, InConstants, Placed, BasedOn, Elsewhere, Nowhere, InFrame, TypedModule, TypedTarget, StoredIn, SentTo, TypesHoldInTarget, Within, Reason, Constant, InMemory, InTheFrame, Surroundings, frame_bytes, is_constant, is_declared, next_place, place_of, read_byte, read_scalar, write_byte, write_scalar, address_in_memory, address_of_list, based_place, computed, Outside, Outcome, Gave, Stop, Stopped, then_do, as_type, function_of, values_of, Number, ModulePlacement, Event, byte_kept, byte_put, SourceFits}
+use Rattle.typed_trees.specs.TypedTrees.{Home}
+use Rattle.meaning.specs.{Access.{Place}, Outcomes.{State}}
 use Rattle.task_laws.proofs.Machine.KnownOperands.{KnownFits, high_fits, word_fits}
 
 -- what an outcome gives, if it gives something

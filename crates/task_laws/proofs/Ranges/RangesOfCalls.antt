@@ -1,28 +1,10 @@
 -- Values of typed trees are of their types: calls with arguments of the types of parameters give values of the types of
 -- results, and leave bytes, in any program whose modules are well typed.
-use Rattle.std.proofs.Common.{◌≡◌, ℕ, zero, suc, ◌+◌, ◌-◌, ◌<◌, Bool, true, false, nat_lt, List, [], ◌∷◌, replicate, get_or, IsSomeAnd, Option, Some, None, option_map, slice_get, if◌then◌else◌, refl, sym, ap, ◌∙◌, subst, arith}
-use Rattle.std.specs.Prelude.{All}
-use Rattle.std.specs.List.{AllByRecursion, enumerate_from}
-use Rattle.std.specs.Option.{option_and_then, option_map_or}
-use Rattle.std.proofs.lemmas.List.Elements.{All-get_or, All-map, All-nil, All-replicate, All-from_recursion}
-use Rattle.std.proofs.lemmas.List.FromFn.{length-enumerate_from, get_or-enumerate_from}
-use Rattle.std.proofs.lemmas.Option.{slice_get_within, get_or_from_slice_get}
-use Rattle.trees.specs.declared.declaration.ScalarType.{ScalarType}
-use Rattle.typed_trees.specs.declared.parts.Visibility.{Visibility}
+use Rattle.task_laws.proofs.Prelude.{◌≡◌, ℕ, zero, suc, ◌+◌, ◌-◌, ◌<◌, Bool, true, false, nat_lt, List, [], ◌∷◌, replicate, get_or, IsSomeAnd, Option, Some, None, option_map, slice_get, if◌then◌else◌, refl, sym, ap, ◌∙◌, subst, arith, All, AllByRecursion, enumerate_from, option_and_then, option_map_or, All-get_or, All-map, All-nil, All-replicate, All-from_recursion, length-enumerate_from, get_or-enumerate_from, slice_get_within, get_or_from_slice_get, ScalarType, Visibility, charge_of, size_of_object, TypedModule, TypedObject, TypedProcedure, IsWellTyped, TypesHoldInList, TypesHoldInProcedure, WithinProcedure, DeclaredProcedure, InProgram, is_public_procedure, procedure_meant, Stack, Surroundings, place_of, write_scalar, Later, called, called_for, callee_in, charged, done_list, entered, frame_of, is_frame_of, later_by, parameters_set, procedure_at, value_of_flow, Flow, Gave, Jumped, Onward, Outcome, Outside, Returned, Stopped, then_do, AreOfTypes, CallsFit, Context, IsOfResult, SourceFits, NumbersFitInList, NumbersFitInModule, NumbersFitInProcedure, HasTypes}
 use Rattle.typed_trees.specs.declared.parts.Visibility.TheVariants as visibilities
-use Rattle.typed_trees.specs.Charge.{charge_of}
-use Rattle.typed_trees.specs.Sizes.{size_of_object}
-use Rattle.typed_trees.specs.TypedTrees.{TypedModule, TypedObject, TypedProcedure}
-use Rattle.typed_trees.specs.WellTyped.{IsWellTyped, TypesHoldInList, TypesHoldInProcedure, WithinProcedure}
-use Rattle.layout.specs.Joined.{DeclaredProcedure, InProgram, agree, is_public_procedure, procedure_meant}
+use Rattle.layout.specs.Joined.{agree}
 use Rattle.layout.proofs.Meant.{MeansProcedure, external_procedure_meant, procedures_agree}
-use Rattle.meaning.specs.declared.reason.Reason.TheVariants.{Stack}
-use Rattle.meaning.specs.Access.{Surroundings, place_of, write_scalar}
-use Rattle.meaning.specs.Meaning.{Later, called, called_for, callee_in, charged, done_list, entered, frame_of, is_frame_of, later_by, parameters_set, procedure_at, value_of_flow}
-use Rattle.meaning.specs.Outcomes.{Flow, Gave, Jumped, Onward, Outcome, Outside, Returned, State, Stopped, then_do}
-use Rattle.task_laws.specs.Contexts.{AreOfTypes, CallsFit, Context, IsOfResult, SourceFits}
-use Rattle.typed_trees.specs.Numbers.{NumbersFitInList, NumbersFitInModule, NumbersFitInProcedure}
-use Rattle.task_laws.specs.ProgramTypes.{HasTypes}
+use Rattle.meaning.specs.Outcomes.{State}
 use Rattle.task_laws.proofs.Ranges.RangesOfBytes.{Gives, IsGiven, IsStopped, given_by, gives_then, write_fits}
 use Rattle.task_laws.proofs.Ranges.RangesOfTrees.{CalleesAreHeaded, FlowFits, IsHeaded, LaterFits, calls_give, nothing_fits}
 use Rattle.task_laws.proofs.Ranges.RangesOfStatements.{after_taking, either, list_fits, rest_fits, turn_fits}

@@ -1,17 +1,6 @@
 -- Values of typed trees are of their types: along statements, as long as what calls, further turns and jumps give is.
-use Rattle.std.proofs.Common.{◌≡◌, ℕ, zero, suc, ◌+◌, ◌-◌, ◌%◌, ◌<◌, ◌==◌, Bool, true, false, nat_le, nat_lt, Option, Some, None, option_map, slice_get, if◌then◌else◌, refl, subst}
-use Rattle.std.specs.Prelude.{IfSome}
-use Rattle.mem80.specs.declared.memory.TheConstants.{MEMORY_SIZE}
-use Rattle.typed_trees.specs.ExpressionTypes.{type_of}
-use Rattle.typed_trees.specs.TypedTrees.{TypedExpression, TypedIteration, TypedStatement, LabelStatement, NullStatement, AssignmentStatement, CallStatement, MoveStatement, ReturnStatement, HaltStatement, GotoStatement, IfStatement, DoStatement, WhileStatement, IterateStatement, CaseStatement, TypedElse, NoElse, ElseStatement, TypedStatements, NoStatements, MoreStatements, TypedList, ListOf, TypedModule}
-use Rattle.typed_trees.specs.WellTyped.{IsReturned, TypesHold, TypesHoldIn, TypesHoldInElse, TypesHoldInList, TypesHoldInStatements, Within, WithinMain, WithinProcedure}
-use Rattle.meaning.specs.Access.{InMemory, Surroundings, place_of, read_byte, write_byte}
-use Rattle.meaning.specs.Meaning.{IterateTurn, Later, Turn, WhileTurn, after_turn, called_for, callee_in, caught_in, done, done_all, done_case, done_else, done_list, dropped, going_on, iterated, landed, moved, next_turn, read_variable, rest_from, rest_of, returned, step_value, stepped, stored_in_each, turn_of, value, values, write_variable}
-use Rattle.meaning.specs.Outcomes.{Flow, Gave, Jumped, More, Onward, Outcome, Returned, State, Stopped, taking_one, then_do}
-use Rattle.meaning.specs.Values.{as_type, is_true, values_of}
-use Rattle.task_laws.specs.Contexts.{SourceFits}
-use Rattle.typed_trees.specs.Numbers.{NumbersFit, NumbersFitIfSome, NumbersFitIn, NumbersFitInElse, NumbersFitInList, NumbersFitInStatements}
-use Rattle.task_laws.specs.ProgramTypes.{HasTypes}
+use Rattle.task_laws.proofs.Prelude.{◌≡◌, ℕ, zero, suc, ◌+◌, ◌-◌, ◌%◌, ◌<◌, ◌==◌, Bool, true, false, nat_le, nat_lt, Option, Some, None, option_map, slice_get, if◌then◌else◌, refl, subst, IfSome, MEMORY_SIZE, type_of, TypedExpression, TypedIteration, TypedStatement, LabelStatement, NullStatement, AssignmentStatement, CallStatement, MoveStatement, ReturnStatement, HaltStatement, GotoStatement, IfStatement, DoStatement, WhileStatement, IterateStatement, CaseStatement, TypedElse, NoElse, ElseStatement, TypedStatements, NoStatements, MoreStatements, TypedList, ListOf, TypedModule, IsReturned, TypesHold, TypesHoldIn, TypesHoldInElse, TypesHoldInList, TypesHoldInStatements, Within, WithinMain, WithinProcedure, InMemory, Surroundings, place_of, read_byte, write_byte, IterateTurn, Later, Turn, WhileTurn, after_turn, called_for, callee_in, caught_in, done, done_all, done_case, done_else, done_list, dropped, going_on, iterated, landed, moved, next_turn, read_variable, rest_from, rest_of, returned, step_value, stepped, stored_in_each, turn_of, value, values, write_variable, Flow, Gave, Jumped, More, Onward, Outcome, Returned, Stopped, taking_one, then_do, as_type, is_true, values_of, SourceFits, NumbersFit, NumbersFitIfSome, NumbersFitIn, NumbersFitInElse, NumbersFitInList, NumbersFitInStatements, HasTypes}
+use Rattle.meaning.specs.Outcomes.{State}
 use Rattle.task_laws.proofs.Ranges.RangesOfBytes.{Gives, IsGiven, IsStopped, as_type_fits, byte_fits, gives_then, of_type, read_fits, scalar_fits, write_fits}
 use Rattle.task_laws.proofs.Ranges.RangesOfTrees.{CalleesAreHeaded, CallsGive, FlowFits, LaterFits, ReturnFits, TurnFits, calls_give, takes_fits, targets_fit, tree_fits, trees_fit}
 

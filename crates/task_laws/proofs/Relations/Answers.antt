@@ -1,24 +1,7 @@
 -- What questions ask, and how flags show it.
-use Rattle.std.proofs.Common.{◌≡◌, ℕ, ◌+◌, ◌%◌, ◌<◌, ◌≤◌, ◌==◌, Bool, true, false, not, nat_lt, nat_le, min, if◌then◌else◌, Option, Some, refl, sym, ap, ◌∙◌, arith}
-use Rattle.std.proofs.lemmas.Bool.{ltb-true, ltb-false, lt-ltb, le-ltb, leb-true, leb-false, le-leb, lt-leb, eqb-true, eqb-false, eq-eqb, ne_eqb}
-use Rattle.std.proofs.lemmas.Option.{none-some, same_Some}
-use Rattle.trees.specs.declared.declaration.ScalarType.{ScalarType}
-use Rattle.trees.specs.declared.declaration.ScalarType.TheVariants.{Byte, Address}
-use Rattle.trees.specs.declared.expression.BinaryOperator.{BinaryOperator}
+use Rattle.task_laws.proofs.Prelude.{◌≡◌, ℕ, ◌+◌, ◌%◌, ◌<◌, ◌≤◌, ◌==◌, Bool, true, false, not, nat_lt, nat_le, min, if◌then◌else◌, Option, Some, refl, sym, ap, ◌∙◌, arith, ltb-true, ltb-false, lt-ltb, le-ltb, leb-true, leb-false, le-leb, lt-leb, eqb-true, eqb-false, eq-eqb, ne_eqb, none-some, same_Some, ScalarType, Byte, Address, BinaryOperator, result_of, truth, values_of, Compare, Subtract, Registers, borrow_shows, same_test, zero_shows, NumberQuestion, Never, Below, Is, Question, LeftBelow, RightBelow, Equal, agree, greatest, mirrored, number_question, question_of, Answer, Carry, Zero, Purpose, Branch, Value}
 use Rattle.trees.specs.declared.expression.BinaryOperator.TheVariants as operators
-use Rattle.meaning.specs.Values.{result_of, truth, values_of}
-use Rattle.isa8080.specs.declared.instr.Operation.TheVariants.{Compare, Subtract}
-use Rattle.isa8080.specs.State.{Registers}
-use Rattle.code_meaning.proofs.ByteResults.{borrow_shows, same_test, zero_shows}
-use Rattle.steps8080.specs.declared.sites.questions.NumberQuestion.{NumberQuestion}
-use Rattle.steps8080.specs.declared.sites.questions.NumberQuestion.TheVariants.{Never, Below, Is}
-use Rattle.steps8080.specs.declared.sites.questions.Question.{Question}
-use Rattle.steps8080.specs.declared.sites.questions.Question.TheVariants.{LeftBelow, RightBelow, Equal}
-use Rattle.steps8080.specs.Questions.{agree, greatest, mirrored, number_question, question_of}
-use Rattle.operands8080.specs.declared.answers.Answer.{Answer}
-use Rattle.operands8080.specs.declared.answers.Answer.TheVariants.{Known, Carry, Zero}
-use Rattle.operands8080.specs.declared.answers.Purpose.{Purpose}
-use Rattle.operands8080.specs.declared.answers.Purpose.TheVariants.{Branch, Value}
+use Rattle.operands8080.specs.declared.answers.Answer.TheVariants.{Known}
 use Rattle.task_laws.proofs.Bytes.ByteOperations.{IsOperated}
 
 -- the answer to a question about two values

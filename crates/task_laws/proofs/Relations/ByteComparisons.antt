@@ -1,38 +1,6 @@
 -- Two BYTEs are compared, in each form.
-use Rattle.std.proofs.Common.{◌≡◌, ℕ, ◌+◌, ◌*◌, ◌<◌, ◌≤◌, ◌==◌, Bool, true, false, ◌&&◌, List, Option, Some, None, refl, sym, ◌∙◌, subst, arith, if◌then◌else◌}
-use Rattle.std.proofs.lemmas.Bool.{and_parts}
-use Rattle.trees.specs.declared.declaration.ScalarType.{ScalarType}
-use Rattle.typed_trees.specs.Charge.{height_of}
-use Rattle.typed_trees.specs.TypedTrees.{TypedExpression}
-use Rattle.typed_trees.specs.WellTyped.{TypesHold}
-use Rattle.meaning.specs.Outcomes.{State as SourceState, Outcome}
-use Rattle.isa8080.specs.declared.instr.Operation.{Operation}
-use Rattle.isa8080.specs.declared.instr.Operation.TheVariants.{Compare, Subtract}
-use Rattle.isa8080.specs.State.{Registers, State}
-use Rattle.treecode.specs.declared.expression.ExpressionNumber.{ExpressionNumber}
-use Rattle.treecode.specs.declared.reference.Reference.{Reference}
-use Rattle.treecode.specs.Lowered.{IsExpression}
-use Rattle.steps8080.specs.declared.facts.Facts.{Facts}
-use Rattle.steps8080.specs.declared.step.Step.{Step}
-use Rattle.code_meaning.specs.Landing.{Does, at_place}
-use Rattle.treecode_laws.proofs.Exchanging.{in_order as evaluated_in_order}
-use Rattle.steps8080.specs.declared.sites.questions.Comparison.{Comparison}
-use Rattle.steps8080.specs.declared.sites.questions.Question.{Question}
-use Rattle.steps8080.specs.declared.sites.questions.Question.TheVariants.{LeftBelow, RightBelow, Equal}
-use Rattle.steps8080.specs.declared.sites.site.Site.{Site}
-use Rattle.steps8080.specs.Queries.{is_free, may_exchange}
-use Rattle.steps8080.specs.Widths.{operand_in_memory}
-use Rattle.operands8080.specs.declared.answers.Answer.TheVariants.{Zero}
-use Rattle.operands8080.specs.declared.answers.Purpose.{Purpose}
-use Rattle.operands8080.specs.declared.answers.Purpose.TheVariants.{Branch, Value}
-use Rattle.operands8080.specs.declared.answers.Setting.{Setting}
-use Rattle.operands8080.specs.declared.byte_relations.Form.{Form}
-use Rattle.operands8080.specs.declared.byte_relations.Form.TheVariants.{WithMemory, WithE, Pushed}
-use Rattle.operands8080.specs.ByteRelations.{answer_to, better_form, byte_relation_steps, comparing, exchanged, form_of, form_or_push, in_order, memory_form, pushed_steps, register_form, with_e_steps, with_memory_steps, without_push}
-use Rattle.exprgen8080.specs.Emission.{knowing}
-use Rattle.task_laws.specs.Contexts.{Context, IsSound, nodes_in}
-use Rattle.task_laws.specs.Steps.{StepsStand}
-use Rattle.task_laws.specs.Tasks.{PartDoes}
+use Rattle.task_laws.proofs.Prelude.{◌≡◌, ℕ, ◌+◌, ◌*◌, ◌<◌, ◌≤◌, ◌==◌, Bool, true, false, ◌&&◌, List, Option, Some, None, refl, sym, ◌∙◌, subst, arith, if◌then◌else◌, and_parts, ScalarType, height_of, TypedExpression, TypesHold, SourceState, Outcome, Operation, Compare, Subtract, Registers, State, ExpressionNumber, Reference, IsExpression, Facts, Step, Does, at_place, evaluated_in_order, Comparison, Question, LeftBelow, RightBelow, Equal, Site, is_free, may_exchange, operand_in_memory, Zero, Purpose, Branch, Value, Setting, Form, WithMemory, WithE, answer_to, better_form, byte_relation_steps, comparing, form_or_push, memory_form, pushed_steps, register_form, without_push, knowing, Context, IsSound, nodes_in, StepsStand, PartDoes}
+use Rattle.operands8080.specs.{declared.byte_relations.Form.TheVariants.{Pushed}, ByteRelations.{exchanged, form_of, in_order, with_e_steps, with_memory_steps}}
 use Rattle.task_laws.proofs.Relations.Answers.{AnswerShows, compared_below, compared_equal, question_truth, same_turned, subtracted_equal}
 use Rattle.task_laws.proofs.Bytes.BytesAsked.{BytesAsked}
 use Rattle.task_laws.proofs.Bytes.ByteOperations.{IsOperated, IsValueOf, operand_at, operated_with_e, operated_with_first_in_b, operated_with_memory, operated_with_second_in_b}

@@ -1,37 +1,8 @@
 -- Jumps where two ADDRESSes are equal, or where they are not.
-use Rattle.std.proofs.Common.{◌≡◌, ℕ, ◌+◌, ◌/◌, ◌%◌, ◌<◌, ◌==◌, Bool, true, false, not, List, [], ◌∷◌, ◌++◌, None, refl, sym, ap, ◌∙◌, subst, arith, if◌then◌else◌}
-use Rattle.std.proofs.lemmas.Bool.{eqb-true, eqb-false, eq-eqb, ne_eqb}
-use Rattle.mem80.specs.Memory.{byte_at}
-use Rattle.typed_trees.specs.TypedTrees.{TypedExpression}
-use Rattle.meaning.specs.Outcomes.{State as SourceState, Outcome, Gave}
-use Rattle.meaning.specs.Values.{is_true}
-use Rattle.isa8080.specs.declared.instr.Condition.{Condition}
-use Rattle.isa8080.specs.declared.instr.Condition.TheVariants.{NotZero, Zero}
-use Rattle.isa8080.specs.Arithmetic.{subtract_of}
-use Rattle.isa8080.specs.State.{Registers, State, holds}
-use Rattle.asm8080.specs.declared.item.Reference.TheVariants.{AtLabel}
+use Rattle.task_laws.proofs.Prelude.{◌≡◌, ℕ, ◌+◌, ◌/◌, ◌%◌, ◌<◌, ◌==◌, Bool, true, false, not, List, [], ◌∷◌, ◌++◌, None, refl, sym, ap, ◌∙◌, subst, arith, if◌then◌else◌, eqb-true, eqb-false, eq-eqb, ne_eqb, byte_at, TypedExpression, SourceState, Outcome, Gave, is_true, Condition, NotZero, subtract_of, Registers, State, holds, AtLabel, Place, place_after, Facts, LabelNumber, Part, Step, Jump, Mark, label_of, jump_item, IsThere, Does, at_place, jump_passed, jump_taken, word_step, gives, IsSteady, place_at, Words, PlaceAndHl, DeAndHl, high_difference_steps, low_difference_steps, Context, IsSound, StepsStand, JumpThere, NoneThere, PlainThere, WordThere, Know, Parts, Goes, Passes, PartDoes}
+use Rattle.isa8080.specs.declared.instr.Condition.TheVariants.{Zero}
 use Rattle.asm8080.specs.declared.item.WordForm.TheVariants as forms
-use Rattle.treecode.specs.declared.place.Place.{Place}
-use Rattle.treecode.specs.Homes.{place_after}
-use Rattle.steps8080.specs.declared.facts.Facts.{Facts}
-use Rattle.steps8080.specs.declared.step.LabelNumber.{LabelNumber}
-use Rattle.steps8080.specs.declared.step.Part.{Part}
-use Rattle.steps8080.specs.declared.step.Step.{Step}
-use Rattle.steps8080.specs.declared.step.Step.TheVariants.{Jump, Mark}
-use Rattle.steps8080.specs.Step.{label_of}
-use Rattle.steps8080.specs.Writer.{jump_item}
-use Rattle.code_meaning.specs.Activations.{IsThere}
-use Rattle.code_meaning.specs.Landing.{Does, at_place}
-use Rattle.code_meaning.proofs.FirstItems.{jump_passed, jump_taken, word_step}
-use Rattle.code_meaning.proofs.Landing.{gives}
-use Rattle.code_meaning.specs.Holding.{IsSteady, place_at}
 use Rattle.operands8080.specs.declared.branches.Branch.{Branch}
-use Rattle.operands8080.specs.declared.word_relations.Words.{Words}
-use Rattle.operands8080.specs.declared.word_relations.Words.TheVariants.{PlaceAndHl, DeAndHl}
-use Rattle.operands8080.specs.WordRelations.{high_difference_steps, low_difference_steps}
-use Rattle.task_laws.specs.Contexts.{Context, IsSound}
-use Rattle.task_laws.specs.Steps.{StepsStand, JumpThere, NoneThere, PlainThere, WordThere}
-use Rattle.task_laws.specs.Tasks.{Know, Parts, Goes, Passes, PartDoes}
 use Rattle.task_laws.proofs.Branches.Conditions.{marked}
 use Rattle.task_laws.proofs.Machine.Stages.{Stage, at_a, at_load_a, script_of}
 use Rattle.task_laws.proofs.Relations.WordFlags.{low_equal}

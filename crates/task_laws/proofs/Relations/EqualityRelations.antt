@@ -1,30 +1,6 @@
 -- Relations that ask whether two ADDRESSes are equal, as jumps.
-use Rattle.std.proofs.Common.{◌≡◌, ℕ, ◌+◌, ◌*◌, ◌<◌, ◌≤◌, ◌==◌, false, List, [], ◌∷◌, ◌++◌, Option, Some, None, max, refl, arith}
+use Rattle.task_laws.proofs.Prelude.{◌≡◌, ℕ, ◌+◌, ◌*◌, ◌<◌, ◌≤◌, ◌==◌, false, List, [], ◌∷◌, ◌++◌, Option, Some, None, max, refl, arith, height_of, type_of, TypedExpression, TypesHold, SourceState, Outcome, Registers, State, ExpressionNumber, IsExpression, Facts, Step, Does, at_place, in_order, Equal, PairOrder, LeftInHl, RightInHl, pair_order, pair_steps, Apart, Words, PlaceAndHl, DeAndHl, operand_apart, words_of, words_steps, knowing, Context, IsSound, nodes_in, StepsStand, PartThere, PartDoes}
 use Rattle.trees.specs.declared.declaration.ScalarType.TheVariants as scalars
-use Rattle.typed_trees.specs.Charge.{height_of}
-use Rattle.typed_trees.specs.ExpressionTypes.{type_of}
-use Rattle.typed_trees.specs.TypedTrees.{TypedExpression}
-use Rattle.typed_trees.specs.WellTyped.{TypesHold}
-use Rattle.meaning.specs.Outcomes.{State as SourceState, Outcome}
-use Rattle.isa8080.specs.State.{Registers, State}
-use Rattle.treecode.specs.declared.expression.ExpressionNumber.{ExpressionNumber}
-use Rattle.treecode.specs.Lowered.{IsExpression}
-use Rattle.steps8080.specs.declared.facts.Facts.{Facts}
-use Rattle.steps8080.specs.declared.step.Step.{Step}
-use Rattle.code_meaning.specs.Landing.{Does, at_place}
-use Rattle.treecode_laws.proofs.Exchanging.{in_order}
-use Rattle.steps8080.specs.declared.sites.questions.Question.TheVariants.{Equal}
-use Rattle.operands8080.specs.declared.pairs.PairOrder.{PairOrder}
-use Rattle.operands8080.specs.declared.pairs.PairOrder.TheVariants.{LeftInHl, RightInHl}
-use Rattle.operands8080.specs.Pairs.{pair_order, pair_steps}
-use Rattle.operands8080.specs.declared.word_relations.Apart.{Apart}
-use Rattle.operands8080.specs.declared.word_relations.Words.{Words}
-use Rattle.operands8080.specs.declared.word_relations.Words.TheVariants.{PlaceAndHl, DeAndHl}
-use Rattle.operands8080.specs.WordRelations.{operand_apart, words_of, words_steps}
-use Rattle.exprgen8080.specs.Emission.{knowing}
-use Rattle.task_laws.specs.Contexts.{Context, IsSound, nodes_in}
-use Rattle.task_laws.specs.Steps.{StepsStand, PartThere}
-use Rattle.task_laws.specs.Tasks.{PartDoes}
 use Rattle.task_laws.proofs.Relations.Answers.{same_turned}
 use Rattle.task_laws.proofs.Bytes.BytesAsked.{BytesAsked, PairIsGiven, PairLies}
 use Rattle.task_laws.proofs.Relations.ByteComparisons.{asking}

@@ -1,11 +1,6 @@
 -- The lowest bits of results.
-use Rattle.std.proofs.Common.{◌≡◌, ℕ, zero, suc, ◌+◌, ◌-◌, ◌%◌, ◌<◌, ◌==◌, Bool, true, false, not, bit_and, bit_or, refl, sym, ap, ◌∙◌, arith}
-use Rattle.std.proofs.lemmas.Bool.{false≢true, eqb-true, eq-eqb, ne_eqb}
-use lib.Bits.{and_mod, or_mod}
-use Rattle.trees.specs.declared.declaration.ScalarType.{ScalarType}
+use Rattle.task_laws.proofs.Prelude.{◌≡◌, ℕ, zero, suc, ◌+◌, ◌-◌, ◌%◌, ◌<◌, ◌==◌, Bool, true, false, not, bit_and, bit_or, refl, sym, ap, ◌∙◌, arith, false≢true, eqb-true, eq-eqb, ne_eqb, and_mod, or_mod, ScalarType, Not, Negate, as_type, is_true, result_of_one, values_of}
 use Rattle.trees.specs.declared.declaration.ScalarType.TheVariants as scalars
-use Rattle.trees.specs.declared.expression.UnaryOperator.TheVariants.{Not, Negate}
-use Rattle.meaning.specs.Values.{as_type, is_true, result_of_one, values_of}
 
 abbrev bit_of : Bool → ℕ
 bit_of true = 1

@@ -1,34 +1,6 @@
 -- A BYTE is compared with a number.
-use Rattle.std.proofs.Common.{◌≡◌, ℕ, ◌+◌, ◌*◌, ◌%◌, ◌<◌, ◌≤◌, ◌==◌, Bool, true, false, nat_lt, List, [], ◌∷◌, Option, Some, None, refl, sym, ap, ◌∙◌, arith, if◌then◌else◌}
-use Rattle.std.proofs.lemmas.Bool.{ltb-true, ltb-false, lt-ltb, le-ltb, eqb-true, eqb-false, eq-eqb, ne_eqb}
-use Rattle.typed_trees.specs.Charge.{height_of}
-use Rattle.typed_trees.specs.TypedTrees.{TypedExpression}
-use Rattle.typed_trees.specs.WellTyped.{TypesHold}
-use Rattle.meaning.specs.Outcomes.{State as SourceState, Outcome, then_do}
-use Rattle.isa8080.specs.declared.instr.Instr.TheVariants.{AccumulateImmediate, Dcr, Inr}
-use Rattle.isa8080.specs.declared.instr.Operand.TheVariants.{Of}
-use Rattle.isa8080.specs.declared.instr.Operation.TheVariants.{Compare, Subtract}
-use Rattle.isa8080.specs.declared.instr.Register.TheVariants.{A}
-use Rattle.isa8080.specs.Arithmetic.{decrement_of, increment_of, subtract_of}
-use Rattle.isa8080.specs.State.{Registers, State}
-use Rattle.treecode.specs.declared.expression.ExpressionNumber.{ExpressionNumber}
-use Rattle.treecode.specs.Lowered.{IsExpression}
-use Rattle.steps8080.specs.declared.facts.Facts.{Facts}
-use Rattle.steps8080.specs.declared.step.Step.TheVariants.{Plain, TestA}
-use Rattle.code_meaning.specs.Landing.{Does, at_place}
-use Rattle.code_meaning.proofs.ByteResults.{borrow_shows, count_shows, same_test, zero_shows}
-use Rattle.steps8080.specs.declared.sites.questions.NumberQuestion.{NumberQuestion}
-use Rattle.steps8080.specs.declared.sites.questions.NumberQuestion.TheVariants.{Never, Below, Is}
-use Rattle.operands8080.specs.declared.answers.Answer.{Answer}
-use Rattle.operands8080.specs.declared.answers.Answer.TheVariants.{Known, Carry, Zero}
-use Rattle.operands8080.specs.declared.answers.Purpose.{Purpose}
-use Rattle.operands8080.specs.declared.answers.Purpose.TheVariants.{Branch, Value}
-use Rattle.operands8080.specs.declared.answers.Setting.{Setting}
-use Rattle.operands8080.specs.Answers.{known_steps}
-use Rattle.operands8080.specs.ByteRelations.{byte_is_steps, byte_number_answer, byte_number_steps, is_zero_steps, known_answer, number_in_a_answer, number_in_a_steps}
-use Rattle.task_laws.specs.Contexts.{Context, IsSound, nodes_in}
-use Rattle.task_laws.specs.Steps.{StepsStand, PartThere, PlainThere, TestThere}
-use Rattle.task_laws.specs.Tasks.{PartDoes}
+use Rattle.task_laws.proofs.Prelude.{◌≡◌, ℕ, ◌+◌, ◌*◌, ◌%◌, ◌<◌, ◌≤◌, ◌==◌, Bool, true, false, nat_lt, List, [], ◌∷◌, Option, Some, None, refl, sym, ap, ◌∙◌, arith, if◌then◌else◌, ltb-true, ltb-false, lt-ltb, le-ltb, eqb-true, eqb-false, eq-eqb, ne_eqb, height_of, TypedExpression, TypesHold, SourceState, Outcome, then_do, AccumulateImmediate, Dcr, Inr, Of, Compare, Subtract, A, decrement_of, increment_of, subtract_of, Registers, State, ExpressionNumber, IsExpression, Facts, Plain, TestA, Does, at_place, borrow_shows, count_shows, same_test, zero_shows, NumberQuestion, Never, Below, Is, Answer, Carry, Zero, Purpose, Branch, Value, Setting, known_steps, byte_is_steps, byte_number_answer, is_zero_steps, known_answer, number_in_a_answer, number_in_a_steps, Context, IsSound, nodes_in, StepsStand, PartThere, PlainThere, TestThere, PartDoes}
+use Rattle.operands8080.specs.{declared.answers.Answer.TheVariants.{Known}, ByteRelations.{byte_number_steps}}
 use Rattle.task_laws.proofs.Relations.Answers.{AnswerShows, low_is_all, number_truth}
 use Rattle.task_laws.proofs.Bytes.BytesAsked.{BytesAsked}
 use Rattle.task_laws.proofs.Bytes.ByteOperations.{IsValueOf, value_of}

@@ -1,40 +1,5 @@
 -- Two ADDRESSes are compared of which one stays in memory.
-use Rattle.std.proofs.Common.{◌≡◌, ℕ, ◌*◌, ◌/◌, ◌%◌, ◌<◌, ◌≤◌, ◌==◌, ◌⊎◌, inl, inr, Bool, true, false, nat_lt, bit_or, List, ◌++◌, Option, Some, None, refl, sym, ap, ◌∙◌, subst, arith, if◌then◌else◌}
-use Rattle.mem80.specs.Memory.{byte_at}
-use Rattle.std.proofs.lemmas.Nat.{or_of_8}
-use Rattle.trees.specs.declared.declaration.ScalarType.{ScalarType}
-use Rattle.typed_trees.specs.Charge.{height_of}
-use Rattle.typed_trees.specs.ExpressionTypes.{type_of}
-use Rattle.typed_trees.specs.TypedTrees.{TypedExpression}
-use Rattle.typed_trees.specs.WellTyped.{TypesHold}
-use Rattle.meaning.specs.Outcomes.{State as SourceState, Ended, More, Outside, Outcome, Gave, Stopped, then_do}
-use Rattle.meaning.specs.Values.{values_of}
-use Rattle.isa8080.specs.declared.instr.Operation.TheVariants.{Or}
-use Rattle.isa8080.specs.Arithmetic.{operate, subtract_of}
-use Rattle.isa8080.specs.State.{Registers, State}
-use Rattle.treecode.specs.declared.expression.ExpressionNumber.{ExpressionNumber}
-use Rattle.treecode.specs.declared.place.Place.{Place}
-use Rattle.treecode.specs.Homes.{place_after}
-use Rattle.treecode.specs.Lowered.{IsExpression}
-use Rattle.steps8080.specs.declared.facts.Facts.{Facts}
-use Rattle.code_meaning.specs.Landing.{Does, at_place}
-use Rattle.code_meaning.specs.Holding.{IsSteady, place_at}
-use Rattle.treecode_laws.specs.internal.Evaluations.{GoesOutside}
-use Rattle.treecode_laws.proofs.Exchanging.{in_order as evaluated_in_order}
-use Rattle.steps8080.specs.declared.sites.questions.Question.{Question}
-use Rattle.steps8080.specs.declared.sites.questions.Question.TheVariants.{LeftBelow, RightBelow, Equal}
-use Rattle.steps8080.specs.declared.sites.site.Site.{Site}
-use Rattle.steps8080.specs.Queries.{may_exchange}
-use Rattle.steps8080.specs.Widths.{direct_word, is_word_in_hl}
-use Rattle.operands8080.specs.declared.answers.Purpose.{Purpose}
-use Rattle.operands8080.specs.declared.answers.Setting.{Setting}
-use Rattle.operands8080.specs.declared.word_relations.Apart.{Apart}
-use Rattle.operands8080.specs.ByteRelations.{answer_to}
-use Rattle.operands8080.specs.WordRelations.{apart_of, high_steps, in_hl, left_apart, load_a_steps, low_steps, operand_apart, right_apart, with_place_steps}
-use Rattle.exprgen8080.specs.Emission.{knowing}
-use Rattle.task_laws.specs.Contexts.{Context, IsSound, nodes_in}
-use Rattle.task_laws.specs.Steps.{StepsStand, PartThere, PlainThere, WordThere}
-use Rattle.task_laws.specs.Tasks.{PartDoes}
+use Rattle.task_laws.proofs.Prelude.{◌≡◌, ℕ, ◌*◌, ◌/◌, ◌%◌, ◌<◌, ◌≤◌, ◌==◌, ◌⊎◌, inl, inr, Bool, true, false, nat_lt, bit_or, List, ◌++◌, Option, Some, None, refl, sym, ap, ◌∙◌, subst, arith, if◌then◌else◌, byte_at, or_of_8, ScalarType, height_of, type_of, TypedExpression, TypesHold, SourceState, Ended, More, Outside, Outcome, Gave, Stopped, then_do, values_of, Or, operate, subtract_of, Registers, State, ExpressionNumber, Place, place_after, IsExpression, Facts, Does, at_place, IsSteady, place_at, GoesOutside, evaluated_in_order, Question, LeftBelow, RightBelow, Equal, Site, may_exchange, direct_word, is_word_in_hl, Purpose, Setting, Apart, answer_to, apart_of, high_steps, in_hl, left_apart, load_a_steps, low_steps, operand_apart, right_apart, with_place_steps, knowing, Context, IsSound, nodes_in, StepsStand, PartThere, PlainThere, WordThere, PartDoes}
 use Rattle.task_laws.proofs.Relations.Answers.{AnswerShows, question_truth, same_turned}
 use Rattle.task_laws.proofs.Bytes.BytesAsked.{BytesAsked, WordAtPlace}
 use Rattle.task_laws.proofs.Relations.ByteComparisons.{asking}

@@ -1,38 +1,7 @@
 -- A relation as a value: 0FFH in A where it holds, else 0.
-use Rattle.std.proofs.Common.{◌≡◌, ℕ, ◌+◌, ◌*◌, ◌%◌, ◌<◌, ◌≤◌, ◌==◌, Bool, true, false, not, nat_le, List, ◌++◌, Some, bit_xor, refl, sym, ap, ◌∙◌, arith}
-use Rattle.std.proofs.lemmas.Bool.{false≢true, eqb-true, le-leb}
-use Rattle.std.specs.Int.Bits.{xor_self}
-use Rattle.typed_trees.specs.Charge.{height_of}
-use Rattle.typed_trees.specs.ExpressionTypes.{type_of}
-use Rattle.typed_trees.specs.TypedTrees.{TypedExpression}
-use Rattle.typed_trees.specs.WellTyped.{TypesHold}
-use Rattle.meaning.specs.Outcomes.{State as SourceState, Outcome, Gave}
-use Rattle.meaning.specs.Values.{truth, values_of}
-use Rattle.trees.specs.declared.declaration.ScalarType.{ScalarType}
-use Rattle.trees.specs.declared.declaration.ScalarType.TheVariants.{Byte, Address}
+use Rattle.task_laws.proofs.Prelude.{◌≡◌, ℕ, ◌+◌, ◌*◌, ◌%◌, ◌<◌, ◌≤◌, ◌==◌, Bool, true, false, not, nat_le, List, ◌++◌, Some, bit_xor, refl, sym, ap, ◌∙◌, arith, false≢true, eqb-true, le-leb, xor_self, height_of, type_of, TypedExpression, TypesHold, SourceState, Outcome, Gave, truth, values_of, ScalarType, Byte, Address, Flags, add_of, operate, subtract_of, ExclusiveOr, Registers, State, ExpressionNumber, IsExpression, Facts, Arrives, Does, at_place, gives, borrow_shows, Relation, relation_of, is_free, Shown, Known, Where, outcome_value_steps, relation_outcome, relation_steps, value_setting, knowing, Context, IsSound, nodes_in, StepsStand, PlainThere, ByteIsGiven, Carries, Nothing, PartDoes}
 use Rattle.isa8080.specs.declared.instr.Condition.TheVariants as conditions
-use Rattle.isa8080.specs.declared.registers.Flags.{Flags}
-use Rattle.isa8080.specs.Arithmetic.{add_of, operate, subtract_of}
-use Rattle.isa8080.specs.declared.instr.Operation.TheVariants.{ExclusiveOr}
-use Rattle.isa8080.specs.State.{Registers, State}
-use Rattle.treecode.specs.declared.expression.ExpressionNumber.{ExpressionNumber}
-use Rattle.treecode.specs.Lowered.{IsExpression}
-use Rattle.steps8080.specs.declared.facts.Facts.{Facts}
-use Rattle.code_meaning.specs.Activations.{Arrives}
-use Rattle.code_meaning.specs.Landing.{Does, at_place}
-use Rattle.code_meaning.proofs.Landing.{gives}
-use Rattle.code_meaning.proofs.ByteResults.{borrow_shows}
-use Rattle.steps8080.specs.declared.sites.questions.Relation.{Relation}
-use Rattle.steps8080.specs.Questions.{relation_of}
-use Rattle.steps8080.specs.Queries.{is_free}
 use Rattle.operands8080.specs.declared.answers.Purpose.TheVariants as purposes
-use Rattle.operands8080.specs.declared.relations.Outcome.{Outcome as Shown}
-use Rattle.operands8080.specs.declared.relations.Outcome.TheVariants.{Known, Where}
-use Rattle.operands8080.specs.Relations.{outcome_value_steps, relation_outcome, relation_steps, value_setting}
-use Rattle.exprgen8080.specs.Emission.{knowing}
-use Rattle.task_laws.specs.Contexts.{Context, IsSound, nodes_in}
-use Rattle.task_laws.specs.Steps.{StepsStand, PlainThere}
-use Rattle.task_laws.specs.Tasks.{ByteIsGiven, Carries, Nothing, PartDoes}
 use Rattle.task_laws.proofs.Branches.Branches.{given_itself}
 use Rattle.task_laws.proofs.Bytes.BytesAsked.{BytesAsked}
 use Rattle.task_laws.proofs.Relations.NumberComparisons.{below_one}

@@ -1,52 +1,9 @@
 -- Relations: what their code leaves shows whether they hold.
-use Rattle.std.proofs.Common.{◌≡◌, ℕ, ◌+◌, ◌*◌, ◌<◌, ◌≤◌, ◌==◌, Bool, true, false, not, ◌&&◌, nat_le, min, max, List, Option, Some, None, option_map, refl, sym, ap, ◌∙◌, subst, arith, if◌then◌else◌}
-use Rattle.std.specs.Option.{option_and_then}
-use Rattle.std.proofs.lemmas.Bool.{and_parts}
-use Rattle.std.proofs.lemmas.Option.{none-some, same_Some}
-use Rattle.trees.specs.declared.declaration.ScalarType.{ScalarType}
+use Rattle.task_laws.proofs.Prelude.{◌≡◌, ℕ, ◌+◌, ◌*◌, ◌<◌, ◌≤◌, ◌==◌, Bool, true, false, not, ◌&&◌, nat_le, min, max, List, Option, Some, None, option_map, refl, sym, ap, ◌∙◌, subst, arith, if◌then◌else◌, option_and_then, and_parts, none-some, same_Some, ScalarType, BinaryOperator, height_of, type_of, TypedExpression, BinaryNode, TypesHold, computed, SourceState, Outcome, Gave, Stopped, then_do, result_of, truth, values_of, Registers, State, Expression, ExpressionForm, ExpressionNumber, IsExpression, IsForm, IsNumber, IsValue, IsLocation, IsConstantList, IsConversion, IsEmbedded, IsUnary, IsBinary, IsCallOf, IsFunction, IsShift, IsInput, Facts, Does, at_place, Between, NumberQuestion, Never, Below, Question, LeftBelow, RightBelow, Equal, Relation, Site, number, agree, greatest, mirrored, number_question, question_of, relation_between, relation_of, relation_of_form, relation_with_number, fits_byte, Answer, Purpose, Branch, Value, Setting, Shown, Known, Where, Apart, answer_to, byte_relation_steps, comparison_steps, number_answer, number_steps, relation_outcome, relation_steps, operand_apart, with_pair_steps, with_place_steps, evaluated_in_order, knowing, Context, IsSound, nodes_in, StepsStand, PartDoes}
 use Rattle.trees.specs.declared.declaration.ScalarType.TheVariants as scalars
-use Rattle.trees.specs.declared.expression.BinaryOperator.{BinaryOperator}
-use Rattle.typed_trees.specs.Charge.{height_of}
-use Rattle.typed_trees.specs.ExpressionTypes.{type_of}
-use Rattle.typed_trees.specs.TypedTrees.{TypedExpression, BinaryNode}
-use Rattle.typed_trees.specs.WellTyped.{TypesHold}
-use Rattle.meaning.specs.Meaning.{computed}
-use Rattle.meaning.specs.Outcomes.{State as SourceState, Outcome, Gave, Stopped, then_do}
-use Rattle.meaning.specs.Values.{result_of, truth, values_of}
 use Rattle.isa8080.specs.declared.instr.Condition.TheVariants as conditions
-use Rattle.isa8080.specs.State.{Registers, State}
-use Rattle.treecode.specs.declared.expression.Expression.{Expression}
-use Rattle.treecode.specs.declared.expression.ExpressionForm.{ExpressionForm}
-use Rattle.treecode.specs.declared.expression.ExpressionNumber.{ExpressionNumber}
-use Rattle.treecode.specs.Lowered.{IsExpression, IsForm, IsNumber, IsValue, IsLocation, IsConstantList, IsConversion, IsEmbedded, IsUnary, IsBinary, IsCallOf, IsFunction, IsShift, IsInput}
-use Rattle.steps8080.specs.declared.facts.Facts.{Facts}
-use Rattle.code_meaning.specs.Landing.{Does, at_place}
-use Rattle.steps8080.specs.declared.sites.questions.Inquiry.TheVariants.{Between}
-use Rattle.steps8080.specs.declared.sites.questions.NumberQuestion.{NumberQuestion}
-use Rattle.steps8080.specs.declared.sites.questions.NumberQuestion.TheVariants.{Never, Below}
-use Rattle.steps8080.specs.declared.sites.questions.Question.{Question}
-use Rattle.steps8080.specs.declared.sites.questions.Question.TheVariants.{LeftBelow, RightBelow, Equal}
-use Rattle.steps8080.specs.declared.sites.questions.Relation.{Relation}
-use Rattle.steps8080.specs.declared.sites.site.Site.{Site}
-use Rattle.steps8080.specs.Queries.{number}
-use Rattle.steps8080.specs.Questions.{agree, greatest, mirrored, number_question, question_of, relation_between, relation_of, relation_of_form, relation_with_number}
-use Rattle.steps8080.specs.Widths.{fits_byte}
-use Rattle.operands8080.specs.declared.answers.Answer.{Answer}
 use Rattle.operands8080.specs.declared.answers.Answer.TheVariants as answers
-use Rattle.operands8080.specs.declared.answers.Purpose.{Purpose}
-use Rattle.operands8080.specs.declared.answers.Purpose.TheVariants.{Branch, Value}
-use Rattle.operands8080.specs.declared.answers.Setting.{Setting}
-use Rattle.operands8080.specs.declared.relations.Outcome.{Outcome as Shown}
-use Rattle.operands8080.specs.declared.relations.Outcome.TheVariants.{Known, Where}
-use Rattle.operands8080.specs.declared.word_relations.Apart.{Apart}
-use Rattle.operands8080.specs.ByteRelations.{answer_to, byte_relation_steps}
-use Rattle.operands8080.specs.Relations.{comparison_steps, number_answer, number_steps, outcome_of, relation_outcome, relation_steps}
-use Rattle.operands8080.specs.WordRelations.{operand_apart, with_pair_steps, with_place_steps}
-use Rattle.treecode_laws.proofs.Exchanging.{in_order as evaluated_in_order}
-use Rattle.exprgen8080.specs.Emission.{knowing}
-use Rattle.task_laws.specs.Contexts.{Context, IsSound, nodes_in}
-use Rattle.task_laws.specs.Steps.{StepsStand}
-use Rattle.task_laws.specs.Tasks.{PartDoes}
+use Rattle.operands8080.specs.Relations.{outcome_of}
 use Rattle.task_laws.proofs.Relations.Answers.{AnswerShows, ZeroShows, agree_twice, mirrored_asks, number_asks, number_truth, question_truth, relation_gives}
 use Rattle.task_laws.proofs.Bytes.BytesAsked.{BytesAsked}
 use Rattle.task_laws.proofs.Relations.ByteComparisons.{asking, bytes_compared}

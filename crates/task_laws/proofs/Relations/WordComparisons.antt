@@ -1,33 +1,5 @@
 -- Two ADDRESSes are compared.
-use Rattle.std.proofs.Common.{◌≡◌, ℕ, ◌+◌, ◌*◌, ◌<◌, ◌≤◌, ◌==◌, Bool, false, List, [], ◌∷◌, max, refl, ◌∙◌}
-use Rattle.trees.specs.declared.declaration.ScalarType.{ScalarType}
-use Rattle.typed_trees.specs.Charge.{height_of}
-use Rattle.typed_trees.specs.TypedTrees.{TypedExpression}
-use Rattle.typed_trees.specs.WellTyped.{TypesHold}
-use Rattle.meaning.specs.Outcomes.{State as SourceState, Outcome, Gave, Stopped, then_do}
-use Rattle.isa8080.specs.declared.instr.Operation.TheVariants.{Or, Subtract, SubtractWithBorrow}
-use Rattle.isa8080.specs.declared.instr.Register.TheVariants.{A, B, D, E, H, L}
-use Rattle.isa8080.specs.State.{Registers, State}
-use Rattle.treecode.specs.declared.expression.ExpressionNumber.{ExpressionNumber}
-use Rattle.treecode.specs.Lowered.{IsExpression}
-use Rattle.steps8080.specs.declared.facts.Facts.{Facts}
-use Rattle.steps8080.specs.Instructions.{copy, with_register}
-use Rattle.code_meaning.specs.Landing.{Does, at_place}
-use Rattle.treecode_laws.proofs.Exchanging.{in_order as evaluated_in_order}
-use Rattle.steps8080.specs.declared.sites.questions.Question.{Question}
-use Rattle.steps8080.specs.declared.sites.questions.Question.TheVariants.{LeftBelow, RightBelow, Equal}
-use Rattle.operands8080.specs.declared.pairs.PairOrder.{PairOrder}
-use Rattle.operands8080.specs.declared.pairs.PairOrder.TheVariants.{LeftInHl, RightInHl}
-use Rattle.operands8080.specs.Pairs.{pair_order, pair_steps}
-use Rattle.operands8080.specs.declared.answers.Purpose.{Purpose}
-use Rattle.operands8080.specs.declared.answers.Purpose.TheVariants.{Branch, Value}
-use Rattle.operands8080.specs.declared.answers.Setting.{Setting}
-use Rattle.operands8080.specs.ByteRelations.{answer_to}
-use Rattle.operands8080.specs.WordRelations.{other_word, taken_steps, with_pair_steps, word_taken_from}
-use Rattle.exprgen8080.specs.Emission.{knowing}
-use Rattle.task_laws.specs.Contexts.{Context, IsSound, nodes_in}
-use Rattle.task_laws.specs.Steps.{StepsStand}
-use Rattle.task_laws.specs.Tasks.{PartDoes}
+use Rattle.task_laws.proofs.Prelude.{◌≡◌, ℕ, ◌+◌, ◌*◌, ◌<◌, ◌≤◌, ◌==◌, Bool, false, List, [], ◌∷◌, max, refl, ◌∙◌, ScalarType, height_of, TypedExpression, TypesHold, SourceState, Outcome, Gave, Stopped, then_do, Or, Subtract, SubtractWithBorrow, A, B, D, E, H, L, Registers, State, ExpressionNumber, IsExpression, Facts, copy, with_register, Does, at_place, evaluated_in_order, Question, LeftBelow, RightBelow, Equal, PairOrder, LeftInHl, RightInHl, pair_order, pair_steps, Purpose, Branch, Value, Setting, answer_to, other_word, taken_steps, with_pair_steps, word_taken_from, knowing, Context, IsSound, nodes_in, StepsStand, PartDoes}
 use Rattle.task_laws.proofs.Relations.Answers.{AnswerShows, ZeroShows, question_truth, same_turned}
 use Rattle.task_laws.proofs.Bytes.BytesAsked.{BytesAsked, PairIsGiven, PairLies, pair_of_values}
 use Rattle.task_laws.proofs.Relations.ByteComparisons.{asking}

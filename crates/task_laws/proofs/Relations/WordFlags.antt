@@ -1,10 +1,5 @@
 -- What the flags show after the bytes of two words were taken from each other.
-use Rattle.std.proofs.Common.{◌≡◌, ℕ, ◌+◌, ◌-◌, ◌*◌, ◌/◌, ◌%◌, ◌<◌, ◌==◌, Bool, true, false, nat_lt, bit_or, sym, ap, ◌∙◌, arith}
-use Rattle.std.proofs.lemmas.Bool.{ltb-true, ltb-false, lt-ltb, le-ltb, eqb-true, eqb-false, eq-eqb, ne_eqb}
-use Rattle.std.proofs.lemmas.Nat.{le_or_l, le_or_r}
-use Rattle.isa8080.specs.Arithmetic.{subtract_of}
-use Rattle.isa8080.specs.Flags.{bit}
-use Rattle.code_meaning.proofs.ByteResults.{borrow_shows, borrow_shows_more, same_test, word_borrow}
+use Rattle.task_laws.proofs.Prelude.{◌≡◌, ℕ, ◌+◌, ◌-◌, ◌*◌, ◌/◌, ◌%◌, ◌<◌, ◌==◌, Bool, true, false, nat_lt, bit_or, sym, ap, ◌∙◌, arith, ltb-true, ltb-false, lt-ltb, le-ltb, eqb-true, eqb-false, eq-eqb, ne_eqb, le_or_l, le_or_r, subtract_of, bit, borrow_shows, borrow_shows_more, same_test, word_borrow}
 
 whole : (v : ℕ) → 256 * (v / 256) + v % 256 ≡ v
 whole v = omega arith

@@ -1,43 +1,7 @@
 -- An ADDRESS is compared with a number.
-use Rattle.std.proofs.Common.{◌≡◌, ℕ, zero, suc, ◌+◌, ◌-◌, ◌*◌, ◌/◌, ◌%◌, ◌<◌, ◌≤◌, ◌==◌, Bool, true, false, nat_lt, bit_or, bit_xor, List, [], ◌∷◌, ◌++◌, refl, sym, ap, ◌∙◌, subst, arith, if◌then◌else◌}
-use Rattle.std.proofs.lemmas.Bool.{ltb-true, ltb-false, lt-ltb, le-ltb, eqb-true, eqb-false, eq-eqb, ne_eqb}
-use Rattle.std.specs.Int.Bits.{xor_self, xor_add_and}
-use lib.Bits.{and_le_l, and_le_r}
-use Rattle.trees.specs.declared.declaration.ScalarType.TheVariants.{Address}
-use Rattle.typed_trees.specs.Charge.{height_of}
-use Rattle.typed_trees.specs.ExpressionTypes.{type_of}
-use Rattle.typed_trees.specs.TypedTrees.{TypedExpression}
-use Rattle.typed_trees.specs.WellTyped.{TypesHold}
-use Rattle.meaning.specs.Outcomes.{State as SourceState, Outcome, then_do}
-use Rattle.meaning.specs.Values.{values_of}
-use Rattle.isa8080.specs.declared.instr.Instr.TheVariants.{AccumulateImmediate, Dad, Inx, Lxi}
-use Rattle.isa8080.specs.declared.instr.Operation.TheVariants.{ExclusiveOr, Or, Subtract, SubtractWithBorrow}
-use Rattle.isa8080.specs.declared.instr.Pair.TheVariants.{De, Hl}
-use Rattle.isa8080.specs.declared.instr.Register.TheVariants.{A, H, L}
-use Rattle.isa8080.specs.State.{Registers, State}
-use Rattle.treecode.specs.declared.expression.ExpressionNumber.{ExpressionNumber}
-use Rattle.treecode.specs.Lowered.{IsExpression}
-use Rattle.steps8080.specs.declared.facts.Facts.{Facts}
-use Rattle.steps8080.specs.Instructions.{copy, high, low, with_register}
-use Rattle.steps8080.specs.Step.{part, plain, repeat_steps}
+use Rattle.task_laws.proofs.Prelude.{◌≡◌, ℕ, zero, suc, ◌+◌, ◌-◌, ◌*◌, ◌/◌, ◌%◌, ◌<◌, ◌≤◌, ◌==◌, Bool, true, false, nat_lt, bit_or, bit_xor, List, [], ◌∷◌, ◌++◌, refl, sym, ap, ◌∙◌, subst, arith, if◌then◌else◌, ltb-true, ltb-false, lt-ltb, le-ltb, eqb-true, eqb-false, eq-eqb, ne_eqb, xor_self, xor_add_and, and_le_l, and_le_r, Address, height_of, type_of, TypedExpression, TypesHold, SourceState, Outcome, then_do, values_of, AccumulateImmediate, Dad, Inx, Lxi, ExclusiveOr, Or, Subtract, SubtractWithBorrow, De, Hl, A, H, L, Registers, State, ExpressionNumber, IsExpression, Facts, copy, high, low, with_register, part, plain, repeat_steps, Does, at_place, same_test, NumberQuestion, Never, Below, Is, fits_byte, negated, Answer, Carry, Zero, Purpose, Branch, Value, Setting, byte_number_answer, number_in_a_answer, number_in_a_steps, below_steps, word_below_answer, word_below_steps, word_is_steps, word_is_zero_steps, word_number_answer, word_number_steps, word_question_answer, word_question_steps, knowing, Context, IsSound, nodes_in, StepsStand, PartThere, PartDoes}
 use Rattle.steps8080.specs.declared.step.Task.TheVariants as tasks
-use Rattle.code_meaning.specs.Landing.{Does, at_place}
-use Rattle.code_meaning.proofs.ByteResults.{same_test}
-use Rattle.steps8080.specs.declared.sites.questions.NumberQuestion.{NumberQuestion}
-use Rattle.steps8080.specs.declared.sites.questions.NumberQuestion.TheVariants.{Never, Below, Is}
-use Rattle.steps8080.specs.Widths.{fits_byte}
-use Rattle.operands8080.specs.Addresses.{negated}
-use Rattle.operands8080.specs.declared.answers.Answer.{Answer}
-use Rattle.operands8080.specs.declared.answers.Answer.TheVariants.{Carry, Zero}
-use Rattle.operands8080.specs.declared.answers.Purpose.{Purpose}
-use Rattle.operands8080.specs.declared.answers.Purpose.TheVariants.{Branch, Value}
-use Rattle.operands8080.specs.declared.answers.Setting.{Setting}
-use Rattle.operands8080.specs.ByteRelations.{byte_number_answer, byte_number_steps, number_in_a_answer, number_in_a_steps}
-use Rattle.operands8080.specs.WordRelations.{below_steps, high_byte_steps, word_below_answer, word_below_steps, word_is_steps, word_is_zero_steps, word_number_answer, word_number_steps, word_question_answer, word_question_steps}
-use Rattle.exprgen8080.specs.Emission.{knowing}
-use Rattle.task_laws.specs.Contexts.{Context, IsSound, nodes_in}
-use Rattle.task_laws.specs.Steps.{StepsStand, PartThere}
-use Rattle.task_laws.specs.Tasks.{PartDoes}
+use Rattle.operands8080.specs.{ByteRelations.{byte_number_steps}, WordRelations.{high_byte_steps}}
 use Rattle.task_laws.proofs.Relations.Answers.{AnswerShows, ZeroShows, number_truth}
 use Rattle.task_laws.proofs.Bytes.BytesAsked.{BytesAsked, HighIsGiven, ZeroIsShown}
 use Rattle.task_laws.proofs.Bytes.ByteOperations.{IsValueOf, value_of}

@@ -1,29 +1,8 @@
 -- The low byte of an assignment within an expression.
-use Rattle.std.proofs.Common.{◌≡◌, ℕ, ◌*◌, ◌/◌, ◌%◌, ◌<◌, true, false, List, [], ◌∷◌, refl, sym, ◌∙◌, subst, arith}
-use Rattle.std.proofs.lemmas.Bool.{false≢true}
+use Rattle.task_laws.proofs.Prelude.{◌≡◌, ℕ, ◌*◌, ◌/◌, ◌%◌, ◌<◌, true, false, List, [], ◌∷◌, refl, sym, ◌∙◌, subst, arith, false≢true, height_of, type_of, type_of_target, TypedExpression, TypedTarget, AssignmentNode, TypesHold, TypesHoldInTarget, stored, SourceState, Ended, More, Outside, Outcome, Gave, Stopped, values_of, A, L, State, ExpressionNumber, Target, IsExpression, IsTarget, Facts, Plain, copy, part, Does, Lands, is_free, Context, InRegister, IsSound, nodes_in, StepsStand, PartThere, PlainThere, ByteIsGiven, Carries, Nothing, PartDoes}
 use Rattle.trees.specs.declared.declaration.ScalarType.TheVariants as scalars
-use Rattle.typed_trees.specs.Charge.{height_of}
-use Rattle.typed_trees.specs.ExpressionTypes.{type_of, type_of_target}
-use Rattle.typed_trees.specs.TypedTrees.{TypedExpression, TypedTarget, AssignmentNode}
-use Rattle.typed_trees.specs.WellTyped.{TypesHold, TypesHoldInTarget}
-use Rattle.meaning.specs.Meaning.{stored}
-use Rattle.meaning.specs.Outcomes.{State as SourceState, Ended, More, Outside, Outcome, Gave, Stopped}
-use Rattle.meaning.specs.Values.{values_of}
-use Rattle.isa8080.specs.declared.instr.Register.TheVariants.{A, L}
-use Rattle.isa8080.specs.State.{State}
-use Rattle.treecode.specs.declared.expression.ExpressionNumber.{ExpressionNumber}
-use Rattle.treecode.specs.declared.reference.Target.{Target}
-use Rattle.treecode.specs.Lowered.{IsExpression, IsTarget}
-use Rattle.steps8080.specs.declared.facts.Facts.{Facts}
-use Rattle.steps8080.specs.declared.step.Step.TheVariants.{Plain}
 use Rattle.steps8080.specs.declared.step.Task.TheVariants as tasks
-use Rattle.steps8080.specs.Instructions.{copy}
-use Rattle.steps8080.specs.Step.{part}
-use Rattle.code_meaning.specs.Landing.{Does, Lands}
-use Rattle.steps8080.specs.Queries.{is_free}
-use Rattle.task_laws.specs.Contexts.{Context, InRegister, IsSound, nodes_in}
-use Rattle.task_laws.specs.Steps.{StepsStand, PartThere, PlainThere}
-use Rattle.task_laws.specs.Tasks.{ByteIsGiven, Carries, IsStored, Nothing, PartDoes}
+use Rattle.task_laws.specs.Tasks.{IsStored}
 use Rattle.task_laws.proofs.Relations.Answers.{low_is_all}
 use Rattle.task_laws.proofs.Bytes.ByteForms.{byte_given}
 use Rattle.task_laws.proofs.Machine.SiteNodes.{value_in}

@@ -1,29 +1,5 @@
 -- A word that is stored next to the stack pointer, by POP and PUSH.
-use Rattle.std.proofs.Common.{◌≡◌, ◌≢◌, ℕ, zero, suc, ◌+◌, ◌*◌, ◌/◌, ◌%◌, ◌<◌, List, [], ◌∷◌, ◌++◌, slice_set, refl, sym, ap, subst, ◌∙◌, arith}
-use Rattle.mem80.specs.declared.memory.TheConstants.{MEMORY_SIZE}
-use Rattle.mem80.specs.Memory.{byte_at, word_at}
-use Rattle.ports.specs.declared.event.Event.{Event}
-use Rattle.trees.specs.declared.declaration.ScalarType.TheVariants.{Address}
-use Rattle.meaning.specs.Access.{Place as SourcePlace, write_scalar}
-use Rattle.meaning.specs.Outcomes.{State as SourceState, Outcome, then_do}
-use Rattle.isa8080.specs.declared.instr.Instr.TheVariants.{Pop, Push}
-use Rattle.isa8080.specs.declared.instr.StackPair.{StackPair}
-use Rattle.isa8080.specs.declared.instr.StackPair.TheVariants.{StackBc, StackHl}
-use Rattle.isa8080.specs.Act.{act}
-use Rattle.isa8080.specs.State.{Registers, State, high_byte, low_byte, one_less, pushed_of, two_less, word, wrap}
-use Rattle.asm8080.proofs.Kept.{byte_kept}
-use Rattle.code_meaning.specs.Landing.{Does, at_place}
-use Rattle.code_meaning.specs.Activations.{IsReady}
-use Rattle.code_meaning.proofs.FirstItems.{plain_first, plain_step}
-use Rattle.steps8080.specs.declared.facts.Facts.{Facts}
-use Rattle.steps8080.specs.declared.step.Step.{Step}
-use Rattle.steps8080.specs.declared.step.Step.TheVariants.{MemoryChanged}
-use Rattle.operands8080.specs.declared.stores.Near.{Near}
-use Rattle.operands8080.specs.declared.stores.Near.TheVariants.{First, Second}
-use Rattle.operands8080.specs.Stores.{exchange_near}
-use Rattle.task_laws.specs.Contexts.{Context, IsSound}
-use Rattle.task_laws.specs.Steps.{ChangeThere, PlainThere, StepsStand}
-use Rattle.task_laws.specs.Tasks.{PartDoes, address_on_machine}
+use Rattle.task_laws.proofs.Prelude.{◌≡◌, ◌≢◌, ℕ, zero, suc, ◌+◌, ◌*◌, ◌/◌, ◌%◌, ◌<◌, List, [], ◌∷◌, ◌++◌, slice_set, refl, sym, ap, subst, ◌∙◌, arith, MEMORY_SIZE, byte_at, word_at, Event, Address, SourcePlace, write_scalar, SourceState, Outcome, then_do, Pop, Push, StackPair, StackBc, StackHl, act, Registers, State, high_byte, low_byte, one_less, pushed_of, two_less, word, wrap, byte_kept, Does, at_place, IsReady, plain_first, plain_step, Facts, Step, MemoryChanged, Near, First, Second, exchange_near, Context, IsSound, ChangeThere, PlainThere, StepsStand, PartDoes, address_on_machine}
 use Rattle.task_laws.proofs.Places.LocationWords.{push_back, word_small}
 use Rattle.task_laws.proofs.Places.Reading.{FitsIn}
 use Rattle.task_laws.proofs.Machine.Rules.{GoesOn, pushed_anywhere, ready_with_registers}

@@ -1,11 +1,5 @@
 -- The part of memory one byte further on, as tree code and as the typed tree have it.
-use Rattle.std.proofs.Common.{◌≡◌, ℕ, ◌+◌, ◌%◌, sym, subst, arith}
-use Rattle.typed_trees.specs.TypedTrees.{PartOf, TypedReference}
-use Rattle.layout.specs.Storage.{Storage}
-use Rattle.treecode.specs.declared.reference.Reference.{Reference}
-use Rattle.treecode.specs.Lowered.{IsReference, IsPart}
-use Rattle.treecode.specs.Nodes.{Nodes}
-use Rattle.steps8080.specs.Queries.{reference_after}
+use Rattle.task_laws.proofs.Prelude.{◌≡◌, ℕ, ◌+◌, ◌%◌, sym, subst, arith, PartOf, TypedReference, Storage, Reference, IsReference, IsPart, Nodes, reference_after}
 
 -- a part of an object one byte further on
 abbrev pub next_part : TypedReference → TypedReference

@@ -1,23 +1,6 @@
 -- The code that sends the low byte of a value to a port.
-use Rattle.std.proofs.Common.{◌≡◌, ℕ, ◌+◌, ◌%◌, ◌<◌, Bool, List, [], ◌∷◌, ◌++◌, refl, sym, ap, subst, ◌∙◌, arith}
-use Rattle.ports.specs.Events.{write_event}
-use Rattle.trees.specs.declared.declaration.ScalarType.{ScalarType}
-use Rattle.trees.specs.declared.declaration.ScalarType.TheVariants.{Byte, Address}
-use Rattle.meaning.specs.Outcomes.{State as SourceState}
-use Rattle.meaning.specs.Values.{values_of}
-use Rattle.isa8080.specs.declared.instr.Instr.TheVariants.{Out}
-use Rattle.isa8080.specs.State.{Registers}
-use Rattle.treecode.specs.declared.reference.Target.TheVariants.{Sent}
-use Rattle.treecode.specs.Lowered.{IsSent}
-use Rattle.code_meaning.specs.Landing.{Does, at_place}
-use Rattle.code_meaning.specs.Activations.{Arrives}
-use Rattle.code_meaning.proofs.Landing.{gives}
-use Rattle.steps8080.specs.declared.facts.Facts.{Facts}
-use Rattle.steps8080.specs.declared.step.Step.TheVariants.{Plain}
-use Rattle.operands8080.specs.Stores.{send_steps}
-use Rattle.task_laws.specs.Contexts.{Context, InRegister, IsSound}
-use Rattle.task_laws.specs.Steps.{StepsStand, PlainThere}
-use Rattle.task_laws.specs.Tasks.{IsStored, PartDoes, StoreDoes}
+use Rattle.task_laws.proofs.Prelude.{◌≡◌, ℕ, ◌+◌, ◌%◌, ◌<◌, Bool, List, [], ◌∷◌, ◌++◌, refl, sym, ap, subst, ◌∙◌, arith, write_event, ScalarType, Byte, Address, SourceState, values_of, Out, Registers, Sent, IsSent, Does, at_place, Arrives, gives, Facts, Plain, send_steps, Context, InRegister, IsSound, StepsStand, PlainThere, PartDoes, StoreDoes}
+use Rattle.task_laws.specs.Tasks.{IsStored}
 use Rattle.task_laws.proofs.Machine.Rules.{GoesOn, registers_go}
 use Rattle.task_laws.proofs.Machine.Addresses.{nothing_goes}
 use Rattle.task_laws.proofs.Stores.Stores.{plain_gains}

@@ -1,27 +1,5 @@
 -- Instructions that store at places that are known.
-use Rattle.std.proofs.Common.{◌≡◌, ℕ, ◌+◌, ◌<◌, List, [], ◌∷◌, slice_set, refl, sym, ap, subst, ◌∙◌}
-use Rattle.ports.specs.declared.event.Event.{Event}
-use Rattle.meaning.specs.Access.{Place as SourcePlace, write_byte}
-use Rattle.meaning.specs.Outcomes.{State as SourceState, Outcome, then_do}
-use Rattle.isa8080.specs.State.{Registers, State, wrap}
-use Rattle.isa8080.specs.Act.{act}
-use Rattle.asm8080.specs.declared.item.WordForm.{WordForm}
-use Rattle.asm8080.specs.declared.item.WordForm.TheVariants.{StoreA}
-use Rattle.asm8080.specs.Items.{instruction_with}
-use Rattle.treecode.specs.declared.place.Place.{Place}
-use Rattle.code_meaning.specs.Landing.{Does, at_place}
-use Rattle.code_meaning.specs.Activations.{IsReady, IsThere}
-use Rattle.code_meaning.proofs.FirstItems.{word_step}
-use Rattle.code_meaning.specs.Asking.{IsSteadyByte, WordAsks}
-use Rattle.code_meaning.specs.Holding.{place_at}
-use Rattle.code_meaning.proofs.Facts.After.{facts_after_word}
-use Rattle.steps8080.specs.declared.facts.Facts.{Facts}
-use Rattle.steps8080.specs.declared.step.Step.TheVariants.{Word}
-use Rattle.steps8080.specs.Facts.{after_word}
-use Rattle.steps8080.specs.Writer.{word_item}
-use Rattle.task_laws.specs.Contexts.{Context, IsSound, distances_in}
-use Rattle.task_laws.specs.Steps.{StepsStand, WordThere}
-use Rattle.task_laws.specs.Tasks.{Know, PartDoes, address_on_machine}
+use Rattle.task_laws.proofs.Prelude.{◌≡◌, ℕ, ◌+◌, ◌<◌, List, [], ◌∷◌, slice_set, refl, sym, ap, subst, ◌∙◌, Event, SourcePlace, write_byte, SourceState, Outcome, then_do, Registers, State, wrap, act, WordForm, StoreA, instruction_with, Place, Does, at_place, IsReady, IsThere, word_step, IsSteadyByte, WordAsks, place_at, facts_after_word, Facts, Word, after_word, word_item, Context, IsSound, distances_in, StepsStand, WordThere, Know, PartDoes, address_on_machine}
 use Rattle.task_laws.proofs.Machine.Rules.{GoesOn, bytes_at_place}
 use Rattle.task_laws.proofs.Machine.Addresses.{nothing_goes}
 use Rattle.task_laws.proofs.Stores.Stores.{gains}

@@ -1,50 +1,9 @@
 -- The code of stores, for each target.
-use Rattle.std.proofs.Common.{◌≡◌, ℕ, ◌+◌, ◌*◌, ◌/◌, ◌%◌, ◌<◌, ◌==◌, Bool, true, false, ◌&&◌, not, if◌then◌else◌, List, [], ◌∷◌, ◌++◌, Option, Some, None, slice_set, refl, sym, ap, subst, ◌∙◌, arith}
-use Rattle.std.proofs.lemmas.Bool.{eqb-true}
-use Rattle.std.proofs.lemmas.List.{append_assoc}
-use Rattle.mem80.specs.declared.memory.TheConstants.{MEMORY_SIZE}
-use Rattle.trees.specs.declared.declaration.ScalarType.{ScalarType}
-use Rattle.trees.specs.declared.declaration.ScalarType.TheVariants.{Byte, Address}
-use Rattle.typed_trees.specs.Charge.{height_of_reference}
-use Rattle.typed_trees.specs.TypedTrees.{TypedReference}
-use Rattle.typed_trees.specs.WellTyped.{RefersToScalar, TypesHoldInReference}
-use Rattle.meaning.specs.Access.{Place as SourcePlace, write_byte, write_scalar}
-use Rattle.meaning.specs.Outcomes.{State as SourceState, Outcome, Gave, then_do}
-use Rattle.meaning.specs.Values.{as_type, values_of}
-use Rattle.isa8080.specs.declared.instr.Instr.TheVariants.{Inx, MovToMemory, Mvi}
-use Rattle.isa8080.specs.declared.instr.Operand.TheVariants.{M}
-use Rattle.isa8080.specs.declared.instr.Pair.TheVariants.{Hl}
+use Rattle.task_laws.proofs.Prelude.{◌≡◌, ℕ, ◌+◌, ◌*◌, ◌/◌, ◌%◌, ◌<◌, ◌==◌, Bool, true, false, ◌&&◌, not, if◌then◌else◌, List, [], ◌∷◌, ◌++◌, Option, Some, None, slice_set, refl, sym, ap, subst, ◌∙◌, arith, eqb-true, append_assoc, MEMORY_SIZE, ScalarType, Byte, Address, height_of_reference, TypedReference, RefersToScalar, TypesHoldInReference, SourcePlace, write_byte, write_scalar, SourceState, Outcome, Gave, then_do, as_type, values_of, Inx, MovToMemory, Mvi, M, Hl, Registers, State, word, wrap, StoreA, StoreHl, Location, Place, Reference, Target, Sent, Stored, IsReference, IsStoredIn, Does, at_place, Arrives, HasRoom, gives, location_at, address_asks, Facts, Step, Holds, MemoryChanged, Plain, Word, after, no_facts, copy, set, extension_steps, keeps_of_address, location_of, distance, Goal, Near, First, Second, address_beside_de_steps, byte_is_here_steps, exchange_near, goal_of, goal_steps, store_a_at_steps, store_a_steps, store_extended_steps, store_hl_at_steps, store_low_byte_at_steps, store_low_byte_steps, store_near_steps, store_steps, store_word_steps, value_back_steps, word_is_here_steps, word_near, knowing, Context, InRegister, IsSound, distances_in, nodes_in, HoldsThere, PlainThere, StepsStand, Carries, PartDoes, StoreDoes, address_on_machine}
 use Rattle.isa8080.specs.declared.instr.Register.TheVariants as registers
-use Rattle.isa8080.specs.State.{Registers, State, word, wrap}
-use Rattle.asm8080.specs.declared.item.WordForm.TheVariants.{StoreA, StoreHl}
-use Rattle.treecode.specs.declared.place.Location.{Location}
 use Rattle.treecode.specs.declared.place.Location.TheVariants as locations
-use Rattle.treecode.specs.declared.place.Place.{Place}
-use Rattle.treecode.specs.declared.reference.Reference.{Reference}
-use Rattle.treecode.specs.declared.reference.Target.{Target}
-use Rattle.treecode.specs.declared.reference.Target.TheVariants.{Sent, Stored}
-use Rattle.treecode.specs.Lowered.{IsReference, IsStored as IsStoredIn}
-use Rattle.code_meaning.specs.Landing.{Does, at_place}
-use Rattle.code_meaning.specs.Activations.{Arrives, HasRoom}
-use Rattle.code_meaning.proofs.Landing.{gives}
-use Rattle.code_meaning.specs.Holding.{location_at}
-use Rattle.code_meaning.proofs.Facts.Steady.{address_asks}
-use Rattle.steps8080.specs.declared.facts.Facts.{Facts}
-use Rattle.steps8080.specs.declared.step.Step.{Step}
-use Rattle.steps8080.specs.declared.step.Step.TheVariants.{Holds, MemoryChanged, Plain, Word}
-use Rattle.steps8080.specs.Facts.{after, no_facts}
-use Rattle.steps8080.specs.Instructions.{copy, set}
-use Rattle.steps8080.specs.Step.{extension_steps}
-use Rattle.steps8080.specs.Queries.{keeps_of_address, location_of}
-use Rattle.steps8080.specs.Site.{distance}
-use Rattle.operands8080.specs.declared.stores.Goal.{Goal}
-use Rattle.operands8080.specs.declared.stores.Near.{Near}
-use Rattle.operands8080.specs.declared.stores.Near.TheVariants.{First, Second}
-use Rattle.operands8080.specs.Stores.{address_beside_de_steps, byte_is_here_steps, exchange_near, goal_of, goal_steps, high_byte_steps, store_a_at_steps, store_a_steps, store_extended_steps, store_hl_at_steps, store_low_byte_at_steps, store_low_byte_steps, store_near_steps, store_steps, store_word_steps, value_back_steps, word_is_here_steps, word_near}
-use Rattle.exprgen8080.specs.Emission.{knowing}
-use Rattle.task_laws.specs.Contexts.{Context, InRegister, IsSound, distances_in, nodes_in}
-use Rattle.task_laws.specs.Steps.{HoldsThere, PlainThere, StepsStand}
-use Rattle.task_laws.specs.Tasks.{Carries, IsStored, PartDoes, StoreDoes, address_on_machine}
+use Rattle.operands8080.specs.Stores.{high_byte_steps}
+use Rattle.task_laws.specs.Tasks.{IsStored}
 use Rattle.task_laws.proofs.Machine.Addresses.{nothing_goes}
 use Rattle.task_laws.proofs.Places.Fitting.{located_fits, refers_is_referred}
 use Rattle.task_laws.proofs.Loads.Loads.{LiesThere, given_last, lies_there}

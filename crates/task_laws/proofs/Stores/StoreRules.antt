@@ -1,48 +1,6 @@
 -- Rules of stores at addresses that are computed: the address comes into HL beside the value, and then bytes are stored.
-use Rattle.std.proofs.Common.{◌≡◌, ◌≢◌, ℕ, ◌+◌, ◌-◌, ◌*◌, ◌/◌, ◌%◌, ◌<◌, ◌≤◌, Bool, true, false, if◌then◌else◌, List, [], ◌∷◌, ◌++◌, length, Option, Some, None, slice_set, refl, sym, ap, subst, ◌∙◌, arith}
-use Rattle.std.proofs.lemmas.List.{length-set}
-use Rattle.mem80.specs.declared.memory.TheConstants.{MEMORY_SIZE}
-use Rattle.mem80.specs.Memory.{byte_at}
-use Rattle.ports.specs.declared.event.Event.{Event}
-use Rattle.trees.specs.declared.declaration.ScalarType.{ScalarType}
-use Rattle.trees.specs.declared.declaration.ScalarType.TheVariants.{Address}
-use Rattle.typed_trees.specs.Charge.{height_of_reference}
-use Rattle.typed_trees.specs.TypedTrees.{TypedReference}
-use Rattle.typed_trees.specs.WellTyped.{TypesHoldInReference}
-use Rattle.meaning.specs.Access.{Place as SourcePlace, next_place, write_byte, write_scalar}
-use Rattle.meaning.specs.Outcomes.{State as SourceState, Outcome, Gave, then_do}
-use Rattle.isa8080.specs.declared.instr.Instr.{Instr}
-use Rattle.isa8080.specs.declared.instr.Instr.TheVariants.{Inx, Pop, Push, Xchg}
-use Rattle.isa8080.specs.declared.instr.Pair.TheVariants.{Hl}
-use Rattle.isa8080.specs.declared.instr.StackPair.TheVariants.{Psw, StackDe, StackHl}
-use Rattle.isa8080.specs.Act.{act}
-use Rattle.isa8080.specs.Flags.{flag_byte, flags_in}
-use Rattle.isa8080.proofs.FlagBytes.{flag_byte_small}
-use Rattle.isa8080.specs.State.{Registers, State, high_byte, low_byte, pushed_of, word, wrap}
-use Rattle.asm8080.specs.declared.item.WordForm.TheVariants.{StoreHl}
-use Rattle.asm8080.specs.Standing.{size_of_instruction}
-use Rattle.asm8080.proofs.Calls.{pushed as pushed_memory}
-use Rattle.asm8080.proofs.Kept.{byte_kept, byte_put}
-use Rattle.treecode.specs.declared.place.Location.{Location}
-use Rattle.treecode.specs.declared.place.Place.{Place}
-use Rattle.treecode.specs.declared.reference.Reference.{Reference}
-use Rattle.treecode.specs.Lowered.{IsReference}
-use Rattle.code_meaning.specs.Landing.{Does, at_place}
-use Rattle.code_meaning.specs.Activations.{Activation, HasRoom, IsReady}
-use Rattle.code_meaning.specs.Asking.{Asks, IsSteadyByte}
-use Rattle.code_meaning.specs.Holding.{IsSteady, location_at, place_at}
-use Rattle.steps8080.specs.declared.facts.Facts.{Facts}
-use Rattle.steps8080.specs.declared.step.Step.{Step}
-use Rattle.steps8080.specs.declared.step.Step.TheVariants.{Plain, Word}
+use Rattle.task_laws.proofs.Prelude.{◌≡◌, ◌≢◌, ℕ, ◌+◌, ◌-◌, ◌*◌, ◌/◌, ◌%◌, ◌<◌, ◌≤◌, Bool, true, false, if◌then◌else◌, List, [], ◌∷◌, ◌++◌, length, Option, Some, None, slice_set, refl, sym, ap, subst, ◌∙◌, arith, length-set, MEMORY_SIZE, byte_at, Event, ScalarType, Address, height_of_reference, TypedReference, TypesHoldInReference, SourcePlace, next_place, write_byte, write_scalar, SourceState, Outcome, Gave, then_do, Instr, Inx, Pop, Push, Xchg, Hl, Psw, StackDe, StackHl, act, flag_byte, flags_in, flag_byte_small, Registers, State, high_byte, low_byte, pushed_of, word, wrap, StoreHl, size_of_instruction, pushed_memory, byte_kept, byte_put, Location, Place, Reference, IsReference, Does, at_place, Activation, HasRoom, IsReady, Asks, IsSteadyByte, IsSteady, location_at, place_at, Facts, Step, Plain, Word, after, no_facts, part, keeps_of_address, location_of, address_beside_a_steps, address_beside_de_steps, goal_of, knowing, Context, IsSound, distances_in, nodes_in, PartThere, PlainThere, StepsStand, WordThere, IsReferred, Know, PartDoes, address_on_machine}
 use Rattle.steps8080.specs.declared.step.Task.TheVariants as tasks
-use Rattle.steps8080.specs.Facts.{after, no_facts}
-use Rattle.steps8080.specs.Step.{part}
-use Rattle.steps8080.specs.Queries.{keeps_of_address, location_of}
-use Rattle.operands8080.specs.Stores.{address_beside_a_steps, address_beside_de_steps, goal_of}
-use Rattle.exprgen8080.specs.Emission.{knowing}
-use Rattle.task_laws.specs.Contexts.{Context, IsSound, distances_in, nodes_in}
-use Rattle.task_laws.specs.Steps.{PartThere, PlainThere, StepsStand, WordThere}
-use Rattle.task_laws.specs.Tasks.{IsReferred, Know, PartDoes, address_on_machine}
 use Rattle.task_laws.proofs.Loads.Loads.{lies_there}
 use Rattle.task_laws.proofs.Places.Located.{located_in}
 use Rattle.task_laws.proofs.Places.Reading.{FitsIn}

@@ -1,26 +1,6 @@
 -- Steps of stores: one of them is to spare.
-use Rattle.std.proofs.Common.{◌≡◌, ℕ, suc, ◌+◌, List, [], ◌∷◌, refl, subst, ◌∙◌, arith}
-use Rattle.meaning.specs.Outcomes.{State as SourceState, Ended, More, Outside, Outcome, Gave, Stopped}
-use Rattle.isa8080.specs.declared.instr.Instr.{Instr}
-use Rattle.isa8080.specs.State.{Registers, State, wrap}
-use Rattle.isa8080.specs.Act.{act}
-use Rattle.isa8080.specs.Step.{step_of}
+use Rattle.task_laws.proofs.Prelude.{◌≡◌, ℕ, suc, ◌+◌, List, [], ◌∷◌, refl, subst, ◌∙◌, arith, SourceState, Ended, More, Outside, Outcome, Gave, Stopped, Instr, Registers, State, wrap, act, step_of, size_of_instruction, step_then, Reference, Does, Lands, at_place, IsThere, after_step, plain_step, Asks, facts_after, Facts, after, keeps_of_address, knowing, Context, IsSound, distances_in, Know}
 use Rattle.asm8080.specs.declared.item.Item.TheVariants as items
-use Rattle.asm8080.specs.Standing.{size_of_instruction}
-use Rattle.asm8080.proofs.Steps.{step_then}
-use Rattle.treecode.specs.declared.reference.Reference.{Reference}
-use Rattle.code_meaning.specs.Landing.{Does, Lands, at_place}
-use Rattle.code_meaning.specs.Activations.{IsThere}
-use Rattle.code_meaning.proofs.Landing.{after_step}
-use Rattle.code_meaning.proofs.FirstItems.{plain_step}
-use Rattle.code_meaning.specs.Asking.{Asks}
-use Rattle.code_meaning.proofs.Facts.After.{facts_after}
-use Rattle.steps8080.specs.declared.facts.Facts.{Facts}
-use Rattle.steps8080.specs.Facts.{after}
-use Rattle.steps8080.specs.Queries.{keeps_of_address}
-use Rattle.exprgen8080.specs.Emission.{knowing}
-use Rattle.task_laws.specs.Contexts.{Context, IsSound, distances_in}
-use Rattle.task_laws.specs.Tasks.{Know}
 use Rattle.task_laws.proofs.Machine.Rules.{GoesOn, bytes_at_place}
 
 -- a run with a step in front of it, which nothing of the budget pays for, has a step to spare

@@ -1,14 +1,6 @@
 -- Words that are written on both sides.
-use Rattle.std.proofs.Common.{◌≡◌, ℕ, ◌+◌, ◌/◌, ◌%◌, ◌<◌, List, slice_set, refl, sym, subst, ◌∙◌, arith}
-use Rattle.trees.specs.declared.declaration.ScalarType.TheVariants.{Address}
-use Rattle.meaning.specs.Outcomes.{State as SourceState, Outcome, Gave, Stopped, then_do}
-use Rattle.meaning.specs.Access.{Place, InMemory, InTheFrame, next_place, write_byte, write_scalar}
-use Rattle.isa8080.specs.State.{Registers, State, wrap}
-use Rattle.code_meaning.specs.Landing.{Does}
-use Rattle.code_meaning.specs.Activations.{Activation, IsReady}
-use Rattle.code_meaning.specs.Asking.{IsSteadyByte}
-use Rattle.task_laws.specs.Contexts.{Context, IsSound}
-use Rattle.task_laws.specs.Tasks.{address_on_machine}
+use Rattle.task_laws.proofs.Prelude.{◌≡◌, ℕ, ◌+◌, ◌/◌, ◌%◌, ◌<◌, List, slice_set, refl, sym, subst, ◌∙◌, arith, Address, SourceState, Outcome, Gave, Stopped, then_do, InMemory, InTheFrame, next_place, write_byte, write_scalar, Registers, State, wrap, Does, Activation, IsReady, IsSteadyByte, Context, IsSound, address_on_machine}
+use Rattle.meaning.specs.Access.{Place}
 use Rattle.task_laws.proofs.Places.Reading.{FitsIn}
 use Rattle.task_laws.proofs.Stores.Writing.{byte_written}
 

@@ -1,22 +1,6 @@
 -- Bytes that are written, in memory or in the frame, on both sides: an activation stays ready.
-use Rattle.std.proofs.Common.{◌≡◌, ◌≢◌, ℕ, zero, suc, ◌+◌, ◌<◌, ◌≤◌, ◌==◌, ◌⊎◌, inl, inr, Bool, true, false, if◌then◌else◌, List, [], ◌∷◌, length, slice_set, slice_index_or, refl, sym, ap, subst, ◌∙◌, arith}
-use Rattle.std.proofs.lemmas.Bool.{cases_lt}
-use Rattle.std.proofs.lemmas.List.{length-set}
-use Rattle.std.proofs.lemmas.Bool.{eqb-true, eqb-false}
-use Rattle.mem80.specs.declared.memory.TheConstants.{MEMORY_SIZE}
-use Rattle.mem80.specs.Memory.{byte_at}
-use Rattle.meaning.specs.declared.reason.Reason.TheVariants.{Byte as UndeclaredByte, Constant}
-use Rattle.meaning.specs.Outcomes.{State as SourceState, Outside, Outcome, Gave, Stopped, then_do}
-use Rattle.meaning.specs.Access.{Place, InMemory, InTheFrame, frame_bytes, is_constant, is_declared, write_byte}
-use Rattle.isa8080.specs.State.{Registers, State, wrap}
-use Rattle.asm8080.proofs.Kept.{byte_kept, byte_put, memory_put}
-use Rattle.code_meaning.specs.Landing.{Does}
-use Rattle.code_meaning.specs.Activations.{Activation, FrameLies, IsReady, LiesWell, Owns}
-use Rattle.code_meaning.proofs.Stores.{keeps_put, ready_with_variable}
-use Rattle.code_meaning.specs.Asking.{IsSteadyByte}
-use Rattle.code_meaning.proofs.Facts.Steady.{declared_is_steady}
-use Rattle.task_laws.specs.Contexts.{Context, IsSound}
-use Rattle.task_laws.specs.Tasks.{address_on_machine}
+use Rattle.task_laws.proofs.Prelude.{◌≡◌, ◌≢◌, ℕ, zero, suc, ◌+◌, ◌<◌, ◌≤◌, ◌==◌, ◌⊎◌, inl, inr, Bool, true, false, if◌then◌else◌, List, [], ◌∷◌, length, slice_set, slice_index_or, refl, sym, ap, subst, ◌∙◌, arith, cases_lt, length-set, eqb-true, eqb-false, MEMORY_SIZE, byte_at, UndeclaredByte, Constant, SourceState, Outside, Outcome, Gave, Stopped, then_do, InMemory, InTheFrame, frame_bytes, is_constant, is_declared, write_byte, Registers, State, wrap, byte_kept, byte_put, memory_put, Does, Activation, FrameLies, IsReady, LiesWell, Owns, keeps_put, ready_with_variable, IsSteadyByte, declared_is_steady, Context, IsSound, address_on_machine}
+use Rattle.meaning.specs.Access.{Place}
 use Rattle.task_laws.proofs.Places.Reading.{FitsIn, frame_is, of_frame}
 
 -- an item that is put in a list

@@ -1,34 +1,6 @@
 -- AND of two ADDRESSes of which one is below 256: it is one of bytes.
-use Rattle.std.proofs.Common.{◌≡◌, ℕ, ◌+◌, ◌*◌, ◌%◌, ◌<◌, ◌≤◌, ◌⊎◌, inl, inr, max, Bool, true, false, ◌||◌, List, ◌++◌, Option, Some, None, option_map, length, bit_and, refl, ap, subst, arith}
-use Rattle.std.proofs.lemmas.Option.{slice_get_past}
-use Rattle.std.proofs.lemmas.Nat.{and_le_l}
-use lib.Bits.{and_le_r}
-use Rattle.trees.specs.declared.declaration.ScalarType.TheVariants.{Address}
+use Rattle.task_laws.proofs.Prelude.{◌≡◌, ℕ, ◌+◌, ◌*◌, ◌%◌, ◌<◌, ◌≤◌, ◌⊎◌, inl, inr, max, Bool, true, false, ◌||◌, List, ◌++◌, Option, Some, None, option_map, length, bit_and, refl, ap, subst, arith, slice_get_past, and_le_l, and_le_r, Address, height_of, BinaryNode, TypedExpression, SourceState, Gave, then_do, And, Registers, Expression, ExpressionNumber, IsExpression, IsNode, keeps_none, Does, at_place, Arrives, HasRoom, Facts, low, extension_steps, expression, is_free, keeps, number_of, fits_byte, low_number, Operands, knowing, byte_operation_steps, form_of, from_number_steps, in_form_steps, with_number_steps, is_of_bytes, Context, IsSound, nodes_in, StepsStand, ByteIsGiven, PartDoes, WordIsGiven}
 use Rattle.trees.specs.declared.expression.BinaryOperator.TheVariants as operators
-use Rattle.typed_trees.specs.Charge.{height_of}
-use Rattle.typed_trees.specs.TypedTrees.{BinaryNode, TypedExpression}
-use Rattle.meaning.specs.Outcomes.{State as SourceState, Gave, then_do}
-use Rattle.isa8080.specs.declared.instr.Operation.TheVariants.{And}
-use Rattle.isa8080.specs.State.{Registers}
-use Rattle.treecode.specs.declared.expression.Expression.{Expression}
-use Rattle.treecode.specs.declared.expression.ExpressionNumber.{ExpressionNumber}
-use Rattle.treecode.specs.Lowered.{IsExpression, IsNode}
-use Rattle.treecode.specs.Traits.{keeps_none}
-use Rattle.code_meaning.specs.Landing.{Does, at_place}
-use Rattle.code_meaning.specs.Activations.{Arrives, HasRoom}
-use Rattle.steps8080.specs.declared.facts.Facts.{Facts}
-use Rattle.steps8080.specs.Instructions.{low}
-use Rattle.steps8080.specs.Step.{extension_steps}
-use Rattle.steps8080.specs.Site.{expression}
-use Rattle.steps8080.specs.Queries.{is_free, keeps, number as number_of}
-use Rattle.steps8080.specs.Widths.{fits_byte, low_number}
-use Rattle.exprgen8080.specs.declared.byte_operators.Operands.{Operands}
-use Rattle.exprgen8080.specs.Emission.{knowing}
-use Rattle.exprgen8080.specs.ByteOperators.{byte_operation_steps, form_of, from_number_steps, in_form_steps, with_number_steps}
-use Rattle.exprgen8080.specs.WordOperators.{is_of_bytes}
-use Rattle.task_laws.specs.Contexts.{Context, IsSound, nodes_in}
-use Rattle.task_laws.specs.Steps.{StepsStand}
-use Rattle.task_laws.specs.Tasks.{ByteIsGiven, PartDoes, WordIsGiven}
 use Rattle.task_laws.proofs.Words.AndNumbers.{extended_then}
 use Rattle.task_laws.proofs.Bytes.BytesAsked.{BytesAsked}
 use Rattle.task_laws.proofs.Places.Fitting.{gave_first}

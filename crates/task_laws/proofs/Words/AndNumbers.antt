@@ -1,38 +1,6 @@
 -- AND of an ADDRESS and a number in HL, of which a byte may be 0.
-use Rattle.std.proofs.Common.{◌≡◌, ℕ, ◌*◌, ◌/◌, ◌%◌, ◌<◌, ◌≤◌, ◌==◌, nat_lt, Bool, true, false, if◌then◌else◌, List, [], ◌∷◌, ◌++◌, bit_and, refl, sym, ap, ◌∙◌, subst, arith}
-use Rattle.std.proofs.lemmas.Bool.{eqb-true, ltb-true}
-use Rattle.std.proofs.lemmas.List.{append_assoc}
-use lib.Bits.{and_le_r}
-use Rattle.std.specs.Int.Bits.{xor_self, and_zero_r}
-use Rattle.trees.specs.declared.declaration.ScalarType.TheVariants.{Address}
-use Rattle.typed_trees.specs.Charge.{height_of}
-use Rattle.typed_trees.specs.ExpressionTypes.{type_of}
-use Rattle.typed_trees.specs.TypedTrees.{TypedExpression}
-use Rattle.typed_trees.specs.WellTyped.{TypesHold}
-use Rattle.meaning.specs.Outcomes.{State as SourceState, Gave, then_do}
-use Rattle.isa8080.specs.declared.instr.Instr.TheVariants.{AccumulateImmediate}
-use Rattle.isa8080.specs.declared.instr.Operation.TheVariants.{And}
-use Rattle.isa8080.specs.declared.instr.Register.TheVariants.{A, H, L}
-use Rattle.isa8080.specs.State.{Registers}
-use Rattle.treecode.specs.declared.expression.ExpressionNumber.{ExpressionNumber}
-use Rattle.treecode.specs.Lowered.{IsExpression}
-use Rattle.treecode.specs.Traits.{keeps_none}
-use Rattle.code_meaning.specs.Landing.{Does, at_place}
-use Rattle.code_meaning.specs.Activations.{Arrives, HasRoom}
-use Rattle.steps8080.specs.declared.facts.Facts.{Facts}
-use Rattle.steps8080.specs.declared.step.Step.{Step}
-use Rattle.steps8080.specs.declared.step.Step.TheVariants.{Plain}
+use Rattle.task_laws.proofs.Prelude.{◌≡◌, ℕ, ◌*◌, ◌/◌, ◌%◌, ◌<◌, ◌≤◌, ◌==◌, nat_lt, Bool, true, false, if◌then◌else◌, List, [], ◌∷◌, ◌++◌, bit_and, refl, sym, ap, ◌∙◌, subst, arith, eqb-true, ltb-true, append_assoc, and_le_r, xor_self, and_zero_r, Address, height_of, type_of, TypedExpression, TypesHold, SourceState, Gave, then_do, AccumulateImmediate, And, A, H, L, Registers, ExpressionNumber, IsExpression, keeps_none, Does, at_place, Arrives, HasRoom, Facts, Step, Plain, clear_a, copy, high, low, set, extension_steps, part_of, plain, keeps, immediate_steps, with_number_steps, knowing, high_byte_steps, and_with_number_steps, both_halves_steps, high_half_steps, logic_with_number_steps, Context, IsSound, nodes_in, StepsStand, PartThere, Carries, Nothing, PartDoes, WordIsGiven}
 use Rattle.steps8080.specs.declared.step.Task.TheVariants as tasks
-use Rattle.steps8080.specs.Instructions.{clear_a, copy, high, low, set}
-use Rattle.steps8080.specs.Step.{extension_steps, part as part_of, plain}
-use Rattle.steps8080.specs.Queries.{keeps}
-use Rattle.exprgen8080.specs.ByteOperators.{immediate_steps, with_number_steps}
-use Rattle.exprgen8080.specs.Emission.{knowing}
-use Rattle.exprgen8080.specs.Halves.{high_byte_steps}
-use Rattle.exprgen8080.specs.WordOperators.{and_with_number_steps, both_halves_steps, high_half_steps, logic_with_number_steps}
-use Rattle.task_laws.specs.Contexts.{Context, IsSound, nodes_in}
-use Rattle.task_laws.specs.Steps.{StepsStand, PartThere}
-use Rattle.task_laws.specs.Tasks.{Carries, Nothing, PartDoes, WordIsGiven}
 use Rattle.task_laws.proofs.Bytes.BytesAsked.{HighIsGiven}
 use Rattle.task_laws.proofs.Words.LogicNumbers.{and_full, bits_high, bits_low, halves_do}
 use Rattle.task_laws.proofs.Words.PairedWords.{kept_none}

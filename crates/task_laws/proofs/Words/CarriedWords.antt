@@ -1,17 +1,5 @@
 -- What the code of a value in HL does, for each need of stack and wherever it is begun.
-use Rattle.std.proofs.Common.{ℕ, ◌*◌, ◌<◌, ◌≤◌, List}
-use Rattle.trees.specs.declared.declaration.ScalarType.{ScalarType}
-use Rattle.typed_trees.specs.Charge.{height_of}
-use Rattle.typed_trees.specs.TypedTrees.{TypedExpression}
-use Rattle.meaning.specs.Meaning.{value}
-use Rattle.meaning.specs.Outcomes.{State as SourceState}
-use Rattle.isa8080.specs.State.{Registers}
-use Rattle.treecode.specs.declared.expression.ExpressionNumber.{ExpressionNumber}
-use Rattle.code_meaning.specs.Landing.{Does, at_place}
-use Rattle.code_meaning.specs.Activations.{Arrives, HasRoom}
-use Rattle.steps8080.specs.declared.facts.Facts.{Facts}
-use Rattle.task_laws.specs.Contexts.{Context}
-use Rattle.task_laws.specs.Tasks.{WordIsGiven}
+use Rattle.task_laws.proofs.Prelude.{ℕ, ◌*◌, ◌<◌, ◌≤◌, List, ScalarType, height_of, TypedExpression, value, SourceState, Registers, ExpressionNumber, Does, at_place, Arrives, HasRoom, Facts, Context, WordIsGiven}
 use Rattle.task_laws.proofs.Machine.Rules.{GoesOn}
 
 -- the value of a tree comes into HL

@@ -1,16 +1,7 @@
 -- What the code of a conversion or of DOUBLE keeps is kept by the code of what is inside.
-use Rattle.std.proofs.Common.{◌≡◌, true, Option, Some, None, refl, sym, subst}
-use Rattle.std.specs.Option.{option_map_or}
-use Rattle.std.proofs.lemmas.Bool.{false≢true}
-use Rattle.trees.specs.declared.declaration.ScalarType.TheVariants.{Byte}
-use Rattle.typed_trees.specs.declared.parts.UnaryFunction.TheVariants.{Low, High, Double}
-use Rattle.treecode.specs.declared.expression.ExpressionForm.{ExpressionForm}
+use Rattle.task_laws.proofs.Prelude.{◌≡◌, true, Option, Some, None, refl, sym, subst, option_map_or, false≢true, Byte, Low, High, Double, ExpressionForm, Place, Reference, Keeps, Nodes, form_at, keeps_none, keeps_of, keeps_of_byte, keeps_of_form, memory_of_inner, same_low_byte}
 use Rattle.treecode.specs.declared.expression.ExpressionForm.TheVariants as forms
-use Rattle.treecode.specs.declared.place.Place.{Place}
-use Rattle.treecode.specs.declared.reference.Reference.{Reference}
-use Rattle.treecode.specs.declared.traits.Keeps.{Keeps}
-use Rattle.treecode.specs.Nodes.{Nodes}
-use Rattle.treecode.specs.Traits.{form_at, keeps_none, keeps_of, keeps_of_address, keeps_of_byte, keeps_of_form, memory_of_inner, same_low_byte}
+use Rattle.treecode.specs.Traits.{keeps_of_address}
 
 -- what one keeps the other keeps
 pub record IsKeptBy (less more : Keeps) : Type 0 where

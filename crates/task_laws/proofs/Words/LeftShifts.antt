@@ -1,34 +1,7 @@
 -- Shifts of an ADDRESS to the left by a number.
-use Rattle.std.proofs.Common.{◌≡◌, ℕ, ◌+◌, ◌-◌, ◌*◌, ◌/◌, ◌%◌, ◌^◌, ◌<◌, ◌≤◌, Bool, true, false, nat_le, if◌then◌else◌, List, [], ◌∷◌, ◌++◌, replicate, Some, pow-add, refl, sym, ap, ◌∙◌, subst, arith}
-use Rattle.std.proofs.lemmas.Bool.{leb-true, leb-false, lt-ltb, le-ltb}
-use Rattle.trees.specs.declared.declaration.ScalarType.TheVariants.{Address}
-use Rattle.typed_trees.specs.declared.parts.ShiftFunction.TheVariants.{ShiftLeft}
-use Rattle.typed_trees.specs.Charge.{height_of}
-use Rattle.typed_trees.specs.TypedTrees.{TypedExpression}
-use Rattle.meaning.specs.Meaning.{value}
-use Rattle.meaning.specs.Outcomes.{State as SourceState, Gave, then_do}
-use Rattle.meaning.specs.Values.{shifted}
-use Rattle.isa8080.specs.declared.instr.Instr.{Instr}
-use Rattle.isa8080.specs.declared.instr.Instr.TheVariants.{Dad}
-use Rattle.isa8080.specs.declared.instr.Pair.TheVariants.{Hl}
-use Rattle.isa8080.specs.declared.instr.Register.TheVariants.{A, H, L}
-use Rattle.isa8080.specs.State.{Registers}
-use Rattle.asm8080.specs.declared.item.WordForm.TheVariants.{LoadPair}
-use Rattle.treecode.specs.declared.expression.ExpressionNumber.{ExpressionNumber}
-use Rattle.treecode.specs.declared.place.Place.TheVariants.{Number}
-use Rattle.treecode.specs.Traits.{keeps_at, keeps_none, keeps_of_shift}
-use Rattle.code_meaning.specs.Landing.{Does, at_place}
-use Rattle.code_meaning.specs.Activations.{Arrives, HasRoom}
-use Rattle.steps8080.specs.declared.facts.Facts.{Facts}
-use Rattle.steps8080.specs.declared.step.Step.{Step}
+use Rattle.task_laws.proofs.Prelude.{◌≡◌, ℕ, ◌+◌, ◌-◌, ◌*◌, ◌/◌, ◌%◌, ◌^◌, ◌<◌, ◌≤◌, Bool, true, false, nat_le, if◌then◌else◌, List, [], ◌∷◌, ◌++◌, replicate, Some, pow-add, refl, sym, ap, ◌∙◌, subst, arith, leb-true, leb-false, lt-ltb, le-ltb, Address, ShiftLeft, height_of, TypedExpression, value, SourceState, Gave, then_do, shifted, Instr, Dad, Hl, A, H, L, Registers, LoadPair, ExpressionNumber, Number, keeps_at, keeps_none, keeps_of_shift, Does, at_place, Arrives, HasRoom, Facts, Step, copy, set, part_of, plain, repeat_steps, keeps, Context, IsSound, nodes_in, StepsStand, PartThere, WordThere, PartDoes, WordIsGiven}
 use Rattle.steps8080.specs.declared.step.Task.TheVariants as tasks
-use Rattle.steps8080.specs.Instructions.{copy, set}
-use Rattle.steps8080.specs.Step.{part as part_of, plain, repeat_steps}
-use Rattle.steps8080.specs.Queries.{keeps}
 use Rattle.exprgen8080.specs.WordShifts.{shifted_left_steps, zero_steps}
-use Rattle.task_laws.specs.Contexts.{Context, IsSound, nodes_in}
-use Rattle.task_laws.specs.Steps.{StepsStand, PartThere, WordThere}
-use Rattle.task_laws.specs.Tasks.{PartDoes, WordIsGiven}
 use Rattle.task_laws.proofs.Machine.Addresses.{registers_end}
 use Rattle.task_laws.proofs.Machine.Rules.{GoesOn, ready_with_registers, word_goes}
 use Rattle.task_laws.proofs.Machine.RegisterCode.{effect, registers_then}

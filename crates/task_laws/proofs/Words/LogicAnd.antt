@@ -1,29 +1,5 @@
 -- AND of two ADDRESSes in HL.
-use Rattle.std.proofs.Common.{◌≡◌, ℕ, ◌+◌, ◌*◌, ◌<◌, ◌≤◌, max, ◌||◌, Bool, true, false, if◌then◌else◌, List, ◌++◌, Option, Some, None, refl, sym, ap, ◌∙◌, subst}
-use Rattle.std.proofs.lemmas.Bool.{false≢true}
-use Rattle.trees.specs.declared.declaration.ScalarType.TheVariants.{Address}
-use Rattle.typed_trees.specs.Charge.{height_of}
-use Rattle.typed_trees.specs.ExpressionTypes.{type_of}
-use Rattle.typed_trees.specs.TypedTrees.{TypedExpression}
-use Rattle.meaning.specs.Meaning.{value}
-use Rattle.meaning.specs.Outcomes.{State as SourceState, Gave}
-use Rattle.isa8080.specs.declared.instr.Operation.TheVariants.{And}
-use Rattle.isa8080.specs.State.{Registers}
-use Rattle.treecode.specs.declared.expression.ExpressionNumber.{ExpressionNumber}
-use Rattle.treecode.specs.declared.place.Place.TheVariants.{Number}
-use Rattle.treecode.specs.Traits.{keeps_none}
-use Rattle.code_meaning.specs.Landing.{Does, at_place}
-use Rattle.code_meaning.specs.Activations.{Arrives, HasRoom}
-use Rattle.steps8080.specs.declared.facts.Facts.{Facts}
-use Rattle.steps8080.specs.Queries.{keeps, number as number_of}
-use Rattle.operands8080.specs.Pairs.{pair_order, pair_steps}
-use Rattle.exprgen8080.specs.declared.byte_operators.Operands.{Operands}
-use Rattle.exprgen8080.specs.declared.word_operators.Simple.{Simple}
-use Rattle.exprgen8080.specs.Emission.{knowing}
-use Rattle.exprgen8080.specs.WordOperators.{computed_logic_steps, is_of_bytes, logic_steps, logic_with_number_steps, logic_with_simple_steps, paired_steps, with_simple}
-use Rattle.task_laws.specs.Contexts.{Context, IsSound}
-use Rattle.task_laws.specs.Steps.{StepsStand}
-use Rattle.task_laws.specs.Tasks.{PartDoes, WordIsGiven}
+use Rattle.task_laws.proofs.Prelude.{◌≡◌, ℕ, ◌+◌, ◌*◌, ◌<◌, ◌≤◌, max, ◌||◌, Bool, true, false, if◌then◌else◌, List, ◌++◌, Option, Some, None, refl, sym, ap, ◌∙◌, subst, false≢true, Address, height_of, type_of, TypedExpression, value, SourceState, Gave, And, Registers, ExpressionNumber, Number, keeps_none, Does, at_place, Arrives, HasRoom, Facts, keeps, number_of, pair_order, pair_steps, Operands, Simple, knowing, computed_logic_steps, is_of_bytes, logic_steps, logic_with_number_steps, logic_with_simple_steps, paired_steps, with_simple, Context, IsSound, StepsStand, PartDoes, WordIsGiven, extension_steps, fits_byte, byte_operation_steps}
 use Rattle.task_laws.proofs.Machine.Rules.{GoesOn}
 use Rattle.task_laws.proofs.Machine.KnownOperands.{number_known, number_small}
 use Rattle.task_laws.proofs.Words.Pairs.{same_rest}
@@ -31,9 +7,6 @@ use Rattle.task_laws.proofs.Words.PairedWords.{byte_instructions, paired_does}
 use Rattle.task_laws.proofs.Words.WordSums.{TwoWords, first_known, less_high, one_high, second_known, two_high}
 use Rattle.task_laws.proofs.Words.WordBinaries.{bytes_on, number_below, pairs_same}
 use Rattle.task_laws.proofs.Words.LogicPairs.{LogicGiven, bits_turned, logic_makes}
-use Rattle.steps8080.specs.Step.{extension_steps}
-use Rattle.steps8080.specs.Widths.{fits_byte}
-use Rattle.exprgen8080.specs.ByteOperators.{byte_operation_steps}
 use Rattle.task_laws.proofs.Words.AndBytes.{of_bytes_does}
 use Rattle.task_laws.proofs.Words.AndNumbers.{HighHalvesGiven, and_number_does}
 use Rattle.task_laws.proofs.Bytes.BytesAsked.{BytesAsked}

@@ -1,31 +1,5 @@
 -- OR and XOR of two ADDRESSes in HL.
-use Rattle.std.proofs.Common.{◌≡◌, ℕ, ◌+◌, ◌*◌, ◌<◌, ◌≤◌, max, Bool, false, if◌then◌else◌, List, ◌++◌, Option, Some, None, refl, sym, ap, ◌∙◌, subst}
-use Rattle.std.proofs.lemmas.Nat.{and_comm, or_comm, xor_comm}
-use Rattle.trees.specs.declared.declaration.ScalarType.TheVariants.{Address}
-use Rattle.typed_trees.specs.Charge.{height_of}
-use Rattle.typed_trees.specs.ExpressionTypes.{type_of}
-use Rattle.typed_trees.specs.TypedTrees.{TypedExpression}
-use Rattle.meaning.specs.Meaning.{value}
-use Rattle.meaning.specs.Outcomes.{State as SourceState, Gave, then_do}
-use Rattle.isa8080.specs.declared.instr.Operation.{Operation}
-use Rattle.isa8080.specs.declared.instr.Operation.TheVariants.{And, ExclusiveOr, Or}
-use Rattle.isa8080.specs.State.{Registers}
-use Rattle.treecode.specs.declared.expression.ExpressionNumber.{ExpressionNumber}
-use Rattle.treecode.specs.declared.place.Place.TheVariants.{Number}
-use Rattle.treecode.specs.Traits.{keeps_none}
-use Rattle.code_meaning.specs.Landing.{Does, at_place}
-use Rattle.code_meaning.specs.Activations.{Arrives, HasRoom}
-use Rattle.steps8080.specs.declared.facts.Facts.{Facts}
-use Rattle.steps8080.specs.declared.sites.site.Site.{Site}
-use Rattle.steps8080.specs.Queries.{keeps, number as number_of}
-use Rattle.operands8080.specs.Pairs.{pair_order, pair_steps}
-use Rattle.exprgen8080.specs.declared.byte_operators.Operands.{Operands}
-use Rattle.exprgen8080.specs.declared.word_operators.Simple.{Simple}
-use Rattle.exprgen8080.specs.Emission.{knowing}
-use Rattle.exprgen8080.specs.WordOperators.{both_halves_steps, computed_logic_steps, is_of_bytes, logic_steps, logic_with_number_steps, logic_with_simple_steps, paired_steps, with_simple}
-use Rattle.task_laws.specs.Contexts.{Context, IsSound}
-use Rattle.task_laws.specs.Steps.{StepsStand}
-use Rattle.task_laws.specs.Tasks.{PartDoes, WordIsGiven}
+use Rattle.task_laws.proofs.Prelude.{◌≡◌, ℕ, ◌+◌, ◌*◌, ◌<◌, ◌≤◌, max, Bool, false, if◌then◌else◌, List, ◌++◌, Option, Some, None, refl, sym, ap, ◌∙◌, subst, and_comm, or_comm, xor_comm, Address, height_of, type_of, TypedExpression, value, SourceState, Gave, then_do, Operation, And, ExclusiveOr, Or, Registers, ExpressionNumber, Number, keeps_none, Does, at_place, Arrives, HasRoom, Facts, Site, keeps, number_of, pair_order, pair_steps, Operands, Simple, knowing, both_halves_steps, computed_logic_steps, is_of_bytes, logic_steps, logic_with_number_steps, logic_with_simple_steps, paired_steps, with_simple, Context, IsSound, StepsStand, PartDoes, WordIsGiven}
 use Rattle.task_laws.proofs.Machine.Rules.{GoesOn}
 use Rattle.task_laws.proofs.Machine.KnownOperands.{number_known, number_small}
 use Rattle.task_laws.proofs.Words.Pairs.{same_rest}

@@ -1,33 +1,6 @@
 -- HL times a number, by sums.
-use Rattle.std.proofs.Common.{◌≡◌, ℕ, zero, suc, ◌+◌, ◌*◌, ◌/◌, ◌%◌, ◌^◌, ◌<◌, ◌≤◌, ◌==◌, Bool, true, false, ◌||◌, if◌then◌else◌, List, [], ◌∷◌, ◌++◌, replicate, Option, Some, None, refl, sym, ap, ◌∙◌, subst, arith}
-use Rattle.std.proofs.lemmas.Bool.{eqb-true, eqb-false, eq-eqb, false≢true, true≢false, lt-ltb}
-use Rattle.std.proofs.Math.Nat.{div-div-eq-div-mul, pow-suc}
-use Rattle.ports.specs.declared.event.Event.{Event}
-use Rattle.meaning.specs.Meaning.{value}
-use Rattle.meaning.specs.Outcomes.{State as SourceState, Outcome, Gave, Stopped, then_do}
-use Rattle.isa8080.specs.declared.instr.Instr.{Instr}
-use Rattle.isa8080.specs.declared.instr.Instr.TheVariants.{Dad}
-use Rattle.isa8080.specs.declared.instr.Pair.TheVariants.{Bc, Hl}
-use Rattle.isa8080.specs.declared.instr.Register.TheVariants.{B, C, H, L}
-use Rattle.isa8080.specs.State.{Registers, State, high_byte, low_byte, word, wrap}
-use Rattle.asm8080.specs.declared.item.WordForm.TheVariants.{LoadPair}
-use Rattle.treecode.specs.declared.expression.ExpressionNumber.{ExpressionNumber}
-use Rattle.treecode.specs.declared.place.Place.TheVariants.{Number}
-use Rattle.code_meaning.specs.Landing.{Does, at_place}
-use Rattle.code_meaning.specs.Activations.{Arrives}
-use Rattle.code_meaning.proofs.Landing.{gives}
-use Rattle.steps8080.specs.declared.facts.Facts.{Facts}
-use Rattle.steps8080.specs.declared.step.Part.{Part}
-use Rattle.steps8080.specs.declared.step.Step.{Step}
-use Rattle.steps8080.specs.declared.step.Step.TheVariants.{Plain, Word}
+use Rattle.task_laws.proofs.Prelude.{◌≡◌, ℕ, zero, suc, ◌+◌, ◌*◌, ◌/◌, ◌%◌, ◌^◌, ◌<◌, ◌≤◌, ◌==◌, Bool, true, false, ◌||◌, if◌then◌else◌, List, [], ◌∷◌, ◌++◌, replicate, Option, Some, None, refl, sym, ap, ◌∙◌, subst, arith, eqb-true, eqb-false, eq-eqb, false≢true, true≢false, lt-ltb, div-div-eq-div-mul, pow-suc, Event, value, SourceState, Outcome, Gave, Stopped, then_do, Instr, Dad, Bc, Hl, B, C, H, L, Registers, State, high_byte, low_byte, word, wrap, LoadPair, ExpressionNumber, Number, Does, at_place, Arrives, gives, Facts, Part, Step, Plain, Word, copy, set, part_of, plain, repeat_steps, power_from, power_of_two, bit_steps, chain_from, chain_steps, has_bit, multiple_steps, product_steps, small_multiple_steps, Context, IsSound, StepsStand, PartThere, WordThere, PartDoes}
 use Rattle.steps8080.specs.declared.step.Task.TheVariants as tasks
-use Rattle.steps8080.specs.Instructions.{copy, set}
-use Rattle.steps8080.specs.Step.{part as part_of, plain, repeat_steps}
-use Rattle.steps8080.specs.Widths.{power_from, power_of_two}
-use Rattle.operands8080.specs.Products.{bit_steps, chain_from, chain_steps, has_bit, multiple_steps, product_steps, small_multiple_steps}
-use Rattle.task_laws.specs.Contexts.{Context, IsSound}
-use Rattle.task_laws.specs.Steps.{StepsStand, PartThere, WordThere}
-use Rattle.task_laws.specs.Tasks.{PartDoes}
 use Rattle.task_laws.proofs.Machine.Addresses.{nothing_goes, registers_end}
 use Rattle.task_laws.proofs.Machine.Rules.{GoesOn, ready_with_registers, word_goes}
 use Rattle.task_laws.proofs.Places.Products.{ProductDoes, ProductIsGiven, ProductsDo}

@@ -1,44 +1,7 @@
 -- Two words of which one comes into HL and the other into DE.
-use Rattle.std.proofs.Common.{◌≡◌, ℕ, ◌+◌, ◌-◌, ◌*◌, ◌/◌, ◌%◌, ◌<◌, ◌≤◌, Bool, true, false, ◌&&◌, if◌then◌else◌, List, [], ◌∷◌, ◌++◌, Option, Some, None, refl, sym, ap, ◌∙◌, subst, arith}
-use Rattle.std.proofs.lemmas.Bool.{and_parts}
-use Rattle.typed_trees.specs.Charge.{height_of, height_of_reference}
-use Rattle.typed_trees.specs.ExpressionTypes.{type_of}
-use Rattle.typed_trees.specs.TypedTrees.{TypedExpression, NumberNode, ValueNode, LocationNode, ListNode, ConversionNode, AssignmentNode, UnaryNode, BinaryNode, CallNode, FunctionNode, ShiftNode, InputNode, TypedReference, PartOf}
-use Rattle.typed_trees.specs.WellTyped.{TypesHold}
-use Rattle.meaning.specs.Meaning.{value}
-use Rattle.meaning.specs.Outcomes.{State as SourceState, Outcome, Gave, Stopped, then_do}
-use Rattle.isa8080.specs.declared.instr.Instr.TheVariants.{Xchg}
-use Rattle.isa8080.specs.declared.instr.Pair.TheVariants.{De}
-use Rattle.isa8080.specs.declared.instr.Register.TheVariants.{A, D, E}
-use Rattle.isa8080.specs.declared.instr.StackPair.TheVariants.{StackDe, StackHl}
-use Rattle.isa8080.specs.State.{Registers, State, wrap}
-use Rattle.asm8080.specs.declared.item.WordForm.TheVariants.{LoadPair}
-use Rattle.treecode.specs.declared.expression.ExpressionNumber.{ExpressionNumber}
-use Rattle.treecode.specs.declared.place.Place.{Place}
-use Rattle.treecode.specs.Lowered.{IsExpression}
-use Rattle.code_meaning.specs.Landing.{Does, at_place}
-use Rattle.code_meaning.specs.Activations.{HasRoom}
-use Rattle.code_meaning.specs.Holding.{place_at}
-use Rattle.steps8080.specs.declared.facts.Facts.{Facts}
-use Rattle.steps8080.specs.declared.step.Step.{Step}
-use Rattle.steps8080.specs.Instructions.{copy, set}
+use Rattle.task_laws.proofs.Prelude.{◌≡◌, ℕ, ◌+◌, ◌-◌, ◌*◌, ◌/◌, ◌%◌, ◌<◌, ◌≤◌, Bool, true, false, ◌&&◌, if◌then◌else◌, List, [], ◌∷◌, ◌++◌, Option, Some, None, refl, sym, ap, ◌∙◌, subst, arith, and_parts, height_of, height_of_reference, type_of, TypedExpression, NumberNode, ValueNode, LocationNode, ListNode, ConversionNode, AssignmentNode, UnaryNode, BinaryNode, CallNode, FunctionNode, ShiftNode, InputNode, TypedReference, PartOf, TypesHold, value, SourceState, Outcome, Gave, Stopped, then_do, Xchg, De, A, D, E, StackDe, StackHl, Registers, State, wrap, LoadPair, ExpressionNumber, Place, IsExpression, Does, at_place, HasRoom, place_at, Facts, Step, copy, set, part_of, Site, is_free, keeps, known, may_exchange, expression, fits_byte, append_assoc, Choices, PairForm, RightKnown, LeftKnown, RightKeeps, LeftKeeps, PairOrder, LeftInHl, RightInHl, any_order, choices_of, form_steps, is_free_byte, left_in_hl, order_of, pair_form, pair_in_order_steps, pair_order_by, right_in_hl, wished_steps, with_byte_steps, with_exchange_steps, with_known_steps, knowing, Context, IsSound, nodes_in, StepsStand, PlainThere, WordThere, PartThere, PartDoes}
 use Rattle.steps8080.specs.declared.step.Task.TheVariants as tasks
-use Rattle.steps8080.specs.Step.{part as part_of}
-use Rattle.steps8080.specs.declared.sites.site.Site.{Site}
-use Rattle.steps8080.specs.Queries.{is_free, keeps, known, may_exchange}
-use Rattle.steps8080.specs.Site.{expression}
-use Rattle.steps8080.specs.Widths.{fits_byte}
-use Rattle.std.proofs.lemmas.List.{append_assoc}
-use Rattle.operands8080.specs.declared.pairs.Choices.{Choices}
-use Rattle.operands8080.specs.declared.pairs.PairForm.{PairForm}
-use Rattle.operands8080.specs.declared.pairs.PairForm.TheVariants.{RightKnown, LeftKnown, RightKeeps, LeftKeeps, RightFree, LeftFree, Pushed}
-use Rattle.operands8080.specs.declared.pairs.PairOrder.{PairOrder}
-use Rattle.operands8080.specs.declared.pairs.PairOrder.TheVariants.{LeftInHl, RightInHl}
-use Rattle.operands8080.specs.Pairs.{any_order, choices_of, form_steps, is_free_byte, left_in_hl, order_of, pair_form, pair_in_order_steps, pair_order_by, right_in_hl, wished_steps, with_byte_steps, with_exchange_steps, with_known_steps, with_stack_steps}
-use Rattle.exprgen8080.specs.Emission.{knowing}
-use Rattle.task_laws.specs.Contexts.{Context, IsSound, nodes_in}
-use Rattle.task_laws.specs.Steps.{StepsStand, PlainThere, WordThere, PartThere}
-use Rattle.task_laws.specs.Tasks.{PartDoes}
+use Rattle.operands8080.specs.{declared.pairs.PairForm.TheVariants.{RightFree, LeftFree, Pushed}, Pairs.{with_stack_steps}}
 use Rattle.task_laws.proofs.Machine.Rules.{GoesOn, more_pushed, pop_goes, push_goes, word_goes}
 use Rattle.task_laws.proofs.Machine.RegisterCode.{effect, registers_then}
 use Rattle.task_laws.proofs.Machine.KnownOperands.{known_small, word_fits}

@@ -1,43 +1,8 @@
 -- Shifts of an ADDRESS to the right by a number, in HL.
-use Rattle.std.proofs.Common.{◌≡◌, ℕ, ◌+◌, ◌-◌, ◌*◌, ◌/◌, ◌%◌, ◌^◌, ◌<◌, ◌≤◌, ◌==◌, nat_le, Bool, true, false, if◌then◌else◌, List, [], ◌∷◌, ◌++◌, refl, sym, ap, ◌∙◌, subst, arith}
-use Rattle.std.proofs.lemmas.Bool.{eqb-true, leb-true, leb-false}
-use Rattle.std.proofs.lemmas.List.{append_assoc}
-use Rattle.std.specs.Int.Bits.{xor_self}
-use Rattle.trees.specs.declared.declaration.ScalarType.{ScalarType}
-use Rattle.trees.specs.declared.declaration.ScalarType.TheVariants.{Address}
-use Rattle.typed_trees.specs.declared.parts.ShiftFunction.TheVariants.{ShiftRight}
-use Rattle.typed_trees.specs.Charge.{height_of}
-use Rattle.typed_trees.specs.ExpressionTypes.{type_of}
-use Rattle.typed_trees.specs.TypedTrees.{TypedExpression}
-use Rattle.meaning.specs.Outcomes.{State as SourceState, Gave, then_do}
-use Rattle.meaning.specs.Values.{values_of}
-use Rattle.isa8080.specs.declared.instr.Instr.{Instr}
-use Rattle.isa8080.specs.declared.instr.Instr.TheVariants.{AccumulateImmediate, Rar, Rrc}
-use Rattle.isa8080.specs.declared.instr.Operation.TheVariants.{And, ExclusiveOr, Or}
-use Rattle.isa8080.specs.declared.instr.Register.TheVariants.{A, H, L}
-use Rattle.isa8080.specs.State.{Registers}
+use Rattle.task_laws.proofs.Prelude.{◌≡◌, ℕ, ◌+◌, ◌-◌, ◌*◌, ◌/◌, ◌%◌, ◌^◌, ◌<◌, ◌≤◌, ◌==◌, nat_le, Bool, true, false, if◌then◌else◌, List, [], ◌∷◌, ◌++◌, refl, sym, ap, ◌∙◌, subst, arith, eqb-true, leb-true, leb-false, append_assoc, xor_self, ScalarType, Address, ShiftRight, height_of, type_of, TypedExpression, SourceState, Gave, then_do, values_of, Instr, AccumulateImmediate, Rar, Rrc, And, ExclusiveOr, Or, A, H, L, Registers, by_eight, half_small, halves, none_left, quarter_high_small, quarter_low_small, quarters, none_right, ExpressionNumber, keeps_none, Does, at_place, Arrives, HasRoom, Facts, Step, CallRoutine, Plain, clear_a, copy, set, with_register, extension_steps, part_of, plain, keeps, fits_byte, byte_shifted_right_steps, right_shift_steps, byte_zero_steps, knowing, high_byte_steps, quarter_steps, shifted_right_little_steps, word_routine, word_shifted_right_steps, Context, IsSound, StepsStand, PartThere, PartDoes, WordIsGiven}
 use Rattle.runtime8080.specs.declared.routine.Routine.TheVariants as routines
-use Rattle.runtime8080.proofs.AddressBits.{by_eight, half_small, halves, none_left, quarter_high_small, quarter_low_small, quarters}
-use Rattle.runtime8080.proofs.Bits.{none_right}
-use Rattle.treecode.specs.declared.expression.ExpressionNumber.{ExpressionNumber}
-use Rattle.treecode.specs.Traits.{keeps_none}
-use Rattle.code_meaning.specs.Landing.{Does, at_place}
-use Rattle.code_meaning.specs.Activations.{Arrives, HasRoom}
-use Rattle.steps8080.specs.declared.facts.Facts.{Facts}
-use Rattle.steps8080.specs.declared.step.Step.{Step}
-use Rattle.steps8080.specs.declared.step.Step.TheVariants.{CallRoutine, Plain}
 use Rattle.steps8080.specs.declared.step.Task.TheVariants as tasks
-use Rattle.steps8080.specs.Instructions.{clear_a, copy, set, with_register}
-use Rattle.steps8080.specs.Step.{extension_steps, part as part_of, plain}
-use Rattle.steps8080.specs.Queries.{keeps}
-use Rattle.steps8080.specs.Widths.{fits_byte}
-use Rattle.exprgen8080.specs.ByteShifts.{byte_shifted_right_steps, right_shift_steps, zero_steps as byte_zero_steps}
-use Rattle.exprgen8080.specs.Emission.{knowing}
-use Rattle.exprgen8080.specs.Halves.{high_byte_steps}
-use Rattle.exprgen8080.specs.WordShifts.{half_steps, quarter_steps, shifted_right_little_steps, word_routine, word_shifted_right_steps, zero_steps}
-use Rattle.task_laws.specs.Contexts.{Context, IsSound}
-use Rattle.task_laws.specs.Steps.{StepsStand, PartThere}
-use Rattle.task_laws.specs.Tasks.{PartDoes, WordIsGiven}
+use Rattle.exprgen8080.specs.WordShifts.{half_steps, zero_steps}
 use Rattle.task_laws.proofs.Words.AndNumbers.{HighHalvesGiven, extended, extended_then}
 use Rattle.task_laws.proofs.Bytes.ByteCode.{CodeOfA, at_last_instructions}
 use Rattle.task_laws.proofs.Bytes.ByteShiftNumbers.{both_straight, shifted_code}

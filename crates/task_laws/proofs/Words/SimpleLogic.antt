@@ -1,34 +1,6 @@
 -- AND, OR and XOR of an operand in HL and one whose code leaves HL alone.
-use Rattle.std.proofs.Common.{◌≡◌, ℕ, ◌+◌, ◌*◌, ◌/◌, ◌%◌, ◌<◌, ◌≤◌, max, Bool, true, false, ◌&&◌, List, [], ◌∷◌, Option, Some, None, if◌then◌else◌, refl, sym, ap, ◌∙◌, subst, arith}
-use Rattle.trees.specs.declared.declaration.ScalarType.{ScalarType}
-use Rattle.trees.specs.declared.declaration.ScalarType.TheVariants.{Address}
-use Rattle.typed_trees.specs.Charge.{height_of}
-use Rattle.typed_trees.specs.ExpressionTypes.{type_of}
-use Rattle.typed_trees.specs.TypedTrees.{TypedExpression}
-use Rattle.meaning.specs.Outcomes.{State as SourceState, Gave, then_do}
-use Rattle.meaning.specs.Values.{values_of}
-use Rattle.isa8080.specs.declared.instr.Operation.{Operation}
-use Rattle.isa8080.specs.declared.instr.Operation.TheVariants.{ExclusiveOr, Or}
-use Rattle.isa8080.specs.declared.instr.Register.TheVariants.{A, L}
-use Rattle.isa8080.specs.State.{Registers}
-use Rattle.treecode.specs.declared.expression.ExpressionNumber.{ExpressionNumber}
-use Rattle.treecode.specs.declared.place.Place.{Place}
-use Rattle.treecode.specs.Traits.{keeps_none}
-use Rattle.code_meaning.specs.Landing.{Does, at_place}
-use Rattle.code_meaning.specs.Activations.{Arrives, HasRoom}
-use Rattle.steps8080.specs.declared.facts.Facts.{Facts}
-use Rattle.steps8080.specs.Instructions.{copy, with_register}
-use Rattle.steps8080.specs.declared.sites.site.Site.{Site}
-use Rattle.steps8080.specs.Queries.{is_free, keeps, may_exchange}
-use Rattle.steps8080.specs.Widths.{direct_word, fits_byte, is_word_in_hl}
-use Rattle.exprgen8080.specs.declared.byte_operators.Operands.{Operands}
-use Rattle.exprgen8080.specs.declared.word_operators.Simple.{Simple}
+use Rattle.task_laws.proofs.Prelude.{◌≡◌, ℕ, ◌+◌, ◌*◌, ◌/◌, ◌%◌, ◌<◌, ◌≤◌, max, Bool, true, false, ◌&&◌, List, [], ◌∷◌, Option, Some, None, if◌then◌else◌, refl, sym, ap, ◌∙◌, subst, arith, ScalarType, Address, height_of, type_of, TypedExpression, SourceState, Gave, then_do, values_of, Operation, ExclusiveOr, Or, A, L, Registers, ExpressionNumber, Place, keeps_none, Does, at_place, Arrives, HasRoom, Facts, copy, with_register, Site, is_free, keeps, may_exchange, direct_word, fits_byte, is_word_in_hl, Operands, Simple, knowing, exchanged_operand, first_and_simple, logic_with_byte_steps, logic_with_simple_steps, simple_operand, with_simple, Context, IsSound, StepsStand, PartThere, PartDoes, WordIsGiven}
 use Rattle.exprgen8080.specs.declared.word_operators.Simple.TheVariants as simple
-use Rattle.exprgen8080.specs.Emission.{knowing}
-use Rattle.exprgen8080.specs.WordOperators.{exchanged_operand, first_and_simple, logic_with_byte_steps, logic_with_simple_steps, simple_operand, with_simple}
-use Rattle.task_laws.specs.Contexts.{Context, IsSound}
-use Rattle.task_laws.specs.Steps.{StepsStand, PartThere}
-use Rattle.task_laws.specs.Tasks.{PartDoes, WordIsGiven}
 use Rattle.task_laws.proofs.Bytes.BytesAsked.{WordAtPlace, WordsAtPlaces}
 use Rattle.task_laws.proofs.Loads.DirectWords.{with_word_then}
 use Rattle.task_laws.proofs.Words.LogicNumbers.{IsLogic, bits, bits_high, bits_low, bits_small, or_none, xor_none}

@@ -1,9 +1,5 @@
 -- Words by their bytes: sums, differences, bits, halves.
-use Rattle.std.proofs.Common.{◌≡◌, ℕ, ◌+◌, ◌-◌, ◌/◌, ◌%◌, ◌<◌, Bool, true, false, not, nat_lt, bit_and, bit_or, bit_xor, refl, sym, arith}
-use Rattle.std.proofs.lemmas.Bool.{ltb-true, ltb-false}
-use Rattle.std.proofs.lemmas.Nat.{and_mod, and_shr, or_mod, or_shr, xor_mod, xor_shr}
-use Rattle.isa8080.specs.Flags.{bit}
-use Rattle.isa8080.specs.State.{high_byte, low_byte, word, wrap}
+use Rattle.task_laws.proofs.Prelude.{◌≡◌, ℕ, ◌+◌, ◌-◌, ◌/◌, ◌%◌, ◌<◌, Bool, true, false, not, nat_lt, bit_and, bit_or, bit_xor, refl, sym, arith, ltb-true, ltb-false, and_mod, and_shr, or_mod, or_shr, xor_mod, xor_shr, bit, high_byte, low_byte, word, wrap}
 
 -- a word in HL, by its bytes
 pub has_word : (n h l : ℕ) → h < 256 → l < 256 → word h l ≡ n → (h ≡ n / 256) × (l ≡ n % 256)

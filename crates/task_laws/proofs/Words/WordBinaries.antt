@@ -1,45 +1,10 @@
 -- Products and differences in HL.
-use Rattle.std.proofs.Common.{◌≡◌, ℕ, ◌+◌, ◌-◌, ◌*◌, ◌%◌, ◌<◌, ◌≤◌, max, false, if◌then◌else◌, List, [], ◌∷◌, ◌++◌, Option, Some, None, is_some, refl, sym, ap, ◌∙◌, subst, arith}
-use Rattle.trees.specs.declared.declaration.ScalarType.{ScalarType}
-use Rattle.trees.specs.declared.declaration.ScalarType.TheVariants.{Address}
+use Rattle.task_laws.proofs.Prelude.{◌≡◌, ℕ, ◌+◌, ◌-◌, ◌*◌, ◌%◌, ◌<◌, ◌≤◌, max, false, if◌then◌else◌, List, [], ◌∷◌, ◌++◌, Option, Some, None, is_some, refl, sym, ap, ◌∙◌, subst, arith, ScalarType, Address, height_of, type_of, TypedExpression, value, SourceState, Gave, then_do, values_of, Operation, Subtract, SubtractWithBorrow, Registers, ExpressionNumber, Place, Number, number_of_place, known_number, Nodes, keeps_at, keeps_none, keeps_of_binary, number_at, Does, at_place, Arrives, HasRoom, Facts, CallRoutine, part_of, plain, keeps, known, number_of, fits_byte, PairOrder, LeftInHl, RightInHl, addition_steps, pair_in_order_steps, product_steps, Operands, knowing, difference_steps, left_word, paired_steps, product_order, product_word_steps, taken_from_number_steps, with_word_steps, Context, IsSound, nodes_in, StepsStand, PartDoes, WordIsGiven}
 use Rattle.trees.specs.declared.expression.BinaryOperator.TheVariants as operators
-use Rattle.typed_trees.specs.Charge.{height_of}
-use Rattle.typed_trees.specs.ExpressionTypes.{type_of}
-use Rattle.typed_trees.specs.TypedTrees.{TypedExpression}
-use Rattle.meaning.specs.Meaning.{value}
-use Rattle.meaning.specs.Outcomes.{State as SourceState, Gave, then_do}
-use Rattle.meaning.specs.Values.{values_of}
-use Rattle.isa8080.specs.declared.instr.Operation.{Operation}
-use Rattle.isa8080.specs.declared.instr.Operation.TheVariants.{Subtract, SubtractWithBorrow}
-use Rattle.isa8080.specs.State.{Registers}
 use Rattle.runtime8080.specs.declared.routine.Routine.TheVariants as routines
-use Rattle.treecode.specs.declared.expression.ExpressionNumber.{ExpressionNumber}
-use Rattle.treecode.specs.declared.place.Place.{Place}
-use Rattle.treecode.specs.declared.place.Place.TheVariants.{Number}
-use Rattle.treecode.specs.Homes.{number_of_place}
-use Rattle.treecode.specs.Known.{known_number}
-use Rattle.treecode.specs.Nodes.{Nodes}
-use Rattle.treecode.specs.Traits.{keeps_at, keeps_none, keeps_of_binary, number_at}
-use Rattle.code_meaning.specs.Landing.{Does, at_place}
-use Rattle.code_meaning.specs.Activations.{Arrives, HasRoom}
-use Rattle.steps8080.specs.declared.facts.Facts.{Facts}
-use Rattle.steps8080.specs.declared.step.Step.TheVariants.{CallRoutine}
 use Rattle.steps8080.specs.declared.step.Task.TheVariants as tasks
-use Rattle.steps8080.specs.Step.{part as part_of, plain}
-use Rattle.steps8080.specs.Queries.{keeps, known, number as number_of}
-use Rattle.steps8080.specs.Widths.{fits_byte}
-use Rattle.operands8080.specs.declared.pairs.PairOrder.{PairOrder}
-use Rattle.operands8080.specs.declared.pairs.PairOrder.TheVariants.{LeftInHl, RightInHl}
 use Rattle.task_laws.proofs.Machine.RegisterCode.{AreOnRegisters}
-use Rattle.operands8080.specs.Addresses.{addition_steps}
-use Rattle.operands8080.specs.Pairs.{pair_in_order_steps}
-use Rattle.operands8080.specs.Products.{product_steps}
-use Rattle.exprgen8080.specs.declared.byte_operators.Operands.{Operands}
-use Rattle.exprgen8080.specs.Emission.{knowing}
-use Rattle.exprgen8080.specs.WordOperators.{difference_steps, left_word, paired_steps, product_order, product_word_steps, taken_from_number_steps, with_pair_steps, with_word_steps}
-use Rattle.task_laws.specs.Contexts.{Context, IsSound, nodes_in}
-use Rattle.task_laws.specs.Steps.{StepsStand}
-use Rattle.task_laws.specs.Tasks.{PartDoes, WordIsGiven}
+use Rattle.exprgen8080.specs.WordOperators.{with_pair_steps}
 use Rattle.task_laws.proofs.Machine.Rules.{GoesOn}
 use Rattle.task_laws.proofs.Machine.KnownOperands.{number_known, number_small}
 use Rattle.task_laws.proofs.Machine.Values.{word_given}

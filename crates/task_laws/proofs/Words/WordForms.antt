@@ -1,39 +1,6 @@
 -- Values in HL of one operand, and straight code.
-use Rattle.std.proofs.Common.{◌≡◌, ℕ, ◌+◌, ◌-◌, ◌*◌, ◌/◌, ◌%◌, ◌<◌, ◌≤◌, ◌==◌, Bool, true, false, not, nat_lt, if◌then◌else◌, List, [], ◌∷◌, append-nil, bit_xor, refl, sym, ap, ◌∙◌, subst, arith}
-use Rattle.std.specs.Int.Bits.{xor_self}
-use Rattle.std.proofs.lemmas.Bool.{ltb-true, ltb-false, eqb-true}
-use Rattle.trees.specs.declared.declaration.ScalarType.{ScalarType}
-use Rattle.trees.specs.declared.declaration.ScalarType.TheVariants.{Byte, Address}
-use Rattle.trees.specs.declared.expression.UnaryOperator.{UnaryOperator}
-use Rattle.trees.specs.declared.expression.UnaryOperator.TheVariants.{Not, Negate}
-use Rattle.typed_trees.specs.Charge.{height_of}
-use Rattle.typed_trees.specs.ExpressionTypes.{type_of}
-use Rattle.typed_trees.specs.TypedTrees.{TypedExpression}
-use Rattle.meaning.specs.Meaning.{value}
-use Rattle.meaning.specs.Outcomes.{State as SourceState, Gave, then_do}
-use Rattle.meaning.specs.Values.{result_of_one, values_of}
-use Rattle.isa8080.specs.declared.instr.Instr.{Instr}
-use Rattle.isa8080.specs.declared.instr.Instr.TheVariants.{Cma}
-use Rattle.isa8080.specs.declared.instr.Operation.TheVariants.{Subtract, SubtractWithBorrow}
-use Rattle.isa8080.specs.declared.instr.Register.TheVariants.{A, H, L}
-use Rattle.isa8080.specs.Flags.{bit}
-use Rattle.isa8080.specs.State.{Registers}
-use Rattle.treecode.specs.declared.expression.ExpressionNumber.{ExpressionNumber}
-use Rattle.treecode.specs.Traits.{keeps_none}
-use Rattle.code_meaning.specs.Landing.{Does, at_place}
-use Rattle.code_meaning.specs.Activations.{Arrives, HasRoom}
-use Rattle.steps8080.specs.declared.facts.Facts.{Facts}
-use Rattle.steps8080.specs.declared.step.Step.{Step}
-use Rattle.steps8080.specs.declared.step.Step.TheVariants.{Plain}
+use Rattle.task_laws.proofs.Prelude.{◌≡◌, ℕ, ◌+◌, ◌-◌, ◌*◌, ◌/◌, ◌%◌, ◌<◌, ◌≤◌, ◌==◌, Bool, true, false, not, nat_lt, if◌then◌else◌, List, [], ◌∷◌, append-nil, bit_xor, refl, sym, ap, ◌∙◌, subst, arith, xor_self, ltb-true, ltb-false, eqb-true, ScalarType, Byte, Address, UnaryOperator, Not, Negate, height_of, type_of, TypedExpression, value, SourceState, Gave, then_do, result_of_one, values_of, Instr, Cma, Subtract, SubtractWithBorrow, A, H, L, bit, Registers, ExpressionNumber, keeps_none, Does, at_place, Arrives, HasRoom, Facts, Step, Plain, clear_a, copy, high, low, set, with_register, extension_steps, part_of, plain, keeps, taken_from_number_steps, word_unary_steps, Context, IsSound, StepsStand, PartThere, PartDoes, WordIsGiven}
 use Rattle.steps8080.specs.declared.step.Task.TheVariants as tasks
-use Rattle.steps8080.specs.Instructions.{clear_a, copy, high, low, set, with_register}
-use Rattle.steps8080.specs.Step.{extension_steps, part as part_of, plain}
-use Rattle.steps8080.specs.Queries.{keeps}
-use Rattle.exprgen8080.specs.WordOperators.{taken_from_number_steps}
-use Rattle.exprgen8080.specs.Words.{word_unary_steps}
-use Rattle.task_laws.specs.Contexts.{Context, IsSound}
-use Rattle.task_laws.specs.Steps.{StepsStand, PartThere}
-use Rattle.task_laws.specs.Tasks.{PartDoes, WordIsGiven}
 use Rattle.task_laws.proofs.Machine.Rules.{GoesOn}
 use Rattle.task_laws.proofs.Machine.RegisterCode.{AreOnRegisters, effect, registers_then}
 use Rattle.task_laws.proofs.Machine.Values.{HasWord, byte_then, word_ends, word_then}

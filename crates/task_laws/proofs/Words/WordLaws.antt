@@ -1,12 +1,5 @@
 -- The code of a value in HL does what the expression means.
-use Rattle.std.proofs.Common.{ℕ}
-use Rattle.treecode.specs.declared.expression.ExpressionNumber.{ExpressionNumber}
-use Rattle.steps8080.specs.declared.facts.Facts.{Facts}
-use Rattle.exprgen8080.specs.Emission.{knowing}
-use Rattle.exprgen8080.specs.Words.{word_steps}
-use Rattle.task_laws.specs.Contexts.{Context, IsSound}
-use Rattle.task_laws.specs.Steps.{StepsStand}
-use Rattle.task_laws.specs.Tasks.{PartDoes, WordDoes}
+use Rattle.task_laws.proofs.Prelude.{ℕ, ExpressionNumber, Facts, knowing, word_steps, Context, IsSound, StepsStand, PartDoes, WordDoes}
 use Rattle.task_laws.proofs.Words.AndNumbers.{HighHalvesGiven}
 use Rattle.task_laws.proofs.Bytes.AskedOfBytes.{bytes_asked}
 use Rattle.task_laws.proofs.Bytes.HighHalves.{high_byte_law}

@@ -1,39 +1,7 @@
 -- Products, quotients, remainders and shifts in HL by routines.
-use Rattle.std.proofs.Common.{◌≡◌, ℕ, ◌+◌, ◌-◌, ◌*◌, ◌/◌, ◌%◌, ◌<◌, ◌≤◌, ◌==◌, Bool, true, false, if◌then◌else◌, List, [], ◌∷◌, ◌++◌, Option, Some, None, refl, sym, ap, ◌∙◌, subst, arith}
-use Rattle.trees.specs.declared.declaration.ScalarType.TheVariants.{Address, Byte}
-use Rattle.trees.specs.declared.expression.BinaryOperator.TheVariants.{Divide, Modulo, Multiply}
-use Rattle.typed_trees.specs.declared.parts.ShiftFunction.{ShiftFunction}
-use Rattle.typed_trees.specs.declared.parts.ShiftFunction.TheVariants.{RotateLeft, RotateRight, ShiftLeft, ShiftRight}
-use Rattle.typed_trees.specs.Charge.{height_of}
-use Rattle.typed_trees.specs.TypedTrees.{TypedExpression}
-use Rattle.typed_trees.specs.ExpressionTypes.{type_of}
-use Rattle.typed_trees.specs.WellTyped.{ShiftsIn}
-use Rattle.trees.specs.declared.declaration.ScalarType.{ScalarType}
-use Rattle.meaning.specs.Meaning.{computed, value}
-use Rattle.meaning.specs.Outcomes.{State as SourceState, Gave, then_do}
-use Rattle.meaning.specs.Values.{result_of, shifted, values_of}
-use Rattle.isa8080.specs.declared.instr.Instr.TheVariants.{Pop, Push, Xchg}
-use Rattle.isa8080.specs.declared.instr.StackPair.TheVariants.{StackHl}
-use Rattle.isa8080.specs.State.{HoldBytes, Registers, word, wrap}
+use Rattle.task_laws.proofs.Prelude.{◌≡◌, ℕ, ◌+◌, ◌-◌, ◌*◌, ◌/◌, ◌%◌, ◌<◌, ◌≤◌, ◌==◌, Bool, true, false, if◌then◌else◌, List, [], ◌∷◌, ◌++◌, Option, Some, None, refl, sym, ap, ◌∙◌, subst, arith, Address, Byte, Divide, Modulo, Multiply, ShiftFunction, RotateLeft, RotateRight, ShiftLeft, ShiftRight, height_of, TypedExpression, type_of, ShiftsIn, ScalarType, computed, value, SourceState, Gave, then_do, result_of, shifted, values_of, Pop, Push, Xchg, StackHl, HoldBytes, Registers, word, wrap, ExpressionNumber, keeps_none, Does, at_place, Arrives, HasRoom, Facts, CallRoutine, Plain, part_of, is_free, keeps, Shifted, computed_count_steps, count_beside_word_steps, word_routine, PairOrder, LeftInHl, RightInHl, pair_in_order_steps, pair_steps, knowing, Context, IsSound, StepsStand, PartThere, PlainThere, PartDoes, WordIsGiven}
 use Rattle.runtime8080.specs.declared.routine.Routine.TheVariants as routines
-use Rattle.treecode.specs.declared.expression.ExpressionNumber.{ExpressionNumber}
-use Rattle.treecode.specs.Traits.{keeps_none}
-use Rattle.code_meaning.specs.Landing.{Does, at_place}
-use Rattle.code_meaning.specs.Activations.{Arrives, HasRoom}
-use Rattle.steps8080.specs.declared.facts.Facts.{Facts}
-use Rattle.steps8080.specs.declared.step.Step.TheVariants.{CallRoutine, Plain}
 use Rattle.steps8080.specs.declared.step.Task.TheVariants as tasks
-use Rattle.steps8080.specs.Step.{part as part_of}
-use Rattle.steps8080.specs.Queries.{is_free, keeps}
-use Rattle.exprgen8080.specs.declared.byte_shifts.Shifted.{Shifted}
-use Rattle.exprgen8080.specs.WordShifts.{computed_count_steps, count_beside_word_steps, word_routine}
-use Rattle.operands8080.specs.declared.pairs.PairOrder.{PairOrder}
-use Rattle.operands8080.specs.declared.pairs.PairOrder.TheVariants.{LeftInHl, RightInHl}
-use Rattle.operands8080.specs.Pairs.{pair_in_order_steps, pair_steps}
-use Rattle.exprgen8080.specs.Emission.{knowing}
-use Rattle.task_laws.specs.Contexts.{Context, IsSound}
-use Rattle.task_laws.specs.Steps.{StepsStand, PartThere, PlainThere}
-use Rattle.task_laws.specs.Tasks.{PartDoes, WordIsGiven}
 use Rattle.task_laws.proofs.Machine.Rules.{GoesOn, more_pushed, pop_goes, push_goes}
 use Rattle.task_laws.proofs.Machine.KnownOperands.{quotient_less, shift_fits}
 use Rattle.task_laws.proofs.Machine.RegisterCode.{effect, registers_then}

@@ -1,42 +1,9 @@
 -- Values in HL that are not computed: words in memory, locations, assignments within expressions, and calls.
-use Rattle.std.proofs.Common.{◌≡◌, ℕ, ◌+◌, ◌*◌, ◌/◌, ◌%◌, ◌<◌, ◌&&◌, Bool, true, List, [], ◌∷◌, Option, Some, None, is_some, refl, sym, ap, ◌∙◌, subst, arith}
-use Rattle.std.specs.Prelude.{IsSomeAnd, slice_get}
-use Rattle.mem80.specs.declared.memory.TheConstants.{MEMORY_SIZE}
-use Rattle.trees.specs.declared.declaration.ScalarType.{ScalarType}
+use Rattle.task_laws.proofs.Prelude.{◌≡◌, ℕ, ◌+◌, ◌*◌, ◌/◌, ◌%◌, ◌<◌, ◌&&◌, Bool, true, List, [], ◌∷◌, Option, Some, None, is_some, refl, sym, ap, ◌∙◌, subst, arith, IsSomeAnd, slice_get, MEMORY_SIZE, ScalarType, height_of_reference, type_of, type_of_target, IsPartOf, TypedHome, InData, InConstants, Placed, BasedOn, Elsewhere, Nowhere, InFrame, TypedExpression, TypedArguments, TypedObject, TypedReference, TypedTarget, AssignmentNode, CallNode, LocationNode, PartOf, SentTo, StoredIn, ValueNode, HasLocation, IsSeen, RefersToLocation, TypesHold, TypesHoldInTarget, InMemory, home_of, place_of, read_scalar, address_in_memory, based_place, displacement, located, stored, SourceState, Outcome, Gave, then_do, values_of, Registers, State, word, ExpressionNumber, Range, Static, Reference, Target, AreArguments, IsExpression, IsReference, IsTarget, IsStored, IsSent, source, keeps_none, keeps_of_form, place_of_reference, Does, Activation, Arrives, gives, Facts, part_of, keeps, keeps_of_address, word_in_memory_steps, embedded_steps, call_steps, value_task, knowing, Context, InRegister, IsSound, nodes_in, StepsStand, PartThere, IsReferred, IsStoredThere, PartDoes, ResultIsGiven, WordIsGiven, address_on_machine}
 use Rattle.trees.specs.declared.declaration.ScalarType.TheVariants as scalars
-use Rattle.typed_trees.specs.Charge.{height_of_reference}
-use Rattle.typed_trees.specs.ExpressionTypes.{type_of, type_of_target}
-use Rattle.typed_trees.specs.ObjectParts.{IsPartOf}
-use Rattle.typed_trees.specs.TypedTrees.{Home as TypedHome, InData, InConstants, Placed, BasedOn, Elsewhere, Nowhere, InFrame, TypedExpression, TypedArguments, TypedObject, TypedReference, TypedTarget, AssignmentNode, CallNode, LocationNode, PartOf, SentTo, StoredIn, ValueNode}
-use Rattle.typed_trees.specs.WellTyped.{HasLocation, IsSeen, RefersToLocation, TypesHold, TypesHoldInTarget}
-use Rattle.meaning.specs.Access.{Place, InMemory, home_of, place_of, read_scalar}
-use Rattle.meaning.specs.Meaning.{address_in_memory, based_place, displacement, located, stored}
-use Rattle.meaning.specs.Outcomes.{State as SourceState, Outcome, Gave, then_do}
-use Rattle.meaning.specs.Values.{values_of}
-use Rattle.isa8080.specs.State.{Registers, State, word}
+use Rattle.meaning.specs.Access.{Place}
 use Rattle.treecode.specs.declared.expression.ExpressionForm.TheVariants as forms
-use Rattle.treecode.specs.declared.expression.ExpressionNumber.{ExpressionNumber}
-use Rattle.treecode.specs.declared.lists.Range.{Range}
-use Rattle.treecode.specs.declared.place.Location.TheVariants.{Static}
-use Rattle.treecode.specs.declared.reference.Reference.{Reference}
-use Rattle.treecode.specs.declared.reference.Target.{Target}
-use Rattle.treecode.specs.Lowered.{AreArguments, IsExpression, IsReference, IsTarget, IsStored, IsSent}
-use Rattle.treecode.specs.Queries.{source}
-use Rattle.treecode.specs.Traits.{keeps_none, keeps_of_form, place_of_reference}
-use Rattle.code_meaning.specs.Landing.{Does}
-use Rattle.code_meaning.specs.Activations.{Activation, Arrives}
-use Rattle.code_meaning.proofs.Landing.{gives}
-use Rattle.steps8080.specs.declared.facts.Facts.{Facts}
 use Rattle.steps8080.specs.declared.step.Task.TheVariants as tasks
-use Rattle.steps8080.specs.Step.{part as part_of}
-use Rattle.steps8080.specs.Queries.{keeps, keeps_of_address}
-use Rattle.operands8080.specs.Loads.{word_in_memory_steps}
-use Rattle.exprgen8080.specs.Bytes.{embedded_steps}
-use Rattle.exprgen8080.specs.Calls.{call_steps, value_task}
-use Rattle.exprgen8080.specs.Emission.{knowing}
-use Rattle.task_laws.specs.Contexts.{Context, InRegister, IsSound, nodes_in}
-use Rattle.task_laws.specs.Steps.{StepsStand, PartThere}
-use Rattle.task_laws.specs.Tasks.{IsReferred, IsStored as IsStoredThere, PartDoes, ResultIsGiven, WordIsGiven, address_on_machine}
 use Rattle.task_laws.proofs.Places.Bases.{has_some, home_there}
 use Rattle.task_laws.proofs.Calls.Calls.{call_does}
 use Rattle.task_laws.proofs.Stores.EmbeddedBytes.{does_less}

@@ -1,57 +1,10 @@
 -- The code of values in HL does what the expressions mean.
-use Rattle.std.proofs.Common.{◌≡◌, ℕ, ◌+◌, ◌-◌, ◌*◌, ◌/◌, ◌%◌, ◌^◌, ◌<◌, ◌≤◌, ◌==◌, max, Bool, true, false, if◌then◌else◌, bit_and, is_some, [], ◌∷◌, ◌++◌, Option, Some, None, refl, sym, ap, ◌∙◌, subst, arith}
-use Rattle.std.proofs.lemmas.List.{append_assoc}
-use Rattle.trees.specs.declared.declaration.ScalarType.{ScalarType}
-use Rattle.trees.specs.declared.declaration.ScalarType.TheVariants.{Address, Byte}
-use Rattle.trees.specs.declared.expression.BinaryOperator.{BinaryOperator}
+use Rattle.task_laws.proofs.Prelude.{◌≡◌, ℕ, ◌+◌, ◌-◌, ◌*◌, ◌/◌, ◌%◌, ◌^◌, ◌<◌, ◌≤◌, ◌==◌, max, Bool, true, false, if◌then◌else◌, bit_and, is_some, [], ◌∷◌, ◌++◌, Option, Some, None, refl, sym, ap, ◌∙◌, subst, arith, append_assoc, ScalarType, Address, Byte, BinaryOperator, ShiftFunction, RotateLeft, RotateRight, ShiftLeft, ShiftRight, Low, High, Double, height_of, type_of, type_of_result, BinaryNode, ConversionNode, FunctionNode, ShiftNode, TypedExpression, TypesHold, value, SourceState, Outcome, Gave, Stopped, then_do, as_type, shifted, Xchg, State, Expression, ExpressionForm, ExpressionNumber, Static, Place, Number, Reference, IsExpression, IsForm, IsNumber, IsValue, IsLocation, IsConstantList, IsConversion, IsEmbedded, IsUnary, IsBinary, IsCallOf, IsFunction, IsShift, IsInput, keeps_none, keeps_of_form, keeps_of, keeps_of_extended, memory_of_form, keeps_of_shift, same_low_byte, traits_at, known_of, no_traits, number_at, traits_of, Traits, option_map_or, expression, Does, at_place, Arrives, place_at, Facts, CallRoutine, Plain, extension_steps, part_of, Site, keeps, known, memory_of, number_of, power, location_address_steps, extended_byte_in_memory_steps, pair_steps, knowing, number_of_two, division_steps, logic_with_number_steps, quotient_steps, remainder_steps, word_binary_steps, computed_count_steps, word_by_number_steps, word_shift_steps, word_shifted_right_steps, computed_word_steps, extended_byte_steps, word_form_steps, word_function_steps, word_of_two_steps, word_steps, Context, IsSound, nodes_in, StepsStand, PartThere, PartDoes, WordDoes, WordIsGiven, Keeps, Nodes, pow-le-pow_right, eqb-false, ne_eqb, and_mask, option_and_then, computed, result_of, power_of_two}
 use Rattle.trees.specs.declared.expression.BinaryOperator.TheVariants as operators
-use Rattle.typed_trees.specs.declared.parts.ShiftFunction.{ShiftFunction}
-use Rattle.typed_trees.specs.declared.parts.ShiftFunction.TheVariants.{RotateLeft, RotateRight, ShiftLeft, ShiftRight}
-use Rattle.typed_trees.specs.declared.parts.UnaryFunction.TheVariants.{Low, High, Double}
-use Rattle.typed_trees.specs.Charge.{height_of}
-use Rattle.typed_trees.specs.ExpressionTypes.{type_of, type_of_result}
-use Rattle.typed_trees.specs.TypedTrees.{BinaryNode, ConversionNode, FunctionNode, ShiftNode, TypedExpression}
-use Rattle.typed_trees.specs.WellTyped.{TypesHold}
-use Rattle.meaning.specs.Meaning.{value}
-use Rattle.meaning.specs.Outcomes.{State as SourceState, Outcome, Gave, Stopped, then_do}
-use Rattle.meaning.specs.Values.{as_type, shifted}
-use Rattle.isa8080.specs.declared.instr.Instr.TheVariants.{Xchg}
-use Rattle.isa8080.specs.State.{State}
 use Rattle.runtime8080.specs.declared.routine.Routine.TheVariants as routines
-use Rattle.treecode.specs.declared.expression.Expression.{Expression}
-use Rattle.treecode.specs.declared.expression.ExpressionForm.{ExpressionForm}
 use Rattle.treecode.specs.declared.expression.ExpressionForm.TheVariants as forms
-use Rattle.treecode.specs.declared.expression.ExpressionNumber.{ExpressionNumber}
-use Rattle.treecode.specs.declared.place.Location.TheVariants.{Static}
-use Rattle.treecode.specs.declared.place.Place.{Place}
-use Rattle.treecode.specs.declared.place.Place.TheVariants.{Number}
-use Rattle.treecode.specs.declared.reference.Reference.{Reference}
-use Rattle.treecode.specs.Lowered.{IsExpression, IsForm, IsNumber, IsValue, IsLocation, IsConstantList, IsConversion, IsEmbedded, IsUnary, IsBinary, IsCallOf, IsFunction, IsShift, IsInput}
-use Rattle.treecode.specs.Traits.{keeps_none, keeps_of_form, keeps_of, keeps_of_address, keeps_of_extended, memory_of_form, keeps_of_shift, same_low_byte, traits_at, known_of, no_traits, number_at, traits_of}
-use Rattle.treecode.specs.declared.traits.Traits.{Traits}
-use Rattle.std.specs.Option.{option_map_or}
-use Rattle.steps8080.specs.Site.{expression}
-use Rattle.code_meaning.specs.Landing.{Does, at_place}
-use Rattle.code_meaning.specs.Activations.{Arrives}
-use Rattle.code_meaning.specs.Holding.{place_at}
-use Rattle.steps8080.specs.declared.facts.Facts.{Facts}
-use Rattle.steps8080.specs.declared.step.Step.TheVariants.{CallRoutine, Plain}
+use Rattle.treecode.specs.Traits.{keeps_of_address}
 use Rattle.steps8080.specs.declared.step.Task.TheVariants as tasks
-use Rattle.steps8080.specs.Step.{extension_steps, part as part_of}
-use Rattle.steps8080.specs.declared.sites.site.Site.{Site}
-use Rattle.steps8080.specs.Queries.{keeps, known, memory as memory_of, number as number_of}
-use Rattle.steps8080.specs.Widths.{power}
-use Rattle.operands8080.specs.Addresses.{location_address_steps}
-use Rattle.operands8080.specs.Loads.{extended_byte_in_memory_steps}
-use Rattle.operands8080.specs.Pairs.{pair_steps}
-use Rattle.exprgen8080.specs.Emission.{knowing}
-use Rattle.exprgen8080.specs.ByteOperators.{number_of_two}
-use Rattle.exprgen8080.specs.WordOperators.{division_steps, logic_with_number_steps, quotient_steps, remainder_steps, word_binary_steps}
-use Rattle.exprgen8080.specs.WordShifts.{computed_count_steps, word_by_number_steps, word_shift_steps, word_shifted_right_steps}
-use Rattle.exprgen8080.specs.Words.{computed_word_steps, extended_byte_steps, word_form_steps, word_function_steps, word_of_two_steps, word_steps}
-use Rattle.task_laws.specs.Contexts.{Context, IsSound, nodes_in}
-use Rattle.task_laws.specs.Steps.{StepsStand, PartThere}
-use Rattle.task_laws.specs.Tasks.{PartDoes, WordDoes, WordIsGiven}
 use Rattle.task_laws.proofs.Machine.Addresses.{location_address_goes}
 use Rattle.task_laws.proofs.Loads.BytesInMemory.{memory_same}
 use Rattle.task_laws.proofs.Machine.Nodes.{NodeOf, node_of}
@@ -61,8 +14,6 @@ use Rattle.task_laws.proofs.Machine.Values.{word_ends, word_given, word_then}
 use Rattle.task_laws.proofs.Words.Pairs.{IsOperand}
 use Rattle.task_laws.proofs.Words.WordArithmetic.{has_word}
 use Rattle.task_laws.proofs.Words.KeptInside.{IsKeptBy, byte_inside_kept, kept_same}
-use Rattle.treecode.specs.declared.traits.Keeps.{Keeps}
-use Rattle.treecode.specs.Nodes.{Nodes}
 use Rattle.task_laws.proofs.Words.WordSums.{TwoWords, keeps_at_site, one_high, second_known, sum_does, two_high}
 use Rattle.task_laws.proofs.Words.LeftShifts.{left_does}
 use Rattle.task_laws.proofs.Words.LogicPairs.{either_does}
@@ -70,13 +21,6 @@ use Rattle.isa8080.specs.declared.instr.Operation.TheVariants as operations
 use Rattle.task_laws.proofs.Words.WordForms.{extended_does, unary_does}
 use Rattle.task_laws.proofs.Words.WordRoutines.{absurd_type, computed_shift_does, quotient_does, remainder_does}
 use Rattle.task_laws.proofs.Words.WordBinaries.{difference_does, is_number_at, product_does}
-use Rattle.std.proofs.Math.Nat.{pow-le-pow_right}
-use Rattle.std.proofs.lemmas.Bool.{eqb-false, ne_eqb}
-use Rattle.std.proofs.lemmas.Nat.{and_mask}
-use Rattle.std.specs.Option.{option_and_then}
-use Rattle.meaning.specs.Meaning.{computed}
-use Rattle.meaning.specs.Values.{result_of}
-use Rattle.steps8080.specs.Widths.{power_of_two}
 use Rattle.task_laws.proofs.Words.AndNumbers.{HighHalvesGiven, and_number_does}
 use Rattle.task_laws.proofs.Bytes.BytesAsked.{BytesAsked}
 use Rattle.task_laws.proofs.Words.CarriedWords.{IsCarriedOut}

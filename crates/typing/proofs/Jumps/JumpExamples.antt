@@ -1,14 +1,7 @@
 -- Worked values: bodies whose jumps are sound, and some whose jumps are not; a module whose labels differ, and one
 -- with two labels of one number.
-use Rattle.std.proofs.Common.{◌≢◌, ℕ, zero, suc, false, List, [], ◌∷◌, None, refl, sym, subst, arith}
-use Rattle.std.specs.Prelude.{Any}
-use Rattle.std.proofs.lemmas.List.Elements.{All-from_recursion, All-nil}
-use Rattle.std.proofs.lemmas.List.Kept.{AllPairs-cons}
-use Rattle.trees.specs.declared.declaration.ScalarType.TheVariants.{Byte}
-use Rattle.typed_trees.specs.declared.parts.NumberOrigin.TheVariants.{FromDigits}
-use Rattle.typed_trees.specs.declared.parts.Visibility.TheVariants.{Private}
-use Rattle.typed_trees.specs.TypedTrees.{NumberNode, TypedStatement, LabelStatement, NullStatement, GotoStatement, IfStatement, DoStatement, WhileStatement, CaseStatement, TypedExpression, NoElse, ElseStatement, TypedStatements, NoStatements, MoreStatements, TypedList, ListOf, TypedModule}
-use Rattle.typed_trees.specs.Jumps.{IsAmongLabels, labels_of_list, BodyIsSound, JumpsAreSound}
+use Rattle.typing.proofs.Prelude.{◌≢◌, ℕ, zero, suc, false, List, [], ◌∷◌, None, refl, sym, subst, arith, Any, All-from_recursion, All-nil, AllPairs-cons, Byte, FromDigits, Private, NumberNode, TypedStatement, LabelStatement, TypedExpression, TypedStatements, TypedList, ListOf, TypedModule, IsAmongLabels, labels_of_list, BodyIsSound, JumpsAreSound}
+use Rattle.typed_trees.specs.TypedTrees.{NullStatement, GotoStatement, IfStatement, DoStatement, WhileStatement, CaseStatement, NoElse, ElseStatement, NoStatements, MoreStatements}
 
 abbrev lines : List TypedStatement → TypedStatements
 lines [] = NoStatements

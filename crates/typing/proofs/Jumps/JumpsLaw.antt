@@ -1,20 +1,6 @@
 -- In a typed module each GOTO goes to a label of a list around it, labels stand where their places say, and no two
 -- labels have the same number.
-use Rattle.std.proofs.Common.{◌≡◌, ℕ, ◌+◌, List, [], ◌∷◌, length, drop, Ok, refl, ap, subst}
-use Rattle.std.specs.Prelude.{IfOk}
-use Rattle.std.proofs.lemmas.List.Elements.{All-nil}
-use Rattle.trees.specs.declared.identifier.Identifier.{Identifier}
-use Rattle.trees.specs.Trees.{StatementTree, LabelledStatement, StatementKindTree, NullStatement, AssignmentStatement, CallStatement, ReturnStatement, HaltStatement, GotoStatement, IfStatement, DoStatement, WhileStatement, IterateStatement, CaseStatement, ElseTree, NoElse, ElseStatement, StatementTrees, NoStatements, MoreStatements, DeclarationTree, DeclareTree, ProcedureTree, DeclarationTrees, NoDeclarations, MoreDeclarations, ModuleTree}
-use Rattle.names.specs.Environment.{Body, Names, numbered_from, into_list, body_after_block, with_procedure}
-use Rattle.names.specs.Events.{labels_of}
-use Rattle.typed_trees.specs.TypedTrees.{TypedStatements, TypedList, TypedModule}
-use Rattle.typed_trees.specs.Jumps.{LabelsOf, JumpsStayInElse, JumpsStayInStatements, JumpsStayInList, LabelsStand, ListsStandInElse, ListsStandInStatements, ListsStandInCases, ListStands, BodyIsSound, JumpsAreSound}
-use Rattle.typing.specs.Checks.{Checked}
-use Rattle.typing.specs.Expressions.{arguments}
-use Rattle.typing.specs.Blocks.{Block, Progress}
-use Rattle.typing.specs.Statements.{with_here, value, iteration, labels_before, declare_labels, without_label, places_from, list_of}
-use Rattle.typing.specs.Procedures.{open_procedure, own_block, parameter_objects, check_body, close_procedure}
-use Rattle.typing.specs.Typing.{inner_block, entered, left, kind, labelled, alone, else_part, cases, statements, declaration, declarations, module_block, at_the_beginning, typing_of}
+use Rattle.typing.proofs.Prelude.{◌≡◌, ℕ, ◌+◌, List, [], ◌∷◌, length, drop, Ok, refl, ap, subst, IfOk, All-nil, Identifier, StatementTree, LabelledStatement, StatementKindTree, NullStatement, AssignmentStatement, CallStatement, ReturnStatement, HaltStatement, GotoStatement, IfStatement, DoStatement, WhileStatement, IterateStatement, CaseStatement, ElseTree, NoElse, ElseStatement, StatementTrees, NoStatements, MoreStatements, DeclarationTree, DeclareTree, ProcedureTree, DeclarationTrees, NoDeclarations, MoreDeclarations, ModuleTree, Body, Names, numbered_from, into_list, body_after_block, with_procedure, labels_of, TypedStatements, TypedList, TypedModule, LabelsOf, JumpsStayInElse, JumpsStayInStatements, JumpsStayInList, LabelsStand, ListsStandInElse, ListsStandInStatements, ListsStandInCases, ListStands, BodyIsSound, JumpsAreSound, Checked, arguments, Block, Progress, with_here, value, iteration, labels_before, declare_labels, without_label, places_from, list_of, open_procedure, own_block, parameter_objects, check_body, close_procedure, inner_block, entered, left, kind, labelled, alone, else_part, cases, statements, declaration, declarations, module_block, at_the_beginning, typing_of}
 use Rattle.typing.proofs.Steps.{then, then_any}
 use Rattle.typing.proofs.Jumps.KnownLabels.{AreAround, none_around, around_entered}
 use Rattle.typing.proofs.Jumps.LabelPlaces.{labels_stand, list_count, jumps_after_labels, lists_after_labels, labels_differ}

@@ -1,15 +1,5 @@
 -- Which labels are known at a place: those of the lists around it.
-use Rattle.std.proofs.Common.{◌≡◌, ℕ, suc, ◌+◌, ◌<◌, ◌≤◌, List, [], ◌∷◌, length, Option, None, Some, Bool, true, false, cond, refl, arith}
-use Rattle.std.specs.Prelude.{IfSome, Any}
-use Rattle.std.specs.List.{AllByRecursion}
-use Rattle.std.specs.Map.{lookup}
-use Rattle.std.specs.Option.{option_or}
-use Rattle.std.specs.Str.{bytes_eq}
-use Rattle.trees.specs.declared.identifier.Identifier.{Identifier}
-use Rattle.names.specs.declared.entity.Entity.{Entity}
-use Rattle.names.specs.declared.entity.Entity.TheVariants.{Object, Procedure, Label, Definition}
-use Rattle.names.specs.Environment.{Names, known_in, numbered_from}
-use Rattle.typed_trees.specs.Jumps.{LabelsOf, IsAmongLabels}
+use Rattle.typing.proofs.Prelude.{◌≡◌, ℕ, suc, ◌+◌, ◌<◌, ◌≤◌, List, [], ◌∷◌, length, Option, None, Some, Bool, true, false, cond, refl, arith, IfSome, Any, AllByRecursion, lookup, option_or, bytes_eq, Identifier, Entity, Object, Procedure, Label, Definition, Names, known_in, numbered_from, LabelsOf, IsAmongLabels}
 
 -- what a name after GOTO may stand for: if it is a label, then one of a list around it
 abbrev pub IsLabelAround : List LabelsOf → Entity → Type 0

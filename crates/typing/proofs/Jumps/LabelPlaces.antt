@@ -1,34 +1,6 @@
 -- The labels of a list stand where its places say, and no two labels of a module have the same number.
-use Rattle.std.proofs.Common.{◌≡◌, ◌≢◌, ℕ, zero, suc, ◌+◌, ◌-◌, ◌≤◌, min, List, [], ◌∷◌, ◌++◌, length, take, drop, flat_map, slice_set, Option, None, Some, Ok, Err, refl, ap, sym, subst, ◌∙◌, append-nil, arith, length-append}
-use Rattle.std.specs.Prelude.{IfOk, AllPairs, is_none, nat_le, not, ◌||◌, ◌==◌}
-use Rattle.std.specs.List.{AllByRecursion}
-use Rattle.std.proofs.lemmas.List.Concat.{flat_map-append}
-use Rattle.std.proofs.lemmas.List.Elements.{All-from_recursion}
-use Rattle.std.proofs.lemmas.List.Kept.{AllPairs-cons}
-use Rattle.trees.specs.declared.declaration.ScalarType.{ScalarType}
-use Rattle.trees.specs.declared.identifier.Identifier.{Identifier}
-use Rattle.trees.specs.Trees.{ExpressionTree, ReferenceTree, IterationTree, StatementTree, LabelledStatement, StatementKindTree, NullStatement, AssignmentStatement, CallStatement, ReturnStatement, HaltStatement, GotoStatement, IfStatement, DoStatement, WhileStatement, IterateStatement, CaseStatement, ElseTree, NoElse, ElseStatement, StatementTrees, NoStatements, MoreStatements, ItemTree, ElementTree, LiterallyElement, ItemElement, HeadingTree, DeclarationTree, DeclareTree, ProcedureTree, DeclarationTrees, NoDeclarations, MoreDeclarations, ModuleTree}
-use Rattle.names.specs.declared.entity.Binding.{Binding}
-use Rattle.names.specs.declared.entity.Binding.TheVariants.{Declared, BuiltInName}
-use Rattle.names.specs.declared.entity.BuiltIn.TheVariants.{Move}
-use Rattle.names.specs.declared.entity.Entity.TheVariants.{Procedure, Label}
-use Rattle.names.specs.BuiltIns.{jump_of}
-use Rattle.names.specs.Environment.{Here, Body, into_list, into_body, after_body, with_object, with_procedure, with_parameter, with_label, is_declared_again, is_parameter_again, is_label_again}
-use Rattle.names.specs.Events.{labels_of}
-use Rattle.names.specs.Uses.{declared_by}
-use Rattle.typed_trees.specs.declared.limits.TheConstants.{OBJECT_LIMIT, FRAME_LIMIT, PARAMETER_LIMIT}
-use Rattle.typed_trees.specs.TypedTrees.{TypedArguments, NoArguments as NoTyped, MoreArguments, TypedStatement, LabelStatement, TypedStatements, MoreStatements as MoreTyped, TypedList, TypedProcedure, TypedModule, Constants}
-use Rattle.typed_trees.specs.Jumps.{LabelsOf, JumpsStayInStatements, LabelsStand, IsNoLabel, ListsStandInStatements, labels_in, labels_in_else, labels_in_statements, labels_in_list, labels_in_procedure, labels_in_module}
-use Rattle.typing.specs.declared.fault.Cause.TheVariants.{DeclaredTwice, WrongUse, MisplacedAttribute, TooLarge}
-use Rattle.typing.specs.Checks.{Checked, require}
-use Rattle.typing.specs.References.{Known, Given, line_of, count_of_given, bound, procedure_of}
-use Rattle.typing.specs.Functions.{call_arguments}
-use Rattle.typing.specs.Expressions.{expression, arguments}
-use Rattle.typing.specs.Blocks.{Owner, TheModule, OfProcedure, Block, Progress, is_external, is_reentrant, declares_parameter}
-use Rattle.typing.specs.Items.{TypedItem, declare_names, line_of_item, object_named, with_typed_object, with_objects, typed_item, size_of_item, declare_item, declare_definition, declare_element, declare_elements}
-use Rattle.typing.specs.Statements.{with_here, with_constants, value, destinations, assignment, moved, call_bound, call, return_with, return_from, goto_bound, goto, counter_bound, step, iteration, declare_labels, without_label, places_of, places_from, after_labels, list_of}
-use Rattle.typing.specs.Procedures.{declare_parameters, no_more_parameters, check_visibility, check_reentrant, parameter_types, procedure_with, empty_list, open_procedure, own_block, parameter_objects, check_body, close_procedure}
-use Rattle.typing.specs.Typing.{inner_block, entered, kind, labelled, alone, else_part, cases, statements, declaration, declarations, module_block, at_the_beginning, typing_of}
+use Rattle.typing.proofs.Prelude.{◌≡◌, ◌≢◌, ℕ, zero, suc, ◌+◌, ◌-◌, ◌≤◌, min, List, [], ◌∷◌, ◌++◌, length, take, drop, flat_map, slice_set, Option, None, Some, Ok, Err, refl, ap, sym, subst, ◌∙◌, append-nil, arith, length-append, IfOk, AllPairs, is_none, nat_le, not, ◌||◌, ◌==◌, AllByRecursion, flat_map-append, All-from_recursion, AllPairs-cons, ScalarType, Identifier, ExpressionTree, ReferenceTree, IterationTree, StatementTree, LabelledStatement, StatementKindTree, NullStatement, AssignmentStatement, CallStatement, ReturnStatement, HaltStatement, GotoStatement, IfStatement, DoStatement, WhileStatement, IterateStatement, CaseStatement, ElseTree, NoElse, ElseStatement, StatementTrees, NoStatements, MoreStatements, ItemTree, ElementTree, LiterallyElement, ItemElement, HeadingTree, DeclarationTree, DeclareTree, ProcedureTree, DeclarationTrees, NoDeclarations, MoreDeclarations, ModuleTree, Binding, Declared, BuiltInName, Move, Procedure, Label, jump_of, Here, Body, into_list, into_body, after_body, with_object, with_procedure, with_parameter, with_label, is_declared_again, is_parameter_again, is_label_again, labels_of, declared_by, OBJECT_LIMIT, FRAME_LIMIT, PARAMETER_LIMIT, TypedArguments, NoTyped, TypedStatement, LabelStatement, TypedStatements, TypedList, TypedProcedure, TypedModule, Constants, LabelsOf, JumpsStayInStatements, LabelsStand, IsNoLabel, ListsStandInStatements, labels_in, labels_in_else, labels_in_statements, labels_in_list, labels_in_procedure, labels_in_module, DeclaredTwice, WrongUse, MisplacedAttribute, TooLarge, Checked, require, Known, Given, line_of, count_of_given, bound, procedure_of, call_arguments, expression, arguments, Owner, TheModule, OfProcedure, Block, Progress, is_external, is_reentrant, declares_parameter, TypedItem, declare_names, line_of_item, object_named, with_typed_object, with_objects, typed_item, size_of_item, declare_item, declare_definition, declare_element, declare_elements, with_here, with_constants, value, destinations, assignment, moved, call_bound, call, return_with, return_from, goto_bound, goto, counter_bound, step, iteration, declare_labels, without_label, places_of, places_from, after_labels, list_of, declare_parameters, no_more_parameters, check_visibility, check_reentrant, parameter_types, procedure_with, empty_list, open_procedure, own_block, parameter_objects, check_body, close_procedure, inner_block, entered, kind, labelled, alone, else_part, cases, statements, declaration, declarations, module_block, at_the_beginning, typing_of}
+use Rattle.typed_trees.specs.TypedTrees.{MoreArguments, MoreStatements as MoreTyped}
 use Rattle.typing.proofs.Steps.{then, then_any}
 
 stand_after : (label place : ℕ) (places : List ℕ) (statement : TypedStatement) (others : TypedStatements)

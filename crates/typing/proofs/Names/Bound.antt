@@ -1,21 +1,7 @@
 -- Parts of a text that have no fault of names, or a first one, and how far the text is after them.
-use Rattle.std.proofs.Common.{◌≡◌, ◌⊎◌, ℕ, Bool, true, false, List, [], ◌∷◌, ◌++◌, Option, None, Some, Ok, append_assoc, inl, inr, refl, sym, ap, subst, ◌∙◌}
-use Rattle.std.specs.Prelude.{Contains, not}
-use Rattle.std.proofs.lemmas.List.Elements.{Contains-append_left, Contains-append_right}
-use Rattle.std.specs.Option.{option_or}
-use Rattle.trees.specs.declared.identifier.Identifier.{Identifier}
-use Rattle.names.specs.declared.entity.Binding.{Binding}
+use Rattle.typing.proofs.Prelude.{◌≡◌, ◌⊎◌, ℕ, Bool, true, false, List, [], ◌∷◌, ◌++◌, Option, None, Some, Ok, append_assoc, inl, inr, refl, sym, ap, subst, ◌∙◌, Contains, not, Contains-append_left, Contains-append_right, option_or, Identifier, Binding, Here, binding_of, Event, Use, Declaration, Seen, nothing, in_turn, moves, see_all, uses_at, declares, fault_of, first_fault, UnknownName, DeclaredTwice, Fault, Checked, ◌>>=◌, require, found, Known, bound, line_of, as_refusal}
 use Rattle.names.specs.declared.fault.Fault as name_fault
 use Rattle.names.specs.declared.fault.Fault.TheVariants as name_faults
-use Rattle.names.specs.Environment.{Here}
-use Rattle.names.specs.BuiltIns.{binding_of}
-use Rattle.names.specs.Events.{Event, Use, Declaration, Seen, nothing, in_turn, moves, see_all, uses_at, declares}
-use Rattle.names.specs.Binding.{fault_of, first_fault}
-use Rattle.typing.specs.declared.fault.Cause.TheVariants.{UnknownName, DeclaredTwice}
-use Rattle.typing.specs.declared.fault.Fault.{Fault}
-use Rattle.typing.specs.Checks.{Checked, ◌>>=◌, require, found}
-use Rattle.typing.specs.References.{Known, bound, line_of}
-use Rattle.typing.specs.NameFaults.{as_refusal}
 use Rattle.typing.proofs.Names.Meeting.{Meets, Joins, Never, meets_ok, meets_then, meets_more, meets_as, after_other, before_other}
 
 -- events without a fault

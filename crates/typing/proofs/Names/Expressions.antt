@@ -1,31 +1,9 @@
 -- The names in expressions are known where these are typed, and where they are not typed for a name, one is to blame.
-use Rattle.std.specs.Prelude.{nat_le}
-use Rattle.std.proofs.Common.{◌≡◌, ◌==◌, ℕ, List, [], ◌∷◌, ◌++◌, length, Option, None, Some, inl, inr, refl, sym, subst, append-nil, arith}
-use Rattle.std.proofs.lemmas.List.Elements.{Contains-append_right}
-use Rattle.trees.specs.declared.identifier.Identifier.{Identifier}
-use Rattle.trees.specs.Trees.{NumberConstant, StringConstant, ExpressionTree, ConstantLeaf, ReferenceLeaf, LocationLeaf, ListLeaf, ParenthesizedNode, AssignmentNode, UnaryNode, BinaryNode, ReferenceTree, ReferenceTo, MemberTree, NoMember, MemberOf, ArgumentTrees, NoArguments, MoreArguments}
-use Rattle.names.specs.declared.entity.Binding.{Binding}
-use Rattle.names.specs.declared.entity.Binding.TheVariants.{Declared, BuiltInName}
-use Rattle.names.specs.declared.entity.BuiltIn.{BuiltIn}
+use Rattle.typing.proofs.Prelude.{nat_le, ◌≡◌, ◌==◌, ℕ, List, [], ◌∷◌, ◌++◌, length, Option, None, Some, inl, inr, refl, sym, subst, append-nil, arith, Contains-append_right, Identifier, NumberConstant, StringConstant, ExpressionTree, ConstantLeaf, ReferenceLeaf, LocationLeaf, ListLeaf, ParenthesizedNode, AssignmentNode, UnaryNode, BinaryNode, ReferenceTree, ReferenceTo, MemberTree, NoMember, MemberOf, ArgumentTrees, NoArguments, MoreArguments, Binding, Declared, BuiltInName, BuiltIn, Object, Procedure, Here, names_in_expression, names_in_reference, names_in_member, names_in_arguments, Measure, ShiftFunction, UnaryFunction, Subscript, ObjectType, TypedObject, TypedProcedure, Constants, member_named, size_of_element, UnknownName, WrongUse, WrongConstant, NoLocation, Checked, ◌>>=◌, found, Known, Given, count_of_given, takes_subscripts, members_of, has_location, subscript_of, GivenMember, WithoutMember, WithMember, GivenReference, Extent, AnElement, AlsoTheWhole, line_of, bound, part_with_member, part_of, scalar_part, location_of_bound, location_of, port_of_character, port_of, without_member, destination_of_bound, destination_of, call_arguments, call_of, measured_object, measured_member, measurement, number_of_variable, unary_function, shift_function, input_value, built_in_value, value_of_bound, value_of, expression, given_reference, given_member, arguments, Fault, members_in_expression, members_in_reference, members_in_member, members_in_arguments, unknown_member}
 use Rattle.names.specs.declared.entity.BuiltIn.TheVariants as built_ins
-use Rattle.names.specs.declared.entity.Entity.TheVariants.{Object, Procedure}
-use Rattle.names.specs.Environment.{Here}
-use Rattle.names.specs.Uses.{names_in_expression, names_in_reference, names_in_member, names_in_arguments}
-use Rattle.typed_trees.specs.declared.parts.Measure.{Measure}
 use Rattle.typed_trees.specs.declared.parts.Measure.TheVariants as measures
-use Rattle.typed_trees.specs.declared.parts.ShiftFunction.{ShiftFunction}
 use Rattle.typed_trees.specs.declared.parts.ShiftFunction.TheVariants as shifts
-use Rattle.typed_trees.specs.declared.parts.UnaryFunction.{UnaryFunction}
 use Rattle.typed_trees.specs.declared.parts.UnaryFunction.TheVariants as functions
-use Rattle.typed_trees.specs.TypedTrees.{Subscript, ObjectType, TypedObject, TypedProcedure, Constants}
-use Rattle.typed_trees.specs.Sizes.{member_named, size_of_element}
-use Rattle.typing.specs.declared.fault.Cause.TheVariants.{UnknownName, WrongUse, WrongConstant, NoLocation}
-use Rattle.typing.specs.Checks.{Checked, ◌>>=◌, found}
-use Rattle.typing.specs.References.{Known, Given, count_of_given, takes_subscripts, members_of, has_location, subscript_of, GivenMember, WithoutMember, WithMember, GivenReference, Extent, AnElement, AlsoTheWhole, line_of, bound, part_with_member, part_of, scalar_part, location_of_bound, location_of, port_of_character, port_of, without_member, destination_of_bound, destination_of}
-use Rattle.typing.specs.Functions.{call_arguments, call_of, measured_object, measured_member, measurement, number_of_variable, unary_function, shift_function, input_value, built_in_value, value_of_bound, value_of}
-use Rattle.typing.specs.Expressions.{expression, given_reference, given_member, arguments}
-use Rattle.typing.specs.declared.fault.Fault.{Fault}
-use Rattle.typing.specs.Members.{members_in_expression, members_in_reference, members_in_member, members_in_arguments, unknown_member}
 use Rattle.typing.proofs.Names.Meeting.{Joins, IsOther, meets_ok, meets_fault, meets_then, meets_as, after_other, before_other, other_required, other_found}
 use Rattle.typing.proofs.Names.Others.{not_of_names, number-other, object-other, procedure-other, writable-other, measure-other, function-other, shift-other}
 use Rattle.typing.proofs.Names.Bound.{AreKnown, IsUnknown, Finds, names_join, bound-finds}

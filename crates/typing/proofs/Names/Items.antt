@@ -1,28 +1,5 @@
 -- The names in items are known where these are typed, and where they are not typed for a name, one is to blame.
-use Rattle.std.proofs.Common.{◌≡◌, ℕ, Bool, true, false, inl, inr, sym, subst, append-nil, append_assoc, arith, List, [], ◌∷◌, ◌++◌, Option, None, Some}
-use Rattle.std.specs.Prelude.{not, ◌&&◌, is_none}
-use Rattle.std.specs.List.{flat_map}
-use Rattle.std.proofs.lemmas.List.Elements.{Contains-append_right}
-use Rattle.trees.specs.declared.declaration.ScalarType.{ScalarType}
-use Rattle.trees.specs.declared.identifier.Identifier.{Identifier}
-use Rattle.trees.specs.Trees.{NumberConstant, StringConstant, OriginTree, ConstantOrigin, LocationOrigin, OffsetTree, RestrictedTree, SubjectTree, SingleSubject, GroupSubject, AtTree, ValueListTree, ItemTree}
-use Rattle.names.specs.Environment.{Here}
-use Rattle.names.specs.Uses.{names_in_restricted, names_in_subject, names_in_optional, names_in_item}
-use Rattle.typed_trees.specs.TypedTrees.{ObjectType}
-use Rattle.typing.specs.References.{Known, line_of}
-use Rattle.typing.specs.Blocks.{Block}
-use Rattle.typing.specs.Filling.{Reach, ThisModule, OtherModulesToo, Extents, NoArray, Elements, AsListed, restricted_value, at_address, fill_value, fill, contents, enough_elements, line_of_origin}
-use Rattle.typed_trees.specs.Sizes.{scalars_of_element, scalars_of_elements}
-use Rattle.typing.specs.Items.{names_parameter, is_base, base_of, typed_base, typed_type, is_plain, typed_at, typed_contents, typed_item}
-use Rattle.trees.specs.declared.declaration.Member.{Member}
-use Rattle.trees.specs.Trees.{ItemTypeTree, ScalarItem, StructureItem}
-use Rattle.typed_trees.specs.declared.parts.TypedMember.{TypedMember}
-use Rattle.typed_trees.specs.Sizes.{has_member}
-use Rattle.typing.specs.declared.fault.Cause.TheVariants.{DeclaredTwice, WrongUse, MisplacedAttribute}
-use Rattle.typing.specs.declared.fault.Fault.{Fault}
-use Rattle.typing.specs.Checks.{Checked, ◌>>=◌, require}
-use Rattle.typing.specs.Items.{line_of_item, place_of_storage, typed_members}
-use Rattle.typing.specs.Members.{members_in_type, twice_declared}
+use Rattle.typing.proofs.Prelude.{◌≡◌, ℕ, Bool, true, false, inl, inr, sym, subst, append-nil, append_assoc, arith, List, [], ◌∷◌, ◌++◌, Option, None, Some, not, ◌&&◌, is_none, flat_map, Contains-append_right, ScalarType, Identifier, NumberConstant, StringConstant, OriginTree, ConstantOrigin, LocationOrigin, OffsetTree, RestrictedTree, SubjectTree, SingleSubject, GroupSubject, AtTree, ValueListTree, ItemTree, Here, names_in_restricted, names_in_subject, names_in_optional, names_in_item, ObjectType, Known, line_of, Block, Reach, ThisModule, OtherModulesToo, Extents, NoArray, Elements, AsListed, restricted_value, at_address, fill_value, fill, contents, enough_elements, line_of_origin, scalars_of_element, scalars_of_elements, names_parameter, is_base, base_of, typed_base, typed_type, is_plain, typed_at, typed_contents, typed_item, Member, ItemTypeTree, ScalarItem, StructureItem, TypedMember, has_member, DeclaredTwice, WrongUse, MisplacedAttribute, Fault, Checked, ◌>>=◌, require, line_of_item, place_of_storage, typed_members, members_in_type, twice_declared}
 use Rattle.typing.proofs.Names.Meeting.{Meets, meets_ok, meets_then, meets_as, after_other, before_other, other_required}
 use Rattle.typing.proofs.Names.Others.{not_of_names, constant-other, offsets-other, object-other, static-other, scalar-other, string-other, as_listed-other, bound-other, extents-other, dimension-other, linkage-other}
 use Rattle.typing.proofs.Names.Bound.{IsUnknown, Finds, names_join, bound-finds}

@@ -1,39 +1,6 @@
 -- Checks of which no name is a cause.
-use Rattle.std.proofs.Common.{ℕ, List, [], ◌∷◌, Option, Some, None}
-use Rattle.std.specs.Prelude.{nat_le, nat_lt, not, ◌&&◌, is_none, is_some, slice_get}
-use Rattle.trees.specs.declared.declaration.Dimension.{Dimension}
-use Rattle.trees.specs.declared.declaration.Dimension.TheVariants.{Count, Implied}
-use Rattle.trees.specs.declared.declaration.Linkage.{Linkage}
-use Rattle.trees.specs.declared.declaration.ScalarType.{ScalarType}
-use Rattle.trees.specs.declared.declaration.ScalarType.TheVariants.{Byte, Address}
-use Rattle.trees.specs.declared.identifier.Identifier.{Identifier}
-use Rattle.trees.specs.declared.identifier.Number.{Number}
-use Rattle.trees.specs.declared.identifier.Place.{Place}
-use Rattle.trees.specs.Trees.{ConstantTree, NumberConstant, StringConstant, StringTree, OffsetTree, ItemTree, HeadingTree, StatementTrees, NoStatements, MoreStatements}
-use Rattle.names.specs.declared.entity.Binding.{Binding}
-use Rattle.names.specs.declared.entity.Binding.TheVariants.{Declared}
-use Rattle.names.specs.declared.entity.Entity.{Entity}
-use Rattle.names.specs.declared.entity.Entity.TheVariants.{Object, Procedure, Label}
-use Rattle.names.specs.Environment.{Here}
-use Rattle.std.specs.Map.{lookup}
-use Rattle.std.specs.Str.{bytes_eq}
-use Rattle.typed_trees.specs.declared.limits.TheConstants.{FRAME_LIMIT}
-use Rattle.typed_trees.specs.declared.parts.InitialValue.{InitialValue}
-use Rattle.typed_trees.specs.declared.parts.Measure.{Measure}
+use Rattle.typing.proofs.Prelude.{ℕ, List, [], ◌∷◌, Option, Some, None, nat_le, nat_lt, not, ◌&&◌, is_none, is_some, slice_get, Dimension, Count, Implied, Linkage, ScalarType, Byte, Address, Identifier, Number, Place, ConstantTree, NumberConstant, StringConstant, StringTree, OffsetTree, ItemTree, HeadingTree, StatementTrees, NoStatements, MoreStatements, Binding, Declared, Entity, Object, Procedure, Label, Here, lookup, bytes_eq, FRAME_LIMIT, InitialValue, Measure, ShiftFunction, UnaryFunction, TypedArguments, NoTyped, MoreTyped, Home, BasedOn, Elsewhere, Nowhere, InFrame, TypedObject, WrongUse, MisplacedAttribute, WrongConstant, ConstantWritten, NoLocation, TooLarge, NoLabel, moved_by, number_of_characters, number_of_constant, with_offsets, number_node, Known, line_of, object_of, procedure_of, is_constant, is_writable, scalar_of, Measured, measure_of, function_of, shift_of, Reach, ThisModule, OtherModulesToo, RestrictedValue, ANumber, FromObject, with_address, static_bound, fill_scalar, fill_characters, fill_string, contents_as_listed, object_bound, names_parameter, is_group, line_of_item, extents_of, member_dimension, check_linkage, is_not_based, TypedItem, object_named, with_typed_object, with_objects, base_of, Block, Progress, line_of_linkage, is_module_level, is_external_linkage, moved, goto_bound, counter_bound, line_of_statement, check_visibility, check_reentrant, parameter_object, parameter_objects, check_body}
 use Rattle.typed_trees.specs.declared.parts.Measure.TheVariants as measures
-use Rattle.typed_trees.specs.declared.parts.ShiftFunction.{ShiftFunction}
-use Rattle.typed_trees.specs.declared.parts.UnaryFunction.{UnaryFunction}
-use Rattle.typed_trees.specs.TypedTrees.{TypedArguments, NoArguments as NoTyped, MoreArguments as MoreTyped, Home, BasedOn, Elsewhere, Nowhere, InFrame, TypedObject}
-use Rattle.typing.specs.declared.fault.Cause.TheVariants.{WrongUse, MisplacedAttribute, WrongConstant, ConstantWritten, NoLocation, TooLarge, UnknownLabel as NoLabel}
-use Rattle.typing.specs.Constants.{moved_by, number_of_characters, number_of_constant, with_offsets}
-use Rattle.typing.specs.Expressions.{number_node}
-use Rattle.typing.specs.References.{Known, line_of, object_of, procedure_of, is_constant, is_writable, scalar_of}
-use Rattle.typing.specs.Functions.{Measured, measure_of, function_of, shift_of}
-use Rattle.typing.specs.Filling.{Reach, ThisModule, OtherModulesToo, RestrictedValue, ANumber, FromObject, with_address, static_bound, fill_scalar, fill_characters, fill_string, contents_as_listed}
-use Rattle.typing.specs.Items.{object_bound, names_parameter, is_group, line_of_item, extents_of, member_dimension, check_linkage, is_not_based, TypedItem, object_named, with_typed_object, with_objects, base_of}
-use Rattle.typing.specs.Blocks.{Block, Progress, line_of_linkage, is_module_level, is_external_linkage}
-use Rattle.typing.specs.Statements.{moved, goto_bound, counter_bound, line_of_statement}
-use Rattle.typing.specs.Procedures.{check_visibility, check_reentrant, parameter_object, parameter_objects, check_body}
 use Rattle.typing.proofs.Names.Meeting.{IsOther, meets_ok, meets_fault, after_other, other_required, other_found}
 
 -- that a cause is none of names is seen at once

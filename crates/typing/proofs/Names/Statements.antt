@@ -1,27 +1,5 @@
 -- What statements need beside the statements in them: their names are known, or one is to blame.
-use Rattle.std.proofs.Common.{◌≡◌, ◌==◌, ℕ, List, [], ◌∷◌, ◌++◌, Option, None, Some, refl, sym, subst, append_assoc}
-use Rattle.std.specs.Prelude.{is_none}
-use Rattle.std.specs.List.{flat_map}
-use Rattle.std.specs.Option.{option_map_or}
-use Rattle.trees.specs.declared.declaration.ScalarType.{ScalarType}
-use Rattle.trees.specs.declared.identifier.Identifier.{Identifier}
-use Rattle.trees.specs.Trees.{ExpressionTree, ReferenceTree, ArgumentTrees, IterationTree}
-use Rattle.names.specs.declared.entity.Binding.{Binding}
-use Rattle.names.specs.declared.entity.Binding.TheVariants.{Declared, BuiltInName}
-use Rattle.names.specs.declared.entity.BuiltIn.TheVariants.{Move}
-use Rattle.names.specs.declared.entity.Entity.TheVariants.{Procedure}
-use Rattle.names.specs.Environment.{Here}
-use Rattle.names.specs.BuiltIns.{jump_of}
-use Rattle.names.specs.Events.{uses_of, jumps_to}
-use Rattle.names.specs.Uses.{names_in_expression, names_in_reference, names_in_arguments, names_in_optional, names_in_iteration}
-use Rattle.typed_trees.specs.TypedTrees.{TypedStatement, Constants}
-use Rattle.typing.specs.References.{Known, line_of, count_of_given}
-use Rattle.typing.specs.Blocks.{Owner, TheModule, OfProcedure, Progress}
-use Rattle.typing.specs.Statements.{value, with_constants, destinations, assignment, call_bound, call, return_with, return_from, goto, step, iteration}
-use Rattle.typing.specs.declared.fault.Cause.TheVariants.{WrongUse}
-use Rattle.typing.specs.declared.fault.Fault.{Fault}
-use Rattle.typing.specs.Checks.{Checked}
-use Rattle.typing.specs.Members.{members_in_expression, members_in_reference, members_in_arguments, members_in_iteration}
+use Rattle.typing.proofs.Prelude.{◌≡◌, ◌==◌, ℕ, List, [], ◌∷◌, ◌++◌, Option, None, Some, refl, sym, subst, append_assoc, is_none, flat_map, option_map_or, ScalarType, Identifier, ExpressionTree, ReferenceTree, ArgumentTrees, IterationTree, Binding, Declared, BuiltInName, Move, Procedure, Here, jump_of, uses_of, jumps_to, names_in_expression, names_in_reference, names_in_arguments, names_in_optional, names_in_iteration, TypedStatement, Constants, Known, line_of, count_of_given, Owner, TheModule, OfProcedure, Progress, value, with_constants, destinations, assignment, call_bound, call, return_with, return_from, goto, step, iteration, WrongUse, Fault, Checked, members_in_expression, members_in_reference, members_in_arguments, members_in_iteration}
 use Rattle.typing.proofs.Names.Meeting.{Meets, meets_ok, meets_fault, meets_then, after_other, before_other, other_required}
 use Rattle.typing.proofs.Names.Others.{not_of_names, procedure-other, moved-other, goto-other, counter-other}
 use Rattle.typing.proofs.Names.Bound.{AreKnown, IsUnknown, Walks, names_join, bound-finds}

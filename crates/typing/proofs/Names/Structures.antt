@@ -1,10 +1,5 @@
 -- The members that a structure declares are no members that are used: for none of them a name is unknown.
-use Rattle.std.proofs.Common.{◌≡◌, ℕ, zero, suc, ◌<◌, List, [], ◌∷◌, length, map, Contains, slice_index_or, arith}
-use Rattle.trees.specs.declared.declaration.Member.{Member}
-use Rattle.trees.specs.Trees.{StructureItem}
-use Rattle.typing.specs.declared.fault.Cause.TheVariants.{UnknownName}
-use Rattle.typing.specs.declared.fault.Fault.{Fault}
-use Rattle.typing.specs.Members.{members_in_type, twice_declared}
+use Rattle.typing.proofs.Prelude.{◌≡◌, ℕ, zero, suc, ◌<◌, List, [], ◌∷◌, length, map, Contains, slice_index_or, arith, Member, StructureItem, UnknownName, Fault, members_in_type, twice_declared}
 
 none_unknown :
     (members : List Member) (refusal : Fault) (index : ℕ)

@@ -1,17 +1,5 @@
 -- At its end a procedure takes its place in the table with its parameters.
-use Rattle.std.proofs.Common.{◌≡◌, ℕ, zero, suc, ◌+◌, ◌<◌, ◌≤◌, ◌⊎◌, inl, inr, List, [], ◌∷◌, ◌++◌, length, Option, Some, None, unwrap_or, refl, ap, sym, subst, ◌∙◌, append_assoc, length-append, arith}
-use Rattle.std.specs.Prelude.{slice_get, slice_set}
-use Rattle.std.specs.List.{AllByRecursion, enumerate_from}
-use Rattle.std.specs.Map.{lookup}
-use Rattle.std.specs.Str.{bytes_eq}
-use Rattle.std.proofs.lemmas.Option.{none-some}
-use Rattle.trees.specs.Trees.{DeclarationTrees, HeadingTree}
-use Rattle.names.specs.declared.entity.Entity.TheVariants.{Object, Procedure}
-use Rattle.names.specs.Environment.{Body, Here, Names, after_body, out_of_body, with_procedure}
-use Rattle.typed_trees.specs.Frames.{HasParameters}
-use Rattle.typed_trees.specs.TypedTrees.{TypedList, TypedModule, TypedObject, TypedProcedure}
-use Rattle.typing.specs.Blocks.{Block, OfProcedure, Owner, Progress, TheModule}
-use Rattle.typing.specs.Procedures.{close_procedure, own_block, parameter_types, procedure_with, scalar_in_block}
+use Rattle.typing.proofs.Prelude.{◌≡◌, ℕ, zero, suc, ◌+◌, ◌<◌, ◌≤◌, ◌⊎◌, inl, inr, List, [], ◌∷◌, ◌++◌, length, Option, Some, None, unwrap_or, refl, ap, sym, subst, ◌∙◌, append_assoc, length-append, arith, slice_get, slice_set, AllByRecursion, enumerate_from, lookup, bytes_eq, none-some, DeclarationTrees, HeadingTree, Object, Procedure, Body, Here, Names, after_body, out_of_body, with_procedure, HasParameters, TypedList, TypedModule, TypedObject, TypedProcedure, Block, OfProcedure, Owner, Progress, TheModule, close_procedure, own_block, parameter_types, procedure_with, scalar_in_block}
 use Rattle.typing.proofs.Types.TypesOfDeclarations.{heading_procedure}
 use Rattle.typing.proofs.Types.TypesWalked.{closed_table}
 use Rattle.typing.proofs.Parameters.Elements.{GoesOn, may_below}

@@ -1,22 +1,5 @@
 -- DECLARE in a block: what its elements add to the tables and, where the block is that of a procedure, to its names.
-use Rattle.std.proofs.Common.{◌≡◌, ℕ, ◌+◌, ◌<◌, inr, Bool, true, false, ◌||◌, List, [], ◌∷◌, ◌++◌, length, Option, Some, None, Ok, nat_le, refl, ap, sym, subst, ◌∙◌, append-nil, arith}
-use Rattle.std.specs.Prelude.{not}
-use Rattle.std.specs.List.{AllByRecursion, list_any}
-use Rattle.std.specs.Option.{option_or}
-use Rattle.trees.specs.declared.declaration.ScalarType.{ScalarType}
-use Rattle.trees.specs.declared.identifier.Identifier.{Identifier}
-use Rattle.trees.specs.Trees.{ElementTree, ItemElement, ItemTree, LiterallyElement}
-use Rattle.names.specs.declared.entity.Entity.TheVariants.{Definition}
-use Rattle.names.specs.Environment.{is_declared_again, with_definition}
-use Rattle.names.specs.Uses.{declared_by}
-use Rattle.typed_trees.specs.declared.limits.TheConstants.{OBJECT_LIMIT}
-use Rattle.typed_trees.specs.TypedTrees.{InFrame, TypedObject}
-use Rattle.typing.specs.declared.fault.Cause.TheVariants.{DeclaredTwice, MisplacedAttribute, TooLarge}
-use Rattle.typing.specs.Checks.{require}
-use Rattle.typing.specs.Blocks.{Block, OfProcedure, Owner, Progress, TheModule, declares_parameter, is_external}
-use Rattle.typing.specs.Items.{TypedItem, declare_definition, declare_element, declare_elements, declare_item, declare_names, line_of_item, names_parameter, object_named, size_of_item, typed_item, with_objects}
-use Rattle.typing.specs.Procedures.{scalar_in_element, scalar_in_elements, scalar_of_type}
-use Rattle.typing.specs.References.{Known, line_of}
+use Rattle.typing.proofs.Prelude.{◌≡◌, ℕ, ◌+◌, ◌<◌, inr, Bool, true, false, ◌||◌, List, [], ◌∷◌, ◌++◌, length, Option, Some, None, Ok, nat_le, refl, ap, sym, subst, ◌∙◌, append-nil, arith, not, AllByRecursion, list_any, option_or, ScalarType, Identifier, ElementTree, ItemElement, ItemTree, LiterallyElement, Definition, is_declared_again, with_definition, declared_by, OBJECT_LIMIT, InFrame, TypedObject, DeclaredTwice, MisplacedAttribute, TooLarge, require, Block, OfProcedure, Owner, Progress, TheModule, declares_parameter, is_external, TypedItem, declare_definition, declare_element, declare_elements, declare_item, declare_names, line_of_item, names_parameter, object_named, size_of_item, typed_item, with_objects, scalar_in_element, scalar_in_elements, scalar_of_type, Known, line_of}
 use Rattle.typing.proofs.Types.FramesSummed.{HomeFits, typed_item_home}
 use Rattle.typing.proofs.Kept.{Gives, anything, gives_after, gives_ok, in_turn, required, then_more}
 use Rattle.typing.proofs.Types.TypesOfDeclarations.{made, with_objects-make}

@@ -1,10 +1,6 @@
 -- What typing a part of a text adds to the tables: objects, of which parameters in frames are those of procedures of the
 -- part or of the one that the part declares them for, and procedures, whose parameters fit every table that goes on so.
-use Rattle.std.proofs.Common.{◌≡◌, ℕ, ◌+◌, ◌<◌, ◌≤◌, ◌⊎◌, inl, inr, true, List, [], ◌∷◌, ◌++◌, length, ap, sym, subst, ◌∙◌, append-nil, append_assoc, length-append, arith}
-use Rattle.std.specs.List.{AllByRecursion, enumerate_from}
-use Rattle.typed_trees.specs.Frames.{HasParameters}
-use Rattle.typed_trees.specs.TypedTrees.{InFrame, TypedObject, TypedProcedure, TypedModule}
-use Rattle.typing.specs.Blocks.{OfProcedure, Owner, Progress, TheModule}
+use Rattle.typing.proofs.Prelude.{◌≡◌, ℕ, ◌+◌, ◌<◌, ◌≤◌, ◌⊎◌, inl, inr, true, List, [], ◌∷◌, ◌++◌, length, ap, sym, subst, ◌∙◌, append-nil, append_assoc, length-append, arith, AllByRecursion, enumerate_from, HasParameters, InFrame, TypedObject, TypedProcedure, TypedModule, OfProcedure, Owner, Progress, TheModule}
 
 -- a parameter in the frames of a procedure
 abbrev pub IsParameterOf : (number : ℕ) → TypedObject → Type 0

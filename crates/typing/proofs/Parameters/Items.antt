@@ -1,31 +1,6 @@
 -- What a DECLARE adds: objects, of which those that are named as parameters are scalars of the types that the text says.
-use Rattle.std.proofs.Common.{◌≡◌, ℕ, Bool, true, false, ◌&&◌, ◌||◌, List, [], ◌∷◌, ◌++◌, length, map, Option, Some, None, if◌then◌else◌, nat_le, refl, ap, sym, subst, ◌∙◌, append-nil, append_assoc, length-append, arith}
-use Rattle.std.specs.Prelude.{is_none, is_some, not, slice_get}
-use Rattle.std.specs.List.{AllByRecursion}
-use Rattle.std.specs.Map.{lookup}
-use Rattle.std.specs.Option.{option_or}
-use Rattle.std.specs.Str.{bytes_eq}
-use Rattle.indexmap.specs.IndexMap.{insert_entry}
-use Rattle.trees.specs.declared.declaration.Dimension.{Dimension}
-use Rattle.trees.specs.declared.declaration.Dimension.TheVariants.{Count, Implied}
-use Rattle.trees.specs.declared.declaration.Linkage.{Linkage}
+use Rattle.typing.proofs.Prelude.{◌≡◌, ℕ, Bool, true, false, ◌&&◌, ◌||◌, List, [], ◌∷◌, ◌++◌, length, map, Option, Some, None, if◌then◌else◌, nat_le, refl, ap, sym, subst, ◌∙◌, append-nil, append_assoc, length-append, arith, is_none, is_some, not, slice_get, AllByRecursion, lookup, option_or, bytes_eq, insert_entry, Dimension, Count, Implied, Linkage, ScalarType, Identifier, AtTree, HeadingTree, ItemTree, ItemTypeTree, ScalarItem, StructureItem, ValueListTree, Entity, Object, Here, Names, is_among, is_declared_again, with_object, AtAddress, home_of_parameters, Elsewhere, Home, InData, InFrame, Nowhere, ObjectType, ScalarObject, TypedObject, DeclaredTwice, MisplacedAttribute, WrongConstant, WrongUse, require, Block, OfProcedure, Owner, TheModule, declares_parameter, is_external, is_external_linkage, Contents, Extents, NoArray, TypedItem, base_of, check_linkage, declare_names, extents_of, home_in, home_of, home_with_values, is_data, is_plain, line_of_item, names_parameter, object_named, typed_at, typed_base, typed_contents, typed_item, typed_type, scalar_of_type, visibility_of, Known, line_of}
 use Rattle.trees.specs.declared.declaration.Linkage.TheVariants as linkages
-use Rattle.trees.specs.declared.declaration.ScalarType.{ScalarType}
-use Rattle.trees.specs.declared.identifier.Identifier.{Identifier}
-use Rattle.trees.specs.Trees.{AtTree, HeadingTree, ItemTree, ItemTypeTree, ScalarItem, StructureItem, ValueListTree}
-use Rattle.names.specs.declared.entity.Entity.{Entity}
-use Rattle.names.specs.declared.entity.Entity.TheVariants.{Object}
-use Rattle.names.specs.Environment.{Here, Names, is_among, is_declared_again, with_object}
-use Rattle.typed_trees.specs.declared.parts.AtAddress.{AtAddress}
-use Rattle.typed_trees.specs.Frames.{home_of_parameters}
-use Rattle.typed_trees.specs.TypedTrees.{Elsewhere, Home, InData, InFrame, Nowhere, ObjectType, ScalarObject, TypedObject}
-use Rattle.typing.specs.declared.fault.Cause.TheVariants.{DeclaredTwice, MisplacedAttribute, WrongConstant, WrongUse}
-use Rattle.typing.specs.Checks.{require}
-use Rattle.typing.specs.Blocks.{Block, OfProcedure, Owner, TheModule, declares_parameter, is_external, is_external_linkage}
-use Rattle.typing.specs.Filling.{Contents, Extents, NoArray}
-use Rattle.typing.specs.Items.{TypedItem, base_of, check_linkage, declare_names, extents_of, home_in, home_of, home_with_values, is_data, is_plain, line_of_item, names_parameter, object_named, typed_at, typed_base, typed_contents, typed_item, typed_type}
-use Rattle.typing.specs.Procedures.{scalar_of_type, visibility_of}
-use Rattle.typing.specs.References.{Known, line_of}
 use Rattle.typing.proofs.Kept.{Gives, gives_after, gives_ok, in_turn, required, then_more}
 use Rattle.typing.proofs.Types.TypesOfDeclarations.{made}
 use Rattle.typing.proofs.Parameters.Grown.{IsParameterOf}

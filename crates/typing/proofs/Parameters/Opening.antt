@@ -1,18 +1,5 @@
 -- Headings of procedures: where their bodies begin, and what is known of their parameters there.
-use Rattle.std.proofs.Common.{◌≡◌, ℕ, zero, suc, ◌≤◌, Bool, true, false, ◌||◌, List, [], ◌∷◌, ◌++◌, length, take, drop, refl, ap, sym, subst, ◌∙◌, arith}
-use Rattle.std.specs.Prelude.{if◌then◌else◌, not}
-use Rattle.std.specs.List.{AllByRecursion}
-use Rattle.std.specs.Str.{bytes_eq}
-use Rattle.indexmap.specs.IndexSet.{insert_key}
-use Rattle.trees.specs.declared.identifier.Identifier.{Identifier}
-use Rattle.trees.specs.Trees.{DeclarationTrees, HeadingTree}
-use Rattle.names.specs.Environment.{Here, into_body, is_among, is_declared_again, is_parameter_again, with_parameter, with_procedure}
-use Rattle.typed_trees.specs.declared.limits.TheConstants.{PARAMETER_LIMIT}
-use Rattle.typing.specs.declared.fault.Cause.TheVariants.{DeclaredTwice}
-use Rattle.typing.specs.Checks.{require}
-use Rattle.typing.specs.Blocks.{Block, Progress, is_external, is_reentrant}
-use Rattle.typing.specs.Procedures.{check_reentrant, check_visibility, declare_parameters, no_more_parameters, open_procedure}
-use Rattle.typing.specs.References.{line_of}
+use Rattle.typing.proofs.Prelude.{◌≡◌, ℕ, zero, suc, ◌≤◌, Bool, true, false, ◌||◌, List, [], ◌∷◌, ◌++◌, length, take, drop, refl, ap, sym, subst, ◌∙◌, arith, if◌then◌else◌, not, AllByRecursion, bytes_eq, insert_key, Identifier, DeclarationTrees, HeadingTree, Here, into_body, is_among, is_declared_again, is_parameter_again, with_parameter, with_procedure, PARAMETER_LIMIT, DeclaredTwice, require, Block, Progress, is_external, is_reentrant, check_reentrant, check_visibility, declare_parameters, no_more_parameters, open_procedure, line_of}
 use Rattle.typing.proofs.Kept.{Gives, gives_after, gives_fault, gives_ok, in_turn, required, then_more}
 use Rattle.typing.proofs.Types.TypesOfDeclarations.{heading_procedure}
 use Rattle.typing.proofs.Parameters.Grown.{all_more}

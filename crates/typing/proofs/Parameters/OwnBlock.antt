@@ -1,23 +1,6 @@
 -- The block of a procedure as far as it is declared: its parameters are objects of the types that the text says, and no
 -- other object is a parameter in its frames.
-use Rattle.std.proofs.Common.{◌≡◌, ℕ, zero, suc, ◌+◌, Bool, true, false, List, [], ◌∷◌, ◌++◌, length, map, Option, Some, None, if◌then◌else◌, unwrap_or, refl, ap, sym, subst, ◌∙◌, arith}
-use Rattle.std.specs.Prelude.{slice_get, is_some}
-use Rattle.std.specs.Map.{lookup}
-use Rattle.std.specs.Option.{option_or}
-use Rattle.std.specs.Str.{bytes_eq}
-use Rattle.std.proofs.lemmas.Option.{none-some}
-use Rattle.std.proofs.lemmas.Slice.Eq.{bytes_eq-Decides}
-use Rattle.trees.specs.declared.declaration.ScalarType.{ScalarType}
-use Rattle.trees.specs.declared.identifier.Identifier.{Identifier}
-use Rattle.trees.specs.Trees.{HeadingTree}
-use Rattle.indexmap.specs.IndexMap.{insert_entry}
-use Rattle.names.specs.declared.entity.Entity.{Entity}
-use Rattle.names.specs.declared.entity.Entity.TheVariants.{Object, Procedure, Label, Definition}
-use Rattle.names.specs.Environment.{Names, is_among}
-use Rattle.typed_trees.specs.Frames.{home_of_parameters}
-use Rattle.typed_trees.specs.ObjectParts.{IsScalar}
-use Rattle.typed_trees.specs.TypedTrees.{TypedObject}
-use Rattle.typing.specs.Procedures.{visibility_of}
+use Rattle.typing.proofs.Prelude.{◌≡◌, ℕ, zero, suc, ◌+◌, Bool, true, false, List, [], ◌∷◌, ◌++◌, length, map, Option, Some, None, if◌then◌else◌, unwrap_or, refl, ap, sym, subst, ◌∙◌, arith, slice_get, is_some, lookup, option_or, bytes_eq, none-some, bytes_eq-Decides, ScalarType, Identifier, HeadingTree, insert_entry, Entity, Object, Procedure, Label, Definition, Names, is_among, home_of_parameters, IsScalar, TypedObject, visibility_of}
 use Rattle.typing.proofs.Parameters.Grown.{IsParameterOf}
 
 -- the type that a text so far declares a name with

@@ -1,23 +1,5 @@
 -- At the end of its declarations a procedure has the parameters that its heading says.
-use Rattle.std.proofs.Common.{◌≡◌, ◌≢◌, ℕ, zero, suc, ◌<◌, ◌≤◌, Bool, true, false, ◌||◌, List, [], ◌∷◌, ◌++◌, length, map, Option, Some, None, unwrap_or, refl, ap, sym, subst, ◌∙◌, arith}
-use Rattle.std.specs.Prelude.{Any, AllPairs, IsSomeAnd, is_some, slice_get}
-use Rattle.std.specs.List.{AllByRecursion}
-use Rattle.std.specs.Map.{lookup}
-use Rattle.std.specs.Str.{bytes_eq}
-use Rattle.std.proofs.lemmas.List.Elements.{All-from_recursion}
-use Rattle.std.proofs.lemmas.List.Kept.{AllPairs-cons}
-use Rattle.std.proofs.lemmas.Option.{none-some}
-use Rattle.trees.specs.declared.declaration.ScalarType.{ScalarType}
-use Rattle.trees.specs.declared.declaration.ScalarType.TheVariants.{Byte}
-use Rattle.trees.specs.declared.identifier.Identifier.{Identifier}
-use Rattle.trees.specs.Trees.{HeadingTree}
-use Rattle.names.specs.declared.entity.Entity.{Entity}
-use Rattle.names.specs.declared.entity.Entity.TheVariants.{Object, Procedure, Label, Definition}
-use Rattle.names.specs.Environment.{Here, Names, is_among}
-use Rattle.typed_trees.specs.declared.limits.TheConstants.{PARAMETER_LIMIT}
-use Rattle.typed_trees.specs.Frames.{AreParameters, HasParameters, IsParameter, home_of_parameters}
-use Rattle.typed_trees.specs.TypedTrees.{Home, ScalarObject, TypedObject, TypedList, TypedModule}
-use Rattle.typing.specs.Procedures.{parameter_object, parameter_objects, procedure_with, visibility_of}
+use Rattle.typing.proofs.Prelude.{◌≡◌, ◌≢◌, ℕ, zero, suc, ◌<◌, ◌≤◌, Bool, true, false, ◌||◌, List, [], ◌∷◌, ◌++◌, length, map, Option, Some, None, unwrap_or, refl, ap, sym, subst, ◌∙◌, arith, Any, AllPairs, IsSomeAnd, is_some, slice_get, AllByRecursion, lookup, bytes_eq, All-from_recursion, AllPairs-cons, none-some, ScalarType, Byte, Identifier, HeadingTree, Entity, Object, Procedure, Label, Definition, Here, Names, is_among, PARAMETER_LIMIT, AreParameters, HasParameters, IsParameter, home_of_parameters, Home, ScalarObject, TypedObject, TypedList, TypedModule, parameter_object, parameter_objects, procedure_with, visibility_of}
 use Rattle.typing.proofs.Kept.{Gives, gives_fault, gives_ok, in_turn}
 use Rattle.typing.proofs.Parameters.Grown.{IsParameterOf, all_more}
 use Rattle.typing.proofs.Parameters.OwnBlock.{IsDescribed, OwnBlock, Scan, equal_names, front_or_back, is_parameter, kept_front, same_names}

@@ -1,26 +1,6 @@
 -- The parameters of every typed module fit: along the typing of a text.
-use Rattle.std.proofs.Common.{◌≡◌, ℕ, ◌+◌, ◌<◌, true, false, List, [], ◌∷◌, length, Option, Some, None, Ok, refl, ap, sym, subst, ◌∙◌, append-nil}
-use Rattle.std.specs.Prelude.{All, not}
-use Rattle.std.specs.List.{enumerate_from}
-use Rattle.std.specs.Option.{option_or}
-use Rattle.std.proofs.lemmas.List.Elements.{All-from_recursion}
-use Rattle.trees.specs.declared.declaration.ScalarType.{ScalarType}
-use Rattle.trees.specs.declared.identifier.Identifier.{Identifier}
+use Rattle.typing.proofs.Prelude.{◌≡◌, ℕ, ◌+◌, ◌<◌, true, false, List, [], ◌∷◌, length, Option, Some, None, Ok, refl, ap, sym, subst, ◌∙◌, append-nil, All, not, enumerate_from, option_or, All-from_recursion, ScalarType, Identifier, ArgumentTrees, DeclarationTree, DeclarationTrees, DeclareTree, ElseTree, ExpressionTree, IterationTree, ModuleTree, MoreDeclarations, NoDeclarations, ProcedureTree, ReferenceTree, StatementKindTree, StatementTree, StatementTrees, Here, Names, into_list, is_label_again, out_of_list, with_label, jump_of, labels_of, HasParameters, ParametersFit, TypedList, TypedModule, TypedObject, TypedProcedure, TypedStatements, DeclaredTwice, Block, OfProcedure, Owner, Progress, TheModule, Checked, require, arguments, expression, check_body, own_block, scalar_in_block, scalar_in_declaration, Given, Known, bound, line_of, assignment, call, call_bound, counter_bound, declare_labels, destinations, goto, goto_bound, iteration, labels_before, list_of, return_from, return_with, step, value, with_constants, with_here, without_label, alone, at_the_beginning, cases, declaration, declarations, else_part, entered, inner_block, kind, labelled, left, module_block, module_with, statements, typing_of}
 use Rattle.trees.specs.Trees as trees
-use Rattle.trees.specs.Trees.{ArgumentTrees, DeclarationTree, DeclarationTrees, DeclareTree, ElseTree, ExpressionTree, IterationTree, ModuleTree, MoreDeclarations, NoDeclarations, ProcedureTree, ReferenceTree, StatementKindTree, StatementTree, StatementTrees}
-use Rattle.names.specs.Environment.{Here, Names, into_list, is_label_again, out_of_list, with_label}
-use Rattle.names.specs.BuiltIns.{jump_of}
-use Rattle.names.specs.Events.{labels_of}
-use Rattle.typed_trees.specs.Frames.{HasParameters, ParametersFit}
-use Rattle.typed_trees.specs.TypedTrees.{TypedList, TypedModule, TypedObject, TypedProcedure, TypedStatements}
-use Rattle.typing.specs.declared.fault.Cause.TheVariants.{DeclaredTwice}
-use Rattle.typing.specs.Blocks.{Block, OfProcedure, Owner, Progress, TheModule}
-use Rattle.typing.specs.Checks.{Checked, require}
-use Rattle.typing.specs.Expressions.{arguments, expression}
-use Rattle.typing.specs.Procedures.{check_body, own_block, scalar_in_block, scalar_in_declaration}
-use Rattle.typing.specs.References.{Given, Known, bound, line_of}
-use Rattle.typing.specs.Statements.{assignment, call, call_bound, counter_bound, declare_labels, destinations, goto, goto_bound, iteration, labels_before, list_of, return_from, return_with, step, value, with_constants, with_here, without_label}
-use Rattle.typing.specs.Typing.{alone, at_the_beginning, cases, declaration, declarations, else_part, entered, inner_block, kind, labelled, left, module_block, module_with, statements, typing_of}
 use Rattle.typing.proofs.Kept.{Gives, gives_after, gives_fault, gives_ok, in_turn, then_more}
 use Rattle.typing.proofs.Parameters.Closing.{closed_goes, nothing, own_begins, own_stands}
 use Rattle.typing.proofs.Parameters.Elements.{GoesOn, both_more, declare_elements-go, goes_then, may_below, nothing_more, owned_as}

@@ -1,18 +1,5 @@
 -- Objects and constants so far have a place each, and go on to as they grow.
-use Rattle.std.proofs.Common.{◌≡◌, ℕ, suc, zero, ◌+◌, ◌≤◌, List, [], ◌∷◌, ◌++◌, length, slice_get, Option, All, refl, sym, ap, ◌∙◌, subst, length-append, append-nil, arith}
-use Rattle.std.specs.Prelude.{filter_map, IsSomeAnd}
-use Rattle.std.specs.List.{cons_option, enumerate_from}
-use Rattle.std.proofs.lemmas.List.Elements.{All-append, All-cons, All-nil, All-weaker, filter_map-append}
-use Rattle.typed_trees.specs.declared.parts.AtAddress.TheVariants.{AtNumber, AtObject}
-use Rattle.typed_trees.specs.declared.parts.ConstantItem.TheVariants.{ConstantObject, ConstantList}
-use Rattle.typed_trees.specs.declared.parts.ConstantItem.{ConstantItem}
-use Rattle.typed_trees.specs.TypedTrees.{Home, InConstants, Placed, TypedObject, Constants}
-use Rattle.typed_trees.specs.Storable.{object_in, list_in, constant_number, numbered_constant, numbers_from, LooksBack, LooksAtPlace, bytes_filled}
-use Rattle.typed_trees.specs.Sizes.{size_of_object}
-use Rattle.trees.specs.Trees.{ConstantTree}
-use Rattle.typing.specs.Constants.{bytes_of_constants}
-use Rattle.typing.specs.Expressions.{with_list}
-use Rattle.typing.specs.Items.{with_constant}
+use Rattle.typing.proofs.Prelude.{◌≡◌, ℕ, suc, zero, ◌+◌, ◌≤◌, List, [], ◌∷◌, ◌++◌, length, slice_get, Option, All, refl, sym, ap, ◌∙◌, subst, length-append, append-nil, arith, filter_map, IsSomeAnd, cons_option, enumerate_from, All-append, All-cons, All-nil, All-weaker, filter_map-append, AtNumber, AtObject, ConstantObject, ConstantList, ConstantItem, Home, InConstants, Placed, TypedObject, Constants, object_in, list_in, constant_number, numbered_constant, numbers_from, LooksBack, LooksAtPlace, bytes_filled, size_of_object, ConstantTree, bytes_of_constants, with_list, with_constant}
 
 abbrev pub AllLookBack : List TypedObject → Type 0
 AllLookBack objects =

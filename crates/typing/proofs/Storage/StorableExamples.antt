@@ -1,15 +1,5 @@
 -- Worked values: tables that are storable, and some that are not.
-use Rattle.std.proofs.Common.{ℕ, List, [], ◌∷◌, Option, None, Some, false, length, get_or, refl, ap, arith}
-use Rattle.std.specs.List.{enumerate_from}
-use Rattle.std.proofs.lemmas.List.Elements.{All-from_recursion, recursion_from_All}
-use Rattle.trees.specs.declared.declaration.ScalarType.TheVariants.{Byte}
-use Rattle.typed_trees.specs.declared.parts.AtAddress.TheVariants.{AtObject}
-use Rattle.typed_trees.specs.declared.parts.ConstantItem.{ConstantItem}
-use Rattle.typed_trees.specs.declared.parts.ConstantItem.TheVariants.{ConstantObject, ConstantList}
-use Rattle.typed_trees.specs.declared.parts.InitialValue.TheVariants.{ByteValue, WordValue}
-use Rattle.typed_trees.specs.declared.parts.InitialValue.{InitialValue}
-use Rattle.typed_trees.specs.TypedTrees.{Home, InData, InConstants, Placed, Elsewhere, ScalarObject, TypedObject, Constants}
-use Rattle.typed_trees.specs.Storable.{LooksBack, LooksAtPlace}
+use Rattle.typing.proofs.Prelude.{ℕ, List, [], ◌∷◌, Option, None, Some, false, length, get_or, refl, ap, arith, enumerate_from, All-from_recursion, recursion_from_All, Byte, AtObject, ConstantItem, ConstantObject, ConstantList, ByteValue, WordValue, InitialValue, Home, InData, InConstants, Placed, Elsewhere, ScalarObject, TypedObject, Constants, LooksBack, LooksAtPlace}
 use Rattle.typing.proofs.Storage.Storable.{AreStorable, AllLookBack, AllAtPlaces, HasRoom}
 
 abbrev byte_in : Home → TypedObject

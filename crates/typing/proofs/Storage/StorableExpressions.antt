@@ -1,25 +1,9 @@
 -- Expressions add nothing to the constants but constant lists, with a place each.
-use Rattle.std.proofs.Common.{ℕ, List}
-use Rattle.std.specs.Prelude.{IfOk, ◌==◌, length}
-use Rattle.trees.specs.Trees.{ExpressionTree, ConstantLeaf, ReferenceLeaf, LocationLeaf, ListLeaf, ParenthesizedNode, AssignmentNode, UnaryNode, BinaryNode, ReferenceTree, ReferenceTo, NoMember, MemberOf, ArgumentTrees, NoArguments, MoreArguments}
-use Rattle.names.specs.declared.entity.Binding.{Binding}
-use Rattle.names.specs.declared.entity.Binding.TheVariants.{Declared, BuiltInName}
-use Rattle.names.specs.declared.entity.BuiltIn.{BuiltIn}
+use Rattle.typing.proofs.Prelude.{ℕ, List, IfOk, ◌==◌, length, ExpressionTree, ConstantLeaf, ReferenceLeaf, LocationLeaf, ListLeaf, ParenthesizedNode, AssignmentNode, UnaryNode, BinaryNode, ReferenceTree, ReferenceTo, NoMember, MemberOf, ArgumentTrees, NoArguments, MoreArguments, Binding, Declared, BuiltInName, BuiltIn, Object, Procedure, Measure, ShiftFunction, UnaryFunction, Subscript, ObjectType, TypedObject, TypedProcedure, Constants, member_named, UnknownName, WrongUse, NoLocation, require, found, Known, Given, GivenMember, WithoutMember, WithMember, GivenReference, line_of, count_of_given, bound, object_of, procedure_of, Extent, AnElement, AlsoTheWhole, takes_subscripts, members_of, part_with_member, part_of, scalar_part, has_location, location_of_bound, location_of, port_of, without_member, is_writable, destination_of_bound, destination_of, call_arguments, call_of, function_of, unary_function, shift_of, shift_function, input_value, measurement, number_of_variable, built_in_value, value_of_bound, value_of, number_node, expression, given_reference, arguments}
 use Rattle.names.specs.declared.entity.BuiltIn.TheVariants as built_ins
-use Rattle.names.specs.declared.entity.Entity.TheVariants.{Object, Procedure}
-use Rattle.typed_trees.specs.declared.parts.Measure.{Measure}
 use Rattle.typed_trees.specs.declared.parts.Measure.TheVariants as measures
-use Rattle.typed_trees.specs.declared.parts.ShiftFunction.{ShiftFunction}
 use Rattle.typed_trees.specs.declared.parts.ShiftFunction.TheVariants as shifts
-use Rattle.typed_trees.specs.declared.parts.UnaryFunction.{UnaryFunction}
 use Rattle.typed_trees.specs.declared.parts.UnaryFunction.TheVariants as functions
-use Rattle.typed_trees.specs.TypedTrees.{Subscript, ObjectType, TypedObject, TypedProcedure, Constants}
-use Rattle.typed_trees.specs.Sizes.{member_named}
-use Rattle.typing.specs.declared.fault.Cause.TheVariants.{UnknownName, WrongUse, NoLocation}
-use Rattle.typing.specs.Checks.{require, found}
-use Rattle.typing.specs.References.{Known, Given, GivenMember, WithoutMember, WithMember, GivenReference, line_of, count_of_given, bound, object_of, procedure_of, Extent, AnElement, AlsoTheWhole, takes_subscripts, members_of, part_with_member, part_of, scalar_part, has_location, location_of_bound, location_of, port_of, without_member, is_writable, destination_of_bound, destination_of}
-use Rattle.typing.specs.Functions.{call_arguments, call_of, function_of, unary_function, shift_of, shift_function, input_value, measurement, number_of_variable, built_in_value, value_of_bound, value_of}
-use Rattle.typing.specs.Expressions.{number_node, expression, given_reference, arguments}
 use Rattle.typing.proofs.Steps.{then, then_any}
 use Rattle.typing.proofs.Storage.Storable.{AreStorable, list_more}
 

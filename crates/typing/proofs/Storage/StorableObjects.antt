@@ -1,37 +1,6 @@
 -- Objects that are declared stand among the constants where they have DATA, AT looks back at objects that have a
 -- place, and values have room in their objects.
-use Rattle.std.proofs.Common.{◌≡◌, ℕ, zero, suc, ◌+◌, ◌-◌, ◌*◌, ◌<◌, ◌≤◌, Bool, true, false, List, [], ◌∷◌, ◌++◌, length, take, drop, replicate, flat_map, sum_by, slice_get, Option, Some, None, Ok, Err, refl, sym, ap, ◌∙◌, subst, append_assoc, length-append, cond, arith, zero-le, zero-mul, one-mul, suc-mul, mod-lt, div-add-mod'}
-use Rattle.std.specs.Prelude.{IfOk, IfSome, IsSomeAnd, is_none, is_some, nat_le, nat_lt, not, ◌&&◌, ◌||◌}
-use Rattle.std.specs.List.{repeat}
-use Rattle.std.specs.Option.{option_map_or}
-use Rattle.std.proofs.lemmas.List.Sums.{sum_by-append, sum_by-cons}
-use Rattle.std.proofs.lemmas.Option.{slice_get_within}
-use Rattle.trees.specs.declared.declaration.ScalarType.{ScalarType}
-use Rattle.trees.specs.declared.declaration.ScalarType.TheVariants.{Byte, Address}
-use Rattle.trees.specs.declared.identifier.Identifier.{Identifier}
-use Rattle.trees.specs.Trees.{StringTree, StringConstant, OriginTree, ConstantOrigin, LocationOrigin, OffsetTree, RestrictedTree, AtTree, ValueListTree, ItemTree, ElementTree, LiterallyElement, ItemElement, HeadingTree, DeclarationTrees}
-use Rattle.names.specs.declared.entity.Binding.{Binding}
-use Rattle.names.specs.declared.entity.Binding.TheVariants.{Declared}
-use Rattle.names.specs.declared.entity.Entity.TheVariants.{Object, Procedure}
-use Rattle.names.specs.Environment.{Here, into_body, with_procedure, is_declared_again}
-use Rattle.names.specs.Uses.{declared_by}
-use Rattle.typed_trees.specs.declared.limits.TheConstants.{OBJECT_LIMIT, FRAME_LIMIT, PARAMETER_LIMIT}
-use Rattle.typed_trees.specs.declared.parts.AtAddress.{AtAddress}
-use Rattle.typed_trees.specs.declared.parts.InitialValue.TheVariants.{ByteValue, WordValue, LocationValue}
-use Rattle.typed_trees.specs.declared.parts.InitialValue.{InitialValue}
-use Rattle.typed_trees.specs.declared.parts.TypedMember.{TypedMember}
-use Rattle.typed_trees.specs.TypedTrees.{ObjectType, ScalarObject, StructureObject, Home, InData, InConstants, Placed, BasedOn, Elsewhere, Nowhere, InFrame, TypedObject}
-use Rattle.typed_trees.specs.Sizes.{size_of_scalar, count_of, size_of_member, size_of_element, scalars_of_member, scalars_of_element, scalars_of_elements}
-use Rattle.typed_trees.specs.Storable.{LooksBack, HasPlace, LooksAtPlace, size_of_value, bytes_filled}
-use Rattle.typing.specs.declared.fault.Cause.{Cause}
-use Rattle.typing.specs.declared.fault.Cause.TheVariants.{DeclaredTwice, WrongUse, MisplacedAttribute, WrongConstant, TooLarge}
-use Rattle.typing.specs.Checks.{Checked, ◌>>=◌, require, found}
-use Rattle.typing.specs.Constants.{number_of_characters, number_of_constant, with_offsets}
-use Rattle.typing.specs.References.{Known, line_of, bound, object_of}
-use Rattle.typing.specs.Blocks.{Owner, TheModule, OfProcedure, Block, Progress, is_external, is_external_linkage, is_reentrant}
-use Rattle.typing.specs.Filling.{ThisModule, OtherModulesToo, with_address, static_bound, static_object, RestrictedValue, ANumber, FromObject, restricted_value, address_of, at_address, Filled, and_before, fill_scalar, fill_characters, fill_string, line_of_origin, fill_value, fill, Extents, NoArray, Elements, AsListed, Contents, enough_elements, elements_for, contents}
-use Rattle.typing.specs.Items.{TypedItem, declare_names, line_of_item, base_of, typed_base, extents_of, typed_type, check_linkage, is_plain, typed_at, place_of_storage, typed_contents, is_data, home_in, home_with_values, home_of, object_named, with_typed_object, with_objects, typed_item, size_of_item, declare_item, declare_definition, declare_element, declare_elements}
-use Rattle.typing.specs.Procedures.{declare_parameters, no_more_parameters, check_visibility, check_reentrant, open_procedure}
+use Rattle.typing.proofs.Prelude.{◌≡◌, ℕ, zero, suc, ◌+◌, ◌-◌, ◌*◌, ◌<◌, ◌≤◌, Bool, true, false, List, [], ◌∷◌, ◌++◌, length, take, drop, replicate, flat_map, sum_by, slice_get, Option, Some, None, Ok, Err, refl, sym, ap, ◌∙◌, subst, append_assoc, length-append, cond, arith, zero-le, zero-mul, one-mul, suc-mul, mod-lt, div-add-mod', IfOk, IfSome, IsSomeAnd, is_none, is_some, nat_le, nat_lt, not, ◌&&◌, ◌||◌, repeat, option_map_or, sum_by-append, sum_by-cons, slice_get_within, ScalarType, Byte, Address, Identifier, StringTree, StringConstant, OriginTree, ConstantOrigin, LocationOrigin, OffsetTree, RestrictedTree, AtTree, ValueListTree, ItemTree, ElementTree, LiterallyElement, ItemElement, HeadingTree, DeclarationTrees, Binding, Declared, Object, Procedure, Here, into_body, with_procedure, is_declared_again, declared_by, OBJECT_LIMIT, FRAME_LIMIT, PARAMETER_LIMIT, AtAddress, ByteValue, WordValue, LocationValue, InitialValue, TypedMember, ObjectType, ScalarObject, StructureObject, Home, InData, InConstants, Placed, BasedOn, Elsewhere, Nowhere, InFrame, TypedObject, size_of_scalar, count_of, size_of_member, size_of_element, scalars_of_member, scalars_of_element, scalars_of_elements, LooksBack, HasPlace, LooksAtPlace, size_of_value, bytes_filled, Cause, DeclaredTwice, WrongUse, MisplacedAttribute, WrongConstant, TooLarge, Checked, ◌>>=◌, require, found, number_of_characters, number_of_constant, with_offsets, Known, line_of, bound, object_of, Owner, TheModule, OfProcedure, Block, Progress, is_external, is_external_linkage, is_reentrant, ThisModule, OtherModulesToo, with_address, static_bound, static_object, RestrictedValue, ANumber, FromObject, restricted_value, address_of, at_address, Filled, and_before, fill_scalar, fill_characters, fill_string, line_of_origin, fill_value, fill, Extents, NoArray, Elements, AsListed, Contents, enough_elements, elements_for, contents, TypedItem, declare_names, line_of_item, base_of, typed_base, extents_of, typed_type, check_linkage, is_plain, typed_at, place_of_storage, typed_contents, is_data, home_in, home_with_values, home_of, object_named, with_typed_object, with_objects, typed_item, size_of_item, declare_item, declare_definition, declare_element, declare_elements, declare_parameters, no_more_parameters, check_visibility, check_reentrant, open_procedure}
 use Rattle.typing.proofs.Steps.{then, then_any}
 use Rattle.typing.proofs.Storage.Storable.{AreStorable, object_more, back_later, place_later}
 

@@ -1,28 +1,6 @@
 -- In a typed module the objects with DATA and the constant lists stand among the constants in their order, AT looks
 -- back at objects that have a place, and values have room in their objects.
-use Rattle.std.proofs.Common.{◌≡◌, ℕ, ◌+◌, List, [], ◌∷◌, length, Option, None, Some, Ok, subst}
-use Rattle.std.specs.Prelude.{IfOk, is_none, ◌==◌}
-use Rattle.trees.specs.declared.declaration.ScalarType.{ScalarType}
-use Rattle.trees.specs.declared.identifier.Identifier.{Identifier}
-use Rattle.trees.specs.Trees.{ExpressionTree, ReferenceTree, IterationTree, StatementTree, LabelledStatement, StatementKindTree, NullStatement, AssignmentStatement, CallStatement, ReturnStatement, HaltStatement, GotoStatement, IfStatement, DoStatement, WhileStatement, IterateStatement, CaseStatement, ElseTree, NoElse, ElseStatement, StatementTrees, NoStatements, MoreStatements, DeclarationTree, DeclareTree, ProcedureTree, DeclarationTrees, NoDeclarations, MoreDeclarations, ModuleTree}
-use Rattle.names.specs.declared.entity.Binding.{Binding}
-use Rattle.names.specs.declared.entity.Binding.TheVariants.{Declared, BuiltInName}
-use Rattle.names.specs.declared.entity.BuiltIn.TheVariants.{Move}
-use Rattle.names.specs.declared.entity.Entity.TheVariants.{Procedure}
-use Rattle.names.specs.BuiltIns.{jump_of}
-use Rattle.names.specs.Environment.{into_list}
-use Rattle.names.specs.Events.{labels_of}
-use Rattle.typed_trees.specs.TypedTrees.{TypedObject, TypedStatements, TypedModule, Constants}
-use Rattle.typed_trees.specs.Storable.{IsStorable}
-use Rattle.typing.specs.declared.fault.Cause.TheVariants.{WrongUse}
-use Rattle.typing.specs.Checks.{Checked, require}
-use Rattle.typing.specs.References.{Known, Given, line_of, count_of_given, bound, procedure_of, destination_of}
-use Rattle.typing.specs.Functions.{call_arguments}
-use Rattle.typing.specs.Expressions.{expression, given_reference, arguments}
-use Rattle.typing.specs.Blocks.{Owner, TheModule, OfProcedure, Block, Progress}
-use Rattle.typing.specs.Statements.{with_here, with_constants, value, destinations, assignment, moved, call_bound, call, return_with, return_from, goto_bound, goto, counter_bound, step, iteration, labels_before, declare_labels, without_label, list_of}
-use Rattle.typing.specs.Procedures.{open_procedure, own_block, parameter_objects, check_body}
-use Rattle.typing.specs.Typing.{inner_block, entered, kind, labelled, alone, else_part, cases, statements, declaration, declarations, module_block, at_the_beginning, typing_of}
+use Rattle.typing.proofs.Prelude.{◌≡◌, ℕ, ◌+◌, List, [], ◌∷◌, length, Option, None, Some, Ok, subst, IfOk, is_none, ◌==◌, ScalarType, Identifier, ExpressionTree, ReferenceTree, IterationTree, StatementTree, LabelledStatement, StatementKindTree, NullStatement, AssignmentStatement, CallStatement, ReturnStatement, HaltStatement, GotoStatement, IfStatement, DoStatement, WhileStatement, IterateStatement, CaseStatement, ElseTree, NoElse, ElseStatement, StatementTrees, NoStatements, MoreStatements, DeclarationTree, DeclareTree, ProcedureTree, DeclarationTrees, NoDeclarations, MoreDeclarations, ModuleTree, Binding, Declared, BuiltInName, Move, Procedure, jump_of, into_list, labels_of, TypedObject, TypedStatements, TypedModule, Constants, IsStorable, WrongUse, Checked, require, Known, Given, line_of, count_of_given, bound, procedure_of, destination_of, call_arguments, expression, given_reference, arguments, Owner, TheModule, OfProcedure, Block, Progress, with_here, with_constants, value, destinations, assignment, moved, call_bound, call, return_with, return_from, goto_bound, goto, counter_bound, step, iteration, labels_before, declare_labels, without_label, list_of, open_procedure, own_block, parameter_objects, check_body, inner_block, entered, kind, labelled, alone, else_part, cases, statements, declaration, declarations, module_block, at_the_beginning, typing_of}
 use Rattle.typing.proofs.Steps.{then, then_any}
 use Rattle.typing.proofs.Storage.Storable.{AreStorable, none_yet}
 use Rattle.typing.proofs.Storage.StorableExpressions.{GivenKeeps, call_arguments_is, expression_is, arguments_is, destination_is}

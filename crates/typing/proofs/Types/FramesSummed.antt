@@ -1,22 +1,5 @@
 -- The frame bytes of the procedures of a text so far are those of their variables, and go on to be as its tables grow.
-use Rattle.std.proofs.Common.{◌≡◌, ℕ, zero, suc, ◌+◌, ◌<◌, ◌≤◌, ◌==◌, Bool, true, false, List, [], ◌∷◌, ◌++◌, length, sum_by, slice_get, Option, None, Some, if◌then◌else◌, cond, nat_le, refl, sym, ap, ◌∙◌, subst, length-append, zero-le, arith}
-use Rattle.std.specs.Prelude.{All, not, is_some, ◌&&◌}
-use Rattle.std.specs.List.{AllByRecursion, enumerate_from}
-use Rattle.std.specs.Option.{option_map_or}
-use Rattle.std.proofs.lemmas.Bool.{eqb-true, eqb-false, eq-eqb, ne_eqb, leb-true}
-use Rattle.std.proofs.lemmas.List.Elements.{All-append, All-cons, All-nil, All-weaker, All-from_recursion, recursion_from_All}
-use Rattle.std.proofs.lemmas.List.Sums.{sum_by-append, sum_by-cons}
-use Rattle.trees.specs.declared.identifier.Identifier.{Identifier}
-use Rattle.trees.specs.Trees.{ItemTree, HeadingTree}
-use Rattle.typed_trees.specs.declared.limits.TheConstants.{FRAME_LIMIT}
-use Rattle.typed_trees.specs.declared.parts.AtAddress.{AtAddress}
-use Rattle.typed_trees.specs.declared.parts.InitialValue.{InitialValue}
-use Rattle.typed_trees.specs.TypedTrees.{Home, InData, InConstants, Placed, BasedOn, Elsewhere, Nowhere, InFrame, TypedObject, TypedProcedure, TypedModule}
-use Rattle.typed_trees.specs.Sizes.{size_of_object}
-use Rattle.typed_trees.specs.Frames.{is_in_frame, variable_bytes, FrameFits, FramesFit}
-use Rattle.typing.specs.References.{Known}
-use Rattle.typing.specs.Blocks.{Owner, TheModule, OfProcedure, Block, Progress, is_external_linkage, is_reentrant}
-use Rattle.typing.specs.Items.{TypedItem, base_of, typed_base, extents_of, typed_type, check_linkage, typed_at, typed_contents, is_data, home_in, home_with_values, home_of, object_named, bytes_in_frame, with_typed_object, with_objects, typed_item}
+use Rattle.typing.proofs.Prelude.{◌≡◌, ℕ, zero, suc, ◌+◌, ◌<◌, ◌≤◌, ◌==◌, Bool, true, false, List, [], ◌∷◌, ◌++◌, length, sum_by, slice_get, Option, None, Some, if◌then◌else◌, cond, nat_le, refl, sym, ap, ◌∙◌, subst, length-append, zero-le, arith, All, not, is_some, ◌&&◌, AllByRecursion, enumerate_from, option_map_or, eqb-true, eqb-false, eq-eqb, ne_eqb, leb-true, All-append, All-cons, All-nil, All-weaker, All-from_recursion, recursion_from_All, sum_by-append, sum_by-cons, Identifier, ItemTree, HeadingTree, FRAME_LIMIT, AtAddress, InitialValue, Home, InData, InConstants, Placed, BasedOn, Elsewhere, Nowhere, InFrame, TypedObject, TypedProcedure, TypedModule, size_of_object, is_in_frame, variable_bytes, FrameFits, FramesFit, Known, Owner, TheModule, OfProcedure, Block, Progress, is_external_linkage, is_reentrant, TypedItem, base_of, typed_base, extents_of, typed_type, check_linkage, typed_at, typed_contents, is_data, home_in, home_with_values, home_of, object_named, bytes_in_frame, with_typed_object, with_objects, typed_item}
 use Rattle.typing.proofs.Kept.{Gives, gives_ok, gives_after, in_turn, required}
 use Rattle.typing.proofs.Tables.{keeps_append, at_the_end}
 

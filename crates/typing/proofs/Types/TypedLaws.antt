@@ -1,9 +1,5 @@
 -- What holds of every typing holds of what the checker gives.
-use Rattle.std.proofs.Common.{◌≡◌, Result, Ok, Err, IfOk}
-use Rattle.failure.specs.declared.Failure.{Failure}
-use Rattle.typing.specs.declared.fault.Fault.{Fault}
-use Rattle.typing.specs.Checks.{Checked}
-use Rattle.typing.specs.Results.{Answers}
+use Rattle.typing.proofs.Prelude.{◌≡◌, Result, Ok, Err, IfOk, Failure, Fault, Checked, Answers}
 
 pub where_typed : {X Y : Type 0} (view : X → Y) (result : Result X (Failure Fault)) (checked : Checked Y) (P : Y → Type 0)
     → Answers view result checked → ((found : Y) → checked ≡ Ok found → P found) → IfOk result (λ made. P (view made))

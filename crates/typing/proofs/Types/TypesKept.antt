@@ -1,10 +1,5 @@
 -- What the types of a typed part say, whatever a module holds beside what is known where the part stands.
-use Rattle.std.proofs.Common.{◌≡◌, ◌≤◌, List, map, length, Option, Some, None, sym, subst, arith}
-use Rattle.std.specs.Prelude.{IsSomeAnd}
-use Rattle.trees.specs.declared.declaration.ScalarType.{ScalarType}
-use Rattle.typed_trees.specs.declared.parts.Visibility.{Visibility}
-use Rattle.typed_trees.specs.TypedTrees.{TypedProcedure, TypedModule, Constants}
-use Rattle.typing.specs.References.{Known}
+use Rattle.typing.proofs.Prelude.{◌≡◌, ◌≤◌, List, map, length, Option, Some, None, sym, subst, arith, IsSomeAnd, ScalarType, Visibility, TypedProcedure, TypedModule, Constants, Known}
 use Rattle.typing.proofs.Tables.{Keeps}
 
 -- what a heading says of a procedure: its result, the types of its parameters, and who sees it

@@ -1,30 +1,5 @@
 -- Declared objects can be referred to where their names are known, and declarations only add to what is known.
-use Rattle.std.proofs.Common.{◌≡◌, ℕ, zero, suc, ◌+◌, ◌<◌, ◌≤◌, Bool, true, false, List, [], ◌∷◌, ◌++◌, map, take, drop, length, Option, Some, None, slice_get, nat_le, refl, sym, ap, ◌∙◌, subst, cond, append_assoc, append-nil, length-append, arith}
-use Rattle.std.specs.Prelude.{IfSome, IsSomeAnd, is_none, is_some, not, ◌||◌, ◌&&◌}
-use Rattle.std.specs.Option.{option_map_or}
-use Rattle.std.proofs.lemmas.List.{length-map}
-use Rattle.trees.specs.declared.declaration.ScalarType.{ScalarType}
-use Rattle.trees.specs.declared.declaration.ScalarType.TheVariants.{Address}
-use Rattle.trees.specs.declared.identifier.Identifier.{Identifier}
-use Rattle.trees.specs.Trees.{SubjectTree, ItemTree, ElementTree, LiterallyElement, ItemElement, HeadingTree, DeclarationTrees}
-use Rattle.names.specs.declared.entity.Binding.{Binding}
-use Rattle.names.specs.declared.entity.Binding.TheVariants.{Declared}
-use Rattle.names.specs.declared.entity.Entity.TheVariants.{Object}
-use Rattle.names.specs.Environment.{Body, into_body, is_declared_again, with_procedure, with_definition}
-use Rattle.names.specs.Uses.{declared_by}
-use Rattle.typed_trees.specs.declared.limits.TheConstants.{OBJECT_LIMIT, FRAME_LIMIT, PARAMETER_LIMIT}
-use Rattle.typed_trees.specs.declared.parts.AtAddress.{AtAddress}
-use Rattle.typed_trees.specs.declared.parts.InitialValue.{InitialValue}
-use Rattle.typed_trees.specs.TypedTrees.{ObjectType, ScalarObject, StructureObject, Home, InData, InConstants, Placed, BasedOn, Elsewhere, Nowhere, InFrame, TypedObject, TypedProcedure, TypedModule, Constants}
-use Rattle.typed_trees.specs.ObjectParts.{IsScalar}
-use Rattle.typed_trees.specs.WellTyped.{Within, WithinProcedure, WithinMain, LiesFor, IsSeen}
-use Rattle.typing.specs.declared.fault.Cause.TheVariants.{DeclaredTwice, MisplacedAttribute, TooLarge}
-use Rattle.typing.specs.Checks.{require}
-use Rattle.typing.specs.References.{Known, line_of}
-use Rattle.typed_trees.specs.declared.parts.GlobalItem.TheVariants.{GlobalProcedure}
-use Rattle.typing.specs.Blocks.{with_global, Owner, TheModule, OfProcedure, Block, Progress, is_external, is_external_linkage, is_reentrant}
-use Rattle.typing.specs.Items.{TypedItem, declare_names, line_of_item, base_of, is_not_based, is_address, is_base, object_bound, names_parameter, typed_base, extents_of, typed_type, check_linkage, typed_at, typed_contents, is_data, home_in, home_with_values, home_of, object_named, with_constant, with_typed_object, with_objects, typed_item, size_of_item, declare_item, declare_definition, declare_element, declare_elements}
-use Rattle.typing.specs.Procedures.{no_more_parameters, check_visibility, check_reentrant, parameter_types, procedure_with, empty_list, open_procedure}
+use Rattle.typing.proofs.Prelude.{◌≡◌, ℕ, zero, suc, ◌+◌, ◌<◌, ◌≤◌, Bool, true, false, List, [], ◌∷◌, ◌++◌, map, take, drop, length, Option, Some, None, slice_get, nat_le, refl, sym, ap, ◌∙◌, subst, cond, append_assoc, append-nil, length-append, arith, IfSome, IsSomeAnd, is_none, is_some, not, ◌||◌, ◌&&◌, option_map_or, length-map, ScalarType, Address, Identifier, SubjectTree, ItemTree, ElementTree, LiterallyElement, ItemElement, HeadingTree, DeclarationTrees, Binding, Declared, Object, Body, into_body, is_declared_again, with_procedure, with_definition, declared_by, OBJECT_LIMIT, FRAME_LIMIT, PARAMETER_LIMIT, AtAddress, InitialValue, ObjectType, ScalarObject, StructureObject, Home, InData, InConstants, Placed, BasedOn, Elsewhere, Nowhere, InFrame, TypedObject, TypedProcedure, TypedModule, Constants, IsScalar, Within, WithinProcedure, WithinMain, LiesFor, IsSeen, DeclaredTwice, MisplacedAttribute, TooLarge, require, Known, line_of, GlobalProcedure, with_global, Owner, TheModule, OfProcedure, Block, Progress, is_external, is_external_linkage, is_reentrant, TypedItem, declare_names, line_of_item, base_of, is_not_based, is_address, is_base, object_bound, names_parameter, typed_base, extents_of, typed_type, check_linkage, typed_at, typed_contents, is_data, home_in, home_with_values, home_of, object_named, with_constant, with_typed_object, with_objects, typed_item, size_of_item, declare_item, declare_definition, declare_element, declare_elements, no_more_parameters, check_visibility, check_reentrant, parameter_types, procedure_with, empty_list, open_procedure}
 use Rattle.typing.proofs.Kept.{Gives, then_more, anything, gives_ok, gives_fault, gives_after, in_turn, required, is_found}
 use Rattle.typing.proofs.NamesBack.{is_bound, Binds, bound_entity}
 use Rattle.typing.proofs.Tables.{Keeps, keeps_append}

@@ -1,16 +1,5 @@
 -- Expressions have the types that are asked of their parts.
-use Rattle.std.proofs.Common.{List, [], ◌∷◌, length, refl, length-append, arith}
-use Rattle.trees.specs.declared.declaration.ScalarType.{ScalarType}
-use Rattle.trees.specs.declared.expression.BinaryOperator.{BinaryOperator}
-use Rattle.trees.specs.declared.expression.BinaryOperator.TheVariants.{Multiply, Divide, Modulo}
-use Rattle.trees.specs.Trees.{ConstantTree, NumberConstant, StringConstant, ExpressionTree, ConstantLeaf, ReferenceLeaf, LocationLeaf, ListLeaf, ParenthesizedNode, AssignmentNode, UnaryNode, BinaryNode, ReferenceTree, ReferenceTo, MemberTree, NoMember, MemberOf, ArgumentTrees, NoArguments, MoreArguments}
-use Rattle.typed_trees.specs.TypedTrees.{TypedExpression, ListNode, TypedModule, Constants}
-use Rattle.typed_trees.specs.ExpressionTypes.{type_of}
-use Rattle.typed_trees.specs.WellTyped.{Within, WorksOn, TypesHold}
-use Rattle.typing.specs.Constants.{number_of_characters, bytes_of_constants}
-use Rattle.typing.specs.Nodes.{type_of_operands, binary_node}
-use Rattle.typing.specs.References.{Known, destination_of}
-use Rattle.typing.specs.Expressions.{number_node, with_list, expression, given_reference, given_member, arguments}
+use Rattle.typing.proofs.Prelude.{List, [], ◌∷◌, length, refl, length-append, arith, ScalarType, BinaryOperator, Multiply, Divide, Modulo, ConstantTree, NumberConstant, StringConstant, ExpressionTree, ConstantLeaf, ReferenceLeaf, LocationLeaf, ListLeaf, ParenthesizedNode, AssignmentNode, UnaryNode, BinaryNode, ReferenceTree, ReferenceTo, MemberTree, NoMember, MemberOf, ArgumentTrees, NoArguments, MoreArguments, TypedExpression, ListNode, TypedModule, Constants, type_of, Within, WorksOn, TypesHold, number_of_characters, bytes_of_constants, type_of_operands, binary_node, Known, destination_of, number_node, with_list, expression, given_reference, given_member, arguments}
 use Rattle.typing.proofs.Kept.{Gives, gives_ok, in_turn, is_found}
 use Rattle.typing.proofs.Types.TypesKept.{holding_at, holding_more, holding_both}
 use Rattle.typing.proofs.Types.TypesOfReferences.{as_type_holds, number_holds, Sees, GivenHolds, MemberHolds, ReferenceHolds, ValueHolds, TargetHolds, value_holds, location_holds, target_holds}

@@ -1,40 +1,9 @@
 -- References, calls and targets have the types that are asked of their parts.
-use Rattle.std.proofs.Common.{◌≡◌, ℕ, ◌+◌, ◌<◌, ◌==◌, Bool, true, false, List, [], ◌∷◌, length, take, Option, Some, None, nat_le, sum_by, slice_get, refl, sym, ap, ap₂, subst, ◌∙◌, arith}
-use Rattle.std.specs.Prelude.{if◌then◌else◌, IsSomeAnd}
-use Rattle.std.specs.Option.{option_map}
-use Rattle.std.specs.Str.{bytes_eq}
-use Rattle.std.proofs.lemmas.Bool.{eqb-true, leb-true}
-use Rattle.std.proofs.lemmas.List.Sums.{sum_by-cons}
-use Rattle.std.proofs.lemmas.Option.{slice_get-map}
-use Rattle.trees.specs.declared.declaration.ScalarType.{ScalarType}
-use Rattle.trees.specs.declared.declaration.ScalarType.TheVariants.{Byte, Address}
-use Rattle.trees.specs.declared.identifier.Identifier.{Identifier}
-use Rattle.trees.specs.Trees.{NumberConstant, StringConstant, ConstantLeaf, ReferenceLeaf, ReferenceTo, ArgumentTrees, NoArguments, MoreArguments}
-use Rattle.names.specs.declared.entity.Binding.{Binding}
-use Rattle.names.specs.declared.entity.Binding.TheVariants.{Declared, BuiltInName}
-use Rattle.names.specs.declared.entity.BuiltIn.{BuiltIn}
+use Rattle.typing.proofs.Prelude.{◌≡◌, ℕ, ◌+◌, ◌<◌, ◌==◌, Bool, true, false, List, [], ◌∷◌, length, take, Option, Some, None, nat_le, sum_by, slice_get, refl, sym, ap, ap₂, subst, ◌∙◌, arith, if◌then◌else◌, IsSomeAnd, option_map, bytes_eq, eqb-true, leb-true, sum_by-cons, slice_get-map, ScalarType, Byte, Address, Identifier, NumberConstant, StringConstant, ConstantLeaf, ReferenceLeaf, ReferenceTo, ArgumentTrees, NoArguments, MoreArguments, Binding, Declared, BuiltInName, BuiltIn, Object, Procedure, entity_of, FoundMember, TypedMember, ShiftFunction, UnaryFunction, Measure, TypedExpression, TypedReference, PartOf, Subscript, NoSubscript, TypedArguments, NoTyped, MoreTyped, ObjectType, ScalarObject, StructureObject, Home, InFrame, TypedObject, TypedProcedure, TypedModule, Constants, member_named, after_member, size_of_scalar, size_of_member, size_of_element, IsSubscriptOf, IsMemberOf, IsInElement, IsPartOf, IsOneOf, IsScalarIn, IsScalarOf, type_of, Within, IsSeen, RefersToScalar, HasLocation, RefersToLocation, IsNumberOf, ShiftsIn, types_of, Takes, TypesHold, TypesHoldInReference, TypesHoldInSubscript, TypesHoldInTarget, TypesHoldInArguments, HasType, type_of_number, converted, as_type, arguments_as, type_of_shift, shift_node, Destination, target_of, Known, Given, GivenMember, WithoutMember, WithMember, GivenReference, line_of, number_of_arguments, count_of_given, Extent, AnElement, AlsoTheWhole, takes_subscripts, subscript_of, members_of, scalar_of, FoundPart, whole_part, part_with_member, bound, part_of, scalar_part, without_member, port_from, port_of_character, port_of, has_location, location_of_bound, location_of, is_writable, destination_of_bound, destination_of, call_arguments, function_of, unary_function, shift_of, shift_function, measured_object, measure_of, measurement, number_of_variable, built_in_value, value_of_bound, value_of, WrongUse, Checked, require}
 use Rattle.names.specs.declared.entity.BuiltIn.TheVariants as built_in_names
-use Rattle.names.specs.declared.entity.Entity.TheVariants.{Object, Procedure}
-use Rattle.names.specs.Environment.{entity_of}
-use Rattle.typed_trees.specs.declared.members.FoundMember.{FoundMember}
-use Rattle.typed_trees.specs.declared.parts.TypedMember.{TypedMember}
-use Rattle.typed_trees.specs.declared.parts.ShiftFunction.{ShiftFunction}
 use Rattle.typed_trees.specs.declared.parts.ShiftFunction.TheVariants as shifts
-use Rattle.typed_trees.specs.declared.parts.UnaryFunction.{UnaryFunction}
 use Rattle.typed_trees.specs.declared.parts.UnaryFunction.TheVariants as functions
 use Rattle.typed_trees.specs.declared.parts.Measure.TheVariants as measures
-use Rattle.typed_trees.specs.declared.parts.Measure.{Measure}
-use Rattle.typed_trees.specs.TypedTrees.{TypedExpression, TypedReference, PartOf, Subscript, NoSubscript, TypedArguments, NoArguments as NoTyped, MoreArguments as MoreTyped, ObjectType, ScalarObject, StructureObject, Home, InFrame, TypedObject, TypedProcedure, TypedModule, Constants}
-use Rattle.typed_trees.specs.Sizes.{member_named, after_member, size_of_scalar, size_of_member, size_of_element}
-use Rattle.typed_trees.specs.ObjectParts.{IsSubscriptOf, IsMemberOf, IsInElement, IsPartOf, IsOneOf, IsScalarIn, IsScalarOf}
-use Rattle.typed_trees.specs.ExpressionTypes.{type_of}
-use Rattle.typed_trees.specs.WellTyped.{Within, IsSeen, RefersToScalar, HasLocation, RefersToLocation, IsNumberOf, ShiftsIn, types_of, Takes, TypesHold, TypesHoldInReference, TypesHoldInSubscript, TypesHoldInTarget, TypesHoldInArguments, HasType}
-use Rattle.typing.specs.Constants.{type_of_number}
-use Rattle.typing.specs.Nodes.{converted, as_type, arguments_as, type_of_shift, shift_node, Destination, target_of}
-use Rattle.typing.specs.References.{Known, Given, GivenMember, WithoutMember, WithMember, GivenReference, line_of, number_of_arguments, count_of_given, Extent, AnElement, AlsoTheWhole, takes_subscripts, subscript_of, members_of, scalar_of, FoundPart, whole_part, part_with_member, bound, part_of, scalar_part, without_member, port_from, port_of_character, port_of, has_location, location_of_bound, location_of, is_writable, destination_of_bound, destination_of}
-use Rattle.typing.specs.Functions.{call_arguments, function_of, unary_function, shift_of, shift_function, measured_object, measure_of, measurement, number_of_variable, built_in_value, value_of_bound, value_of}
-use Rattle.typing.specs.declared.fault.Cause.TheVariants.{WrongUse}
-use Rattle.typing.specs.Checks.{Checked, require}
 use Rattle.typing.proofs.Kept.{Gives, then_more, gives_ok, gives_fault, gives_after, in_turn, required, is_found}
 use Rattle.typing.proofs.NamesBack.{bound_entity, is_bound, Binds}
 use Rattle.typing.proofs.Tables.{Keeps}

@@ -1,36 +1,6 @@
 -- Every typed module is well typed and lists its globals, and its frames fit.
-use Rattle.std.proofs.Common.{◌≡◌, ℕ, ◌+◌, Bool, true, false, List, [], ◌∷◌, ◌++◌, length, map, Option, None, Some, Ok, slice_get, slice_set, refl, sym, ap, ◌∙◌, subst, length-append, arith, append_assoc}
-use Rattle.std.specs.Prelude.{IfSome, IsSomeAnd, is_none, not, ◌&&◌, ◌==◌}
-use Rattle.std.specs.List.{enumerate_from}
-use Rattle.std.proofs.lemmas.List.Elements.{All-from_recursion}
-use Rattle.trees.specs.declared.declaration.ScalarType.{ScalarType}
-use Rattle.trees.specs.declared.declaration.ScalarType.TheVariants.{Address}
-use Rattle.trees.specs.declared.identifier.Identifier.{Identifier}
+use Rattle.typing.proofs.Prelude.{◌≡◌, ℕ, ◌+◌, Bool, true, false, List, [], ◌∷◌, ◌++◌, length, map, Option, None, Some, Ok, slice_get, slice_set, refl, sym, ap, ◌∙◌, subst, length-append, arith, append_assoc, IfSome, IsSomeAnd, is_none, not, ◌&&◌, ◌==◌, enumerate_from, All-from_recursion, ScalarType, Address, Identifier, ExpressionTree, ReferenceTree, IterationTree, ArgumentTrees, StatementTree, LabelledStatement, StatementKindTree, ElseTree, StatementTrees, HeadingTree, DeclarationTree, DeclareTree, ProcedureTree, DeclarationTrees, NoDeclarations, MoreDeclarations, ModuleTree, Binding, Declared, BuiltInName, Move, Object, Procedure, Label, jump_of, out_of_block, into_list, out_of_list, labels_of, TypedArguments, NoTyped, MoreTyped, ObjectType, ScalarObject, StructureObject, TypedObject, TypedStatement, TypedStatements, TypedList, TypedProcedure, TypedModule, Constants, IsScalar, type_of, Within, WithinProcedure, WithinMain, LiesFor, TypesHold, TypesHoldInArguments, TypesHoldInTargets, TypesHoldInHead, TypesHoldIn, TypesHoldInElse, TypesHoldInStatements, TypesHoldInList, TypesHoldInProcedure, IsWellTyped, WrongUse, ListsGlobals, FramesFit, Destination, target_of, Known, Given, line_of, count_of_given, bound, is_writable, scalar_of, arguments, Owner, TheModule, OfProcedure, Block, Progress, is_external, is_external_linkage, is_not_based, with_here, with_constants, value, destinations, assignment, moved, call_bound, call, return_with, return_from, goto_bound, goto, Counter, counter_bound, step, iteration, labels_before, after_labels, list_of, parameter_types, procedure_with, parameter_objects, own_block, check_body, close_procedure, inner_block, entered, kind, labelled, alone, else_part, cases, statements, declaration, declarations, module_block, at_the_beginning, module_with, typing_of, Checked, require}
 use Rattle.trees.specs.Trees as trees
-use Rattle.trees.specs.Trees.{ExpressionTree, ReferenceTree, IterationTree, ArgumentTrees, StatementTree, LabelledStatement, StatementKindTree, ElseTree, StatementTrees, HeadingTree, DeclarationTree, DeclareTree, ProcedureTree, DeclarationTrees, NoDeclarations, MoreDeclarations, ModuleTree}
-use Rattle.names.specs.declared.entity.Binding.{Binding}
-use Rattle.names.specs.declared.entity.Binding.TheVariants.{Declared, BuiltInName}
-use Rattle.names.specs.declared.entity.BuiltIn.TheVariants.{Move}
-use Rattle.names.specs.declared.entity.Entity.TheVariants.{Object, Procedure, Label}
-use Rattle.names.specs.BuiltIns.{jump_of}
-use Rattle.names.specs.Environment.{out_of_block, into_list, out_of_list}
-use Rattle.names.specs.Events.{labels_of}
-use Rattle.typed_trees.specs.TypedTrees.{TypedArguments, NoArguments as NoTyped, MoreArguments as MoreTyped, ObjectType, ScalarObject, StructureObject, TypedObject, TypedStatement, TypedStatements, TypedList, TypedProcedure, TypedModule, Constants}
-use Rattle.typed_trees.specs.ObjectParts.{IsScalar}
-use Rattle.typed_trees.specs.ExpressionTypes.{type_of}
-use Rattle.typed_trees.specs.WellTyped.{Within, WithinProcedure, WithinMain, LiesFor, TypesHold, TypesHoldInArguments, TypesHoldInTargets, TypesHoldInHead, TypesHoldIn, TypesHoldInElse, TypesHoldInStatements, TypesHoldInList, TypesHoldInProcedure, IsWellTyped}
-use Rattle.typing.specs.declared.fault.Cause.TheVariants.{WrongUse}
-use Rattle.typed_trees.specs.Globals.{ListsGlobals}
-use Rattle.typed_trees.specs.Frames.{FramesFit}
-use Rattle.typing.specs.Nodes.{Destination, target_of}
-use Rattle.typing.specs.References.{Known, Given, line_of, count_of_given, bound, is_writable, scalar_of}
-use Rattle.typing.specs.Expressions.{arguments}
-use Rattle.typing.specs.Blocks.{Owner, TheModule, OfProcedure, Block, Progress, is_external, is_external_linkage}
-use Rattle.typing.specs.Items.{is_not_based}
-use Rattle.typing.specs.Statements.{with_here, with_constants, value, destinations, assignment, moved, call_bound, call, return_with, return_from, goto_bound, goto, Counter, counter_bound, step, iteration, labels_before, after_labels, list_of}
-use Rattle.typing.specs.Procedures.{parameter_types, procedure_with, parameter_objects, own_block, check_body, close_procedure}
-use Rattle.typing.specs.Typing.{inner_block, entered, kind, labelled, alone, else_part, cases, statements, declaration, declarations, module_block, at_the_beginning, module_with, typing_of}
-use Rattle.typing.specs.Checks.{Checked, require}
 use Rattle.typing.proofs.Kept.{Gives, then_more, gives_ok, gives_fault, gives_after, in_turn, required, is_found}
 use Rattle.typing.proofs.NamesBack.{is_bound, Binds}
 use Rattle.typing.proofs.Tables.{Keeps}

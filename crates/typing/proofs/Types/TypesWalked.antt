@@ -1,14 +1,6 @@
 -- What typing a part of a text adds, and what the types of the part say of every module that holds what is known at its
 -- end.
-use Rattle.std.proofs.Common.{◌≡◌, ℕ, ◌+◌, ◌≤◌, List, [], ◌∷◌, ◌++◌, length, Some, slice_get, slice_set, refl, sym, ap, ◌∙◌, subst, append_assoc, append-nil, length-append, arith}
-use Rattle.std.specs.List.{AllByRecursion, enumerate_from}
-use Rattle.std.proofs.lemmas.List.{map-append}
-use Rattle.std.proofs.Math.Seq.{set-append_seam}
-use Rattle.names.specs.Environment.{Here}
-use Rattle.typed_trees.specs.TypedTrees.{TypedProcedure, TypedModule, Constants}
-use Rattle.typed_trees.specs.WellTyped.{TypesHoldInProcedure}
-use Rattle.typing.specs.Blocks.{Owner, Progress}
-use Rattle.typing.specs.Statements.{with_here, with_constants}
+use Rattle.typing.proofs.Prelude.{◌≡◌, ℕ, ◌+◌, ◌≤◌, List, [], ◌∷◌, ◌++◌, length, Some, slice_get, slice_set, refl, sym, ap, ◌∙◌, subst, append_assoc, append-nil, length-append, arith, AllByRecursion, enumerate_from, map-append, set-append_seam, Here, TypedProcedure, TypedModule, Constants, TypesHoldInProcedure, Owner, Progress, with_here, with_constants}
 use Rattle.typing.proofs.Tables.{Keeps, keeps_append}
 use Rattle.typing.proofs.Types.TypesKept.{Heading, heading_of, headings, Has, HasLists, Holding}
 use Rattle.typing.proofs.SeenNames.{Stands}

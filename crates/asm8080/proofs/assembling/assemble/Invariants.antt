@@ -1,8 +1,4 @@
-use Rattle.std.proofs.Common.{◌≡◌, ◌+◌, ◌≤◌, drop, length}
-use Rattle.object_modules.specs.declared.segment.TheConstants.{SEGMENT_LIMIT}
-use Rattle.asm8080.specs.Items.{size_of_items}
-use Rattle.asm8080.specs.Assembled.{place_in}
-use Rattle.asm8080.specs.internal.Assembling.{layout_from, no_code, with_items}
+use Rattle.asm8080.proofs.Prelude.{◌≡◌, ◌+◌, ◌≤◌, drop, length, SEGMENT_LIMIT, size_of_items, place_in, layout_from, no_code, with_items}
 use Rattle.asm8080.proofs.assembling.assemble.Given as goal
 
 abbrev pub invariant-loop-stored : goal.invariant-loop-stored

@@ -1,6 +1,4 @@
-use Rattle.std.proofs.Common.{◌≡◌, ◌+◌, ◌*◌, ◌≤◌, drop}
-use Rattle.asm8080.specs.Items.{size_of_items}
-use Rattle.asm8080.specs.internal.Assembling.{places_after, places_of}
+use Rattle.asm8080.proofs.Prelude.{◌≡◌, ◌+◌, ◌*◌, ◌≤◌, drop, size_of_items, places_after, places_of}
 use Rattle.asm8080.proofs.assembling.label_places.Given as goal
 
 abbrev pub invariant-loop-stored : goal.invariant-loop-stored

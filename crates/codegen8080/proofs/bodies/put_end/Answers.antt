@@ -1,4 +1,4 @@
-use Rattle.std.proofs.Common.{refl, rules}
+use Rattle.codegen8080.proofs.Prelude.{refl, rules}
 use Rattle.codegen8080.proofs.BodyParts.{end_added, no_end_added}
 use Rattle.codegen8080.proofs.bodies.put_end.Goals as goal
 

@@ -1,7 +1,4 @@
-use Rattle.std.proofs.Common.{refl, subst, sym}
-use Rattle.frames.specs.Frames.{HasNothing}
-use Rattle.exprgen8080.specs.declared.emission.Emission.{Emission}
-use Rattle.codegen8080.specs.declared.generator.Generator.{Generator}
+use Rattle.codegen8080.proofs.Prelude.{refl, subst, sym, HasNothing, Emission, Generator}
 use Rattle.codegen8080.proofs.BodyParts.{main_added}
 use Rattle.codegen8080.proofs.bodies.put_main.Goals as goal
 

@@ -1,6 +1,4 @@
-use Rattle.std.proofs.Common.{true, refl, subst, sym}
-use Rattle.codegen8080.specs.declared.generator.Generator.{Generator}
-use Rattle.codegen8080.specs.Modules.{IsFrameOf}
+use Rattle.codegen8080.proofs.Prelude.{true, refl, subst, sym, Generator, IsFrameOf}
 use Rattle.codegen8080.proofs.BodyParts.{own_added}
 use Rattle.codegen8080.proofs.bodies.put_own.Goals as goal
 

@@ -1,7 +1,4 @@
-use Rattle.std.proofs.Common.{[], ◌∷◌, subst}
-use Rattle.steps8080.specs.declared.step.Step.{Step}
-use Rattle.exprgen8080.specs.Emitted.{EmitsSteps}
-use Rattle.codegen8080.specs.Generated.{site_of}
+use Rattle.codegen8080.proofs.Prelude.{[], ◌∷◌, subst, Step, EmitsSteps, site_of}
 use Rattle.codegen8080.proofs.Driving.{emits_after}
 use Rattle.codegen8080.proofs.carrying.byte_at_address.Goals as goal
 

@@ -1,8 +1,4 @@
-use Rattle.std.proofs.Common.{[], ◌∷◌, subst}
-use Rattle.steps8080.specs.declared.step.Step.{Step}
-use Rattle.exprgen8080.specs.Emitted.{EmitsSteps}
-use Rattle.exprgen8080.proofs.Emitting.{emits_then}
-use Rattle.codegen8080.specs.Generated.{site_of}
+use Rattle.codegen8080.proofs.Prelude.{[], ◌∷◌, subst, Step, EmitsSteps, emits_then, site_of}
 use Rattle.codegen8080.proofs.Driving.{emits_after}
 use Rattle.codegen8080.proofs.carrying.frame_word.Goals as goal
 

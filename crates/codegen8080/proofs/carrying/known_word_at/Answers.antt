@@ -1,8 +1,4 @@
-use Rattle.std.proofs.Common.{[], ◌∷◌, Some, OnOk, subst}
-use Rattle.steps8080.specs.declared.facts.Facts.{Facts}
-use Rattle.steps8080.specs.declared.step.Step.TheVariants.{Holds}
-use Rattle.exprgen8080.specs.Emitted.{EmitsSteps}
-use Rattle.codegen8080.specs.Generated.{site_of}
+use Rattle.codegen8080.proofs.Prelude.{[], ◌∷◌, Some, OnOk, subst, Facts, Holds, EmitsSteps, site_of}
 use Rattle.codegen8080.proofs.Driving.{emits_after}
 use Rattle.codegen8080.proofs.carrying.known_word_at.Goals as goal
 

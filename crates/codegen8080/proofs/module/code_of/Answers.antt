@@ -1,5 +1,4 @@
-use Rattle.std.proofs.Common.{ap, ◌∙◌}
-use Rattle.exprgen8080.specs.declared.emission.Emission.{Emission}
+use Rattle.codegen8080.proofs.Prelude.{ap, ◌∙◌, Emission}
 use Rattle.codegen8080.proofs.ModuleParts.{code_written}
 use Rattle.codegen8080.proofs.module.code_of.Goals as goal
 

@@ -1,8 +1,4 @@
-use Rattle.std.proofs.Common.{ap, rules, subst, ◌∙◌}
-use Rattle.steps8080.specs.Externals.{Extends}
-use Rattle.steps8080.specs.Writer.{NumbersNames}
-use Rattle.codegen8080.specs.Modules.{contents_items}
-use Rattle.codegen8080.specs.internal.Listing.{AreListed}
+use Rattle.codegen8080.proofs.Prelude.{ap, rules, subst, ◌∙◌, Extends, NumbersNames, contents_items, AreListed}
 use Rattle.codegen8080.proofs.ObjectParts.{generated, made_of_same}
 use Rattle.codegen8080.proofs.Refused.{code_refused, data_refused}
 use Rattle.codegen8080.proofs.module.generate.Goals as goal

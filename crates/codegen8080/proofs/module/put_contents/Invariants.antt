@@ -1,4 +1,4 @@
-use Rattle.std.proofs.Common.{length}
+use Rattle.codegen8080.proofs.Prelude.{length}
 use Rattle.codegen8080.proofs.ModuleParts.{IsPutting}
 use Rattle.codegen8080.proofs.module.put_contents.Given as goal
 

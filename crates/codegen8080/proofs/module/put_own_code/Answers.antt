@@ -1,10 +1,4 @@
-use Rattle.std.proofs.Common.{refl, ap, subst}
-use Rattle.steps8080.specs.declared.step.LabelNumber.{LabelNumber}
-use Rattle.steps8080.specs.declared.step.Steps.{Steps}
-use Rattle.steps8080.specs.Writer.{Writes}
-use Rattle.exprgen8080.specs.declared.emission.Emission.{Emission}
-use Rattle.codegen8080.specs.Modules.{contents_items}
-use Rattle.codegen8080.specs.internal.Bodies.{AddsProcedures}
+use Rattle.codegen8080.proofs.Prelude.{refl, ap, subst, LabelNumber, Steps, Writes, Emission, contents_items, AddsProcedures}
 use Rattle.codegen8080.proofs.ModuleParts.{own_code_added}
 use Rattle.codegen8080.proofs.module.put_own_code.Goals as goal
 

@@ -1,4 +1,4 @@
-use Rattle.std.proofs.Common.{rules}
+use Rattle.codegen8080.proofs.Prelude.{rules}
 use Rattle.codegen8080.proofs.ModuleParts.{procedures_done, procedures_step}
 use Rattle.codegen8080.proofs.module.put_procedures.Goals as goal
 

@@ -1,4 +1,4 @@
-use Rattle.std.proofs.Common.{length}
+use Rattle.codegen8080.proofs.Prelude.{length}
 use Rattle.codegen8080.proofs.ModuleParts.{AreBeingPut}
 use Rattle.codegen8080.proofs.module.put_procedures.Given as goal
 

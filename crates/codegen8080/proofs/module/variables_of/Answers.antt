@@ -1,7 +1,4 @@
-use Rattle.std.proofs.Common.{ap, subst, ◌∙◌}
-use Rattle.steps8080.specs.Externals.{entry}
-use Rattle.steps8080.specs.Writer.{NumbersNames, Written}
-use Rattle.codegen8080.specs.Modules.{contents_items}
+use Rattle.codegen8080.proofs.Prelude.{ap, subst, ◌∙◌, entry, NumbersNames, Written, contents_items}
 use Rattle.codegen8080.proofs.module.variables_of.Goals as goal
 
 pub returns-clause-externals : goal.returns-clause-externals

@@ -1,4 +1,4 @@
-use Rattle.runtime8080.specs.declared.routine.Routine.TheVariants.{Multiply, Divide, ShiftLeftByte}
+use Rattle.codegen8080.proofs.Prelude.{Multiply, Divide, ShiftLeftByte}
 use Rattle.codegen8080.proofs.ModuleParts.{no_routines, routine_then}
 use Rattle.codegen8080.proofs.module.with_arithmetic.Goals as goal
 

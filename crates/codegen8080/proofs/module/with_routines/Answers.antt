@@ -1,5 +1,4 @@
-use Rattle.codegen8080.specs.internal.Bodies.{first_routines, last_routines, next_routines}
-use Rattle.std.proofs.Common.{◌++◌}
+use Rattle.codegen8080.proofs.Prelude.{first_routines, last_routines, next_routines, ◌++◌}
 use Rattle.codegen8080.proofs.ModuleParts.{routines_then}
 use Rattle.codegen8080.proofs.module.with_routines.Goals as goal
 

@@ -1,4 +1,4 @@
-use Rattle.runtime8080.specs.declared.routine.Routine.TheVariants.{ShiftRightByte, ShiftLeftAddress, ShiftRightAddress}
+use Rattle.codegen8080.proofs.Prelude.{ShiftRightByte, ShiftLeftAddress, ShiftRightAddress}
 use Rattle.codegen8080.proofs.ModuleParts.{no_routines, routine_then}
 use Rattle.codegen8080.proofs.module.with_shifts.Goals as goal
 

@@ -1,4 +1,4 @@
-use Rattle.std.proofs.Common.{rules}
+use Rattle.codegen8080.proofs.Prelude.{rules}
 use Rattle.codegen8080.proofs.NameLoops.{listing_names_step}
 use Rattle.codegen8080.proofs.names.names_at.Goals as goal
 

@@ -1,4 +1,4 @@
-use Rattle.std.proofs.Common.{length}
+use Rattle.codegen8080.proofs.Prelude.{length}
 use Rattle.codegen8080.proofs.NameLoops.{IsListingNames}
 use Rattle.codegen8080.proofs.names.names_at.Given as goal
 

@@ -1,5 +1,4 @@
-use Rattle.std.proofs.Common.{rules}
-use Rattle.object_modules.specs.Views.{owned_public_view}
+use Rattle.codegen8080.proofs.Prelude.{rules, owned_public_view}
 use Rattle.codegen8080.proofs.NameLoops.{publics_end, publics_step}
 use Rattle.codegen8080.proofs.names.with_all_publics.Goals as goal
 

@@ -1,4 +1,4 @@
-use Rattle.std.proofs.Common.{length}
+use Rattle.codegen8080.proofs.Prelude.{length}
 use Rattle.codegen8080.proofs.NameLoops.{IsAddingPublics}
 use Rattle.codegen8080.proofs.names.with_all_publics.Given as goal
 

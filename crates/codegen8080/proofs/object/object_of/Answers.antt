@@ -1,10 +1,4 @@
-use Rattle.std.proofs.Common.{ap, ◌∙◌}
-use Rattle.object_modules.specs.declared.segment.Segment.TheVariants.{Code, Data}
-use Rattle.object_modules.specs.Module.{ObjectModule}
-use Rattle.object_modules.specs.Stored.{places_stored}
-use Rattle.asm8080.specs.Assembled.{segment_of}
-use Rattle.codegen8080.specs.Targets.{with_targets}
-use Rattle.codegen8080.specs.internal.Segments.{retarget}
+use Rattle.codegen8080.proofs.Prelude.{ap, ◌∙◌, Code, Data, ObjectModule, places_stored, segment_of, with_targets, retarget}
 use Rattle.codegen8080.proofs.object.object_of.Goals as goal
 
 pub returns : goal.returns

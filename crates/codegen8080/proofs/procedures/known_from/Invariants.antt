@@ -1,5 +1,4 @@
-use Rattle.std.proofs.Common.{◌≡◌, length}
-use Rattle.codegen8080.specs.Procedures.{known_from}
+use Rattle.codegen8080.proofs.Prelude.{◌≡◌, length, known_from}
 use Rattle.codegen8080.proofs.procedures.known_from.Given as goal
 
 abbrev pub invariant-loop-left : goal.invariant-loop-left

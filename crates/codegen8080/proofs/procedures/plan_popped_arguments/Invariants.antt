@@ -1,6 +1,4 @@
-use Rattle.std.proofs.Common.{length}
-use Rattle.codegen8080.specs.Procedures.{popped_from}
-use Rattle.statements8080.specs.internal.Adding.{IsAdding}
+use Rattle.codegen8080.proofs.Prelude.{length, popped_from, IsAdding}
 use Rattle.codegen8080.proofs.procedures.plan_popped_arguments.Given as goal
 
 abbrev pub invariant-loop-left : goal.invariant-loop-left

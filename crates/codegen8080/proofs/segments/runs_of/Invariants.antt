@@ -1,6 +1,4 @@
-use Rattle.std.proofs.Common.{◌≡◌, ◌≤◌, take}
-use Rattle.object_modules.specs.Text.{runs_from}
-use Rattle.asm8080.specs.Assembled.{set_bytes}
+use Rattle.codegen8080.proofs.Prelude.{◌≡◌, ◌≤◌, take, runs_from, set_bytes}
 use Rattle.codegen8080.proofs.KeptSegments.{IsStretch}
 use Rattle.codegen8080.proofs.segments.runs_of.Given as goal
 

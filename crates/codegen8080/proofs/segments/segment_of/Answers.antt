@@ -1,7 +1,4 @@
-use Rattle.std.proofs.Common.{◌≡◌, sym, subst, rules}
-use Rattle.asm8080.specs.Assembled.{segment_of}
-use Rattle.codegen8080.specs.Targets.{with_targets}
-use Rattle.codegen8080.specs.internal.Segments.{IsKept, retarget}
+use Rattle.codegen8080.proofs.Prelude.{◌≡◌, sym, subst, rules, segment_of, with_targets, IsKept, retarget}
 use Rattle.codegen8080.proofs.KeptSegments.{kept}
 use Rattle.codegen8080.proofs.segments.segment_of.Goals as goal
 

@@ -1,6 +1,4 @@
-use Rattle.std.proofs.Common.{◌≡◌, ◌++◌, drop, map}
-use Rattle.codegen8080.specs.Targets.{retargeted}
-use Rattle.codegen8080.specs.internal.Segments.{retarget}
+use Rattle.codegen8080.proofs.Prelude.{◌≡◌, ◌++◌, drop, map, retargeted, retarget}
 use Rattle.codegen8080.proofs.targets.retargeted.Given as goal
 
 abbrev pub invariant-loop-fix : goal.invariant-loop-fix

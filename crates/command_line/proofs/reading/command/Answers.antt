@@ -1,11 +1,4 @@
-use Rattle.std.proofs.Common.{◌≡◌, ◌∙◌, [], ap, sym, subst}
-use Rattle.std.specs.Prelude.{◌<◌, length, option_and_then, option_map}
-use Rattle.clap.specs.Walk.{texts}
-use Rattle.clap.specs.Faults.{is_simple_and_free}
-use Rattle.clap.specs.Kinds.{HasKind}
-use Rattle.clap.specs.Words.{App, fault_of, is_simple, subcommand_of, subcommand_rows_of}
-use Rattle.command_line.specs.Command.{IsFaultOf, Orders, files_in, plm_app, wanted_by, wanted_in, wanted_of_match}
-use Rattle.command_line.specs.declared.orders.Order.{Order}
+use Rattle.command_line.proofs.Prelude.{◌≡◌, ◌∙◌, [], ap, sym, subst, ◌<◌, length, option_and_then, option_map, texts, is_simple_and_free, HasKind, App, fault_of, is_simple, subcommand_of, subcommand_rows_of, IsFaultOf, Orders, files_in, plm_app, wanted_by, wanted_in, wanted_of_match, Order}
 use Rattle.command_line.proofs.CommandLemmas.{fault_among, gives_none, out_of_memory, tells_none, wants_any}
 use Rattle.command_line.proofs.Given.{compile_failed, compile_ordered, files_failed, files_ordered, link_failed, link_ordered, map_failed, map_ordered, need_failed, need_ordered, place_failed, place_ordered, place_text_failed, place_text_ordered, text_failed, text_ordered}
 use Rattle.command_line.proofs.PlmWords.{order_is_there, some_files, plm_is_free, plm_is_simple}

@@ -1,8 +1,4 @@
-use Rattle.std.proofs.Common.{◌∙◌, List, Option, [], Ok, Err, ap, codes}
-use Rattle.std.specs.Prelude.{IfOk, Result, unwrap_or}
-use Rattle.clap.proofs.WalkLemmas.{raw_values-rows}
-use Rattle.clap.specs.Walk.{texts}
-use Rattle.clap.specs.Words.{Text, found_of}
+use Rattle.command_line.proofs.Prelude.{◌∙◌, List, Option, [], Ok, Err, ap, codes, IfOk, Result, unwrap_or, raw_values-rows, texts, Text, found_of}
 use Rattle.command_line.proofs.reading.files.Goals as goal
 
 ok_then : {A E : Type 0} {P Q : A → Type 0} (result : Result A E) → IfOk result P → ((a : A) → P a → Q a) → IfOk result Q

@@ -1,6 +1,4 @@
-use Rattle.std.proofs.Common.{◌∙◌}
-use Rattle.clap.proofs.WalkLemmas.{first_value-rows}
-use Rattle.clap.specs.Words.{found_of}
+use Rattle.command_line.proofs.Prelude.{◌∙◌, first_value-rows, found_of}
 use Rattle.command_line.proofs.reading.first.Goals as goal
 
 pub returns : goal.returns

@@ -1,4 +1,4 @@
-use Rattle.std.proofs.Common.{◌∙◌}
+use Rattle.command_line.proofs.Prelude.{◌∙◌}
 use Rattle.command_line.proofs.Inputs.{pair_step}
 use Rattle.command_line.proofs.values.add_bytes.Goals as goal
 

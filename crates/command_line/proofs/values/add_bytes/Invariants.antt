@@ -1,6 +1,4 @@
-use Rattle.std.proofs.Common.{◌≡◌, length}
-use Rattle.command_line.specs.Settings.{bytes_for}
-use Rattle.command_line.specs.internal.Reads.{in_front}
+use Rattle.command_line.proofs.Prelude.{◌≡◌, length, bytes_for, in_front}
 use Rattle.command_line.proofs.values.add_bytes.Given as goal
 
 abbrev pub invariant-loop-rest : goal.invariant-loop-rest

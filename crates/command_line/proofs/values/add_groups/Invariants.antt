@@ -1,6 +1,4 @@
-use Rattle.std.proofs.Common.{◌≡◌, length, map}
-use Rattle.command_line.specs.Settings.{groups_bytes}
-use Rattle.command_line.specs.internal.Reads.{in_front}
+use Rattle.command_line.proofs.Prelude.{◌≡◌, length, map, groups_bytes, in_front}
 use Rattle.command_line.proofs.values.add_groups.Given as goal
 
 abbrev pub invariant-loop-rest : goal.invariant-loop-rest

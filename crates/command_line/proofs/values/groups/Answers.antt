@@ -1,6 +1,4 @@
-use Rattle.std.proofs.Common.{lit<}
-use Rattle.std.proofs.lemmas.Iterator.Consumers.{map_from_collect}
-use Rattle.std.proofs.lemmas.Iterator.Splits.{YieldsList-from_str_split}
+use Rattle.command_line.proofs.Prelude.{lit<, map_from_collect, YieldsList-from_str_split}
 use Rattle.command_line.proofs.values.groups.Goals as goal
 
 pub returns : goal.returns

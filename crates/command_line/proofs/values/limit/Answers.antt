@@ -1,5 +1,4 @@
-use Rattle.std.proofs.Common.{◌≡◌, false, slice_index, lit<}
-use Rattle.std.specs.Prelude.{◌==◌}
+use Rattle.command_line.proofs.Prelude.{◌≡◌, false, slice_index, lit<, ◌==◌}
 use Rattle.command_line.proofs.Decimals.{number_read, number_refused}
 use Rattle.command_line.proofs.values.limit.Goals as goal
 

@@ -1,5 +1,4 @@
-use Rattle.std.proofs.Common.{refl}
-use Rattle.host.proofs.LinesPrinted.{tells_no_file}
+use Rattle.commands.proofs.Prelude.{refl, tells_no_file}
 use Rattle.commands.proofs.Untold.{refuses_memory, refuses_values, runs_out}
 use Rattle.commands.proofs.ProgramsTold.{prints_program}
 use Rattle.commands.proofs.console.carry_out_program.Goals as goal

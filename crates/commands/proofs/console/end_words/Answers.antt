@@ -1,8 +1,5 @@
-use Rattle.std.proofs.Common.{refl, subst}
-use Rattle.host.proofs.FilesRead.{stays}
-use Rattle.host.proofs.LinesPrinted.{tells_no_file}
+use Rattle.commands.proofs.Prelude.{refl, subst, stays, tells_no_file, IsWrong}
 use Rattle.commands.proofs.Untold.{runs_out}
-use Rattle.commands.specs.internal.LineFaults.{IsWrong}
 use Rattle.commands.proofs.OrdersKept.{kept_by_words, kept_stops}
 use Rattle.commands.proofs.ProgramsTold.{memory_by_words, refuses_by_words, runs_by_words}
 use Rattle.commands.proofs.TextsTold.{help_at_most, none_told}

@@ -1,4 +1,4 @@
-use Rattle.std.proofs.Common.{◌≤◌, ℕ, subst, sym, ◌∙◌}
+use Rattle.commands.proofs.Prelude.{◌≤◌, ℕ, subst, sym, ◌∙◌}
 use Rattle.commands.proofs.ProgramsTold.{runs_by_status}
 use Rattle.commands.proofs.OrdersKept.{refused_is}
 use Rattle.commands.proofs.TextsTold.{wrong_is}

@@ -1,5 +1,4 @@
-use Rattle.std.proofs.Common.{codes, refl}
-use Rattle.host.proofs.LinesPrinted.{same_line, tells_other}
+use Rattle.commands.proofs.Prelude.{codes, refl, same_line, tells_other}
 use Rattle.commands.proofs.refusals.refuse_value.Goals as goal
 
 pub returns-clause-line : goal.returns-clause-line

@@ -1,6 +1,4 @@
-use Rattle.std.proofs.Common.{arith}
-use Rattle.placing.specs.Views.{placement_view}
-use Rattle.declared.specs.Access.{modules_in}
+use Rattle.declared.proofs.Prelude.{arith, placement_view, modules_in}
 use Rattle.declared.proofs.TableKinds.{table_declares, table_tells_constants}
 use Rattle.declared.proofs.bytes.kind_of.Goals as goal
 

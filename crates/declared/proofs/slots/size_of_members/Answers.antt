@@ -1,6 +1,4 @@
-use Rattle.std.proofs.Common.{◌+◌, ap, arith, drop, ◌∙◌}
-use Rattle.std.specs.Prelude.{sum_by}
-use Rattle.typed_trees.specs.Sizes.{size_of_member}
+use Rattle.declared.proofs.Prelude.{◌+◌, ap, arith, drop, ◌∙◌, sum_by, size_of_member}
 use Rattle.declared.proofs.MemberSums.{no_gap, one_more}
 use Rattle.declared.proofs.slots.size_of_members.Goals as goal
 use Rattle.declared.proofs.slots.size_of_members.Goals.{in-Some+in-Some-checked_add, in_default}

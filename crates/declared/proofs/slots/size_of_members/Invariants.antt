@@ -1,7 +1,5 @@
 -- The members so far, and those that are left, are all of them.
-use Rattle.std.proofs.Common.{◌≡◌, ◌+◌, drop}
-use Rattle.std.specs.Prelude.{sum_by}
-use Rattle.typed_trees.specs.Sizes.{size_of_member}
+use Rattle.declared.proofs.Prelude.{◌≡◌, ◌+◌, drop, sum_by, size_of_member}
 use Rattle.declared.proofs.slots.size_of_members.Given as goal
 
 abbrev pub invariant-loop-position : goal.invariant-loop-position

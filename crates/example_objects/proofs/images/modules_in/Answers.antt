@@ -1,6 +1,4 @@
-use Rattle.std.proofs.Common.{◌+◌, take, sym, subst, arith}
-use Rattle.std.specs.List.{AllZip}
-use Rattle.object_modules.specs.Spelling.{Spells}
+use Rattle.example_objects.proofs.Prelude.{◌+◌, take, sym, subst, arith, AllZip, Spells}
 use Rattle.example_objects.proofs.FilesRead.{bytes_of, one_more}
 use Rattle.example_objects.proofs.images.modules_in.Goals as goal
 

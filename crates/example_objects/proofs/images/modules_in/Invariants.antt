@@ -1,6 +1,4 @@
-use Rattle.std.proofs.Common.{map, take}
-use Rattle.std.specs.List.{AllZip}
-use Rattle.object_modules.specs.Spelling.{Spells}
+use Rattle.example_objects.proofs.Prelude.{map, take, AllZip, Spells}
 use Rattle.example_objects.proofs.images.modules_in.Given as goal
 
 abbrev pub invariant-loop-file : goal.invariant-loop-file

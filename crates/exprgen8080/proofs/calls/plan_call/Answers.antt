@@ -1,4 +1,4 @@
-use Rattle.std.proofs.Common.{◌∙◌, sym, arith}
+use Rattle.exprgen8080.proofs.Prelude.{◌∙◌, sym, arith}
 use Rattle.exprgen8080.proofs.Arguments.{call_planned, last_planned, none_passed, none_planned, pushed_planned}
 use Rattle.exprgen8080.proofs.calls.plan_call.Goals.{in-Some+then-index-last+in_ok-plan_pushed_argument, in-Some+else-index-last+in_ok-plan_last_argument, in_default}
 use Rattle.exprgen8080.proofs.calls.plan_call.Goals as goal

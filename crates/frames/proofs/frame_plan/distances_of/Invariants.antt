@@ -1,5 +1,4 @@
-use Rattle.std.proofs.Common.{◌≡◌, ◌++◌, drop}
-use Rattle.frames.specs.internal.Distances.{distances_from}
+use Rattle.frames.proofs.Prelude.{◌≡◌, ◌++◌, drop, distances_from}
 use Rattle.frames.proofs.frame_plan.distances_of.Given as goal
 
 abbrev pub invariant-loop-variable : goal.invariant-loop-variable

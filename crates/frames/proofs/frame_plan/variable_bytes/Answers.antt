@@ -1,5 +1,4 @@
-use Rattle.frames.specs.Frames.{variable_bytes}
-use Rattle.frames.specs.internal.Distances.{capped}
+use Rattle.frames.proofs.Prelude.{variable_bytes, capped}
 use Rattle.frames.proofs.Distances.{bytes_passed}
 use Rattle.frames.proofs.frame_plan.variable_bytes.Goals as goal
 

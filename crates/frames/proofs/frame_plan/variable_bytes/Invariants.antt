@@ -1,6 +1,4 @@
-use Rattle.std.proofs.Common.{◌≡◌, ◌+◌, ◌≤◌, drop}
-use Rattle.frames.specs.Frames.{variable_bytes}
-use Rattle.frames.specs.internal.Distances.{capped}
+use Rattle.frames.proofs.Prelude.{◌≡◌, ◌+◌, ◌≤◌, drop, variable_bytes, capped}
 use Rattle.frames.proofs.frame_plan.variable_bytes.Given as goal
 
 abbrev pub invariant-loop-variable : goal.invariant-loop-variable

@@ -1,4 +1,4 @@
-use Rattle.std.proofs.Common.{arith}
+use Rattle.hex80.proofs.Prelude.{arith}
 use Rattle.hex80.proofs.ReadLemmas.{line_in_front}
 use Rattle.hex80.proofs.read.first_line.Goals as goal
 

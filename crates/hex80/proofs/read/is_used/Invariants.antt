@@ -1,5 +1,4 @@
-use Rattle.std.proofs.Common.{◌≡◌, drop}
-use Rattle.std.specs.List.{list_any}
+use Rattle.hex80.proofs.Prelude.{◌≡◌, drop, list_any}
 use Rattle.hex80.proofs.read.is_used.Given as goal
 
 abbrev pub invariant-loop-mark : goal.invariant-loop-mark

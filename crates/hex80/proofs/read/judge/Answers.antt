@@ -1,7 +1,4 @@
-use Rattle.std.proofs.Common.{ap, sym, subst, refl, ◌∙◌, arith}
-use Rattle.std.specs.Str.Lines.{lines}
-use Rattle.hex80.specs.internal.Judgement.{judged_after}
-use Rattle.hex80.specs.internal.Reading.{Marks, unmarked}
+use Rattle.hex80.proofs.Prelude.{ap, sym, subst, refl, ◌∙◌, arith, lines, judged_after, Marks, unmarked}
 use Rattle.hex80.proofs.ReadLemmas.{no_marks, judged_first, judge_on, judge_fault}
 use Rattle.hex80.proofs.read.judge.Goals as goal
 

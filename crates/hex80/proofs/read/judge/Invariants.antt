@@ -1,7 +1,4 @@
-use Rattle.std.proofs.Common.{◌≡◌, ◌≤◌, ◌-◌, drop, length}
-use Rattle.std.specs.Str.Lines.{lines}
-use Rattle.hex80.specs.internal.Judgement.{judged_after, judgement_of}
-use Rattle.hex80.specs.internal.Reading.{Marks}
+use Rattle.hex80.proofs.Prelude.{◌≡◌, ◌≤◌, ◌-◌, drop, length, lines, judged_after, judgement_of, Marks}
 use Rattle.hex80.proofs.read.judge.Given as goal
 
 abbrev pub invariant-loop-at : goal.invariant-loop-at

@@ -1,4 +1,4 @@
-use Rattle.std.proofs.Common.{◌≡◌, ℕ, ◌<◌, get_or}
+use Rattle.hex80.proofs.Prelude.{◌≡◌, ℕ, ◌<◌, get_or}
 use Rattle.hex80.proofs.read.line_end.Given as goal
 
 abbrev pub invariant-loop-i : goal.invariant-loop-i

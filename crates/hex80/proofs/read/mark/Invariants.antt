@@ -1,5 +1,4 @@
-use Rattle.std.proofs.Common.{◌≡◌, ◌-◌}
-use Rattle.hex80.specs.internal.Reading.{marked_from}
+use Rattle.hex80.proofs.Prelude.{◌≡◌, ◌-◌, marked_from}
 use Rattle.hex80.proofs.read.mark.Given as goal
 
 abbrev pub invariant-loop-address : goal.invariant-loop-address

@@ -1,4 +1,4 @@
-use Rattle.std.proofs.Common.{sym, ◌∙◌, arith}
+use Rattle.hex80.proofs.Prelude.{sym, ◌∙◌, arith}
 use Rattle.hex80.proofs.ReadLemmas.{byte_more, odd_digits}
 use Rattle.hex80.proofs.read.put_bytes.Goals as goal
 

@@ -1,5 +1,4 @@
-use Rattle.std.proofs.Common.{◌≡◌, ◌*◌, take, drop}
-use Rattle.hex80.specs.Spelling.{bytes_in}
+use Rattle.hex80.proofs.Prelude.{◌≡◌, ◌*◌, take, drop, bytes_in}
 use Rattle.hex80.proofs.ReadLemmas.{in_front}
 use Rattle.hex80.proofs.read.put_bytes.Given as goal
 

@@ -1,4 +1,4 @@
-use Rattle.std.proofs.Common.{arith}
+use Rattle.hex80.proofs.Prelude.{arith}
 use Rattle.hex80.proofs.ReadLemmas.{long_line}
 use Rattle.hex80.proofs.read.put_line.Goals as goal
 

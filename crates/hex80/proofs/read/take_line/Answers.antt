@@ -1,7 +1,4 @@
-use Rattle.std.proofs.Common.{◌≡◌, ℕ, ◌+◌, ◌-◌, List, [], ◌∷◌, ◌++◌, take, drop, option_map, ap, sym, ◌∙◌, arith}
-use Rattle.std.proofs.lemmas.Grind.{common_steps}
-use Rattle.mem80.specs.declared.range.Piece.{Piece}
-use Rattle.hex80.specs.internal.Reading.{line_at}
+use Rattle.hex80.proofs.Prelude.{◌≡◌, ℕ, ◌+◌, ◌-◌, List, [], ◌∷◌, ◌++◌, take, drop, option_map, ap, sym, ◌∙◌, arith, common_steps, Piece, line_at}
 use Rattle.hex80.proofs.ReadLemmas.{bad_line, marks_taken, overlaps, takes_line}
 use Rattle.hex80.proofs.read.take_line.Goals as goal
 

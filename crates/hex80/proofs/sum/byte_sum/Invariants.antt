@@ -1,4 +1,4 @@
-use Rattle.std.proofs.Common.{◌≡◌, ◌%◌, take, sum}
+use Rattle.hex80.proofs.Prelude.{◌≡◌, ◌%◌, take, sum}
 use Rattle.hex80.proofs.sum.byte_sum.Given as goal
 
 abbrev pub invariant-loop-byte : goal.invariant-loop-byte

@@ -1,4 +1,4 @@
-use Rattle.std.proofs.Common.{codes, refl}
+use Rattle.host.proofs.Prelude.{codes, refl}
 use Rattle.host.proofs.LinesPrinted.{tells_other}
 use Rattle.host.proofs.endings.refuse_memory.Goals as goal
 

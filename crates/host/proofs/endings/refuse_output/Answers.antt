@@ -1,4 +1,4 @@
-use Rattle.std.proofs.Common.{refl}
+use Rattle.host.proofs.Prelude.{refl}
 use Rattle.host.proofs.LinesPrinted.{same_line, tells_output}
 use Rattle.host.proofs.endings.refuse_output.Goals as goal
 

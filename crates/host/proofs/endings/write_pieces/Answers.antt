@@ -1,4 +1,4 @@
-use Rattle.std.proofs.Common.{refl}
+use Rattle.host.proofs.Prelude.{refl}
 use Rattle.host.proofs.LinesPrinted.{piece_begun, piece_sent}
 use Rattle.host.proofs.endings.write_pieces.Goals as goal
 

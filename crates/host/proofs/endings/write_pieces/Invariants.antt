@@ -1,4 +1,4 @@
-use Rattle.std.proofs.Common.{length}
+use Rattle.host.proofs.Prelude.{length}
 use Rattle.host.proofs.LinesPrinted.{Sent, joined}
 use Rattle.host.proofs.endings.write_pieces.Given as goal
 

@@ -1,5 +1,4 @@
-use Rattle.std.proofs.Common.{◌≡◌, length, map}
-use Rattle.host.specs.Files.{KeepsFiles}
+use Rattle.host.proofs.Prelude.{◌≡◌, length, map, KeepsFiles}
 use Rattle.host.proofs.FilesRead.{ReadSoFar}
 use Rattle.host.proofs.reading.read_files.Given as goal
 

@@ -1,6 +1,4 @@
-use Rattle.std.proofs.Common.{◌≡◌, drop, map}
-use Rattle.typed_trees.specs.Views.{module_view}
-use Rattle.interpreter.specs.internal.MainModules.{found_from}
+use Rattle.interpreter.proofs.Prelude.{◌≡◌, drop, map, module_view, found_from}
 use Rattle.interpreter.proofs.main_module.main_module.Given as goal
 
 abbrev pub invariant-loop-number : goal.invariant-loop-number

@@ -1,9 +1,5 @@
-use Rattle.std.proofs.Common.{◌≡◌, ◌∙◌, Some, ap, map, option_map, sym}
-use Rattle.typed_trees.specs.declared.module.Typed.{Typed}
-use Rattle.typed_trees.specs.Views.{module_view}
-use Rattle.placing.specs.Views.{placement_view}
+use Rattle.interpreter.proofs.Prelude.{◌≡◌, ◌∙◌, Some, ap, map, option_map, sym, Typed, module_view, placement_view, found_from, found_view}
 use Rattle.declared.specs.Access.{modules_in}
-use Rattle.interpreter.specs.internal.MainModules.{found_from, found_view}
 use Rattle.interpreter.proofs.Runs.{begins_same, begun, either, if_ok, kept_reached, kept_stopped, meant, on_err, started, tables}
 use Rattle.interpreter.proofs.program.interpret.Goals as goal
 

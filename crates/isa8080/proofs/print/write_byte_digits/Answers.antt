@@ -1,6 +1,4 @@
-use Rattle.std.proofs.Common.{◌≡◌, ℕ, ◌^◌, ◌-◌, ◌<◌, true, Some, ap, subst}
-use Rattle.std.specs.Fmt.{DisplaysOnOk, digits, digits_output, format_spec, styled_digits_output}
-use Rattle.std.proofs.lemmas.Fmt.{hex_byte}
+use Rattle.isa8080.proofs.Prelude.{◌≡◌, ℕ, ◌^◌, ◌-◌, ◌<◌, true, Some, ap, subst, DisplaysOnOk, digits, digits_output, format_spec, styled_digits_output, hex_byte}
 use Rattle.isa8080.specs.Text.{byte_digits}
 use Rattle.isa8080.proofs.print.write_byte_digits.Goals as goal
 

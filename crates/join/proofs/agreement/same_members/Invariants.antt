@@ -1,5 +1,4 @@
-use Rattle.std.proofs.Common.{◌≡◌, ◌≤◌, length, drop}
-use Rattle.layout.specs.Joined.{same_members}
+use Rattle.join.proofs.Prelude.{◌≡◌, ◌≤◌, length, drop, same_members}
 use Rattle.join.proofs.agreement.same_members.Given as goal
 
 abbrev pub invariant-loop-position : goal.invariant-loop-position

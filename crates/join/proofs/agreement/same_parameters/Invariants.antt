@@ -1,5 +1,4 @@
-use Rattle.std.proofs.Common.{◌≡◌, length}
-use Rattle.layout.specs.Joined.{same_parameters}
+use Rattle.join.proofs.Prelude.{◌≡◌, length, same_parameters}
 use Rattle.join.proofs.agreement.same_parameters.Given as goal
 
 abbrev pub invariant-loop-lefts : goal.invariant-loop-lefts

@@ -1,5 +1,4 @@
-use Rattle.std.proofs.Common.{map}
-use Rattle.typed_trees.specs.Views.{module_view}
+use Rattle.join.proofs.Prelude.{map, module_view}
 use Rattle.join.proofs.Refusals.{otherwise_found}
 use Rattle.join.proofs.joined.fault_among.Goals as goal
 

@@ -1,6 +1,4 @@
-use Rattle.std.proofs.Common.{◌≡◌, count_by, drop, map}
-use Rattle.typed_trees.specs.Views.{module_view}
-use Rattle.layout.specs.Joined.{is_main}
+use Rattle.join.proofs.Prelude.{◌≡◌, count_by, drop, map, module_view, is_main}
 use Rattle.join.proofs.MainModules.{mains}
 use Rattle.join.proofs.joined.has_one_main.Given as goal
 

@@ -1,7 +1,4 @@
-use Rattle.std.proofs.Common.{◌≡◌, ◌++◌, length, filter_map}
-use Rattle.typed_trees.specs.Views.{module_view}
-use Rattle.layout.specs.Joined.{global_of}
-use Rattle.join.specs.internal.Shared.{globals_view}
+use Rattle.join.proofs.Prelude.{◌≡◌, ◌++◌, length, filter_map, module_view, global_of, globals_view}
 use Rattle.join.proofs.shared.push_shared.Given as goal
 
 abbrev pub invariant-loop-rest : goal.invariant-loop-rest

@@ -1,7 +1,4 @@
-use Rattle.std.proofs.Common.{arith, map}
-use Rattle.typed_trees.specs.Views.{module_view}
-use Rattle.layout.specs.Joined.{globals_of}
-use Rattle.join.specs.internal.Shared.{globals_view}
+use Rattle.join.proofs.Prelude.{arith, map, module_view, globals_of, globals_view}
 use Rattle.join.proofs.GlobalLoops.{module_pushed}
 use Rattle.join.proofs.shared.shared_by.Goals as goal
 

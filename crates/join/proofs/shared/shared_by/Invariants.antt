@@ -1,7 +1,4 @@
-use Rattle.std.proofs.Common.{◌≡◌, ◌++◌, drop, map}
-use Rattle.typed_trees.specs.Views.{module_view}
-use Rattle.layout.specs.Joined.{globals_of}
-use Rattle.join.specs.internal.Shared.{globals_view}
+use Rattle.join.proofs.Prelude.{◌≡◌, ◌++◌, drop, map, module_view, globals_of, globals_view}
 use Rattle.join.proofs.shared.shared_by.Given as goal
 
 abbrev pub invariant-loop-typed : goal.invariant-loop-typed

@@ -1,9 +1,4 @@
-use Rattle.std.proofs.Common.{◌≡◌, ◌+◌, ◌≤◌, drop}
-use Rattle.std.specs.Prelude.{sum_by}
-use Rattle.typed_trees.specs.Views.{module_view}
-use Rattle.typed_trees.specs.Weight.{size_of_constant}
-use Rattle.layout.specs.declared.slot.TheConstants.{SEGMENT_LIMIT}
-use Rattle.layout.specs.internal.Offsets.{put_all}
+use Rattle.layout.proofs.Prelude.{◌≡◌, ◌+◌, ◌≤◌, drop, sum_by, module_view, size_of_constant, SEGMENT_LIMIT, put_all}
 use Rattle.layout.proofs.offsets.offsets_of.Given as goal
 
 abbrev pub invariant-loop-item : goal.invariant-loop-item

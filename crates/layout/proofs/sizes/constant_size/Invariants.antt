@@ -1,7 +1,4 @@
-use Rattle.std.proofs.Common.{◌≡◌, ◌+◌, ◌≤◌, min, drop}
-use Rattle.std.specs.Prelude.{sum_by}
-use Rattle.typed_trees.specs.Views.{module_view}
-use Rattle.typed_trees.specs.Weight.{constant_bytes, size_of_constant}
+use Rattle.layout.proofs.Prelude.{◌≡◌, ◌+◌, ◌≤◌, min, drop, sum_by, module_view, constant_bytes, size_of_constant}
 use Rattle.layout.proofs.sizes.constant_size.Given as goal
 
 abbrev pub invariant-loop-item : goal.invariant-loop-item

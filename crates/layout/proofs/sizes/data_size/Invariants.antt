@@ -1,6 +1,4 @@
-use Rattle.std.proofs.Common.{◌≡◌, ◌+◌, ◌≤◌, min, map, drop}
-use Rattle.typed_trees.specs.Views.{object_view}
-use Rattle.layout.specs.Storage.{data_bytes}
+use Rattle.layout.proofs.Prelude.{◌≡◌, ◌+◌, ◌≤◌, min, map, drop, object_view, data_bytes}
 use Rattle.layout.proofs.sizes.data_size.Given as goal
 
 abbrev pub invariant-loop-object : goal.invariant-loop-object

@@ -1,6 +1,4 @@
-use Rattle.std.proofs.Common.{◌≡◌, map, drop, vec_items}
-use Rattle.std.specs.List.{list_all}
-use Rattle.layout.specs.Storage.{fits_as_list}
+use Rattle.layout.proofs.Prelude.{◌≡◌, map, drop, vec_items, list_all, fits_as_list}
 use Rattle.layout.proofs.sizes.lists_fit.Given as goal
 
 abbrev pub invariant-loop-bytes : goal.invariant-loop-bytes

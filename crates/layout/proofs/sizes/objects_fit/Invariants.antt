@@ -1,7 +1,4 @@
-use Rattle.std.proofs.Common.{◌≡◌, map, drop}
-use Rattle.std.specs.List.{list_all}
-use Rattle.typed_trees.specs.Views.{object_view}
-use Rattle.layout.specs.Storage.{fits_as_object}
+use Rattle.layout.proofs.Prelude.{◌≡◌, map, drop, list_all, object_view, fits_as_object}
 use Rattle.layout.proofs.sizes.objects_fit.Given as goal
 
 abbrev pub invariant-loop-object : goal.invariant-loop-object

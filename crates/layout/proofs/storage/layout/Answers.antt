@@ -1,5 +1,5 @@
 -- The storage, by what was found of the sizes and of the slots.
-use Rattle.typed_trees.specs.Views.{module_view}
+use Rattle.layout.proofs.Prelude.{module_view}
 use Rattle.layout.proofs.Slots.{storage_found}
 use Rattle.layout.proofs.storage.layout.Goals as goal
 

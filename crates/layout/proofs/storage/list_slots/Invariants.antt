@@ -1,7 +1,4 @@
-use Rattle.std.proofs.Common.{◌≡◌, ◌++◌, IsTrue, map, drop, vec_items}
-use Rattle.std.specs.List.{list_all}
-use Rattle.layout.specs.Storage.{fits_as_list}
-use Rattle.layout.specs.internal.Offsets.{list_slots_from}
+use Rattle.layout.proofs.Prelude.{◌≡◌, ◌++◌, IsTrue, map, drop, vec_items, list_all, fits_as_list, list_slots_from}
 use Rattle.layout.proofs.storage.list_slots.Given as goal
 
 abbrev pub invariant-loop-bytes : goal.invariant-loop-bytes

@@ -1,9 +1,4 @@
-use Rattle.std.proofs.Common.{◌≡◌, ◌+◌, ◌≤◌, ◌++◌, IsTrue, map, drop}
-use Rattle.std.specs.List.{list_all}
-use Rattle.typed_trees.specs.Views.{object_view}
-use Rattle.layout.specs.declared.slot.TheConstants.{SEGMENT_LIMIT}
-use Rattle.layout.specs.Storage.{data_bytes, fits_as_object}
-use Rattle.layout.specs.internal.Offsets.{slots_from}
+use Rattle.layout.proofs.Prelude.{◌≡◌, ◌+◌, ◌≤◌, ◌++◌, IsTrue, map, drop, list_all, object_view, SEGMENT_LIMIT, data_bytes, fits_as_object, slots_from}
 use Rattle.layout.proofs.storage.object_slots.Given as goal
 
 abbrev pub invariant-loop-object : goal.invariant-loop-object

@@ -1,8 +1,4 @@
-use Rattle.std.proofs.Common.{length, ap, sym, subst, ◌∙◌}
-use Rattle.object_modules.specs.declared.segment.Segment.TheVariants.{Code, Data}
-use Rattle.object_modules.specs.Before.{same_segment}
-use Rattle.link_laws.specs.internal.Building.{AreWithin}
-use Rattle.link_laws.proofs.ContentsFitAt.{first_within}
+use Rattle.link.proofs.Prelude.{length, ap, sym, subst, ◌∙◌, Code, Data, same_segment, AreWithin, first_within}
 use Rattle.link.proofs.contents.add_contents.Goals as goal
 
 pub add_content-requires-clause-within : goal.add_content-requires-clause-within

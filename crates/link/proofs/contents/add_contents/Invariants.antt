@@ -1,6 +1,4 @@
-use Rattle.std.proofs.Common.{◌≡◌, length}
-use Rattle.object_modules.specs.declared.segment.Segment.TheVariants.{Code, Data}
-use Rattle.link_laws.specs.internal.Growing.{AllFitAt, grown_in}
+use Rattle.link.proofs.Prelude.{◌≡◌, length, Code, Data, AllFitAt, grown_in}
 use Rattle.link.proofs.contents.add_contents.Given as goal
 
 abbrev pub invariant-loop-content : goal.invariant-loop-content

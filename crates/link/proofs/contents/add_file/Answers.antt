@@ -1,9 +1,4 @@
-use Rattle.std.proofs.Common.{◌+◌, ◌≤◌, sym, subst, ◌∙◌}
-use Rattle.object_modules.specs.declared.segment.Segment.TheVariants.{Code, Data}
-use Rattle.object_modules.specs.Displacements.{start_of}
-use Rattle.link_laws.specs.internal.Growing.{Resolved}
-use Rattle.link_laws.proofs.ContentsFitAt.{code_fits, data_fits}
-use Rattle.link_laws.proofs.PieceGrown.{code_grown, data_grown}
+use Rattle.link.proofs.Prelude.{◌+◌, ◌≤◌, sym, subst, ◌∙◌, Code, Data, start_of, Resolved, code_fits, data_fits, code_grown, data_grown}
 use Rattle.link.proofs.contents.add_file.Goals as goal
 
 pub add_contents-requires-clause-code : goal.add_contents-requires-clause-code

@@ -1,6 +1,4 @@
-use Rattle.std.proofs.Common.{arith}
-use Rattle.object_modules.specs.declared.segment.Segment.TheVariants.{Code, Data}
-use Rattle.link_laws.proofs.AllGrown.{grown_step}
+use Rattle.link.proofs.Prelude.{arith, Code, Data, grown_step}
 use Rattle.link.proofs.contents.add_files.Goals as goal
 
 pub loop-one-preserved : goal.loop-one-preserved

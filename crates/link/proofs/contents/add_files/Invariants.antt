@@ -1,6 +1,4 @@
-use Rattle.std.proofs.Common.{◌≡◌, drop}
-use Rattle.object_modules.specs.declared.segment.Segment.TheVariants.{Code, Data}
-use Rattle.link_laws.specs.internal.Growing.{all_grown}
+use Rattle.link.proofs.Prelude.{◌≡◌, drop, Code, Data, all_grown}
 use Rattle.link.proofs.contents.add_files.Given as goal
 
 abbrev pub invariant-loop-one : goal.invariant-loop-one

@@ -1,8 +1,4 @@
-use Rattle.std.proofs.Common.{◌≡◌, ◌++◌, drop, filter_map, length}
-use Rattle.object_modules.specs.Displacements.{start_of}
-use Rattle.object_modules.specs.internal.Joining.{fix_kept}
-use Rattle.link_laws.specs.internal.Building.{AreWithin}
-use Rattle.link_laws.specs.internal.Growing.{kept_by}
+use Rattle.link.proofs.Prelude.{◌≡◌, ◌++◌, drop, filter_map, length, start_of, fix_kept, AreWithin, kept_by}
 use Rattle.link.proofs.growing.add_fixes.Given as goal
 
 abbrev pub invariant-loop-fix : goal.invariant-loop-fix

@@ -1,7 +1,4 @@
-use Rattle.std.proofs.Common.{◌≡◌, drop, length}
-use Rattle.object_modules.specs.internal.Joining.{bytes_after}
-use Rattle.link_laws.specs.internal.Building.{AreWithin}
-use Rattle.link_laws.specs.internal.Growing.{gain_by}
+use Rattle.link.proofs.Prelude.{◌≡◌, drop, length, bytes_after, AreWithin, gain_by}
 use Rattle.link.proofs.growing.fix_all.Given as goal
 
 abbrev pub invariant-loop-fix : goal.invariant-loop-fix

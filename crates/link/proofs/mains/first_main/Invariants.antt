@@ -1,5 +1,4 @@
-use Rattle.std.proofs.Common.{◌≡◌, drop, slice_get}
-use Rattle.object_modules.specs.Merge.{main_modules}
+use Rattle.link.proofs.Prelude.{◌≡◌, drop, slice_get, main_modules}
 use Rattle.link.proofs.mains.first_main.Given as goal
 
 abbrev pub invariant-loop-one : goal.invariant-loop-one

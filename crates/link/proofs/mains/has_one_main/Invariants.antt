@@ -1,7 +1,4 @@
-use Rattle.std.proofs.Common.{◌≡◌, ◌==◌, drop, length}
-use Rattle.object_modules.specs.Displacements.{linked_modules}
-use Rattle.object_modules.specs.Merge.{main_modules}
-use Rattle.link_laws.specs.internal.Passes.{one_main}
+use Rattle.link.proofs.Prelude.{◌≡◌, ◌==◌, drop, length, linked_modules, main_modules, one_main}
 use Rattle.link.proofs.mains.has_one_main.Given as goal
 
 abbrev pub invariant-loop-file : goal.invariant-loop-file

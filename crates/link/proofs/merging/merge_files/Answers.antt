@@ -1,9 +1,4 @@
-use Rattle.std.proofs.Common.{◌≡◌, [], Err, rules}
-use Rattle.object_modules.specs.Merge.{merge_of, public_names}
-use Rattle.link_laws.specs.Faults.{refusal_of}
-use Rattle.link_laws.specs.declared.fault.LinkFault.{LinkFault}
-use Rattle.link_laws.specs.internal.Passes.{gathered}
-use Rattle.link_laws.proofs.Linkings.{by_names, handed_on}
+use Rattle.link.proofs.Prelude.{◌≡◌, [], Err, rules, merge_of, public_names, refusal_of, LinkFault, gathered, by_names, handed_on}
 use Rattle.link.proofs.merging.merge_files.Goals as goal
 
 pub returns-in_err-names-clause-refused : goal.returns-in_err-names-clause-refused

@@ -1,9 +1,4 @@
-use Rattle.std.proofs.Common.{◌≡◌, true, Err, sym, ◌∙◌, rules}
-use Rattle.object_modules.specs.Displacements.{linked_modules}
-use Rattle.object_modules.specs.Merge.{SegmentTooLong, merge_of, some_segment_is_too_long}
-use Rattle.link_laws.specs.Faults.{refusal_of}
-use Rattle.link_laws.specs.declared.fault.LinkFault.{LinkFault}
-use Rattle.link_laws.proofs.Linkings.{by_externals, by_lengths, handed_on}
+use Rattle.link.proofs.Prelude.{◌≡◌, true, Err, sym, ◌∙◌, rules, linked_modules, SegmentTooLong, merge_of, some_segment_is_too_long, refusal_of, LinkFault, by_externals, by_lengths, handed_on}
 use Rattle.link.proofs.merging.merge_named.Goals as goal
 
 pub returns-in_err-pieces-in-None-clause-refused : goal.returns-in_err-pieces-in-None-clause-refused

@@ -1,10 +1,4 @@
-use Rattle.std.proofs.Common.{◌≡◌, true, Err, refl, ap, sym, ◌∙◌, rules}
-use Rattle.std.specs.List.{list_any}
-use Rattle.object_modules.specs.Displacements.{all_publics}
-use Rattle.object_modules.specs.Merge.{HighByteMoves, merge_of, some_high_byte_moves}
-use Rattle.link_laws.specs.Faults.{refusal_of}
-use Rattle.link_laws.specs.declared.fault.LinkFault.{LinkFault}
-use Rattle.link_laws.proofs.Linkings.{names_same, by_highs, none_refused, joined_merged, made_kept, made_merged, handed_on}
+use Rattle.link.proofs.Prelude.{◌≡◌, true, Err, refl, ap, sym, ◌∙◌, rules, list_any, all_publics, HighByteMoves, merge_of, some_high_byte_moves, refusal_of, LinkFault, names_same, by_highs, none_refused, joined_merged, made_kept, made_merged, handed_on}
 use Rattle.link.proofs.merging.merge_placed.Goals as goal
 
 pub new-publics-requires : goal.new-publics-requires

@@ -1,5 +1,4 @@
-use Rattle.std.proofs.Common.{◌≡◌, drop}
-use Rattle.link_laws.specs.internal.Building.{alignment_joined}
+use Rattle.link.proofs.Prelude.{◌≡◌, drop, alignment_joined}
 use Rattle.link.proofs.merging.merged_alignment.Given as goal
 
 abbrev pub invariant-loop-one : goal.invariant-loop-one

@@ -1,5 +1,4 @@
-use Rattle.std.proofs.Common.{◌≡◌, drop}
-use Rattle.link_laws.specs.internal.Building.{end_in, end_joined}
+use Rattle.link.proofs.Prelude.{◌≡◌, drop, end_in, end_joined}
 use Rattle.link.proofs.merging.merged_end.Given as goal
 
 abbrev pub invariant-loop-one : goal.invariant-loop-one

@@ -1,7 +1,4 @@
-use Rattle.std.proofs.Common.{refl, ap, ◌∙◌}
-use Rattle.object_modules.specs.declared.segment.Segment.TheVariants.{Code, Data}
-use Rattle.link_laws.specs.internal.Building.{alignment_joined, end_in, end_joined}
-use Rattle.link_laws.proofs.AllGrown.{segment_grown}
+use Rattle.link.proofs.Prelude.{refl, ap, ◌∙◌, Code, Data, alignment_joined, end_in, end_joined, segment_grown}
 use Rattle.link.proofs.merging.parts_of.Goals as goal
 
 pub returns : goal.returns

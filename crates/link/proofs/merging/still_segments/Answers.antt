@@ -1,5 +1,4 @@
-use Rattle.std.proofs.Common.{sym, ◌∙◌}
-use Rattle.link_laws.proofs.AllGrown.{high_grown}
+use Rattle.link.proofs.Prelude.{sym, ◌∙◌, high_grown}
 use Rattle.link.proofs.merging.still_segments.Goals as goal
 
 pub returns-then-high_byte_moves-clause-moves : goal.returns-then-high_byte_moves-clause-moves

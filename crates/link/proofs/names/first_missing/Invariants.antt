@@ -1,7 +1,4 @@
-use Rattle.std.proofs.Common.{◌≡◌, true, length}
-use Rattle.std.specs.List.{list_all}
-use Rattle.symbols.specs.Names.{is_name}
-use Rattle.link_laws.specs.internal.Passes.{missing_in}
+use Rattle.link.proofs.Prelude.{◌≡◌, true, length, list_all, is_name, missing_in}
 use Rattle.link.proofs.names.first_missing.Given as goal
 
 abbrev pub invariant-loop-name : goal.invariant-loop-name

@@ -1,12 +1,4 @@
-use Rattle.std.proofs.Common.{◌≡◌, [], Err, map, rules, arith}
-use Rattle.object_modules.specs.Merge.{public_names}
-use Rattle.link_laws.specs.Faults.{refusal_of}
-use Rattle.link_laws.specs.declared.fault.LinkFault.{LinkFault}
-use Rattle.link_laws.specs.internal.Passes.{gathered}
-use Rattle.link_laws.proofs.Linkings.{handed_on}
-use Rattle.link_laws.proofs.NameLoops.{modules_ended}
-use Rattle.link_laws.specs.internal.Growing.{public_name}
-use Rattle.link_laws.proofs.NameWalks.{file_added, file_repeats}
+use Rattle.link.proofs.Prelude.{◌≡◌, [], Err, map, rules, arith, public_names, refusal_of, LinkFault, gathered, handed_on, modules_ended, public_name, file_added, file_repeats}
 use Rattle.link.proofs.names.public_names_of.Goals as goal
 
 pub loop-file-preserved : goal.loop-file-preserved

@@ -1,6 +1,4 @@
-use Rattle.std.proofs.Common.{◌≡◌, [], drop}
-use Rattle.object_modules.specs.Merge.{public_names}
-use Rattle.link_laws.specs.internal.Passes.{gathered}
+use Rattle.link.proofs.Prelude.{◌≡◌, [], drop, public_names, gathered}
 use Rattle.link.proofs.names.public_names_of.Given as goal
 
 abbrev pub invariant-loop-file : goal.invariant-loop-file

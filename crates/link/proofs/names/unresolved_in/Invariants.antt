@@ -1,5 +1,4 @@
-use Rattle.std.proofs.Common.{◌≡◌, drop}
-use Rattle.link_laws.specs.internal.Passes.{externals_of, missing_in}
+use Rattle.link.proofs.Prelude.{◌≡◌, drop, externals_of, missing_in}
 use Rattle.link.proofs.names.unresolved_in.Given as goal
 
 abbrev pub invariant-loop-file : goal.invariant-loop-file

@@ -1,6 +1,4 @@
-use Rattle.std.proofs.Common.{◌∙◌, ap, arith}
-use Rattle.object_modules.specs.Displacements.{start_after}
-use Rattle.link_laws.proofs.StartLoops.{code_too_long, data_too_long, stack_too_long, one_more, all_placed, all_valid, all_stacks, all_fit}
+use Rattle.link.proofs.Prelude.{◌∙◌, ap, arith, start_after, code_too_long, data_too_long, stack_too_long, one_more, all_placed, all_valid, all_stacks, all_fit}
 use Rattle.link.proofs.pieces.pieces_of.Goals as goal
 
 pub returns-then-code-gt-SEGMENT_LIMIT-clause-too_long : goal.returns-then-code-gt-SEGMENT_LIMIT-clause-too_long

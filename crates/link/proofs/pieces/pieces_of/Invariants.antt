@@ -1,5 +1,4 @@
-use Rattle.std.proofs.Common.{drop}
-use Rattle.link_laws.proofs.StartLoops.{SoFar}
+use Rattle.link.proofs.Prelude.{drop, SoFar}
 use Rattle.link.proofs.pieces.pieces_of.Given as goal
 
 abbrev pub invariant-loop-file : goal.invariant-loop-file

@@ -1,9 +1,4 @@
-use Rattle.std.proofs.Common.{◌≡◌, ◌++◌, true, length, map}
-use Rattle.std.specs.List.{list_all}
-use Rattle.symbols.specs.Names.{is_name}
-use Rattle.object_modules.specs.Displacements.{public_moved}
-use Rattle.object_modules.specs.Views.{owned_public_view}
-use Rattle.link_laws.specs.internal.Growing.{public_name}
+use Rattle.link.proofs.Prelude.{◌≡◌, ◌++◌, true, length, map, list_all, is_name, public_moved, owned_public_view, public_name}
 use Rattle.link.proofs.publics.add_publics.Given as goal
 
 abbrev pub invariant-loop-public : goal.invariant-loop-public

@@ -1,6 +1,4 @@
-use Rattle.std.proofs.Common.{◌≡◌, ◌++◌, drop, map}
-use Rattle.object_modules.specs.Displacements.{all_publics}
-use Rattle.object_modules.specs.Views.{owned_public_view}
+use Rattle.link.proofs.Prelude.{◌≡◌, ◌++◌, drop, map, all_publics, owned_public_view}
 use Rattle.link.proofs.publics.publics_of.Given as goal
 
 abbrev pub invariant-loop-one : goal.invariant-loop-one

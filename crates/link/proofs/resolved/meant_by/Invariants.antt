@@ -1,7 +1,4 @@
-use Rattle.std.proofs.Common.{◌≡◌, ◌++◌, length, map}
-use Rattle.std.specs.Option.{option_map}
-use Rattle.object_modules.specs.Displacements.{public_named}
-use Rattle.object_modules.specs.Views.{owned_public_view}
+use Rattle.link.proofs.Prelude.{◌≡◌, ◌++◌, length, map, option_map, public_named, owned_public_view}
 use Rattle.link.proofs.resolved.meant_by.Given as goal
 
 abbrev pub invariant-loop-name : goal.invariant-loop-name

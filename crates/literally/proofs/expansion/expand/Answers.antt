@@ -1,7 +1,4 @@
-use Rattle.std.proofs.Common.{◌∷◌, ◌+◌, length, take, drop, ◌-◌, sym, subst}
-use Rattle.std.proofs.lemmas.Result.{err_from_is_err_and}
-use Rattle.words.specs.Spelling.{lexeme_of, lexemes_of}
-use Rattle.literally.specs.Expansion.{ExpandsFrom, FaultFrom, IsFault, at_end}
+use Rattle.literally.proofs.Prelude.{◌∷◌, ◌+◌, length, take, drop, ◌-◌, sym, subst, err_from_is_err_and, lexeme_of, lexemes_of, ExpandsFrom, FaultFrom, IsFault, at_end}
 use Rattle.literally.proofs.ExpansionWords.{expands_on, fault_on, words_at, words_end, words_after}
 use Rattle.literally.proofs.Failures.{passed_on}
 use Rattle.literally.proofs.expansion.expand.Goals as goal

@@ -1,9 +1,4 @@
-use Rattle.std.proofs.Common.{◌≤◌, List, drop}
-use Rattle.words.specs.Spelling.{Lexeme, lexemes_of}
-use Rattle.literally.specs.declared.limits.TheConstants.{MOST_WORDS}
-use Rattle.literally.specs.declared.fault.Fault.{Fault}
-use Rattle.literally.specs.Expansion.{ExpandsFrom, FaultFrom, Expands, IsFault}
-use Rattle.literally.specs.internal.Held.{AreHeld}
+use Rattle.literally.proofs.Prelude.{◌≤◌, List, drop, Lexeme, lexemes_of, MOST_WORDS, Fault, ExpandsFrom, FaultFrom, Expands, IsFault, AreHeld}
 use Rattle.literally.proofs.expansion.expand.Given as goal
 
 -- what the words that are left make of the output is what all words make, and their fault is that of all

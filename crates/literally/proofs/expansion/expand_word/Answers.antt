@@ -1,11 +1,5 @@
-use Rattle.std.proofs.Common.{[], ◌∷◌, sym}
-use Rattle.std.proofs.lemmas.Result.{err_from_is_err_and, IfOk-weaker}
-use Rattle.words.specs.Spelling.{lexeme_of, lexemes_of}
-use Rattle.literally.specs.declared.fault.Fault.TheVariants.{Count}
+use Rattle.literally.proofs.Prelude.{[], ◌∷◌, sym, err_from_is_err_and, IfOk-weaker, lexeme_of, lexemes_of, Count, FaultFrom, defined_again, stays, no_words, word_then, none_yet, AreHeld, Adds}
 use Rattle.literally.proofs.Failures.{if_fault}
-use Rattle.literally.specs.Expansion.{FaultFrom, defined_again, stays, no_words, word_then, none_yet}
-use Rattle.literally.specs.internal.Held.{AreHeld}
-use Rattle.literally.specs.internal.Steps.{Adds}
 use Rattle.literally.proofs.DefinitionsHeld.{held_after, is_again}
 use Rattle.literally.proofs.ExpansionTexts.{count_here}
 use Rattle.literally.proofs.expansion.expand_word.Goals as goal

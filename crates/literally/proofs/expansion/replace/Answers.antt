@@ -1,13 +1,5 @@
-use Rattle.std.proofs.Common.{refl, ◌≢◌, ◌-◌, ◌<◌, ◌≤◌, List, [], ◌∷◌, ◌++◌, length, get_or, take, drop, map, reverse, sym, ◌∙◌, ap, arith}
-use Rattle.std.proofs.lemmas.Bool.{false≢true}
-use Rattle.std.proofs.lemmas.Result.{err_from_is_err_and}
-use Rattle.words.specs.declared.word.Word.{Word}
-use Rattle.words.specs.Spelling.{lexeme_of, lexemes_of}
-use Rattle.literally.specs.declared.limits.TheConstants.{DEEPEST}
-use Rattle.literally.specs.declared.fault.Fault.TheVariants.{Count}
-use Rattle.literally.specs.internal.Steps.{IsFaultAt}
+use Rattle.literally.proofs.Prelude.{refl, ◌≢◌, ◌-◌, ◌<◌, ◌≤◌, List, [], ◌∷◌, ◌++◌, length, get_or, take, drop, map, reverse, sym, ◌∙◌, ap, arith, false≢true, err_from_is_err_and, Word, lexeme_of, lexemes_of, DEEPEST, Count, IsFaultAt, at_use, depth_passed, word_then, none_yet}
 use Rattle.literally.proofs.Failures.{if_fault}
-use Rattle.literally.specs.Expansion.{at_use, depth_passed, word_then, none_yet}
 use Rattle.literally.proofs.ExpansionTexts.{waits_first, waits_empty, waits_stays, waits_replaced, waits_along, too_deep_here, processed_here, stack_push, no_element, first_of, first_is, frame, waits_opened, count_here, length-stack, depth_kept, depth_popped, depth_pushed}
 use Rattle.literally.proofs.expansion.replace.Goals as goal
 

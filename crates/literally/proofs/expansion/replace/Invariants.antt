@@ -1,7 +1,4 @@
-use Rattle.std.proofs.Common.{◌≤◌, ◌+◌, ◌-◌, ◌*◌, length, map, reverse}
-use Rattle.words.specs.Spelling.{lexeme_of, lexemes_of}
-use Rattle.literally.specs.declared.limits.TheConstants.{DEEPEST, MOST_WORDS}
-use Rattle.literally.specs.Expansion.{at_use}
+use Rattle.literally.proofs.Prelude.{◌≤◌, ◌+◌, ◌-◌, ◌*◌, length, map, reverse, lexeme_of, lexemes_of, DEEPEST, MOST_WORDS, at_use}
 use Rattle.literally.proofs.ExpansionTexts.{Waits}
 use Rattle.literally.proofs.expansion.replace.Given as goal
 

@@ -1,4 +1,4 @@
-use Rattle.std.proofs.Common.{[]}
+use Rattle.literally.proofs.Prelude.{[]}
 use Rattle.literally.proofs.LawsOneExpansion.{one_whole, not_both}
 use Rattle.literally.proofs.LawsTotality.{goes}
 use Rattle.literally.proofs.laws.one_expansion.Goals as goal

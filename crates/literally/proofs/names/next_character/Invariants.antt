@@ -1,5 +1,4 @@
-use Rattle.std.proofs.Common.{◌≡◌, drop}
-use Rattle.symbols.specs.Names.{name_of}
+use Rattle.literally.proofs.Prelude.{◌≡◌, drop, name_of}
 use Rattle.literally.proofs.names.next_character.Given as goal
 
 -- no character stands before this place

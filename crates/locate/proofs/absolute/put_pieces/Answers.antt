@@ -1,6 +1,4 @@
-use Rattle.std.proofs.Common.{◌≡◌, ◌≤◌, length, sym, ap, ◌∙◌, arith}
-use Rattle.std.proofs.lemmas.List.{drop_all}
-use Rattle.locate.specs.Locating.{loaded}
+use Rattle.locate.proofs.Prelude.{◌≡◌, ◌≤◌, length, sym, ap, ◌∙◌, arith, drop_all, loaded}
 use Rattle.locate.proofs.Loads.{all_loaded}
 use Rattle.locate.proofs.absolute.put_pieces.Goals as goal
 

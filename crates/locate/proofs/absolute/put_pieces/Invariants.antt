@@ -1,5 +1,4 @@
-use Rattle.std.proofs.Common.{◌≡◌, ◌<◌, length, drop}
-use Rattle.locate.specs.Locating.{loaded}
+use Rattle.locate.proofs.Prelude.{◌≡◌, ◌<◌, length, drop, loaded}
 use Rattle.locate.proofs.absolute.put_pieces.Given as goal
 
 abbrev pub invariant-loop-piece : goal.invariant-loop-piece

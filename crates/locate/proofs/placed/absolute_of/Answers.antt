@@ -1,5 +1,4 @@
-use Rattle.std.proofs.Common.{◌∙◌}
-use Rattle.locate.specs.Locating.{plan_view}
+use Rattle.locate.proofs.Prelude.{◌∙◌, plan_view}
 use Rattle.locate.proofs.Loading.{gives_its_image}
 use Rattle.locate.proofs.placed.absolute_of.Goals as goal
 

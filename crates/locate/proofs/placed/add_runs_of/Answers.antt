@@ -1,5 +1,4 @@
-use Rattle.object_modules.specs.Image.{base_of}
-use Rattle.locate.specs.Locating.{plan_view}
+use Rattle.locate.proofs.Prelude.{base_of, plan_view}
 use Rattle.locate.proofs.Images.{runs_lie}
 use Rattle.locate.proofs.placed.add_runs_of.Goals as goal
 

@@ -1,8 +1,4 @@
-use Rattle.std.proofs.Common.{◌≡◌, ℕ, ◌+◌, ◌%◌, ◌<◌, List, [], ◌∷◌, ◌++◌, length, get_or, map, drop, sym, ap, ◌∙◌, arith}
-use Rattle.std.proofs.lemmas.List.{map-append, append_assoc, drop_more}
-use Rattle.object_modules.specs.Image.{symbol_at}
-use Rattle.object_modules.specs.Views.{owned_public_view}
-use Rattle.locate.specs.Locating.{plan_view, symbol_view}
+use Rattle.locate.proofs.Prelude.{◌≡◌, ℕ, ◌+◌, ◌%◌, ◌<◌, List, [], ◌∷◌, ◌++◌, length, get_or, map, drop, sym, ap, ◌∙◌, arith, map-append, append_assoc, drop_more, symbol_at, owned_public_view, plan_view, symbol_view}
 use Rattle.locate.proofs.placed.symbols_of.Goals as goal
 
 one_more :

@@ -1,7 +1,4 @@
-use Rattle.std.proofs.Common.{◌≡◌, ◌++◌, drop, map}
-use Rattle.object_modules.specs.Image.{symbol_at}
-use Rattle.object_modules.specs.Views.{owned_public_view}
-use Rattle.locate.specs.Locating.{plan_view, symbol_view}
+use Rattle.locate.proofs.Prelude.{◌≡◌, ◌++◌, drop, map, symbol_at, owned_public_view, plan_view, symbol_view}
 use Rattle.locate.proofs.placed.symbols_of.Given as goal
 
 abbrev pub invariant-loop-public : goal.invariant-loop-public

@@ -1,7 +1,4 @@
-use Rattle.std.proofs.Common.{◌≡◌, length}
-use Rattle.object_modules.specs.Image.{gain_at}
-use Rattle.locate.specs.Locating.{plan_view}
-use Rattle.locate.specs.internal.Putting.{LieInMemory, pieces_from, with_pieces}
+use Rattle.locate.proofs.Prelude.{◌≡◌, length, gain_at, plan_view, LieInMemory, pieces_from, with_pieces}
 use Rattle.locate.proofs.putting.add_segment.Given as goal
 
 abbrev pub invariant-loop-rest : goal.invariant-loop-rest

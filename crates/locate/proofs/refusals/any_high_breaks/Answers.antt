@@ -1,10 +1,4 @@
-use Rattle.std.proofs.Common.{◌||◌, sym, ap, ◌∙◌}
-use Rattle.std.specs.List.{list_any}
-use Rattle.object_modules.specs.declared.segment.Segment.TheVariants.{Data}
-use Rattle.object_modules.specs.Image.{gain_at}
-use Rattle.object_modules.specs.Runs.{fixes_in}
-use Rattle.locate.specs.Locating.{plan_view}
-use Rattle.locate.specs.internal.Images.{breaks_high}
+use Rattle.locate.proofs.Prelude.{◌||◌, sym, ap, ◌∙◌, list_any, Data, gain_at, fixes_in, plan_view, breaks_high}
 use Rattle.locate.proofs.Highs.{high_is}
 use Rattle.locate.proofs.refusals.any_high_breaks.Goals as goal
 

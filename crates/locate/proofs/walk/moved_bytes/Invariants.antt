@@ -1,7 +1,4 @@
-use Rattle.std.proofs.Common.{◌≡◌, ◌+◌, ◌≤◌, ◌++◌, length}
-use Rattle.object_modules.specs.Image.{gain_at}
-use Rattle.locate.specs.Locating.{plan_view}
-use Rattle.locate.specs.internal.Fixing.{values_from, fixes_after}
+use Rattle.locate.proofs.Prelude.{◌≡◌, ◌+◌, ◌≤◌, ◌++◌, length, gain_at, plan_view, values_from, fixes_after}
 use Rattle.locate.specs.internal.Views.{walk_view}
 use Rattle.locate.proofs.walk.moved_bytes.Given as goal
 

@@ -1,8 +1,4 @@
-use Rattle.std.proofs.Common.{◌≡◌, ◌∙◌, rules, subst, Ok}
-use Rattle.trees.specs.Views.{block_declarations, block_statements}
-use Rattle.names.specs.Environment.{at_the_start}
-use Rattle.names.specs.Events.{see_block}
-use Rattle.names.specs.internal.Walks.{Walk, FailsBy, fault_in, gives}
+use Rattle.names.proofs.Prelude.{◌≡◌, ◌∙◌, rules, subst, Ok, block_declarations, block_statements, at_the_start, see_block, Walk, FailsBy, fault_in, gives}
 use Rattle.names.proofs.Walks.{whole_given, refuses_whole}
 use Rattle.names.proofs.bound.bindings_of.Goals as goal
 

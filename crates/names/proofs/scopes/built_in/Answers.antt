@@ -1,5 +1,4 @@
-use Rattle.std.proofs.Common.{◌≡◌, codes, rules, refl, arith, length}
-use Rattle.std.proofs.lemmas.Slice.Eq.{text_from_reads, HasBytesAt}
+use Rattle.names.proofs.Prelude.{◌≡◌, codes, rules, refl, arith, length, text_from_reads, HasBytesAt}
 use Rattle.names.specs.BuiltIns.{built_in_of}
 use Rattle.names.proofs.scopes.built_in.Goals as goal
 

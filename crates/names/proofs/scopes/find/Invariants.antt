@@ -1,5 +1,4 @@
-use Rattle.std.proofs.Common.{◌≡◌, length, reverse}
-use Rattle.names.specs.Environment.{known_in}
+use Rattle.names.proofs.Prelude.{◌≡◌, length, reverse, known_in}
 use Rattle.names.proofs.scopes.find.Given as goal
 
 abbrev pub invariant-loop-last : goal.invariant-loop-last

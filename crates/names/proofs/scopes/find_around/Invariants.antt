@@ -1,5 +1,4 @@
-use Rattle.std.proofs.Common.{◌≡◌, length, reverse}
-use Rattle.names.specs.Environment.{declared_around}
+use Rattle.names.proofs.Prelude.{◌≡◌, length, reverse, declared_around}
 use Rattle.names.proofs.scopes.find_around.Given as goal
 
 abbrev pub invariant-loop-last : goal.invariant-loop-last

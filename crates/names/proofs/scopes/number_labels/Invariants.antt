@@ -1,5 +1,4 @@
-use Rattle.std.proofs.Common.{◌≡◌, ◌+◌, length, drop}
-use Rattle.names.specs.Environment.{numbered_from}
+use Rattle.names.proofs.Prelude.{◌≡◌, ◌+◌, length, drop, numbered_from}
 use Rattle.names.proofs.scopes.number_labels.Given as goal
 
 abbrev pub invariant-loop-label : goal.invariant-loop-label

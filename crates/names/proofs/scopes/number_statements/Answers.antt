@@ -1,4 +1,4 @@
-use Rattle.std.proofs.Common.{◌∙◌, ap, length, arith}
+use Rattle.names.proofs.Prelude.{◌∙◌, ap, length, arith}
 use Rattle.names.proofs.Numbering.{numbered_from_statement, count_from_statement}
 use Rattle.names.proofs.scopes.number_statements.Goals as goal
 

@@ -1,7 +1,4 @@
-use Rattle.std.proofs.Common.{◌≡◌, ◌+◌, length, drop}
-use Rattle.trees.specs.Views.{statement_trees}
-use Rattle.names.specs.Environment.{numbered_from}
-use Rattle.names.specs.Events.{labels_of}
+use Rattle.names.proofs.Prelude.{◌≡◌, ◌+◌, length, drop, statement_trees, numbered_from, labels_of}
 use Rattle.names.proofs.scopes.number_statements.Given as goal
 
 abbrev pub invariant-loop-statement : goal.invariant-loop-statement

@@ -1,7 +1,4 @@
-use Rattle.std.proofs.Common.{◌≡◌, drop}
-use Rattle.trees.specs.Views.{argument_trees}
-use Rattle.names.specs.Uses.{names_in_arguments}
-use Rattle.names.specs.internal.Walks.{bound_at}
+use Rattle.names.proofs.Prelude.{◌≡◌, drop, argument_trees, names_in_arguments, bound_at}
 use Rattle.names.proofs.uses.+uses.Given as goal
 
 abbrev pub invariant-bind_arguments-loop-argument : goal.invariant-bind_arguments-loop-argument

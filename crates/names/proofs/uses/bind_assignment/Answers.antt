@@ -1,4 +1,4 @@
-use Rattle.std.proofs.Common.{arith}
+use Rattle.names.proofs.Prelude.{arith}
 use Rattle.names.proofs.Walks.{bound_append_ok, fails_append}
 use Rattle.names.proofs.uses.bind_assignment.Goals as goal
 

@@ -1,4 +1,4 @@
-use Rattle.std.proofs.Common.{arith}
+use Rattle.names.proofs.Prelude.{arith}
 use Rattle.names.proofs.Walks.{bound_append_ok, bound_none, fails_append}
 use Rattle.names.proofs.uses.bind_item.Goals as goal
 

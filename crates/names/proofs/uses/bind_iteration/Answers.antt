@@ -1,4 +1,4 @@
-use Rattle.std.proofs.Common.{arith}
+use Rattle.names.proofs.Prelude.{arith}
 use Rattle.names.proofs.Walks.{bound_cons_ok, fails_cons}
 use Rattle.names.proofs.uses.bind_iteration.Goals as goal
 

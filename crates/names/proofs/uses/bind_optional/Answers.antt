@@ -1,4 +1,4 @@
-use Rattle.std.proofs.Common.{arith}
+use Rattle.names.proofs.Prelude.{arith}
 use Rattle.names.proofs.Walks.{bound_none}
 use Rattle.names.proofs.uses.bind_optional.Goals as goal
 

@@ -1,8 +1,4 @@
-use Rattle.std.proofs.Common.{◌≡◌, drop, map}
-use Rattle.std.specs.List.{flat_map}
-use Rattle.trees.specs.Views.{reference_tree}
-use Rattle.names.specs.Uses.{names_in_reference}
-use Rattle.names.specs.internal.Walks.{bound_at}
+use Rattle.names.proofs.Prelude.{◌≡◌, drop, map, flat_map, reference_tree, names_in_reference, bound_at}
 use Rattle.names.proofs.uses.bind_targets.Given as goal
 
 abbrev pub invariant-loop-target : goal.invariant-loop-target

@@ -1,9 +1,4 @@
-use Rattle.std.proofs.Common.{map, rules}
-use Rattle.std.specs.List.{flat_map}
-use Rattle.trees.specs.declared.declaration.Restricted.{Restricted}
-use Rattle.trees.specs.Views.{restricted_tree}
-use Rattle.names.specs.Uses.{names_in_restricted}
-use Rattle.names.specs.internal.Walks.{bound_at}
+use Rattle.names.proofs.Prelude.{map, rules, flat_map, Restricted, restricted_tree, names_in_restricted, bound_at}
 use Rattle.names.proofs.Loops.{goes_on, fails_within, ended, hands_on}
 use Rattle.names.proofs.Walks.{bind_more_append, bound_none}
 use Rattle.names.proofs.uses.bind_values.Goals as goal

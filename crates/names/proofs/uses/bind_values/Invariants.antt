@@ -1,8 +1,4 @@
-use Rattle.std.proofs.Common.{◌≡◌, drop, map}
-use Rattle.std.specs.List.{flat_map}
-use Rattle.trees.specs.Views.{restricted_tree}
-use Rattle.names.specs.Uses.{names_in_restricted}
-use Rattle.names.specs.internal.Walks.{bound_at}
+use Rattle.names.proofs.Prelude.{◌≡◌, drop, map, flat_map, restricted_tree, names_in_restricted, bound_at}
 use Rattle.names.proofs.uses.bind_values.Given as goal
 
 abbrev pub invariant-loop-value : goal.invariant-loop-value

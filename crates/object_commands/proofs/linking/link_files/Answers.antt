@@ -1,6 +1,4 @@
-use Rattle.std.proofs.Common.{refl, ◌∙◌}
-use Rattle.host.proofs.FilesRead.{stops_as, stops_before, stops_last}
-use Rattle.host.proofs.LinesPrinted.{tells_file, tells_no_file}
+use Rattle.object_commands.proofs.Prelude.{refl, ◌∙◌, stops_as, stops_before, stops_last, tells_file, tells_no_file}
 use Rattle.object_commands.proofs.FilesWritten.{stops_linking}
 use Rattle.object_commands.proofs.linking.link_files.Goals as goal
 use Rattle.object_commands.proofs.FilesWritten.{kept_others, kept_then_others, kept_then_stopped, not_linked, written_others}

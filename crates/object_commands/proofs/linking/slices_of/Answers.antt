@@ -1,4 +1,4 @@
-use Rattle.std.proofs.Common.{arith}
+use Rattle.object_commands.proofs.Prelude.{arith}
 use Rattle.object_commands.proofs.Lists.{item_added}
 use Rattle.object_commands.proofs.linking.slices_of.Goals as goal
 

@@ -1,4 +1,4 @@
-use Rattle.std.proofs.Common.{◌≡◌, ◌++◌, drop, map}
+use Rattle.object_commands.proofs.Prelude.{◌≡◌, ◌++◌, drop, map}
 use Rattle.object_commands.proofs.linking.slices_of.Given as goal
 
 -- what was made, and then what the rest makes, is all

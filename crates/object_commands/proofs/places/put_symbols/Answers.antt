@@ -1,6 +1,4 @@
-use Rattle.std.proofs.Common.{arith}
-use Rattle.locate.specs.Locating.{symbol_view}
-use Rattle.object_commands.specs.Placing.{symbol_line}
+use Rattle.object_commands.proofs.Prelude.{arith, symbol_view, symbol_line}
 use Rattle.object_commands.proofs.Lists.{list_added}
 use Rattle.object_commands.proofs.places.put_symbols.Goals as goal
 

@@ -1,7 +1,4 @@
-use Rattle.std.proofs.Common.{◌≡◌, ◌++◌, drop, map}
-use Rattle.std.specs.List.{flat_map}
-use Rattle.locate.specs.Locating.{symbol_view}
-use Rattle.object_commands.specs.Placing.{symbol_line}
+use Rattle.object_commands.proofs.Prelude.{◌≡◌, ◌++◌, drop, map, flat_map, symbol_view, symbol_line}
 use Rattle.object_commands.proofs.places.put_symbols.Given as goal
 
 -- what was added, and then what the rest adds, is all

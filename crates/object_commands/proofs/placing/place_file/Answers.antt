@@ -1,6 +1,4 @@
-use Rattle.std.proofs.Common.{refl}
-use Rattle.host.proofs.FilesRead.{stops_alone}
-use Rattle.host.proofs.LinesPrinted.{tells_file, tells_no_file}
+use Rattle.object_commands.proofs.Prelude.{refl, stops_alone, tells_file, tells_no_file}
 use Rattle.object_commands.proofs.placing.place_file.Goals as goal
 use Rattle.object_commands.proofs.FilesPlaced.{placed}
 

@@ -1,4 +1,4 @@
-use Rattle.std.proofs.Common.{◌∙◌}
+use Rattle.object_commands.proofs.Prelude.{◌∙◌}
 use Rattle.object_commands.proofs.Refused.{tells_later}
 use Rattle.object_commands.proofs.FilesPlaced.{begins_places}
 use Rattle.object_commands.proofs.placing.print_places.Goals as goal

@@ -1,5 +1,4 @@
-use Rattle.std.proofs.Common.{◌∙◌, arith, rules}
-use Rattle.std.proofs.lemmas.Grind.{common_steps}
+use Rattle.object_commands.proofs.Prelude.{◌∙◌, arith, rules, common_steps}
 use Rattle.failure.proofs.WritingLemmas.{on_err}
 use Rattle.object_commands.proofs.FilesWritten.{begun, grown, not_begun, stopped_midway, written_whole}
 use Rattle.object_commands.proofs.writing_files.write_file.Goals as goal

@@ -1,5 +1,4 @@
-use Rattle.std.proofs.Common.{◌≡◌, length, take, ◌-◌, ◌≤◌}
-use Rattle.host.specs.Files.{ChangesFiles, with_file}
+use Rattle.object_commands.proofs.Prelude.{◌≡◌, length, take, ◌-◌, ◌≤◌, ChangesFiles, with_file}
 use Rattle.object_commands.proofs.writing_files.write_file.Given as goal
 
 abbrev pub invariant-loop-sent : goal.invariant-loop-sent

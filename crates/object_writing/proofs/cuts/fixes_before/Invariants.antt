@@ -1,5 +1,4 @@
-use Rattle.std.proofs.Common.{◌≡◌, ◌+◌, drop}
-use Rattle.object_writing.specs.internal.Cuts.{count_before}
+use Rattle.object_writing.proofs.Prelude.{◌≡◌, ◌+◌, drop, count_before}
 use Rattle.object_writing.proofs.cuts.fixes_before.Given as goal
 
 abbrev pub invariant-loop-count : goal.invariant-loop-count

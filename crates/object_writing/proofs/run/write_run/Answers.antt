@@ -1,8 +1,5 @@
-use Rattle.std.proofs.Common.{◌+◌, refl, arith, subst}
-use Rattle.std.proofs.lemmas.List.{length-drop}
-use Rattle.failure.proofs.WritingLemmas.{on_err}
+use Rattle.object_writing.proofs.Prelude.{◌+◌, refl, arith, subst, length-drop, on_err, run_text}
 use Rattle.object_writing.proofs.RunsLeft.{RunLeft, run_start, next_cut, next_cut_begun, all_cuts}
-use Rattle.object_writing.specs.internal.Cuts.{run_text}
 use Rattle.object_writing.proofs.run.write_run.Goals as goal
 
 pub loop-at-init : goal.loop-at-init

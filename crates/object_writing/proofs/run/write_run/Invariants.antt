@@ -1,5 +1,4 @@
-use Rattle.std.proofs.Common.{◌+◌, ◌-◌, ◌≤◌, drop, length}
-use Rattle.object_writing.specs.internal.Cuts.{run_text}
+use Rattle.object_writing.proofs.Prelude.{◌+◌, ◌-◌, ◌≤◌, drop, length, run_text}
 use Rattle.object_writing.proofs.RunsLeft.{RunLeft}
 use Rattle.object_writing.proofs.run.write_run.Given as goal
 

@@ -1,12 +1,5 @@
-use Rattle.std.proofs.Common.{ap, subst, flat_map}
-use Rattle.std.specs.Io.KnownBytes.{Appends}
-use Rattle.std.proofs.KnownBytes.{Appends-trans}
-use Rattle.failure.specs.Writing.{AppendsBeginning}
-use Rattle.failure.proofs.WritingLemmas.{on_err}
-use Rattle.object_modules.specs.Parts.{part_bytes}
-use Rattle.object_modules.specs.Text.{external_parts}
+use Rattle.object_writing.proofs.Prelude.{ap, subst, flat_map, Appends, Appends-trans, AppendsBeginning, on_err, part_bytes, external_parts, publics_text}
 use Rattle.object_writing.proofs.Sequences.{first_begun, last_of_two_begun, on_ok_then, on_err_then}
-use Rattle.object_writing.specs.internal.Texts.{publics_text}
 use Rattle.object_writing.proofs.text.write_names.Goals as goal
 
 pub returns-in_err-write_external_names-clause-err : goal.returns-in_err-write_external_names-clause-err

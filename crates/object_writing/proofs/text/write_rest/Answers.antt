@@ -1,8 +1,4 @@
-use Rattle.std.proofs.Common.{ap, subst}
-use Rattle.std.specs.Io.KnownBytes.{Appends}
-use Rattle.failure.specs.Writing.{AppendsBeginning}
-use Rattle.object_writing.specs.Contents.{end_text}
-use Rattle.failure.proofs.WritingLemmas.{on_err}
+use Rattle.object_writing.proofs.Prelude.{ap, subst, Appends, AppendsBeginning, end_text, on_err}
 use Rattle.object_writing.proofs.Sequences.{first_begun, second_begun, last_of_three_begun, three, on_ok_then, on_err_then}
 use Rattle.object_writing.proofs.text.write_rest.Goals as goal
 

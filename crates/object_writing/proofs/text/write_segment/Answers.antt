@@ -1,6 +1,4 @@
-use Rattle.std.proofs.Common.{arith}
-use Rattle.std.proofs.lemmas.List.{length-drop}
-use Rattle.failure.proofs.WritingLemmas.{on_err}
+use Rattle.object_writing.proofs.Prelude.{arith, length-drop, on_err}
 use Rattle.object_writing.proofs.RunsLeft.{segment_start, next_fixes, next_within, next_more, next_begun, all_runs}
 use Rattle.object_writing.proofs.Texts.{places_few}
 use Rattle.object_writing.proofs.text.write_segment.Goals as goal

@@ -1,4 +1,4 @@
-use Rattle.std.proofs.Common.{◌≤◌, drop, length}
+use Rattle.object_writing.proofs.Prelude.{◌≤◌, drop, length}
 use Rattle.object_writing.proofs.RunsLeft.{SegmentLeft}
 use Rattle.object_writing.proofs.text.write_segment.Given as goal
 

@@ -1,6 +1,4 @@
-use Rattle.std.proofs.Common.{◌≡◌, length}
-use Rattle.object_modules.specs.declared.segment.Segment.TheVariants.{Code, Data}
-use Rattle.objmod.specs.internal.Keeping.{kept_in}
+use Rattle.objmod.proofs.Prelude.{◌≡◌, length, Code, Data, kept_in}
 use Rattle.objmod.proofs.parts.read_contents.Given as goal
 
 abbrev pub invariant-loop-content : goal.invariant-loop-content

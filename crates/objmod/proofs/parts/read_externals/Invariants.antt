@@ -1,6 +1,4 @@
-use Rattle.std.proofs.Common.{◌≡◌, ◌++◌, true, length}
-use Rattle.std.specs.List.{list_all}
-use Rattle.symbols.specs.Names.{is_name}
+use Rattle.objmod.proofs.Prelude.{◌≡◌, ◌++◌, true, length, list_all, is_name}
 use Rattle.objmod.proofs.parts.read_externals.Given as goal
 
 abbrev pub invariant-loop-name : goal.invariant-loop-name

@@ -1,8 +1,4 @@
-use Rattle.std.proofs.Common.{◌≡◌, ◌++◌, true, length, map}
-use Rattle.std.specs.List.{list_all}
-use Rattle.symbols.specs.Names.{is_name}
-use Rattle.object_modules.specs.Module.{Public}
-use Rattle.object_modules.specs.Views.{owned_public_view}
+use Rattle.objmod.proofs.Prelude.{◌≡◌, ◌++◌, true, length, map, list_all, is_name, Public, owned_public_view}
 use Rattle.objmod.proofs.parts.read_publics.Given as goal
 
 abbrev pub invariant-loop-public : goal.invariant-loop-public

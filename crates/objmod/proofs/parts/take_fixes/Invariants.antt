@@ -1,5 +1,4 @@
-use Rattle.std.proofs.Common.{◌≡◌, length}
-use Rattle.objmod.specs.internal.Keeping.{put_all}
+use Rattle.objmod.proofs.Prelude.{◌≡◌, length, put_all}
 use Rattle.objmod.proofs.parts.take_fixes.Given as goal
 
 abbrev pub invariant-loop-fix : goal.invariant-loop-fix

@@ -1,4 +1,4 @@
-use Rattle.std.proofs.Common.{refl, arith}
+use Rattle.omf80.proofs.Prelude.{refl, arith}
 use Rattle.omf80.proofs.Reading.{begins_as}
 use Rattle.omf80.proofs.records.first_record.Goals as goal
 

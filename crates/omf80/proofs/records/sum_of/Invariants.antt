@@ -1,4 +1,4 @@
-use Rattle.std.proofs.Common.{◌≡◌, ◌%◌, take, sum}
+use Rattle.omf80.proofs.Prelude.{◌≡◌, ◌%◌, take, sum}
 use Rattle.omf80.proofs.records.sum_of.Given as goal
 
 abbrev pub invariant-loop-byte : goal.invariant-loop-byte

@@ -1,7 +1,5 @@
-use Rattle.std.proofs.Common.{◌∷◌, [], slice_index}
-use Rattle.omf80.specs.Records.{record_bytes}
+use Rattle.omf80.proofs.Prelude.{◌∷◌, [], slice_index, record_bytes, on_err}
 use Rattle.omf80.proofs.Writing.{record_is, on_ok_then, on_err_then, record_written, heading_begun, body_begun, last_begun}
-use Rattle.failure.proofs.WritingLemmas.{on_err}
 use Rattle.omf80.proofs.records.write_record.Goals as goal
 
 pub returns-in_err-write_bytes-clause-err : goal.returns-in_err-write_bytes-clause-err

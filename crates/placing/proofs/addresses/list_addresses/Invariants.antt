@@ -1,6 +1,4 @@
-use Rattle.std.proofs.Common.{◌≡◌, ◌++◌, length, map}
-use Rattle.layout.specs.Following.{address_of_slot}
-use Rattle.placing.specs.internal.Placings.{bases_view}
+use Rattle.placing.proofs.Prelude.{◌≡◌, ◌++◌, length, map, address_of_slot, bases_view}
 use Rattle.placing.proofs.addresses.list_addresses.Given as goal
 
 abbrev pub invariant-loop-rest : goal.invariant-loop-rest

@@ -1,7 +1,5 @@
 -- The placements, and the segments that are left, after one module more.
-use Rattle.std.proofs.Common.{ap}
-use Rattle.layout.specs.Following.{Bases}
-use Rattle.placing.specs.internal.Placings.{bases_view, code_placements}
+use Rattle.placing.proofs.Prelude.{ap, Bases, bases_view, code_placements}
 use Rattle.placing.proofs.Passes.{module_placed, code_within, code_left, data_within, data_left}
 use Rattle.placing.proofs.addresses.module_placements.Goals as goal
 

@@ -1,8 +1,4 @@
-use Rattle.std.proofs.Common.{◌≡◌, ◌+◌, ◌≤◌, ◌++◌, length, map}
-use Rattle.std.specs.Prelude.{sum}
-use Rattle.mem80.specs.declared.memory.TheConstants.{MEMORY_SIZE}
-use Rattle.placing.specs.Views.{module_placement_view}
-use Rattle.placing.specs.internal.Placings.{code_placements, layout_sizes}
+use Rattle.placing.proofs.Prelude.{◌≡◌, ◌+◌, ◌≤◌, ◌++◌, length, map, sum, MEMORY_SIZE, module_placement_view, code_placements, layout_sizes}
 use Rattle.placing.proofs.addresses.module_placements.Given as goal
 
 abbrev pub invariant-loop-rest : goal.invariant-loop-rest

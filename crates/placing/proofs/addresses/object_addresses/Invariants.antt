@@ -1,8 +1,4 @@
-use Rattle.std.proofs.Common.{◌≡◌, [], length, map}
-use Rattle.std.specs.Prelude.{zip}
-use Rattle.typed_trees.specs.Views.{object_view}
-use Rattle.layout.specs.Placing.{addresses_after}
-use Rattle.placing.specs.internal.Placings.{bases_view}
+use Rattle.placing.proofs.Prelude.{◌≡◌, [], length, map, zip, object_view, addresses_after, bases_view}
 use Rattle.placing.proofs.addresses.object_addresses.Given as goal
 
 abbrev pub invariant-loop-rest : goal.invariant-loop-rest

@@ -1,5 +1,4 @@
-use Rattle.std.proofs.Common.{◌≡◌}
-use Rattle.placing.specs.internal.Claims.{claimed_between}
+use Rattle.placing.proofs.Prelude.{◌≡◌, claimed_between}
 use Rattle.placing.proofs.at_objects.claimed_between.Given as goal
 
 abbrev pub invariant-loop-address : goal.invariant-loop-address

@@ -1,7 +1,4 @@
-use Rattle.std.proofs.Common.{◌≡◌, length, map}
-use Rattle.typed_trees.specs.Views.{module_view}
-use Rattle.placing.specs.Views.{module_placement_view}
-use Rattle.placing.specs.internal.Claims.{modules_fit}
+use Rattle.placing.proofs.Prelude.{◌≡◌, length, map, module_view, module_placement_view, modules_fit}
 use Rattle.placing.proofs.at_objects.modules_fit.Given as goal
 
 abbrev pub invariant-loop-rest : goal.invariant-loop-rest

@@ -1,6 +1,4 @@
-use Rattle.std.proofs.Common.{◌≡◌, length, map}
-use Rattle.typed_trees.specs.Views.{object_view}
-use Rattle.placing.specs.internal.Claims.{objects_fit}
+use Rattle.placing.proofs.Prelude.{◌≡◌, length, map, object_view, objects_fit}
 use Rattle.placing.proofs.at_objects.objects_fit.Given as goal
 
 abbrev pub invariant-loop-rest : goal.invariant-loop-rest

@@ -1,5 +1,4 @@
-use Rattle.std.proofs.Common.{◌≡◌, length, map, vec_items}
-use Rattle.placing.specs.internal.Claims.{claim_lists}
+use Rattle.placing.proofs.Prelude.{◌≡◌, length, map, vec_items, claim_lists}
 use Rattle.placing.proofs.claims.claim_lists.Given as goal
 
 abbrev pub invariant-loop-rest : goal.invariant-loop-rest

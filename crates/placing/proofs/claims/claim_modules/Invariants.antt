@@ -1,7 +1,4 @@
-use Rattle.std.proofs.Common.{◌≡◌, length, map}
-use Rattle.typed_trees.specs.Views.{module_view}
-use Rattle.placing.specs.Views.{module_placement_view}
-use Rattle.placing.specs.internal.Claims.{claim_modules}
+use Rattle.placing.proofs.Prelude.{◌≡◌, length, map, module_view, module_placement_view, claim_modules}
 use Rattle.placing.proofs.claims.claim_modules.Given as goal
 
 abbrev pub invariant-loop-rest : goal.invariant-loop-rest

@@ -1,6 +1,4 @@
-use Rattle.std.proofs.Common.{◌≡◌, length, map}
-use Rattle.typed_trees.specs.Views.{object_view}
-use Rattle.placing.specs.internal.Claims.{claim_objects}
+use Rattle.placing.proofs.Prelude.{◌≡◌, length, map, object_view, claim_objects}
 use Rattle.placing.proofs.claims.claim_objects.Given as goal
 
 abbrev pub invariant-loop-rest : goal.invariant-loop-rest

@@ -1,5 +1,4 @@
-use Rattle.std.proofs.Common.{◌≡◌, ◌+◌}
-use Rattle.placing.specs.internal.Claims.{claim_between}
+use Rattle.placing.proofs.Prelude.{◌≡◌, ◌+◌, claim_between}
 use Rattle.placing.proofs.claims.claim_range.Given as goal
 
 abbrev pub invariant-loop-address : goal.invariant-loop-address

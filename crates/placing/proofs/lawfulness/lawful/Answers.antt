@@ -1,7 +1,4 @@
-use Rattle.typed_trees.specs.Views.{module_view}
-use Rattle.std.proofs.Common.{map}
-use Rattle.join.specs.Views.{modules_of}
-use Rattle.placing.specs.Views.{placement_view}
+use Rattle.placing.proofs.Prelude.{module_view, map, modules_of, placement_view}
 use Rattle.placing.proofs.TestDecides.{decides}
 use Rattle.placing.proofs.lawfulness.lawful.Goals as goal
 

@@ -1,10 +1,5 @@
 -- The objects of a module, and then those of the others.
-use Rattle.std.proofs.Common.{length, map, refl, arith}
-use Rattle.std.proofs.lemmas.Option.{slice_get_read}
-use Rattle.typed_trees.specs.Views.{module_view}
-use Rattle.layout.specs.Placing.{placed_objects}
-use Rattle.placing.specs.Views.{module_placement_view}
-use Rattle.placing.specs.internal.Placings.{name_of_misplaced}
+use Rattle.placing.proofs.Prelude.{length, map, refl, arith, slice_get_read, module_view, placed_objects, module_placement_view, name_of_misplaced}
 use Rattle.placing.proofs.MisplacedLoops.{module_found, module_passed}
 use Rattle.placing.proofs.misplaced.first_misplaced.Goals as goal
 

@@ -1,8 +1,4 @@
-use Rattle.std.proofs.Common.{◌≡◌, map}
-use Rattle.typed_trees.specs.Views.{module_view}
-use Rattle.layout.specs.Placing.{placed_objects}
-use Rattle.placing.specs.Views.{module_placement_view}
-use Rattle.placing.specs.internal.Placings.{name_of_misplaced}
+use Rattle.placing.proofs.Prelude.{◌≡◌, map, module_view, placed_objects, module_placement_view, name_of_misplaced}
 use Rattle.placing.proofs.MisplacedLoops.{first_left}
 use Rattle.placing.proofs.misplaced.first_misplaced.Given as goal
 

@@ -1,7 +1,4 @@
-use Rattle.std.proofs.Common.{◌≡◌, length, map}
-use Rattle.std.specs.Prelude.{zip}
-use Rattle.typed_trees.specs.Views.{object_view}
-use Rattle.placing.specs.internal.Placings.{name_of_misplaced}
+use Rattle.placing.proofs.Prelude.{◌≡◌, length, map, zip, object_view, name_of_misplaced}
 use Rattle.placing.proofs.misplaced.misplaced_in.Given as goal
 
 abbrev pub invariant-loop-rest : goal.invariant-loop-rest

@@ -1,8 +1,5 @@
 -- The refusals in turn, and the placement that is left.
-use Rattle.std.proofs.Common.{option_map, ap, ◌∙◌}
-use Rattle.layout.specs.Placing.{ObjectMisplaced}
-use Rattle.join.specs.Views.{modules_of}
-use Rattle.placing.specs.Views.{placement_view}
+use Rattle.placing.proofs.Prelude.{option_map, ap, ◌∙◌, ObjectMisplaced, modules_of, placement_view}
 use Rattle.placing.proofs.LawPlaced.{lawful_placement}
 use Rattle.placing.proofs.Placings.{range_found, placed_is, refused_by}
 use Rattle.placing.proofs.placer.place.Goals as goal

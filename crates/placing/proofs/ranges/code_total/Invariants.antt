@@ -1,5 +1,4 @@
-use Rattle.std.proofs.Common.{◌≡◌, ◌+◌, ◌≤◌, min, drop}
-use Rattle.std.specs.Prelude.{sum}
+use Rattle.placing.proofs.Prelude.{◌≡◌, ◌+◌, ◌≤◌, min, drop, sum}
 use Rattle.placing.proofs.ranges.code_total.Given as goal
 
 abbrev pub invariant-loop-length : goal.invariant-loop-length

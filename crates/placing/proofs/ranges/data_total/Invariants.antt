@@ -1,5 +1,4 @@
-use Rattle.std.proofs.Common.{◌≡◌, ◌+◌, ◌≤◌, min, drop}
-use Rattle.placing.specs.internal.Placings.{layout_sizes}
+use Rattle.placing.proofs.Prelude.{◌≡◌, ◌+◌, ◌≤◌, min, drop, layout_sizes}
 use Rattle.placing.proofs.ranges.data_total.Given as goal
 
 abbrev pub invariant-loop-layout : goal.invariant-loop-layout

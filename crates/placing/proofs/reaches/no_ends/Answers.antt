@@ -1,6 +1,4 @@
-use Rattle.std.proofs.Common.{ℕ, ap, ◌∙◌, length}
-use Rattle.std.proofs.lemmas.List.{length-replicate}
-use Rattle.placing.specs.internal.Reaches.{no_ends}
+use Rattle.placing.proofs.Prelude.{ℕ, ap, ◌∙◌, length, length-replicate, no_ends}
 use Rattle.placing.proofs.reaches.no_ends.Goals as goal
 
 pub returns-clause-none : goal.returns-clause-none

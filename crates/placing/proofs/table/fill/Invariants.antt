@@ -1,7 +1,4 @@
-use Rattle.std.proofs.Common.{◌≡◌, ℕ, ◌<◌, length, get_or}
-use Rattle.mem80.specs.declared.memory.TheConstants.{MEMORY_SIZE}
-use Rattle.placing.specs.declared.placement.ByteKind.TheVariants.{Undeclared}
-use Rattle.placing.specs.internal.Reaches.{reach_below, kind_in}
+use Rattle.placing.proofs.Prelude.{◌≡◌, ℕ, ◌<◌, length, get_or, MEMORY_SIZE, Undeclared, reach_below, kind_in}
 use Rattle.placing.proofs.table.fill.Given as goal
 
 abbrev pub invariant-loop-address : goal.invariant-loop-address

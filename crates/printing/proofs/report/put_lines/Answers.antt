@@ -1,5 +1,4 @@
-use Rattle.std.proofs.Common.{arith}
-use Rattle.std.proofs.lemmas.Grind.{common_steps}
+use Rattle.printing.proofs.Prelude.{arith, common_steps}
 use Rattle.printing.proofs.ReportLemmas.{text_with_line}
 use Rattle.printing.proofs.report.put_lines.Goals as goal
 

@@ -1,6 +1,4 @@
-use Rattle.std.proofs.Common.{◌≡◌, ◌≤◌, ◌*◌, take}
-use Rattle.std.specs.List.{flat_map}
-use Rattle.printing.specs.Report.{line_of}
+use Rattle.printing.proofs.Prelude.{◌≡◌, ◌≤◌, ◌*◌, take, flat_map, line_of}
 use Rattle.printing.proofs.report.put_lines.Given as goal
 
 abbrev pub invariant-loop-event : goal.invariant-loop-event

@@ -1,4 +1,4 @@
-use Rattle.failure.proofs.WritingLemmas.{on_err}
+use Rattle.printing.proofs.Prelude.{on_err}
 use Rattle.printing.proofs.ReportLemmas.{begun_report, ended_report}
 use Rattle.printing.proofs.report.report.Goals as goal
 

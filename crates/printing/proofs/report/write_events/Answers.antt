@@ -1,11 +1,4 @@
-use Rattle.std.proofs.Common.{subst, arith}
-use Rattle.std.specs.List.{flat_map}
-use Rattle.std.specs.Io.KnownBytes.{Appends}
-use Rattle.std.proofs.KnownBytes.{Appends-trans}
-use Rattle.std.proofs.Common.{take}
-use Rattle.std.proofs.lemmas.Grind.{common_steps}
-use Rattle.printing.specs.Report.{line_of}
-use Rattle.failure.proofs.WritingLemmas.{beginning_after, on_err}
+use Rattle.printing.proofs.Prelude.{subst, arith, flat_map, Appends, Appends-trans, take, common_steps, line_of, beginning_after, on_err}
 use Rattle.printing.proofs.ReportLemmas.{all_written, lines_more, lines_parts}
 use Rattle.printing.proofs.report.write_events.Goals as goal
 

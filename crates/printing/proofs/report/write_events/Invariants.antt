@@ -1,7 +1,4 @@
-use Rattle.std.proofs.Common.{length, take, ◌≤◌, ◌-◌}
-use Rattle.std.specs.List.{flat_map}
-use Rattle.std.specs.Io.KnownBytes.{Appends}
-use Rattle.printing.specs.Report.{line_of}
+use Rattle.printing.proofs.Prelude.{length, take, ◌≤◌, ◌-◌, flat_map, Appends, line_of}
 use Rattle.printing.proofs.report.write_events.Given as goal
 
 abbrev pub invariant-loop-at : goal.invariant-loop-at

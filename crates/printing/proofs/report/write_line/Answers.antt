@@ -1,4 +1,4 @@
-use Rattle.failure.proofs.WritingLemmas.{on_err}
+use Rattle.printing.proofs.Prelude.{on_err}
 use Rattle.printing.proofs.ReportLemmas.{first_begun, then_begun_result}
 use Rattle.printing.proofs.report.write_line.Goals as goal
 

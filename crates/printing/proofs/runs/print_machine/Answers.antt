@@ -1,4 +1,4 @@
-use Rattle.failure.proofs.WritingLemmas.{on_err}
+use Rattle.printing.proofs.Prelude.{on_err}
 use Rattle.printing.proofs.RunLemmas.{last_begun}
 use Rattle.printing.proofs.runs.print_machine.Goals as goal
 

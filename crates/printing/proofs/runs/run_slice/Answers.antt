@@ -1,4 +1,4 @@
-use Rattle.std.proofs.Common.{◌∙◌}
+use Rattle.printing.proofs.Prelude.{◌∙◌}
 use Rattle.printing.proofs.RunLemmas.{longer}
 use Rattle.printing.proofs.runs.run_slice.Goals as goal
 

@@ -1,5 +1,4 @@
-use Rattle.std.proofs.Common.{arith, ◌-◌}
-use Rattle.failure.proofs.WritingLemmas.{on_err}
+use Rattle.printing.proofs.Prelude.{arith, ◌-◌, on_err}
 use Rattle.printing.proofs.RunLemmas.{begins_at, last_slice, lines_written, none_made, none_made_at, run_grows, slice_begun, slice_ends, slice_made}
 use Rattle.printing.proofs.runs.run_slices.Goals as goal
 

@@ -1,7 +1,4 @@
-use Rattle.std.proofs.Common.{◌-◌, ◌≤◌}
-use Rattle.std.specs.List.{flat_map}
-use Rattle.std.specs.Io.KnownBytes.{Appends}
-use Rattle.printing.specs.Report.{line_of}
+use Rattle.printing.proofs.Prelude.{◌-◌, ◌≤◌, flat_map, Appends, line_of}
 use Rattle.printing.proofs.RunLemmas.{Made}
 use Rattle.printing.proofs.runs.run_slices.Given as goal
 

@@ -1,6 +1,4 @@
-use Rattle.std.proofs.Common.{map, ap, ◌∙◌, arith}
-use Rattle.typed_trees.specs.Views.{object_view}
-use Rattle.resolving.specs.internal.PublicNames.{with_objects}
+use Rattle.resolving.proofs.Prelude.{map, ap, ◌∙◌, arith, object_view, with_objects}
 use Rattle.resolving.proofs.PublicNames.{objects_of_module_put, all_objects_put}
 use Rattle.resolving.proofs.publics.public_objects.Goals as goal
 

@@ -1,6 +1,4 @@
-use Rattle.std.proofs.Common.{◌≡◌, [], drop, map}
-use Rattle.typed_trees.specs.Views.{module_view}
-use Rattle.resolving.specs.internal.PublicNames.{with_all_objects}
+use Rattle.resolving.proofs.Prelude.{◌≡◌, [], drop, map, module_view, with_all_objects}
 use Rattle.resolving.proofs.publics.public_objects.Given as goal
 
 abbrev pub invariant-loop-number_of_module : goal.invariant-loop-number_of_module

@@ -1,6 +1,4 @@
-use Rattle.std.proofs.Common.{map, ap, ◌∙◌, arith}
-use Rattle.typed_trees.specs.Views.{procedure_view}
-use Rattle.resolving.specs.internal.PublicNames.{with_procedures}
+use Rattle.resolving.proofs.Prelude.{map, ap, ◌∙◌, arith, procedure_view, with_procedures}
 use Rattle.resolving.proofs.PublicNames.{procedures_of_module_put, all_procedures_put}
 use Rattle.resolving.proofs.publics.public_procedures.Goals as goal
 

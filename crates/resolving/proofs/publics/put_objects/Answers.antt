@@ -1,4 +1,4 @@
-use Rattle.std.proofs.Common.{arith}
+use Rattle.resolving.proofs.Prelude.{arith}
 use Rattle.resolving.proofs.PublicNames.{object_put, objects_put}
 use Rattle.resolving.proofs.publics.put_objects.Goals as goal
 

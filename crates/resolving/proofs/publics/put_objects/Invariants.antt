@@ -1,6 +1,4 @@
-use Rattle.std.proofs.Common.{◌≡◌, drop, map}
-use Rattle.typed_trees.specs.Views.{object_view}
-use Rattle.resolving.specs.internal.PublicNames.{with_objects}
+use Rattle.resolving.proofs.Prelude.{◌≡◌, drop, map, object_view, with_objects}
 use Rattle.resolving.proofs.publics.put_objects.Given as goal
 
 abbrev pub invariant-loop-number : goal.invariant-loop-number

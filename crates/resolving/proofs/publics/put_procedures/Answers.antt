@@ -1,5 +1,4 @@
-use Rattle.std.proofs.Common.{ap, ◌∙◌, arith}
-use Rattle.resolving.specs.internal.PublicNames.{found_at, with_public}
+use Rattle.resolving.proofs.Prelude.{ap, ◌∙◌, arith, found_at, with_public}
 use Rattle.resolving.proofs.PublicNames.{procedure_put, procedures_put}
 use Rattle.resolving.proofs.publics.put_procedures.Goals as goal
 

@@ -1,6 +1,4 @@
-use Rattle.std.proofs.Common.{◌≡◌, drop, map}
-use Rattle.typed_trees.specs.Views.{procedure_view}
-use Rattle.resolving.specs.internal.PublicNames.{with_procedures}
+use Rattle.resolving.proofs.Prelude.{◌≡◌, drop, map, procedure_view, with_procedures}
 use Rattle.resolving.proofs.publics.put_procedures.Given as goal
 
 abbrev pub invariant-loop-number : goal.invariant-loop-number

@@ -1,4 +1,4 @@
-use Rattle.std.proofs.lemmas.Result.{on_ok_weaker}
+use Rattle.runtime8080.proofs.Prelude.{on_ok_weaker}
 use Rattle.runtime8080.proofs.Added.{done_shift_right_address, fits_shift_right_address}
 use Rattle.runtime8080.proofs.emission.shift_right_address.Goals as goal
 

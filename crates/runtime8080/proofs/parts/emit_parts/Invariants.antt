@@ -1,5 +1,4 @@
-use Rattle.std.proofs.Common.{◌≡◌, ◌++◌, length, map}
-use Rattle.runtime8080.specs.internal.Emission.{Fits, item_of}
+use Rattle.runtime8080.proofs.Prelude.{◌≡◌, ◌++◌, length, map, Fits, item_of}
 use Rattle.runtime8080.proofs.parts.emit_parts.Given as goal
 
 -- what was added, and what is left of it, is all; and what is left may be added

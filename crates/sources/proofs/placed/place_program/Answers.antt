@@ -1,5 +1,4 @@
-use Rattle.std.proofs.Common.{map, ap}
-use Rattle.typed_trees.specs.Views.{module_view}
+use Rattle.sources.proofs.Prelude.{map, ap, module_view}
 use Rattle.sources.proofs.Programs.{is_placed}
 use Rattle.sources.proofs.placed.place_program.Goals as goal
 

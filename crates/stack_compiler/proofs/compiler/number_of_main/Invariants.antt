@@ -1,5 +1,4 @@
-use Rattle.std.proofs.Common.{◌≡◌, drop, map}
-use Rattle.typed_trees.specs.Views.{module_view}
+use Rattle.stack_compiler.proofs.Prelude.{◌≡◌, drop, map, module_view}
 use Rattle.stack_compiler.proofs.MainModules.{main_from}
 use Rattle.stack_compiler.proofs.compiler.number_of_main.Given as goal
 

@@ -1,8 +1,5 @@
-use Rattle.std.proofs.Common.{sym, ◌∙◌, arith}
-use Rattle.std.proofs.lemmas.Result.{on_ok_weaker}
-use Rattle.typed_trees.specs.Views.{subscript_view}
+use Rattle.stack_compiler.proofs.Prelude.{sym, ◌∙◌, arith, on_ok_weaker, subscript_view, site_view}
 use Rattle.stack_compiler.specs.internal.Purposes.{purpose_view}
-use Rattle.stack_compiler.specs.internal.Sites.{site_view}
 use Rattle.stack_compiler.proofs.Arguments.{argument_emitted, arguments_emitted}
 use Rattle.stack_compiler.proofs.Storages.{reference_in_frame, reference_in_memory, reference_with_base}
 use Rattle.stack_compiler.proofs.expressions.+expression.Goals as goal

@@ -1,5 +1,4 @@
-use Rattle.std.proofs.Common.{◌≡◌, ◌++◌, replicate}
-use Rattle.stack_code.specs.declared.instruction.Instruction.TheVariants.{Drop}
+use Rattle.stack_compiler.proofs.Prelude.{◌≡◌, ◌++◌, replicate, Drop}
 use Rattle.stack_compiler.proofs.expressions.emit_drops.Given as goal
 
 abbrev pub invariant-loop-left : goal.invariant-loop-left

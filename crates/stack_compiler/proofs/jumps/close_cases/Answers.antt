@@ -1,4 +1,4 @@
-use Rattle.std.proofs.Common.{arith}
+use Rattle.stack_compiler.proofs.Prelude.{arith}
 use Rattle.stack_compiler.proofs.Cases.{ends_closed}
 use Rattle.stack_compiler.proofs.jumps.close_cases.Goals as goal
 

@@ -1,5 +1,4 @@
-use Rattle.std.proofs.Common.{◌≡◌, drop}
-use Rattle.stack_compiler.specs.internal.Openings.{closed}
+use Rattle.stack_compiler.proofs.Prelude.{◌≡◌, drop, closed}
 use Rattle.stack_compiler.proofs.jumps.close_cases.Given as goal
 
 abbrev pub invariant-loop-end : goal.invariant-loop-end

@@ -1,6 +1,4 @@
-use Rattle.std.proofs.Common.{arith, map}
-use Rattle.typed_trees.specs.Views.{module_view}
-use Rattle.placing.specs.Views.{placement_view}
+use Rattle.stack_compiler.proofs.Prelude.{arith, map, module_view, placement_view}
 use Rattle.stack_compiler.proofs.ProcedureLoops.{module_emitted, modules_emitted}
 use Rattle.stack_compiler.proofs.procedures.emit_modules.Goals as goal
 

@@ -1,7 +1,4 @@
-use Rattle.std.proofs.Common.{◌≡◌, ◌++◌, drop, map}
-use Rattle.typed_trees.specs.Views.{module_view}
-use Rattle.placing.specs.Views.{placement_view}
-use Rattle.stack_compiler.specs.internal.Sequences.{modules_code_from}
+use Rattle.stack_compiler.proofs.Prelude.{◌≡◌, ◌++◌, drop, map, module_view, placement_view, modules_code_from}
 use Rattle.stack_compiler.proofs.procedures.emit_modules.Given as goal
 
 abbrev pub invariant-loop-number_of_module : goal.invariant-loop-number_of_module

@@ -1,5 +1,4 @@
-use Rattle.std.proofs.Common.{arith}
-use Rattle.stack_compiler.specs.internal.Sites.{site_view}
+use Rattle.stack_compiler.proofs.Prelude.{arith, site_view}
 use Rattle.stack_compiler.proofs.ProcedureLoops.{parameters_short}
 use Rattle.stack_compiler.proofs.procedures.emit_parameters.Goals as goal
 

@@ -1,6 +1,4 @@
-use Rattle.std.proofs.Common.{◌≡◌, ◌++◌, drop}
-use Rattle.stack_code.specs.Code.{parameters_code}
-use Rattle.stack_compiler.specs.internal.Sites.{site_view}
+use Rattle.stack_compiler.proofs.Prelude.{◌≡◌, ◌++◌, drop, parameters_code, site_view}
 use Rattle.stack_compiler.proofs.procedures.emit_parameters.Given as goal
 
 abbrev pub invariant-loop-index : goal.invariant-loop-index

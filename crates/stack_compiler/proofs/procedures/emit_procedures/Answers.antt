@@ -1,5 +1,4 @@
-use Rattle.std.proofs.Common.{arith}
-use Rattle.stack_compiler.specs.internal.Sites.{site_view}
+use Rattle.stack_compiler.proofs.Prelude.{arith, site_view}
 use Rattle.stack_compiler.proofs.ProcedureLoops.{procedure_emitted, procedures_emitted}
 use Rattle.stack_compiler.proofs.procedures.emit_procedures.Goals as goal
 

@@ -1,7 +1,4 @@
-use Rattle.std.proofs.Common.{◌≡◌, ◌++◌, drop, map}
-use Rattle.typed_trees.specs.Views.{procedure_view}
-use Rattle.stack_compiler.specs.internal.Sequences.{procedures_code_from}
-use Rattle.stack_compiler.specs.internal.Sites.{site_view}
+use Rattle.stack_compiler.proofs.Prelude.{◌≡◌, ◌++◌, drop, map, procedure_view, procedures_code_from, site_view}
 use Rattle.stack_compiler.proofs.procedures.emit_procedures.Given as goal
 
 abbrev pub invariant-loop-number : goal.invariant-loop-number

@@ -1,10 +1,4 @@
-use Rattle.std.proofs.Common.{◌+◌, ◌-◌, ◌++◌, ◌∷◌, [], Option, length, ap, refl, sym, ◌∙◌, arith}
-use Rattle.std.proofs.lemmas.Result.{on_ok_weaker}
-use Rattle.typed_trees.specs.declared.statement.TypedStatement.{TypedStatement}
-use Rattle.typed_trees.specs.Views.{else_view, expression_view, iteration_view, list_view, statement_view, statements_view}
-use Rattle.stack_code.specs.Code.{choice_code, count_of_statements, else_code, entries_code, cases_code, expression_code, last_code, list_code, statement_code}
-use Rattle.stack_compiler.specs.internal.Openings.{closed, opened, opening, passing}
-use Rattle.stack_compiler.specs.internal.Sites.{site_view}
+use Rattle.stack_compiler.proofs.Prelude.{◌+◌, ◌-◌, ◌++◌, ◌∷◌, [], Option, length, ap, refl, sym, ◌∙◌, arith, on_ok_weaker, TypedStatement, else_view, expression_view, iteration_view, list_view, statement_view, statements_view, choice_code, count_of_statements, else_code, entries_code, cases_code, expression_code, last_code, list_code, statement_code, closed, opened, opening, passing, site_view}
 use Rattle.stack_compiler.proofs.Cases.{case_made, case_opened, cases_made, cases_opened}
 use Rattle.stack_compiler.proofs.JumpsFilled.{if_with, if_without, iterate_made, while_made}
 use Rattle.stack_compiler.proofs.StatementLoops.{statement_emitted, statements_count, statements_emitted}

@@ -1,8 +1,4 @@
-use Rattle.std.proofs.Common.{◌≡◌, ◌++◌, drop}
-use Rattle.typed_trees.specs.Views.{statements_view}
-use Rattle.stack_code.specs.Code.{statements_code}
-use Rattle.stack_compiler.specs.internal.Openings.{opened, opening}
-use Rattle.stack_compiler.specs.internal.Sites.{site_view}
+use Rattle.stack_compiler.proofs.Prelude.{◌≡◌, ◌++◌, drop, statements_view, statements_code, opened, opening, site_view}
 use Rattle.stack_compiler.proofs.statements.+statement.Given as goal
 
 abbrev pub invariant-emit_statements-loop-statement : goal.invariant-emit_statements-loop-statement

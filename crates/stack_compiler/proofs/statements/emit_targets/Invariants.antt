@@ -1,7 +1,4 @@
-use Rattle.std.proofs.Common.{◌≡◌, ◌++◌, drop, map}
-use Rattle.typed_trees.specs.Views.{target_view}
-use Rattle.stack_code.specs.Code.{targets_code}
-use Rattle.stack_compiler.specs.internal.Sites.{site_view}
+use Rattle.stack_compiler.proofs.Prelude.{◌≡◌, ◌++◌, drop, map, target_view, targets_code, site_view}
 use Rattle.stack_compiler.proofs.statements.emit_targets.Given as goal
 
 abbrev pub invariant-loop-target : goal.invariant-loop-target

@@ -1,5 +1,4 @@
-use Rattle.std.proofs.Common.{arith, map}
-use Rattle.stack_compiler.specs.internal.Rows.{row_view}
+use Rattle.stack_compiler.proofs.Prelude.{arith, map, row_view}
 use Rattle.stack_compiler.proofs.RowLoops.{code_noted}
 use Rattle.stack_compiler.proofs.tables.note_all.Goals as goal
 

@@ -1,5 +1,4 @@
-use Rattle.std.proofs.Common.{◌≡◌, drop, map}
-use Rattle.stack_compiler.specs.internal.Rows.{noted_all, row_view}
+use Rattle.stack_compiler.proofs.Prelude.{◌≡◌, drop, map, noted_all, row_view}
 use Rattle.stack_compiler.proofs.tables.note_all.Given as goal
 
 abbrev pub invariant-loop-at : goal.invariant-loop-at

@@ -1,6 +1,4 @@
-use Rattle.std.proofs.Common.{length, refl}
-use Rattle.std.proofs.lemmas.Option.{slice_get_read}
-use Rattle.stack_compiler.specs.internal.Rows.{row_begun}
+use Rattle.stack_compiler.proofs.Prelude.{length, refl, slice_get_read, row_begun}
 use Rattle.stack_compiler.proofs.RowLoops.{row_changed}
 use Rattle.stack_compiler.proofs.tables.note_begin_in.Goals as goal
 

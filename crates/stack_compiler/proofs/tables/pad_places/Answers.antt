@@ -1,4 +1,4 @@
-use Rattle.std.proofs.Common.{arith}
+use Rattle.stack_compiler.proofs.Prelude.{arith}
 use Rattle.stack_compiler.proofs.RowLoops.{zero_pushed, zeros_pushed}
 use Rattle.stack_compiler.proofs.tables.pad_places.Goals as goal
 

@@ -1,5 +1,4 @@
-use Rattle.std.proofs.Common.{◌≡◌, ◌-◌, length}
-use Rattle.stack_compiler.specs.internal.Rows.{padded}
+use Rattle.stack_compiler.proofs.Prelude.{◌≡◌, ◌-◌, length, padded}
 use Rattle.stack_compiler.proofs.tables.pad_places.Given as goal
 
 abbrev pub invariant-loop-places : goal.invariant-loop-places

@@ -1,5 +1,4 @@
-use Rattle.std.proofs.Common.{◌≡◌, ◌+◌, ◌-◌, suc, length, map}
-use Rattle.stack_compiler.specs.internal.Rows.{empty_row, padded, row_view}
+use Rattle.stack_compiler.proofs.Prelude.{◌≡◌, ◌+◌, ◌-◌, suc, length, map, empty_row, padded, row_view}
 use Rattle.stack_compiler.proofs.tables.pad_tables.Given as goal
 
 abbrev pub invariant-loop-alloc : goal.invariant-loop-alloc

@@ -1,4 +1,4 @@
-use Rattle.std.proofs.Common.{arith}
+use Rattle.stack_compiler.proofs.Prelude.{arith}
 use Rattle.stack_compiler.proofs.RowLoops.{entry_started, entries_started}
 use Rattle.stack_compiler.proofs.tables.started_entries.Goals as goal
 

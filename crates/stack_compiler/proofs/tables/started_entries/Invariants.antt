@@ -1,6 +1,4 @@
-use Rattle.std.proofs.Common.{◌≡◌, ◌++◌, drop, map}
-use Rattle.typed_trees.specs.Views.{procedure_view}
-use Rattle.stack_compiler.specs.internal.Rows.{started_entry}
+use Rattle.stack_compiler.proofs.Prelude.{◌≡◌, ◌++◌, drop, map, procedure_view, started_entry}
 use Rattle.stack_compiler.proofs.tables.started_entries.Given as goal
 
 abbrev pub invariant-loop-procedure : goal.invariant-loop-procedure

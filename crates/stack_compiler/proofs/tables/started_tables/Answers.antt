@@ -1,4 +1,4 @@
-use Rattle.std.proofs.Common.{arith}
+use Rattle.stack_compiler.proofs.Prelude.{arith}
 use Rattle.stack_compiler.proofs.RowLoops.{table_started, tables_started}
 use Rattle.stack_compiler.proofs.tables.started_tables.Goals as goal
 

@@ -1,6 +1,4 @@
-use Rattle.std.proofs.Common.{◌≡◌, ◌++◌, drop, map}
-use Rattle.typed_trees.specs.Views.{module_view}
-use Rattle.stack_compiler.specs.internal.Rows.{row_view, started_row}
+use Rattle.stack_compiler.proofs.Prelude.{◌≡◌, ◌++◌, drop, map, module_view, row_view, started_row}
 use Rattle.stack_compiler.proofs.tables.started_tables.Given as goal
 
 abbrev pub invariant-loop-typed : goal.invariant-loop-typed

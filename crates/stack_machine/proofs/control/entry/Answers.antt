@@ -1,8 +1,5 @@
 -- A read of the module's table, and one of its procedures.
-use Rattle.std.proofs.Common.{◌≡◌, ◌∙◌, ℕ, List, Option, Some, None, Bor, length, refl, sym, ap, option_and_then, option_copied, slice_get}
-use Rattle.std.specs.Slice.{IsItemAt}
-use Rattle.std.proofs.lemmas.Option.{slice_get_past, slice_get_read}
-use Rattle.stack_code.specs.declared.program.ModuleTable.{ModuleTable}
+use Rattle.stack_machine.proofs.Prelude.{◌≡◌, ◌∙◌, ℕ, List, Option, Some, None, Bor, length, refl, sym, ap, option_and_then, option_copied, slice_get, IsItemAt, slice_get_past, slice_get_read, ModuleTable}
 use Rattle.stack_machine.proofs.control.entry.Goals as goal
 
 copied_from : {A : Type 0} (xs : List A) (i : ℕ) (r : Option (Bor A)) → IsItemAt xs i r → option_copied r ≡ slice_get xs i

@@ -1,9 +1,5 @@
 -- A read of the module's table, and one of its labels.
-use Rattle.std.proofs.Common.{◌∙◌, length, refl, sym, ap, arith}
-use Rattle.std.specs.Prelude.{slice_index_or}
-use Rattle.std.specs.Option.{option_map_or, unwrap_or}
-use Rattle.std.proofs.lemmas.Option.{slice_get_read}
-use Rattle.stack_code.specs.declared.program.ModuleTable.{ModuleTable}
+use Rattle.stack_machine.proofs.Prelude.{◌∙◌, length, refl, sym, ap, arith, slice_index_or, option_map_or, unwrap_or, slice_get_read, ModuleTable}
 use Rattle.stack_machine.proofs.control.label.Goals as goal
 
 pub returns-in-Some : goal.returns-in-Some

@@ -1,8 +1,5 @@
 -- The bytes that are left, copied from here on, are all of them copied from the first memory on.
-use Rattle.std.proofs.Common.{◌≡◌}
-use Rattle.placing.specs.Views.{placement_view}
-use Rattle.declared.specs.Access.{modules_in}
-use Rattle.stack_machine.specs.internal.Moves.{bytes_moved}
+use Rattle.stack_machine.proofs.Prelude.{◌≡◌, placement_view, modules_in, bytes_moved}
 use Rattle.stack_machine.proofs.moves.copy.Given as goal
 
 abbrev pub invariant-loop-left : goal.invariant-loop-left

@@ -1,5 +1,5 @@
 -- The module and its procedure are there.
-use Rattle.declared.specs.Access.{modules_in}
+use Rattle.stack_machine.proofs.Prelude.{modules_in}
 use Rattle.stack_machine.proofs.ModuleSlots.{module_stands, procedure_stands}
 use Rattle.stack_machine.proofs.opening.open_frame.Goals as goal
 

@@ -1,7 +1,5 @@
 -- What was made, and what the modules that are left make, is all of it.
-use Rattle.std.proofs.Common.{◌≡◌, ◌++◌, drop, map}
-use Rattle.typed_trees.specs.Views.{module_view}
-use Rattle.declared.specs.Frames.{module_frames}
+use Rattle.stack_machine.proofs.Prelude.{◌≡◌, ◌++◌, drop, map, module_view, module_frames}
 use Rattle.stack_machine.proofs.slots.slots_of.Given as goal
 
 abbrev pub invariant-loop-typed : goal.invariant-loop-typed

@@ -1,9 +1,4 @@
-use Rattle.std.proofs.Common.{◌≡◌, ◌++◌, drop, map}
-use Rattle.typed_trees.specs.Views.{module_view}
-use Rattle.resolving.specs.Views.{program_view}
-use Rattle.stack_need.specs.CallGraph.{bodies_from}
-use Rattle.stack_need.specs.internal.Needs.{capped}
-use Rattle.stack_need.specs.internal.Search.{body_view}
+use Rattle.stack_need.proofs.Prelude.{◌≡◌, ◌++◌, drop, map, module_view, program_view, bodies_from, capped, body_view}
 use Rattle.stack_need.proofs.call_graph.add_all_bodies.Given as goal
 
 abbrev pub invariant-loop-number_of_module : goal.invariant-loop-number_of_module

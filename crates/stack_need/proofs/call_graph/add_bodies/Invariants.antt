@@ -1,10 +1,4 @@
-use Rattle.std.proofs.Common.{◌≡◌, ◌++◌, drop, map}
-use Rattle.typed_trees.specs.Views.{procedure_view}
-use Rattle.resolving.specs.Views.{site_view}
-use Rattle.stack_need.specs.CallGraph.{body_of}
-use Rattle.stack_need.specs.internal.Graph.{modules_at}
-use Rattle.stack_need.specs.internal.Needs.{capped}
-use Rattle.stack_need.specs.internal.Search.{body_view}
+use Rattle.stack_need.proofs.Prelude.{◌≡◌, ◌++◌, drop, map, procedure_view, site_view, body_of, modules_at, capped, body_view}
 use Rattle.stack_need.proofs.call_graph.add_bodies.Given as goal
 
 abbrev pub invariant-loop-procedure : goal.invariant-loop-procedure

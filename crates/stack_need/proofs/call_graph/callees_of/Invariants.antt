@@ -1,6 +1,4 @@
-use Rattle.std.proofs.Common.{◌≡◌, ◌++◌, drop, filter_map}
-use Rattle.resolving.specs.Views.{site_view}
-use Rattle.stack_need.specs.internal.Graph.{callee_at}
+use Rattle.stack_need.proofs.Prelude.{◌≡◌, ◌++◌, drop, filter_map, site_view, callee_at}
 use Rattle.stack_need.proofs.call_graph.callees_of.Given as goal
 
 abbrev pub invariant-loop-call : goal.invariant-loop-call

@@ -1,6 +1,4 @@
-use Rattle.std.proofs.Common.{◌≡◌, ◌++◌, drop, map}
-use Rattle.typed_trees.specs.Views.{module_view}
-use Rattle.stack_need.specs.CallGraph.{first_numbers}
+use Rattle.stack_need.proofs.Prelude.{◌≡◌, ◌++◌, drop, map, module_view, first_numbers}
 use Rattle.stack_need.proofs.call_graph.first_numbers.Given as goal
 
 abbrev pub invariant-loop-typed : goal.invariant-loop-typed

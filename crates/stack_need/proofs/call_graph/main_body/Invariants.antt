@@ -1,8 +1,4 @@
-use Rattle.std.proofs.Common.{◌≡◌, drop, map}
-use Rattle.typed_trees.specs.Views.{module_view}
-use Rattle.resolving.specs.Views.{program_view}
-use Rattle.stack_need.specs.CallGraph.{main_body}
-use Rattle.stack_need.specs.internal.Graph.{main_from}
+use Rattle.stack_need.proofs.Prelude.{◌≡◌, drop, map, module_view, program_view, main_body, main_from}
 use Rattle.stack_need.proofs.call_graph.main_body.Given as goal
 
 abbrev pub invariant-loop-number_of_module : goal.invariant-loop-number_of_module

@@ -1,6 +1,4 @@
-use Rattle.std.proofs.Common.{◌≡◌, ◌++◌, drop}
-use Rattle.typed_trees.specs.Views.{arguments_view}
-use Rattle.stack_need.specs.Calls.{calls_in_arguments}
+use Rattle.stack_need.proofs.Prelude.{◌≡◌, ◌++◌, drop, arguments_view, calls_in_arguments}
 use Rattle.stack_need.proofs.calls.+expression.Given as goal
 
 abbrev pub invariant-arguments_calls-loop-argument : goal.invariant-arguments_calls-loop-argument

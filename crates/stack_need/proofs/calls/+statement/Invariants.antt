@@ -1,6 +1,4 @@
-use Rattle.std.proofs.Common.{◌≡◌, ◌++◌, drop}
-use Rattle.typed_trees.specs.Views.{statements_view}
-use Rattle.stack_need.specs.Calls.{calls_in_statements}
+use Rattle.stack_need.proofs.Prelude.{◌≡◌, ◌++◌, drop, statements_view, calls_in_statements}
 use Rattle.stack_need.proofs.calls.+statement.Given as goal
 
 abbrev pub invariant-statements_calls-loop-statement : goal.invariant-statements_calls-loop-statement

@@ -1,6 +1,4 @@
-use Rattle.std.proofs.Common.{◌≡◌, ◌++◌, drop, map}
-use Rattle.typed_trees.specs.Views.{target_view}
-use Rattle.stack_need.specs.Calls.{calls_in_targets}
+use Rattle.stack_need.proofs.Prelude.{◌≡◌, ◌++◌, drop, map, target_view, calls_in_targets}
 use Rattle.stack_need.proofs.calls.targets_calls.Given as goal
 
 abbrev pub invariant-loop-target : goal.invariant-loop-target

@@ -1,6 +1,4 @@
-use Rattle.std.proofs.Common.{◌∙◌, map, refl, sym, arith}
-use Rattle.std.proofs.lemmas.List.{length-map}
-use Rattle.stack_need.specs.internal.Search.{body_view, graph_view, search_view}
+use Rattle.stack_need.proofs.Prelude.{◌∙◌, map, refl, sym, arith, length-map, body_view, graph_view, search_view}
 use Rattle.stack_need.proofs.AllBodies.{all_answers, cycle_answers, known_at_first, need_added, need_found, no_needs, path_ended, still_known}
 use Rattle.stack_need.proofs.search.need_in.Goals as goal
 

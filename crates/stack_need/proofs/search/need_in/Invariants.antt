@@ -1,7 +1,4 @@
-use Rattle.std.proofs.Common.{◌≡◌, map, []}
-use Rattle.stack_need.specs.internal.Needs.{HasNeed}
-use Rattle.stack_need.specs.internal.Search.{body_view, graph_view, search_view}
-use Rattle.stack_need.specs.internal.Searching.{HaveNeeds, IsTrueOf}
+use Rattle.stack_need.proofs.Prelude.{◌≡◌, map, [], HasNeed, body_view, graph_view, search_view, HaveNeeds, IsTrueOf}
 use Rattle.stack_need.proofs.search.need_in.Given as goal
 
 abbrev pub invariant-loop-body : goal.invariant-loop-body

@@ -1,7 +1,4 @@
-use Rattle.std.proofs.Common.{map, subst}
-use Rattle.resolving.specs.Views.{program_view}
-use Rattle.stack_need.specs.internal.Search.{body_view}
-use Rattle.stack_need.specs.internal.Searching.{Answers}
+use Rattle.stack_need.proofs.Prelude.{map, subst, program_view, body_view, Answers}
 use Rattle.stack_need.proofs.Told.{tells}
 use Rattle.stack_need.proofs.stack_need.need_at.Goals as goal
 

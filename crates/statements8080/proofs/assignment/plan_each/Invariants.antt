@@ -1,7 +1,4 @@
-use Rattle.std.proofs.Common.{◌-◌}
-use Rattle.statements8080.specs.Plans.{steps_from}
-use Rattle.statements8080.specs.Assignments.{each_at, each_steps}
-use Rattle.statements8080.specs.internal.Adding.{IsAdding}
+use Rattle.statements8080.proofs.Prelude.{◌-◌, steps_from, each_at, each_steps, IsAdding}
 use Rattle.statements8080.proofs.assignment.plan_each.Given as goal
 
 abbrev pub invariant-loop-index : goal.invariant-loop-index

@@ -1,4 +1,4 @@
-use Rattle.std.proofs.Common.{◌≡◌}
+use Rattle.statements8080.proofs.Prelude.{◌≡◌}
 use Rattle.statements8080.specs.Branches.{has_one_jump, has_one_jump_within}
 use Rattle.statements8080.proofs.branching.has_one_jump.Given as goal
 

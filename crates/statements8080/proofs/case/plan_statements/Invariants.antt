@@ -1,7 +1,5 @@
-use Rattle.std.proofs.Common.{◌-◌}
-use Rattle.statements8080.specs.Plans.{steps_from}
+use Rattle.statements8080.proofs.Prelude.{◌-◌, steps_from, IsAdding}
 use Rattle.statements8080.specs.Cases.{statement_at, statements_steps}
-use Rattle.statements8080.specs.internal.Adding.{IsAdding}
 use Rattle.statements8080.proofs.case.plan_statements.Given as goal
 
 abbrev pub invariant-loop-index : goal.invariant-loop-index

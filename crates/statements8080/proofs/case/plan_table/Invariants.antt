@@ -1,7 +1,5 @@
-use Rattle.std.proofs.Common.{◌-◌}
-use Rattle.statements8080.specs.Plans.{steps_from}
+use Rattle.statements8080.proofs.Prelude.{◌-◌, steps_from, IsAdding}
 use Rattle.statements8080.specs.Cases.{table_at, table_steps}
-use Rattle.statements8080.specs.internal.Adding.{IsAdding}
 use Rattle.statements8080.proofs.case.plan_table.Given as goal
 
 abbrev pub invariant-loop-index : goal.invariant-loop-index

@@ -1,4 +1,4 @@
-use Rattle.std.proofs.Common.{◌≡◌, ℕ, ◌+◌, ◌-◌, suc, ◌<◌, List, [], ◌∷◌, ◌++◌, replicate, ap, ◌∙◌, append_assoc, arith}
+use Rattle.steps8080.proofs.Prelude.{◌≡◌, ℕ, ◌+◌, ◌-◌, suc, ◌<◌, List, [], ◌∷◌, ◌++◌, replicate, ap, ◌∙◌, append_assoc, arith}
 use Rattle.steps8080.specs.declared.step.Step.{Step}
 use Rattle.steps8080.proofs.instructions.repeat.Goals as goal
 

@@ -1,5 +1,4 @@
-use Rattle.std.proofs.Common.{◌≡◌, ◌++◌, ◌-◌}
-use Rattle.steps8080.specs.Step.{repeat_steps}
+use Rattle.steps8080.proofs.Prelude.{◌≡◌, ◌++◌, ◌-◌, repeat_steps}
 use Rattle.steps8080.proofs.instructions.repeat.Given as goal
 
 abbrev pub invariant-loop : goal.invariant-loop

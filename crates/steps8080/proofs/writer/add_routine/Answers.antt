@@ -1,4 +1,4 @@
-use Rattle.std.proofs.Common.{refl}
+use Rattle.steps8080.proofs.Prelude.{refl}
 use Rattle.steps8080.proofs.Labels.{routine_added}
 use Rattle.steps8080.proofs.writer.add_routine.Goals as goal
 

@@ -1,5 +1,4 @@
-use Rattle.std.proofs.Common.{◌≡◌, ◌++◌, drop, map}
-use Rattle.steps8080.specs.Writer.{known_label}
+use Rattle.steps8080.proofs.Prelude.{◌≡◌, ◌++◌, drop, map, known_label}
 use Rattle.steps8080.proofs.writer.known_labels.Given as goal
 
 abbrev pub invariant-loop-number : goal.invariant-loop-number

@@ -1,5 +1,4 @@
-use Rattle.std.proofs.Common.{◌≡◌, ◌≤◌, length}
-use Rattle.symbols.specs.Names.{name_of}
+use Rattle.symbols.proofs.Prelude.{◌≡◌, ◌≤◌, length, name_of}
 use Rattle.symbols.proofs.name.first_character.Given as goal
 
 abbrev pub invariant-loop-rest : goal.invariant-loop-rest

@@ -1,5 +1,4 @@
-use Rattle.std.proofs.Common.{◌≡◌, false, ◌++◌, drop}
-use Rattle.words.specs.Strings.{unquoted}
+use Rattle.syntax.proofs.Prelude.{◌≡◌, false, ◌++◌, drop, unquoted}
 use Rattle.syntax.proofs.reader.unquoted.Given as goal
 
 abbrev pub invariant-loop-byte : goal.invariant-loop-byte

@@ -1,4 +1,4 @@
-use Rattle.sources.specs.Programs.{program_modules, texts_of}
+use Rattle.tool.proofs.Prelude.{program_modules, texts_of}
 use Rattle.tool.proofs.CompiledLemmas.{within_texts}
 use Rattle.tool.proofs.SourcesLemmas.{no_program}
 use Rattle.tool.proofs.building.build.Goals as goal

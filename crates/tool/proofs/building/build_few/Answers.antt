@@ -1,10 +1,4 @@
-use Rattle.std.proofs.Common.{length, map, rules}
-use Rattle.std.proofs.lemmas.List.{length-map}
-use Rattle.typed_trees.specs.Views.{module_view}
-use Rattle.sources.specs.Programs.{texts_of}
-use Rattle.tool.specs.declared.fault.ToolFault.{ToolFault}
-use Rattle.tool.specs.Sources.{AreWithoutFault, HasCause, IsInOrder}
-use Rattle.tool.specs.internal.Compiling.{HasBuildCause}
+use Rattle.tool.proofs.Prelude.{length, map, rules, length-map, module_view, texts_of, ToolFault, AreWithoutFault, HasCause, IsInOrder, HasBuildCause}
 use Rattle.tool.proofs.CompiledLemmas.{handed_on, passed}
 use Rattle.tool.proofs.SourcesLemmas.{build_cause, build_order, lengths_fit, made_all, program_built, storages_fit}
 use Rattle.tool.proofs.building.build_few.Goals as goal

@@ -1,13 +1,4 @@
-use Rattle.std.proofs.Common.{◌≡◌, ℕ, List, length, map, subst, sym, ◌∙◌}
-use Rattle.std.proofs.lemmas.List.{length-map}
-use Rattle.typed_trees.specs.Views.{module_view}
-use Rattle.placing.specs.Segments.{HaveStorage}
-use Rattle.placing.specs.Views.{plan_view}
-use Rattle.generation.specs.internal.Names.{HaveImage}
-use Rattle.sources.specs.Programs.{IsPlacedBy}
-use Rattle.object_modules.specs.Module.{ObjectModule}
-use Rattle.tool.specs.Made.{IsImageOfObjects}
-use Rattle.tool.specs.internal.Merged.{GivesImageOfObjects}
+use Rattle.tool.proofs.Prelude.{◌≡◌, ℕ, List, length, map, subst, sym, ◌∙◌, length-map, module_view, HaveStorage, plan_view, HaveImage, IsPlacedBy, ObjectModule, IsImageOfObjects, GivesImageOfObjects}
 use Rattle.tool.proofs.SourcesLemmas.{count_fits, have_storage, is_construction, placed_has_image}
 use Rattle.tool.proofs.building.build_program.Goals as goal
 

@@ -1,5 +1,4 @@
-use Rattle.std.proofs.Common.{rules, ◌<◌, length}
-use Rattle.sources.specs.Programs.{texts_of}
+use Rattle.tool.proofs.Prelude.{rules, ◌<◌, length, texts_of}
 use Rattle.tool.proofs.CompiledLemmas.{all_compiled, cause_of_all, goes_on, none_without_fault, one_more_without_fault, order_of_all, passed, past_texts, text_at, within_texts}
 use Rattle.tool.proofs.compiled.compile_all.Goals as goal
 

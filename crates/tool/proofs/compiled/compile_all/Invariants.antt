@@ -1,5 +1,4 @@
-use Rattle.sources.specs.Programs.{texts_of}
-use Rattle.tool.specs.Sources.{AreWithoutFault}
+use Rattle.tool.proofs.Prelude.{texts_of, AreWithoutFault}
 use Rattle.tool.proofs.CompiledLemmas.{GoesOn}
 use Rattle.tool.proofs.compiled.compile_all.Given as goal
 

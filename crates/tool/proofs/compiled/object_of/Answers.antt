@@ -1,5 +1,4 @@
-use Rattle.typed_trees.specs.Views.{module_view}
-use Rattle.layout.specs.Views.{layout_view}
+use Rattle.tool.proofs.Prelude.{module_view, layout_view}
 use Rattle.tool.proofs.CompiledLemmas.{generation_refused, made_of, sound_tree_code}
 use Rattle.tool.proofs.compiled.object_of.Goals as goal
 

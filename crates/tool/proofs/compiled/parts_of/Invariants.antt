@@ -1,7 +1,5 @@
-use Rattle.std.proofs.Common.{◌≡◌, map}
-use Rattle.object_modules.specs.Module.{length_of}
+use Rattle.tool.proofs.Prelude.{◌≡◌, map, length_of, Compiled}
 use Rattle.object_modules.specs.declared.segment.Segment.TheVariants as segments
-use Rattle.tool.specs.declared.compiled.Compiled.{Compiled}
 use Rattle.tool.proofs.compiled.parts_of.Given as goal
 
 -- what was taken apart

@@ -1,7 +1,4 @@
-use Rattle.std.proofs.Common.{◌≡◌, rules}
-use Rattle.cpu8080.specs.Runs.{IsOnlyHalt, IsRun}
-use Rattle.cpu8080.specs.declared.machine.End.TheVariants.{Halted}
-use Rattle.tool.specs.Execution.{started}
+use Rattle.tool.proofs.Prelude.{◌≡◌, rules, IsOnlyHalt, IsRun, Halted, started}
 use Rattle.tool.proofs.ExecutionLemmas.{is_faithful}
 use Rattle.tool.proofs.execution.execute.Goals as goal
 

@@ -1,4 +1,4 @@
-use Rattle.std.proofs.Common.{◌≡◌, ◌++◌, length, map}
+use Rattle.treecode.proofs.Prelude.{◌≡◌, ◌++◌, length, map}
 use Rattle.treecode.specs.declared.module.Content.TheVariants.{Byte}
 use Rattle.treecode.proofs.contents.add_list.Given as goal
 

@@ -1,7 +1,4 @@
-use Rattle.std.proofs.Common.{◌≡◌, ◌-◌, ◌++◌, length, map}
-use Rattle.std.specs.Prelude.{sum_by}
-use Rattle.treecode.specs.Contents.{content_of, size_of_value}
-use Rattle.treecode.specs.Nodes.{nodes_of}
+use Rattle.treecode.proofs.Prelude.{◌≡◌, ◌-◌, ◌++◌, length, map, sum_by, content_of, size_of_value, nodes_of}
 use Rattle.treecode.proofs.contents.add_values.Given as goal
 
 abbrev pub invariant-loop-rest : goal.invariant-loop-rest

@@ -1,7 +1,4 @@
-use Rattle.std.proofs.Common.{◌≡◌, [], length}
-use Rattle.typed_trees.specs.Views.{module_view}
-use Rattle.treecode.specs.Contents.{constants_from}
-use Rattle.treecode.specs.Nodes.{nodes_of}
+use Rattle.treecode.proofs.Prelude.{◌≡◌, [], length, module_view, constants_from, nodes_of}
 use Rattle.treecode.proofs.contents.constants_of.Given as goal
 
 abbrev pub invariant-loop-rest : goal.invariant-loop-rest

@@ -1,7 +1,4 @@
-use Rattle.std.proofs.Common.{◌≡◌, [], length, map}
-use Rattle.typed_trees.specs.Views.{object_view}
-use Rattle.treecode.specs.Contents.{variables_from}
-use Rattle.treecode.specs.Nodes.{nodes_of}
+use Rattle.treecode.proofs.Prelude.{◌≡◌, [], length, map, object_view, variables_from, nodes_of}
 use Rattle.treecode.proofs.contents.variables_of.Given as goal
 
 abbrev pub invariant-loop-rest : goal.invariant-loop-rest

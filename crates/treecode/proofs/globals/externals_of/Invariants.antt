@@ -1,6 +1,4 @@
-use Rattle.std.proofs.Common.{◌≡◌, drop}
-use Rattle.typed_trees.specs.Views.{module_view}
-use Rattle.treecode.specs.internal.Gathered.{all_gathered, gathered_view, none_gathered}
+use Rattle.treecode.proofs.Prelude.{◌≡◌, drop, module_view, all_gathered, gathered_view, none_gathered}
 use Rattle.treecode.proofs.globals.externals_of.Given as goal
 
 abbrev pub invariant-loop-item : goal.invariant-loop-item

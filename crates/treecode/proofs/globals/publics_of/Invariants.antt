@@ -1,7 +1,4 @@
-use Rattle.std.proofs.Common.{◌≡◌, ◌++◌, drop, filter_map}
-use Rattle.typed_trees.specs.Views.{module_view}
-use Rattle.treecode.specs.Contents.{public_item}
-use Rattle.treecode.specs.Nodes.{nodes_of}
+use Rattle.treecode.proofs.Prelude.{◌≡◌, ◌++◌, drop, filter_map, module_view, public_item, nodes_of}
 use Rattle.treecode.proofs.globals.publics_of.Given as goal
 
 abbrev pub invariant-loop-item : goal.invariant-loop-item

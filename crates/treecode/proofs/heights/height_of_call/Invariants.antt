@@ -1,6 +1,4 @@
-use Rattle.std.proofs.Common.{◌≡◌, ◌+◌, ◌-◌, max}
-use Rattle.treecode.specs.Nodes.{nodes_of}
-use Rattle.treecode.specs.Traits.{height_of_arguments}
+use Rattle.treecode.proofs.Prelude.{◌≡◌, ◌+◌, ◌-◌, max, nodes_of, height_of_arguments}
 use Rattle.treecode.proofs.heights.height_of_call.Given as goal
 
 abbrev pub invariant-loop-index : goal.invariant-loop-index

@@ -1,5 +1,4 @@
-use Rattle.std.proofs.Common.{length}
-use Rattle.treecode.specs.HomeWords.{EachIsWord}
+use Rattle.treecode.proofs.Prelude.{length, EachIsWord}
 use Rattle.treecode.proofs.home_words.hold_homes.Given as goal
 
 abbrev pub invariant-loop-rest : goal.invariant-loop-rest

@@ -1,7 +1,4 @@
-use Rattle.std.proofs.Common.{◌≡◌, length, map}
-use Rattle.typed_trees.specs.Views.{object_view}
-use Rattle.layout.specs.Views.{layout_view}
-use Rattle.treecode.specs.internal.Placed.{all_placed, placed_in}
+use Rattle.treecode.proofs.Prelude.{◌≡◌, length, map, object_view, layout_view, all_placed, placed_in}
 use Rattle.treecode.proofs.homes.add_homes.Given as goal
 
 abbrev pub invariant-loop-rest : goal.invariant-loop-rest

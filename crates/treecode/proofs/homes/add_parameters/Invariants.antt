@@ -1,5 +1,4 @@
-use Rattle.std.proofs.Common.{◌≡◌, length}
-use Rattle.treecode.specs.internal.Placed.{with_parameters}
+use Rattle.treecode.proofs.Prelude.{◌≡◌, length, with_parameters}
 use Rattle.treecode.proofs.homes.add_parameters.Given as goal
 
 abbrev pub invariant-loop-rest : goal.invariant-loop-rest

@@ -1,6 +1,4 @@
-use Rattle.std.proofs.Common.{◌≡◌, [], length, map}
-use Rattle.typed_trees.specs.Views.{procedure_view}
-use Rattle.treecode.specs.internal.Placed.{with_all_parameters}
+use Rattle.treecode.proofs.Prelude.{◌≡◌, [], length, map, procedure_view, with_all_parameters}
 use Rattle.treecode.proofs.homes.parameters_of.Given as goal
 
 abbrev pub invariant-loop-rest : goal.invariant-loop-rest

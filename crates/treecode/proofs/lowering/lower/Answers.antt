@@ -1,7 +1,4 @@
-use Rattle.std.proofs.Common.{ap, ◌∙◌}
-use Rattle.std.specs.Prelude.{vec_items}
-use Rattle.typed_trees.specs.Views.{module_view}
-use Rattle.layout.specs.Views.{layout_view}
+use Rattle.treecode.proofs.Prelude.{ap, ◌∙◌, vec_items, module_view, layout_view}
 use Rattle.treecode.proofs.ModuleBodies.{procedures_are, procedures_counted}
 use Rattle.treecode.proofs.lowering.lower.Goals as goal
 

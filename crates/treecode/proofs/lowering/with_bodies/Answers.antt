@@ -1,10 +1,4 @@
-use Rattle.std.proofs.Common.{List, map, ap, sym, ◌∙◌, subst}
-use Rattle.typed_trees.specs.declared.module.TypedProcedure.{TypedProcedure as Procedure}
-use Rattle.typed_trees.specs.Views.{module_view, procedure_view}
-use Rattle.layout.specs.Views.{layout_view}
-use Rattle.treecode.specs.declared.module.TreeModule.{TreeModule}
-use Rattle.treecode.specs.Nodes.{nodes_of}
-use Rattle.treecode.specs.internal.Completed.{BodiesAreAdded, BodiesAreSound}
+use Rattle.treecode.proofs.Prelude.{List, map, ap, sym, ◌∙◌, subst, Procedure, module_view, procedure_view, layout_view, TreeModule, nodes_of, BodiesAreAdded, BodiesAreSound}
 use Rattle.treecode.proofs.ModuleBodies.{bodies_added, none_sound}
 use Rattle.treecode.proofs.lowering.with_bodies.Goals as goal
 

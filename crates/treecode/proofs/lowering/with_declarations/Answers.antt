@@ -1,11 +1,4 @@
-use Rattle.std.proofs.Common.{List, ◌++◌, map, ap, ◌∙◌}
-use Rattle.typed_trees.specs.declared.module.TypedProcedure.{TypedProcedure as Procedure}
-use Rattle.typed_trees.specs.Views.{module_view, procedure_view}
-use Rattle.layout.specs.Views.{layout_view}
-use Rattle.treecode.specs.declared.module.TreeModule.{TreeModule}
-use Rattle.treecode.specs.declared.procedure.TreeProcedure.{TreeProcedure}
-use Rattle.treecode.specs.internal.Gathered.{Gathered, gathered_view}
-use Rattle.treecode.specs.internal.Placed.{heading_of, headings_in, placed_in}
+use Rattle.treecode.proofs.Prelude.{List, ◌++◌, map, ap, ◌∙◌, Procedure, module_view, procedure_view, layout_view, TreeModule, TreeProcedure, Gathered, gathered_view, heading_of, headings_in, placed_in}
 use Rattle.treecode.proofs.GatheredLaws.{names_gathered}
 use Rattle.treecode.proofs.PlacedLaws.{headings_of_module, homes_of_module}
 use Rattle.treecode.proofs.lowering.with_declarations.Goals as goal

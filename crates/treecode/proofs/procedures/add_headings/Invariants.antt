@@ -1,6 +1,4 @@
-use Rattle.std.proofs.Common.{◌≡◌, ◌++◌, length, map}
-use Rattle.typed_trees.specs.Views.{procedure_view}
-use Rattle.treecode.specs.internal.Placed.{headings_in, headings_of}
+use Rattle.treecode.proofs.Prelude.{◌≡◌, ◌++◌, length, map, procedure_view, headings_in, headings_of}
 use Rattle.treecode.proofs.procedures.add_headings.Given as goal
 
 abbrev pub invariant-loop-rest : goal.invariant-loop-rest

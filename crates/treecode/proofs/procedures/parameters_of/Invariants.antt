@@ -1,6 +1,4 @@
-use Rattle.std.proofs.Common.{◌≡◌, ◌++◌, length, map, zip}
-use Rattle.treecode.specs.Homes.{parameter_at}
-use Rattle.treecode.specs.Nodes.{nodes_of}
+use Rattle.treecode.proofs.Prelude.{◌≡◌, ◌++◌, length, map, zip, parameter_at, nodes_of}
 use Rattle.treecode.proofs.procedures.parameters_of.Given as goal
 
 abbrev pub invariant-loop-types : goal.invariant-loop-types

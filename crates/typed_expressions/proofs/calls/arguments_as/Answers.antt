@@ -1,7 +1,4 @@
-use Rattle.std.proofs.Common.{◌≡◌, ◌∷◌, ◌∙◌, length, refl, ap, arith}
-use Rattle.std.specs.Vec.Iter.{into_iter_items, into_iter_len}
-use Rattle.typed_trees.specs.Views.{arguments_view}
-use Rattle.typing.specs.Nodes.{arguments_as}
+use Rattle.typed_expressions.proofs.Prelude.{◌≡◌, ◌∷◌, ◌∙◌, length, refl, ap, arith, into_iter_items, into_iter_len, arguments_view, arguments_as}
 use Rattle.typed_expressions.proofs.ArgumentLoops.{converts_on, converts_no_more}
 use Rattle.typed_expressions.proofs.calls.arguments_as.Goals as goal
 

@@ -1,8 +1,4 @@
-use Rattle.std.proofs.Common.{◌≡◌, drop, length}
-use Rattle.std.specs.Vec.Iter.{into_iter_items, into_iter_len}
-use Rattle.typed_trees.specs.Views.{arguments_view}
-use Rattle.typing.specs.Nodes.{arguments_as}
-use Rattle.typed_expressions.specs.internal.Fronts.{in_front}
+use Rattle.typed_expressions.proofs.Prelude.{◌≡◌, drop, length, into_iter_items, into_iter_len, arguments_view, arguments_as, in_front}
 use Rattle.typed_expressions.proofs.calls.arguments_as.Given as goal
 
 abbrev pub invariant-loop-value : goal.invariant-loop-value

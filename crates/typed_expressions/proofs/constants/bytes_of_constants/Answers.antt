@@ -1,8 +1,4 @@
-use Rattle.std.proofs.Common.{◌++◌, ◌∙◌, List, map, sym, append_assoc}
-use Rattle.trees.specs.declared.identifier.Constant.{Constant}
-use Rattle.trees.specs.Views.{constant_tree}
-use Rattle.typing.specs.Constants.{bytes_of_constant, bytes_of_constants}
-use Rattle.typing.proofs.Loops.{drop_item}
+use Rattle.typed_expressions.proofs.Prelude.{◌++◌, ◌∙◌, List, map, sym, append_assoc, Constant, constant_tree, bytes_of_constant, bytes_of_constants, drop_item}
 use Rattle.typed_expressions.proofs.constants.bytes_of_constants.Goals as goal
 
 pub loop-constant-preserved : goal.loop-constant-preserved

@@ -1,6 +1,4 @@
-use Rattle.std.proofs.Common.{◌≡◌, ◌++◌, map, drop}
-use Rattle.trees.specs.Views.{constant_tree}
-use Rattle.typing.specs.Constants.{bytes_of_constants}
+use Rattle.typed_expressions.proofs.Prelude.{◌≡◌, ◌++◌, map, drop, constant_tree, bytes_of_constants}
 use Rattle.typed_expressions.proofs.constants.bytes_of_constants.Given as goal
 
 abbrev pub invariant-loop-constant : goal.invariant-loop-constant

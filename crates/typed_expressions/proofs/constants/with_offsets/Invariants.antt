@@ -1,6 +1,4 @@
-use Rattle.std.proofs.Common.{◌≡◌, drop, map}
-use Rattle.trees.specs.Views.{offset_tree}
-use Rattle.typing.specs.Constants.{with_offsets as sum_with_offsets}
+use Rattle.typed_expressions.proofs.Prelude.{◌≡◌, drop, map, offset_tree, sum_with_offsets}
 use Rattle.typed_expressions.proofs.constants.with_offsets.Given as goal
 
 -- what is left decides

@@ -1,4 +1,4 @@
-use Rattle.std.proofs.Common.{◌≡◌, ◌+◌, ◌-◌, ◌/◌, ap, sym, ◌∙◌, Ok, rules, arith}
+use Rattle.typed_expressions.proofs.Prelude.{◌≡◌, ◌+◌, ◌-◌, ◌/◌, ap, sym, ◌∙◌, Ok, rules, arith}
 use Rattle.typed_expressions.proofs.Filled.{elements_at_least}
 use Rattle.typed_expressions.proofs.filling.elements_for.Goals as goal
 

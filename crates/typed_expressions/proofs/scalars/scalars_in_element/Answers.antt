@@ -1,5 +1,4 @@
-use Rattle.std.proofs.Common.{ap, arith, length, rules}
-use Rattle.typed_trees.specs.Views.{type_view}
+use Rattle.typed_expressions.proofs.Prelude.{ap, arith, length, rules, type_view}
 use Rattle.typed_expressions.proofs.LeftScalars.{element_runs, run_length}
 use Rattle.typed_expressions.proofs.scalars.scalars_in_element.Goals as goal
 

@@ -1,7 +1,4 @@
-use Rattle.std.proofs.Common.{◌≡◌, ◌+◌, length}
-use Rattle.typed_trees.specs.Sizes.{scalars_of_element}
-use Rattle.typed_trees.specs.Views.{type_view}
-use Rattle.typed_expressions.specs.internal.Fillings.{runs_from}
+use Rattle.typed_expressions.proofs.Prelude.{◌≡◌, ◌+◌, length, scalars_of_element, type_view, runs_from}
 use Rattle.typed_expressions.proofs.scalars.scalars_in_element.Given as goal
 
 abbrev pub invariant-loop-position : goal.invariant-loop-position

@@ -1,6 +1,4 @@
-use Rattle.std.proofs.Common.{◌≡◌, drop, max, min}
-use Rattle.typed_trees.specs.Charge.{height_of_arguments}
-use Rattle.typed_trees.specs.Views.{arguments_view}
+use Rattle.typed_trees.proofs.Prelude.{◌≡◌, drop, max, min, height_of_arguments, arguments_view}
 use Rattle.typed_trees.proofs.charge.+expression.Given as goal
 
 abbrev pub invariant-arguments_height-loop-argument : goal.invariant-arguments_height-loop-argument

@@ -1,6 +1,4 @@
-use Rattle.std.proofs.Common.{◌≡◌, drop, max, min}
-use Rattle.typed_trees.specs.Charge.{height_of_statements}
-use Rattle.typed_trees.specs.Views.{statements_view}
+use Rattle.typed_trees.proofs.Prelude.{◌≡◌, drop, max, min, height_of_statements, statements_view}
 use Rattle.typed_trees.proofs.charge.+statement.Given as goal
 
 abbrev pub invariant-statements_height-loop-statement : goal.invariant-statements_height-loop-statement

@@ -1,6 +1,4 @@
-use Rattle.std.proofs.Common.{◌≡◌, drop, map, max, min}
-use Rattle.typed_trees.specs.Charge.{height_of_targets}
-use Rattle.typed_trees.specs.Views.{target_view}
+use Rattle.typed_trees.proofs.Prelude.{◌≡◌, drop, map, max, min, height_of_targets, target_view}
 use Rattle.typed_trees.proofs.charge.targets_height.Given as goal
 
 abbrev pub invariant-loop-target : goal.invariant-loop-target

@@ -1,6 +1,4 @@
-use Rattle.std.proofs.Common.{drop}
-use Rattle.typed_trees.specs.Views.{arguments_view}
-use Rattle.typed_trees.specs.Numbers.{NumbersFitInArguments}
+use Rattle.typed_trees.proofs.Prelude.{drop, arguments_view, NumbersFitInArguments}
 use Rattle.typed_trees.proofs.numbers.+expression.Given as goal
 
 abbrev pub invariant-hold_arguments-loop-argument : goal.invariant-hold_arguments-loop-argument

@@ -1,7 +1,4 @@
-use Rattle.std.proofs.Common.{drop, map}
-use Rattle.std.specs.List.{AllByRecursion}
-use Rattle.typed_trees.specs.Views.{procedure_view}
-use Rattle.typed_trees.specs.Numbers.{NumbersFitInProcedure}
+use Rattle.typed_trees.proofs.Prelude.{drop, map, AllByRecursion, procedure_view, NumbersFitInProcedure}
 use Rattle.typed_trees.proofs.numbers.hold_procedures.Given as goal
 
 abbrev pub invariant-loop-procedure : goal.invariant-loop-procedure

@@ -1,5 +1,4 @@
-use Rattle.std.proofs.Common.{◌≡◌, drop}
-use Rattle.types.specs.internal.Walking.{names_among}
+use Rattle.types.proofs.Prelude.{◌≡◌, drop, names_among}
 use Rattle.types.proofs.identifiers.is_among.Given as goal
 
 abbrev pub invariant-loop-one : goal.invariant-loop-one

@@ -1,5 +1,4 @@
-use Rattle.std.proofs.Common.{rules}
-use Rattle.typing.proofs.Loops.{answers_fault, state_fails, state_goes_on}
+use Rattle.types.proofs.Prelude.{rules, answers_fault, state_fails, state_goes_on}
 use Rattle.types.proofs.ItemLemmas.{first_member, member_added, members_from}
 use Rattle.types.proofs.items.typed_members.Goals as goal
 

@@ -1,4 +1,4 @@
-use Rattle.std.proofs.Common.{◌≡◌, [], drop}
+use Rattle.types.proofs.Prelude.{◌≡◌, [], drop}
 use Rattle.typing.specs.Items as items
 use Rattle.types.proofs.items.typed_members.Given as goal
 

@@ -1,5 +1,4 @@
-use Rattle.std.proofs.Common.{◌≡◌, drop}
-use Rattle.typing.specs.Statements.{declare_labels}
+use Rattle.types.proofs.Prelude.{◌≡◌, drop, declare_labels}
 use Rattle.types.proofs.lists.declare_labels.Given as goal
 
 abbrev pub invariant-loop-label : goal.invariant-loop-label

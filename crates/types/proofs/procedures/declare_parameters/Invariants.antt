@@ -1,5 +1,4 @@
-use Rattle.std.proofs.Common.{◌≡◌, drop}
-use Rattle.typing.specs.Procedures.{declare_parameters}
+use Rattle.types.proofs.Prelude.{◌≡◌, drop, declare_parameters}
 use Rattle.types.proofs.procedures.declare_parameters.Given as goal
 
 abbrev pub invariant-loop-name : goal.invariant-loop-name

@@ -1,5 +1,4 @@
-use Rattle.std.proofs.Common.{arith}
-use Rattle.names.proofs.Parts.{if_is, do_is, while_is, iterate_is, case_is}
+use Rattle.types.proofs.Prelude.{arith, if_is, do_is, while_is, iterate_is, case_is}
 use Rattle.types.proofs.Lines.{line_of_first}
 use Rattle.types.proofs.procedures.line_of_kind.Goals as goal
 

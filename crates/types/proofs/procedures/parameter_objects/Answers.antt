@@ -1,5 +1,4 @@
-use Rattle.std.proofs.Common.{rules}
-use Rattle.typing.proofs.Loops.{answers_fault}
+use Rattle.types.proofs.Prelude.{rules, answers_fault}
 use Rattle.types.proofs.Headings.{objects_fail, objects_go_on}
 use Rattle.types.proofs.procedures.parameter_objects.Goals as goal
 

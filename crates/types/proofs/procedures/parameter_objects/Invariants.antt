@@ -1,6 +1,4 @@
-use Rattle.std.proofs.Common.{◌≡◌, ◌++◌, drop}
-use Rattle.typing.specs.Procedures.{parameter_objects}
-use Rattle.typing.specs.Results.{in_front}
+use Rattle.types.proofs.Prelude.{◌≡◌, ◌++◌, drop, parameter_objects, in_front}
 use Rattle.types.proofs.procedures.parameter_objects.Given as goal
 
 abbrev pub invariant-loop-parameter : goal.invariant-loop-parameter

@@ -1,4 +1,4 @@
-use Rattle.trees.specs.Views.{declaration_trees}
+use Rattle.types.proofs.Prelude.{declaration_trees}
 use Rattle.types.proofs.Headings.{types_go_on}
 use Rattle.types.proofs.procedures.parameter_types.Goals as goal
 

@@ -1,6 +1,4 @@
-use Rattle.std.proofs.Common.{◌≡◌, ◌++◌, drop}
-use Rattle.trees.specs.Views.{declaration_trees}
-use Rattle.typing.specs.Procedures.{parameter_types}
+use Rattle.types.proofs.Prelude.{◌≡◌, ◌++◌, drop, declaration_trees, parameter_types}
 use Rattle.types.proofs.procedures.parameter_types.Given as goal
 
 abbrev pub invariant-loop-parameter : goal.invariant-loop-parameter

@@ -1,6 +1,4 @@
-use Rattle.std.proofs.Common.{◌≡◌, drop}
-use Rattle.trees.specs.Views.{declaration_trees}
-use Rattle.typing.specs.Procedures.{scalar_in_block}
+use Rattle.types.proofs.Prelude.{◌≡◌, drop, declaration_trees, scalar_in_block}
 use Rattle.types.proofs.procedures.scalar_in_block.Given as goal
 
 abbrev pub invariant-loop-declaration : goal.invariant-loop-declaration

@@ -1,6 +1,4 @@
-use Rattle.std.proofs.Common.{◌≡◌, drop, map}
-use Rattle.trees.specs.Views.{element_tree}
-use Rattle.typing.specs.Procedures.{scalar_in_elements}
+use Rattle.types.proofs.Prelude.{◌≡◌, drop, map, element_tree, scalar_in_elements}
 use Rattle.types.proofs.procedures.scalar_in_elements.Given as goal
 
 abbrev pub invariant-loop-element : goal.invariant-loop-element

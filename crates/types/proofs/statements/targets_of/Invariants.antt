@@ -1,7 +1,5 @@
-use Rattle.std.proofs.Common.{◌≡◌, map}
-use Rattle.typed_trees.specs.Views.{target_view}
+use Rattle.types.proofs.Prelude.{◌≡◌, map, target_view, targets_for}
 use Rattle.typed_expressions.specs.Views.{destination_view}
-use Rattle.types.specs.internal.Walking.{targets_for}
 use Rattle.types.proofs.statements.targets_of.Given as goal
 
 abbrev pub invariant-loop-place : goal.invariant-loop-place

@@ -1,18 +1,4 @@
-use Rattle.trees.specs.Views.{module_tree}
-use Rattle.typed_trees.specs.Frames.{FramesFit, ParametersFit}
-use Rattle.typed_trees.specs.Globals.{ListsGlobals}
-use Rattle.typed_trees.specs.Jumps.{JumpsAreSound}
-use Rattle.typed_trees.specs.Storable.{IsStorable}
-use Rattle.typed_trees.specs.WellTyped.{IsWellTyped}
-use Rattle.typed_trees.specs.Views.{module_view}
-use Rattle.typing.specs.Typing.{typing_of}
-use Rattle.typing.specs.Untyped.{GivesBack}
-use Rattle.typing.proofs.Jumps.JumpsLaw.{jumps_are_sound}
-use Rattle.typing.proofs.StatementsBack.{gives_back}
-use Rattle.typing.proofs.Storage.StorableStatements.{is_storable}
-use Rattle.typing.proofs.Types.TypedLaws.{where_typed}
-use Rattle.typing.proofs.Types.TypesOfStatements.{is_well_typed, globals_are_listed, frames_are_summed}
-use Rattle.typing.proofs.Parameters.Walks.{parameters_fit}
+use Rattle.types.proofs.Prelude.{module_tree, FramesFit, ParametersFit, ListsGlobals, JumpsAreSound, IsStorable, IsWellTyped, module_view, typing_of, GivesBack, jumps_are_sound, gives_back, is_storable, where_typed, is_well_typed, globals_are_listed, frames_are_summed, parameters_fit}
 use Rattle.types.proofs.walk.check.Goals as goal
 
 pub returns-clause-given_back : goal.returns-clause-given_back

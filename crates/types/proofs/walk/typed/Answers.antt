@@ -1,8 +1,4 @@
-use Rattle.std.proofs.Common.{rules, ◌∙◌, ap, sym, Ok}
-use Rattle.trees.specs.Views.{module_tree}
-use Rattle.typed_trees.specs.Views.{list_view}
-use Rattle.types.specs.internal.Views.{progress_view}
-use Rattle.typing.proofs.Loops.{answers_fault}
+use Rattle.types.proofs.Prelude.{rules, ◌∙◌, ap, sym, Ok, module_tree, list_view, progress_view, answers_fault}
 use Rattle.types.proofs.Modules.{typing_fails, typing_given}
 use Rattle.types.proofs.walk.typed.Goals as goal
 

@@ -1,6 +1,4 @@
-use Rattle.std.proofs.Common.{◌≡◌, ◌+◌, drop}
-use Rattle.std.specs.List.{prefix_len}
-use Rattle.words.specs.Characters.{is_blank}
+use Rattle.words.proofs.Prelude.{◌≡◌, ◌+◌, drop, prefix_len, is_blank}
 use Rattle.words.proofs.characters.count_of_blanks.Given as goal
 
 -- each byte so far is a blank

@@ -1,6 +1,4 @@
-use Rattle.std.proofs.Common.{◌≡◌, ◌+◌, drop}
-use Rattle.std.specs.List.{prefix_len}
-use Rattle.words.specs.Characters.{is_word_byte}
+use Rattle.words.proofs.Prelude.{◌≡◌, ◌+◌, drop, prefix_len, is_word_byte}
 use Rattle.words.proofs.characters.run_of_word_bytes.Given as goal
 
 -- each byte so far is one of the word

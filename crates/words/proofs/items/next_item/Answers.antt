@@ -1,5 +1,4 @@
-use Rattle.std.proofs.Common.{sym, subst, length}
-use Rattle.words.specs.internal.Fits.{FitsIn}
+use Rattle.words.proofs.Prelude.{sym, subst, length, FitsIn}
 use Rattle.words.proofs.ItemsLemmas.{item_fits}
 use Rattle.words.proofs.items.next_item.Goals as goal
 

@@ -1,5 +1,5 @@
 use Rattle.words.proofs.NamesLemmas.{length-name_of}
-use Rattle.std.proofs.Common.{rules}
+use Rattle.words.proofs.Prelude.{rules}
 use Rattle.words.proofs.names.count_of_characters.Goals as goal
 
 pub returns : goal.returns

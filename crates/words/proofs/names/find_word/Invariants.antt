@@ -1,6 +1,4 @@
-use Rattle.std.proofs.Common.{◌≡◌, drop, map}
-use Rattle.symbols.specs.Names.{name_of}
-use Rattle.words.specs.Names.{word_in}
+use Rattle.words.proofs.Prelude.{◌≡◌, drop, map, name_of, word_in}
 use Rattle.words.proofs.names.find_word.Given as goal
 
 -- no entry so far has the characters, and what is left decides

@@ -1,6 +1,4 @@
-use Rattle.std.proofs.Common.{◌≡◌, ◌≤◌, drop, length}
-use Rattle.std.specs.Str.{bytes_eq}
-use Rattle.symbols.specs.Names.{name_of}
+use Rattle.words.proofs.Prelude.{◌≡◌, ◌≤◌, drop, length, bytes_eq, name_of}
 use Rattle.words.proofs.names.has_characters.Given as goal
 
 -- the characters so far agree, and what is left decides

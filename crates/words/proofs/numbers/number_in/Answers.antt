@@ -1,8 +1,4 @@
-use Rattle.std.proofs.Common.{◌≡◌, ◌<◌, ◌+◌, ◌*◌, drop, fold, sym, arith}
-use Rattle.std.proofs.lemmas.Grind.{common_steps}
-use Rattle.words.specs.declared.limits.TheConstants.{GREATEST_NUMBER}
-use Rattle.symbols.specs.Names.{name_of}
-use Rattle.words.specs.Numbers.{digit_value, value_of}
+use Rattle.words.proofs.Prelude.{◌≡◌, ◌<◌, ◌+◌, ◌*◌, drop, fold, sym, arith, common_steps, GREATEST_NUMBER, name_of, digit_value, value_of}
 use Rattle.words.proofs.NumbersLemmas.{value_grows, number_in_too_great}
 use Rattle.words.proofs.numbers.number_in.Goals as goal
 

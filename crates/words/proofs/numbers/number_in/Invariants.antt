@@ -1,9 +1,4 @@
-use Rattle.std.proofs.Common.{◌≡◌, ◌≤◌, ◌+◌, ◌*◌, drop, fold}
-use Rattle.std.specs.List.{list_all}
-use Rattle.std.specs.Prelude.{nat_lt}
-use Rattle.words.specs.declared.limits.TheConstants.{GREATEST_NUMBER}
-use Rattle.symbols.specs.Names.{name_of}
-use Rattle.words.specs.Numbers.{digit_value, value_of}
+use Rattle.words.proofs.Prelude.{◌≡◌, ◌≤◌, ◌+◌, ◌*◌, drop, fold, list_all, nat_lt, GREATEST_NUMBER, name_of, digit_value, value_of}
 use Rattle.words.proofs.numbers.number_in.Given as goal
 
 -- each character so far is a digit of the base, and what is left gives the value

@@ -1,6 +1,4 @@
-use Rattle.std.proofs.Common.{◌≡◌, ◌<◌, ◌-◌, length, get_or, Some, None, arith, rules}
-use Rattle.std.specs.Char.{to_ascii_uppercase}
-use Rattle.words.specs.Numbers.{base_of}
+use Rattle.words.proofs.Prelude.{◌≡◌, ◌<◌, ◌-◌, length, get_or, Some, None, arith, rules, to_ascii_uppercase, base_of}
 use Rattle.words.proofs.NumbersLemmas.{number_of-based, number_of-decimal}
 use Rattle.words.proofs.numbers.number_of.Goals as goal
 

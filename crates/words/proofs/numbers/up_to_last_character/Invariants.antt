@@ -1,5 +1,4 @@
-use Rattle.std.proofs.Common.{◌≡◌, ◌≤◌, take, length}
-use Rattle.symbols.specs.Names.{name_of}
+use Rattle.words.proofs.Prelude.{◌≡◌, ◌≤◌, take, length, name_of}
 use Rattle.words.proofs.numbers.up_to_last_character.Given as goal
 
 -- what is cut off has no character

@@ -1,7 +1,4 @@
-use Rattle.std.proofs.Common.{◌≡◌, [], ◌∷◌, ◌++◌, sym, ap, ◌∙◌, subst, rules}
-use Rattle.std.proofs.lemmas.List.{append-nil, append_assoc}
-use Rattle.words.specs.declared.items.Item.TheVariants.{Ending, Blank, Spelled, Wrong}
-use Rattle.words.specs.Spelling.{lexemes_of, lexeme_at, line_at, fault_of, IsFirstFault, Spells, SpellsFrom, at_end, after_blank, word_then, fault_here, fault_after_blank, fault_after_word}
+use Rattle.words.proofs.Prelude.{◌≡◌, [], ◌∷◌, ◌++◌, sym, ap, ◌∙◌, subst, rules, append-nil, append_assoc, Ending, Blank, Spelled, Wrong, lexemes_of, lexeme_at, line_at, fault_of, IsFirstFault, Spells, SpellsFrom, at_end, after_blank, word_then, fault_here, fault_after_blank, fault_after_word}
 use Rattle.words.proofs.ScannerLemmas.{lexemes_of-push, line_after, item_here, word_here, slices, rising}
 use Rattle.words.proofs.scanner.scan.Goals as goal
 

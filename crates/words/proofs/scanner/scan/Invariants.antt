@@ -1,6 +1,4 @@
-use Rattle.std.proofs.Common.{◌≡◌, ◌≤◌, ◌-◌, List, ◌++◌, length}
-use Rattle.words.specs.declared.fault.Fault.{Fault}
-use Rattle.words.specs.Spelling.{Lexeme, lexemes_of, line_at, SpellsFrom, FaultFrom}
+use Rattle.words.proofs.Prelude.{◌≡◌, ◌≤◌, ◌-◌, List, ◌++◌, length, Fault, Lexeme, lexemes_of, line_at, SpellsFrom, FaultFrom}
 use Rattle.words.proofs.scanner.scan.Given as goal
 
 -- the words so far with those from here on are those of the whole text, and a fault from here on is its first

@@ -1,5 +1,4 @@
-use Rattle.std.proofs.Common.{◌≡◌, drop, false}
-use Rattle.words.specs.Strings.{comment_end, further}
+use Rattle.words.proofs.Prelude.{◌≡◌, drop, false, comment_end, further}
 use Rattle.words.proofs.strings.comment_end.Given as goal
 
 -- the end of what is left is that of the whole

@@ -1,5 +1,4 @@
-use Rattle.std.proofs.Common.{sym, subst, ◌≡◌, ◌<◌, false}
-use Rattle.asm8080.specs.Items.{is_bound}
+use Rattle.asm8080.proofs.Prelude.{sym, subst, ◌≡◌, ◌<◌, false, is_bound}
 use Rattle.asm8080.proofs.ItemLemmas.{mark_more, of_fields_back, others_kept}
 use Rattle.asm8080.proofs.code.Code.bind.Goals as goal
 

@@ -1,4 +1,4 @@
-use Rattle.std.proofs.Common.{refl}
+use Rattle.asm8080.proofs.Prelude.{refl}
 use Rattle.asm8080.proofs.ItemLemmas.{bound_kept, other_more}
 use Rattle.asm8080.proofs.code.Code.emit.Goals as goal
 

@@ -1,4 +1,4 @@
-use Rattle.std.proofs.Common.{sym, subst, refl, ◌<◌}
+use Rattle.asm8080.proofs.Prelude.{sym, subst, refl, ◌<◌}
 use Rattle.asm8080.proofs.ItemLemmas.{bound_kept, other_more, of_fields_back}
 use Rattle.asm8080.proofs.code.Code.emit_place.Goals as goal
 

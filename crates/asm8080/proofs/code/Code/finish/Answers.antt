@@ -1,5 +1,4 @@
-use Rattle.std.proofs.Common.{refl}
-use Rattle.asm8080.specs.internal.Assembling.{with_places}
+use Rattle.asm8080.proofs.Prelude.{refl, with_places}
 use Rattle.asm8080.proofs.Places.{finished, fits_segment, table_of, too_long, unbound, with_table}
 use Rattle.asm8080.proofs.code.Code.finish.Goals as goal
 

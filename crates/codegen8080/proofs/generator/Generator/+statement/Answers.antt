@@ -1,8 +1,5 @@
-use Rattle.std.proofs.Common.{refl, sym, subst, ◌∙◌, arith, true}
-use Rattle.statements8080.specs.declared.plan.Planned.{Planned}
-use Rattle.codegen8080.specs.internal.Carrying.{CarriesOut}
+use Rattle.codegen8080.proofs.Prelude.{refl, sym, subst, ◌∙◌, arith, true, Planned, CarriesOut, Generator}
 use Rattle.codegen8080.proofs.Driving.{carrying_ends, list_carried, listing_begins, listing_ends, none_passed, statement_added_if, statement_carried, statement_passed, step_carried_if, step_passed}
-use Rattle.codegen8080.specs.declared.generator.Generator.{Generator}
 use Rattle.codegen8080.proofs.generator.Generator.+statement.Goals.{planned-in-Some+in_ok-waiting, planned-in_default}
 use Rattle.codegen8080.proofs.generator.Generator.+statement.Goals as goal
 

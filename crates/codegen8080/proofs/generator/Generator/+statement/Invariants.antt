@@ -1,4 +1,4 @@
-use Rattle.std.proofs.Common.{◌+◌}
+use Rattle.codegen8080.proofs.Prelude.{◌+◌}
 use Rattle.codegen8080.proofs.Driving.{IsCarrying, IsListing}
 use Rattle.codegen8080.proofs.generator.Generator.+statement.Given as goal
 

@@ -1,7 +1,4 @@
-use Rattle.std.proofs.Common.{ap, subst, ◌∙◌}
-use Rattle.exprgen8080.specs.Emitted.{EmitsSteps}
-use Rattle.codegen8080.specs.declared.meeting.Here.{Here}
-use Rattle.codegen8080.specs.Generated.{carried_steps, here_after, site_of, waiting_after}
+use Rattle.codegen8080.proofs.Prelude.{ap, subst, ◌∙◌, EmitsSteps, Here, carried_steps, here_after, site_of, waiting_after}
 use Rattle.codegen8080.proofs.Driving.{step_added}
 use Rattle.codegen8080.proofs.generator.Generator.step.Goals as goal
 

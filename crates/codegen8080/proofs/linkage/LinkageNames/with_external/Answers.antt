@@ -1,7 +1,4 @@
-use Rattle.std.proofs.Common.{◌≡◌, false, List, ℕ, [], ◌∷◌, ◌++◌, map, ap, sym, ◌∙◌, rules}
-use Rattle.object_modules.specs.Module.{is_among}
-use Rattle.object_modules.specs.Views.{owned_public_view}
-use Rattle.codegen8080.specs.internal.Names.{Linkage, names_of}
+use Rattle.codegen8080.proofs.Prelude.{◌≡◌, false, List, ℕ, [], ◌∷◌, ◌++◌, map, ap, sym, ◌∙◌, rules, is_among, owned_public_view, Linkage, names_of}
 use Rattle.codegen8080.proofs.NewNames.{external_names, grown, grown_known}
 use Rattle.codegen8080.proofs.linkage.LinkageNames.with_external.Goals as goal
 

@@ -1,8 +1,4 @@
-use Rattle.std.proofs.Common.{◌≡◌, true, false, List, ℕ, [], ◌∷◌, ◌++◌, map, ap, sym, ◌∙◌, rules}
-use Rattle.std.specs.List.{list_all}
-use Rattle.object_modules.specs.Module.{Public, is_among, is_valid_public}
-use Rattle.object_modules.specs.Views.{owned_public_view}
-use Rattle.codegen8080.specs.internal.Names.{Linkage, names_of}
+use Rattle.codegen8080.proofs.Prelude.{◌≡◌, true, false, List, ℕ, [], ◌∷◌, ◌++◌, map, ap, sym, ◌∙◌, rules, list_all, Public, is_among, is_valid_public, owned_public_view, Linkage, names_of}
 use Rattle.codegen8080.proofs.NewNames.{all_and_one, grown, grown_known, map_more, public_names}
 use Rattle.codegen8080.proofs.linkage.LinkageNames.with_public.Goals as goal
 

@@ -1,4 +1,4 @@
-use Rattle.symbols.proofs.Keys.{same_keys}
+use Rattle.codegen8080.proofs.Prelude.{same_keys}
 use Rattle.codegen8080.proofs.linkage.NameSet.insert.Goals as goal
 
 pub returns : goal.returns

@@ -1,6 +1,4 @@
-use Rattle.std.proofs.Common.{map}
-use Rattle.typed_trees.specs.Views.{module_view}
-use Rattle.sources.specs.Programs.{texts_of}
+use Rattle.commands.proofs.Prelude.{map, module_view, texts_of}
 use Rattle.commands.proofs.NeedLemmas.{AreRead, GoesOn}
 use Rattle.commands.proofs.needs.need.read_all.Given as goal
 

@@ -1,5 +1,4 @@
-use Rattle.std.proofs.Common.{codes, refl}
-use Rattle.host.proofs.LinesPrinted.{tells_other}
+use Rattle.commands.proofs.Prelude.{codes, refl, tells_other}
 use Rattle.commands.proofs.printed_needs.refusals.refuse_need.Goals as goal
 
 pub returns-in-TooManySources-clause-told : goal.returns-in-TooManySources-clause-told

@@ -1,7 +1,4 @@
-use Rattle.std.proofs.Common.{refl, ap, ◌∙◌}
-use Rattle.host.proofs.FilesRead.{stops_as}
-use Rattle.host.proofs.LinesPrinted.{tells_file, tells_no_file}
-use Rattle.sources.specs.Programs.{texts_of}
+use Rattle.commands.proofs.Prelude.{refl, ap, ◌∙◌, stops_as, tells_file, tells_no_file, texts_of}
 use Rattle.commands.proofs.Names.{stops_in_files}
 use Rattle.commands.proofs.Printed.{prints_files}
 use Rattle.commands.proofs.Untold.{for_file, for_memory, for_reason, refuses_files}

@@ -1,4 +1,4 @@
-use Rattle.std.proofs.Common.{refl}
+use Rattle.commands.proofs.Prelude.{refl}
 use Rattle.commands.proofs.Printed.{meaning_of_texts}
 use Rattle.commands.proofs.Untold.{few_built, few_but, tells_cause, tells_unwritten}
 use Rattle.commands.proofs.programs.interpreting.interpret_sources.Goals as goal

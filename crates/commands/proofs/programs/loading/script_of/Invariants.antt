@@ -1,4 +1,4 @@
-use Rattle.std.proofs.Common.{◌≡◌, [], length}
+use Rattle.commands.proofs.Prelude.{◌≡◌, [], length}
 use Rattle.commands.proofs.Inputs.{PutSoFar}
 use Rattle.commands.proofs.programs.loading.script_of.Given as goal
 

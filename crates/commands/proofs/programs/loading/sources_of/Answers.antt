@@ -1,5 +1,4 @@
-use Rattle.std.proofs.Common.{arith}
-use Rattle.object_commands.proofs.Lists.{item_added}
+use Rattle.commands.proofs.Prelude.{arith, item_added}
 use Rattle.commands.proofs.programs.loading.sources_of.Goals as goal
 
 pub loop-text-preserved : goal.loop-text-preserved

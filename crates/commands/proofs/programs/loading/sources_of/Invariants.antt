@@ -1,5 +1,4 @@
-use Rattle.std.proofs.Common.{◌≡◌, ◌++◌, drop, map}
-use Rattle.sources.specs.Programs.{texts_of}
+use Rattle.commands.proofs.Prelude.{◌≡◌, ◌++◌, drop, map, texts_of}
 use Rattle.commands.proofs.programs.loading.sources_of.Given as goal
 
 -- what was made, and then what the rest makes, is all

@@ -1,7 +1,4 @@
-use Rattle.std.proofs.Common.{◌≡◌, ◌++◌, length, map, zip}
-use Rattle.std.specs.List.{flat_map}
-use Rattle.typed_trees.specs.Views.{object_view}
-use Rattle.commands.specs.Map.{object_line}
+use Rattle.commands.proofs.Prelude.{◌≡◌, ◌++◌, length, map, zip, flat_map, object_view, object_line}
 use Rattle.commands.proofs.programs.map.put_module.Given as goal
 
 -- what was added, and then what the objects that are left add, is all

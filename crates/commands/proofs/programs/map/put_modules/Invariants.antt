@@ -1,8 +1,4 @@
-use Rattle.std.proofs.Common.{◌≡◌, ◌++◌, length, map, zip}
-use Rattle.std.specs.List.{flat_map}
-use Rattle.typed_trees.specs.Views.{module_view}
-use Rattle.placing.specs.Views.{module_placement_view}
-use Rattle.commands.specs.Map.{module_text}
+use Rattle.commands.proofs.Prelude.{◌≡◌, ◌++◌, length, map, zip, flat_map, module_view, module_placement_view, module_text}
 use Rattle.commands.proofs.programs.map.put_modules.Given as goal
 
 -- what was added, and then what the modules that are left add, is all

@@ -1,4 +1,4 @@
-use Rattle.host.proofs.LinesPrinted.{same_line}
+use Rattle.commands.proofs.Prelude.{same_line}
 use Rattle.commands.proofs.Refused.{sources_told}
 use Rattle.commands.proofs.programs.refusals.refuse_sources_at.Goals as goal
 

@@ -1,5 +1,4 @@
-use Rattle.failure.proofs.WritingLemmas.{on_err}
-use Rattle.command_line.specs.Settings.{values_in}
+use Rattle.commands.proofs.Prelude.{on_err, values_in}
 use Rattle.commands.proofs.Printed.{begins_machine}
 use Rattle.commands.proofs.programs.running.print_image.Goals as goal
 

@@ -1,4 +1,4 @@
-use Rattle.std.proofs.Common.{◌+◌, ap, slice_range}
+use Rattle.declared.proofs.Prelude.{◌+◌, ap, slice_range}
 use Rattle.declared.proofs.FrameBytes.{part_is}
 use Rattle.declared.proofs.frames.Frames.bytes_of.Goals as goal
 

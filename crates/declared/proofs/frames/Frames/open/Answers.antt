@@ -1,6 +1,4 @@
-use Rattle.std.proofs.Common.{ap, ◌≡◌, ◌∙◌, Some, length, arith}
-use Rattle.declared.specs.declared.frames.OpenFrame.{OpenFrame}
-use Rattle.declared.specs.internal.Nesting.{frames_in, open_frames}
+use Rattle.declared.proofs.Prelude.{ap, ◌≡◌, ◌∙◌, Some, length, arith, OpenFrame, frames_in, open_frames}
 use Rattle.declared.proofs.FrameBytes.{opened_first, opened_last}
 use Rattle.declared.proofs.frames.Frames.open.Goals as goal
 use Rattle.declared.proofs.frames.Frames.open.Goals.{in-Some+in_default-push, in_default}

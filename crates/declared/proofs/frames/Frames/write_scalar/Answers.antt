@@ -1,8 +1,4 @@
-use Rattle.std.proofs.Common.{◌≡◌, ◌+◌, ◌/◌, ◌%◌, ap, sym, ◌∙◌, arith}
-use Rattle.std.specs.Vec.{with_items}
-use Rattle.std.proofs.lemmas.List.{with_items_is}
-use Rattle.declared.specs.Frames.{frame_with_byte, frame_with_scalar, with_current}
-use Rattle.declared.specs.internal.Nesting.{frames_in, open_frames}
+use Rattle.declared.proofs.Prelude.{◌≡◌, ◌+◌, ◌/◌, ◌%◌, ap, sym, ◌∙◌, arith, with_items, with_items_is, frame_with_byte, frame_with_scalar, with_current, frames_in, open_frames}
 use Rattle.declared.proofs.FrameBytes.{changed_twice, next_written, part_written}
 use Rattle.declared.proofs.frames.Frames.write_scalar.Goals as goal
 

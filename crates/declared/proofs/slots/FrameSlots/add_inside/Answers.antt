@@ -1,5 +1,4 @@
-use Rattle.std.proofs.Common.{◌<◌, length, arith}
-use Rattle.std.proofs.lemmas.List.{get_or_read}
+use Rattle.declared.proofs.Prelude.{◌<◌, length, arith, get_or_read}
 use Rattle.declared.proofs.SlotSums.{inside_added, unknown_added}
 use Rattle.declared.proofs.slots.FrameSlots.add_inside.Goals as goal
 

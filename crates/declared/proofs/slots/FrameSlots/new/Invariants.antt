@@ -1,6 +1,4 @@
-use Rattle.std.proofs.Common.{◌≡◌, drop, map, ◌++◌}
-use Rattle.typed_trees.specs.Views.{object_view}
-use Rattle.declared.specs.Frames.{frame_object}
+use Rattle.declared.proofs.Prelude.{◌≡◌, drop, map, ◌++◌, object_view, frame_object}
 use Rattle.declared.proofs.slots.FrameSlots.new.Given as goal
 
 abbrev pub invariant-loop-object : goal.invariant-loop-object

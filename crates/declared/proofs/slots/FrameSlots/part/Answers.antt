@@ -1,6 +1,4 @@
-use Rattle.std.proofs.Common.{◌≡◌, ◌+◌, ◌≤◌, get_or, length, take, sym, ◌∙◌, arith}
-use Rattle.declared.specs.Frames.{sizes_in}
-use Rattle.declared.specs.internal.Cuts.{total}
+use Rattle.declared.proofs.Prelude.{◌≡◌, ◌+◌, ◌≤◌, get_or, length, take, sym, ◌∙◌, arith, sizes_in, total}
 use Rattle.declared.proofs.Cuts.{piece_within}
 use Rattle.declared.proofs.SlotSums.{part_not_there, part_there}
 use Rattle.declared.proofs.slots.FrameSlots.part.Goals as goal

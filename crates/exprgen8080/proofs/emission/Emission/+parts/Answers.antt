@@ -1,8 +1,4 @@
-use Rattle.std.proofs.Common.{refl, sym, ap, subst, ◌∙◌, take}
-use Rattle.steps8080.specs.Step.{AddsWithLabels}
-use Rattle.steps8080.specs.declared.sites.site.Site.{Site}
-use Rattle.exprgen8080.specs.declared.emission.Emission.{Emission}
-use Rattle.exprgen8080.specs.Forms.{task_labels, task_steps}
+use Rattle.exprgen8080.proofs.Prelude.{refl, sym, ap, subst, ◌∙◌, take, AddsWithLabels, Site, Emission, task_labels, task_steps}
 use Rattle.exprgen8080.proofs.Emitting.{IsWriting, none_passed, step_passed, writing_begins, writing_ends}
 use Rattle.exprgen8080.proofs.emission.Emission.+parts.Goals.{emit_ranked-in-Some+in_ok-add_below, emit_ranked-in_default}
 use Rattle.exprgen8080.proofs.emission.Emission.+parts.Goals as goal

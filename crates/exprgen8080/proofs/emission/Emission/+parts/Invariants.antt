@@ -1,4 +1,4 @@
-use Rattle.std.proofs.Common.{◌+◌}
+use Rattle.exprgen8080.proofs.Prelude.{◌+◌}
 use Rattle.exprgen8080.proofs.Emitting.{IsWriting}
 use Rattle.exprgen8080.proofs.emission.Emission.+parts.Given as goal
 

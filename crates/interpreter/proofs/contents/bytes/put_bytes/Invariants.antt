@@ -1,5 +1,4 @@
-use Rattle.std.proofs.Common.{◌≡◌, drop}
-use Rattle.layout.specs.StartingMemory.{written}
+use Rattle.interpreter.proofs.Prelude.{◌≡◌, drop, written}
 use Rattle.interpreter.proofs.contents.bytes.put_bytes.Given as goal
 
 abbrev pub invariant-loop-byte : goal.invariant-loop-byte

@@ -1,5 +1,4 @@
-use Rattle.std.proofs.Common.{arith}
-use Rattle.resolving.specs.Views.{program_view}
+use Rattle.interpreter.proofs.Prelude.{arith, program_view}
 use Rattle.interpreter.proofs.ModuleLoops.{modules_put}
 use Rattle.interpreter.proofs.contents.modules.fill.Goals as goal
 

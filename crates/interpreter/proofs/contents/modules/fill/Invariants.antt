@@ -1,7 +1,4 @@
-use Rattle.std.proofs.Common.{◌≡◌, drop, map}
-use Rattle.placing.specs.Views.{module_placement_view}
-use Rattle.resolving.specs.Views.{program_view}
-use Rattle.interpreter.specs.internal.Contents.{contents_from, with_all}
+use Rattle.interpreter.proofs.Prelude.{◌≡◌, drop, map, module_placement_view, program_view, contents_from, with_all}
 use Rattle.interpreter.proofs.contents.modules.fill.Given as goal
 
 abbrev pub invariant-loop-number_of_module : goal.invariant-loop-number_of_module

@@ -1,11 +1,4 @@
-use Rattle.std.proofs.Common.{length, map, zip, vec_items, refl, ◌∙◌}
-use Rattle.std.proofs.lemmas.Option.{slice_get_read}
-use Rattle.typed_trees.specs.Views.{object_view}
-use Rattle.layout.specs.StartingMemory.{contents_of_list, contents_of_object}
-use Rattle.placing.specs.Views.{module_placement_view}
-use Rattle.meaning.specs.Access.{address_of}
-use Rattle.resolving.specs.Views.{site_view}
-use Rattle.interpreter.specs.internal.Contents.{with_all}
+use Rattle.interpreter.proofs.Prelude.{length, map, zip, vec_items, refl, ◌∙◌, slice_get_read, object_view, contents_of_list, contents_of_object, module_placement_view, address_of, site_view, with_all}
 use Rattle.interpreter.proofs.ModuleLoops.{module_put}
 use Rattle.interpreter.proofs.contents.modules.put_module.Goals as goal
 

@@ -1,5 +1,4 @@
-use Rattle.std.proofs.Common.{length}
-use Rattle.std.proofs.lemmas.Slice.Zip.{zip_end}
+use Rattle.interpreter.proofs.Prelude.{length, zip_end}
 use Rattle.interpreter.proofs.Pairs.{lists_ended}
 use Rattle.interpreter.proofs.contents.objects.put_lists.Goals as goal
 

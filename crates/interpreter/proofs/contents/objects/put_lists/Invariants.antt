@@ -1,6 +1,4 @@
-use Rattle.std.proofs.Common.{◌≡◌, length, map, drop, zip, vec_items}
-use Rattle.layout.specs.StartingMemory.{contents_of_list}
-use Rattle.interpreter.specs.internal.Contents.{with_all}
+use Rattle.interpreter.proofs.Prelude.{◌≡◌, length, map, drop, zip, vec_items, contents_of_list, with_all}
 use Rattle.interpreter.proofs.contents.objects.put_lists.Given as goal
 
 abbrev pub invariant-loop-bytes : goal.invariant-loop-bytes

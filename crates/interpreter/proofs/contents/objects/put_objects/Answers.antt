@@ -1,7 +1,4 @@
-use Rattle.std.proofs.Common.{length}
-use Rattle.std.proofs.lemmas.Slice.Zip.{zip_end}
-use Rattle.meaning.specs.Access.{address_of}
-use Rattle.resolving.specs.Views.{site_view}
+use Rattle.interpreter.proofs.Prelude.{length, zip_end, address_of, site_view}
 use Rattle.interpreter.proofs.Pairs.{objects_ended}
 use Rattle.interpreter.proofs.contents.objects.put_objects.Goals as goal
 

@@ -1,9 +1,4 @@
-use Rattle.std.proofs.Common.{◌≡◌, length, map, drop, zip}
-use Rattle.typed_trees.specs.Views.{object_view}
-use Rattle.layout.specs.StartingMemory.{contents_of_object}
-use Rattle.meaning.specs.Access.{address_of}
-use Rattle.resolving.specs.Views.{site_view}
-use Rattle.interpreter.specs.internal.Contents.{with_all}
+use Rattle.interpreter.proofs.Prelude.{◌≡◌, length, map, drop, zip, object_view, contents_of_object, address_of, site_view, with_all}
 use Rattle.interpreter.proofs.contents.objects.put_objects.Given as goal
 
 abbrev pub invariant-loop-object : goal.invariant-loop-object

@@ -1,6 +1,4 @@
-use Rattle.typed_trees.specs.declared.parts.InitialValue.TheVariants.{ByteValue}
-use Rattle.meaning.specs.Access.{address_of}
-use Rattle.resolving.specs.Views.{site_view}
+use Rattle.interpreter.proofs.Prelude.{ByteValue, address_of, site_view}
 use Rattle.interpreter.proofs.Loops.{value_put_last}
 use Rattle.interpreter.proofs.contents.values.put_values.Goals as goal
 

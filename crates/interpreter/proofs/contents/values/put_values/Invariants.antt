@@ -1,7 +1,4 @@
-use Rattle.std.proofs.Common.{◌≡◌, drop, flat_map}
-use Rattle.layout.specs.StartingMemory.{bytes_of_value, written}
-use Rattle.meaning.specs.Access.{address_of}
-use Rattle.resolving.specs.Views.{site_view}
+use Rattle.interpreter.proofs.Prelude.{◌≡◌, drop, flat_map, bytes_of_value, written, address_of, site_view}
 use Rattle.interpreter.proofs.contents.values.put_values.Given as goal
 
 abbrev pub invariant-loop-value : goal.invariant-loop-value

@@ -1,6 +1,4 @@
-use Rattle.std.proofs.Common.{◌≡◌, drop}
-use Rattle.join.specs.internal.Shared.{first_external, globals_view}
-use Rattle.join.specs.internal.PublicTables.{differs_in, publics_view}
+use Rattle.join.proofs.Prelude.{◌≡◌, drop, first_external, globals_view, differs_in, publics_view}
 use Rattle.join.proofs.publics.Publics.first_different.Given as goal
 
 abbrev pub invariant-loop-global : goal.invariant-loop-global

@@ -1,6 +1,4 @@
-use Rattle.std.proofs.Common.{◌≡◌, drop}
-use Rattle.join.specs.internal.Shared.{first_external, globals_view}
-use Rattle.join.specs.internal.PublicTables.{lacks_in, publics_view}
+use Rattle.join.proofs.Prelude.{◌≡◌, drop, first_external, globals_view, lacks_in, publics_view}
 use Rattle.join.proofs.publics.Publics.first_without.Given as goal
 
 abbrev pub invariant-loop-global : goal.invariant-loop-global

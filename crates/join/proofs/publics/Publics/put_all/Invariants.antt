@@ -1,6 +1,4 @@
-use Rattle.std.proofs.Common.{◌≡◌, length}
-use Rattle.join.specs.internal.Shared.{globals_view}
-use Rattle.join.specs.internal.PublicTables.{publics_view, with_publics}
+use Rattle.join.proofs.Prelude.{◌≡◌, length, globals_view, publics_view, with_publics}
 use Rattle.join.proofs.publics.Publics.put_all.Given as goal
 
 abbrev pub invariant-loop-rest : goal.invariant-loop-rest

@@ -1,8 +1,4 @@
-use Rattle.std.proofs.Common.{◌≡◌, true, length, map}
-use Rattle.std.specs.List.{list_all}
-use Rattle.symbols.specs.Names.{is_name}
-use Rattle.link_laws.specs.internal.Passes.{gathered}
-use Rattle.link_laws.specs.internal.Growing.{public_name}
+use Rattle.link.proofs.Prelude.{◌≡◌, true, length, map, list_all, is_name, gathered, public_name}
 use Rattle.link.proofs.names.NameTable.add.Given as goal
 
 abbrev pub invariant-loop-public : goal.invariant-loop-public

@@ -1,6 +1,4 @@
-use Rattle.std.proofs.Common.{ap, ◌∙◌}
-use Rattle.object_modules.specs.Module.{is_among}
-use Rattle.link_laws.proofs.NameWalks.{among_borrowed}
+use Rattle.link.proofs.Prelude.{ap, ◌∙◌, is_among, among_borrowed}
 use Rattle.link.proofs.names.NameTable.contains.Goals as goal
 
 pub returns : goal.returns

@@ -1,6 +1,4 @@
-use Rattle.std.proofs.Common.{not, ap, ◌∙◌}
-use Rattle.object_modules.specs.Module.{is_among}
-use Rattle.link_laws.proofs.NameWalks.{among_borrowed}
+use Rattle.link.proofs.Prelude.{not, ap, ◌∙◌, is_among, among_borrowed}
 use Rattle.link.proofs.names.NameTable.insert.Goals as goal
 
 pub returns-clause-new : goal.returns-clause-new

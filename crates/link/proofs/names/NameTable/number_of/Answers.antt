@@ -1,7 +1,4 @@
-use Rattle.std.proofs.Common.{ap, ◌∙◌}
-use Rattle.std.specs.List.{position}
-use Rattle.std.specs.Str.{bytes_eq}
-use Rattle.link_laws.proofs.NameWalks.{position_borrowed}
+use Rattle.link.proofs.Prelude.{ap, ◌∙◌, position, bytes_eq, position_borrowed}
 use Rattle.link.proofs.names.NameTable.number_of.Goals as goal
 
 pub returns : goal.returns

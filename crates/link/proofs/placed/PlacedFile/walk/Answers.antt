@@ -1,6 +1,4 @@
-use Rattle.std.proofs.Common.{◌+◌, ◌≤◌, subst}
-use Rattle.object_modules.specs.Displacements.{Linked}
-use Rattle.link_laws.proofs.ModuleTold.{code_room, data_room}
+use Rattle.link.proofs.Prelude.{◌+◌, ◌≤◌, subst, Linked, code_room, data_room}
 use Rattle.link.proofs.placed.PlacedFile.walk.Goals as goal
 
 pub returns-clause-code : goal.returns-clause-code

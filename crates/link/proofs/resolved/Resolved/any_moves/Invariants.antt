@@ -1,6 +1,4 @@
-use Rattle.std.proofs.Common.{◌≡◌, drop}
-use Rattle.std.specs.List.{list_any}
-use Rattle.link_laws.specs.internal.Growing.{moves_by}
+use Rattle.link.proofs.Prelude.{◌≡◌, drop, list_any, moves_by}
 use Rattle.link.proofs.resolved.Resolved.any_moves.Given as goal
 
 abbrev pub invariant-loop-fix : goal.invariant-loop-fix

@@ -1,9 +1,4 @@
-use Rattle.std.proofs.Common.{◌≡◌, false, true, ◌∷◌, reverse, sym, ◌∙◌, ap, subst}
-use Rattle.symbols.specs.Names.{name_of}
-use Rattle.words.specs.Spelling.{lexeme_of, lexemes_of, Spells, IsFirstFault}
-use Rattle.literally.specs.Definitions.{has_quote, text_of}
-use Rattle.literally.specs.declared.fault.Fault.TheVariants.{Text}
-use Rattle.literally.specs.Expansion.{FaultFrom, quote_in_text, bad_text, on_line}
+use Rattle.literally.proofs.Prelude.{◌≡◌, false, true, ◌∷◌, reverse, sym, ◌∙◌, ap, subst, name_of, lexeme_of, lexemes_of, Spells, IsFirstFault, has_quote, text_of, Text, FaultFrom, quote_in_text, bad_text, on_line}
 use Rattle.literally.proofs.Failures.{of_fault}
 use Rattle.literally.proofs.DefinitionsHeld.{definition_is, held_then, sound_by}
 use Rattle.literally.proofs.definitions.Definitions.define.Goals as goal

@@ -1,7 +1,4 @@
-use Rattle.std.proofs.Common.{◌∙◌, ap}
-use Rattle.std.specs.Str.{bytes_eq}
-use Rattle.std.specs.Map.{lookup}
-use Rattle.symbols.specs.Names.{name_of}
+use Rattle.literally.proofs.Prelude.{◌∙◌, ap, bytes_eq, lookup, name_of}
 use Rattle.literally.proofs.DefinitionsHeld.{words_for_inserted}
 use Rattle.literally.proofs.definitions.Definitions.insert.Goals as goal
 

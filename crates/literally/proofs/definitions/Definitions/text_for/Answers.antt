@@ -1,9 +1,4 @@
-use Rattle.std.proofs.Common.{◌≡◌, Some, refl, reverse, sym, subst, ap, ◌∙◌}
-use Rattle.std.specs.Option.{option_copied}
-use Rattle.symbols.specs.Names.{name_of}
-use Rattle.words.specs.Spelling.{lexeme_of, lexemes_of}
-use Rattle.literally.specs.Definitions.{text_in}
-use Rattle.literally.specs.internal.Held.{words_for, Agree, StandsFor}
+use Rattle.literally.proofs.Prelude.{◌≡◌, Some, refl, reverse, sym, subst, ap, ◌∙◌, option_copied, name_of, lexeme_of, lexemes_of, text_in, words_for, Agree, StandsFor}
 use Rattle.literally.proofs.DefinitionsHeld.{stands}
 use Rattle.literally.proofs.definitions.Definitions.text_for.Goals as goal
 

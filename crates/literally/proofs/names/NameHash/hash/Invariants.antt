@@ -1,7 +1,5 @@
-use Rattle.std.proofs.Common.{◌≡◌, drop}
-use Rattle.std.specs.List.{flat_map, fold}
+use Rattle.literally.proofs.Prelude.{◌≡◌, drop, flat_map, fold, name_of}
 use Rattle.std.specs.Hash as fed
-use Rattle.symbols.specs.Names.{name_of}
 use Rattle.literally.proofs.names.NameHash.hash.Given as goal
 
 -- what is left to write completes the hash

@@ -1,7 +1,4 @@
-use Rattle.std.proofs.Common.{◌≡◌, drop}
-use Rattle.trees.specs.Views.{declaration_trees, statement_trees}
-use Rattle.names.specs.Events.{see_cases, see_declarations, see_statements}
-use Rattle.names.specs.internal.Walks.{gives}
+use Rattle.names.proofs.Prelude.{◌≡◌, drop, declaration_trees, statement_trees, see_cases, see_declarations, see_statements, gives}
 use Rattle.names.proofs.binder.Binder.+walk.Given as goal
 
 abbrev pub invariant-statements-loop-statement : goal.invariant-statements-loop-statement

@@ -1,8 +1,4 @@
-use Rattle.std.proofs.Common.{List, map, rules}
-use Rattle.trees.specs.declared.declaration.Element.{Element}
-use Rattle.trees.specs.Views.{element_tree}
-use Rattle.names.specs.Events.{see_all, see_element}
-use Rattle.names.specs.internal.Walks.{gives}
+use Rattle.names.proofs.Prelude.{List, map, rules, Element, element_tree, see_all, see_element, gives}
 use Rattle.names.proofs.Loops.{goes_on, fails_within, ended, hands_on}
 use Rattle.names.proofs.Walks.{gives_turn, gives_nothing}
 use Rattle.names.proofs.binder.Binder.elements.Goals as goal

@@ -1,7 +1,4 @@
-use Rattle.std.proofs.Common.{◌≡◌, drop, map}
-use Rattle.trees.specs.Views.{element_tree}
-use Rattle.names.specs.Events.{see_all, see_element}
-use Rattle.names.specs.internal.Walks.{gives}
+use Rattle.names.proofs.Prelude.{◌≡◌, drop, map, element_tree, see_all, see_element, gives}
 use Rattle.names.proofs.binder.Binder.elements.Given as goal
 
 abbrev pub invariant-loop-element : goal.invariant-loop-element

@@ -1,5 +1,4 @@
-use Rattle.std.proofs.Common.{refl, rules}
-use Rattle.names.specs.internal.Walks.{Walk}
+use Rattle.names.proofs.Prelude.{refl, rules, Walk}
 use Rattle.names.proofs.Loops.{hands_on}
 use Rattle.names.proofs.Walks.{item_refused, item_done, walk_at}
 use Rattle.names.proofs.binder.Binder.item.Goals as goal

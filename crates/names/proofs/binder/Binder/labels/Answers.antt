@@ -1,7 +1,4 @@
-use Rattle.std.proofs.Common.{List, rules}
-use Rattle.trees.specs.declared.identifier.Identifier.{Identifier}
-use Rattle.names.specs.Events.{see_all, declares_label}
-use Rattle.names.specs.internal.Walks.{gives}
+use Rattle.names.proofs.Prelude.{List, rules, Identifier, see_all, declares_label, gives}
 use Rattle.names.proofs.Loops.{goes_on, fails_within, ended, hands_on}
 use Rattle.names.proofs.Walks.{gives_turn, gives_nothing}
 use Rattle.names.proofs.binder.Binder.labels.Goals as goal

@@ -1,6 +1,4 @@
-use Rattle.std.proofs.Common.{◌≡◌, drop}
-use Rattle.names.specs.Events.{see_all, declares_object}
-use Rattle.names.specs.internal.Walks.{gives}
+use Rattle.names.proofs.Prelude.{◌≡◌, drop, see_all, declares_object, gives}
 use Rattle.names.proofs.binder.Binder.objects.Given as goal
 
 abbrev pub invariant-loop-name : goal.invariant-loop-name

@@ -1,5 +1,4 @@
-use Rattle.std.proofs.Common.{◌∙◌, arith}
-use Rattle.names.specs.Events.{declares_object, nothing}
+use Rattle.names.proofs.Prelude.{◌∙◌, arith, declares_object, nothing}
 use Rattle.names.proofs.Walks.{gives_then, gives_nothing, fails_then}
 use Rattle.names.proofs.binder.Binder.subject.Goals as goal
 

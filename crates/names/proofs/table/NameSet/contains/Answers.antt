@@ -1,4 +1,4 @@
-use Rattle.symbols.proofs.Keys.{same_keys}
+use Rattle.names.proofs.Prelude.{same_keys}
 use Rattle.names.proofs.table.NameSet.contains.Goals as goal
 
 pub returns : goal.returns

@@ -1,4 +1,4 @@
-use Rattle.symbols.proofs.Keys.{same_keys}
+use Rattle.names.proofs.Prelude.{same_keys}
 use Rattle.names.proofs.table.Names.get.Goals as goal
 
 pub returns-in-Some : goal.returns-in-Some

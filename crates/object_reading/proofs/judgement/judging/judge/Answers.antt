@@ -1,9 +1,4 @@
-use Rattle.std.proofs.Common.{rules, ◌≡◌, Err, sym, ◌∙◌, arith}
-use Rattle.omf80.specs.Views.{record_view}
-use Rattle.omf80.proofs.Reading.{are_bytes}
-use Rattle.object_modules.specs.Spelling.{Spells, HasFirstFault}
-use Rattle.object_modules.specs.Module.{ObjectModule as ObjectValue}
-use Rattle.object_reading.specs.internal.States.{state_view, record_taken}
+use Rattle.object_reading.proofs.Prelude.{rules, ◌≡◌, Err, sym, ◌∙◌, arith, record_view, are_bytes, Spells, HasFirstFault, ObjectValue, state_view, record_taken}
 use Rattle.object_reading.proofs.WholeFile.{begun, fewer_left, in_front, record_passed, record_refused, no_record_left, too_much, judged_whole, handed_on}
 use Rattle.object_reading.proofs.judgement.judging.judge.Goals as goal
 

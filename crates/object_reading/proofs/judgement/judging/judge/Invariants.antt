@@ -1,5 +1,4 @@
-use Rattle.std.proofs.Common.{length}
-use Rattle.object_reading.specs.internal.States.{state_view}
+use Rattle.object_reading.proofs.Prelude.{length, state_view}
 use Rattle.object_reading.proofs.WholeFile.{HasPassed}
 use Rattle.object_reading.proofs.judgement.judging.judge.Given as goal
 

@@ -1,6 +1,4 @@
-use Rattle.std.proofs.Common.{rules, ◌≡◌, ◌&&◌, slice_index_or, ◌∙◌}
-use Rattle.object_modules.specs.Rules.{is_served}
-use Rattle.object_reading.specs.Headers.{entry_at}
+use Rattle.object_reading.proofs.Prelude.{rules, ◌≡◌, ◌&&◌, slice_index_or, ◌∙◌, is_served, entry_at}
 use Rattle.object_reading.proofs.HeaderLaws.{entry_step}
 use Rattle.object_reading.proofs.rules.extents.extents_of.Goals as goal
 use Rattle.object_reading.proofs.rules.extents.extents_of.Goals.{then-served, else-served}

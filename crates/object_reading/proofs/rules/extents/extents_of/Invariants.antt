@@ -1,5 +1,4 @@
-use Rattle.std.proofs.Common.{◌≡◌, length}
-use Rattle.object_reading.specs.Headers.{extents_in}
+use Rattle.object_reading.proofs.Prelude.{◌≡◌, length, extents_in}
 use Rattle.object_reading.proofs.rules.extents.extents_of.Given as goal
 
 abbrev pub invariant-loop-rest : goal.invariant-loop-rest

@@ -1,5 +1,4 @@
-use Rattle.std.proofs.Common.{refl}
-use Rattle.object_reading.specs.Marks.{no_marks}
+use Rattle.object_reading.proofs.Prelude.{refl, no_marks}
 use Rattle.object_reading.proofs.rules.marks.no_marks.Goals as goal
 
 pub returns : goal.returns

@@ -1,5 +1,4 @@
-use Rattle.std.proofs.Common.{◌∙◌, sym}
-use Rattle.object_reading.specs.Views.{content_view}
+use Rattle.object_reading.proofs.Prelude.{◌∙◌, sym, content_view}
 use Rattle.object_reading.proofs.FixEntries.{entries_then}
 use Rattle.object_reading.proofs.FixMarks.{marks_more}
 use Rattle.object_reading.proofs.rules.marks.place_fixes.Goals as goal

@@ -1,8 +1,4 @@
-use Rattle.std.proofs.Common.{◌≡◌, length}
-use Rattle.object_reading.specs.Views.{content_view}
-use Rattle.object_reading.specs.Fixes.{fixes_in}
-use Rattle.object_reading.specs.Fixes.{AreFixEntries}
-use Rattle.object_reading.specs.Marks.{marks_after}
+use Rattle.object_reading.proofs.Prelude.{◌≡◌, length, content_view, fixes_in, AreFixEntries, marks_after}
 use Rattle.object_reading.proofs.rules.marks.place_fixes.Given as goal
 
 abbrev pub invariant-loop-fix : goal.invariant-loop-fix

@@ -1,6 +1,4 @@
-use Rattle.std.proofs.Common.{◌≡◌, length}
-use Rattle.std.specs.List.{list_all}
-use Rattle.symbols.specs.Names.{is_name_character}
+use Rattle.object_reading.proofs.Prelude.{◌≡◌, length, list_all, is_name_character}
 use Rattle.object_reading.proofs.rules.names.are_characters.Given as goal
 
 abbrev pub invariant-loop-rest : goal.invariant-loop-rest

@@ -1,5 +1,4 @@
-use Rattle.std.proofs.Common.{◌≡◌, length}
-use Rattle.object_reading.specs.NamesJudged.{names_in, names_taken}
+use Rattle.object_reading.proofs.Prelude.{◌≡◌, length, names_in, names_taken}
 use Rattle.object_reading.proofs.rules.names.take_names.Given as goal
 
 abbrev pub invariant-loop-entries : goal.invariant-loop-entries

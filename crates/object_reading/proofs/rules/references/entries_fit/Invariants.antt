@@ -1,5 +1,4 @@
-use Rattle.std.proofs.Common.{◌≡◌, length}
-use Rattle.object_reading.specs.References.{entries_fit}
+use Rattle.object_reading.proofs.Prelude.{◌≡◌, length, entries_fit}
 use Rattle.object_reading.proofs.rules.references.entries_fit.Given as goal
 
 abbrev pub invariant-loop-fix : goal.invariant-loop-fix

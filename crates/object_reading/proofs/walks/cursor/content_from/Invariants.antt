@@ -1,6 +1,4 @@
-use Rattle.std.proofs.Common.{◌≡◌, length}
-use Rattle.object_modules.specs.Walking.{contents_left}
-use Rattle.object_reading.specs.Entries.{AreParts}
+use Rattle.object_reading.proofs.Prelude.{◌≡◌, length, contents_left, AreParts}
 use Rattle.object_reading.proofs.walks.cursor.content_from.Given as goal
 
 abbrev pub invariant-loop-found : goal.invariant-loop-found

@@ -1,7 +1,4 @@
-use Rattle.std.proofs.Common.{◌≡◌, length}
-use Rattle.object_modules.specs.Parts.{listed_name_bytes}
-use Rattle.object_modules.specs.Walking.{externals_left}
-use Rattle.object_reading.specs.Entries.{AreParts, AreEntries}
+use Rattle.object_reading.proofs.Prelude.{◌≡◌, length, listed_name_bytes, externals_left, AreParts, AreEntries}
 use Rattle.object_reading.proofs.walks.cursor.names_from.Given as goal
 
 abbrev pub invariant-loop-entries : goal.invariant-loop-entries

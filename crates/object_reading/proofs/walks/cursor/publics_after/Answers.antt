@@ -1,5 +1,4 @@
-use Rattle.std.proofs.Common.{ap, ◌∙◌}
-use Rattle.object_reading.specs.Entries.{publics_where, is_publics}
+use Rattle.object_reading.proofs.Prelude.{ap, ◌∙◌, publics_where, is_publics}
 use Rattle.object_reading.proofs.NextParts.{publics_entries}
 use Rattle.object_reading.proofs.walks.cursor.publics_after.Goals as goal
 

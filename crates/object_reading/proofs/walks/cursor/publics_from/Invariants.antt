@@ -1,7 +1,4 @@
-use Rattle.std.proofs.Common.{◌≡◌, length}
-use Rattle.object_modules.specs.Parts.{definition_bytes}
-use Rattle.object_modules.specs.Walking.{publics_left}
-use Rattle.object_reading.specs.Entries.{AreParts, AreEntries}
+use Rattle.object_reading.proofs.Prelude.{◌≡◌, length, definition_bytes, publics_left, AreParts, AreEntries}
 use Rattle.object_reading.proofs.walks.cursor.publics_from.Given as goal
 
 abbrev pub invariant-loop-entries : goal.invariant-loop-entries

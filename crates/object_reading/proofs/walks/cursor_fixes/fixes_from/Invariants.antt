@@ -1,7 +1,5 @@
-use Rattle.std.proofs.Common.{◌≡◌, length}
+use Rattle.object_reading.proofs.Prelude.{◌≡◌, length, AreParts, AreFixEntries}
 use Rattle.object_reading.specs.internal.Cursors.{fixes_left}
-use Rattle.object_reading.specs.Entries.{AreParts}
-use Rattle.object_reading.specs.Fixes.{AreFixEntries}
 use Rattle.object_reading.proofs.walks.cursor_fixes.fixes_from.Given as goal
 
 abbrev pub invariant-loop-cursor : goal.invariant-loop-cursor

@@ -1,8 +1,4 @@
-use Rattle.std.proofs.Common.{sym, subst}
-use Rattle.std.specs.Io.KnownBytes.{Appends}
-use Rattle.std.proofs.KnownBytes.{Appends-trans}
-use Rattle.failure.specs.Writing.{AppendsBeginning}
-use Rattle.failure.proofs.WritingLemmas.{on_err}
+use Rattle.object_writing.proofs.Prelude.{sym, subst, Appends, Appends-trans, AppendsBeginning, on_err}
 use Rattle.object_writing.proofs.FixTexts.{content_is}
 use Rattle.object_writing.proofs.Sequences.{first_begun, last_of_two_begun, on_ok_then, on_err_then}
 use Rattle.object_writing.proofs.records.content.write_content.Goals as goal

@@ -1,6 +1,4 @@
-use Rattle.std.proofs.Common.{refl, arith}
-use Rattle.object_writing.specs.internal.Fixes.{fix_entry}
-use Rattle.failure.proofs.WritingLemmas.{on_err}
+use Rattle.object_writing.proofs.Prelude.{refl, arith, fix_entry, on_err}
 use Rattle.object_writing.proofs.Sequences.{none_yet, last, last_begun, on_ok_then, on_err_then}
 use Rattle.object_writing.proofs.Items.{item_written, item_begun, items_ended}
 use Rattle.object_writing.proofs.records.content.write_entries.Goals as goal

@@ -1,6 +1,4 @@
-use Rattle.std.proofs.Common.{map, drop}
-use Rattle.object_writing.specs.Groups.{records_of}
-use Rattle.object_writing.specs.internal.Fixes.{fix_entry}
+use Rattle.object_writing.proofs.Prelude.{map, drop, records_of, fix_entry}
 use Rattle.object_writing.proofs.Sequences.{HasWritten}
 use Rattle.object_writing.proofs.records.content.write_entries.Given as goal
 

@@ -1,4 +1,4 @@
-use Rattle.failure.proofs.WritingLemmas.{on_err}
+use Rattle.object_writing.proofs.Prelude.{on_err}
 use Rattle.object_writing.proofs.Sequences.{first_begun, second_begun, last_of_three_begun, three, on_ok_then, on_err_then}
 use Rattle.object_writing.proofs.records.content.write_fixes_to.Goals as goal
 

@@ -1,5 +1,4 @@
-use Rattle.std.proofs.Common.{◌≡◌, ◌+◌, ◌*◌, ◌≤◌, ◌++◌, length, take, flat_map}
-use Rattle.object_writing.specs.Contents.{listed_bytes}
+use Rattle.object_writing.proofs.Prelude.{◌≡◌, ◌+◌, ◌*◌, ◌≤◌, ◌++◌, length, take, flat_map, listed_bytes}
 use Rattle.object_writing.proofs.records.header.put_entries.Given as goal
 
 abbrev pub invariant-loop-entry : goal.invariant-loop-entry

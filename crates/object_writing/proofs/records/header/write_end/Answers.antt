@@ -1,4 +1,4 @@
-use Rattle.failure.proofs.WritingLemmas.{on_err}
+use Rattle.object_writing.proofs.Prelude.{on_err}
 use Rattle.object_writing.proofs.Sequences.{first_begun, second_begun, on_err_then}
 use Rattle.object_writing.proofs.records.header.write_end.Goals as goal
 

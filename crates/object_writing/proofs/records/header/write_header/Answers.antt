@@ -1,7 +1,5 @@
-use Rattle.std.proofs.Common.{ap, subst, ◌∙◌}
+use Rattle.object_writing.proofs.Prelude.{ap, subst, ◌∙◌, bytes_of, AppendsBeginning}
 use Rattle.omf80.specs.declared.kind.RecordKind.TheVariants as kinds
-use Rattle.omf80.specs.Records.{bytes_of}
-use Rattle.failure.specs.Writing.{AppendsBeginning}
 use Rattle.object_writing.proofs.Sequences.{on_err_then}
 use Rattle.object_writing.proofs.records.header.write_header.Goals as goal
 

@@ -1,11 +1,4 @@
-use Rattle.std.proofs.Common.{length, Some, None, ap, sym, subst, ◌∙◌}
-use Rattle.std.proofs.lemmas.Bool.{cond-true}
-use Rattle.failure.specs.Writing.{AppendsBeginning}
-use Rattle.object_modules.specs.Before.{same_segment}
-use Rattle.object_modules.specs.Parts.{definition_bytes}
-use Rattle.object_modules.specs.Text.{definition_of}
-use Rattle.object_modules.specs.Views.{owned_public_view}
-use Rattle.object_writing.specs.Groups.{flushed, flushed_by}
+use Rattle.object_writing.proofs.Prelude.{length, Some, None, ap, sym, subst, ◌∙◌, cond-true, AppendsBeginning, same_segment, definition_bytes, definition_of, owned_public_view, flushed, flushed_by}
 use Rattle.object_writing.proofs.Sequences.{on_err_then}
 use Rattle.object_writing.proofs.records.names.add_public.Goals as goal
 

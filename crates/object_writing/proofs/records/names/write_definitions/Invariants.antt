@@ -1,6 +1,4 @@
-use Rattle.std.proofs.Common.{map, drop}
-use Rattle.object_writing.specs.Groups.{records_of}
-use Rattle.object_writing.specs.internal.Named.{owned_entry}
+use Rattle.object_writing.proofs.Prelude.{map, drop, records_of, owned_entry}
 use Rattle.object_writing.proofs.Sequences.{HasWritten}
 use Rattle.object_writing.proofs.records.names.write_definitions.Given as goal
 

@@ -1,6 +1,4 @@
-use Rattle.std.proofs.Common.{arith}
-use Rattle.object_writing.specs.internal.Named.{name_entry}
-use Rattle.failure.proofs.WritingLemmas.{on_err}
+use Rattle.object_writing.proofs.Prelude.{arith, name_entry, on_err}
 use Rattle.object_writing.proofs.Sequences.{none_yet, last, last_begun, on_ok_then, on_err_then}
 use Rattle.object_writing.proofs.Items.{item_written, item_begun, items_ended}
 use Rattle.object_writing.proofs.records.names.write_names.Goals as goal

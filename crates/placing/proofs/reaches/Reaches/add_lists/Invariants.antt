@@ -1,6 +1,4 @@
-use Rattle.std.proofs.Common.{◌≡◌, length, map, zip, vec_items}
-use Rattle.layout.specs.Placement.{list_piece}
-use Rattle.placing.specs.internal.Reaches.{with_pieces}
+use Rattle.placing.proofs.Prelude.{◌≡◌, length, map, zip, vec_items, list_piece, with_pieces}
 use Rattle.placing.proofs.reaches.Reaches.add_lists.Given as goal
 
 abbrev pub invariant-loop-rest : goal.invariant-loop-rest

@@ -1,8 +1,4 @@
-use Rattle.std.proofs.Common.{◌≡◌, length, map, zip, flat_map}
-use Rattle.typed_trees.specs.Views.{module_view}
-use Rattle.layout.specs.Placement.{pieces_of_module}
-use Rattle.placing.specs.Views.{module_placement_view}
-use Rattle.placing.specs.internal.Reaches.{with_pieces}
+use Rattle.placing.proofs.Prelude.{◌≡◌, length, map, zip, flat_map, module_view, pieces_of_module, module_placement_view, with_pieces}
 use Rattle.placing.proofs.reaches.Reaches.add_modules.Given as goal
 
 abbrev pub invariant-loop-rest : goal.invariant-loop-rest

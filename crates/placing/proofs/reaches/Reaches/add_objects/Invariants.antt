@@ -1,7 +1,4 @@
-use Rattle.std.proofs.Common.{◌≡◌, length, map, zip, filter_map}
-use Rattle.typed_trees.specs.Views.{object_view}
-use Rattle.layout.specs.Placement.{object_piece}
-use Rattle.placing.specs.internal.Reaches.{with_pieces}
+use Rattle.placing.proofs.Prelude.{◌≡◌, length, map, zip, filter_map, object_view, object_piece, with_pieces}
 use Rattle.placing.proofs.reaches.Reaches.add_objects.Given as goal
 
 abbrev pub invariant-loop-rest : goal.invariant-loop-rest

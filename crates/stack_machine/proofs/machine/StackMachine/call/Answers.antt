@@ -1,7 +1,5 @@
 -- Calls, by what the tables have.
-use Rattle.std.proofs.Common.{◌≡◌, ◌<◌, false, arith, rules}
-use Rattle.std.specs.Prelude.{◌==◌}
-use Rattle.stack_machine.specs.internal.Views.{program_in}
+use Rattle.stack_machine.proofs.Prelude.{◌≡◌, ◌<◌, false, arith, rules, ◌==◌, program_in}
 use Rattle.stack_machine.proofs.Entering.{call_ends, call_stops, enters}
 use Rattle.stack_machine.proofs.machine.StackMachine.call.Goals as goal
 

@@ -1,7 +1,5 @@
 -- Each turn carries out one instruction.
-use Rattle.std.proofs.Common.{◌∙◌}
-use Rattle.placing.specs.Views.{placement_view}
-use Rattle.declared.specs.Access.{modules_in}
+use Rattle.stack_machine.proofs.Prelude.{◌∙◌, placement_view, modules_in}
 use Rattle.stack_machine.proofs.Leading.{performed, performed_stop, performed_input, performed_output, code_ends}
 use Rattle.stack_machine.proofs.machine.StackMachine.go_on.Goals as goal
 

@@ -1,8 +1,5 @@
 -- Some steps led here; the script of the ports and their failures are as before.
-use Rattle.std.proofs.Common.{◌≡◌, length}
-use Rattle.placing.specs.Views.{placement_view}
-use Rattle.declared.specs.Access.{modules_in}
-use Rattle.stack_machine.specs.internal.Views.{weight_of}
+use Rattle.stack_machine.proofs.Prelude.{◌≡◌, length, placement_view, modules_in, weight_of}
 use Rattle.stack_machine.proofs.Leading.{LeadsTo}
 use Rattle.stack_machine.proofs.machine.StackMachine.go_on.Given as goal
 

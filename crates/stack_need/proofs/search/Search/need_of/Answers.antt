@@ -1,7 +1,4 @@
-use Rattle.std.proofs.Common.{◌∙◌, ap, sym}
-use Rattle.stack_need.specs.declared.search.Progress.TheVariants.{Going, Finished, Cyclic}
-use Rattle.stack_need.specs.internal.Search.{graph_view, mark_of, search_view}
-use Rattle.stack_need.specs.internal.Searching.{left}
+use Rattle.stack_need.proofs.Prelude.{◌∙◌, ap, sym, Going, Finished, Cyclic, graph_view, mark_of, search_view, left}
 use Rattle.stack_need.proofs.Turns.{begins_with, has_cycle, has_finished, known_before, turned}
 use Rattle.stack_need.proofs.search.Search.need_of.Goals as goal
 

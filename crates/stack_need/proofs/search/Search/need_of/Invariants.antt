@@ -1,6 +1,4 @@
-use Rattle.std.proofs.Common.{◌≡◌}
-use Rattle.stack_need.specs.internal.Search.{graph_view, search_view}
-use Rattle.stack_need.specs.internal.Searching.{Searches, left}
+use Rattle.stack_need.proofs.Prelude.{◌≡◌, graph_view, search_view, Searches, left}
 use Rattle.stack_need.proofs.search.Search.need_of.Given as goal
 
 abbrev pub invariant-loop-visit : goal.invariant-loop-visit

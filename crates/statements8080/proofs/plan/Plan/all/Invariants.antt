@@ -1,6 +1,4 @@
-use Rattle.std.proofs.Common.{length}
-use Rattle.statements8080.specs.Plans.{all}
-use Rattle.statements8080.specs.internal.Adding.{IsAdding}
+use Rattle.statements8080.proofs.Prelude.{length, all, IsAdding}
 use Rattle.statements8080.proofs.plan.Plan.all.Given as goal
 
 abbrev pub invariant-loop-left : goal.invariant-loop-left

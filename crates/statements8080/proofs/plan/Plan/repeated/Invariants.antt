@@ -1,6 +1,4 @@
-use Rattle.std.proofs.Common.{replicate}
-use Rattle.statements8080.specs.Plans.{plain}
-use Rattle.statements8080.specs.internal.Adding.{IsAdding}
+use Rattle.statements8080.proofs.Prelude.{replicate, plain, IsAdding}
 use Rattle.statements8080.proofs.plan.Plan.repeated.Given as goal
 
 abbrev pub invariant-loop-left : goal.invariant-loop-left

@@ -1,8 +1,4 @@
-use Rattle.std.proofs.Common.{◌≡◌, ℕ, ◌+◌, ◌*◌, ◌-◌, ◌<◌, ◌%◌, ◌^◌, suc, arith, ap, sym, ◌∙◌}
-use Rattle.std.proofs.lemmas.Nat.{pow_below}
-use Rattle.std.specs.Prelude.{false, Option, Some, ◌==◌, if◌then◌else◌}
-use Rattle.asm8080.proofs.Loops.{not_equal}
-use Rattle.steps8080.specs.Widths.{power_from}
+use Rattle.steps8080.proofs.Prelude.{◌≡◌, ℕ, ◌+◌, ◌*◌, ◌-◌, ◌<◌, ◌%◌, ◌^◌, suc, arith, ap, sym, ◌∙◌, pow_below, false, Option, Some, ◌==◌, if◌then◌else◌, not_equal, power_from}
 use Rattle.steps8080.proofs.sites.widths.power_of_two.Goals as goal
 
 -- a power that a number is not is passed over

@@ -1,5 +1,4 @@
-use Rattle.std.proofs.Common.{◌≡◌, ◌-◌}
-use Rattle.steps8080.specs.Widths.{power_from}
+use Rattle.steps8080.proofs.Prelude.{◌≡◌, ◌-◌, power_from}
 use Rattle.steps8080.proofs.sites.widths.power_of_two.Given as goal
 
 abbrev pub invariant-loop-power : goal.invariant-loop-power

@@ -1,5 +1,4 @@
-use Rattle.std.proofs.Common.{◌≡◌, ◌++◌, drop}
-use Rattle.steps8080.specs.Step.{plain}
+use Rattle.steps8080.proofs.Prelude.{◌≡◌, ◌++◌, drop, plain}
 use Rattle.steps8080.proofs.step.Steps.all.Given as goal
 
 abbrev pub invariant-loop-instruction : goal.invariant-loop-instruction

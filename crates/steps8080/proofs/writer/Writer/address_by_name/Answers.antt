@@ -1,8 +1,4 @@
-use Rattle.std.proofs.Common.{refl, ap}
-use Rattle.std.specs.Prelude.{ℕ, option_map}
-use Rattle.asm8080.specs.declared.item.Item.TheVariants.{Address}
-use Rattle.asm8080.specs.declared.item.Reference.TheVariants.{AtTarget}
-use Rattle.object_modules.specs.declared.segment.Target.TheVariants.{External}
+use Rattle.steps8080.proofs.Prelude.{refl, ap, ℕ, option_map, Address, AtTarget, External}
 use Rattle.steps8080.proofs.Numbered.{is_itself, writes_named}
 use Rattle.steps8080.proofs.writer.Writer.address_by_name.Goals as goal
 

@@ -1,4 +1,4 @@
-use Rattle.std.proofs.Common.{rules}
+use Rattle.steps8080.proofs.Prelude.{rules}
 use Rattle.steps8080.proofs.Refused.{refused_for}
 use Rattle.steps8080.proofs.writer.Writer.finish.Goals as goal
 

@@ -1,8 +1,4 @@
-use Rattle.std.proofs.Common.{refl}
-use Rattle.asm8080.specs.declared.item.Item.{Item}
-use Rattle.asm8080.specs.declared.item.Item.TheVariants.{WithWord}
-use Rattle.asm8080.specs.declared.item.Reference.TheVariants.{AtTarget}
-use Rattle.object_modules.specs.declared.segment.Target.TheVariants.{InSegment}
+use Rattle.steps8080.proofs.Prelude.{refl, Item, WithWord, AtTarget, InSegment}
 use Rattle.steps8080.proofs.Numbered.{writes_known}
 use Rattle.steps8080.proofs.writer.Writer.fixed.Goals as goal
 

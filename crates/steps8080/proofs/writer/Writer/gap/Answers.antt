@@ -1,5 +1,4 @@
-use Rattle.std.proofs.Common.{refl}
-use Rattle.asm8080.specs.declared.item.Item.TheVariants.{Gap}
+use Rattle.steps8080.proofs.Prelude.{refl, Gap}
 use Rattle.steps8080.proofs.Numbered.{writes_known}
 use Rattle.steps8080.proofs.writer.Writer.gap.Goals as goal
 

@@ -1,5 +1,4 @@
-use Rattle.std.proofs.Common.{refl}
-use Rattle.asm8080.specs.declared.item.Item.TheVariants.{Plain}
+use Rattle.steps8080.proofs.Prelude.{refl, Plain}
 use Rattle.steps8080.proofs.Numbered.{writes_known}
 use Rattle.steps8080.proofs.writer.Writer.plain.Goals as goal
 

@@ -1,7 +1,4 @@
-use Rattle.std.proofs.Common.{refl}
-use Rattle.asm8080.specs.declared.item.Item.{Item}
-use Rattle.asm8080.specs.declared.item.Item.TheVariants.{WithWord}
-use Rattle.asm8080.specs.declared.item.Reference.TheVariants.{AtNumber}
+use Rattle.steps8080.proofs.Prelude.{refl, Item, WithWord, AtNumber}
 use Rattle.steps8080.proofs.Numbered.{writes_known}
 use Rattle.steps8080.proofs.writer.Writer.word_of_number.Goals as goal
 

@@ -1,6 +1,4 @@
-use Rattle.std.proofs.Common.{◌∙◌, ◌∷◌, IsTrue, arith, append_assoc, ◌≡◌, ◌++◌, take}
-use Rattle.std.proofs.lemmas.Grind.{common_steps}
-use Rattle.symbols.specs.Names.{is_name, name_of}
+use Rattle.symbols.proofs.Prelude.{◌∙◌, ◌∷◌, IsTrue, arith, append_assoc, ◌≡◌, ◌++◌, take, common_steps, is_name, name_of}
 use Rattle.symbols.proofs.Names.{long-is-no-name, other-character-is-no-name, take-set-filled, IsFilled-push}
 use Rattle.symbols.proofs.name.Name.from_text.Goals as goal
 use Rattle.symbols.proofs.name.Name.from_text.Goals.{then-count-eq31-via-then-count-eq31, then-count-eq31-via-else-count-eq31+then-not-is_character}

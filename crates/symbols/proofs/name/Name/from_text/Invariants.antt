@@ -1,5 +1,4 @@
-use Rattle.std.proofs.Common.{◌≡◌, ◌++◌, length, take}
-use Rattle.symbols.specs.Names.{name_of}
+use Rattle.symbols.proofs.Prelude.{◌≡◌, ◌++◌, length, take, name_of}
 use Rattle.symbols.proofs.Names.{IsFilled}
 use Rattle.symbols.proofs.name.Name.from_text.Given as goal
 

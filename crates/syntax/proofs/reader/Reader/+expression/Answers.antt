@@ -1,7 +1,4 @@
-use Rattle.std.proofs.Common.{arith}
-use Rattle.grammar.specs.Forms.{expression_level}
-use Rattle.trees.specs.Views.{expression_tree}
-use Rattle.syntax.specs.internal.Expressions.{expression}
+use Rattle.syntax.proofs.Prelude.{arith, expression_level, expression_tree, expression}
 use Rattle.syntax.proofs.ExpressionSound.{expression-keeps}
 use Rattle.syntax.proofs.ListLoops.{list_more, list_ends, list_fails, gives_exit}
 use Rattle.syntax.proofs.ExpressionLoops.{shorter_after, expression_at, expression-deep, expression_less_at, operators_end, operators_go_on, operators_do_not_go_on, operators_too_deep, primary_name, primary_constant, primary_parenthesized, primary_location}

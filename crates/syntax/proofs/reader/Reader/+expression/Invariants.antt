@@ -1,8 +1,4 @@
-use Rattle.std.proofs.Common.{◌≡◌, ◌≤◌, ◌+◌, ◌*◌, suc, map, length}
-use Rattle.grammar.specs.Forms.{expression_level}
-use Rattle.trees.specs.Views.{expression_tree}
-use Rattle.syntax.specs.internal.Expressions.{expression, all_operators}
-use Rattle.syntax.specs.internal.Lists.{items, all_more_items, after_items}
+use Rattle.syntax.proofs.Prelude.{◌≡◌, ◌≤◌, ◌+◌, ◌*◌, suc, map, length, expression_level, expression_tree, expression, all_operators, items, all_more_items, after_items}
 use Rattle.syntax.proofs.reader.Reader.+expression.Given as goal
 
 abbrev pub decreases-expression : goal.decreases-expression

@@ -1,9 +1,7 @@
-use Rattle.std.proofs.Common.{not, sym, ◌∙◌, ap, arith, refl}
-use Rattle.std.proofs.lemmas.Result.{err_from_is_err_and}
+use Rattle.syntax.proofs.Prelude.{not, sym, ◌∙◌, ap, arith, refl, err_from_is_err_and, declare_or, conditional, simple_do, while_do, case_do, iterative_do, procedure}
 use Rattle.syntax.proofs.StatementInsides.{statement_in, declaration_in, statement-deep, declaration-deep, declaration-declares}
 use Rattle.syntax.proofs.StatementLoops.{statements-more, statements-end, statement-smaller, statements-fails, statements-fails_at_end, declarations-more, declarations-end, declaration-smaller, declarations-fails}
 use Rattle.syntax.proofs.ReaderResults.{fails_bind, gives_made}
-use Rattle.syntax.specs.internal.Statements.{declare_or, conditional, simple_do, while_do, case_do, iterative_do, procedure}
 use Rattle.syntax.proofs.reader.Reader.+statement.Goals as goal
 
 pub take_statement-returns-then-room-eq0 : goal.take_statement-returns-then-room-eq0

@@ -1,6 +1,4 @@
-use Rattle.std.proofs.Common.{◌≡◌, true, ◌+◌, ◌*◌, length}
-use Rattle.syntax.specs.internal.Inside.{after_statements, after_declarations}
-use Rattle.syntax.specs.internal.Statements.{statements, declarations, statement, declaration}
+use Rattle.syntax.proofs.Prelude.{◌≡◌, true, ◌+◌, ◌*◌, length, after_statements, after_declarations, statements, declarations, statement, declaration}
 use Rattle.syntax.proofs.reader.Reader.+statement.Given as goal
 
 abbrev pub decreases-take_block : goal.decreases-take_block

@@ -1,5 +1,4 @@
-use Rattle.std.proofs.Common.{refl}
-use Rattle.syntax.specs.internal.Statements.{assignment}
+use Rattle.syntax.proofs.Prelude.{refl, assignment}
 use Rattle.syntax.proofs.ReaderResults.{gives_made}
 use Rattle.syntax.proofs.reader.Reader.take_assignment.Goals as goal
 

@@ -1,5 +1,4 @@
-use Rattle.std.proofs.Common.{refl}
-use Rattle.syntax.specs.internal.Statements.{call}
+use Rattle.syntax.proofs.Prelude.{refl, call}
 use Rattle.syntax.proofs.ReaderResults.{gives_made}
 use Rattle.syntax.proofs.reader.Reader.take_call.Goals as goal
 

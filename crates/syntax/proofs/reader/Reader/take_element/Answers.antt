@@ -1,4 +1,4 @@
-use Rattle.std.proofs.Common.{arith}
+use Rattle.syntax.proofs.Prelude.{arith}
 use Rattle.syntax.proofs.DeclarationLoops.{element-goes_on, element-grouped}
 use Rattle.syntax.proofs.reader.Reader.take_element.Goals as goal
 

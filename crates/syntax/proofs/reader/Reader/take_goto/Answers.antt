@@ -1,5 +1,4 @@
-use Rattle.std.proofs.Common.{refl}
-use Rattle.syntax.specs.internal.Statements.{goto}
+use Rattle.syntax.proofs.Prelude.{refl, goto}
 use Rattle.syntax.proofs.ReaderResults.{gives_made}
 use Rattle.syntax.proofs.reader.Reader.take_goto.Goals as goal
 

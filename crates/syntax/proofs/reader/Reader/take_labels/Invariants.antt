@@ -1,5 +1,4 @@
-use Rattle.std.proofs.Common.{◌≡◌, ◌++◌, length}
-use Rattle.syntax.specs.internal.Statements.{labels_before, after_labels}
+use Rattle.syntax.proofs.Prelude.{◌≡◌, ◌++◌, length, labels_before, after_labels}
 use Rattle.syntax.proofs.reader.Reader.take_labels.Given as goal
 
 abbrev pub invariant-more : goal.invariant-more

@@ -1,5 +1,4 @@
-use Rattle.std.proofs.Common.{◌≡◌, length, map}
-use Rattle.syntax.specs.internal.Lists.{all_more_items, items, after_items}
+use Rattle.syntax.proofs.Prelude.{◌≡◌, length, map, all_more_items, items, after_items}
 use Rattle.syntax.proofs.reader.Reader.take_list.Given as goal
 
 abbrev pub invariant-more : goal.invariant-more

@@ -1,5 +1,4 @@
-use Rattle.std.proofs.Common.{sym, ◌∙◌, arith}
-use Rattle.std.proofs.lemmas.Result.{err_from_is_err_and}
+use Rattle.syntax.proofs.Prelude.{sym, ◌∙◌, arith, err_from_is_err_and}
 use Rattle.syntax.proofs.StatementTargets.{targets-fails, targets-more, targets-end, target-smaller}
 use Rattle.syntax.proofs.reader.Reader.take_more_targets.Goals as goal
 

@@ -1,7 +1,4 @@
-use Rattle.std.proofs.Common.{◌≡◌, length, map}
-use Rattle.trees.specs.Views.{reference_tree}
-use Rattle.syntax.specs.internal.Expressions.{expression, reference}
-use Rattle.syntax.specs.internal.Lists.{all_more_items, after_items}
+use Rattle.syntax.proofs.Prelude.{◌≡◌, length, map, reference_tree, expression, reference, all_more_items, after_items}
 use Rattle.syntax.proofs.reader.Reader.take_more_targets.Given as goal
 
 abbrev pub invariant-more : goal.invariant-more

@@ -1,4 +1,4 @@
-use Rattle.std.proofs.Common.{arith}
+use Rattle.syntax.proofs.Prelude.{arith}
 use Rattle.syntax.proofs.DeclarationLoops.{offsets_go_on, offsets-fail, offsets-end}
 use Rattle.syntax.proofs.reader.Reader.take_offsets.Goals as goal
 

@@ -1,7 +1,4 @@
-use Rattle.std.proofs.Common.{◌≡◌, length, map}
-use Rattle.trees.specs.Views.{offset_tree}
-use Rattle.syntax.specs.internal.Declarations.{all_offsets}
-use Rattle.syntax.specs.internal.Lists.{after_items}
+use Rattle.syntax.proofs.Prelude.{◌≡◌, length, map, offset_tree, all_offsets, after_items}
 use Rattle.syntax.proofs.reader.Reader.take_offsets.Given as goal
 
 abbrev pub invariant-more : goal.invariant-more

@@ -1,4 +1,4 @@
-use Rattle.std.proofs.Common.{refl}
+use Rattle.syntax.proofs.Prelude.{refl}
 use Rattle.syntax.proofs.ReaderResults.{gives_made}
 use Rattle.syntax.proofs.reader.Reader.take_single_item.Goals as goal
 

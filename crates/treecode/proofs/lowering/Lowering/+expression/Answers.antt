@@ -1,10 +1,4 @@
-use Rattle.std.proofs.Common.{List, ap, sym, ◌∙◌, arith}
-use Rattle.std.proofs.lemmas.Result.{IfOk-weaker}
-use Rattle.typed_trees.specs.Views.{arguments_view}
-use Rattle.layout.specs.Views.{layout_view}
-use Rattle.treecode.specs.declared.expression.ExpressionNumber.{ExpressionNumber}
-use Rattle.treecode.specs.Nodes.{nodes_of}
-use Rattle.treecode.specs.internal.Adding.{numbers_in}
+use Rattle.treecode.proofs.Prelude.{List, ap, sym, ◌∙◌, arith, IfOk-weaker, arguments_view, layout_view, ExpressionNumber, nodes_of, numbers_in}
 use Rattle.treecode.proofs.ArgumentLoop.{argument_added, arguments_all_added}
 use Rattle.treecode.proofs.PutNodes.{arguments_put, beside_arguments, on_ok}
 use Rattle.treecode.proofs.lowering.Lowering.+expression.Goals as goal

@@ -1,9 +1,4 @@
-use Rattle.std.proofs.Common.{◌≡◌, drop}
-use Rattle.typed_trees.specs.Views.{arguments_view}
-use Rattle.layout.specs.Views.{layout_view}
-use Rattle.treecode.specs.Nodes.{nodes_of}
-use Rattle.treecode.specs.internal.Adding.{numbers_in, with_item}
-use Rattle.treecode.specs.internal.Beside.{beside}
+use Rattle.treecode.proofs.Prelude.{◌≡◌, drop, arguments_view, layout_view, nodes_of, numbers_in, with_item, beside}
 use Rattle.treecode.proofs.ArgumentLoop.{after_numbers}
 use Rattle.treecode.proofs.lowering.Lowering.+expression.Given as goal
 

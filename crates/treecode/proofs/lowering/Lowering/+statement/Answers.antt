@@ -1,10 +1,4 @@
-use Rattle.std.proofs.Common.{◌≡◌, List, rules, ap, sym, ◌∙◌, true, arith}
-use Rattle.typed_trees.specs.TypedTrees.{CaseStatement, DoStatement, IterateStatement, WhileStatement}
-use Rattle.typed_trees.specs.Views.{expression_view, iteration_view, list_view, statement_view, statements_view}
-use Rattle.layout.specs.Views.{layout_view}
-use Rattle.treecode.specs.declared.statement.StatementNumber.{StatementNumber}
-use Rattle.treecode.specs.internal.Beside.{walk_of}
-use Rattle.treecode.specs.internal.Walking.{items_in, statements_in}
+use Rattle.treecode.proofs.Prelude.{◌≡◌, List, rules, ap, sym, ◌∙◌, true, arith, CaseStatement, DoStatement, IterateStatement, WhileStatement, expression_view, iteration_view, list_view, statement_view, statements_view, layout_view, StatementNumber, walk_of, items_in, statements_in}
 use Rattle.treecode.proofs.PutNodes.{list_put, outside_lists}
 use Rattle.treecode.proofs.StatementLoops.{items_all_added}
 use Rattle.treecode.proofs.StatementViews.{case_returned, case_view, do_returned, do_view, iterate_returned, iterate_view, view_returned, while_returned, while_view}

@@ -1,9 +1,4 @@
-use Rattle.std.proofs.Common.{◌≡◌, true, drop}
-use Rattle.typed_trees.specs.Views.{statements_view}
-use Rattle.layout.specs.Views.{layout_view}
-use Rattle.treecode.specs.internal.Adding.{with_item}
-use Rattle.treecode.specs.internal.Beside.{outside, walk_of}
-use Rattle.treecode.specs.internal.Walking.{items_after, items_in}
+use Rattle.treecode.proofs.Prelude.{◌≡◌, true, drop, statements_view, layout_view, with_item, outside, walk_of, items_after, items_in}
 use Rattle.treecode.proofs.lowering.Lowering.+statement.Given as goal
 
 abbrev pub invariant-statements-loop-statement : goal.invariant-statements-loop-statement

@@ -1,9 +1,4 @@
-use Rattle.std.proofs.Common.{map, ap, sym, ◌∙◌, subst, arith}
-use Rattle.typed_trees.specs.Views.{procedure_view}
-use Rattle.layout.specs.Views.{layout_view}
-use Rattle.treecode.specs.internal.Beside.{Outside, outside, walk_of}
-use Rattle.treecode.specs.internal.Completed.{IsBody, with_body}
-use Rattle.treecode.specs.internal.Walking.{Walk}
+use Rattle.treecode.proofs.Prelude.{map, ap, sym, ◌∙◌, subst, arith, procedure_view, layout_view, Outside, outside, walk_of, IsBody, with_body, Walk}
 use Rattle.treecode.proofs.Bodies.{all_complete, next_complete, none_complete, tree_at}
 use Rattle.treecode.proofs.lowering.Lowering.add_bodies.Goals as goal
 

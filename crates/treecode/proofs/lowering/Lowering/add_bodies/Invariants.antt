@@ -1,8 +1,4 @@
-use Rattle.std.proofs.Common.{map}
-use Rattle.typed_trees.specs.Views.{procedure_view}
-use Rattle.layout.specs.Views.{layout_view}
-use Rattle.treecode.specs.internal.Beside.{outside, walk_of}
-use Rattle.treecode.specs.internal.Completed.{AreComplete}
+use Rattle.treecode.proofs.Prelude.{map, procedure_view, layout_view, outside, walk_of, AreComplete}
 use Rattle.treecode.proofs.lowering.Lowering.add_bodies.Given as goal
 
 abbrev pub invariant-loop-number : goal.invariant-loop-number

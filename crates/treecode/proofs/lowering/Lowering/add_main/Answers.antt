@@ -1,9 +1,4 @@
-use Rattle.std.proofs.Common.{ap, sym, ◌∙◌, subst}
-use Rattle.typed_trees.specs.Views.{procedure_view}
-use Rattle.layout.specs.Views.{layout_view}
-use Rattle.treecode.specs.internal.Beside.{Outside, outside, walk_of}
-use Rattle.treecode.specs.internal.Completed.{IsBody, with_main}
-use Rattle.treecode.specs.internal.Walking.{Walk}
+use Rattle.treecode.proofs.Prelude.{ap, sym, ◌∙◌, subst, procedure_view, layout_view, Outside, outside, walk_of, IsBody, with_main, Walk}
 use Rattle.treecode.proofs.Bodies.{main_is}
 use Rattle.treecode.proofs.lowering.Lowering.add_main.Goals as goal
 

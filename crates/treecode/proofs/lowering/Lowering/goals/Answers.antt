@@ -1,6 +1,4 @@
-use Rattle.std.proofs.Common.{◌∙◌, sym, arith}
-use Rattle.layout.specs.Views.{layout_view}
-use Rattle.treecode.specs.internal.Beside.{walk_of}
+use Rattle.treecode.proofs.Prelude.{◌∙◌, sym, arith, layout_view, walk_of}
 use Rattle.treecode.proofs.StatementLoops.{goal_added, goals_all_added}
 use Rattle.treecode.proofs.lowering.Lowering.goals.Goals as goal
 

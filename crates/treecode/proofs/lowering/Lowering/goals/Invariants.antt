@@ -1,9 +1,4 @@
-use Rattle.std.proofs.Common.{◌≡◌, drop, map}
-use Rattle.typed_trees.specs.Views.{target_view}
-use Rattle.layout.specs.Views.{layout_view}
-use Rattle.treecode.specs.internal.Adding.{with_item}
-use Rattle.treecode.specs.internal.Beside.{outside, walk_of}
-use Rattle.treecode.specs.internal.Walking.{goals_in}
+use Rattle.treecode.proofs.Prelude.{◌≡◌, drop, map, target_view, layout_view, with_item, outside, walk_of, goals_in}
 use Rattle.treecode.proofs.StatementLoops.{after_targets}
 use Rattle.treecode.proofs.lowering.Lowering.goals.Given as goal
 

@@ -1,5 +1,4 @@
-use Rattle.std.proofs.Common.{◌∙◌, refl, sym, arith}
-use Rattle.treecode.specs.internal.Beside.{walk_of}
+use Rattle.treecode.proofs.Prelude.{◌∙◌, refl, sym, arith, walk_of}
 use Rattle.treecode.proofs.LabelLoop.{labels_begin, label_more, labels_end}
 use Rattle.treecode.proofs.lowering.Lowering.number_labels.Goals as goal
 

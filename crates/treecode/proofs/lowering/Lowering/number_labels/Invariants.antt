@@ -1,6 +1,4 @@
-use Rattle.std.proofs.Common.{◌≡◌, ◌+◌, ◌-◌}
-use Rattle.treecode.specs.internal.Beside.{outside, walk_of}
-use Rattle.treecode.specs.internal.Walking.{numbered}
+use Rattle.treecode.proofs.Prelude.{◌≡◌, ◌+◌, ◌-◌, outside, walk_of, numbered}
 use Rattle.treecode.proofs.lowering.Lowering.number_labels.Given as goal
 
 abbrev pub invariant-loop-index : goal.invariant-loop-index

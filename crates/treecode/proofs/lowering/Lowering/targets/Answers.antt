@@ -1,10 +1,4 @@
-use Rattle.std.proofs.Common.{List, map, ap, sym, ◌∙◌}
-use Rattle.std.proofs.lemmas.Result.{IfOk-weaker}
-use Rattle.typed_trees.specs.Views.{target_view}
-use Rattle.layout.specs.Views.{layout_view}
-use Rattle.treecode.specs.declared.reference.Target.{Target}
-use Rattle.treecode.specs.internal.Beside.{walk_of}
-use Rattle.treecode.specs.internal.Walking.{goals_in}
+use Rattle.treecode.proofs.Prelude.{List, map, ap, sym, ◌∙◌, IfOk-weaker, target_view, layout_view, Target, walk_of, goals_in}
 use Rattle.treecode.proofs.PutNodes.{targets_put}
 use Rattle.treecode.proofs.lowering.Lowering.targets.Goals as goal
 

@@ -1,7 +1,4 @@
-use Rattle.std.proofs.Common.{◌≡◌, min, length, sym, ◌∙◌}
-use Rattle.std.proofs.lemmas.Bool.{ltb-false, ltb-true}
-use Rattle.std.proofs.lemmas.Result.{on_ok_weaker}
-use Rattle.treecode.specs.internal.Placed.{heading_of, headings_of, variable_number}
+use Rattle.treecode.proofs.Prelude.{◌≡◌, min, length, sym, ◌∙◌, ltb-false, ltb-true, on_ok_weaker, heading_of, headings_of, variable_number}
 use Rattle.treecode.proofs.FrameVariables.{if_ok_then, none_numbered, variable_numbered, variable_put}
 use Rattle.treecode.proofs.module.TreeModule.add_frame_variable.Goals as goal
 

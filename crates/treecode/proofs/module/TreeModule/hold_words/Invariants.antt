@@ -1,5 +1,4 @@
-use Rattle.std.proofs.Common.{length}
-use Rattle.treecode.specs.internal.Words.{FormsAreWords}
+use Rattle.treecode.proofs.Prelude.{length, FormsAreWords}
 use Rattle.treecode.proofs.module.TreeModule.hold_words.Given as goal
 
 abbrev pub invariant-loop-rest : goal.invariant-loop-rest

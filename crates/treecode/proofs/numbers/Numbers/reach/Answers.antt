@@ -1,4 +1,4 @@
-use Rattle.std.proofs.Common.{arith}
+use Rattle.treecode.proofs.Prelude.{arith}
 use Rattle.treecode.proofs.NumberTables.{reached}
 use Rattle.treecode.proofs.numbers.Numbers.reach.Goals as goal
 

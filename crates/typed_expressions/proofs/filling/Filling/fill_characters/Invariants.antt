@@ -1,7 +1,4 @@
-use Rattle.std.proofs.Common.{◌≡◌, drop}
-use Rattle.typed_trees.specs.Views.{type_view}
-use Rattle.typing.specs.Filling.{fill_characters as fill_from}
-use Rattle.typed_expressions.specs.internal.Fillings.{left_of, onto}
+use Rattle.typed_expressions.proofs.Prelude.{◌≡◌, drop, type_view, fill_from, left_of, onto}
 use Rattle.typed_expressions.proofs.filling.Filling.fill_characters.Given as goal
 
 abbrev pub invariant-loop-character : goal.invariant-loop-character

@@ -1,6 +1,4 @@
-use Rattle.typed_expressions.specs.Views.{constants_view, known_view}
-use Rattle.std.proofs.Common.{rules}
-use Rattle.typing.specs.Results.{fault_in}
+use Rattle.typed_expressions.proofs.Prelude.{constants_view, known_view, rules, fault_in}
 use Rattle.typed_expressions.proofs.ArgumentLoops.{goes_on, fails, ended}
 use Rattle.typed_expressions.proofs.GivenParts.{given_is}
 use Rattle.typed_expressions.proofs.known.Known.+expression.Goals as goal

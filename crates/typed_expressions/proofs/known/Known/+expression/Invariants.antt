@@ -1,9 +1,4 @@
-use Rattle.std.proofs.Common.{◌≡◌, drop, Ok}
-use Rattle.trees.specs.Views.{argument_trees}
-use Rattle.typing.specs.Checks.{◌>>=◌}
-use Rattle.typing.specs.Expressions.{arguments}
-use Rattle.typed_expressions.specs.internal.Fronts.{in_front}
-use Rattle.typed_expressions.specs.Views.{constants_view, known_view}
+use Rattle.typed_expressions.proofs.Prelude.{◌≡◌, drop, Ok, argument_trees, ◌>>=◌, arguments, in_front, constants_view, known_view}
 use Rattle.typed_expressions.proofs.known.Known.+expression.Given as goal
 
 abbrev pub invariant-arguments-loop-tree : goal.invariant-arguments-loop-tree

@@ -1,9 +1,5 @@
-use Rattle.std.proofs.Common.{map, rules}
-use Rattle.trees.specs.Views.{restricted_tree}
-use Rattle.typed_trees.specs.Views.{type_view}
-use Rattle.typed_expressions.specs.Views.{known_view, contents_view}
+use Rattle.typed_expressions.proofs.Prelude.{map, rules, restricted_tree, type_view, known_view, contents_view, answers_fault}
 use Rattle.typed_expressions.proofs.Filled.{listed_ok, listed_fails, some_each}
-use Rattle.typing.proofs.Loops.{answers_fault}
 use Rattle.typed_expressions.proofs.known.Known.contents_as_listed.Goals as goal
 
 pub elements_for-requires : goal.elements_for-requires

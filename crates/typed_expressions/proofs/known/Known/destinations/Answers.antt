@@ -1,6 +1,4 @@
-use Rattle.std.proofs.Common.{rules}
-use Rattle.typing.specs.Results.{fault_in}
-use Rattle.typed_expressions.specs.Views.{constants_view}
+use Rattle.typed_expressions.proofs.Prelude.{rules, fault_in, constants_view}
 use Rattle.typed_expressions.proofs.DestinationLoops.{begins, first_fails, goes_on, fails, ended}
 use Rattle.typed_expressions.proofs.known.Known.destinations.Goals as goal
 

@@ -1,9 +1,5 @@
-use Rattle.std.proofs.Common.{◌≡◌, map, drop}
-use Rattle.trees.specs.Views.{reference_tree, target_trees}
-use Rattle.typing.specs.Statements.{destinations}
-use Rattle.typed_expressions.specs.Views.{constants_view, destination_view, known_view}
+use Rattle.typed_expressions.proofs.Prelude.{◌≡◌, map, drop, reference_tree, target_trees, destinations, constants_view, destination_view, known_view, after_destinations}
 use Rattle.typing.specs.Results.{in_front}
-use Rattle.typed_expressions.specs.internal.Fronts.{after_destinations}
 use Rattle.typed_expressions.proofs.known.Known.destinations.Given as goal
 
 abbrev pub invariant-loop-target : goal.invariant-loop-target

@@ -1,11 +1,5 @@
-use Rattle.std.proofs.Common.{rules}
-use Rattle.typed_trees.specs.Sizes.{scalars_of_elements}
-use Rattle.typed_trees.specs.Views.{type_view}
-use Rattle.typing.specs.Results.{fault_in}
-use Rattle.typed_expressions.specs.internal.Fillings.{filled_view}
-use Rattle.typed_expressions.specs.Views.{known_view}
+use Rattle.typed_expressions.proofs.Prelude.{rules, scalars_of_elements, type_view, fault_in, filled_view, known_view, state_goes_on}
 use Rattle.typed_expressions.proofs.Filled.{all_filled, onto_value, onto_values, some_fails, values_first}
-use Rattle.typing.proofs.Loops.{state_goes_on}
 use Rattle.typed_expressions.proofs.known.Known.fill.Goals as goal
 
 pub loop-value-preserved : goal.loop-value-preserved

@@ -1,7 +1,4 @@
-use Rattle.std.proofs.Common.{◌≡◌, drop}
-use Rattle.typed_trees.specs.Views.{type_view}
-use Rattle.typed_expressions.specs.internal.Fillings.{filled_view}
-use Rattle.typed_expressions.specs.Views.{known_view}
+use Rattle.typed_expressions.proofs.Prelude.{◌≡◌, drop, type_view, filled_view, known_view}
 use Rattle.typed_expressions.proofs.Filled.{onto_values}
 use Rattle.typed_expressions.proofs.known.Known.fill.Given as goal
 

@@ -1,5 +1,4 @@
-use Rattle.std.proofs.Common.{◌∙◌, rules, arith}
-use Rattle.typed_trees.specs.Views.{type_view}
+use Rattle.typed_expressions.proofs.Prelude.{◌∙◌, rules, arith, type_view}
 use Rattle.typed_expressions.proofs.LeftScalars.{left_found, run_absent, run_empty}
 use Rattle.typed_expressions.proofs.scalars.Scalars.goes_on.Goals as goal
 use Rattle.typed_expressions.proofs.scalars.Scalars.goes_on.Goals.{in-Some+else-run-gt0, in_default}

@@ -1,6 +1,4 @@
-use Rattle.std.proofs.Common.{◌≡◌}
-use Rattle.typed_trees.specs.Views.{type_view}
-use Rattle.typed_expressions.specs.internal.Fillings.{runs_from}
+use Rattle.typed_expressions.proofs.Prelude.{◌≡◌, type_view, runs_from}
 use Rattle.typed_expressions.proofs.scalars.Scalars.goes_on.Given as goal
 
 -- the members so far have no scalars

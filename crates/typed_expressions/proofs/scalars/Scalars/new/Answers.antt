@@ -1,5 +1,4 @@
-use Rattle.std.proofs.Common.{refl, arith}
-use Rattle.typed_trees.specs.Views.{type_view}
+use Rattle.typed_expressions.proofs.Prelude.{refl, arith, type_view}
 use Rattle.typed_expressions.proofs.LeftScalars.{left_ended, runs_past}
 use Rattle.typed_expressions.proofs.scalars.Scalars.new.Goals as goal
 

@@ -1,8 +1,4 @@
-use Rattle.std.proofs.Common.{arith, rules}
-use Rattle.names.proofs.Parts.{if_is, do_is, while_is, iterate_is, case_is, procedure_is}
-use Rattle.typing.specs.Results.{fault_in}
-use Rattle.types.specs.internal.Lists.{listed_view}
-use Rattle.types.specs.internal.Views.{block_view, progress_view}
+use Rattle.types.proofs.Prelude.{arith, rules, if_is, do_is, while_is, iterate_is, case_is, procedure_is, fault_in, listed_view, block_view, progress_view}
 use Rattle.types.proofs.Walks.{cases_go_on, cases_fail, cases_ended, statements_go_on, places_go_on, statements_ended}
 use Rattle.types.proofs.checker.Checker.+walk.Goals as goal
 

@@ -1,10 +1,4 @@
-use Rattle.std.proofs.Common.{◌≡◌, ◌++◌, length, drop}
-use Rattle.trees.specs.Views.{declaration_trees, statement_trees}
-use Rattle.typing.specs.Statements.{places_from}
-use Rattle.typing.specs.Typing.{cases, declarations, statements}
-use Rattle.types.specs.internal.Lists.{statements_after}
-use Rattle.types.specs.internal.Views.{block_view, progress_view}
-use Rattle.typing.specs.Results.{in_front}
+use Rattle.types.proofs.Prelude.{◌≡◌, ◌++◌, length, drop, declaration_trees, statement_trees, places_from, cases, declarations, statements, statements_after, block_view, progress_view, in_front}
 use Rattle.types.proofs.checker.Checker.+walk.Given as goal
 
 abbrev pub invariant-cases-loop-tree : goal.invariant-cases-loop-tree

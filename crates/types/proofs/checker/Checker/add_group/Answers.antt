@@ -1,8 +1,5 @@
-use Rattle.std.proofs.Common.{[], ◌∷◌, rules}
-use Rattle.typing.specs.Items.{with_objects}
-use Rattle.types.specs.internal.Views.{block_view, progress_view, typed_item_view}
+use Rattle.types.proofs.Prelude.{[], ◌∷◌, rules, with_objects, block_view, progress_view, typed_item_view, state_goes_on, state_fails, leaves_fault}
 use Rattle.types.proofs.ItemLemmas.{first_object}
-use Rattle.typing.proofs.Loops.{state_goes_on, state_fails, leaves_fault}
 use Rattle.types.proofs.checker.Checker.add_group.Goals as goal
 
 pub loop-name-preserved : goal.loop-name-preserved

@@ -1,6 +1,5 @@
-use Rattle.std.proofs.Common.{◌≡◌, drop}
+use Rattle.types.proofs.Prelude.{◌≡◌, drop, block_view, progress_view, typed_item_view}
 use Rattle.typing.specs.Items as items
-use Rattle.types.specs.internal.Views.{block_view, progress_view, typed_item_view}
 use Rattle.types.proofs.checker.Checker.add_group.Given as goal
 
 -- the names that are left decide

@@ -1,8 +1,4 @@
-use Rattle.std.proofs.Common.{map, refl, rules}
-use Rattle.trees.specs.Views.{element_tree}
-use Rattle.typing.specs.Items.{declare_element, declare_elements}
-use Rattle.types.specs.internal.Views.{block_view, progress_view}
-use Rattle.typing.proofs.Loops.{state_goes_on, state_fails, leaves_fault}
+use Rattle.types.proofs.Prelude.{map, refl, rules, element_tree, declare_element, declare_elements, block_view, progress_view, state_goes_on, state_fails, leaves_fault}
 use Rattle.types.proofs.checker.Checker.declare_elements.Goals as goal
 
 pub loop-element-preserved : goal.loop-element-preserved

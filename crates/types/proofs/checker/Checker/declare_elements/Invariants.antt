@@ -1,7 +1,5 @@
-use Rattle.std.proofs.Common.{◌≡◌, drop, map}
-use Rattle.trees.specs.Views.{element_tree}
+use Rattle.types.proofs.Prelude.{◌≡◌, drop, map, element_tree, block_view, progress_view}
 use Rattle.typing.specs.Items as items
-use Rattle.types.specs.internal.Views.{block_view, progress_view}
 use Rattle.types.proofs.checker.Checker.declare_elements.Given as goal
 
 -- the elements that are left decide

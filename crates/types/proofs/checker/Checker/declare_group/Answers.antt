@@ -1,8 +1,5 @@
-use Rattle.std.proofs.Common.{[], ◌∷◌, rules}
-use Rattle.types.specs.internal.Items.{with_names}
-use Rattle.types.specs.internal.Views.{block_view, progress_view}
+use Rattle.types.proofs.Prelude.{[], ◌∷◌, rules, with_names, block_view, progress_view, state_goes_on, state_fails, leaves_fault}
 use Rattle.types.proofs.ItemLemmas.{first_name}
-use Rattle.typing.proofs.Loops.{state_goes_on, state_fails, leaves_fault}
 use Rattle.types.proofs.checker.Checker.declare_group.Goals as goal
 
 pub loop-name-preserved : goal.loop-name-preserved

@@ -1,6 +1,4 @@
-use Rattle.std.proofs.Common.{◌≡◌, drop}
-use Rattle.types.specs.internal.Items.{with_names}
-use Rattle.types.specs.internal.Views.{block_view, progress_view}
+use Rattle.types.proofs.Prelude.{◌≡◌, drop, with_names, block_view, progress_view}
 use Rattle.types.proofs.checker.Checker.declare_group.Given as goal
 
 -- the names that are left decide

@@ -1,9 +1,5 @@
-use Rattle.std.proofs.Common.{rules, sym, subst}
-use Rattle.trees.specs.Views.{item_tree}
-use Rattle.typing.specs.Results.{Leaves}
-use Rattle.types.specs.internal.Views.{block_view, progress_view, typed_item_view}
+use Rattle.types.proofs.Prelude.{rules, sym, subst, item_tree, Leaves, block_view, progress_view, typed_item_view, leaves_fault}
 use Rattle.types.proofs.ItemLemmas.{declared_with, item_fails, names_fail}
-use Rattle.typing.proofs.Loops.{leaves_fault}
 use Rattle.types.proofs.checker.Checker.declare_item.Goals as goal
 
 pub returns-in_err-declare_names : goal.returns-in_err-declare_names

@@ -1,8 +1,5 @@
-use Rattle.std.proofs.Common.{rules, refl}
-use Rattle.trees.specs.Views.{declaration_trees, heading_tree}
-use Rattle.types.specs.internal.Views.{block_view, progress_view}
+use Rattle.types.proofs.Prelude.{rules, refl, declaration_trees, heading_tree, block_view, progress_view, leaves_fault}
 use Rattle.types.proofs.Headings.{opening_fails, opening_gives}
-use Rattle.typing.proofs.Loops.{leaves_fault}
 use Rattle.types.proofs.checker.Checker.open_procedure.Goals as goal
 
 pub returns-in_err-open_heading-clause-opened : goal.returns-in_err-open_heading-clause-opened

@@ -1,5 +1,4 @@
-use Rattle.std.proofs.Common.{◌≡◌, drop}
-use Rattle.types.specs.internal.Lists.{listed_view, with_labels}
+use Rattle.types.proofs.Prelude.{◌≡◌, drop, listed_view, with_labels}
 use Rattle.types.proofs.lists.Listed.push_labels.Given as goal
 
 abbrev pub invariant-loop : goal.invariant-loop

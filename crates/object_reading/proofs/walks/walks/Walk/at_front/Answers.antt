@@ -1,4 +1,4 @@
-use Rattle.std.proofs.Common.{refl}
+use Rattle.object_reading.proofs.Prelude.{refl}
 use Rattle.object_reading.proofs.AtFront.{parts_at_front, no_parts, walks_over}
 use Rattle.object_reading.proofs.NextParts.{no_names, no_definitions}
 use Rattle.object_reading.proofs.walks.walks.Walk.at_front.Goals as goal

@@ -1,5 +1,4 @@
-use Rattle.std.proofs.Common.{sym, ap, ◌∙◌}
-use Rattle.object_modules.specs.Walking.{Walking}
+use Rattle.object_reading.proofs.Prelude.{sym, ap, ◌∙◌, Walking}
 use Rattle.object_reading.proofs.NextParts.{names_then}
 use Rattle.object_reading.proofs.walks.walks.Walk.next_external.Goals as goal
 

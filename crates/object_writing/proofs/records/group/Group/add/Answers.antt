@@ -1,7 +1,4 @@
-use Rattle.std.proofs.Common.{ap, subst}
-use Rattle.failure.specs.Writing.{AppendsBeginning}
-use Rattle.failure.proofs.WritingLemmas.{on_err}
-use Rattle.object_writing.specs.Groups.{flushed}
+use Rattle.object_writing.proofs.Prelude.{ap, subst, AppendsBeginning, on_err, flushed}
 use Rattle.object_writing.proofs.Bodies.{sizes}
 use Rattle.object_writing.proofs.records.group.Group.add.Goals as goal
 

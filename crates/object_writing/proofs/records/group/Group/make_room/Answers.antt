@@ -1,8 +1,4 @@
-use Rattle.std.proofs.Common.{sym, subst, arith, []}
-use Rattle.std.proofs.lemmas.Bool.{cond-true, lt-ltb}
-use Rattle.failure.specs.Writing.{AppendsBeginning}
-use Rattle.failure.proofs.WritingLemmas.{on_err}
-use Rattle.object_writing.specs.Groups.{group_bytes, room_of}
+use Rattle.object_writing.proofs.Prelude.{sym, subst, arith, [], cond-true, lt-ltb, AppendsBeginning, on_err, group_bytes, room_of}
 use Rattle.object_writing.proofs.records.group.Group.make_room.Goals as goal
 
 pub returns-in_err-write-clause-err : goal.returns-in_err-write-clause-err
