@@ -4,4 +4,5 @@ pub use Rattle.isa8080.specs.Act
 pub use Rattle.isa8080.specs.Step
 pub mod Machine
 pub mod Runs
+pub mod Table
 pub mod internal

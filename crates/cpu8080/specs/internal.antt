@@ -1,4 +1,6 @@
 -- What only private functions and proofs cite.
 pub mod Finish
+pub mod Lines
 pub mod PairBytes
 pub mod Parts
+pub mod Tables

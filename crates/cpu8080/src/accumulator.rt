@@ -9,10 +9,10 @@ ghost use Rattle.cpu8080.specs.internal.Finish.{accumulated, double_added, pair_
 ghost use Rattle.cpu8080.specs.internal.PairBytes.{bytes_of};
 
 use crate::flags::{LazyFlags, MachineRegisters};
+use crate::machine_memory::MachineMemory;
 use crate::pairs::{bc, byte_at_hl, de, h, hl, l, put_at_hl, set_bc, set_de, set_hl};
 use crate::register_pair::RegisterPair;
 use alu8080::ConditionBits;
-use mem80::Memory;
 
 /// ADD: adds a byte.
 #[inline(always)]
@@ -103,13 +103,13 @@ pub fn complement_carry(flags: &mut LazyFlags)
 
 /// INR M: counts the byte at the address in H and L up.
 #[inline(always)]
-pub fn increment_memory(registers: &mut MachineRegisters, memory: &mut Memory)
+pub fn increment_memory<M: MachineMemory>(registers: &mut MachineRegisters, memory: &mut M)
     ensures registers { registers.new
-        ≡ (let byte = slice_index memory.old (pair_in Hl registers.old) in
+        ≡ (let byte = slice_index (M.bytes memory.old) (pair_in Hl registers.old) in
         record registers.old { flags = (increment_of byte registers.old.flags).flags }) }
-    ensures memory { memory.new
-        ≡ (let byte = slice_index memory.old (pair_in Hl registers.old) in
-        slice_set memory.old (pair_in Hl registers.old) (increment_of byte registers.old.flags).value) }
+    ensures memory { M.bytes memory.new
+        ≡ (let byte = slice_index (M.bytes memory.old) (pair_in Hl registers.old) in
+        slice_set (M.bytes memory.old) (pair_in Hl registers.old) (increment_of byte registers.old.flags).value) }
 {
     let value = alu8080::increment(byte_at_hl(registers, memory), &mut registers.flags);
     put_at_hl(value, registers, memory);
@@ -117,13 +117,13 @@ pub fn increment_memory(registers: &mut MachineRegisters, memory: &mut Memory)
 
 /// DCR M: counts the byte at the address in H and L down.
 #[inline(always)]
-pub fn decrement_memory(registers: &mut MachineRegisters, memory: &mut Memory)
+pub fn decrement_memory<M: MachineMemory>(registers: &mut MachineRegisters, memory: &mut M)
     ensures registers { registers.new
-        ≡ (let byte = slice_index memory.old (pair_in Hl registers.old) in
+        ≡ (let byte = slice_index (M.bytes memory.old) (pair_in Hl registers.old) in
         record registers.old { flags = (decrement_of byte registers.old.flags).flags }) }
-    ensures memory { memory.new
-        ≡ (let byte = slice_index memory.old (pair_in Hl registers.old) in
-        slice_set memory.old (pair_in Hl registers.old) (decrement_of byte registers.old.flags).value) }
+    ensures memory { M.bytes memory.new
+        ≡ (let byte = slice_index (M.bytes memory.old) (pair_in Hl registers.old) in
+        slice_set (M.bytes memory.old) (pair_in Hl registers.old) (decrement_of byte registers.old.flags).value) }
 {
     let value = alu8080::decrement(byte_at_hl(registers, memory), &mut registers.flags);
     put_at_hl(value, registers, memory);

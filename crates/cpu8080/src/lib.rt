@@ -5,11 +5,15 @@ mod accumulator;
 mod codes;
 mod execute;
 mod flags;
+mod lines;
 mod machine;
+mod machine_memory;
 mod pairs;
 mod port;
 mod register_pair;
 mod remaining;
 mod stack;
+mod table;
 
 pub use machine::{End, Machine, Step};
+pub use table::DecodeTable;

@@ -1,7 +1,8 @@
 //! 16-bit values in pairs of registers and in memory.
 
-ghost use Rattle.std.specs.Prelude.{◌≡◌, ◌+◌, slice_set};
+ghost use Rattle.std.specs.Prelude.{◌≡◌, ◌+◌, ◌*◌, ◌<◌, slice_set};
 ghost use Rattle.mem80.specs.Memory.{byte_at, word_at};
+ghost use Rattle.mem80.specs.declared.memory.TheConstants.{MEMORY_SIZE};
 ghost use Rattle.isa8080.specs.declared.instr.Pair.TheVariants.{Bc, De, Hl};
 ghost use Rattle.isa8080.specs.Flags.{flag_byte, flags_in};
 ghost use Rattle.isa8080.specs.State.{word as word_of, high_byte, low_byte, wrap};
@@ -9,9 +10,9 @@ ghost use Rattle.cpu8080.specs.internal.Finish.{pair_in};
 ghost use Rattle.cpu8080.specs.internal.PairBytes.{bytes_of};
 
 use crate::flags::{LazyFlags, MachineRegisters};
+use crate::machine_memory::MachineMemory;
 use crate::register_pair::{RegisterPair, word_with};
 use isa8080::Flags;
-use mem80::Memory;
 
 /// The 16-bit value in B and C.
 #[inline(always)]
@@ -114,33 +115,33 @@ pub fn set_psw(word: u16, registers: &mut MachineRegisters)
 
 /// The byte at the address in H and L.
 #[inline(always)]
-pub fn byte_at_hl(registers: &MachineRegisters, memory: &Memory) -> u8
-    ensures { result ≡ byte_at memory.now (pair_in Hl registers.now) }
+pub fn byte_at_hl<M: MachineMemory>(registers: &MachineRegisters, memory: &M) -> u8
+    ensures { result ≡ byte_at (M.bytes memory.now) (pair_in Hl registers.now) }
 {
     memory.get(hl(registers))
 }
 
 /// Puts a byte at the address in H and L.
 #[inline(always)]
-pub fn put_at_hl(byte: u8, registers: &MachineRegisters, memory: &mut Memory)
-    ensures { memory.new ≡ slice_set memory.old (pair_in Hl registers.now) byte }
+pub fn put_at_hl<M: MachineMemory>(byte: u8, registers: &MachineRegisters, memory: &mut M)
+    ensures { M.bytes memory.new ≡ slice_set (M.bytes memory.old) (pair_in Hl registers.now) byte }
 {
     memory.set(hl(registers), byte);
 }
 
 /// The 16-bit value at an address, its low byte first.
 #[inline(always)]
-pub fn word_in(address: u16, memory: &Memory) -> u16
-    ensures { result ≡ word_at memory.now address }
+pub fn word_in<M: MachineMemory>(address: u16, memory: &M) -> u16
+    ensures { result ≡ word_at (M.bytes memory.now) address }
 {
     word_with(memory.get(address.wrapping_add(1)), memory.get(address))
 }
 
 /// Puts a 16-bit value at an address, its low byte first.
 #[inline(always)]
-pub fn put_word(address: u16, word: u16, memory: &mut Memory)
-    ensures { memory.new
-        ≡ slice_set (slice_set memory.old address (low_byte word)) (wrap (address + 1)) (high_byte word) }
+pub fn put_word<M: MachineMemory>(address: u16, word: u16, memory: &mut M)
+    ensures { M.bytes memory.new
+        ≡ slice_set (slice_set (M.bytes memory.old) address (low_byte word)) (wrap (address + 1)) (high_byte word) }
 {
     memory.set(address, (word % 256) as u8);
     memory.set(address.wrapping_add(1), (word / 256) as u8);
@@ -148,8 +149,8 @@ pub fn put_word(address: u16, word: u16, memory: &mut Memory)
 
 /// The byte at the program counter, which goes on by one.
 #[inline(always)]
-pub fn fetch(pc: &mut u16, memory: &Memory) -> u8
-    ensures byte { result ≡ byte_at memory.now pc.old }
+pub fn fetch<M: MachineMemory>(pc: &mut u16, memory: &M) -> u8
+    ensures byte { result ≡ byte_at (M.bytes memory.now) pc.old }
     ensures after { pc.new ≡ wrap (pc.old + 1) }
 {
     let byte = memory.get(*pc);
@@ -159,11 +160,34 @@ pub fn fetch(pc: &mut u16, memory: &Memory) -> u8
 
 /// The 16-bit value at the program counter, which goes on by two.
 #[inline(always)]
-pub fn fetch_word(pc: &mut u16, memory: &Memory) -> u16
-    ensures word { result ≡ word_at memory.now pc.old }
+pub fn fetch_word<M: MachineMemory>(pc: &mut u16, memory: &M) -> u16
+    ensures word { result ≡ word_at (M.bytes memory.now) pc.old }
     ensures after { pc.new ≡ wrap (pc.old + 2) }
 {
     let word = word_in(*pc, memory);
     *pc = pc.wrapping_add(2);
     word
+}
+
+/// The byte some places after an address, within the memory.
+#[inline(always)]
+pub fn byte_after<M: MachineMemory>(address: u16, distance: u16, memory: &M) -> u8
+    requires { address + distance < MEMORY_SIZE }
+    ensures { result ≡ byte_at (M.bytes memory.now) (address + distance) }
+{
+    memory.get(address.wrapping_add(distance))
+}
+
+/// The 16-bit value some places after an address, within the memory, its low byte first.
+#[inline(always)]
+pub fn word_after<M: MachineMemory>(address: u16, distance: u16, memory: &M) -> u16
+    requires { address + distance + 1 < MEMORY_SIZE }
+    ensures { result
+        ≡ byte_at (M.bytes memory.now) (address + distance)
+        + 256 * byte_at (M.bytes memory.now) (address + (distance + 1)) }
+{
+    word_with(
+        byte_after(address, distance + 1, memory),
+        byte_after(address, distance, memory),
+    )
 }

@@ -6,29 +6,29 @@ ghost use Rattle.ports.specs.Events.{read_event, write_event, AddsEvent, CountsF
 ghost use Rattle.ports.specs.Input.{input_value};
 
 use crate::flags::MachineRegisters;
-use mem80::Memory;
+use crate::machine_memory::MachineMemory;
 use ports::{PortFault, Ports};
 
 /// IN: reads the port whose number is at a place into the accumulator.
 #[inline(never)]
-pub fn input<P: Ports>(
+pub fn input<P: Ports, M: MachineMemory>(
     place: u16,
     registers: &mut MachineRegisters,
-    memory: &Memory,
+    memory: &M,
     ports: &mut P,
 ) -> Result<(), PortFault>
     ensures ok { OnOk result
         (registers.new
         ≡ record registers.old {
-          a = input_value (P.script ports.old) (P.events ports.old) (byte_at memory.now place);
+          a = input_value (P.script ports.old) (P.events ports.old) (byte_at (M.bytes memory.now) place);
         }) }
     ensures event { OnOk result
         (AddsEvent
         (P.events ports.old)
         (P.events ports.new)
         (read_event
-        (byte_at memory.now place)
-        (input_value (P.script ports.old) (P.events ports.old) (byte_at memory.now place)))) }
+        (byte_at (M.bytes memory.now) place)
+        (input_value (P.script ports.old) (P.events ports.old) (byte_at (M.bytes memory.now) place)))) }
     ensures count { OnOk result (P.failures ports.new ≡ P.failures ports.old) }
     ensures same { OnErr result (registers.new ≡ registers.old) }
     ensures none { OnErr result (P.events ports.new ≡ P.events ports.old) }
@@ -42,17 +42,17 @@ pub fn input<P: Ports>(
 
 /// OUT: writes the accumulator to the port whose number is at a place.
 #[inline(never)]
-pub fn output<P: Ports>(
+pub fn output<P: Ports, M: MachineMemory>(
     place: u16,
     registers: &MachineRegisters,
-    memory: &Memory,
+    memory: &M,
     ports: &mut P,
 ) -> Result<(), PortFault>
     ensures event { OnOk result
         (AddsEvent
         (P.events ports.old)
         (P.events ports.new)
-        (write_event (byte_at memory.now place) registers.now.a)) }
+        (write_event (byte_at (M.bytes memory.now) place) registers.now.a)) }
     ensures count { OnOk result (P.failures ports.new ≡ P.failures ports.old) }
     ensures none { OnErr result (P.events ports.new ≡ P.events ports.old) }
     ensures failed { OnErr result (CountsFailure (P.failures ports.old) (P.failures ports.new)) }

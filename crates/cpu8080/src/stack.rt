@@ -1,21 +1,22 @@
 //! The stack, and the jumps, calls and returns.
 
-ghost use Rattle.std.specs.Prelude.{◌≡◌, ◌+◌, if◌then◌else◌, slice_set};
-ghost use Rattle.mem80.specs.Memory.{word_at};
+ghost use Rattle.std.specs.Prelude.{◌≡◌, ◌+◌, ◌*◌, ◌<◌, if◌then◌else◌, slice_set};
+ghost use Rattle.mem80.specs.Memory.{byte_at, word_at};
+ghost use Rattle.mem80.specs.declared.memory.TheConstants.{MEMORY_SIZE};
 ghost use Rattle.isa8080.specs.declared.instr.Pair.TheVariants.{Hl};
 ghost use Rattle.isa8080.specs.State.{high_byte, low_byte, wrap, two_less};
 ghost use Rattle.cpu8080.specs.internal.Finish.{memory_pushed, pair_in};
 ghost use Rattle.cpu8080.specs.internal.PairBytes.{bytes_of};
 
 use crate::flags::MachineRegisters;
-use crate::pairs::{fetch_word, hl, put_word, set_hl, word_in};
-use mem80::Memory;
+use crate::machine_memory::MachineMemory;
+use crate::pairs::{fetch_word, hl, put_word, set_hl, word_after, word_in};
 
 /// PUSH: puts a 16-bit value on the stack.
 #[inline(always)]
-pub fn push(word: u16, registers: &mut MachineRegisters, memory: &mut Memory)
+pub fn push<M: MachineMemory>(word: u16, registers: &mut MachineRegisters, memory: &mut M)
     ensures registers { registers.new ≡ record registers.old { sp = two_less registers.old.sp } }
-    ensures memory { memory.new ≡ memory_pushed word registers.old memory.old }
+    ensures memory { M.bytes memory.new ≡ memory_pushed word registers.old (M.bytes memory.old) }
 {
     memory.set(registers.sp.wrapping_sub(1), (word / 256) as u8);
     registers.sp = registers.sp.wrapping_sub(2);
@@ -24,8 +25,8 @@ pub fn push(word: u16, registers: &mut MachineRegisters, memory: &mut Memory)
 
 /// POP: takes a 16-bit value from the stack.
 #[inline(always)]
-pub fn pop(registers: &mut MachineRegisters, memory: &Memory) -> u16
-    ensures word { result ≡ word_at memory.now registers.old.sp }
+pub fn pop<M: MachineMemory>(registers: &mut MachineRegisters, memory: &M) -> u16
+    ensures word { result ≡ word_at (M.bytes memory.now) registers.old.sp }
     ensures after { registers.new ≡ record registers.old { sp = wrap (registers.old.sp + 2) } }
 {
     let word = word_in(registers.sp, memory);
@@ -35,13 +36,13 @@ pub fn pop(registers: &mut MachineRegisters, memory: &Memory) -> u16
 
 /// XTHL: exchanges the 16-bit value in H and L with the one on top of the stack.
 #[inline(always)]
-pub fn exchange_top(registers: &mut MachineRegisters, memory: &mut Memory)
+pub fn exchange_top<M: MachineMemory>(registers: &mut MachineRegisters, memory: &mut M)
     ensures registers { registers.new
-        ≡ (let top = word_at memory.old registers.old.sp in
+        ≡ (let top = word_at (M.bytes memory.old) registers.old.sp in
         record registers.old { hl = bytes_of top }) }
-    ensures memory { memory.new
+    ensures memory { M.bytes memory.new
         ≡ slice_set
-        (slice_set memory.old registers.old.sp (low_byte (pair_in Hl registers.old)))
+        (slice_set (M.bytes memory.old) registers.old.sp (low_byte (pair_in Hl registers.old)))
         (wrap (registers.old.sp + 1))
         (high_byte (pair_in Hl registers.old)) }
 {
@@ -52,8 +53,8 @@ pub fn exchange_top(registers: &mut MachineRegisters, memory: &mut Memory)
 
 /// JMP and the conditional jumps: goes on at the address in the instruction, or after the instruction.
 #[inline(always)]
-pub fn jump_if(condition: bool, pc: &mut u16, memory: &Memory)
-    ensures { pc.new ≡ (if condition then word_at memory.now pc.old else wrap (pc.old + 2)) }
+pub fn jump_if<M: MachineMemory>(condition: bool, pc: &mut u16, memory: &M)
+    ensures { pc.new ≡ (if condition then word_at (M.bytes memory.now) pc.old else wrap (pc.old + 2)) }
 {
     if condition {
         *pc = word_in(*pc, memory);
@@ -62,10 +63,33 @@ pub fn jump_if(condition: bool, pc: &mut u16, memory: &Memory)
     }
 }
 
+/// A jump at the end of a line, whose address lies so many bytes after the program counter: goes on there, or after the
+/// instruction.
+#[inline(always)]
+pub fn jump_after<M: MachineMemory>(condition: bool, distance: u16, pc: &mut u16, memory: &M)
+    requires within { pc.old + distance + 1 < MEMORY_SIZE }
+    requires near { distance < 256 }
+    ensures { pc.new
+        ≡ (if condition
+        then byte_at (M.bytes memory.now) (pc.old + distance) + 256 * byte_at (M.bytes memory.now) (pc.old + (distance + 1))
+        else wrap (pc.old + (distance + 2))) }
+{
+    if condition {
+        *pc = word_after(*pc, distance, memory);
+    } else {
+        *pc = pc.wrapping_add(distance + 2);
+    }
+}
+
 /// RET and the conditional returns: goes on at the address on top of the stack, or after the instruction.
 #[inline(always)]
-pub fn return_if(condition: bool, pc: &mut u16, registers: &mut MachineRegisters, memory: &Memory)
-    ensures place { pc.new ≡ (if condition then word_at memory.now registers.old.sp else pc.old) }
+pub fn return_if<M: MachineMemory>(
+    condition: bool,
+    pc: &mut u16,
+    registers: &mut MachineRegisters,
+    memory: &M,
+)
+    ensures place { pc.new ≡ (if condition then word_at (M.bytes memory.now) registers.old.sp else pc.old) }
     ensures registers { registers.new
         ≡ (if condition
         then record registers.old { sp = wrap (registers.old.sp + 2) }
@@ -78,10 +102,15 @@ pub fn return_if(condition: bool, pc: &mut u16, registers: &mut MachineRegisters
 
 /// CALL and RST: puts the program counter on the stack, for the return, and goes on at an address.
 #[inline(always)]
-pub fn call(address: u16, pc: &mut u16, registers: &mut MachineRegisters, memory: &mut Memory)
+pub fn call<M: MachineMemory>(
+    address: u16,
+    pc: &mut u16,
+    registers: &mut MachineRegisters,
+    memory: &mut M,
+)
     ensures place { pc.new ≡ address }
     ensures registers { registers.new ≡ record registers.old { sp = two_less registers.old.sp } }
-    ensures memory { memory.new ≡ memory_pushed pc.old registers.old memory.old }
+    ensures memory { M.bytes memory.new ≡ memory_pushed pc.old registers.old (M.bytes memory.old) }
 {
     push(*pc, registers, memory);
     *pc = address;
@@ -89,16 +118,21 @@ pub fn call(address: u16, pc: &mut u16, registers: &mut MachineRegisters, memory
 
 /// CALL and the conditional calls: calls the address in the instruction, or goes on after the instruction.
 #[inline(always)]
-pub fn call_if(condition: bool, pc: &mut u16, registers: &mut MachineRegisters, memory: &mut Memory)
-    ensures place { pc.new ≡ (if condition then word_at memory.old pc.old else wrap (pc.old + 2)) }
+pub fn call_if<M: MachineMemory>(
+    condition: bool,
+    pc: &mut u16,
+    registers: &mut MachineRegisters,
+    memory: &mut M,
+)
+    ensures place { pc.new ≡ (if condition then word_at (M.bytes memory.old) pc.old else wrap (pc.old + 2)) }
     ensures registers { registers.new
         ≡ (if condition
         then record registers.old { sp = two_less registers.old.sp }
         else registers.old) }
-    ensures memory { memory.new
+    ensures memory { M.bytes memory.new
         ≡ (if condition
-        then memory_pushed (wrap (pc.old + 2)) registers.old memory.old
-        else memory.old) }
+        then memory_pushed (wrap (pc.old + 2)) registers.old (M.bytes memory.old)
+        else M.bytes memory.old) }
 {
     let address = fetch_word(pc, memory);
     if condition {
