@@ -3,7 +3,7 @@
 use crate::events::{print_events, word_of, word_of_step};
 use crate::faulty::FaultyPorts;
 use crate::page::Page;
-use cpu8080::Machine;
+use cpu8080::{DecodeTable, Machine};
 use isa8080::{Registers, decode};
 use mem80::{Memory, Memory80Fault};
 use ports::Script;
@@ -27,6 +27,18 @@ pub fn machine_with(
     let mut memory = Memory::new(alloc)?;
     put_bytes(&mut memory, start, bytes);
     Ok(Machine::new(memory, Script::new(alloc), start))
+}
+
+// The same machine, which knows what it decoded by a table.
+fn tabled_machine_with(
+    alloc: Global,
+    start: u16,
+    bytes: &[u8],
+) -> Result<Machine<Script>, Memory80Fault> {
+    let mut memory = Memory::new(alloc)?;
+    put_bytes(&mut memory, start, bytes);
+    let table = DecodeTable::new(alloc)?;
+    Ok(Machine::with_table(memory, Script::new(alloc), start, table))
 }
 
 // Prints words, and the registers that tell where a machine is.
@@ -85,6 +97,25 @@ fn print_last_address(page: &mut Page, machine: &mut Machine<Script>) {
     print_state(page, word_of_step(step), machine.registers());
 }
 
+// LHLD 120H; INX H; SHLD 130H; LXI H,103H; MVI M,2BH; JMP 100H: it makes the INX a DCX, in the middle of three instructions
+// that a table knows as one line.
+const CHANGES_A_LINE: [u8; 15] = [
+    0x2A, 0x20, 0x01, 0x23, 0x22, 0x30, 0x01, 0x21, 0x03, 0x01, 0x36, 0x2B, 0xC3, 0x00, 0x01,
+];
+
+// The same line, which goes on at the first address.
+const LINE_PAST_THE_END: [u8; 7] = [0x2A, 0x20, 0x01, 0x23, 0x22, 0x30, 0x01];
+
+// Prints where a machine is after seven steps, and after two more, and what a line stored.
+fn print_line(page: &mut Page, machine: &mut Machine<Script>) {
+    let end = machine.run(7);
+    print_state(page, word_of(end), machine.registers());
+    let end = machine.run(2);
+    print_state(page, word_of(end), machine.registers());
+    page.byte("0130: ", machine.memory().get(0x130));
+    page.text("\n");
+}
+
 // IN 1; MOV B,A; IN 1; MOV C,A; MOV A,B; SUB C; OUT 5; HLT.
 const READS_TWICE: [u8; 11] = [
     0xDB, 0x01, 0x47, 0xDB, 0x01, 0x4F, 0x78, 0x91, 0xD3, 0x05, 0x76,
@@ -135,6 +166,7 @@ enum Print {
     Changes,
     Parts,
     LastAddress,
+    Line,
     Code,
 }
 
@@ -144,16 +176,25 @@ fn print_machine(page: &mut Page, print: Print, machine: &mut Machine<Script>) {
         Print::Changes => print_changes(page, machine),
         Print::Parts => print_parts(page, machine),
         Print::LastAddress => print_last_address(page, machine),
+        Print::Line => print_line(page, machine),
         Print::Code => print_code(page, machine),
     }
 }
 
-// Prints what a machine does in its way that starts at an address, where these bytes stand.
-fn print_with(page: &mut Page, print: Print, start: u16, bytes: &[u8]) {
-    match machine_with(page.alloc(), start, bytes) {
+// Prints what a machine does that was made with ample memory.
+fn print_made(page: &mut Page, print: Print, made: Result<Machine<Script>, Memory80Fault>) {
+    match made {
         Ok(mut machine) => print_machine(page, print, &mut machine),
         Err(_) => page.note(false),
     }
+}
+
+// Prints what a machine does that starts at an address, where these bytes stand: one without a table, and one with.
+fn print_with(page: &mut Page, print: Print, start: u16, bytes: &[u8]) {
+    let plain = machine_with(page.alloc(), start, bytes);
+    print_made(page, print, plain);
+    let tabled = tabled_machine_with(page.alloc(), start, bytes);
+    print_made(page, print, tabled);
 }
 
 // Codes that are none of the 8080's stop the machine and change nothing.
@@ -170,6 +211,8 @@ pub fn print_runs(page: &mut Page) {
     print_with(page, Print::Changes, 0x100, &CHANGES_ITSELF);
     print_with(page, Print::Parts, 0x100, &CHANGES_ITSELF);
     print_with(page, Print::LastAddress, 0xFFFF, &FROM_THE_LAST);
+    print_with(page, Print::Line, 0x100, &CHANGES_A_LINE);
+    print_with(page, Print::Line, 0xFFFB, &LINE_PAST_THE_END);
     print_port_fault(page);
     print_undocumented(page);
 }

@@ -2,6 +2,7 @@
 
 ghost use Rattle.std.specs.Prelude.{◌≡◌, IfOk, OnErr};
 ghost use Rattle.meaning.specs.Run.{NeverOutside};
+ghost use Rattle.isa8080.specs.Step.{initial_state};
 ghost use Rattle.cpu8080.specs.Runs.{IsRun};
 ghost use Rattle.printing.specs.Printing.{BeginsRun, PrintsRun};
 ghost use Rattle.generation.specs.Agreement.{Agrees};
@@ -10,15 +11,37 @@ ghost use Rattle.tool.specs.Image.{machine_run};
 ghost use Rattle.tool.specs.Printed.{PrintsEnded};
 
 use crate::built::Built;
-use cpu8080::{End, Machine};
+use cpu8080::{DecodeTable, End, Machine};
 use failure::{Failure, WriteFault};
 use mem80::Memory;
 use ports::{Ports, Script};
 use printing::print_machine;
 use std::io::Write;
 
+// A machine at its start, with a table of what it decodes where one is given.
+fn machine_with<P: Ports>(
+    memory: Memory,
+    ports: P,
+    start: u16,
+    table: Option<DecodeTable>,
+) -> Machine<P>
+    ensures state { result.state ≡ initial_state memory (P.events ports) start }
+    ensures script { result.script ≡ P.script ports }
+    ensures failures { result.failures ≡ P.failures ports }
+{
+    match table {
+        Some(table) => Machine::with_table(memory, ports, start, table),
+        None => Machine::new(memory, ports, start),
+    }
+}
+
 // A machine at its start: with the image of a program loaded into a memory, and these ports.
-pub(crate) fn machine_of<P: Ports>(built: &Built, memory: Memory, ports: P) -> Machine<P>
+pub(crate) fn machine_of<P: Ports>(
+    built: &Built,
+    memory: Memory,
+    ports: P,
+    table: Option<DecodeTable>,
+) -> Machine<P>
     ensures started { result ≡
         started built.now.image memory (P.script ports) (P.events ports) (P.failures ports) }
     ensures agrees { let source = source_of built.now memory (P.script ports) (P.events ports) in
@@ -32,7 +55,27 @@ pub(crate) fn machine_of<P: Ports>(built: &Built, memory: Memory, ports: P) -> M
     ports.hold_bytes();
     let mut memory = memory;
     image.load(&mut memory);
-    Machine::new(memory, ports, image.start())
+    machine_with(memory, ports, image.start(), table)
+}
+
+// The same run, with a table of what the machine decodes where one is given.
+fn executed<P: Ports>(
+    built: &Built,
+    memory: Memory,
+    ports: P,
+    table: Option<DecodeTable>,
+    limit: u64,
+) -> (End, Machine<P>)
+    ensures run { IsRun limit
+        (started built.now.image memory (P.script ports) (P.events ports) (P.failures ports))
+        result.0 result.1 }
+    ensures script { result.1.script ≡ P.script ports }
+    ensures faithful { let source = source_of built.now memory (P.script ports) (P.events ports) in
+        NeverOutside source → IsFaithful source result.0 result.1 }
+{
+    let mut machine = machine_of(built, memory, ports, table);
+    let end = machine.run(limit);
+    (end, machine)
 }
 
 /// Loads the image of a program into a memory, and runs it on an 8080 with these ports for at most so many steps. Where
@@ -46,13 +89,29 @@ pub fn execute<P: Ports>(built: &Built, memory: Memory, ports: P, limit: u64) ->
     ensures faithful { let source = source_of built.now memory (P.script ports) (P.events ports) in
         NeverOutside source → IsFaithful source result.0 result.1 }
 {
-    let mut machine = machine_of(built, memory, ports);
-    let end = machine.run(limit);
-    (end, machine)
+    executed(built, memory, ports, None, limit)
 }
 
-/// Loads the image of a program into a memory, and runs it on an 8080 with this script for at most so many steps. It
-/// writes a line for each event, those of some steps at a time while it runs, and then the word that the run ends with.
+/// Runs the image of a program as `execute` does, on a machine that keeps what it decoded in a table and so runs faster.
+pub fn execute_with<P: Ports>(
+    built: &Built,
+    memory: Memory,
+    ports: P,
+    table: DecodeTable,
+    limit: u64,
+) -> (End, Machine<P>)
+    ensures run { IsRun limit
+        (started built.now.image memory (P.script ports) (P.events ports) (P.failures ports))
+        result.0 result.1 }
+    ensures script { result.1.script ≡ P.script ports }
+    ensures faithful { let source = source_of built.now memory (P.script ports) (P.events ports) in
+        NeverOutside source → IsFaithful source result.0 result.1 }
+{
+    executed(built, memory, ports, Some(table), limit)
+}
+
+/// Loads the image of a program into a memory, and runs it on an 8080 with this script and this table of what it decodes,
+/// for at most so many steps. It writes a line for each event, those of some steps at a time while it runs, and then the word that the run ends with.
 /// The answer is how the run ended, and the machine at its end: a port failed just where that machine has counted it.
 /// After a failure the writer has a beginning of that text. Where the program never goes outside, what is
 /// written of a machine that halted is just what a source that ended does.
@@ -60,6 +119,7 @@ pub fn print_run<W: Write>(
     built: &Built,
     memory: Memory,
     script: Script,
+    table: DecodeTable,
     limit: u64,
     out: &mut W,
 ) -> Result<(End, Machine<Script>), Failure<WriteFault>>
@@ -74,7 +134,7 @@ pub fn print_run<W: Write>(
         → IfOk result (λ ran. ran.0 ≡ End.Halted
         → PrintsEnded source (W.contents out.old) (W.contents out.new)) }
 {
-    let mut machine = machine_of(built, memory, script);
+    let mut machine = machine_of(built, memory, script, Some(table));
     let end = print_machine(&mut machine, limit, out)?;
     Ok((end, machine))
 }

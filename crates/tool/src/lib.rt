@@ -11,6 +11,6 @@ mod image;
 pub use building::build;
 pub use built::Built;
 pub use compiled::compile;
-pub use execution::{execute, print_run};
+pub use execution::{execute, execute_with, print_run};
 pub use fault::ToolFault;
 pub use sources::{MOST_SOURCES, Plan, ReadFault, Source};

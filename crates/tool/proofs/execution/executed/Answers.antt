@@ -1,6 +1,6 @@
 use Rattle.tool.proofs.Prelude.{◌≡◌, rules, IsOnlyHalt, IsRun, Halted, started}
 use Rattle.tool.proofs.ExecutionLemmas.{is_faithful}
-use Rattle.tool.proofs.execution.execute.Goals as goal
+use Rattle.tool.proofs.execution.executed.Goals as goal
 
 pub returns-clause-faithful : goal.returns-clause-faithful
 returns-clause-faithful g c =
