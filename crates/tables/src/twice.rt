@@ -4,6 +4,7 @@
 use crate::interpreting::{CALLS, word_of_end};
 use crate::objects::CALLING;
 use crate::page::Page;
+use cpu8080::DecodeTable;
 use failure::Failure;
 use link::{StreamFault, link_records};
 use mem80::Memory;
@@ -86,10 +87,13 @@ fn printed_of(alloc: Global, built: &Built) -> Result<Vec<u8>, Failure<ToolFault
     let Ok(memory) = Memory::new(alloc) else {
         return Err(Failure::Memory);
     };
+    let Ok(table) = DecodeTable::new(alloc) else {
+        return Err(Failure::Memory);
+    };
     let Ok(mut text) = Vec::with_capacity(alloc, ROOM) else {
         return Err(Failure::Memory);
     };
-    match print_run(built, memory, Script::new(alloc), LIMIT, &mut text) {
+    match print_run(built, memory, Script::new(alloc), table, LIMIT, &mut text) {
         Ok(_) => Ok(text),
         Err(_) => Err(Failure::Memory),
     }
