@@ -1,8 +1,8 @@
 //! Lines of events and of the end of a run, printed while a machine runs.
 #![tactic(auto)]
 
-mod report;
+mod lines;
 mod runs;
 
-pub use report::{report, write_line};
+pub use lines::{report, write_line};
 pub use runs::print_machine;

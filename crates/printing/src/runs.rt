@@ -10,7 +10,7 @@ ghost use Rattle.cpu8080.specs.Runs.{IsOnlyHalt, IsRun};
 ghost use Rattle.printing.specs.Printing.{BeginsRun, PrintsRun, end_word};
 ghost use Rattle.printing.specs.internal.Slices.{BeginsSlice};
 
-use crate::report::{write_events, write_line};
+use crate::lines::{write_events, write_line};
 use cpu8080::{End, Machine};
 use failure::{Failure, WriteFault};
 use ports::Script;

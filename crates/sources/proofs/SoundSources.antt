@@ -1,12 +1,14 @@
 -- Every module that a source text is is soundly typed, and so are those of a program.
-use Rattle.sources.proofs.Prelude.{ℕ, List, All-cons, All-nil, All-weaker, ListsGlobals, TypedModule, IsSourceOf, AreSourcesOf, IsSoundlyTyped}
+use Rattle.sources.proofs.Prelude.{ℕ, List, All-cons, All-nil, All-weaker, ListsGlobals, TypedModule, IsSourceOf, AreSourcesOf, HasTyping, IsSoundlyTyped}
 use Rattle.std.specs.Prelude.{[], ◌∷◌, All}
 use Rattle.typed_laws.proofs.Formed.{derived_is_soundly_typed}
 
+pub typed_text_is_soundly_typed : (text : List ℕ) (typed : TypedModule) → HasTyping text typed → IsSoundlyTyped typed
+typed_text_is_soundly_typed text typed has =
+    derived_is_soundly_typed has.read.output has.tree typed has.read.derived has.typing
+
 pub source_is_soundly_typed : (text : List ℕ) (typed : TypedModule) → IsSourceOf text typed → IsSoundlyTyped typed
-source_is_soundly_typed text typed source =
-    let read = source.typing.read in
-    derived_is_soundly_typed read.output source.typing.tree typed read.derived source.typing.typing
+source_is_soundly_typed text typed source = typed_text_is_soundly_typed text typed source.typing
 
 pub sources_are_soundly_typed : (texts : List (List ℕ)) (modules : List TypedModule) → AreSourcesOf texts modules
     → All IsSoundlyTyped modules

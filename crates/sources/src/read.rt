@@ -92,7 +92,7 @@ pub struct SourceModule {
 }
 
 /// The typed module that a text is, with its storage. It is soundly typed.
-#[tactic(auto, using(crate::proofs::ReadLemmas::is_source, crate::proofs::ReadLemmas::stored, crate::proofs::SoundSources::source_is_soundly_typed))]
+#[tactic(auto, using(crate::proofs::ReadLemmas::is_source, crate::proofs::ReadLemmas::stored))]
 pub fn read_source(alloc: Global, text: &[u8]) -> Result<SourceModule, Failure<ReadFault>>
     ensures source { IfOk result (λ read. IsSourceOf text.now (module_view read.typed)) }
     ensures sound { IfOk result (λ read. IsSoundlyTyped (module_view read.typed)) }

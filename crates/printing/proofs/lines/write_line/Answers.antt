@@ -1,6 +1,6 @@
 use Rattle.printing.proofs.Prelude.{on_err}
 use Rattle.printing.proofs.ReportLemmas.{first_begun, then_begun_result}
-use Rattle.printing.proofs.report.write_line.Goals as goal
+use Rattle.printing.proofs.lines.write_line.Goals as goal
 
 pub returns-in_err-write_bytes-clause-err : goal.returns-in_err-write_bytes-clause-err
 returns-in_err-write_bytes-clause-err g c =

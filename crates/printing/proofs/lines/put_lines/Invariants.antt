@@ -1,5 +1,5 @@
 use Rattle.printing.proofs.Prelude.{◌≡◌, ◌≤◌, ◌*◌, take, flat_map, line_of}
-use Rattle.printing.proofs.report.put_lines.Given as goal
+use Rattle.printing.proofs.lines.put_lines.Given as goal
 
 abbrev pub invariant-loop-event : goal.invariant-loop-event
 invariant-loop-event l = record {

@@ -1,5 +1,5 @@
 use Rattle.printing.proofs.Prelude.{length, take, ◌≤◌, ◌-◌, flat_map, Appends, line_of}
-use Rattle.printing.proofs.report.write_events.Given as goal
+use Rattle.printing.proofs.lines.write_events.Given as goal
 
 abbrev pub invariant-loop-at : goal.invariant-loop-at
 invariant-loop-at g l = record {

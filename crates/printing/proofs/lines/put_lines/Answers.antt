@@ -1,6 +1,6 @@
 use Rattle.printing.proofs.Prelude.{arith, common_steps}
 use Rattle.printing.proofs.ReportLemmas.{text_with_line}
-use Rattle.printing.proofs.report.put_lines.Goals as goal
+use Rattle.printing.proofs.lines.put_lines.Goals as goal
 
 pub loop-event-preserved : goal.loop-event-preserved
 loop-event-preserved c = record {

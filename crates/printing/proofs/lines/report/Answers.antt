@@ -1,6 +1,6 @@
 use Rattle.printing.proofs.Prelude.{on_err}
 use Rattle.printing.proofs.ReportLemmas.{begun_report, ended_report}
-use Rattle.printing.proofs.report.report.Goals as goal
+use Rattle.printing.proofs.lines.report.Goals as goal
 
 pub returns-in_err-write_events-clause-err : goal.returns-in_err-write_events-clause-err
 returns-in_err-write_events-clause-err g c =

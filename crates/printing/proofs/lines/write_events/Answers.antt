@@ -1,6 +1,6 @@
 use Rattle.printing.proofs.Prelude.{subst, arith, flat_map, Appends, Appends-trans, take, common_steps, line_of, beginning_after, on_err}
 use Rattle.printing.proofs.ReportLemmas.{all_written, lines_more, lines_parts}
-use Rattle.printing.proofs.report.write_events.Goals as goal
+use Rattle.printing.proofs.lines.write_events.Goals as goal
 
 pub returns-in_err-write_group-clause-err : goal.returns-in_err-write_group-clause-err
 returns-in_err-write_group-clause-err g c =
