@@ -93,7 +93,14 @@ fn printed_of(alloc: Global, built: &Built) -> Result<Vec<u8>, Failure<ToolFault
     let Ok(mut text) = Vec::with_capacity(alloc, ROOM) else {
         return Err(Failure::Memory);
     };
-    match print_run(built, memory, Script::new(alloc), table, LIMIT, &mut text) {
+    match print_run(
+        built,
+        memory,
+        Script::new(alloc),
+        Some(table),
+        LIMIT,
+        &mut text,
+    ) {
         Ok(_) => Ok(text),
         Err(_) => Err(Failure::Memory),
     }

@@ -92,7 +92,7 @@ pub fn execute<P: Ports>(built: &Built, memory: Memory, ports: P, limit: u64) ->
     executed(built, memory, ports, None, limit)
 }
 
-/// Runs the image of a program as `execute` does, on a machine that keeps what it decoded in a table and so runs faster.
+/// Runs the image of a program as `execute` does, on a machine that keeps what it decoded in a table.
 pub fn execute_with<P: Ports>(
     built: &Built,
     memory: Memory,
@@ -110,8 +110,8 @@ pub fn execute_with<P: Ports>(
     executed(built, memory, ports, Some(table), limit)
 }
 
-/// Loads the image of a program into a memory, and runs it on an 8080 with this script and this table of what it decodes,
-/// for at most so many steps. It writes a line for each event, those of some steps at a time while it runs, and then the word that the run ends with.
+/// Loads the image of a program into a memory, and runs it on an 8080 with this script, and with a table of what it decodes
+/// where one is given, for at most so many steps. It writes a line for each event, those of some steps at a time while it runs, and then the word that the run ends with.
 /// The answer is how the run ended, and the machine at its end: a port failed just where that machine has counted it.
 /// After a failure the writer has a beginning of that text. Where the program never goes outside, what is
 /// written of a machine that halted is just what a source that ended does.
@@ -119,7 +119,7 @@ pub fn print_run<W: Write>(
     built: &Built,
     memory: Memory,
     script: Script,
-    table: DecodeTable,
+    table: Option<DecodeTable>,
     limit: u64,
     out: &mut W,
 ) -> Result<(End, Machine<Script>), Failure<WriteFault>>
@@ -134,7 +134,7 @@ pub fn print_run<W: Write>(
         → IfOk result (λ ran. ran.0 ≡ End.Halted
         → PrintsEnded source (W.contents out.old) (W.contents out.new)) }
 {
-    let mut machine = machine_of(built, memory, script, Some(table));
+    let mut machine = machine_of(built, memory, script, table);
     let end = print_machine(&mut machine, limit, out)?;
     Ok((end, machine))
 }

@@ -15,7 +15,7 @@ use crate::programs::loading::script_of;
 use crate::programs::map::print_map;
 use crate::programs::refusals::refuse_sources;
 use command_line::{ProgramOrder, Settings};
-use cpu8080::{DecodeTable, End};
+use cpu8080::End;
 use failure::{Failure, WriteFault};
 use host::{Ending, refuse_memory, refuse_output};
 use mem80::Memory;
@@ -118,10 +118,7 @@ fn print_image<O: Write>(
     let Ok(script) = script_of(alloc, settings.input.as_slice()) else {
         return Err(Failure::Memory);
     };
-    let Ok(table) = DecodeTable::new(alloc) else {
-        return Err(Failure::Memory);
-    };
-    let (end, _machine) = print_run(built, memory, script, table, settings.limit, out)?;
+    let (end, _machine) = print_run(built, memory, script, None, settings.limit, out)?;
     Ok(end)
 }
 
