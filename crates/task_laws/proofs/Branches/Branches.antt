@@ -1,4 +1,4 @@
--- Code that jumps where a condition holds.
+-- Code that jumps on a condition.
 use Rattle.task_laws.proofs.Prelude.{◌≡◌, ℕ, ◌*◌, ◌%◌, ◌≤◌, ◌==◌, Bool, true, false, not, List, ◌++◌, refl, sym, ap, ◌∙◌, arith, height_of, TypedExpression, TypesHold, SourceState, Outcome, Gave, Stopped, then_do, is_true, truth, Condition, NotZero, NoCarry, rotate_right_of, Registers, ExpressionNumber, IsExpression, Facts, Does, at_place, Relation, Shown, Known, Where, branch_setting, by_bit_steps, outcome_branch_steps, relation_outcome, relation_steps, knowing, Context, IsSound, nodes_in, StepsStand, PartThere, PlainThere, Parts, PartDoes}
 use Rattle.isa8080.specs.declared.instr.Condition.TheVariants.{Zero, Carry}
 use Rattle.operands8080.specs.declared.answers.Purpose.TheVariants as purposes

@@ -1,4 +1,4 @@
--- The low byte of a value that has one part whose value counts: code on registers follows that of the part.
+-- The low byte of a value with one part that counts: code on registers follows that of the part.
 use Rattle.task_laws.proofs.Prelude.{◌≡◌, ℕ, zero, suc, ◌*◌, ◌/◌, ◌%◌, ◌<◌, ◌≤◌, Bool, true, false, List, [], ◌∷◌, replicate, refl, sym, ap, ◌∙◌, subst, arith, false≢true, height_of, type_of, TypedExpression, TypesHold, SourceState, Ended, More, Outside, Outcome, Gave, Stopped, then_do, values_of, Instr, Dcr, Inr, Of, A, Flags, decrement_of, increment_of, Registers, State, times, ExpressionNumber, IsExpression, Facts, Part, Step, part, plain, Arrives, Does, Lands, at_place, gives, is_free, Context, IsSound, SourceFits, nodes_in, StepsStand, PartThere, PlainThere, ByteIsGiven, Carries, ChangesAOnly, EffectsDo, Know, Nothing, PartDoes}
 use Rattle.steps8080.specs.declared.step.Task.TheVariants as tasks
 use Rattle.task_laws.proofs.Bytes.ByteForms.{byte_given}
@@ -49,7 +49,7 @@ changes_on one other = record {
   same_memory = one.same_memory;
 }
 
--- an instruction that changes A alone, so many times
+-- an instruction that changes only A, `count` times
 pub repeats_on_a :
     (i : Instr) (f : ℕ → ℕ) (count : ℕ) (r : Registers)
     → ((now : Registers) → ((does_to i now).a ≡ f now.a) × IsBeside now (does_to i now))

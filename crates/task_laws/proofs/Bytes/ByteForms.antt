@@ -1,4 +1,4 @@
--- The low byte of a value that has one part: conversions, LOW, DOUBLE, NOT and `-`.
+-- The low byte of a value with one part: conversions, LOW, DOUBLE, NOT and `-`.
 use Rattle.task_laws.proofs.Prelude.{◌≡◌, ℕ, ◌+◌, ◌-◌, ◌*◌, ◌%◌, ◌<◌, ◌≤◌, true, List, [], ◌∷◌, Option, None, refl, ap, ◌∙◌, arith, option_map_or, ScalarType, Byte, Address, Not, Negate, height_of, type_of, TypedExpression, TypesHold, SourceState, Gave, then_do, as_type, result_of_one, values_of, Cma, Inr, Of, A, increment_of, Registers, Expression, ExpressionNumber, Place, IsExpression, is_free_form, is_free_of, known_of, no_traits, traits_of, Facts, Plain, part, Arrives, Does, at_place, gives, is_free, Context, IsSound, nodes_in, StepsStand, PartThere, PlainThere, ByteIsGiven, Carries, ChangesAOnly, Nothing, PartDoes}
 use Rattle.steps8080.specs.declared.step.Task.TheVariants as tasks
 use Rattle.task_laws.proofs.Machine.Nodes.{NodeOf}

@@ -1,4 +1,4 @@
--- The low byte of a value that is known but for where things lie.
+-- The low byte of a value that is known as a number or a relocatable address.
 use Rattle.task_laws.proofs.Prelude.{◌≡◌, ℕ, ◌/◌, ◌%◌, ◌<◌, true, false, [], ◌∷◌, Option, Some, None, is_some, refl, sym, ap, ◌∙◌, subst, arith, false≢true, option_map_or, Byte, type_of, TypedExpression, TypesHold, values_of, A, L, Registers, LoadPair, Hl, Expression, ExpressionNumber, Place, Number, Code, Data, External, number_of_place, IsExpression, place_number, is_free_of, known_of, no_traits, traits_of, known_kept, place_at, Facts, Plain, Word, copy, low, is_free, known, known_byte_steps, knowing, byte_number_steps, Context, IsSound, nodes_in, StepsStand, WordThere, PartDoes}
 use Rattle.task_laws.proofs.Bytes.ByteCode.{ByteCarried, at_last_instructions, changes_on}
 use Rattle.task_laws.proofs.Bytes.ByteForms.{byte_given}

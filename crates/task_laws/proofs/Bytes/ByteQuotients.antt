@@ -1,4 +1,4 @@
--- The low byte of operators with one operand that is a number, by what they mean; quotients and remainders.
+-- The low byte of operators with one operand that is a number, by their meaning; quotients and remainders.
 use Rattle.task_laws.proofs.Prelude.{◌≡◌, ℕ, ◌+◌, ◌-◌, ◌/◌, ◌%◌, ◌^◌, ◌<◌, ◌≤◌, ◌==◌, true, false, List, [], ◌∷◌, ◌++◌, Option, Some, None, is_some, option_and_then, bit_and, refl, sym, ap, ◌∙◌, subst, arith, if◌then◌else◌, ne_eqb, and_mask, pow_pos, mod-le, none-some, same_Some, and_mod, ScalarType, BinaryOperator, height_of, type_of, type_of_result, BinaryNode, TypedExpression, TypesHold, computed, SourceState, Outcome, Gave, result_of, values_of, And, A, E, Registers, State, word, Event, ExpressionNumber, Number, IsExpression, Does, at_place, gives, Facts, Part, CallRoutine, Plain, copy, low, is_free, number_of, power, power_of_two, LeftInHl, pair_steps, number_of_two, quotient_byte_steps, remainder_byte_steps, with_number_steps, low_byte_shifted_right_steps, knowing, low_of_word_steps, Context, IsSound, nodes_in, StepsStand, NoneThere, PartDoes}
 use Rattle.trees.specs.declared.declaration.ScalarType.TheVariants as scalars
 use Rattle.trees.specs.declared.expression.BinaryOperator.TheVariants as operators

@@ -23,7 +23,7 @@ code_same code same = record {
   beside = code.beside;
 }
 
--- an instruction so many times
+-- an instruction `count` times
 pub repeated_code :
     (i : Instr) (f : ℕ → ℕ) (count : ℕ)
     → IsOnRegisters i
@@ -64,7 +64,7 @@ code_on {other = other} {g = g} first second small = record {
       (beside_on (first.beside r) (second.beside (effect first.instructions r)));
 }
 
--- A doubled so many times
+-- A doubled `count` times
 pub doubled_code : (count : ℕ) → count < 8 → CodeOfA (repeat_steps (with_register Add A) count) (λ x. (x * 2 ^ count) % 256)
 doubled_code count few =
     code_same (repeated_code (with_register Add A) shift_left count tt (λ now. (omega arith, beside_a _ _ now)))

@@ -1,4 +1,4 @@
--- The low byte of any value shifted to the right by a number.
+-- The low byte of any value shifted right by a number.
 use Rattle.task_laws.proofs.Prelude.{◌≡◌, ℕ, zero, suc, ◌+◌, ◌-◌, ◌*◌, ◌/◌, ◌%◌, ◌^◌, ◌<◌, ◌≤◌, ◌==◌, Bool, true, false, nat_le, List, [], ◌∷◌, ◌++◌, replicate, pow-add, refl, sym, ap, ◌∙◌, subst, arith, if◌then◌else◌, eqb-true, eqb-false, leb-true, leb-false, false≢true, div-div-eq-div-mul, div-eq_of_lt, pow-le-pow_right, ScalarType, type_of, TypedExpression, values_of, Instr, Dad, Rar, Or, Hl, A, H, L, bit, Registers, ExpressionNumber, Facts, Plain, clear_a, copy, with_register, part, plain, repeat_steps, is_free, fits_byte, byte_shifted_right_steps, low_byte_shifted_right_steps, middle_byte_steps, right_shift_steps, zero_steps, knowing, high_byte_steps, Context, IsSound, StepsStand, PartDoes}
 use Rattle.trees.specs.declared.declaration.ScalarType.TheVariants as scalars
 use Rattle.steps8080.specs.declared.step.Task.TheVariants as tasks

@@ -1,4 +1,4 @@
--- The low byte of a value that lies in memory.
+-- The low byte of a value in memory.
 use Rattle.task_laws.proofs.Prelude.{◌≡◌, ℕ, ◌*◌, ◌/◌, ◌%◌, ◌<◌, ◌≤◌, true, false, Option, Some, None, is_some, option_and_then, refl, sym, ap, ◌∙◌, subst, arith, false≢true, none-some, same_Some, option_map_or, ScalarType, Byte, Address, Low, High, Double, height_of, height_of_reference, type_of, FunctionNode, TypedExpression, TypedReference, ValueNode, RefersToScalar, TypesHold, TypesHoldInReference, read_scalar, SourceState, Outcome, Gave, then_do, as_type, values_of, Expression, ExpressionForm, ExpressionNumber, Home, Place, Reference, IndexNode, converted_place, function_of_place, known_distance, place_of_part, IsExpression, IsReference, IsForm, IsNumber, IsValue, IsLocation, IsConstantList, IsConversion, IsEmbedded, IsUnary, IsBinary, IsCallOf, IsFunction, IsShift, IsInput, home_at, byte_after, distance_of, free_at, is_free_form, known_at, known_of, memory_of_form, memory_of_inner, no_traits, place_of_reference, same_low_byte, traits_of, Arrives, Does, at_place, Facts, Base, Split, base_after, base_of, is_free, location_of, located_at, memory_of, number_of, reference_after, split, split_computed, byte_in_memory_steps, knowing, Context, IsSound, nodes_in, StepsStand, ByteIsGiven, PartDoes}
 use Rattle.treecode.specs.declared.expression.ExpressionForm.TheVariants as forms
 use Rattle.treecode.specs.declared.place.Home.TheVariants as homes

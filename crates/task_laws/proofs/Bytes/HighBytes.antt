@@ -1,4 +1,4 @@
--- The high byte of a value, into A.
+-- The high byte of a value is put into A.
 use Rattle.task_laws.proofs.Prelude.{◌≡◌, ℕ, ◌+◌, ◌*◌, ◌/◌, ◌%◌, ◌<◌, ◌≤◌, ◌&&◌, Bool, true, List, [], ◌∷◌, Option, Some, None, refl, sym, ap, ◌∙◌, subst, arith, MEMORY_SIZE, byte_at, byte_small, Address, height_of_reference, InData, InConstants, Placed, BasedOn, Elsewhere, Nowhere, InFrame, PartOf, TypedReference, RefersToScalar, TypesHoldInReference, InMemory, InTheFrame, SourcePlace, Surroundings, home_of, next_place, place_of, read_scalar, Displacement, based_place, displacement, SourceState, Ended, More, Outside, Outcome, Gave, Stopped, then_do, Registers, State, wrap, Location, Reference, IsReference, is_static_location, Activation, Arrives, HasRoom, Does, Lands, at_place, gives, told_on, IsSteady, location_at, Facts, Plain, load, part, location_of, reference_after, byte_in_memory_steps, location_byte_steps, knowing, Context, IsSound, distances_in, nodes_in, StepsStand, PartThere, AddressIsGiven, Carries, ChangesAOnly, IsReferred, Know, Nothing, PartDoes, address_on_machine}
 use Rattle.typed_trees.specs.TypedTrees.{Home}
 use Rattle.isa8080.specs.declared.instr.Register.TheVariants as registers

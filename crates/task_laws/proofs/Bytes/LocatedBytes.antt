@@ -1,4 +1,4 @@
--- The low byte of an expression that lies in memory: it lies at the place of the part of an object that the tree names.
+-- The low byte of an expression in memory: it is at the place of the part of an object that the tree names.
 use Rattle.task_laws.proofs.Prelude.{◌≡◌, ◌&&◌, ℕ, ◌+◌, ◌*◌, ◌/◌, ◌%◌, ◌<◌, ◌≤◌, ◌⊎◌, inl, inr, List, Option, Some, refl, sym, ap, subst, ◌∙◌, arith, option_and_then, option_map_or, MEMORY_SIZE, byte_at, ScalarType, Byte, Address, Low, High, Double, height_of, height_of_reference, type_of, BasedOn, ConversionNode, Elsewhere, FunctionNode, InConstants, InData, InFrame, Nowhere, PartOf, Placed, TypedExpression, TypedReference, ValueNode, RefersToScalar, TypesHold, TypesHoldInReference, InMemory, InTheFrame, Surroundings, home_of, next_place, place_in, place_of, read_scalar, Displacement, based_place, displacement, SourceState, Outcome, Gave, Stop, Stopped, then_do, as_type, values_of, Registers, State, Expression, ExpressionForm, ExpressionNumber, Reference, IsBinary, IsCallOf, IsConstantList, IsConversion, IsEmbedded, IsExpression, IsForm, IsFunction, IsInput, IsLocation, IsNumber, IsReference, IsShift, IsUnary, IsValue, Does, at_place, Arrives, IsReady, gives, IsSteady, Facts, GoesOutside, memory, reference_after, knowing, Context, IsSound, nodes_in, AddressIsGiven, IsReferred, address_on_machine}
 use Rattle.typed_trees.specs.TypedTrees.{Home}
 use Rattle.meaning.specs.Access.{Place}
@@ -336,7 +336,7 @@ module _ (context : Context) (sound : IsSound context) where
       by bound _ Address tree types same other told = absurd cc
       by bound _ Byte tree types same other told = absurd cc
 
-  -- a form that is none of these itself
+  -- a form other than these
   inner_lies : LiesBy (λ form. traits.memory_of_inner (nodes_in context) form)
   inner_lies bound _ _ reference (IsValue {scalar = scalar} {part = part} is) types told =
       subst (λ (given : Reference). ByteLies context given (ValueNode scalar part)) (same_some told) (value_lies scalar part is types)

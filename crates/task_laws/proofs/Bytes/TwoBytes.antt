@@ -1,4 +1,4 @@
--- The low byte of sums, differences, AND, OR and XOR of two values, neither of which is a number.
+-- The low byte of sums, differences, AND, OR and XOR of two values that are not numbers.
 use Rattle.task_laws.proofs.Prelude.{◌≡◌, ℕ, ◌+◌, ◌-◌, ◌*◌, ◌%◌, ◌<◌, Bool, true, false, ◌&&◌, List, [], ◌∷◌, ◌++◌, Option, Some, None, option_map, max, bit_and, bit_or, bit_xor, refl, sym, ◌∙◌, subst, arith, if◌then◌else◌, and_parts, false≢true, or_of_8, or_of_16, xor_of_8, xor_of_16, and_comm, and_le_l, and_mod, or_comm, or_mod, xor_comm, xor_mod, ScalarType, height_of, type_of, TypedExpression, TypesHold, SourceState, Gave, values_of, Operation, Add, AddWithCarry, Subtract, SubtractWithBorrow, And, ExclusiveOr, Or, Compare, Flags, operate, Registers, ExpressionNumber, Reference, IsExpression, Facts, Plain, copy, with_register, part, Pop, Push, A, B, Psw, StackBc, Arrives, Does, at_place, Site, is_free, may_exchange, is_byte_in_register, operand_in_memory, in_order, ByteForm, RightInMemory, LeftInMemory, LeftFree, RightFree, Pushed, Operands, commutes, form_after_right, form_from_register, form_of, form_with_left, form_without_memory, in_form_steps, with_e_steps, with_memory_steps, with_stack_steps, knowing, Context, IsSound, nodes_in, StepsStand, ByteIsGiven, Carries, Nothing, PartDoes}
 use Rattle.trees.specs.declared.declaration.ScalarType.TheVariants as scalars
 use Rattle.steps8080.specs.declared.step.Task.TheVariants as tasks
@@ -285,7 +285,7 @@ module _
           stands (omega (arith, whole)) (omega (arith, whole)) stage
           (λ v w u now memory_now value other_value is final. operated_end v w value other_value (straight v w now other_value is) final)
 
-  -- an operation with two operands, neither of which is a number
+  -- an operation with two operands that are not numbers
   pub two_bytes :
       StepsStand context (PartDoes context) facts from
       (in_form_steps (form_of (knowing context.site facts) operation (of_both left right)) operation (of_both left right) pushed) last to

@@ -1,4 +1,4 @@
--- Whether an ADDRESS is 0 is shown by the steps that ask it.
+-- The steps that test whether an ADDRESS is 0 show it.
 use Rattle.task_laws.proofs.Prelude.{◌≡◌, ℕ, ◌*◌, ◌%◌, ◌==◌, Bool, true, false, ◌||◌, nat_lt, bit_and, ◌++◌, Option, Some, None, refl, sym, ap, ◌∙◌, subst, arith, if◌then◌else◌, none-some, same_Some, and_comm, height_of, TypedExpression, TypesHold, SourceState, Outcome, Gave, Stopped, then_do, ExpressionNumber, IsExpression, Facts, part, Is, Setting, number_in_a_steps, masked_steps, zero_by_hl_steps, knowing, Context, IsSound, nodes_in, StepsStand, Carries, Nothing, PartDoes, BinaryNode, Expression, ExpressionForm, IsForm, IsNumber, IsValue, IsLocation, IsConstantList, IsConversion, IsEmbedded, IsUnary, IsBinary, IsCallOf, IsFunction, IsShift, IsInput, number, masked, masked_form, word_is_zero_steps}
 use Rattle.trees.specs.declared.declaration.ScalarType.TheVariants as scalars
 use Rattle.task_laws.proofs.Bytes.BytesAsked.{HighBytesGiven, ZeroIsShown}

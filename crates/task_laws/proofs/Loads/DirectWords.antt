@@ -1,4 +1,4 @@
--- Operations of a word in memory, at a known place, and the word in HL.
+-- Operations on a word in memory, at a known place, and the word in HL.
 use Rattle.task_laws.proofs.Prelude.{◌≡◌, ℕ, ◌+◌, ◌-◌, ◌/◌, ◌%◌, ◌<◌, Bool, true, false, List, [], ◌∷◌, Option, Some, None, if◌then◌else◌, refl, sym, ◌∙◌, subst, arith, byte_at, ScalarType, Address, height_of, type_of, SourceState, Gave, values_of, Operation, Subtract, SubtractWithBorrow, A, H, L, Registers, ExpressionNumber, Place, place_after, keeps_none, Does, at_place, Arrives, IsSteady, place_at, Facts, Plain, Word, LoadA, copy, with_register, Site, keeps, may_exchange, direct_word, RightInHl, Operands, knowing, left_word, with_word_steps, Context, IsSound, StepsStand, PartThere, WordThere, PartDoes, WordIsGiven}
 use Rattle.task_laws.proofs.Bytes.BytesAsked.{WordAtPlace, WordsAtPlaces}
 use Rattle.task_laws.proofs.Words.PairedWords.{Makes, byte_instructions, difference_makes, kept_none}

@@ -1,4 +1,4 @@
--- Steps that touch registers alone, one after another.
+-- Steps that change only registers, one after another.
 use Rattle.task_laws.proofs.Prelude.{◌≡◌, ℕ, ◌+◌, ◌*◌, ◌/◌, ◌%◌, ◌<◌, ◌≤◌, Bool, true, false, List, [], ◌∷◌, ◌++◌, bit_and, refl, sym, ap, ◌∙◌, arith, subst, and_le_l, or_of_8, xor_of_8, IsMemory, byte_at, byte_small, Event, SourceState, Outcome, Instr, Accumulate, AccumulateImmediate, Cma, Dad, Dcx, Inx, Lxi, Mov, Mvi, Rar, Rlc, Rrc, Ral, Xchg, Of, Operation, Add, AddWithCarry, Subtract, SubtractWithBorrow, And, ExclusiveOr, Or, Compare, Bc, De, Hl, Register, A, B, C, D, E, H, L, Flags, bit, HoldBytes, Registers, State, register_of, wrap, operate, act, running, InstructionStands, size_of_instruction, Does, at_place, plain_first, stands_now, Asks, FactsHold, facts_after, Facts, Part, Step, after, plain, Context, IsSound, distances_in, StepsStand, PlainThere, Know}
 use Rattle.isa8080.specs.State.{with_register}
 use Rattle.asm8080.specs.declared.item.Item.TheVariants as items

@@ -1,4 +1,4 @@
--- The rules by which code of steps is followed: what the machine does that comes to a step.
+-- The rules for following the code of steps: the run of a machine at a step.
 use Rattle.task_laws.proofs.Prelude.{◌≡◌, ℕ, ◌+◌, ◌-◌, ◌%◌, ◌<◌, ◌≤◌, Bool, true, false, if◌then◌else◌, List, [], ◌∷◌, ◌++◌, ◌==◌, bit_or, refl, sym, ap, subst, ◌∙◌, arith, MEMORY_SIZE, Event, SourceState, Outcome, Instr, Pop, Push, StackPair, StackBc, StackDe, StackHl, Psw, HoldBytes, Registers, State, pushed_of, with_popped, wrap, Or, operate, act, flag_byte_small, WordForm, instruction_with, AgreesIn, size_of_instruction, pushed, pop_does, push_does, Place, Does, at_place, Activation, HasRoom, IsReady, IsThere, LiesWell, plain_first, word_first, ready_after_pop, ready_after_push, still_pushed, Asks, WordAsks, or_self, after_test, test_items, test_of_a, ZeroHolds, place_at, facts_after, facts_after_word, with_facts_hold, without_memory_holds, push_asks, Facts, Part, Step, after, after_word, with_facts, without_memory, word_item, Context, IsSound, distances_in, StepsStand, NoneThere, PlainThere, WordThere, JumpThere, MarkThere, RoutineThere, CallThere, TestThere, HoldsThere, ChangeThere, PartThere, Know}
 use Rattle.asm8080.specs.declared.item.Item.TheVariants as items
 use Rattle.steps8080.specs.declared.step.Step.TheVariants as steps

@@ -1,4 +1,4 @@
--- What the code asks of nodes, in the words of trees.
+-- The queries of code about nodes, in terms of trees.
 use Rattle.task_laws.proofs.Prelude.{◌≡◌, ℕ, ◌&&◌, ◌||◌, true, false, Option, Some, None, is_some, slice_get, refl, sym, ap, ◌∙◌, List, length, subst, option_map_or, TypedModule, TypedExpression, NumberNode, ValueNode, LocationNode, ListNode, ConversionNode, AssignmentNode, UnaryNode, BinaryNode, CallNode, FunctionNode, ShiftNode, InputNode, TypedReference, PartOf, Subscript, NoSubscript, At, TypesHold, TypesHoldInReference, TypesHoldInSubscript, Within, value, SourceState, Ended, More, Outside, Outcome, Gave, Stopped, State, Expression, ExpressionNumber, Place, Number, Code, Data, External, known_number, IsExpression, nodes_of, place_number, HaveOperands, PartHasOperands, SubscriptHasOperands, free_at, known_at, no_traits, number_at, quiet_at, storing_nothing_at, known_kept, AreAlike, AreSame, BothOutside, GoesOutside, IsQuiet, exchanged, in_order, quiet_kept, known_gives, operands_exchanged, quiet_value, Does, place_at, Site, expression, is_free, is_quiet, known, may_exchange, number, stores_nothing, Facts, knowing, Context, IsSound, nodes_in}
 use Rattle.treecode_laws.specs.internal.Evaluations as evaluations
 use Rattle.task_laws.proofs.Machine.Stages.{does_same}

@@ -1,4 +1,4 @@
--- A machine within the code of a body, and what it does that comes to a step.
+-- A machine within the code of a body, and its run at a step.
 use Rattle.task_laws.proofs.Prelude.{◌≡◌, ℕ, ◌+◌, ◌-◌, ◌*◌, ◌%◌, ◌<◌, ◌≤◌, Bool, true, false, List, [], ◌∷◌, ◌++◌, refl, sym, ap, ◌∙◌, subst, arith, MEMORY_SIZE, byte_at, byte_small, height_of, type_of, TypedExpression, TypesHold, value, SourceState, Ended, More, Outside, Outcome, Gave, Stopped, then_do, Instr, Pop, Push, StackPair, StackBc, StackDe, StackHl, Psw, Flags, act, bit, flag_byte, HoldBytes, Registers, State, pushed_of, with_popped, wrap, size_of_instruction, pushed_word, pop_does, push_does, ExpressionNumber, IsExpression, Facts, Part, Step, after, after_word, plain, word_item, LoadA, Place, Activation, HasRoom, IsReady, IsThere, Does, Lands, at_place, plain_first, then_does, told_on, ready_after_pop, ready_after_push, still_pushed, Asks, FactsHold, IsSteady, place_at, facts_after, push_asks, Context, IsSound, distances_in, nodes_in, StepsStand, NoneThere, ByteDoes, ByteIsGiven, Carries, EffectsDo, Know, EffectsAreGiven, WordDoes, WordIsGiven}
 use Rattle.asm8080.specs.declared.item.Item.TheVariants as items
 use Rattle.task_laws.proofs.Machine.RegisterCode.{AreOnRegisters, effect, registers_then}
@@ -8,7 +8,7 @@ use Rattle.task_laws.proofs.Machine.Rules.{ready_with_registers, word_goes}
 abbrev pub script_of : Context → List (List ℕ)
 script_of context = context.activation.around.program.script
 
--- a machine may go on, of which this is known
+-- a machine may continue, with these facts
 pub record Stage
     (context : Context) (top pushed need : ℕ) (base : List ℕ) (t : SourceState) (facts : Facts)
     (r : Registers) (memory : List ℕ) : Type 0 where
@@ -439,7 +439,7 @@ at_word {context = context} {found_facts = found_facts} {r = r} {memory = memory
     at_carried from middle found_facts (does bound tree node types) fewer tt
     (λ found now memory_now (given : WordIsGiven context found_facts number (type_of tree) r memory found now memory_now). given.known) stage rest
 
--- what a part does, of which nothing is used
+-- a part with a value that is not used
 pub at_effects :
     {B : Type 0} {context : Context} {top pushed need : ℕ} {base : List ℕ} {t : SourceState} {facts found_facts : Facts}
     {r : Registers} {memory : List ℕ} {more : ℕ} {bound : ℕ}

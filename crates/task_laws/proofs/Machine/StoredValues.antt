@@ -1,4 +1,4 @@
--- A value in its register, and one that is stored where it is evaluated.
+-- A value in its register, and a value that is stored while it is evaluated.
 use Rattle.task_laws.proofs.Prelude.{◌≡◌, ℕ, ◌+◌, ◌*◌, ◌%◌, ◌<◌, ◌≤◌, Bool, true, List, sym, subst, ◌∙◌, arith, ScalarType, Byte, Address, height_of, height_of_target, type_of, TypedExpression, TypedTarget, AssignmentNode, TypesHold, TypesHoldInTarget, stored, value, SourceState, Ended, More, Outside, Outcome, Gave, Stopped, then_do, values_of, Registers, State, ExpressionNumber, Target, IsExpression, IsTarget, IsStored, IsSent, source, Facts, Does, Lands, at_place, embedded_steps, value_task, Context, InRegister, nodes_in, NoneThere, PartThere, StepsStand, ByteIsGiven, Carries, WasStored, PartDoes, StoreDoes, TaskDoes, WordIsGiven}
 use Rattle.task_laws.proofs.Machine.Stages.{Stage, at_byte, at_carried, at_word, does_same, script_of}
 use Rattle.task_laws.proofs.Machine.Effects.{then_again}

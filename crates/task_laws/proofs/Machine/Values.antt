@@ -1,4 +1,4 @@
--- Parts of code that give values: what follows them is done with the value in its register.
+-- Parts of code that give values: the code after them uses the value in its register.
 use Rattle.task_laws.proofs.Prelude.{◌≡◌, ℕ, ◌*◌, ◌/◌, ◌%◌, ◌<◌, ◌≤◌, List, [], ◌∷◌, refl, sym, subst, arith, ScalarType, height_of, type_of, TypedExpression, TypesHold, value, SourceState, Ended, More, Outside, Outcome, Gave, Stopped, then_do, values_of, Registers, State, ExpressionNumber, IsExpression, Does, Lands, at_place, Arrives, HasRoom, IsReady, gives, told_on, Facts, Part, Step, keeps, Context, nodes_in, StepsStand, NoneThere, PartThere, PartDoes, ByteDoes, ByteIsGiven, EffectsDo, Left, EffectsAreGiven, WordDoes, WordIsGiven}
 use Rattle.steps8080.specs.declared.step.Step.TheVariants as steps
 use Rattle.task_laws.proofs.Machine.Rules.{GoesOn, room_for}

@@ -1,4 +1,4 @@
--- The code that has the address of a base: without computed subscripts, or with their sum in HL.
+-- The code for the address of a base: without computed subscripts, or with their sum in HL.
 use Rattle.task_laws.proofs.Prelude.{◌≡◌, ℕ, ◌+◌, ◌*◌, ◌<◌, Bool, true, false, List, [], ◌∷◌, ◌++◌, refl, sym, ap, subst, ◌∙◌, arith, byte_at, SourcePlace, InMemory, InTheFrame, home_of, place_of, based_place, SourceState, Outcome, Gave, Dad, Lxi, Xchg, Bc, De, Sp, Registers, State, high_byte, low_byte, word, wrap, Number, is_static_location, Does, at_place, Activation, HasRoom, location_at, place_at, no_facts_hold, Facts, Part, Plain, no_facts, Base, distance, addition_steps, base_added_steps, base_steps, location_word_steps, knowing, Context, IsSound, distances_in, StepsStand, Know, Left, address_on_machine}
 use Rattle.treecode.specs.declared.place.Location.TheVariants as locations
 use Rattle.steps8080.specs.declared.sites.queries.Base.TheVariants as bases

@@ -1,4 +1,4 @@
--- The code of the word at a location, which comes into HL.
+-- The code that puts the word at a location into HL.
 use Rattle.task_laws.proofs.Prelude.{◌≡◌, ℕ, zero, suc, ◌+◌, ◌*◌, ◌<◌, ◌==◌, Bool, true, false, if◌then◌else◌, List, [], ◌∷◌, ◌++◌, Some, slice_set, slice_index, refl, sym, ap, subst, ◌∙◌, arith, eqb-true, MEMORY_SIZE, IsMemory, byte_at, word_at, byte_small, Event, SourceState, Outcome, Mov, Pop, Push, Of, A, L, StackPair, StackBc, StackHl, Registers, State, high_byte, low_byte, one_less, pushed_of, two_less, word, wrap, act, LoadHl, Place, Location, is_static_location, Does, at_place, HasRoom, plain_first, IsSteady, location_at, place_at, without_hl_holds, address_asks, word_in_hl_is, Facts, Part, Step, Word, is_at, no_facts, plain, distance, frame_word_steps, hold_word_steps, location_address_steps, location_word_steps, word_at_hl_steps, knowing, Context, IsSound, distances_in, StepsStand, NoneThere, PlainThere, WordThere, HoldsThere, Know}
 use Rattle.treecode.specs.declared.place.Location.TheVariants as locations
 use Rattle.task_laws.proofs.Machine.Rules.{GoesOn, holds_go, pushed_anywhere, ready_with_registers, registers_go, split, word_goes}

@@ -1,5 +1,5 @@
--- Subscripts as tree code takes them apart: what is computed, and how many bytes are known, are the source's
--- displacement modulo the size of memory.
+-- Subscripts as tree code splits them: the computed part plus the known bytes is the source's displacement,
+-- modulo the size of memory.
 use Rattle.task_laws.proofs.Prelude.{◌≡◌, ℕ, ◌+◌, ◌-◌, ◌*◌, ◌%◌, ◌<◌, ◌≤◌, true, Option, Some, None, is_some, slice_get, max, if◌then◌else◌, refl, sym, ap, ◌∙◌, subst, arith, mul_comm, unwrap_or, mul-add, mul-mod_second, option_and_then, option_map_or, ScalarType, Address, BinaryOperator, height_of, height_of_subscript, type_of, TypedExpression, BinaryNode, Subscript, At, TypesHold, TypesHoldInSubscript, Displacement, computed, displaced, displacement, no_displacement, value, Outcome, Gave, Stopped, then_do, result_of, values_of, Expression, ExpressionForm, ExpressionNumber, Place, Number, Code, Data, External, IndexNode, Keeps, Traits, IsExpression, IsForm, IsBinary, IsSubscript, IsAbsent, IsIndex, known_number, result_of_known, none_kept, place_number, keeps_at, keeps_none, keeps_of, keeps_of_index, keeps_of_subscript, known_of, known_at, no_traits, number_at, traits_at, traits_of, wrap, Facts, keeps, known, number, split, split_computed, split_form, split_sum, split_whole, expression, knowing, Context, IsSound, nodes_in}
 use Rattle.trees.specs.declared.expression.BinaryOperator.TheVariants as operators
 use Rattle.meaning.specs.Outcomes.{State}
@@ -14,8 +14,7 @@ pub record KeepsLess (one other : Keeps) : Type 0 where
   pub a : one.a ≡ true → other.a ≡ true
   pub de : one.de ≡ true → other.de ≡ true
 
--- A subscript that is taken apart: all of it is known; or it is computed, by the code of an expression of which it is
--- a function.
+-- A split subscript: all of it is known, or it is a function of the value of an expression that is computed.
 pub data IsSplit (context : Context) (given : Option IndexNode) (subscript : Subscript) :
     (computed : Option IndexNode) → (offset : ℕ) → Type 0 where
   AllKnown : {offset : ℕ} (shift : Displacement)

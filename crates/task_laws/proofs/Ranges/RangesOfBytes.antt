@@ -1,4 +1,5 @@
--- What is read and written has its type: bytes of a state of the source, places, operators and functions.
+-- Values that are read and written have their types: bytes of a state of the source, places, operators and
+-- functions.
 use Rattle.task_laws.proofs.Prelude.{◌≡◌, ◌≢◌, ◌⊎◌, inl, inr, ℕ, ◌+◌, ◌*◌, ◌/◌, ◌%◌, ◌<◌, ◌≤◌, Bool, true, false, List, [], length, All, option_map, Option, Some, None, slice_get, slice_index_or, slice_set, if◌then◌else◌, refl, subst, arith, option_map_or, All-get_or, All-nil, All-set, get_or_past, length-set, cases_lt, cases_eq, MEMORY_SIZE, byte_at, input_value, queue_of, reads_of, IsScript, ScalarType, Byte, Address, UnaryFunction, Low, High, Double, type_of_function, type_of_target, InData, InConstants, Placed, BasedOn, Elsewhere, Nowhere, InFrame, TypedModule, TypedTarget, StoredIn, SentTo, TypesHoldInTarget, Within, Reason, Constant, InMemory, InTheFrame, Surroundings, frame_bytes, is_constant, is_declared, next_place, place_of, read_byte, read_scalar, write_byte, write_scalar, address_in_memory, address_of_list, based_place, computed, Outside, Outcome, Gave, Stop, Stopped, then_do, as_type, function_of, values_of, Number, ModulePlacement, Event, byte_kept, byte_put, SourceFits}
 use Rattle.typed_trees.specs.TypedTrees.{Home}
 use Rattle.meaning.specs.{Access.{Place}, Outcomes.{State}}

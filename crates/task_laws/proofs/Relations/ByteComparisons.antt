@@ -201,7 +201,7 @@ shows_with_right Equal setting v w now asks one two is = by setting.purpose is
     by Branch made = compared_equal w v now two one made ∙ same_turned v w
     by Value made = subtracted_equal w v now two one made ∙ same_turned v w
 
--- what goes on after two values were compared
+-- the rest of the code after two values were compared
 abbrev pub GoesOnCompared :
     {C : Type 0} → Context → (first second : TypedExpression) → (left right : ExpressionNumber) → Question → Setting → (top pushed need : ℕ)
     → (base : List ℕ) → Facts → (place more : ℕ) → (go : ℕ → ℕ → SourceState → Outcome C)

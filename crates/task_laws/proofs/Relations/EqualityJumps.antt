@@ -1,4 +1,4 @@
--- Jumps where two ADDRESSes are equal, or where they are not.
+-- Jumps if two ADDRESSes are equal, or if they are not.
 use Rattle.task_laws.proofs.Prelude.{◌≡◌, ℕ, ◌+◌, ◌/◌, ◌%◌, ◌<◌, ◌==◌, Bool, true, false, not, List, [], ◌∷◌, ◌++◌, None, refl, sym, ap, ◌∙◌, subst, arith, if◌then◌else◌, eqb-true, eqb-false, eq-eqb, ne_eqb, byte_at, TypedExpression, SourceState, Outcome, Gave, is_true, Condition, NotZero, subtract_of, Registers, State, holds, AtLabel, Place, place_after, Facts, LabelNumber, Part, Step, Jump, Mark, label_of, jump_item, IsThere, Does, at_place, jump_passed, jump_taken, word_step, gives, IsSteady, place_at, Words, PlaceAndHl, DeAndHl, high_difference_steps, low_difference_steps, Context, IsSound, StepsStand, JumpThere, NoneThere, PlainThere, WordThere, Know, Parts, Goes, Passes, PartDoes}
 use Rattle.isa8080.specs.declared.instr.Condition.TheVariants.{Zero}
 use Rattle.asm8080.specs.declared.item.WordForm.TheVariants as forms

@@ -177,7 +177,7 @@ module _
           at_end ends stage
           (λ final. rest r (ne_eqb v n (λ same. omega (arith, small, ltb-false n 256 two, same))) final)
 
--- what goes on after a value was compared with a number
+-- the rest of the code after a value was compared with a number
 abbrev pub GoesOnAsked :
     {C : Type 0} → Context → (tree : TypedExpression) → (operand : ExpressionNumber) → Purpose → Answer
     → (truth : ℕ → Bool) → (top pushed need : ℕ)

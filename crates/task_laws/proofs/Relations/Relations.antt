@@ -1,4 +1,4 @@
--- Relations: what their code leaves shows whether they hold.
+-- Relations: the result of their code shows whether they hold.
 use Rattle.task_laws.proofs.Prelude.{◌≡◌, ℕ, ◌+◌, ◌*◌, ◌<◌, ◌≤◌, ◌==◌, Bool, true, false, not, ◌&&◌, nat_le, min, max, List, Option, Some, None, option_map, refl, sym, ap, ◌∙◌, subst, arith, if◌then◌else◌, option_and_then, and_parts, none-some, same_Some, ScalarType, BinaryOperator, height_of, type_of, TypedExpression, BinaryNode, TypesHold, computed, SourceState, Outcome, Gave, Stopped, then_do, result_of, truth, values_of, Registers, State, Expression, ExpressionForm, ExpressionNumber, IsExpression, IsForm, IsNumber, IsValue, IsLocation, IsConstantList, IsConversion, IsEmbedded, IsUnary, IsBinary, IsCallOf, IsFunction, IsShift, IsInput, Facts, Does, at_place, Between, NumberQuestion, Never, Below, Question, LeftBelow, RightBelow, Equal, Relation, Site, number, agree, greatest, mirrored, number_question, question_of, relation_between, relation_of, relation_of_form, relation_with_number, fits_byte, Answer, Purpose, Branch, Value, Setting, Shown, Known, Where, Apart, answer_to, byte_relation_steps, comparison_steps, number_answer, number_steps, relation_outcome, relation_steps, operand_apart, with_pair_steps, with_place_steps, evaluated_in_order, knowing, Context, IsSound, nodes_in, StepsStand, PartDoes}
 use Rattle.trees.specs.declared.declaration.ScalarType.TheVariants as scalars
 use Rattle.isa8080.specs.declared.instr.Condition.TheVariants as conditions
@@ -113,7 +113,7 @@ bounded RightBelow n scalar small = by (nat_le (greatest scalar) n)
     by true = tt
     by false = omega arith
 
--- what goes on after a relation
+-- the rest of the code after a relation
 abbrev pub GoesOnRelated :
     {C : Type 0} → Context → Purpose → Shown → (top pushed need : ℕ) → (base : List ℕ) → Facts → (place more : ℕ)
     → (go : ℕ → SourceState → Outcome C) → (Good : C → SourceState → State → Type 0) → Type 0

@@ -89,7 +89,7 @@ pair_is_less {r = r} v w RightInHl Equal purpose sound small other_small lies st
     let shows = word_equal w v r.h r.l r.d r.e lies.0 lies.1 lies.2 lies.3 other_small small ∙ same_turned v w in
     rest _ (zero_for purpose (v == w) _ shows shows) final))
 
--- what goes on after two values were compared
+-- the rest of the code after two values were compared
 abbrev pub GoesOnBoth :
     {C : Type 0} → Context → Question → Purpose → (top pushed need : ℕ) → (base : List ℕ) → Facts → (place more : ℕ)
     → (go : ℕ → ℕ → SourceState → Outcome C) → (Good : C → SourceState → State → Type 0) → Type 0

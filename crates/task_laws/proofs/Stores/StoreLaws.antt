@@ -122,7 +122,7 @@ module _
         holds = record { known = on.known; wanted = wanted };
       })
 
-  -- and it is known that A or HL holds what lies there
+  -- A or HL is known to hold the value at the location
   byte_here_ends :
       {top middle : ℕ} {base : List ℕ} {found : Facts} (of : ScalarType) (r : Registers) (memory : List ℕ)
       (place : SourcePlace)

@@ -1,4 +1,5 @@
--- Rules of stores at addresses that are computed: the address comes into HL beside the value, and then bytes are stored.
+-- Rules of stores at computed addresses: the address is put into HL beside the value, and then bytes are
+-- stored.
 use Rattle.task_laws.proofs.Prelude.{◌≡◌, ◌≢◌, ℕ, ◌+◌, ◌-◌, ◌*◌, ◌/◌, ◌%◌, ◌<◌, ◌≤◌, Bool, true, false, if◌then◌else◌, List, [], ◌∷◌, ◌++◌, length, Option, Some, None, slice_set, refl, sym, ap, subst, ◌∙◌, arith, length-set, MEMORY_SIZE, byte_at, Event, ScalarType, Address, height_of_reference, TypedReference, TypesHoldInReference, SourcePlace, next_place, write_byte, write_scalar, SourceState, Outcome, Gave, then_do, Instr, Inx, Pop, Push, Xchg, Hl, Psw, StackDe, StackHl, act, flag_byte, flags_in, flag_byte_small, Registers, State, high_byte, low_byte, pushed_of, word, wrap, StoreHl, size_of_instruction, pushed_memory, byte_kept, byte_put, Location, Place, Reference, IsReference, Does, at_place, Activation, HasRoom, IsReady, Asks, IsSteadyByte, IsSteady, location_at, place_at, Facts, Step, Plain, Word, after, no_facts, part, keeps_of_address, location_of, address_beside_a_steps, address_beside_de_steps, goal_of, knowing, Context, IsSound, distances_in, nodes_in, PartThere, PlainThere, StepsStand, WordThere, IsReferred, Know, PartDoes, address_on_machine}
 use Rattle.steps8080.specs.declared.step.Task.TheVariants as tasks
 use Rattle.task_laws.proofs.Loads.Loads.{lies_there}

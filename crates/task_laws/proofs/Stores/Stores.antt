@@ -1,4 +1,4 @@
--- Steps of stores: one of them is to spare.
+-- Steps of stores: they have one step to spare.
 use Rattle.task_laws.proofs.Prelude.{◌≡◌, ℕ, suc, ◌+◌, List, [], ◌∷◌, refl, subst, ◌∙◌, arith, SourceState, Ended, More, Outside, Outcome, Gave, Stopped, Instr, Registers, State, wrap, act, step_of, size_of_instruction, step_then, Reference, Does, Lands, at_place, IsThere, after_step, plain_step, Asks, facts_after, Facts, after, keeps_of_address, knowing, Context, IsSound, distances_in, Know}
 use Rattle.asm8080.specs.declared.item.Item.TheVariants as items
 use Rattle.task_laws.proofs.Machine.Rules.{GoesOn, bytes_at_place}

@@ -1,4 +1,4 @@
--- AND of an ADDRESS and a number in HL, of which a byte may be 0.
+-- AND of an ADDRESS and a number in HL; a byte of the number may be 0.
 use Rattle.task_laws.proofs.Prelude.{◌≡◌, ℕ, ◌*◌, ◌/◌, ◌%◌, ◌<◌, ◌≤◌, ◌==◌, nat_lt, Bool, true, false, if◌then◌else◌, List, [], ◌∷◌, ◌++◌, bit_and, refl, sym, ap, ◌∙◌, subst, arith, eqb-true, ltb-true, append_assoc, and_le_r, xor_self, and_zero_r, Address, height_of, type_of, TypedExpression, TypesHold, SourceState, Gave, then_do, AccumulateImmediate, And, A, H, L, Registers, ExpressionNumber, IsExpression, keeps_none, Does, at_place, Arrives, HasRoom, Facts, Step, Plain, clear_a, copy, high, low, set, extension_steps, part_of, plain, keeps, immediate_steps, with_number_steps, knowing, high_byte_steps, and_with_number_steps, both_halves_steps, high_half_steps, logic_with_number_steps, Context, IsSound, nodes_in, StepsStand, PartThere, Carries, Nothing, PartDoes, WordIsGiven}
 use Rattle.steps8080.specs.declared.step.Task.TheVariants as tasks
 use Rattle.task_laws.proofs.Bytes.BytesAsked.{HighIsGiven}

@@ -1,4 +1,4 @@
--- What the code of a value in HL does, for each need of stack and wherever it is begun.
+-- The code of a value in HL, for each need of stack and from any start.
 use Rattle.task_laws.proofs.Prelude.{ℕ, ◌*◌, ◌<◌, ◌≤◌, List, ScalarType, height_of, TypedExpression, value, SourceState, Registers, ExpressionNumber, Does, at_place, Arrives, HasRoom, Facts, Context, WordIsGiven}
 use Rattle.task_laws.proofs.Machine.Rules.{GoesOn}
 

@@ -67,7 +67,7 @@ once_high h x one small = omega (arith, one, small)
 once_low : (l x : ℕ) → l ≡ x % 256 → x < 65536 → l ≡ ((x * 1) % 65536) % 256
 once_low l x one small = omega (arith, one, small)
 
--- HL doubled so many times
+-- HL doubled `count` times
 pub doubled_is : (count x : ℕ) (r : Registers) → x < 65536 → HasWord x r
     → WordBeside ((x * 2 ^ count) % 65536) r (effect (replicate count (Dad Hl)) r)
 doubled_is count x r small has =

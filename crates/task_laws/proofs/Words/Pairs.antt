@@ -1,4 +1,4 @@
--- Two words of which one comes into HL and the other into DE.
+-- Two words, one put into HL and the other into DE.
 use Rattle.task_laws.proofs.Prelude.{◌≡◌, ℕ, ◌+◌, ◌-◌, ◌*◌, ◌/◌, ◌%◌, ◌<◌, ◌≤◌, Bool, true, false, ◌&&◌, if◌then◌else◌, List, [], ◌∷◌, ◌++◌, Option, Some, None, refl, sym, ap, ◌∙◌, subst, arith, and_parts, height_of, height_of_reference, type_of, TypedExpression, NumberNode, ValueNode, LocationNode, ListNode, ConversionNode, AssignmentNode, UnaryNode, BinaryNode, CallNode, FunctionNode, ShiftNode, InputNode, TypedReference, PartOf, TypesHold, value, SourceState, Outcome, Gave, Stopped, then_do, Xchg, De, A, D, E, StackDe, StackHl, Registers, State, wrap, LoadPair, ExpressionNumber, Place, IsExpression, Does, at_place, HasRoom, place_at, Facts, Step, copy, set, part_of, Site, is_free, keeps, known, may_exchange, expression, fits_byte, append_assoc, Choices, PairForm, RightKnown, LeftKnown, RightKeeps, LeftKeeps, PairOrder, LeftInHl, RightInHl, any_order, choices_of, form_steps, is_free_byte, left_in_hl, order_of, pair_form, pair_in_order_steps, pair_order_by, right_in_hl, wished_steps, with_byte_steps, with_exchange_steps, with_known_steps, knowing, Context, IsSound, nodes_in, StepsStand, PlainThere, WordThere, PartThere, PartDoes}
 use Rattle.steps8080.specs.declared.step.Task.TheVariants as tasks
 use Rattle.operands8080.specs.{declared.pairs.PairForm.TheVariants.{RightFree, LeftFree, Pushed}, Pairs.{with_stack_steps}}
@@ -16,7 +16,7 @@ pub record HasBoth (first second : ℕ) (r : Registers) : Type 0 where
   pub d : r.d ≡ second / 256
   pub e : r.e ≡ second % 256
 
--- the left value and the right one, where the order tells which of them is in HL
+-- the left value and the right one; the order is which of them is in HL
 abbrev pub HasPair : PairOrder → (left right : ℕ) → Registers → Type 0
 HasPair LeftInHl left right r = HasBoth left right r
 HasPair RightInHl left right r = HasBoth right left r

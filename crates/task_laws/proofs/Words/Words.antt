@@ -55,7 +55,7 @@ as_small n = omega arith
 same_word : (n : ℕ) → n < 65536 → n ≡ as_type Address n
 same_word n small = omega (arith, small)
 
--- what is kept of what stands inside
+-- the registers that the code of an inner expression keeps
 extended_kept :
     (nodes : Nodes) (outer form : ExpressionForm) (scalar : ScalarType) (traits : Traits)
     → traits ≡ traits_of nodes scalar form
