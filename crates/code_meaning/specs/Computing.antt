@@ -8,7 +8,6 @@ use Rattle.code_meaning.specs.Activations.{Activation, Arrives, HasRoom, IsReady
 
 -- Take items at any place, with `pushed` bytes pushed and room for `need` bytes. A machine that is ready, and
 -- for which `Known` holds, does what is meant. It is ready at their end, where `Holds` holds for the value.
--- which something is known does what is meant, and is ready at their end with what is given in its place.
 abbrev pub Computes :
     {A : Type 0} → Activation → (pushed need : ℕ) → (Known : Registers → List ℕ → Type 0) → List Item
     → (meant : SourceState → Outcome A) → (Holds : A → Registers → List ℕ → Type 0) → Type 0

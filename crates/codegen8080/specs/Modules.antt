@@ -307,7 +307,7 @@ IsAtPlace name (places.Data offset) public =
     public ≡ record { segment = segments.Data; offset = offset; name = name }
 IsAtPlace name (places.External offset index) public = ⊥
 
--- a public of a procedure has the place where its code begins
+-- a public of a procedure has the place at which its code begins
 abbrev pub IsPublicOf : Written → Assembled → (name : List ℕ) → PublicPlace → Public → Type 0
 IsPublicOf written bytes name (Object place) public = IsAtPlace name place public
 IsPublicOf written bytes name (Procedure number) public =

@@ -106,7 +106,7 @@ form_with_left site operation operands =
     ]
     else form_without_memory site operation operands
 
--- the form in which two operands that are not numbers come to an operation
+-- the form of an operation on two operands that are not numbers
 unfoldable pub form_of : Site → Operation → Operands → ByteForm
 form_of site operation operands = elim (form_from_register site operation operands) [
   | Some form ↦ form

@@ -147,7 +147,7 @@ fn form_from_register(site: &Site<'_>, operation: Operation, operands: Operands)
     }
 }
 
-// The form in which two operands that are not numbers come to an operation.
+// The form of an operation on two operands that are not numbers.
 #[tactic(auto, unfolding(crate::specs::ByteOperators::form_of, crate::specs::ByteOperators::form_with_left, crate::specs::ByteOperators::form_without_memory))]
 fn form_of(site: &Site<'_>, operation: Operation, operands: Operands) -> ByteForm
     ensures { result ≡ form_of site.now operation operands }

@@ -56,7 +56,6 @@ taken_by tree procedure =
 -- them. PUSH takes two bytes, and a call takes two for its return address while it lasts. Jumps and labels
 -- need at least `level` free bytes. After a label, and at code that no instruction continues to, `level`
 -- bytes count as free.
--- many bytes are free as at a level, or more; what follows a label, or what no instruction leads on to, begins there.
 pub data FindsRoom (tree : TreeModule) (level : ℕ) :
     (free : ℕ) → List Item → (after : ℕ) → Type 0 where
   NothingThere : {free : ℕ} → FindsRoom tree level free [] free

@@ -1,4 +1,4 @@
--- References to the same place, as far as a simple comparison shows.
+-- References to the same place, found by a simple comparison.
 use Rattle.std.specs.Prelude.{Bool, true, false, ◌&&◌, ◌||◌, nat_eq, Option, Some, None, option_map}
 use Rattle.trees.specs.declared.declaration.ScalarType.{ScalarType}
 use Rattle.trees.specs.declared.declaration.ScalarType.TheVariants.{Byte, Address}

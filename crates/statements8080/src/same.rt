@@ -1,4 +1,4 @@
-//! References to the same place, as far as a simple comparison shows.
+//! References to the same place, found by a simple comparison.
 
 ghost use Rattle.std.specs.Prelude.{◌≡◌};
 ghost use Rattle.statements8080.specs.SamePlaces.{are_same, are_same_leaf, are_same_scalar, are_same_subscript, are_same_subscripts, scalar_at, unconverted};

@@ -33,7 +33,7 @@ pub enum ExpressionForm {
         target: Target,
         value: ExpressionNumber,
     },
-    /// An operator with one operand, whose type is that of the result.
+    /// An operator with one operand, which has the type of the result.
     Unary {
         operator: UnaryOperator,
         operand: ExpressionNumber,

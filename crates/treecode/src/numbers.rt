@@ -2,7 +2,7 @@
 
 use std::alloc::{AllocError, Global};
 
-/// Numbers by other numbers, as far as known.
+/// Optional numbers, indexed by other numbers.
 #[derive(Drop)]
 pub(crate) struct Numbers {
     entries: Vec<Option<u32>>,

@@ -1,4 +1,4 @@
--- Code of statements that finds room on the stack, wherever it stands.
+-- Code of statements that finds room on the stack, wherever it is placed.
 use Rattle.std.specs.Prelude.{ℕ, Bool, List, Option}
 use Rattle.asm8080.specs.declared.item.Item.{Item}
 use Rattle.treecode.specs.declared.lists.Range.{Range}

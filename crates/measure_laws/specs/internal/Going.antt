@@ -27,7 +27,6 @@ use Rattle.measure_laws.specs.Heights.{taken_by}
 
 -- the source of the tree code of a body: its typed module, the storage of that module, and the place of the
 -- body in it; each procedure takes as many arguments as it has parameter types
--- procedure takes as many arguments as it has types of parameters
 pub record Source (tree : TreeModule) : Type 0 where
   pub typed : TypedModule
   pub storage : Storage
