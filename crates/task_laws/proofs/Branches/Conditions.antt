@@ -22,7 +22,7 @@ pub only_part :
     → PartIs facts part from last to
 only_part (PartThere is ends) = ended ends is
 
--- where a jump by a part comes to, the whole does
+-- the whole jumps to the same place as the part
 pub same_parts :
     {context : Context} {after : Facts} {inner tree : TypedExpression} {label : LabelNumber} {sense other : Bool}
     {top : ℕ} {base : List ℕ} {to v found : ℕ} {u : SourceState} {end : State}

@@ -51,7 +51,7 @@ some_height (FunctionNode function operand) = omega arith
 some_height (ShiftNode scalar function moved count) = omega arith
 some_height (InputNode port) = omega arith
 
--- an operand in memory is one whose address leaves A alone
+-- an operand in memory; the code for its address keeps A
 pub record IsOperandAt (context : Context) (facts : Facts) (number : ExpressionNumber) (reference : Reference) : Type 0 where
   pub is_there : memory (knowing context.site facts) number ≡ Some reference
   pub keeps : (keeps_of_address context.site reference).a ≡ true

@@ -19,7 +19,7 @@ use Rattle.task_laws.proofs.Words.WordArithmetic.{word_is}
 use Rattle.task_laws.proofs.Words.WordRoutines.{divided_does, some_of}
 use Rattle.task_laws.proofs.Words.WordSums.{first_known, one_high, second_known, two_high}
 
--- an operator whose right operand is a number
+-- an operator with a number on the right
 pub of_left :
     {context : Context} {left right : ExpressionNumber} {first second : TypedExpression} (facts : Facts)
     (number : ExpressionNumber) (operator : BinaryOperator) (operands : ScalarType) (k : ℕ) (g : ℕ → ℕ)
@@ -47,7 +47,7 @@ of_left {context = context} {first = first} {second = second} facts number opera
   free = free;
 }
 
--- and one whose left operand is
+-- an operator with a number on the left
 pub of_right :
     {context : Context} {left right : ExpressionNumber} {first second : TypedExpression} (facts : Facts)
     (number : ExpressionNumber) (operator : BinaryOperator) (operands : ScalarType) (k : ℕ) (g : ℕ → ℕ)
@@ -75,7 +75,7 @@ of_right {context = context} {first = first} {second = second} facts number oper
   free = free;
 }
 
--- what is a power of two
+-- a power of two
 power_there :
     (context : Context) (facts : Facts) (right : ExpressionNumber) (count : ℕ)
     → power (knowing context.site facts) right ≡ Some count

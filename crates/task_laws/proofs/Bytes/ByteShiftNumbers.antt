@@ -113,7 +113,7 @@ right_code count few = by (nat_le count 4) refl
         (λ x small.
         turned_left (8 - count) x (less_turns count more) small ∙ ap (λ n. turned x n) (less_right count more few))
 
--- what a turn to the right brings in is taken away
+-- the bits that a rotation to the right brings in are masked
 masked : (count x : ℕ) → count < 8 → x < 256 → bit_and (turned x ((8 - count) % 8)) (255 / 2 ^ count) ≡ x / 2 ^ count
 masked zero x few small =
     equal_below (λ k. bit_and (turned k ((8 - 0) % 8)) (255 / 2 ^ 0)) (λ k. k / 2 ^ 0) 256 x refl small

@@ -31,7 +31,7 @@ high_small v small = omega (arith, small)
 first_half : (v h l : ℕ) → h ≡ v / 256 → l ≡ v % 256 → l / 2 + 128 * (h % 2) ≡ v / 2 % 256
 first_half v h l one two = omega (arith, one, two)
 
--- the middle byte of a word, by the word shifted to the left by what is missing to 8
+-- the middle byte of a word, from the word shifted left by 8 minus the count
 middle : (count v : ℕ) → 1 ≤ count → count < 8 → v < 65536 → (v * 2 ^ (8 - count)) % 65536 / 256 ≡ v / 2 ^ count % 256
 middle zero v some few small = absurd (omega (arith, some))
 middle (suc zero) v some few small = omega (arith, small)

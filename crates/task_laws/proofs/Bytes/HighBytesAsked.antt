@@ -82,7 +82,7 @@ direct_is context facts reference place told = static_location (location_of (kno
 same_found : {one other : ℕ} {t u : SourceState} → Gave one t ≡ Gave other u → one ≡ other
 same_found same = cc
 
--- the word of an ADDRESS that lies at a place in memory
+-- the word of an ADDRESS at a place in memory
 pub words_at_places : (context : Context) → IsSound context → WordsAtPlaces context
 unfolding direct_word
 words_at_places context sound known_there number place bound top tree base s r memory node types told ready =

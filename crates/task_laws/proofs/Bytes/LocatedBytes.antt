@@ -27,7 +27,7 @@ memory_next start one offset two s = ap (λ (n : ℕ). Gave (InMemory n) s) (fur
         ≡ ((start + (one + offset + two)) % MEMORY_SIZE + 1) % MEMORY_SIZE
     further start one offset two = omega arith
 
--- a part one byte further on lies at the next place
+-- a part one byte further on is at the next place
 based_next :
     (home : Home) (around : Surroundings) (object one offset two : ℕ) (is_inside : _) (s : SourceState)
     → based_place home around object (one + (offset + 1) + two) is_inside s
@@ -58,7 +58,7 @@ based_next (Placed at) around object one offset two is_inside s = memory_next (R
 based_next Elsewhere around object one offset two is_inside s = memory_next (Rattle.meaning.specs.Access.address_of around object) one offset two s
 based_next Nowhere around object one offset two is_inside s = memory_next (Rattle.meaning.specs.Access.address_of around object) one offset two s
 
--- what follows two outcomes
+-- the rest after two outcomes
 after_both :
     {A B C D : Type 0} (first : Outcome A) (second : A → SourceState → Outcome B)
     (one : A → B → SourceState → Outcome C)
@@ -93,7 +93,7 @@ same_both : {A : Type 0} {one other : A} {t u : SourceState} → Gave one t ≡ 
     × (t ≡ u)
 same_both same = (cc, cc)
 
--- The low byte of an expression lies at a part of an object that lies at a reference.
+-- The low byte of an expression is at the part of an object of a reference.
 pub record ByteLies (context : Context) (reference : Reference) (tree : TypedExpression) : Type 0 where
   pub bound : ℕ
   pub part : TypedReference
@@ -113,7 +113,7 @@ pub record ByteLies (context : Context) (reference : Reference) (tree : TypedExp
       → located_in context part s ≡ Stopped why u
       → value_in context tree s ≡ Stopped why u
 
--- the high byte of an ADDRESS that is read lies at the next part
+-- the high byte of an ADDRESS that is read is at the next part
 pub high_found :
     {context : Context} (part : TypedReference) (place : Place) (s u : SourceState) (top : ℕ)
     (base memory : List ℕ)
@@ -204,7 +204,7 @@ high_small : (n : ℕ) → n < 65536 → n / 256 < 256
 high_small n small = omega (arith, small)
 
 module _ (context : Context) (sound : IsSound context) where
-  -- what is read
+  -- a value that is read
   value_lies :
       {bound : ℕ} {reference : Reference} (scalar : ScalarType) (part : TypedReference)
       → IsReference (nodes_in context) context.storage bound reference part
@@ -261,7 +261,7 @@ module _ (context : Context) (sound : IsSound context) where
       })
       by place u memory outcome (inr outside) = inr (then_outside outcome _ outside)
 
-  -- a value whose low byte is that of another one
+  -- a value with the low byte of another one
   inside_lies :
       {reference : Reference} (tree inside : TypedExpression) (f : ℕ → ℕ)
       → height_of inside ≤ height_of tree
@@ -301,7 +301,7 @@ module _ (context : Context) (sound : IsSound context) where
       })
       by place u memory outcome (inr outside) = inr (then_outside outcome _ outside)
 
-  -- where a form tells a part of memory
+  -- the part of memory of a form
   abbrev LiesBy : (ExpressionForm → Option Reference) → Type 0
   LiesBy tells =
       (bound : ℕ) (form : ExpressionForm) (tree : TypedExpression) (reference : Reference)
@@ -405,7 +405,7 @@ module _ (context : Context) (sound : IsSound context) where
   deeper tells lies bound form tree reference (IsShift one two) types told = lies bound form tree reference (IsShift one two) types told
   deeper tells lies bound form tree reference IsInput types told = lies bound form tree reference IsInput types told
 
-  -- what a site says is in memory lies there
+  -- a byte that is in memory according to a site is there
   pub byte_lies :
       {bound : ℕ} {number : ExpressionNumber} {tree : TypedExpression} {reference : Reference} (facts : Facts)
       → IsExpression (nodes_in context) context.storage bound number.index tree
@@ -419,7 +419,7 @@ module _ (context : Context) (sound : IsSound context) where
       number.index node.found.form tree reference node.form types
       (sym (memory_same context sound facts node) ∙ told)
 
--- what gives its place in a part, gives a value then
+-- an outcome is carried out by code that first carries out another one, if it stops whenever that one stops
 pub where_located :
     {A B : Type 0} {script : List (List ℕ)} {budget more : ℕ} {from : State} (outcome : Outcome A)
     (other : Outcome B)
@@ -434,7 +434,7 @@ where_located (Gave found t) other one rest stops = then_does_where (Gave found 
 where_located (Stopped why t) other one rest stops =
     does_same (Stopped why t) (stops why t refl) (then_does_where (Stopped why t) {go = λ found t. other} one rest)
 
--- the low byte of an expression lies at the address that comes into HL
+-- the low byte of an expression is at the address that is put into HL
 pub locates_bytes : (context : Context) → IsSound context → LocatesBytes context
 locates_bytes context sound known_there before after number reference pushed from to bound tree told does is types top base s r memory below room ready known asked =
     let lies = byte_lies context sound known_there is types told in

@@ -11,7 +11,7 @@ use Rattle.task_laws.proofs.Machine.Rules.{Parted, split}
 use Rattle.task_laws.proofs.Machine.SiteNodes.{value_in}
 use Rattle.task_laws.proofs.Machine.Stages.{Stage, at_end, gives_then, has_less_room, script_of}
 
--- by way of HL
+-- through HL
 pub low_word_law :
     {context : Context} {facts last : Facts} {from to bound : ℕ} {tree : TypedExpression} (number : ExpressionNumber)
     (pushed : ℕ)

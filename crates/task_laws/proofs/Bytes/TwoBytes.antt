@@ -8,7 +8,7 @@ use Rattle.task_laws.proofs.Bytes.ByteOperations.{IsOperated, IsValueOf, operand
 use Rattle.task_laws.proofs.Machine.SiteNodes.{does_exchanged, free_is, value_in}
 use Rattle.task_laws.proofs.Machine.Stages.{Stage, does_same, script_of}
 
--- the operations that stand for operators
+-- the operations of operators
 abbrev pub IsSimple : Operation → Type 0
 IsSimple Add = Unit {0}
 IsSimple Subtract = Unit {0}
@@ -17,7 +17,7 @@ IsSimple Or = Unit {0}
 IsSimple ExclusiveOr = Unit {0}
 IsSimple operation = ⊥
 
--- what they give of values of a type
+-- their results for values of a type
 abbrev pub result_by : Operation → ScalarType → (v w : ℕ) → ℕ
 result_by Add operands v w = (v + w) % values_of operands
 result_by Subtract operands v w = (v + (values_of operands - w)) % values_of operands
@@ -77,7 +77,7 @@ either_way AddWithCarry x y f is = absurd (false≢true is)
 either_way SubtractWithBorrow x y f is = absurd (false≢true is)
 either_way Compare x y f is = absurd (false≢true is)
 
--- the forms in which operands come to an operation
+-- the forms in which operands are brought to an operation
 data IsFormOf (site : Site) (operation : Operation) (left right : ExpressionNumber) : ByteForm → Type 0 where
   IsRightInMemory : {reference : Reference} → operand_in_memory site right ≡ Some reference
       → IsFormOf site operation left right (RightInMemory reference)

@@ -9,7 +9,7 @@ use Rattle.task_laws.proofs.Machine.Nodes.{node_of}
 use Rattle.task_laws.proofs.Machine.SiteNodes.{number_means}
 use Rattle.task_laws.proofs.Bytes.Zeros.{zero_by_hl, zero_by_mask}
 
--- what a mask is of
+-- the operand of a mask
 data IsMasked (context : Context) (facts : Facts) (bound : ℕ) : TypedExpression → (ExpressionNumber × ℕ) → Type 0 where
   RightMask : {left right : ExpressionNumber} {first second : TypedExpression} {mask : ℕ}
       → IsExpression (nodes_in context) context.storage bound left.index first

@@ -15,7 +15,7 @@ low_of low high small = omega (arith, small)
 two_bytes : (low high : ℕ) → low < 256 → high < 256 → low + 256 * high < 65536
 two_bytes low high one two = omega (arith, one, two)
 
--- a scalar that is read: its low byte lies at the address of its place
+-- a scalar that is read: its low byte is at the address of its place
 pub scalar_read :
     {A : Type 0} {budget more : ℕ} {from : State} {Good : A → SourceState → State → Type 0}
     {context : Context} {top : ℕ} {base memory : List ℕ} {r : Registers} (scalar : ScalarType) (place : SourcePlace)

@@ -116,7 +116,7 @@ module _ (context : Context) (sound : IsSound context) (facts : Facts) where
         | None ↦ number
       ]) (node.at_site facts)
 
-  -- what is in memory at a site is what the node tells
+  -- the part of memory at a site is that of the node
   pub memory_same : {number : ExpressionNumber} {tree : TypedExpression} (node : NodeOf context number tree)
       → memory (knowing context.site facts) number ≡ traits.memory_of_form (nodes_in context) node.found.form
   unfolding memory

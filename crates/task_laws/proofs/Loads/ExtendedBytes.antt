@@ -20,7 +20,7 @@ use Rattle.task_laws.proofs.Places.Located.{located_in}
 use Rattle.task_laws.proofs.Machine.Values.{KeepsThem, word_given}
 use Rattle.task_laws.proofs.Words.CarriedWords.{IsCarriedOut}
 
--- HL is the byte at an address with zeros added; A and DE are what they were
+-- HL is the byte at an address, zero-extended; A and DE are kept
 pub record ExtendedBeside (memory : List ℕ) (address : ℕ) (r now : Registers) : Type 0 where
   pub h : now.h ≡ 0
   pub l : now.l ≡ byte_at memory address
@@ -28,7 +28,7 @@ pub record ExtendedBeside (memory : List ℕ) (address : ℕ) (r now : Registers
   pub d : now.d ≡ r.d
   pub e : now.e ≡ r.e
 
--- what follows a byte that is there
+-- the rest of the code after a byte that is there
 abbrev pub Follows :
     {A : Type 0} → Outcome A → (Good : A → SourceState → State → Type 0) → Context → (last : Facts)
     → (to top budget more : ℕ) → (base source memory : List ℕ) → (frame : List (List ℕ)) → (events : List Event)
@@ -61,7 +61,7 @@ module _
       (λ on_now. registers_end (set H 0 ∷ []) now sound (tt, tt) stand on_now
       (rest (record now { h = 0 }) (record { h = refl; l = ap (byte_at memory) is; a = refl; d = refl; e = refl })))
 
-  -- the byte at a place in memory: the one after it comes into H, and is not kept
+  -- the byte at a place in memory: the one after it is loaded into H, and overwritten
   static_goes :
       {facts : Facts} {from : ℕ} (place : Place) (r : Registers)
       → StepsStand context PartIs facts from (Word LoadHl place ∷ Plain (set H 0) ∷ []) last to
@@ -287,7 +287,7 @@ memory_keeps context reference is here = by is here
 same_given : {A : Type 0} {one other : A} {t u : SourceState} → Gave one t ≡ Gave other u → one ≡ other
 same_given same = cc
 
--- what is located has an address
+-- the address of a located part is below the size of memory
 based_small :
     (context : Context) (home : TypedHome) (object bytes : ℕ) (is_inside : Bool) (place : SourcePlace) (s u : SourceState)
     → based_place home context.activation.around object bytes is_inside s ≡ Gave place u

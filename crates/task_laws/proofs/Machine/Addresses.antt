@@ -17,7 +17,7 @@ pub nothing_goes :
     → Does context.activation.around.program.script budget more (at_place from r memory events) outcome Good
 nothing_goes r NoneThere on rest = rest on
 
--- HL is an address, and A and DE are what they were
+-- HL is an address, and A and DE are kept
 pub record AddressBeside (address : ℕ) (r now : Registers) : Type 0 where
   pub hl : word now.h now.l ≡ address
   pub a : now.a ≡ r.a
@@ -163,7 +163,7 @@ number_added_goes {outcome = outcome} {Good = Good} {context = context} {PartIs 
           e = refl;
         }) on)
 
--- a word that is added by way of BC
+-- a word that is added through BC
 word_added_goes :
     {A : Type 0} {outcome : Outcome A} {Good : A → SourceState → State → Type 0}
     {context : Context} {PartIs : (before : Facts) → Part → (from : ℕ) → (after : Facts) → (to : ℕ) → Type 0}

@@ -45,7 +45,7 @@ ends_here {now = now} {memory_now = memory_now} to found stage =
       holds = record { known = stage.known };
     })
 
--- what something quiet gives is not used
+-- the value of a quiet evaluation is not used
 pub quiet_ends :
     {A : Type 0} {context : Context} {top pushed need : ℕ} {base : List ℕ} {u : SourceState} {facts : Facts}
     {r now : Registers} {memory memory_now : List ℕ} (to : ℕ) (meant : SourceState → Outcome A)
@@ -62,7 +62,7 @@ quiet_ends {A = A} {context = context} {top = top} {base = base} {u = u} {facts 
     answered (Found found) is = does_same (Gave found u) is (ends_here to found stage)
     answered (Fails reason) is = outside_does reason u is
 
--- what a subscript does
+-- the effects of a subscript
 pub at_subscript :
     {B : Type 0} {context : Context} {top pushed need : ℕ} {base : List ℕ} {t : SourceState} {facts found_facts : Facts}
     {r : Registers} {memory : List ℕ} {more bound : ℕ} {index : Option IndexNode} {subscript : Subscript}
@@ -85,7 +85,7 @@ at_subscript {context = context} {t = t} {go = go} from middle (IsIndex {stride 
     (at_effects from middle number does node types.0 fewer stage
     (λ found u now memory_now is next. rest (displaced stride count found) u now memory_now next))
 
--- what the subscripts of a part of an object do
+-- the effects of the subscripts of a part of an object
 pub at_reference :
     {B : Type 0} {context : Context} {top pushed need : ℕ} {base : List ℕ} {t : SourceState} {facts found_facts : Facts}
     {r : Registers} {memory : List ℕ} {more bound : ℕ} {reference : Reference} {tree : TypedReference}

@@ -36,7 +36,7 @@ module _ (nodes : Nodes) (storage : Storage) (keeps : KeepTraits nodes) where
       free_of_entry number expression at
       ∙ ap (λ (found : Option Place). is_free_of nodes expression.traits.scalar found expression.form) known.1 ∙ known.2
 
-  -- what is not quiet is not known
+  -- a free node that is not quiet is not known, so its form is free
   pub not_known :
       {bound number : ℕ} {tree : TypedExpression} (expression : Expression)
       → IsExpression nodes storage bound number tree
@@ -56,7 +56,7 @@ module _ (nodes : Nodes) (storage : Storage) (keeps : KeepTraits nodes) where
           sym (ap (λ (found : Option Place). is_free_of nodes expression.traits.scalar found expression.form) is)
           ∙ sym (free_of_entry number expression at) ∙ free
 
-  -- a value that lies at a known place in memory
+  -- a value at a known place in memory
   pub value_is_quiet :
       {bound : ℕ} {reference : Reference} {part : TypedReference}
       → IsReference nodes storage bound reference part

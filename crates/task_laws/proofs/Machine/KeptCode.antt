@@ -5,7 +5,7 @@ use Rattle.treecode.specs.declared.expression.ExpressionForm.TheVariants as form
 use Rattle.treecode.specs.declared.place.Home.TheVariants as homes
 use Rattle.treecode.specs.Traits.{keeps_of_address}
 
--- what follows something that is there
+-- if a function of an optional value has a result, the value is there
 some_then : {A B : Type 0} (go : A → Option B) (found : Option A) → is_some (option_and_then go found) ≡ true → is_some found ≡ true
 some_then go (Some found) some = refl
 some_then go None some = some
@@ -29,7 +29,7 @@ place_known (homes.Based base) offset first second some = false_is_true some
 place_known (homes.Frame variable) offset first second some = false_is_true some
 
 module _ (nodes : Nodes) (storage : Storage) (keeps : KeepTraits nodes) where
-  -- what the entry of a node keeps
+  -- the known value in the entry of a node
   pub known_of_entry : (number : ℕ) (expression : Expression) → slice_get nodes.expressions number ≡ Some expression
       → known_at nodes (record { index = number }) ≡ known_of nodes expression.traits.scalar expression.form
   unfolding traits_of
@@ -426,7 +426,7 @@ module _ (nodes : Nodes) (storage : Storage) (keeps : KeepTraits nodes) where
   form_kept Address below less whole (IsShift {function = RotateLeft} moved by) kept = none_is_kept kept
   form_kept Address below less whole (IsShift {function = RotateRight} moved by) kept = none_is_kept kept
 
-  -- what the code of a node keeps
+  -- the registers that the code of a node keeps
   keeps_of_entry : (number : ℕ) (expression : Expression) → slice_get nodes.expressions number ≡ Some expression
       → keeps_at nodes (record { index = number })
       ≡ keeps_of nodes expression.traits.scalar (known_of nodes expression.traits.scalar expression.form) expression.form
@@ -454,7 +454,7 @@ module _ (nodes : Nodes) (storage : Storage) (keeps : KeepTraits nodes) where
       ∙ shape_kept expression.traits.scalar (kept_below limit) (omega (arith, less)) shape
       (subst (λ (one : Keeps). Kept one) (keeps_of_entry number expression at) kept)
 
-  -- an expression whose code keeps A or DE is quiet
+  -- an expression with code that keeps A or DE is quiet
   pub kept_quiet :
       (bound number : ℕ) (tree : TypedExpression)
       → IsExpression nodes storage bound number tree

@@ -16,7 +16,7 @@ number_known context facts of n here =
     known_is (knowing context.site facts) of
     ∙ place_of_number (known_at (nodes_in context) of) n (sym (number_is (knowing context.site facts) of) ∙ here)
 
--- where something lies is an ADDRESS, and a known number is one of its type
+-- a relocatable address is an ADDRESS, and a known number is one of its type
 abbrev pub KnownFits : Option Place → ScalarType → Type 0
 KnownFits None scalar = Unit {0}
 KnownFits (Some (Number n)) scalar = n < values_of scalar
@@ -156,7 +156,7 @@ result_fits operands operators.Modulo x y one two = by (y == 0)
     by true = tt
     by false = less_or_same (x % y) x (values_of operands) (Rattle.std.proofs.Math.Nat.mod-le x y) one
 
--- an ADDRESS some bytes further on
+-- an ADDRESS `distance` bytes further on
 after_fits : (place : Place) (distance : ℕ) → KnownFits (Some (place_after place distance)) Address
 after_fits (Number n) distance = omega arith
 after_fits (Code n) distance = refl
@@ -248,7 +248,7 @@ place_small context (Code o) scalar sound fits = rw fits (sound.resolves.below (
 place_small context (Data o) scalar sound fits = rw fits (sound.resolves.below (Data o) refl)
 place_small context (External o name) scalar sound fits = rw fits (sound.resolves.below (External o name) refl)
 
--- so what is known is a value of the type of the expression
+-- so a known value is of the type of the expression
 pub known_small :
     {context : Context} {bound : ℕ} {of : ExpressionNumber} {tree : TypedExpression} (facts : Facts) (place : Place)
     → IsSound context

@@ -3,7 +3,7 @@ use Rattle.task_laws.proofs.Prelude.{◌≡◌, ℕ, ◌+◌, ◌-◌, ◌%◌, 
 use Rattle.asm8080.specs.declared.item.Item.TheVariants as items
 use Rattle.steps8080.specs.declared.step.Step.TheVariants as steps
 
--- steps that stand in two parts
+-- steps in two parts
 pub record Parted
     (context : Context) (PartIs : (before : Facts) → Part → (from : ℕ) → (after : Facts) → (to : ℕ) → Type 0)
     (facts : Facts) (from : ℕ) (one other : List Step) (last : Facts) (to : ℕ) : Type 0 where
@@ -77,7 +77,7 @@ ready_with_registers pointer bytes ready = record {
   kept = ready.kept;
 }
 
--- an instruction: what it does is left, and what is known after it holds then
+-- an instruction: its effect is carried out, and the facts after it hold then
 pub plain_goes :
     {A : Type 0} {budget more : ℕ} {outcome : Outcome A} {Good : A → SourceState → State → Type 0}
     {context : Context} {facts : Facts} {top : ℕ} {base source : List ℕ} {frame : List (List ℕ)}
@@ -125,7 +125,7 @@ registers_go {memory = memory} {events = events} r now sound there on asks does 
     plain_goes r now memory events sound there on asks does
     (λ known. rest (record { ready = ready_with_registers pointer bytes on.ready; known = known }))
 
--- an instruction with the word of a place: what it does is left
+-- an instruction with the word of a place: its effect is carried out
 pub word_acts :
     {A : Type 0} {budget more : ℕ} {outcome : Outcome A} {Good : A → SourceState → State → Type 0}
     {context : Context} {memory : List ℕ} {events : List Event} {from : ℕ} (form : WordForm) (place : Place) (r : Registers)
@@ -139,7 +139,7 @@ pub word_acts :
     → Does context.activation.around.program.script budget more (at_place from r memory events) outcome Good
 word_acts form place r sound code there rest = word_first r sound.lies code there rest
 
--- and what is known after it holds then
+-- the facts after it hold then
 pub word_goes :
     {A : Type 0} {budget more : ℕ} {outcome : Outcome A} {Good : A → SourceState → State → Type 0}
     {context : Context} {facts : Facts} {top : ℕ} {base source : List ℕ} {frame : List (List ℕ)}

@@ -59,7 +59,7 @@ at_value {context = context} {found_facts = found_facts} {r = r} {memory = memor
     (λ found u now memory_now is (given : WordIsGiven context found_facts number (type_of tree) r memory found now memory_now) next.
     rest found u now memory_now (given.h, given.l) (subst (λ scalar. found < values_of scalar) type given.small) next)
 
--- a value in its register goes to a target
+-- a value in its register is stored in a target
 pub at_store :
     {B : Type 0} {context : Context} {top pushed need : ℕ} {base : List ℕ} {t : SourceState} {facts found_facts : Facts}
     {r : Registers} {memory : List ℕ} {more : ℕ} {bound : ℕ} {is_wanted : Bool}

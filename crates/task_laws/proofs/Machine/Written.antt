@@ -23,7 +23,7 @@ first_there activation item more from size to same there =
     (stands_size activation.layout activation.image (item ∷ []) from parts.middle parts.first.stands) in
     record { first = rw (sym here) parts.first; rest = rw (sym here) parts.second }
 
--- what carries out each task by its steps
+-- the law that each task is carried out by its steps
 abbrev pub CarryOut : Context → Type 0
 CarryOut context =
     (before after : Facts) (part : Part) (label from to : ℕ)

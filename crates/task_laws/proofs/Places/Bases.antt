@@ -116,7 +116,7 @@ given : Outcome SourcePlace → SourcePlace
 given (Gave place t) = place
 given (Stopped why t) = InMemory 0
 
--- an object that is not BASED lies where it begins
+-- an object that is not BASED is at its home
 not_based :
     (within : Within) (kind : TypedHome) (around : Surroundings) (object bytes : ℕ) (is_inside : Bool) (s : SourceState)
     → LiesFor within kind

@@ -41,7 +41,7 @@ displacement_lies context (At stride count index) found s u same inside =
 wrapped : (n : ℕ) → n % MEMORY_SIZE < MEMORY_SIZE
 wrapped n = omega arith
 
--- what a base is located at fits
+-- a place that is located from a base fits
 based_fits :
     (context : Context) (object bytes size : ℕ) (is_inside : Bool) (found : TypedObject) (place : Place) (s u : State)
     → IsSound context

@@ -101,8 +101,8 @@ copy_goes {memory = memory} false address r sound is (PlainThere there stand) on
     (record { a = bytes.l; b = bytes.b; c = bytes.c; d = bytes.d; e = bytes.e; h = bytes.h; l = bytes.l })
     (λ on_now. nothing_goes now stand on_now (rest now (record { a = is; others = λ alone. only_a r r.l memory })))
 
--- The word at the stack pointer, where one byte of it is steady: so is the other one. Where words alone are pushed, the
--- first one lies at the level.
+-- The word at the stack pointer: if one byte of it is steady, so is the other one. If only words are pushed,
+-- the first one is at the level.
 next_is_steady :
     (activation : Activation) (top pushed need sp from : ℕ) (one two : List Item)
     → LiesWell activation
@@ -187,7 +187,7 @@ at_none away sp address none small is = omega (arith, none, small, is)
 back_one : (sp address before : ℕ) → sp < MEMORY_SIZE → wrap (sp + 1) ≡ address → before ≡ wrap (address + 65535) → sp ≡ before
 back_one sp address before small is before_is = omega (arith, small, is, before_is)
 
--- a fact that the plan makes up of HL as a word, and what follows
+-- a fact that the planner notes about HL as a word, and the rest
 held_goes :
     {Given : Type 0} {outcome : Outcome Given} {Good : Given → SourceState → State → Type 0}
     {context : Context} {PartIs : (before : Facts) → Part → (from : ℕ) → (after : Facts) → (to : ℕ) → Type 0}

@@ -26,7 +26,7 @@ then_outside (Stopped (Outside reason) t) go is = tt
 then_outside (Stopped Ended t) go is = absurd is
 then_outside (Stopped More t) go is = absurd is
 
--- a value was given without a change of the state, whose low byte lies at an address
+-- a value was given without a change of the state, and its low byte is at an address
 pub record LowIsAt
     (context : Context) (scalar : ScalarType) (address : ℕ) (memory : List ℕ) (t : SourceState) (outcome : Outcome ℕ) : Type 0 where
   pub found : ℕ
@@ -35,7 +35,7 @@ pub record LowIsAt
   pub small : found < values_of scalar
   pub steady : IsSteady context.activation address
 
--- and one whose high byte does
+-- the same for its high byte
 pub record HighIsAt
     (context : Context) (address : ℕ) (memory : List ℕ) (t : SourceState) (outcome : Outcome ℕ) : Type 0 where
   pub found : ℕ

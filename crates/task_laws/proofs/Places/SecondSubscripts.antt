@@ -23,7 +23,7 @@ some_height (FunctionNode function operand) = omega arith
 some_height (ShiftNode scalar function moved count) = omega arith
 some_height (InputNode port) = omega arith
 
--- what is known of registers does not change what code keeps
+-- the facts about the registers do not change which registers code keeps
 pub keeps_anywhere : (context : Context) (used : Facts) (of : ExpressionNumber)
     → keeps (knowing context.site used) of ≡ keeps context.site of
 unfolding keeps expression

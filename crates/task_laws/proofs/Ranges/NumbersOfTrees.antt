@@ -130,7 +130,7 @@ numbers_of_lowered typed storage tree lowered words = record {
         in_list (nodes_of tree) storage words (lowered.procedures number found.0 heading found.2 is).has_body.body
     by number heading is (inr past) less = let most = past.0 in absurd (omega (arith, less, most))
 
--- a module as it is typed is well typed, and it is tree code whose numbers are words
+-- a typed module is well typed, and its tree code has only numbers of 16 bits
 pub record IsTypedCode (typed : TypedModule) : Type 0 where
   pub types : IsWellTyped typed
   pub storage : Storage
@@ -138,7 +138,7 @@ pub record IsTypedCode (typed : TypedModule) : Type 0 where
   pub lowered : IsLowered typed storage tree
   pub numbers : NumbersAreWords (nodes_of tree)
 
--- a program whose modules are so has types
+-- a program of such modules has types
 pub has_types :
     (program : Program)
     → IsJoined program.modules

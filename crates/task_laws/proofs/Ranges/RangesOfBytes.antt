@@ -5,7 +5,7 @@ use Rattle.typed_trees.specs.TypedTrees.{Home}
 use Rattle.meaning.specs.{Access.{Place}, Outcomes.{State}}
 use Rattle.task_laws.proofs.Machine.KnownOperands.{KnownFits, high_fits, word_fits}
 
--- what an outcome gives, if it gives something
+-- the value of an outcome, if it gives one
 pub data Gives {A : Type 0} (Holds : A → State → Type 0) : Outcome A → Type 0 where
   IsGiven : {found : A} {t : State} → Holds found t → Gives Holds (Gave found t)
   IsStopped : {why : Stop} {t : State} → Gives Holds (Stopped why t)
@@ -202,7 +202,7 @@ input_fits script events port is = by (cases_lt (reads_of events port) (length (
 pub of_type : (one other : ScalarType) (n : ℕ) → one ≡ other → n < values_of one → n < values_of other
 of_type one other n same small = subst (λ (scalar : ScalarType). n < values_of scalar) same small
 
--- a value that is stored has the type that stands there
+-- a value that is stored has the type of its target
 pub target_type : (typed : TypedModule) (within : Within) (to : TypedTarget) (scalar : ScalarType)
     → TypesHoldInTarget typed within scalar to → type_of_target to ≡ scalar
 target_type typed within (StoredIn from to part) scalar types = types.0

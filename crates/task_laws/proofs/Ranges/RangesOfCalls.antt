@@ -9,7 +9,7 @@ use Rattle.task_laws.proofs.Ranges.RangesOfBytes.{Gives, IsGiven, IsStopped, giv
 use Rattle.task_laws.proofs.Ranges.RangesOfTrees.{CalleesAreHeaded, FlowFits, IsHeaded, LaterFits, calls_give, nothing_fits}
 use Rattle.task_laws.proofs.Ranges.RangesOfStatements.{after_taking, either, list_fits, rest_fits, turn_fits}
 
--- what holds of each element holds of one
+-- a property of each element holds for one
 of_each :
     {X : Type 0} (P : X → Type 0) (items : List X) (at : ℕ) (item : X)
     → All P items
@@ -37,7 +37,7 @@ of_numbered {X} P items at item all found =
     zero_plus : 0 + at ≡ at
     zero_plus = omega arith
 
--- A call finds the procedure that it stands for.
+-- A call finds its procedure.
 module _ (around : Surroundings) (program : HasTypes around.program) (typed : TypedModule)
     (here : slice_get around.program.modules around.number_of_module ≡ Some typed) where
   callee_is : (procedure : ℕ) (heading : TypedProcedure) → slice_get typed.procedures procedure ≡ Some heading
@@ -384,7 +384,7 @@ calls_of_program_fit bound procedure found typed heading values around s t progr
     (calls_give (later_by bound) typed around (later_fits bound) program (callees_headed around program typed here)
     procedure heading values s is types source)
 
--- The same of a context: nothing is asked but what is true of its program.
+-- The same for a context: the assumptions are properties of its program.
 pub calls_fit :
     (context : Context) (bound : ℕ)
     → context.later ≡ later_by bound

@@ -89,7 +89,7 @@ module _ (around : Surroundings) where
 module _ (later : Later) (fits : LaterFits later) (typed : TypedModule) (within : Within) (around : Surroundings)
     (program : HasTypes around.program) (headed : CalleesAreHeaded typed around)
     (here : slice_get around.program.modules around.number_of_module ≡ Some typed) where
-  -- what a part of a body gives
+  -- the result of a part of a body
   abbrev FlowIs : Outcome Flow → Type 0
   FlowIs outcome = Gives (λ flow t. FlowFits within flow × SourceFits around t) outcome
 
@@ -101,7 +101,7 @@ module _ (later : Later) (fits : LaterFits later) (typed : TypedModule) (within 
       → Gives (λ n t. (n < values_of (type_of tree)) × SourceFits around t) (value later around tree s)
   value_is tree s types small source = tree_fits later typed within around program.script calls tree s types small source
 
-  -- what follows what a part leaves
+  -- the rest after a part of a body
   after_fits : (turn : Turn) (flow : Flow) (s : State)
       → TurnFits typed within turn
       → FlowFits within flow × SourceFits around s

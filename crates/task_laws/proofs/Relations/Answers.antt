@@ -111,7 +111,7 @@ never_below v = le-ltb v 0 (omega arith)
 abbrev Asks : Bool → (v : ℕ) → NumberQuestion × Bool → Type 0
 Asks answer v asked = answer ≡ agree (number_truth asked.0 v) asked.1
 
--- what is asked of a value and a number on its right
+-- the question about a value and a number on its right
 pub number_asks :
     (question : Question) (n : ℕ) (scalar : ScalarType) (v : ℕ)
     → v < values_of scalar

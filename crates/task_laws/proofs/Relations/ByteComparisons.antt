@@ -165,7 +165,7 @@ form_fits site comparison = by comparison.question
         better_fits site comparison Equal _ _ _ (left_fits site comparison Equal refl)
         (right_fits site comparison Equal refl)
 
--- what an operation with the left operand in A shows
+-- the flags after an operation with the left operand in A
 shows_with_left :
     (question : Question) (setting : Setting) (v w : ℕ) (now : Registers)
     → asks_left question ≡ true
@@ -305,7 +305,7 @@ steps_are comparison setting operation (WithMemory sides reference) = refl
 steps_are comparison setting operation (WithE sides) = refl
 steps_are comparison setting operation Pushed = refl
 
--- what is asked of two BYTEs, or of two ADDRESSes that are below 256
+-- the answer to a question about two BYTEs, or about two ADDRESSes that are below 256
 pub bytes_compared :
     {C : Type 0} {context : Context} {top need : ℕ} {base : List ℕ} {t : SourceState} {facts last : Facts}
     {r : Registers} {memory : List ℕ} {from to more bound other_bound : ℕ}

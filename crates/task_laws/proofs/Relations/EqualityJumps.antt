@@ -19,7 +19,7 @@ pub data HasWords (context : Context) (x y : ℕ) (r : Registers) (memory : List
       → HasWords context x y r memory (PlaceAndHl place)
   InRegisters : r.h ≡ y / 256 → r.l ≡ y % 256 → r.d ≡ x / 256 → r.e ≡ x % 256 → HasWords context x y r memory DeAndHl
 
--- what is known after a difference
+-- the facts after a difference
 abbrev taken : Facts → Facts
 taken facts = record facts { byte_in_a = None; zero_shows_a = true }
 
@@ -100,7 +100,7 @@ ends_at :
     → (facts ≡ last) × (from ≡ to)
 ends_at NoneThere = (refl, refl)
 
--- the jump that goes to the label
+-- the jump to the label
 goes_there :
     {context : Context} {top pushed need : ℕ} {base : List ℕ} {u : SourceState} {facts last : Facts}
     {r : Registers} {memory : List ℕ} {tree : TypedExpression} {sense : Bool} (from to : ℕ) (c : Condition) (label : LabelNumber)

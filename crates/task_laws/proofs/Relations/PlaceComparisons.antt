@@ -99,7 +99,7 @@ is_apart site operands left right question apart is =
     subst (λ (found : Option Apart). Fits site left right question found) is
     (apart_fits site operands left right question)
 
--- a word that is read where it lies, or goes outside
+-- a word that is read at its place, or goes outside
 pub read_then :
     {B : Type 0} {script : List (List ℕ)} {budget more : ℕ} {from : State} {Good : B → SourceState → State → Type 0}
     {context : Context} {place : Place} {memory : List ℕ} {u : SourceState} (outcome : Outcome ℕ)

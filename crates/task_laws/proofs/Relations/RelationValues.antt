@@ -29,7 +29,7 @@ sum_carries a true is =
         positive (Rattle.std.specs.Prelude.suc n) none = omega arith
 sum_carries a false is = ap (λ n. nat_le 256 (n + 255 + 0)) (eqb-true a 0 is)
 
--- 0FFH or 0 comes into A
+-- 0FFH or 0 is put into A
 outcome_in_a :
     {B : Type 0} {context : Context} {top pushed need : ℕ} {base : List ℕ} {t : SourceState} {facts last : Facts}
     {r : Registers} {memory : List ℕ} {from to budget more : ℕ} {outcome : Outcome B}

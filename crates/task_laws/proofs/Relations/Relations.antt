@@ -123,7 +123,7 @@ GoesOnRelated context purpose shown top pushed need base last place more go Good
     → Stage context top pushed need base u last now memory
     → Does (script_of context) u.budget more (at_place place now memory u.events) (go (truth holds) u) Good
 
--- a relation by what is known of its operands
+-- a relation, by the known values of its operands
 abbrev pub between : Site → ScalarType → (left right : ExpressionNumber) → Question → (holds_if : Bool)
     → (right_number left_number : Option ℕ) → Relation
 between site operands left right question holds_if (Some n) left_number =
@@ -154,7 +154,7 @@ between_is site operands left right question holds_if = by (number site right) (
     by None (Some n) = refl
     by None None = refl
 
--- the value of an operator, and then what follows it
+-- the value of an operator, and then the rest
 pub in_order_of :
     {C : Type 0} (context : Context) (first second : TypedExpression) (operands : ScalarType) (operator : BinaryOperator)
     (go : ℕ → SourceState → Outcome C) (t : SourceState)
@@ -259,7 +259,7 @@ module _
           pair_compared scalars.Address left right question setting go asked sound one types two other_types
           fewer stand stage rest
 
-  -- a relation, by what is known of its operands
+  -- a relation, by the known values of its operands
   related :
       (operands : ScalarType) (operator : BinaryOperator) (left right : ExpressionNumber) (question : Question)
       (holds_if : Bool) (t : SourceState) (r : Registers)

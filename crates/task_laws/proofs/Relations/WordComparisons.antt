@@ -8,7 +8,7 @@ use Rattle.task_laws.proofs.Machine.SiteNodes.{value_in}
 use Rattle.task_laws.proofs.Machine.Stages.{Stage, at_carried, at_end, at_instructions, does_same, script_of}
 use Rattle.task_laws.proofs.Relations.WordFlags.{word_below, word_equal}
 
--- both values, and then what follows them
+-- both values, and then the rest
 pub pair_then :
     {C : Type 0} (context : Context) (first second : TypedExpression) (go : ℕ → ℕ → SourceState → Outcome C)
     (t : SourceState)

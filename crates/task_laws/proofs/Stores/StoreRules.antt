@@ -93,7 +93,7 @@ beside_a_then {Good = Good} {context = context} {facts = facts} {last = last} {r
         rest place t back given.memory (middle + 1) _ same (popped_a r.a (flag_byte r.flags) (flag_byte_small r.flags))
         (given.holds).hl stand on_back))))
 
--- and while the value that was in HL comes into DE
+-- the value that was in HL is put into DE
 pub beside_de_then :
     {B : Type 0} {Good : B → SourceState → State → Type 0}
     {context : Context} {facts last : Facts} {reference : Reference} {bound top pushed need to more : ℕ}
@@ -206,7 +206,7 @@ word_lies_at activation memory address number size steady steady_too =
       steady_too = steady_too.0;
     }
 
--- a byte goes to the address in HL
+-- a byte is stored at the address in HL
 pub one_stored :
     {A : Type 0} {Good : A → SourceState → State → Type 0}
     {context : Context} {facts last : Facts} {top from to : ℕ} {base : List ℕ} (i : Instr)
@@ -346,7 +346,7 @@ two_stored {Good = Good} {context = context} {facts = facts} {last = last} {top 
       known = known_twice;
     })))))))))
 
--- where a location is known, a place lies there
+-- if a location is given, the place has its address
 abbrev pub PlaceLies : Context → Option Location → SourcePlace → Type 0
 PlaceLies context None place = Unit {0}
 PlaceLies context (Some location) place =
@@ -375,7 +375,7 @@ place_lies {context = context} {reference = reference} {tree = tree} facts place
         let lies = lies_there facts location sound is referred types told in
         ap (λ (of : SourcePlace). address_on_machine context.activation of) (same_place (sym same ∙ lies.means s)) ∙ lies.is_at
 
--- what is known of A and HL where a place lies at a location
+-- the facts about A and HL, if a place is at a location
 pub byte_known_at :
     (context : Context) (location : Option Location) (place : SourcePlace) (memory : List ℕ) (r : Registers)
     → PlaceLies context location place
@@ -417,7 +417,7 @@ word_low h l number one two = omega (arith, one, two)
 word_high : (h l number : ℕ) → h ≡ number / 256 → l ≡ number % 256 → number / 256 ≡ high_byte (word h l)
 word_high h l number one two = omega (arith, one, two)
 
--- HL goes to a place in memory
+-- HL is stored at a place in memory
 pub shld_then :
     {A : Type 0} {Good : A → SourceState → State → Type 0}
     {context : Context} {facts last : Facts} {top from to : ℕ} {base : List ℕ} (others : List Step)

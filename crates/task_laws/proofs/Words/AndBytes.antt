@@ -13,7 +13,7 @@ use Rattle.task_laws.proofs.Machine.Stages.{at_carried, script_of}
 use Rattle.task_laws.proofs.Bytes.TwoBytes.{two_bytes}
 use Rattle.task_laws.proofs.Words.WordSums.{TwoWords}
 
--- a number of no expression: nothing is said of what its code leaves alone
+-- a number without an expression: nothing is promised about the registers that its code keeps
 abbrev pub no_expression : Context → ExpressionNumber
 no_expression context = record { index = length (nodes_in context).expressions }
 

@@ -2,7 +2,7 @@
 use Rattle.task_laws.proofs.Prelude.{ℕ, ◌*◌, ◌<◌, ◌≤◌, List, ScalarType, height_of, TypedExpression, value, SourceState, Registers, ExpressionNumber, Does, at_place, Arrives, HasRoom, Facts, Context, WordIsGiven}
 use Rattle.task_laws.proofs.Machine.Rules.{GoesOn}
 
--- the value of a tree comes into HL
+-- the value of a tree is put into HL
 abbrev pub IsCarriedOut :
     Context → (facts : Facts) → (number : ExpressionNumber) → TypedExpression → ScalarType → (pushed from : ℕ) → (last : Facts)
     → (to : ℕ) → Type 0

@@ -32,7 +32,7 @@ by_eight_bits x count most =
 shifted_small : (x p : ℕ) → (x * p) % 65536 < 65536
 shifted_small x p = omega arith
 
--- 0, after what an expression does
+-- 0, after the effects of an expression
 pub zero_does :
     {context : Context} {pushed top need to : ℕ} {base : List ℕ} {facts last : Facts}
     {other : ExpressionNumber} {tree : TypedExpression} (f : ℕ → ℕ) (number : ExpressionNumber) (from : ℕ)

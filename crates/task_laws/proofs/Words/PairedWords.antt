@@ -17,7 +17,7 @@ kept_none context number r now none = record {
   e = λ is. absurd (false≢true (sym (ap (λ kept. kept.de) none) ∙ is));
 }
 
--- what straight code makes of a pair
+-- the result of straight-line code for a pair
 abbrev pub Makes : (instructions : PairOrder → List Instr) → (f : ℕ → ℕ → ℕ) → Type 0
 Makes instructions f =
     (order : PairOrder) (x y : ℕ) (r : Registers)

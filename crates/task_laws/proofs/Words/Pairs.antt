@@ -60,7 +60,7 @@ low_byte_is a n same small = same
 no_high : (n : ℕ) → n < 256 → 0 ≡ n / 256
 no_high n small = omega (arith, small)
 
--- what follows an outcome may be replaced by what is the same
+-- the rest after an outcome may be replaced by an equal one
 pub same_rest : {A B : Type 0} (outcome : Outcome A) (one other : A → SourceState → Outcome B)
     → ((found : A) (t : SourceState) → one found t ≡ other found t)
     → then_do outcome one ≡ then_do outcome other
@@ -79,7 +79,7 @@ module _ (context : Context) (sound : IsSound context) where
   abbrev pub meant : TypedExpression → SourceState → Outcome ℕ
   meant tree s = value context.later context.activation.around tree s
 
-  -- what is done with two values that are in HL and DE
+  -- the rest for two values in HL and DE
   abbrev pub Continues :
       {B : Type 0} → (more top : ℕ) → (base : List ℕ) → (budget : ℕ) → (others : List Step) → (last : Facts)
       → (to : ℕ)
@@ -170,7 +170,7 @@ module _ (context : Context) (sound : IsSound context) where
         e = then_given.e kept ∙ given.l;
       }))))
 
-  -- the first one into HL, and the second one, a byte whose code changes A alone, into DE
+  -- puts the first one into HL, and the second one, a byte with code that changes only A, into DE
   byte_beside_then :
       {B : Type 0} {more pushed top need to : ℕ} {base : List ℕ} {facts last : Facts}
       {go : ℕ → ℕ → SourceState → Outcome B} {Good : B → SourceState → State → Type 0}
@@ -248,7 +248,7 @@ module _ (context : Context) (sound : IsSound context) where
         e = swap_low now.h now.l m given.h given.l;
       })))))
 
-  -- what a form asks
+  -- the requirement of a form
   abbrev IsAllowed : Facts → (left right : ExpressionNumber) → PairForm → Type 0
   IsAllowed facts left right (RightKnown place) = known (knowing context.site facts) right ≡ Some place
   IsAllowed facts left right (LeftKnown place) = known (knowing context.site facts) left ≡ Some place

@@ -15,7 +15,7 @@ use Rattle.task_laws.proofs.Machine.SiteNodes.{does_exchanged, value_in}
 use Rattle.task_laws.proofs.Machine.Values.{HasWord, byte_then, word_ends, word_then}
 use Rattle.task_laws.proofs.Words.WordSums.{TwoWords, less_high, one_high}
 
--- what a simple operand is
+-- a simple operand
 pub data IsSimple (site : Site) (of : ExpressionNumber) : Simple → Type 0 where
   IsFreeByte : fits_byte site of ≡ true → is_free site of ≡ true → IsSimple site of (simple.Byte of)
   IsDirectWord : {place : Place} → direct_word site of ≡ Some place → IsSimple site of (simple.Word place)
@@ -112,7 +112,7 @@ simple_then {context = context} {top = top} {need = need} {to = to} {base = base
     read.low read.high read.low_steady read.high_steady (record { h = given.h; l = given.l }) rest
     (record { below = omega (arith, less, fewer); room = room; ready = going_on.ready; known = going_on.known }))))
 
--- which operand comes first, and that the other one is simple
+-- the operand that is evaluated first, and the other one, which is simple
 pub data IsChosen (site : Site) (operands : Operands) : ExpressionNumber × Simple → Type 0 where
   RightIsSimple : {operand : Simple} → IsSimple site operands.right operand → IsChosen site operands (operands.left, operand)
   LeftIsSimple : {operand : Simple} → may_exchange site operands.left operands.right ≡ true
