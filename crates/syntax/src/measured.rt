@@ -73,7 +73,7 @@ pub(crate) fn level_of(operator: BinaryOperator) -> u8
     }
 }
 
-/// The level of what stands left of an operator of a level.
+/// The level of the left operand of an operator of a level.
 pub(crate) fn left_level(level: u8) -> u8
     ensures { result ≡ left_level level }
 {

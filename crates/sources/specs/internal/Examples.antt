@@ -215,7 +215,7 @@ pub filled :
 unfolding typing_of built_in_of starting_memory
 filled = refl
 
--- what lies where: the static objects, the object with DATA and the constant list
+-- the pieces and their places: the static objects, the object with DATA and the constant list
 pub pieces :
     pieces_of (typed (filled_module ∷ [])) filled_placement
     ≡ record { kind = StaticPiece; range = range_of 2 1 }

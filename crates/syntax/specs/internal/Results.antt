@@ -13,7 +13,7 @@ use Rattle.syntax.specs.internal.Reader.{Cause, Unexpected, TooDeep, OtherEndNam
 abbrev pub left_of : List scanned.Word → List Symbol
 left_of words = symbols_of (lexemes_of words)
 
--- the cause that a failure tells of; out of memory tells of none
+-- the cause that a failure gives; out of memory gives none
 abbrev pub cause_of : Failure Fault → Option Cause
 cause_of (failures.Fault (Word line)) = Some Unexpected
 cause_of (failures.Fault (Depth line)) = Some TooDeep
@@ -34,7 +34,7 @@ abbrev pub Gives : {X Y : Type 0} → (X → Y) → Result X (Failure Fault) →
 Gives view (Ok x) rest read = read ≡ Ok (view x, rest)
 Gives view (Err failure) rest read = Fails failure read
 
--- the same where nothing but the symbols that are left is told
+-- the same for a result that is the symbols left alone
 abbrev pub Leaves : {X : Type 0}
     → Result X (Failure Fault)
     → List Symbol
