@@ -93,7 +93,7 @@ abbrev pub labels_of : StatementTrees → List Identifier
 labels_of NoStatements = []
 labels_of (MoreStatements (LabelledStatement labels kind) others) = labels ++ labels_of others
 
--- what stands in a simple DO, in the body of a procedure, in a list of statements
+-- the inside of a simple DO, of the body of a procedure, of a list of statements
 abbrev pub in_block : (Here → Seen) → Here → Seen
 in_block inside = in_turn (moves into_block) (in_turn inside (moves out_of_block))
 
@@ -155,7 +155,7 @@ abbrev mutual
   see_declarations NoDeclarations = nothing
   see_declarations (MoreDeclarations first others) = in_turn (see_declaration first) (see_declarations others)
 
--- what a block declares and does
+-- the declarations and the statements of a block
 abbrev pub see_block : DeclarationTrees → StatementTrees → Here → Seen
 see_block declared body = in_turn (see_declarations declared) (in_list body (see_statements body))
 

@@ -7,7 +7,7 @@ use Rattle.typing.specs.declared.fault.Fault.{Fault}
 abbrev pub Checked : Type 0 → Type 0
 Checked A = Result A Fault
 
--- goes on where there is no fault
+-- continues if there is no fault
 infixl 10 ◌>>=◌
 abbrev pub ◌>>=◌ : {A B : Type 0} → Result A Fault → (A → Result B Fault) → Result B Fault
 (Ok a) >>= next = next a

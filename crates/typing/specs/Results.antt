@@ -8,7 +8,7 @@ use Rattle.typing.specs.declared.fault.Cause.TheVariants.{DeclaredTwice}
 use Rattle.typing.specs.declared.fault.Fault.{Fault}
 use Rattle.typing.specs.Checks.{Checked, ◌>>=◌}
 
--- the fault that a failure tells of; out of memory tells of none
+-- the fault that a failure gives; out of memory gives none
 abbrev pub fault_in : Failure Fault → Option Fault
 fault_in (failures.Fault fault) = Some fault
 fault_in failures.Memory = None
@@ -29,7 +29,7 @@ abbrev pub Gives :
 Gives view (Ok x) after checked = checked ≡ Ok (view x, after)
 Gives view (Err failure) after checked = FailsBy (fault_in failure) checked
 
--- the same where nothing but what is known after it is told
+-- the same for a result that is only the state after it
 abbrev pub Leaves : {X S : Type 0} → Result X (Failure Fault) → (after : S) → Checked S → Type 0
 Leaves (Ok x) after checked = checked ≡ Ok after
 Leaves (Err failure) after checked = FailsBy (fault_in failure) checked

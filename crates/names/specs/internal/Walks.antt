@@ -43,7 +43,7 @@ bound_at here [] bindings = Ok bindings
 bound_at here (name ∷ others) bindings =
     bind_more (bound_name name (binding_of here name.name) bindings) (bound_at here others)
 
--- the fault of a failure; out of memory is none
+-- the fault of a failure; out of memory has no fault
 abbrev pub fault_in : Failure Fault → Option Fault
 fault_in (failures.Fault fault) = Some fault
 fault_in failures.Memory = None

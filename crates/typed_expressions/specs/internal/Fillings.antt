@@ -57,14 +57,14 @@ abbrev pub first_of : List ScalarType → Option ScalarType
 first_of [] = None
 first_of (scalar ∷ others) = Some scalar
 
--- what is filled, and what is left to be
+-- the values so far, and the scalars that are left to fill
 abbrev pub filled_view : ObjectType → Filling → Filled
 filled_view object_type filling = record {
   values = filling.values.items;
   left = left_of object_type filling.scalars;
 }
 
--- what is filled by more values, which come after those that were there
+-- the values that are filled, after those that were there before
 abbrev pub onto : List InitialValue → Checked Filled → Checked Filled
 onto before checked =
     checked >>= (λ (filled : Filled). Ok (record filled { values = before ++ filled.values }))

@@ -1,4 +1,4 @@
--- What the tables of a module hold, as against what is known at a place of its text.
+-- The tables of a module, compared with what is known at a place of its text.
 use Rattle.std.specs.Prelude.{◌≡◌, ℕ, List, [], Some, unwrap_or, slice_get}
 use Rattle.names.specs.declared.entity.Entity.TheVariants.{Object, Procedure}
 use Rattle.names.specs.Environment.{entity_of}
