@@ -34,14 +34,14 @@ HasAddress Nowhere = ⊥
 HasAddress home = Unit {0}
 
 -- The placement has a number where the address of an object of a program stands. It has one for each object,
--- also for one that is BASED, in a frame or nowhere, of which that number says nothing: that an object has a
+-- also for one that is BASED, in a frame or nowhere, where that number says nothing: that an object has a
 -- place is what `HasDeclaredBytes` says.
 abbrev pub IsPlaced : Placement → InProgram → Type 0
 IsPlaced placement at =
     IsSomeAnd (slice_get placement.modules at.number_of_module)
     (λ (placed : ModulePlacement). at.number < length placed.objects)
 
--- an object of a module stands for one, of this or another module, of which the placement has a number
+-- an object of a module stands for one, of this or another module, that has a number in the placement
 abbrev pub ObjectIsMeant : Program → (number_of_module : ℕ) → TypedModule → (object : ℕ) → Type 0
 ObjectIsMeant program number_of_module typed object =
     IsSomeAnd (meant_in program.modules number_of_module object typed) (IsPlaced program.placement)
@@ -82,7 +82,7 @@ ReferenceIsMeant program number typed within (PartOf object _ member offset _) =
     IsSomeAnd (slice_get typed.objects object)
     (λ (found : TypedObject). IsNamed program number typed within object found.home)
 
--- What is called by a heading: a procedure of the module and the number that are said, which is not EXTERNAL,
+-- What is called by a heading: a procedure of the module and the number that are given, which is not EXTERNAL. It
 -- has the same result and types of parameters, and an object for each parameter: a scalar of its type, in the
 -- frame or among the variables of the module.
 pub record IsCallee (modules : List TypedModule) (heading : TypedProcedure) (at : InProgram)
@@ -112,7 +112,7 @@ CallIsMeant around typed procedure result arguments =
     (λ (heading : TypedProcedure). (heading.result ≡ result) × (heading.parameter_types ≡ types_of arguments)
     × CalleeIsMeant around procedure heading)
 
--- as many values are given
+-- `count` values are given
 abbrev pub GivesSoMany : ℕ → Outcome (List ℕ) → Type 0
 GivesSoMany count (Gave found t) = length found ≡ count
 GivesSoMany count (Stopped why t) = Unit {0}
@@ -145,8 +145,8 @@ abbrev pub JumpTakesOne : State → Outcome Flow → Type 0
 JumpTakesOne s (Gave (Jumped label) t) = t.budget < s.budget
 JumpTakesOne s outcome = Unit {0}
 
--- So many bytes from a place on are there in a state: in memory all addresses are, and in a frame, where each
--- subscript is below its dimension, so many bytes of the object are.
+-- Bytes from a place on are there in a state, `size` of them: in memory all addresses are, and in a frame, where
+-- each subscript is below its dimension, `size` bytes of the object are.
 abbrev pub IsThere : (size : ℕ) → Place → State → Type 0
 IsThere size (InMemory address) s = (address < MEMORY_SIZE) × (length s.memory ≡ MEMORY_SIZE)
 IsThere size (InTheFrame object offset is_inside) s =
@@ -160,7 +160,7 @@ ParametersAreThere around (scalar ∷ scalars) (parameter ∷ parameters) s =
 ParametersAreThere around [] [] s = Unit {0}
 ParametersAreThere around scalars parameters s = ⊥
 
--- the place that is given has so many bytes in the state that is left
+-- the given place has `size` bytes in the state after it
 abbrev pub GivesBytes : (size : ℕ) → Outcome Place → Type 0
 GivesBytes size (Gave place t) = IsThere size place t
 GivesBytes size (Stopped why t) = Unit {0}
@@ -180,7 +180,7 @@ abbrev pub LeavesMain : Flow → Type 0
 LeavesMain Onward = Unit {0}
 LeavesMain flow = ⊥
 
--- how an outcome leaves what it is of
+-- an outcome with a flow leaves so
 abbrev pub Leaves : (Flow → Type 0) → Outcome Flow → Type 0
 Leaves by (Gave flow t) = by flow
 Leaves by (Stopped why t) = Unit {0}

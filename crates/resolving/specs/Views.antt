@@ -1,4 +1,4 @@
--- Programs, and what stands in them, as the meaning of programs speaks of them.
+-- Programs and their parts, in the terms of the meaning of programs.
 use Rattle.std.specs.Prelude.{[], map}
 use Rattle.typed_trees.specs.Views.{module_view}
 use Rattle.layout.specs.Joined.{InProgram}
@@ -21,7 +21,7 @@ program_view program = record {
   script = [];
 }
 
--- what a part of a program stands in; names and numbers mean the same with each room
+-- the surroundings of a part of a program; names and numbers mean the same with each room
 abbrev pub site_view : Site → Surroundings
 site_view site = record {
   program = program_view site.program.now;
