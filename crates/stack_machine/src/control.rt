@@ -5,7 +5,7 @@ ghost use Rattle.stack_code.specs.Program.{entry_in, label_in};
 
 use stack_code::{Entry, ModuleTable};
 
-/// So many instructions after the next one, or `None` where that is past the end of the code.
+/// The place `count` instructions after the next one, or `None` past the end of the code.
 #[inline(always)]
 pub fn ahead(at: usize, count: usize, length: usize) -> Option<usize>
     requires { at < length }

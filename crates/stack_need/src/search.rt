@@ -8,7 +8,7 @@ use crate::body::Body;
 use crate::path::{Path, Visit};
 use std::alloc::{AllocError, Global};
 
-/// What a search knows of a body: nothing; that it is within it; or its need (4,294,967,295 where that is more).
+/// What a search knows of a body: nothing; that it is within it; or its need (4,294,967,295 if it is more).
 #[derive(Clone, Copy)]
 pub(crate) enum Mark {
     New,
@@ -167,7 +167,7 @@ impl<'a> Search<'a> {
         }
     }
 
-    /// The need of a body, or None where the graph has a cycle that is reached from it.
+    /// The need of a body, or None if the graph has a cycle that is reached from it.
     pub(crate) fn need_of(&mut self, root: usize) -> Result<Option<u32>, AllocError>
         requires known { IsTrueOf (graph_view self.old) (search_view self.old) }
         requires path { (search_view self.old).path ≡ [] }
@@ -189,7 +189,7 @@ impl<'a> Search<'a> {
     }
 }
 
-/// The need of the first body, or None where the graph has a cycle.
+/// The need of the first body, or None if the graph has a cycle.
 pub(crate) fn need_in(alloc: Global, graph: &[Body]) -> Result<Option<u32>, AllocError>
     ensures { IfOk result (λ found. Answers (map body_view graph.now) found) }
 {

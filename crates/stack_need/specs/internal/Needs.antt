@@ -10,7 +10,7 @@ mutual
         → need ≡ charge_in graph body + greatest
         → NeedOf graph body need
 
-  -- the greatest need of some bodies, 0 where there are none
+  -- the greatest need of some bodies, 0 if there are none
   pub data GreatestOf (graph : List Body) : (bodies : List ℕ) → (greatest : ℕ) → Type 0 where
     of_none : (greatest : ℕ) → greatest ≡ 0 → GreatestOf graph [] greatest
     of_more :

@@ -44,7 +44,7 @@ HoldsTurn around (WhileTurn condition body) = HoldsAll around (calls_in conditio
 HoldsTurn around (IterateTurn head body) =
     HoldsAll around (calls_in_iteration head) × HoldsAll around (calls_in_list body)
 
--- what is given from outside does not go outside for the stack where the room is enough
+-- a part given from outside does not go outside for the stack if the room is enough
 pub record LaterStays (later : Later) : Type 0 where
   pub call :
       (at : InProgram) (arguments : List ℕ) (around : Surroundings) (s : State)
