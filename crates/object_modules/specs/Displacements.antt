@@ -68,7 +68,7 @@ displacement_in linked segment = start_of linked.start segment
 abbrev pub starts_of : List ObjectModule → List Start
 starts_of objects = map (λ (one : Linked). one.start) (linked_modules objects)
 
--- where the piece of a segment begins of the module of this number
+-- where the piece of a segment of the module with this number begins
 abbrev pub start_in : List Start → (number : ℕ) → Segment → ℕ
 start_in starts number segment = option_map_or (λ start. start_of start segment) (slice_get starts number) 0
 

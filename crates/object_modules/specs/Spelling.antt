@@ -43,7 +43,7 @@ set_at offset fixed = record {
 abbrev pub set_in : List FixedContent → Segment → (offset : ℕ) → Option SetByte
 set_in contents segment offset = option_map (set_at offset) (find (holds_place segment offset) contents)
 
--- a segment may begin anywhere where the header says so or doesn't name it, and where it has no bytes
+-- a segment may begin anywhere if the header says so or doesn't name it, or if it has no bytes
 abbrev pub alignment_with : SegmentEntry → Alignment
 alignment_with entry = if entry.alignment == 1 && nat_lt 0 entry.length then Page else Byte
 

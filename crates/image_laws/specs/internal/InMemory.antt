@@ -22,7 +22,7 @@ use Rattle.asm8080.specs.Standing.{SetBytesStand}
 abbrev pub piece_base : Plan → Start → Segment → ℕ
 piece_base plan start segment = base_of plan segment + start_of start segment
 
--- the address of a public of a merge, 0 where there is none
+-- the address of a public of a merge, 0 without one
 abbrev pub address_of_public : Plan → Option Public → ℕ
 address_of_public plan public = option_map_or (λ (given : Public). (symbol_at plan given).address) public 0
 
@@ -33,7 +33,7 @@ address_of_target plan merged linked (InSegment segment) = piece_base plan linke
 address_of_target plan merged linked (External number) =
     address_of_public plan (public_meant merged.publics linked.object number)
 
--- the bytes of a segment of a module where it is placed, with all fixes done
+-- the bytes of a segment of a module where it is placed, with all fixes applied
 abbrev pub segment_bytes : Plan → (merged : ObjectModule) → Linked → Segment → List (Option ℕ)
 segment_bytes plan merged linked segment =
     bytes_resolved (address_of_target plan merged linked) (places_of linked.object segment)
@@ -89,7 +89,7 @@ ObjectsStand =
     → ArePlaced objects merged plan image before after
     → All (ModuleStands plan merged before after) (linked_modules objects)
 
--- what lies in neither segment of the merge is as it was
+-- the bytes outside both segments of the merge are as they were
 abbrev pub OthersStay : Type 0
 OthersStay =
     (objects : List ObjectModule) (merged : ObjectModule) (plan : Plan) (image : Image)

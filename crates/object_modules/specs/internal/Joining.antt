@@ -12,7 +12,7 @@ use Rattle.object_modules.specs.Text.{Run}
 abbrev pub run_at : {A : Type 0} → (offset : ℕ) → List A → Run A
 run_at offset items = record { offset = offset; items = items }
 
--- a run after others, which goes on the last of them where it begins at its end
+-- a run after others, which continues the last of them if it begins at its end
 abbrev pub with_run : {A : Type 0} → List (Run A) → Run A → List (Run A)
 with_run [] run = run ∷ []
 with_run (last ∷ []) run =
@@ -60,7 +60,7 @@ abbrev pub run_moved : (gain_of : Target → ℕ) → (kept : Target → Option 
 run_moved gain_of kept run =
     record { offset = run.offset; items = items_moved gain_of kept None run.items }
 
--- bytes of which the one at an index, or the word that begins with it, gains a number
+-- bytes, with a number added to the one at an index, or to the word that begins with it
 abbrev pub bytes_fixed : FixKind → (index gain : ℕ) → List ℕ → List ℕ
 bytes_fixed Low index gain bytes =
     slice_set bytes index (first_byte_moved Low (slice_index bytes index) gain)
