@@ -1,4 +1,4 @@
--- How deep a tree nests, and whether the names after END match what they end.
+-- How deep a tree nests, and whether the names after END match.
 use Rattle.std.specs.Prelude.{◌≡◌, ℕ, suc, ◌≤◌, max, List, [], ◌∷◌, Option, IfSome}
 use Rattle.std.specs.Option.{option_map_or}
 use Rattle.trees.specs.declared.identifier.Identifier.{Identifier}

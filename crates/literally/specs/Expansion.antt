@@ -94,7 +94,7 @@ on_line line (text_faults.Unclosed place) = text_faults.Unclosed line
 on_line line (text_faults.Number place) = text_faults.Number line
 on_line line (text_faults.Name place) = text_faults.Name line
 
--- Words after an output lead up to one for which there is no expansion, with this fault.
+-- Words after an output lead up to one that can't be expanded, with this fault.
 pub data FaultFrom : List Lexeme → ℕ → List Lexeme → Fault → Type 0 where
   defined_again : {output words : List Lexeme} {processed : ℕ} {word : Lexeme}
       → is_defined_again output word words ≡ true

@@ -17,7 +17,7 @@ use placing::{Placement, place};
 use std::alloc::Global;
 use typed_trees::Typed;
 
-/// A joined program, and where it lies.
+/// A joined program, and its placement.
 #[derive(Drop)]
 pub struct Placed {
     pub program: Joined,

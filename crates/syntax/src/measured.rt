@@ -318,7 +318,7 @@ impl MeasuredArguments {
         Ok(())
     }
 
-    /// Without memory for more arguments, where that can be given back.
+    /// Gives back the memory that more arguments would take, if that is possible.
     pub(crate) fn shrink(&mut self)
         ensures view { self.new.items.items ≡ self.old.items.items }
         ensures height { self.new.height ≡ self.old.height }

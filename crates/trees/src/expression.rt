@@ -52,7 +52,7 @@ pub enum Expression {
     Constant(Constant),
     /// A variable, an element or a member of one, or a call: these look alike until names are known.
     Reference(Box<Reference>),
-    /// `.` and what it locates.
+    /// `.` and the located reference.
     Location(Box<Reference>),
     /// `.(..)`, a list of constants.
     List(Vec<Constant>),
@@ -147,7 +147,7 @@ impl Expression {
         Ok(Expression::Reference(Box::new(alloc, reference)?))
     }
 
-    /// `.` and what it locates.
+    /// `.` and the located reference.
     pub fn location(alloc: Global, reference: Reference) -> Result<Expression, AllocError>
         ensures view { MakesExpression result (LocationLeaf (reference_tree reference)) }
     {

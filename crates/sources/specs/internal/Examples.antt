@@ -128,7 +128,7 @@ shower scalar = module_of
     (procedure_of (show_heading (Public (on_line 2))) (its_parameter scalar ∷ [])
     (sends 3 4 (value_of (plain 3 (codes "X"))) ∷ []) ∷ []) []
 
--- what the procedures of each module stand for
+-- the procedures that the procedures of each module stand for
 abbrev pub procedures_called : List TypedModule → List (List (Option InProgram))
 procedures_called modules = map (λ (numbered : ℕ × TypedModule). called modules numbered.0 numbered.1)
     (enumerate_from 0 modules)

@@ -16,7 +16,7 @@ pub data Cause : Type 0 where
   TooDeep : Cause
   OtherEndName : Cause
 
--- what is read, with the symbols after it, or why there is nothing
+-- a reading: a value and the symbols after it, or the cause of a failure
 abbrev pub Reading : Type 0 → Type 0
 Reading A = Result (A × List Symbol) Cause
 

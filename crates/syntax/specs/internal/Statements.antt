@@ -26,7 +26,7 @@ abbrev pub at_semicolon : List Symbol → Bool
 at_semicolon (SemicolonSymbol place ∷ rest) = true
 at_semicolon symbols = false
 
--- what a statement begins with
+-- the beginning of a statement
 abbrev pub beginning_at : ReservedWord → Place → Beginning
 beginning_at words.Call place = beginnings.Call place
 beginning_at words.Return place = beginnings.Return place
@@ -249,7 +249,7 @@ halt place symbols = do
   end ← semicolon symbols
   Ok (HaltStatement place, end.1)
 
--- a statement without labels, by what it begins with
+-- a statement without labels, by its beginning
 abbrev pub kind_by : ExpressionParser
     → Parser StatementTree
     → BlockParser
