@@ -1,4 +1,4 @@
--- What a module does with names, in the order of the text: uses, with what they are bound to, and declarations.
+-- The events of names in a module, in the order of the text: uses, with their bindings, and declarations.
 use Rattle.std.specs.Prelude.{ℕ, Bool, Option, Some, List, [], ◌∷◌, ◌++◌, map}
 use Rattle.std.specs.List.{flat_map}
 use Rattle.trees.specs.declared.identifier.Identifier.{Identifier}
@@ -10,7 +10,7 @@ use Rattle.names.specs.Uses.{names_in_expression, names_in_reference, names_in_a
 
 -- one thing that a text does with a name
 pub data Event : Type 0 where
-  -- a use of a name, and what it is bound to, if the name is known there
+  -- a use of a name, and its binding, if the name is known there
   Use : Identifier → Option Binding → Event
   -- a declaration of a name, and whether the name may not be declared there again
   Declaration : Identifier → Bool → Event

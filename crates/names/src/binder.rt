@@ -264,7 +264,7 @@ impl Binder {
         self.kind(&statement.kind)
     }
 
-    // Goes through what a statement does.
+    // Goes through a statement, its labels aside.
     #[cycle(walk)]
     fn kind(&mut self, kind: &StatementKind) -> Result<(), Failure<Fault>>
         ensures { Does result self.new (gives (see_kind (kind_tree kind.now)) self.old) }

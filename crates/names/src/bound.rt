@@ -18,7 +18,7 @@ pub struct Bound {
     pub bindings: Vec<Binding>,
 }
 
-/// Binds each use of a name in a module to what it stands for. Refuses a name that is not known where it is used, and one
+/// Binds each use of a name in a module to its entity. Refuses a name that is not known where it is used, and one
 /// that is declared where it may not be declared again, the first of these in the text.
 pub fn bind(alloc: Global, parsed: Module) -> Result<Bound, Failure<Fault>>
     ensures ok { IfOk result (λ bound. IsBinding (module_tree parsed) bound.bindings.items) }

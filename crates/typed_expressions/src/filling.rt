@@ -33,7 +33,7 @@ pub enum Extents {
     AsListed,
 }
 
-/// An object's dimension, and what it is filled with.
+/// The contents of an object: its dimension and its values.
 #[derive(Drop)]
 pub struct Contents {
     /// The number of elements of an array. One that a list gives may be too great for an object.
@@ -76,7 +76,7 @@ fn with_address(reach: Reach, home: &Home, number: u32, line: u32) -> Result<u32
     }
 }
 
-// The line of what a restricted expression begins with.
+// The line of the beginning of a restricted expression.
 fn line_of_origin(origin: &Origin) -> u32
     ensures { result ≡ origin_line (origin_tree origin.now) }
 {

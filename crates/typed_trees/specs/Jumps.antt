@@ -98,7 +98,7 @@ abbrev mutual
   ListStands (ListOf first places statements) =
       LabelsStand first 0 places statements × ListsStandInStatements statements
 
--- what a procedure does: no jump leaves it, and in each list the labels stand where its places say
+-- the body of a procedure is sound: no jump leaves it, and in each list the labels stand where its places say
 pub record BodyIsSound (body : TypedList) : Type 0 where
   pub closed : IsClosed body
   pub stands : ListStands body

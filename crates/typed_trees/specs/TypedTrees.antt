@@ -18,7 +18,7 @@ use Rattle.typed_trees.specs.declared.parts.TypedMember.{TypedMember}
 
 mutual
   pub data TypedExpression : Type 0 where
-    -- a number of a type; how it was written does not matter to what it is
+    -- a number of a type; its origin does not change its value
     NumberNode : ScalarType → (value : ℕ) → NumberOrigin → TypedExpression
     -- the value of a scalar
     ValueNode : ScalarType → TypedReference → TypedExpression

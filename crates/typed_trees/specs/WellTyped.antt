@@ -12,12 +12,12 @@ use Rattle.typed_trees.specs.TypedTrees.{TypedExpression, NumberNode, ValueNode,
 use Rattle.typed_trees.specs.ObjectParts.{IsPartOf, IsScalarOf, IsScalar}
 use Rattle.typed_trees.specs.ExpressionTypes.{type_of}
 
--- what a part of a module stands in: a procedure, with its number and its result, or the main program
+-- the place of a part of a module: in a procedure, with its number and its result, or in the main program
 pub data Within : Type 0 where
   WithinProcedure : (number : ℕ) → (result : Option ScalarType) → Within
   WithinMain : Within
 
--- an object that has an address of its own, or stands in the frame of the procedure that the part stands in
+-- an object that has an address of its own, or is in the frame of the procedure that the part is in
 abbrev pub LiesFor : Within → Home → Type 0
 LiesFor within (BasedOn base) = ⊥
 LiesFor within Nowhere = ⊥

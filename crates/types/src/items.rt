@@ -707,7 +707,7 @@ impl Checker {
         push_object(&mut self.known, object)
     }
 
-    // Takes in the next object where it belongs beside the table.
+    // Adds the next object to the constants, the globals and the frame bytes, if it belongs there.
     fn list_object(
         &mut self,
         object: &TypedObject,

@@ -194,7 +194,7 @@ fn call_of_move(
     moved(known.alloc, line, values)
 }
 
-// CALL of what a name is bound to: an untyped procedure, or MOVE.
+// CALL by the binding of a name: an untyped procedure, or MOVE.
 fn call_bound(
     known: &Known,
     binding: Binding,

@@ -10,7 +10,7 @@ use Rattle.typed_trees.specs.declared.parts.GlobalItem.{GlobalItem}
 use Rattle.typed_trees.specs.TypedTrees.{Constants}
 use Rattle.typing.specs.References.{Known}
 
--- what a block belongs to: the module, or a procedure, by its number and its heading
+-- the owner of a block: the module, or a procedure, by its number and its heading
 pub data Owner : Type 0 where
   TheModule : Owner
   OfProcedure : (number : ℕ) → HeadingTree → Owner

@@ -127,14 +127,14 @@ fill known (restricted ∷ others) scalars = do
   rest ← fill known others first.left
   Ok (record { values = first.values ++ rest.values; left = rest.left })
 
--- the number of elements that an object is declared with: it is not an array, it has a given number, or as many as
+-- how many elements an object is declared with: none for one that is not an array, a given number, or as many as
 -- its list needs
 pub data Extents : Type 0 where
   NoArray : Extents
   Elements : ℕ → Extents
   AsListed : Extents
 
--- an object with its dimension and what it is filled with
+-- the contents of an object: its dimension and its values
 pub record Contents : Type 0 where
   pub dimension : Option ℕ
   pub values : List InitialValue

@@ -51,7 +51,7 @@ number_of_arguments (MoreArguments first others) = suc (number_of_arguments othe
 abbrev pub count_of_given : Given → ℕ
 count_of_given given = number_of_arguments given.trees
 
--- what a name is bound to
+-- the binding of a name
 abbrev pub bound : Known → Identifier → Checked Binding
 bound known name = found (binding_of known.here name.name) UnknownName (line_of name)
 
@@ -99,7 +99,7 @@ abbrev pub whole_part : (object : ℕ) → Subscript → ObjectType → FoundPar
 whole_part object subscript object_type =
     record { reference = PartOf object subscript None 0 NoSubscript; scalar = scalar_of object_type }
 
--- what a reference means once the subscript of its object is known: the element, or a member of it
+-- the meaning of a reference once the subscript of its object is known: the element, or a member of it
 abbrev pub part_with_member :
     (object : ℕ) → ObjectType → Subscript → Extent → GivenMember → Constants → Checked (FoundPart × Constants)
 part_with_member object object_type subscript extent WithoutMember constants =
@@ -118,7 +118,7 @@ part_with_member object object_type subscript extent (WithMember name given) con
       scalar = Some place.member.scalar;
     }
 
--- what a reference to an object means
+-- the meaning of a reference to an object
 abbrev pub part_of :
     (number : ℕ) → TypedObject → Extent → GivenReference → Constants → Checked (FoundPart × Constants)
 part_of number object extent given constants = do

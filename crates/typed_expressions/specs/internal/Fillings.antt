@@ -1,4 +1,4 @@
--- How far the code has come with the scalars of an object, and what it has filled them with.
+-- The scalars of an object that the code has still to fill, and the values so far.
 use Rattle.std.specs.Prelude.{ℕ, List, [], ◌∷◌, ◌++◌, map, replicate, drop, flat_map, Option, Some, None, Ok, ◌≡◌, nat_lt}
 use Rattle.trees.specs.declared.declaration.ScalarType.{ScalarType}
 use Rattle.typed_trees.specs.declared.parts.InitialValue.{InitialValue}
