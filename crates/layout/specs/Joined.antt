@@ -46,7 +46,7 @@ same_parameters [] [] = true
 same_parameters (left ∷ lefts) (right ∷ rights) = same_scalar left right && same_parameters lefts rights
 same_parameters lefts rights = false
 
--- what a global is declared to be
+-- the declaration of a global
 pub data Declared : Type 0 where
   DeclaredObject : TypedObject → Declared
   DeclaredProcedure : TypedProcedure → Declared

@@ -46,7 +46,7 @@ impl Offsets {
         })
     }
 
-    // Something stands among the constants at an offset, where it does not stand before.
+    // Sets the offset of a constant, if it has none.
     fn put(&mut self, item: ConstantItem, offset: u32)
         ensures { self.new ≡ put self.old item offset }
     {

@@ -35,7 +35,7 @@ pub record Later : Type 0 where
   pub again : Turn → Surroundings → State → Outcome Flow
   pub onto : TypedList → (rest : TypedStatements) → Surroundings → State → Outcome Flow
 
--- what a subscript adds to where something lies, and whether it is below its dimension
+-- the bytes that a subscript adds to a place, and whether it is below its dimension
 pub record Displacement : Type 0 where
   pub bytes : ℕ
   pub is_inside : Bool
@@ -75,7 +75,7 @@ taken_in around port s =
     let number : ℕ = input_value around.program.script s.events port in
     Gave number (record s { events = s.events ++ read_event port number ∷ [] })
 
--- what a procedure of a module stands for where it is called
+-- the procedure that a call in a module stands for
 abbrev pub callee_in : Surroundings → (procedure : ℕ) → Option InProgram
 callee_in around procedure =
     option_and_then
@@ -189,7 +189,7 @@ rest_from label (ListOf first_label places statements) =
     then option_map (λ place. dropped place statements) (slice_get places (label - first_label))
     else None
 
--- a jump out of a part of a list goes on in the list, if that holds the label
+-- a jump out of a part of a list continues in the list, if that holds the label
 abbrev pub landed : Later → Surroundings → TypedList → (label : ℕ) → Option TypedStatements → State → Outcome Flow
 landed later around list label (Some rest) s = later.onto list rest around s
 landed later around list label None s = Gave (Jumped label) s
@@ -244,7 +244,7 @@ iterated later around head body body_done s =
     else taking_one u (λ v. then_do (body_done v) (stepped later around head body))))
 
 abbrev mutual
-  -- what a statement does
+  -- the meaning of a statement
   pub done : Later → Surroundings → TypedStatement → State → Outcome Flow
   done later around (LabelStatement label) s = Gave Onward s
   done later around NullStatement s = Gave Onward s
@@ -350,7 +350,7 @@ entered later typed number procedure arguments around s =
     then_do (done_list later around procedure.body t)
     (λ flow u. Gave (value_of_flow flow) (record u { frame = s.frame })))
 
--- takes the charge from the room, or goes outside where there is less
+-- takes the charge from the room, or goes outside if the room is less
 abbrev pub charged : {A : Type 0} → (charge : ℕ) → Surroundings → State → (Surroundings → State → Outcome A) → Outcome A
 charged charge around s go =
     if nat_lt around.room charge then Stopped (Outside Stack) s

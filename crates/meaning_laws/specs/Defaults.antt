@@ -68,10 +68,10 @@ pub record BeginsWithAll (program : Program) : Type 0 where
 
 -- in a module, which is carried out in these surroundings
 pub record TakesNoDefaultIn (around : Surroundings) (typed : TypedModule) : Type 0 where
-  -- What other fields ask of references and of the variables of iterative DOs is true of those in its bodies. `returned`:
+  -- The premises of other fields on references and on the variables of iterative DOs hold of those in its bodies. `returned`:
   -- a RETURN without a value in a procedure that has a result, or with one in another.
   pub types : IsWellTyped typed
-  -- and what they ask of lists is true of those in its bodies
+  -- and their premises on lists hold of those in its bodies
   pub jumps : JumpsAreSound typed
   -- `home_in`, `home_of`, `place_in`: no such object, or one that is nowhere; `address_of`,
   -- `address_of_object`, `address_in`, `address_of_list`: no number where its address stands; `callee_in`,

@@ -1,5 +1,5 @@
--- What there is for the names and the places of a program, for which the meaning has cases where they are not
--- there: modules, objects, bases, constant lists, callees, parameters, and bytes of memory and of frames. How
+-- The existence of what the names and places of a program stand for. The meaning has cases for those that do not
+-- exist: modules, objects, bases, constant lists, callees, parameters, and bytes of memory and of frames. How
 -- bodies are left, and which bytes change.
 use Rattle.std.specs.Prelude.{◌≡◌, ◌≢◌, ℕ, ◌+◌, ◌<◌, ◌≤◌, true, List, [], ◌∷◌, length, All, Option, Some, IsSomeAnd, find, slice_get}
 use Rattle.mem80.specs.declared.memory.TheConstants.{MEMORY_SIZE}
@@ -96,15 +96,15 @@ pub record IsCallee (modules : List TypedModule) (heading : TypedProcedure) (at 
       (home_of_parameters at.number procedure.is_reentrant procedure.visibility) procedure.parameter_types
       procedure.parameters
 
--- what a call of a procedure of a module stands for is there, as its heading says
+-- the procedure that a call in a module stands for is there, as its heading says
 abbrev pub CalleeIsMeant : Surroundings → (procedure : ℕ) → (heading : TypedProcedure) → Type 0
 CalleeIsMeant around procedure heading =
     IsSomeAnd (callee_in around procedure)
     (λ (at : InProgram). IsSomeAnd (procedure_at around.program.modules at)
     (λ (found : TypedModule × TypedProcedure). IsCallee around.program.modules heading at found.0 found.1))
 
--- what a part of a module calls for a result with arguments is there: a heading with this result and parameters
--- of the types of the arguments, and what it stands for
+-- a call in a part of a module, for a result and with arguments, is there: a heading with this result and parameters
+-- of the types of the arguments, and the procedure that it stands for
 abbrev pub CallIsMeant :
     Surroundings → TypedModule → (procedure : ℕ) → Option ScalarType → TypedArguments → Type 0
 CallIsMeant around typed procedure result arguments =
@@ -122,7 +122,7 @@ abbrev pub IsInMemory : Place → Type 0
 IsInMemory (InMemory address) = Unit {0}
 IsInMemory (InTheFrame object offset is_inside) = ⊥
 
--- what is given is in memory
+-- the given place is in memory
 abbrev pub GivesInMemory : Outcome Place → Type 0
 GivesInMemory (Gave place t) = IsInMemory place
 GivesInMemory (Stopped why t) = Unit {0}
@@ -165,7 +165,7 @@ abbrev pub GivesBytes : (size : ℕ) → Outcome Place → Type 0
 GivesBytes size (Gave place t) = IsThere size place t
 GivesBytes size (Stopped why t) = Unit {0}
 
--- what is given leaves this frame
+-- after a given value the frame is this one
 abbrev pub LeavesFrame : List (List ℕ) → Outcome ℕ → Type 0
 LeavesFrame frame (Gave found t) = t.frame ≡ frame
 LeavesFrame frame (Stopped why t) = Unit {0}

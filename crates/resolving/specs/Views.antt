@@ -13,7 +13,7 @@ use Rattle.resolving.specs.declared.site.Site.{Site}
 abbrev pub found_view : Found → InProgram
 found_view found = record { number_of_module = found.number_of_module; number = found.number }
 
--- a program where it lies; names and numbers mean the same with each script
+-- a program at a placement; names and numbers mean the same with each script
 abbrev pub program_view : CodeProgram → Program
 program_view program = record {
   modules = map module_view program.modules.now;
