@@ -1,4 +1,4 @@
-//! Where the machine goes on.
+//! Where the machine continues.
 
 ghost use Rattle.std.specs.Prelude.{◌≡◌, ◌+◌, ◌<◌, ◌≤◌, MatchOption, IfSome};
 ghost use Rattle.stack_code.specs.Program.{entry_in, label_in};

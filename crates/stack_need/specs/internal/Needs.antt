@@ -1,4 +1,4 @@
--- The need of a body: its charge, and the greatest need of what is called in it.
+-- The need of a body: its charge, and the greatest need of the bodies that are called in it.
 use Rattle.std.specs.Prelude.{◌≡◌, ℕ, ◌+◌, List, [], ◌∷◌, max, min}
 use Rattle.stack_need.specs.CallGraph.{Body, callees_of, charge_in}
 

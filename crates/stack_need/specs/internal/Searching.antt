@@ -38,7 +38,7 @@ pub record Searches (graph : List Body) (root : ℕ) (s : Searched) : Type 0 whe
   pub leads : Leads graph root s.path
   pub passed : AllByRecursion (HasPassed graph) s.path
 
--- what is left to do: two steps for each body that is not known, and one for each of its calls
+-- the remaining steps: two for each body that is not known, and one for each of its calls
 abbrev pub weight : Body → Mark → ℕ
 weight body New = 2 + length body.callees
 weight body Open = 0
