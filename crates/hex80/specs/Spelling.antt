@@ -1,4 +1,4 @@
--- Which pieces a HEX text spells, and what the first fault of another text is.
+-- The pieces that a HEX text spells, and the first fault of another text.
 use Rattle.std.specs.Prelude.{◌≡◌, ℕ, ◌+◌, ◌-◌, ◌*◌, ◌%◌, ◌==◌, Bool, true, false, not, ◌&&◌, IsTrue, nat_lt, nat_le, if◌then◌else◌, List, [], ◌∷◌, ◌++◌, length, map, take, sum, Option, Some, None, option_map, option_and_then}
 use Rattle.std.specs.List.{list_all, list_any}
 use Rattle.std.specs.Option.{option_map_or}
@@ -75,7 +75,7 @@ fault_at before (line ∷ others) =
     if bytes_eq line end_line then (if is_empty others then None else Some BadLine)
     else fault_of_line before line
 
--- the piece of a line: at most 255 bytes, all in memory, and none where another piece has one
+-- the piece of a line: at most 255 bytes, all in memory, and none at an address of another piece
 abbrev pub is_line_piece : (before : List Piece) → Piece → Bool
 is_line_piece before piece =
     nat_lt (length piece.bytes) 256 && list_all (λ byte. nat_lt byte 256) piece.bytes

@@ -13,7 +13,7 @@ use mem80::{MEMORY_SIZE, Plan};
 use object_modules::{Fix, FixKind, Run};
 use std::alloc::{AllocError, Global};
 
-// The first byte of a word as it was, and what the word gains.
+// The first byte of a word as it was, and the gain of the word.
 #[derive(Clone, Copy)]
 struct Carry {
     first: u8,

@@ -52,7 +52,7 @@ placement_number SegmentsMeet = codes "P1"
 placement_number PageBroken = codes "P6"
 placement_number HighByteBroken = codes "P5"
 
--- what the offsets of a segment are counted from; for the stack the address just past it
+-- the origin of the offsets of a segment; for the stack the address just past it
 abbrev pub base_of : Plan → Segment → ℕ
 base_of plan Absolute = 0
 base_of plan Code = plan.code_base

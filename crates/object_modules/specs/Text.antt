@@ -34,7 +34,7 @@ abbrev pub groups_of : {A : Type 0} → (needs takes : A → ℕ) → (limit : �
 groups_of needs takes limit [] = []
 groups_of needs takes limit (item ∷ others) = groups_after needs takes limit limit (item ∷ others)
 
--- groups of items that need what they take
+-- groups of items, each of which takes the room that it needs
 abbrev pub packed : {A : Type 0} → (size : A → ℕ) → (limit : ℕ) → List A → List (List A)
 packed size limit items = groups_of size size limit items
 
@@ -177,7 +177,7 @@ abbrev pub segment_parts : ObjectModule → Segment → List Part
 segment_parts object segment =
     flat_map (content_parts segment) (flat_map contents_of_run (runs_from 0 (places_of object segment)))
 
--- what is written for a module, record by record
+-- the records that are written for a module
 unfoldable pub written_parts : ObjectModule → List Part
 written_parts object =
     header_for object

@@ -1,4 +1,4 @@
--- Entries of fix records, judged by what they refer to.
+-- Entries of fix records, judged by their references.
 use Rattle.std.specs.Prelude.{ℕ, Bool, true, not, ◌&&◌, nat_lt, List, Option, Some, None, is_some}
 use Rattle.std.specs.List.{list_all}
 use Rattle.omf80.specs.declared.kind.RecordKind.{RecordKind}

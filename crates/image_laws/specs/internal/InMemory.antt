@@ -38,7 +38,7 @@ abbrev pub segment_bytes : Plan → (merged : ObjectModule) → Linked → Segme
 segment_bytes plan merged linked segment =
     bytes_resolved (address_of_target plan merged linked) (places_of linked.object segment)
 
--- a memory has bytes from an address on where they are set, and is as before where they are not
+-- a memory has the bytes from an address on that are set, and the others there are as before
 abbrev pub BytesAreLoaded : (before after : List ℕ) → (address : ℕ) → List (Option ℕ) → Type 0
 BytesAreLoaded before after address [] = Unit {0}
 BytesAreLoaded before after address (byte ∷ others) =
@@ -58,7 +58,7 @@ pub record SegmentStands
       BytesAreLoaded before after (piece_base plan linked.start segment)
       (segment_bytes plan merged linked segment)
 
--- so do both segments of a module that have bytes
+-- the same for both segments of a module that have bytes
 pub record ModuleStands
     (plan : Plan) (merged : ObjectModule) (before after : List ℕ) (linked : Linked) : Type 0 where
   pub code : SegmentStands plan merged linked Code before after
@@ -121,7 +121,7 @@ pub record PublicLies (plan : Plan) (merged : ObjectModule) (linked : Linked) (p
       address_of_public plan (public_named merged.publics public.name)
       ≡ (piece_base plan linked.start public.segment + public.offset) % MEMORY_SIZE
 
--- so does each public of each module of a merge
+-- the same for each public of each module of a merge
 abbrev pub PublicsLie : Type 0
 PublicsLie =
     (objects : List ObjectModule) (merged : ObjectModule) (plan : Plan)

@@ -35,7 +35,7 @@ resolved_in publics one =
 abbrev pub meant_at : Resolved → (number : ℕ) → Option Public
 meant_at resolved number = option_flatten (slice_get resolved.meant number)
 
--- what a place that is fixed to a target gains, and what it stays fixed to
+-- the gain of a place that is fixed to a target, and the target to which it stays fixed
 abbrev pub gain_by : Resolved → Target → ℕ
 gain_by resolved (InSegment segment) = start_of resolved.start segment
 gain_by resolved (External number) =

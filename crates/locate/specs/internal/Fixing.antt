@@ -7,7 +7,7 @@ use Rattle.object_modules.specs.declared.segment.FixKind.TheVariants.{Low, High,
 use Rattle.object_modules.specs.declared.segment.Target.{Target}
 use Rattle.object_modules.specs.Moving.{first_byte_moved, second_byte_moved}
 
--- the first byte of a word as it was, and what the word gains
+-- the first byte of a word as it was, and the gain of the word
 pub record Carry : Type 0 where
   pub first : ℕ
   pub gain : ℕ

@@ -42,7 +42,7 @@ place_fixes offset [] = []
 place_fixes offset (None ∷ others) = place_fixes (offset + 1) others
 place_fixes offset (Some here ∷ others) = before_fixes offset here.fixup (place_fixes (offset + 1) others)
 
--- a fix by a number of places later, with what it stays fixed to, if it does
+-- a fix by a number of places later, with the target to which it stays fixed, if it does
 abbrev pub fix_kept : (by : ℕ) → (kept : Target → Option Target) → Fix → Option Fix
 fix_kept by kept fix =
     option_map (λ (target : Target). record { kind = fix.kind; target = target; offset = by + fix.offset })
