@@ -77,7 +77,7 @@ segment_of code = record {
 abbrev pub resolved : (address_of : Target → ℕ) → Assembled → List (Option ℕ)
 resolved address_of code = bytes_resolved address_of (places_of code)
 
--- what a reference counts from: a label from the start of the code, a number from nothing
+-- the target that a reference counts from: the code for a label, and none for a number
 abbrev pub target_of : Reference → Option Target
 target_of (AtLabel label) = Some (InSegment Code)
 target_of (AtTarget target offset) = Some target

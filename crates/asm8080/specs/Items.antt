@@ -16,7 +16,7 @@ use Rattle.asm8080.specs.declared.item.Item.{Item}
 use Rattle.asm8080.specs.declared.item.Item.TheVariants.{Plain, WithWord, Byte, Address, Gap, Mark}
 use Rattle.asm8080.specs.Standing.{BytesStand, size_of_instruction}
 
--- what a program is made of: items in their order, and how many labels there are; the labels are 0, 1 and so
+-- the program: items in their order, and how many labels there are; the labels are 0, 1 and so
 -- on
 pub record Assembly : Type 0 where
   pub items : List Item
@@ -70,7 +70,7 @@ offset_of label (item ∷ others) =
     if marks label item then Some 0
     else option_map (λ offset. size_of item + offset) (offset_of label others)
 
--- what an object module may refer to: what has a place that isn't known before linking and placing
+-- whether an object module may have a target: its place is not known before linking and placing
 abbrev pub may_be_target : Target → Bool
 may_be_target (InSegment segment) = is_movable segment
 may_be_target (External number) = true

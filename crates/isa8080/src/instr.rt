@@ -149,7 +149,7 @@ pub enum Instr {
     CallIf(Condition, u16),
     /// RET: returns from a subroutine.
     Ret,
-    /// JMP: goes on at an address.
+    /// JMP: continues at an address.
     Jmp(u16),
     /// CALL: calls the subroutine at an address.
     Call(u16),
@@ -167,7 +167,7 @@ pub enum Instr {
     Xthl,
     /// XCHG: exchanges H and L with D and E.
     Xchg,
-    /// PCHL: goes on at the address in H and L, as for a table of jumps.
+    /// PCHL: continues at the address in H and L, as for a table of jumps.
     Pchl,
     /// SPHL: moves the stack to the address in H and L.
     Sphl,

@@ -29,7 +29,7 @@ code_of places items = record {
   places = places;
 }
 
--- A table of places, by the numbers of labels: none where a label is not bound.
+-- A table of places, by the numbers of labels: none if a label is not bound.
 abbrev pub with_mark : Item → (offset : ℕ) → List (Option ℕ) → List (Option ℕ)
 with_mark (Mark label) offset places = slice_set places label (Some offset)
 with_mark item offset places = places
