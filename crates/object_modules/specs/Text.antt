@@ -34,7 +34,7 @@ abbrev pub groups_of : {A : Type 0} → (needs takes : A → ℕ) → (limit : �
 groups_of needs takes limit [] = []
 groups_of needs takes limit (item ∷ others) = groups_after needs takes limit limit (item ∷ others)
 
--- groups of items, each of which takes the room that it needs
+-- groups of items, where each item takes the room that it needs
 abbrev pub packed : {A : Type 0} → (size : A → ℕ) → (limit : ℕ) → List A → List (List A)
 packed size limit items = groups_of size size limit items
 
