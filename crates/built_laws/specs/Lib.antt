@@ -6,5 +6,3 @@ pub use Rattle.meaning_laws.specs.Places
 pub use Rattle.typed_laws.specs.Limits
 pub mod NeededRoom
 pub mod BuiltPrograms
-pub mod BuiltFiles
-pub mod FileImages

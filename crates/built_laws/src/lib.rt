@@ -1,2 +1,2 @@
-//! Laws of built programs and of their object files.
+//! Laws of built programs.
 #![tactic(auto)]

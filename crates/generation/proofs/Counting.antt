@@ -1,5 +1,7 @@
 -- What is counted of the object module of a module: the bytes of its code segment, and those that its code pushes.
-use Rattle.generation.proofs.Prelude.{◌≡◌, ℕ, suc, ◌+◌, ◌≤◌, Bool, true, false, List, [], ◌∷◌, length, Some, slice_get, refl, sym, subst, arith, Code, ObjectModule, length_of, TypedModule, TypedProcedure, TreeModule, ProcedureKind, TreeProcedure, AreCodeOf, IsCodeOf, IsCodeOfMain, IsGenerated, has_main, bound_is, segment_is_within_its_bound, PushesWithinCharges, pushes_within_charges, IsCounted, OfItsModule}
+use Rattle.generation.proofs.Prelude.{◌≡◌, ℕ, suc, ◌+◌, ◌≤◌, Bool, true, false, List, [], ◌∷◌, length, Some, slice_get, refl, ap, sym, subst, ◌∙◌, arith, Code, ObjectModule, length_of, TypedModule, TypedProcedure, code_bound, constant_bytes, IsStored, stored, TreeModule, ProcedureKind, TreeProcedure, IsLowered, AreCodeOf, IsCodeOf, IsCodeOfMain, IsGenerated, has_main, bound_of_tree, size_of_contents, constants_take, weight_is, segment_is_within_its_bound, PushesWithinCharges, pushes_within_charges, IsCounted, OfItsModule}
+use Rattle.layout.specs.{Storage.{Storage}, Sound.{IsSoundlyTyped}}
+use Rattle.treecode.specs.declared.module.Content.{Content}
 use Rattle.asm8080.specs.declared.item.Item.{Item}
 use Rattle.treecode.specs.declared.procedure.ProcedureKind.TheVariants as kinds
 use Rattle.generation.specs.Items.{BodiesPushWithinCharges, HasItems, MainPushes, ProcedurePushes, ProceduresPush}
@@ -95,20 +97,45 @@ bodies_push tree typed object same pushes items =
           main_pushes tree typed items.written.called pushes items.start (has_main tree) own.main own.main_is;
     }
 
+-- the code bound that is counted on the nodes of tree code is that of its module
+tree_bound_is :
+    (typed : TypedModule) (storage : Storage) (tree : TreeModule)
+    → IsSoundlyTyped typed
+    → IsStored typed storage
+    → IsLowered typed storage tree
+    → bound_of_tree tree ≡ code_bound typed
+unfolding bound_of_tree code_bound
+tree_bound_is typed storage tree sound is lowered =
+    let constants : size_of_contents tree.constants.items ≡ constant_bytes typed =
+    ap (λ (list : List Content). size_of_contents list) lowered.constants
+    ∙ constants_take typed storage tree.homes.items sound.storable is in
+    omega (arith, constants, weight_is typed storage tree sound.parameters lowered)
+
+-- what is counted of the object module that is made of tree code
+pub is_counted :
+    (typed : TypedModule) (storage : Storage) (tree : TreeModule) (object : ObjectModule)
+    → IsSoundlyTyped typed
+    → IsStored typed storage
+    → IsLowered typed storage tree
+    → IsGenerated tree object
+    → IsCounted tree typed object
+is_counted typed storage tree object sound stored_is lowered is =
+    let bound = tree_bound_is typed storage tree sound stored_is lowered in
+    record {
+      size =
+          subst (λ (most : ℕ). length_of object Code ≤ most) (sym bound)
+          (segment_is_within_its_bound typed storage tree object (sound_for_bounds typed sound) lowered is);
+      bound = bound;
+      items = has_items tree object is;
+      pushes =
+          bodies_push tree typed object lowered.procedure_count
+          (pushes_within_charges typed storage tree sound.types sound.frames sound.parameters lowered);
+    }
+
 pub counted :
     (tree : TreeModule) (object : ObjectModule)
     → IsGenerated tree object
     → OfItsModule tree (IsCounted tree) object
 unfolding OfItsModule
 counted tree object is typed code =
-    let bound = bound_is typed code.storage tree code.sound.parameters code.sound.storable code.laid_out code.lowered in
-    record {
-      size =
-          subst (λ (most : ℕ). length_of object Code ≤ most) (sym bound)
-          (segment_is_within_its_bound typed code.storage tree object (sound_for_bounds typed code.sound) code.lowered is);
-      bound = bound;
-      items = has_items tree object is;
-      pushes =
-          bodies_push tree typed object code.lowered.procedure_count
-          (pushes_within_charges typed code.storage tree code.sound.types code.sound.frames code.sound.parameters code.lowered);
-    }
+    is_counted typed code.storage tree object code.sound (stored typed code.storage code.laid_out) code.lowered is

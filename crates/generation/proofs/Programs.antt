@@ -1,8 +1,9 @@
 -- Object modules that are soundly made of the modules of a program make the program.
-use Rattle.generation.proofs.Prelude.{List, [], ◌∷◌, ObjectModule, TypedModule, segment_is_within_its_bound, are_storable, as_many_lengths, each_holds_constants, have_image, hold_constants, is_in_memory, NumbersFitInModule, AreSoundlyMade, IsSoundlyMade, are_made, made_program_does, generated_does, AreWithinBounds}
+use Rattle.generation.proofs.Prelude.{List, [], ◌∷◌, ObjectModule, TypedModule, segment_is_within_its_bound, are_storable, as_many_lengths, each_holds_constants, have_image, hold_constants, is_in_memory, has_names, has_segments, is_object_of, NumbersFitInModule, AreSoundlyMade, IsSoundlyMade, are_made, made_program_does, generated_does, AllZip, AreWithinBounds, KeepsContract}
 use Rattle.image_laws.proofs.Memory.Starting.{starts_as_its_source}
 use Rattle.generation.specs.internal.Programs.{MakeTheProgram}
 use Rattle.generation.proofs.Bounding.{sound_for_bounds}
+use Rattle.generation.proofs.Counting.{is_counted}
 
 within_bounds :
     (modules : List TypedModule) (objects : List ObjectModule)
@@ -24,6 +25,30 @@ pub numbers_fit :
     (typed : TypedModule) (object : ObjectModule) → IsSoundlyMade typed object → NumbersFitInModule typed
 numbers_fit typed object made = (generated_does typed object made).numbers
 
+-- an object module that is soundly made of a module keeps what `generate` promises
+keeps_contract :
+    (typed : TypedModule) (object : ObjectModule) → IsSoundlyMade typed object → KeepsContract typed object
+keeps_contract typed object made =
+    let is = made.made in
+    record {
+      does = generated_does typed object made;
+      object = is_object_of typed is.storage is.tree object is.laid is.lowered is.valid is.generated;
+      segments = has_segments typed is.storage is.tree object is.laid is.lowered is.valid is.generated;
+      names = has_names typed is.storage is.tree object is.laid is.lowered is.generated;
+      tree = is.tree;
+      counted = is_counted typed is.storage is.tree object made.facts is.laid.stored is.lowered is.generated;
+    }
+
+keep_contracts :
+    (modules : List TypedModule) (objects : List ObjectModule)
+    → AreSoundlyMade modules objects
+    → AllZip KeepsContract modules objects
+keep_contracts [] [] made = tt
+keep_contracts [] (object ∷ objects) made = absurd made
+keep_contracts (typed ∷ modules) [] made = absurd made
+keep_contracts (typed ∷ modules) (object ∷ objects) made =
+    (keeps_contract typed object made.0, keep_contracts modules objects made.1)
+
 pub make_the_program :
     (modules : List TypedModule) (objects : List ObjectModule)
     → AreSoundlyMade modules objects
@@ -35,6 +60,7 @@ make_the_program modules objects made =
       bounds = within_bounds modules objects made;
       constants = each_holds_constants modules objects are;
       storable = are_storable modules objects are;
+      contracts = keep_contracts modules objects made;
       linked = λ plan joined may_lie. have_image plan modules objects joined are may_lie;
       starts = λ plan merged image before after loaded.
           starts_as_its_source plan modules objects merged image before after

@@ -1,7 +1,8 @@
 -- Programs of sources that are compiled.
-use Rattle.tool.proofs.Prelude.{◌≡◌, ℕ, zero, suc, ◌<◌, ◌≤◌, ◌⊎◌, inl, inr, List, [], ◌∷◌, length, map, zip, Option, Some, None, All, arith, refl, sym, ap, ◌∙◌, subst, ⊎_elim, cases_lt, All-from_recursion, AllByRecursion, TypedModule, Typed, JumpsAreSound, module_view, Layout, IsJoined, IsLawful, Placement, placement_by, placing_refusal, storage_with, layout_view, ObjectModule, length_of, Plan, HaveStorage, ReadFault, HasReadCause, Absolute, AreWithinBounds, AreSoundlyMade, make_the_program, numbers_fit, HaveImage, Placed, AreSourcesOf, IsPlacedBy, IsProgramOf, program_modules, text_of, Compiled, ToolFault, TooManySources, Source, Code, Program, Link, Locate, DoesWhatItSays, IsImageOfObjects, StartsAsItsSource, code_lengths, GivesImageOfObjects, AreWithoutFault, HasCause, IsInOrder, IsWithoutFault, sources_before, AreCompiled, HasBuildCause, IsBuiltFrom, module_in}
+use Rattle.tool.proofs.Prelude.{◌≡◌, ℕ, zero, suc, ◌<◌, ◌≤◌, ◌⊎◌, inl, inr, List, [], ◌∷◌, length, map, zip, Option, Some, None, All, arith, refl, sym, ap, ◌∙◌, subst, ⊎_elim, cases_lt, All-cons, All-from_recursion, All-nil, AllByRecursion, AllZip, TypedModule, Typed, JumpsAreSound, module_view, Layout, IsJoined, IsLawful, Placement, placement_by, placing_refusal, storage_with, layout_view, IsObjectModule, ObjectModule, length_of, Plan, HaveStorage, ReadFault, HasReadCause, Absolute, files_give_the_image, AreWithinBounds, KeepsContract, AreSoundlyMade, make_the_program, numbers_fit, HaveImage, Placed, AreSourcesOf, IsPlacedBy, IsProgramOf, program_modules, text_of, Compiled, ToolFault, TooManySources, Source, Code, Program, Link, Locate, DoesWhatItSays, IsImageOfFiles, IsImageOfObjects, StartsAsItsSource, code_lengths, GivesImageOfObjects, AreWithoutFault, HasCause, IsInOrder, IsWithoutFault, sources_before, AreCompiled, HasBuildCause, IsBuiltFrom, module_in}
 use Rattle.words.specs.declared.limits.TheConstants.{LONGEST_SOURCE}
 use Rattle.object_modules.specs.declared.segment.Segment.TheVariants as segments
+use Rattle.locate.specs.Locating as of_locating
 use Rattle.placing.specs.Views as of_placement
 use Rattle.sources.specs.declared.read.ReadFault.TheVariants as read_faults
 use Rattle.sources.specs.declared.fault.ProgramFault.TheVariants as program_faults
@@ -137,6 +138,20 @@ build_order (Program fault) texts modules lengths plan cause before = before
 build_order (Link fault) texts modules lengths plan cause before = before
 build_order (Locate fault) texts modules lengths plan cause before = before
 
+-- object modules that are made of modules are valid
+all_valid : (modules : List TypedModule) (objects : List ObjectModule) → AreSoundlyMade modules objects → All IsObjectModule objects
+all_valid [] [] made = All-nil IsObjectModule
+all_valid (typed ∷ modules) (object ∷ objects) made = All-cons IsObjectModule object objects made.0.made.valid (all_valid modules objects made.1)
+all_valid [] (object ∷ objects) made = absurd made
+all_valid (typed ∷ modules) [] made = absurd made
+
+-- written to files, linked, read and placed, they give the image
+is_image_of_files : (plan : Plan) (modules : List TypedModule) (objects : List ObjectModule) (image : Absolute) → AreSoundlyMade modules objects → IsImageOfObjects plan objects image
+    → IsImageOfFiles plan objects image
+is_image_of_files plan modules objects image made linked =
+    let given = files_give_the_image objects linked.merged (of_locating.plan_view plan) image (all_valid modules objects made) linked.merge linked.placed in
+    record { merged = linked.merged; merge = linked.merge; linked = given.0; placed = given.1 }
+
 -- a program that was placed, with object modules that are made of its modules and the image of these
 pub is_construction : (plan : Plan) (modules : List TypedModule) (lengths : List ℕ) (placed : Placed) (objects : List ObjectModule) (image : Absolute) → IsPlacedBy modules lengths plan placed → lengths ≡ code_lengths objects
     → AreSoundlyMade modules objects → IsImageOfObjects plan objects image → GivesImageOfObjects plan objects image
@@ -155,11 +170,13 @@ is_construction plan modules lengths placed objects image is its made linked giv
       starts = subst (λ ms. StartsAsItsSource ms (of_placement.placement_view placed.placement) image) (sym is.program) starts;
       headline = subst (λ ms. DoesWhatItSays ms (of_placement.placement_view placed.placement) plan.stack_size image) (sym is.program) does;
       linked = linked;
+      files = is_image_of_files plan modules objects image made linked;
       joined = subst IsJoined (sym is.program) is.joined;
       jumps = subst (All JumpsAreSound) (sym is.program) (All-from_recursion JumpsAreSound modules (jumps_each modules objects made));
       types = subst (All IsTyped) (sym is.program) (All-from_recursion IsTyped modules (types_each modules objects made));
       storable = rw is.program (make_the_program modules objects made).storable;
       made = subst (λ ms. AreSoundlyMade ms objects) (sym is.program) made;
+      contracts = subst (λ ms. AllZip KeepsContract ms objects) (sym is.program) (make_the_program modules objects made).contracts;
       bounds = subst (λ ms. AreWithinBounds ms objects) (sym is.program) (make_the_program modules objects made).bounds;
       objects = sym (length_mapped (λ (object : ObjectModule). length_of object segments.Code) objects)
           ∙ (make_the_program modules objects made).lengths ∙ sym (ap length is.program);

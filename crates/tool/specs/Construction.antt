@@ -1,5 +1,6 @@
 -- What a contract sees of a built program, and what holds of it.
 use Rattle.std.specs.Prelude.{◌≡◌, List, All, None, length}
+use Rattle.std.specs.List.{AllZip}
 use Rattle.typed_trees.specs.Frames.{FramesFit}
 use Rattle.typed_trees.specs.Globals.{ListsGlobals}
 use Rattle.typed_trees.specs.Jumps.{JumpsAreSound}
@@ -19,10 +20,11 @@ use Rattle.placing.specs.Views.{plan_view}
 use Rattle.object_modules.specs.Module.{ObjectModule}
 use Rattle.locate.specs.Locating.{Absolute}
 use Rattle.generation.specs.Bounded.{AreWithinBounds}
+use Rattle.generation.specs.Kept.{KeepsContract}
 use Rattle.generation.specs.Typed.{AreSoundlyMade}
 use Rattle.sources.specs.Programs.{program_modules}
 use Rattle.tool.specs.Headline.{DoesWhatItSays}
-use Rattle.tool.specs.Made.{IsImageOfObjects, StartsAsItsSource, code_lengths}
+use Rattle.tool.specs.Made.{IsImageOfFiles, IsImageOfObjects, StartsAsItsSource, code_lengths}
 
 -- the joined program, the plan, the placement with what each byte of memory is by its table, the object modules of
 -- the modules, and the image
@@ -40,19 +42,22 @@ abbrev pub IsTyped : TypedModule → Type 0
 IsTyped typed = IsWellTyped typed × NumbersFitInModule typed × ListsGlobals typed × FramesFit typed
 
 -- The image does what the program says, with the stack of the plan; where it is loaded each declared byte
--- begins as the program has it; it is the merge of the object modules, placed by the plan. The modules make a
--- program, which is well typed, whose jumps go to labels that are known, and whose storage fits; there is an
--- object module made of each, within its code bound. The plan is not refused for their code segments, the
+-- begins as the program has it; it is the merge of the object modules, placed by the plan, and their files, linked
+-- and placed by hand, give it too. The modules make a program, which is well typed, whose jumps go to labels that
+-- are known, and whose storage fits; there is an object module made of each, within its code bound, which keeps
+-- what `generate` promises: so it does what its module says. The plan is not refused for their code segments, the
 -- program lies lawfully where it puts it, and the table is of its bytes there.
 pub record IsConstruction (built : Construction) : Type 0 where
   pub headline : DoesWhatItSays (program_modules built.program) built.placement built.plan.stack_size built.image
   pub starts : StartsAsItsSource (program_modules built.program) built.placement built.image
   pub linked : IsImageOfObjects built.plan built.objects built.image
+  pub files : IsImageOfFiles built.plan built.objects built.image
   pub joined : IsJoined (program_modules built.program)
   pub jumps : All JumpsAreSound (program_modules built.program)
   pub types : All IsTyped (program_modules built.program)
   pub storable : All IsStorable (program_modules built.program)
   pub made : AreSoundlyMade (program_modules built.program) built.objects
+  pub contracts : AllZip KeepsContract (program_modules built.program) built.objects
   pub bounds : AreWithinBounds (program_modules built.program) built.objects
   pub objects : length built.objects ≡ length (program_modules built.program)
   pub may_lie :

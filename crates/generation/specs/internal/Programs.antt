@@ -1,6 +1,7 @@
 -- What object modules of the modules of a program come to: they can be linked and placed, and loaded they do what the program
 -- says.
 use Rattle.std.specs.Prelude.{◌≡◌, ℕ, ◌≤◌, List, All, length, zip, None, Ok}
+use Rattle.std.specs.List.{AllZip}
 use Rattle.mem80.specs.declared.memory.TheConstants.{MEMORY_SIZE}
 use Rattle.mem80.specs.Memory.{IsMemory}
 use Rattle.mem80.specs.Pieces.{IsLoaded}
@@ -25,6 +26,7 @@ use Rattle.image_laws.specs.internal.ProgramInMemory.{placement_of}
 use Rattle.image_laws.specs.internal.Names.{HaveImage}
 use Rattle.program_laws.specs.Agreement.{Agrees}
 use Rattle.generation.specs.Bounded.{AreWithinBounds}
+use Rattle.generation.specs.Kept.{KeepsContract}
 
 -- The object modules of a joined program are merged, placed by a plan at which it lies lawfully, and put into a memory.
 pub record AreLoaded
@@ -46,6 +48,8 @@ pub record MakeTheProgram (modules : List TypedModule) (objects : List ObjectMod
       All (λ (segment : TypedModule × ℕ). constant_bytes segment.0 ≤ segment.1)
       (zip modules (code_lengths_of objects))
   pub storable : All IsStorable modules
+  -- each object module keeps what `generate` promises
+  pub contracts : AllZip KeepsContract modules objects
   -- they can be linked and placed by each plan that the program is not refused for
   pub linked :
       (plan : Plan)

@@ -1,9 +1,9 @@
 -- Modules with their publics in the order in which they are written have the merge of the modules, but for the
 -- order of its publics, or are refused by the same number.
-use Rattle.built_laws.proofs.Prelude.{◌≡◌, ℕ, ◌+◌, ◌%◌, ◌==◌, Bool, not, ◌||◌, List, [], ◌∷◌, ◌++◌, length, map, flat_map, filter_map, sum_by, slice_get, All, Option, Some, None, option_map, option_and_then, Result, Ok, Err, refl, ap, sym, ◌∙◌, find, list_any, cons_option, AllByRecursion, option_map_or, option_or, sum_by-cons, first_that_holds, Target, InSegment, External, SetByte, Places, Public, ObjectModule, IsObjectModule, is_among, moved, high_targets, Linked, code_end, data_end, linked_after, linked_from, linked_modules, publics_moved, all_publics, public_named, target_of_public, gain_in, target_kept, LinkRefusal, DuplicatePublic, UnresolvedExternal, SegmentTooLong, NotOneMain, HighByteMoves, link_number, joined_after, code_piece, data_piece, joined_alignment, main_modules, joined, repeated_after, public_names, unresolved, last_end, is_too_long, some_segment_is_too_long, some_high_byte_moves, refusal_of, unless_refused, link_refusal, merge_of, with_publics_in_order, public_name, merge_is, unless_ok, names_from, linked_valid, ValidLinked, main_of, mains_are, by_recursion}
+use Rattle.file_laws.proofs.Prelude.{◌≡◌, ℕ, ◌+◌, ◌%◌, ◌==◌, Bool, not, ◌||◌, List, [], ◌∷◌, ◌++◌, length, map, flat_map, filter_map, sum_by, slice_get, All, Option, Some, None, option_map, option_and_then, Result, Ok, Err, refl, ap, sym, ◌∙◌, find, list_any, cons_option, AllByRecursion, option_map_or, option_or, sum_by-cons, first_that_holds, Target, InSegment, External, SetByte, Places, Public, ObjectModule, IsObjectModule, is_among, moved, high_targets, Linked, code_end, data_end, linked_after, linked_from, linked_modules, publics_moved, all_publics, public_named, target_of_public, gain_in, target_kept, LinkRefusal, DuplicatePublic, UnresolvedExternal, SegmentTooLong, NotOneMain, HighByteMoves, link_number, joined_after, code_piece, data_piece, joined_alignment, main_modules, joined, repeated_after, public_names, unresolved, last_end, is_too_long, some_segment_is_too_long, some_high_byte_moves, refusal_of, unless_refused, link_refusal, merge_of, with_publics_in_order, public_name, merge_is, unless_ok, names_from, linked_valid, ValidLinked, main_of, mains_are, by_recursion}
 use mathlib.Core.Path.{fun_ext}
-use Rattle.built_laws.proofs.PublicsInOrder.{SameBySegment, in_order, ordered_same, moved_same, joined_same, order_same}
-use Rattle.built_laws.proofs.Names.{times, SameNames, among_same, none_repeated_there, names_same, finds_same}
+use Rattle.file_laws.proofs.PublicsInOrder.{SameBySegment, in_order, ordered_same, moved_same, joined_same, order_same}
+use Rattle.file_laws.proofs.Names.{times, SameNames, among_same, none_repeated_there, names_same, finds_same}
 
 -- a module where it was, with its publics in order
 abbrev reordered : Linked → Linked

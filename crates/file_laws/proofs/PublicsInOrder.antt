@@ -1,5 +1,5 @@
 -- Publics in the order in which they are written: of each segment there are the same, in the same order.
-use Rattle.built_laws.proofs.Prelude.{◌≡◌, ◌-◌, Bool, true, false, cond, nat_lt, List, [], ◌∷◌, ◌++◌, length, map, flat_map, refl, ap, sym, ◌∙◌, filter, IsPermutation, list_all, and_parts, append-nil, filter-append, IsPermutation-refl, IsPermutation-cons, IsPermutation-trans, IsPermutation-sym, IsPermutation-append, IsPermutation-middle, BODY_LIMIT, Segment, Code, Data, Stack, same_segment, Linked, public_moved, Public, ObjectModule, is_valid_public, may_have_publics, Definition, Part, PublicsPart, ModuleEndPart, EndOfFilePart, definition_bytes, part_bytes, header_for, external_parts, publics_in_segment, definition_of, public_parts, segment_parts, written_parts, text_of, with_publics_in_order, packed}
+use Rattle.file_laws.proofs.Prelude.{◌≡◌, ◌-◌, Bool, true, false, cond, nat_lt, List, [], ◌∷◌, ◌++◌, length, map, flat_map, refl, ap, sym, ◌∙◌, filter, IsPermutation, list_all, and_parts, append-nil, filter-append, IsPermutation-refl, IsPermutation-cons, IsPermutation-trans, IsPermutation-sym, IsPermutation-append, IsPermutation-middle, BODY_LIMIT, Segment, Code, Data, Stack, same_segment, Linked, public_moved, Public, ObjectModule, is_valid_public, may_have_publics, Definition, Part, PublicsPart, ModuleEndPart, EndOfFilePart, definition_bytes, part_bytes, header_for, external_parts, publics_in_segment, definition_of, public_parts, segment_parts, written_parts, text_of, with_publics_in_order, packed}
 use Rattle.object_modules.specs.declared.segment.Segment.TheVariants.{Absolute}
 
 -- of each segment the same publics, in the same order

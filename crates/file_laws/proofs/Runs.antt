@@ -1,5 +1,5 @@
 -- An image has one row of longest runs.
-use Rattle.built_laws.proofs.Prelude.{◌≡◌, ℕ, ◌+◌, ◌-◌, ◌<◌, ◌≤◌, Bool, true, false, cond, ◌&&◌, nat_lt, nat_le, List, [], ◌∷◌, length, Option, Some, None, option_map, refl, ap, sym, ◌∙◌, arith, find, slice_index, and_parts, and_left, and_right, and_from, ltb-true, ltb-false, lt-ltb, le-leb, lt-leb, le-ltb, same_number_lists, Piece, AreLongestRuns, are_runs, byte_in, has_address, has_bytes}
+use Rattle.file_laws.proofs.Prelude.{◌≡◌, ℕ, ◌+◌, ◌-◌, ◌<◌, ◌≤◌, Bool, true, false, cond, ◌&&◌, nat_lt, nat_le, List, [], ◌∷◌, length, Option, Some, None, option_map, refl, ap, sym, ◌∙◌, arith, find, slice_index, and_parts, and_left, and_right, and_from, ltb-true, ltb-false, lt-ltb, le-leb, lt-leb, le-ltb, same_number_lists, Piece, AreLongestRuns, are_runs, byte_in, has_address, has_bytes}
 
 abbrev end_of : Piece → ℕ
 end_of piece = piece.start + length piece.bytes

@@ -1,7 +1,7 @@
 -- Names, by how often each stands in a list: whether one is repeated, and which public it finds.
-use Rattle.built_laws.proofs.Prelude.{◌≡◌, ℕ, ◌+◌, ◌≤◌, Bool, true, false, cond, ◌||◌, nat_lt, List, [], ◌∷◌, map, Option, Some, None, refl, ap, sym, ◌∙◌, arith, option_or, bytes_eq, lt-ltb, bytes_eq-Decides, Segment, Code, Data, Stack, same_segment, public_named, repeated_after, Public, is_among, publics_in_segment, public_name}
+use Rattle.file_laws.proofs.Prelude.{◌≡◌, ℕ, ◌+◌, ◌≤◌, Bool, true, false, cond, ◌||◌, nat_lt, List, [], ◌∷◌, map, Option, Some, None, refl, ap, sym, ◌∙◌, arith, option_or, bytes_eq, lt-ltb, bytes_eq-Decides, Segment, Code, Data, Stack, same_segment, public_named, repeated_after, Public, is_among, publics_in_segment, public_name}
 use Rattle.object_modules.specs.declared.segment.Segment.TheVariants.{Absolute}
-use Rattle.built_laws.proofs.PublicsInOrder.{SameBySegment, with_first}
+use Rattle.file_laws.proofs.PublicsInOrder.{SameBySegment, with_first}
 
 -- how often a name stands among names
 abbrev pub times : (name : List ℕ) → List (List ℕ) → ℕ

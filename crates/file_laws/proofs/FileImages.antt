@@ -1,11 +1,11 @@
 -- Files that were written of modules are linked, read and placed as the modules are.
-use Rattle.built_laws.proofs.Prelude.{◌≡◌, ℕ, List, [], ◌∷◌, ◌++◌, map, All, Option, Some, None, Result, Ok, Err, refl, ap, sym, subst, ◌∙◌, IsPermutation, Appends, AllByRecursion, AllZip, IsPermutation-sym, IsPermutation-map, Fault, Plan, Image, image_at, symbol_at, placed, placement_refusal, image_of, LinkRefusal, link_number, joined, unless_refused, link_refusal, merge_of, linked_modules, ObjectModule, IsObjectModule, Spells, text_of, with_publics_in_order, AreLongestRuns, text_spells, written_read, written_not_refused, unless_ok, by_recursion, merge_is_object, Absolute, IsPlaced}
+use Rattle.file_laws.proofs.Prelude.{◌≡◌, ℕ, List, [], ◌∷◌, ◌++◌, map, All, Option, Some, None, Result, Ok, Err, refl, ap, sym, subst, ◌∙◌, IsPermutation, Appends, AllByRecursion, AllZip, IsPermutation-sym, IsPermutation-map, Fault, Plan, Image, image_at, symbol_at, placed, placement_refusal, image_of, LinkRefusal, link_number, joined, unless_refused, link_refusal, merge_of, linked_modules, ObjectModule, IsObjectModule, Spells, text_of, with_publics_in_order, AreLongestRuns, text_spells, written_read, written_not_refused, unless_ok, by_recursion, merge_is_object, Absolute, IsPlaced}
 use Rattle.failure.specs.Writing.{AppendsBeginning}
 use Rattle.link.specs.Streams.{Merges, IsFirstFaulty, IsRefused}
-use Rattle.built_laws.specs.FileImages.{files_of, LinkTo, IsSameImage, PlacesAs, FilesGiveTheImage, FilesAreRefused, FilesAreNotPlaced}
-use Rattle.built_laws.proofs.PublicsInOrder.{in_order, text_in_order, ordered_permutes}
-use Rattle.built_laws.proofs.Merges.{number_of, refused_again, merged_again, unless_err, refusal_is}
-use Rattle.built_laws.proofs.Runs.{one_image}
+use Rattle.file_laws.specs.FileImages.{files_of, LinkTo, IsSameImage, PlacesAs, FilesGiveTheImage, FilesAreRefused, FilesAreNotPlaced}
+use Rattle.file_laws.proofs.PublicsInOrder.{in_order, text_in_order, ordered_permutes}
+use Rattle.file_laws.proofs.Merges.{number_of, refused_again, merged_again, unless_err, refusal_is}
+use Rattle.file_laws.proofs.Runs.{one_image}
 
 -- What the files spell.
 each_spelled :

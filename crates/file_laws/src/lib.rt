@@ -1,0 +1,2 @@
+//! Laws of object files that are written of modules: linked, read and placed, they give what the modules do.
+#![tactic(auto)]
