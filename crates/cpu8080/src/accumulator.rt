@@ -5,7 +5,7 @@ ghost use Rattle.isa8080.specs.declared.instr.Pair.TheVariants.{Bc, De, Hl};
 ghost use Rattle.isa8080.specs.declared.instr.Operation.TheVariants.{Add, AddWithCarry, Subtract, SubtractWithBorrow, And, ExclusiveOr, Or, Compare};
 ghost use Rattle.isa8080.specs.State.{high_byte, low_byte, wrap};
 ghost use Rattle.isa8080.specs.Arithmetic.{increment_of, decrement_of};
-ghost use Rattle.cpu8080.specs.internal.Finish.{accumulated, double_added, pair_in};
+ghost use Rattle.cpu8080.specs.internal.Finish.{accumulated, adjusted, double_added, pair_in};
 ghost use Rattle.cpu8080.specs.internal.PairBytes.{bytes_of};
 
 use crate::flags::{LazyFlags, MachineRegisters};
@@ -90,6 +90,17 @@ pub fn compare(byte: u8, registers: &mut MachineRegisters)
     ensures { registers.new ≡ accumulated Compare byte registers.old }
 {
     registers.flags = alu8080::compare(registers.a, byte);
+}
+
+/// DAA: adjusts the accumulator to two decimal digits. It works on flags of its own, since a reference to those of a
+/// machine would keep the host from holding its registers in its own.
+#[inline(always)]
+pub fn adjust(registers: &mut MachineRegisters)
+    ensures { registers.new ≡ adjusted registers.old }
+{
+    let mut flags = registers.flags.copy();
+    registers.a = alu8080::decimal_adjust(registers.a, &mut flags);
+    registers.flags = flags;
 }
 
 /// CMC: inverts CY.
