@@ -82,9 +82,9 @@ compile_app name =
 abbrev pub link_app : Text → App
 link_app name = with_rule (with_rule (new_app name) out_rule) files_rule
 
--- the command `name [plan] FILE...`, which asks for one file when it is carried out
-abbrev pub place_app : Text → App
-place_app name = with_rule (with_plan (new_app name)) files_rule
+-- the command `name [plan] [--jump ADDRESS] FILE...`, which asks for one file when it is carried out
+abbrev pub hex_app : Text → App
+hex_app name = with_rule (with_rule (with_plan (new_app name)) (option_rule (codes "jump"))) files_rule
 
 -- the command `name [plan] [--need] FILE...`, which asks for one file when it is carried out without the flag
 abbrev pub locate_app : Text → App
@@ -110,7 +110,7 @@ plm_app =
     with_subcommand (with_subcommand (with_subcommand programs_app
     (link_app (codes "link")).top)
     (locate_app (codes "locate")).top)
-    (place_app (codes "hex")).top
+    (hex_app (codes "hex")).top
 
 -- the texts of the options of a plan
 pub record PlanWanted : Type 0 where
@@ -138,11 +138,12 @@ pub record LinkWanted : Type 0 where
   pub out : Text
   pub objects : List Text
 
--- what is wanted of an object that is placed
+-- what is wanted of an object that is placed, with the address of a jump to its start, which `hex` alone takes
 pub record PlaceWanted : Type 0 where
   pub action : PlaceAction
   pub files : List Text
   pub plan : PlanWanted
+  pub jump : Option Text
 
 -- what is wanted of sources whose need is told
 pub record NeedWanted : Type 0 where
@@ -204,7 +205,12 @@ abbrev pub link_of : List Row → LinkWanted
 link_of rows = record { out = text_of (codes "out") rows; objects = files_of rows }
 
 abbrev pub place_of : PlaceAction → List Row → PlaceWanted
-place_of action rows = record { action = action; files = files_of rows; plan = plan_of rows }
+place_of action rows = record {
+  action = action;
+  files = files_of rows;
+  plan = plan_of rows;
+  jump = first_of (codes "jump") rows;
+}
 
 abbrev pub need_of : List Row → NeedWanted
 need_of rows = record { files = files_of rows; plan = plan_of rows }
@@ -254,8 +260,12 @@ abbrev pub link_in : LinkOrder → LinkWanted
 link_in order = record { out = order.out.now; objects = texts order.objects.items }
 
 abbrev pub place_in : PlaceOrder → PlaceWanted
-place_in order =
-    record { action = order.action; files = texts order.files.items; plan = plan_in order.plan }
+place_in order = record {
+  action = order.action;
+  files = texts order.files.items;
+  plan = plan_in order.plan;
+  jump = option_map (λ text. text.now) order.jump;
+}
 
 abbrev pub need_in : NeedOrder → NeedWanted
 need_in order = record { files = texts order.files.items; plan = plan_in order.plan }
@@ -305,7 +315,7 @@ usual action files = record {
 }
 
 abbrev pub usual_place : PlaceAction → List Text → PlaceWanted
-usual_place action files = record { action = action; files = files; plan = usual_plan }
+usual_place action files = record { action = action; files = files; plan = usual_plan; jump = None }
 
 -- the options of a plan
 pub data PlanOption : Type 0 where
@@ -406,6 +416,13 @@ OrdersPlaceText words answer =
     → IsOrderOf (wants_place (record (usual_place action files) {
       plan = with_plan_text option text usual_plan;
     })) answer
+
+-- `hex --jump` with bare files wants a jump too
+abbrev pub OrdersJump : List Text → Result Order (Failure LineFault) → Type 0
+OrdersJump words answer = (name : Text) (files : List Text) (text : Text)
+    → IsBare text
+    → Gives words name (codes "hex") (option_words (codes "jump") text) files
+    → IsOrderOf (wants_place (record (usual_place Hex files) { jump = Some text })) answer
 
 -- `locate --need` with bare files wants the need of these sources
 abbrev pub OrdersNeed : List Text → Result Order (Failure LineFault) → Type 0

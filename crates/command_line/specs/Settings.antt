@@ -102,6 +102,11 @@ values_read wanted = do
   input ← input_read wanted.input
   Ok (record { plan = plan; limit = limit; input = input })
 
+-- the address of a jump, where one is wanted
+abbrev pub jump_read : Option Text → Read (Option ℕ)
+jump_read None = Ok None
+jump_read (Some text) = plan_number text >>= (λ address. Ok (Some address))
+
 -- the file, where there is one alone: a second one is refused
 abbrev pub only_file : List Text → Read Text
 only_file [] = Err []
