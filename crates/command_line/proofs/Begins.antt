@@ -111,16 +111,19 @@ pub data Choice : Type 0 where
   of_program : ValueOption → Choice
   of_place : PlaceAction → PlanOption → Choice
   out : Choice
+  jump : Choice
 
 abbrev pub form_at : Choice → Form
 form_at (of_program o) = Sources
 form_at (of_place action o) = form_of action
 form_at out = Objects
+form_at jump = Placed
 
 abbrev pub name_at : Choice → Text
 name_at (of_program o) = option_name o
 name_at (of_place action o) = plan_option_name o
 name_at out = codes "out"
+name_at jump = codes "jump"
 
 abbrev pub option_row : Choice → Text → Row
 option_row o text = record { id = name_at o; values = text ∷ []; count = None; source = Some CommandLine; reading = reading_by files_filled }
@@ -160,6 +163,7 @@ option_step (of_place Hex Stack) = refl
 option_step (of_place Locate StackSize) = refl
 option_step (of_place Hex StackSize) = refl
 option_step out = refl
+option_step jump = refl
 
 option_turn : (name : Text) (o : Choice) → turn_fault (leaf (form_at o) name) [] (found_walk []) (45 ∷ 45 ∷ name_at o) ≡ []
 unfolding clap_on_literals
@@ -178,6 +182,7 @@ option_turn name (of_place Hex Stack) = refl
 option_turn name (of_place Locate StackSize) = refl
 option_turn name (of_place Hex StackSize) = refl
 option_turn name out = refl
+option_turn name jump = refl
 
 text_step : (o : Choice) (text : Text) → IsBare text → walked (rules (form_at o)) [] (waiting_walk o) text ≡ pending_walk o text
 unfolding walked
@@ -196,6 +201,7 @@ text_step (of_place Hex Stack) text bare = rw (bare_word (rules Placed) (waiting
 text_step (of_place Locate StackSize) text bare = rw (bare_word (rules Located) (waiting_walk (of_place Locate StackSize)).waiting 1 text (waiting_walk (of_place Locate StackSize)).held bare) refl
 text_step (of_place Hex StackSize) text bare = rw (bare_word (rules Placed) (waiting_walk (of_place Hex StackSize)).waiting 1 text (waiting_walk (of_place Hex StackSize)).held bare) refl
 text_step out text bare = rw (bare_word (rules Objects) (waiting_walk out).waiting 1 text (waiting_walk out).held bare) refl
+text_step jump text bare = rw (bare_word (rules Placed) (waiting_walk jump).waiting 1 text (waiting_walk jump).held bare) refl
 
 text_turn : (name : Text) (o : Choice) (text : Text) → IsBare text → turn_fault (leaf (form_at o) name) [] (waiting_walk o) text ≡ []
 text_turn name (of_program (OfPlan Code)) text bare =
@@ -228,6 +234,8 @@ text_turn name (of_place Hex StackSize) text bare =
     rw (bare_word (rules Placed) (waiting_walk (of_place Hex StackSize)).waiting 1 text (waiting_walk (of_place Hex StackSize)).held bare, bare_fault (leaf Placed name) (waiting_walk (of_place Hex StackSize)).waiting text (waiting_walk (of_place Hex StackSize)).held bare) refl
 text_turn name out text bare =
     rw (bare_word (rules Objects) (waiting_walk out).waiting 1 text (waiting_walk out).held bare, bare_fault (leaf Objects name) (waiting_walk out).waiting text (waiting_walk out).held bare) refl
+text_turn name jump text bare =
+    rw (bare_word (rules Placed) (waiting_walk jump).waiting 1 text (waiting_walk jump).held bare, bare_fault (leaf Placed name) (waiting_walk jump).waiting text (waiting_walk jump).held bare) refl
 
 value_step : (o : Choice) (text file : Text) → IsBare file → walked (rules (form_at o)) [] (pending_walk o text) file ≡ state (option_row o text ∷ []) [] file
 unfolding walked
@@ -246,6 +254,7 @@ value_step (of_place Hex Stack) text file bare = rw (bare_word (rules Placed) id
 value_step (of_place Locate StackSize) text file bare = rw (bare_word (rules Located) idle 1 file (pending_walk (of_place Locate StackSize) text).held bare) refl
 value_step (of_place Hex StackSize) text file bare = rw (bare_word (rules Placed) idle 1 file (pending_walk (of_place Hex StackSize) text).held bare) refl
 value_step out text file bare = rw (bare_word (rules Objects) idle 1 file (pending_walk out text).held bare) refl
+value_step jump text file bare = rw (bare_word (rules Placed) idle 1 file (pending_walk jump text).held bare) refl
 
 value_turn : (name : Text) (o : Choice) (text file : Text) → IsBare file → turn_fault (leaf (form_at o) name) [] (pending_walk o text) file ≡ []
 value_turn name (of_program (OfPlan Code)) text file bare =
@@ -278,6 +287,8 @@ value_turn name (of_place Hex StackSize) text file bare =
     rw (bare_word (rules Placed) idle 1 file (pending_walk (of_place Hex StackSize) text).held bare, bare_fault (leaf Placed name) idle file (pending_walk (of_place Hex StackSize) text).held bare) refl
 value_turn name out text file bare =
     rw (bare_word (rules Objects) idle 1 file (pending_walk out text).held bare, bare_fault (leaf Objects name) idle file (pending_walk out text).held bare) refl
+value_turn name jump text file bare =
+    rw (bare_word (rules Placed) idle 1 file (pending_walk jump text).held bare, bare_fault (leaf Placed name) idle file (pending_walk jump text).held bare) refl
 
 no_file_in : (o : Choice) (text : Text) → has_row (codes "FILES") (option_row o text ∷ []) ≡ false
 no_file_in (of_program (OfPlan Code)) text = refl
@@ -295,6 +306,7 @@ no_file_in (of_place Hex Stack) text = refl
 no_file_in (of_place Locate StackSize) text = refl
 no_file_in (of_place Hex StackSize) text = refl
 no_file_in out text = refl
+no_file_in jump text = refl
 
 pub option_begins : (name : Text) (o : Choice) (text : Text) → IsBare text → Begins (form_at o) name (option_words (name_at o) text) (option_row o text ∷ [])
 option_begins name o text fits = record {

@@ -1,8 +1,8 @@
 -- Command lines of one option at most: they have no fault, and give what is wanted.
-use Rattle.command_line.proofs.Prelude.{◌≡◌, ◌∙◌, List, [], ◌∷◌, ◌++◌, Some, Ok, Err, codes, sym, arith, true, HasKind, Text, fault_of, Error, Failure, Action, Order, PlaceAction, Locate, LineFault, IsFailureFor, Gives, IsBare, Orders, OrdersCompile, OrdersFiles, OrdersLink, OrdersMap, OrdersNeed, OrdersPlace, OrdersPlaceText, OrdersText, PlanOption, ValueOption, Wanted, name_of_action, name_of_place_action, option_name, option_words, plan_option_name, plm_app, usual, usual_place, usual_plan, wanted_by, wanted_in, wants_compile, wants_link, wants_need, wants_place, wants_program, with_plan_text, with_text}
-use Rattle.command_line.proofs.Begins.{ends_by, flag_begins, map_flag, need_flag, of_place, of_program, option_begins, option_row, out, plain_begins, rows_of_flag}
-use Rattle.command_line.proofs.Lines.{Line, link_line, map_line, need_line, option_line, place_line, place_option_line, plain_line}
-use Rattle.command_line.proofs.Verbs.{Located, Objects, Sources, Verb, compile, form_of, link, name_of, place, program}
+use Rattle.command_line.proofs.Prelude.{◌≡◌, ◌∙◌, List, [], ◌∷◌, ◌++◌, Some, Ok, Err, codes, sym, arith, true, HasKind, Text, fault_of, Error, Failure, Action, Order, PlaceAction, Hex, Locate, LineFault, IsFailureFor, Gives, IsBare, Orders, OrdersCompile, OrdersFiles, OrdersJump, OrdersLink, OrdersMap, OrdersNeed, OrdersPlace, OrdersPlaceText, OrdersText, PlanOption, ValueOption, Wanted, name_of_action, name_of_place_action, option_name, option_words, plan_option_name, plm_app, usual, usual_place, usual_plan, wanted_by, wanted_in, wants_compile, wants_link, wants_need, wants_place, wants_program, with_plan_text, with_text}
+use Rattle.command_line.proofs.Begins.{ends_by, flag_begins, jump, map_flag, need_flag, of_place, of_program, option_begins, option_row, out, plain_begins, rows_of_flag}
+use Rattle.command_line.proofs.Lines.{Line, jump_line, link_line, map_line, need_line, option_line, place_line, place_option_line, plain_line}
+use Rattle.command_line.proofs.Verbs.{Located, Objects, Placed, Sources, Verb, compile, form_of, link, name_of, place, program}
 use Rattle.command_line.proofs.Compiles.{compile_line}
 use Rattle.command_line.proofs.CommandLemmas.{only_memory}
 use Rattle.command_line.proofs.PlmWords.{line_fine, line_wanted}
@@ -68,6 +68,14 @@ place_text_wanted words name action (file ∷ files) option text bare g =
     (place_option_line action option text file files
     (ends_by (form_of action) (name_of (place action)) (option_words (plan_option_name option) text) (option_row (of_place action option) text ∷ []) (option_begins (name_of (place action)) (of_place action option) text bare) file files g.bare.0 g.bare.1))
 
+jump_wanted : (words : List Text) (name : Text) (files : List Text) (text : Text) → IsBare text
+    → Gives words name (codes "hex") (option_words (codes "jump") text) files → Wants words (wants_place (record (usual_place Hex files) { jump = Some text }))
+jump_wanted words name [] text bare g = absurd (let none = g.some in omega arith)
+jump_wanted words name (file ∷ files) text bare g =
+    wants_by words (option_words (codes "jump") text ++ file ∷ files) name (place Hex) (wants_place (record (usual_place Hex (file ∷ files)) { jump = Some text })) g.words_are
+    (jump_line text file files
+    (ends_by Placed (codes "hex") (option_words (codes "jump") text) (option_row jump text ∷ []) (option_begins (codes "hex") jump text bare) file files g.bare.0 g.bare.1))
+
 need_wanted : (words : List Text) (name : Text) (files : List Text)
     → Gives words name (codes "locate") (codes "--need" ∷ []) files → Wants words (wants_need (record { files = files; plan = usual_plan }))
 need_wanted words name [] g = absurd (let none = g.some in omega arith)
@@ -101,6 +109,9 @@ place_ordered words order found = λ name action files g. order_is words order (
 pub place_text_ordered : (words : List Text) (order : Order) → Orders words order → OrdersPlaceText words (Ok order)
 place_text_ordered words order found = λ name action files option text bare g. order_is words order (wants_place (record (usual_place action files) { plan = with_plan_text option text usual_plan })) found (place_text_wanted words name action files option text bare g)
 
+pub jump_ordered : (words : List Text) (order : Order) → Orders words order → OrdersJump words (Ok order)
+jump_ordered words order found = λ name files text bare g. order_is words order (wants_place (record (usual_place Hex files) { jump = Some text })) found (jump_wanted words name files text bare g)
+
 pub need_ordered : (words : List Text) (order : Order) → Orders words order → OrdersNeed words (Ok order)
 need_ordered words order found = λ name files g. order_is words order (wants_need (record { files = files; plan = usual_plan })) found (need_wanted words name files g)
 
@@ -132,6 +143,10 @@ place_failed words error failure has is = λ name action files g. only_memory er
 pub place_text_failed : (words : List Text) (error : Error) (failure : Failure LineFault) → HasKind (fault_of plm_app words) error → IsFailureFor error failure
     → OrdersPlaceText words (Err failure)
 place_text_failed words error failure has is = λ name action files option text bare g. only_memory error failure (fault_of plm_app words) (place_text_wanted words name action files option text bare g).fine has is
+
+pub jump_failed : (words : List Text) (error : Error) (failure : Failure LineFault) → HasKind (fault_of plm_app words) error → IsFailureFor error failure
+    → OrdersJump words (Err failure)
+jump_failed words error failure has is = λ name files text bare g. only_memory error failure (fault_of plm_app words) (jump_wanted words name files text bare g).fine has is
 
 pub need_failed : (words : List Text) (error : Error) (failure : Failure LineFault) → HasKind (fault_of plm_app words) error → IsFailureFor error failure
     → OrdersNeed words (Err failure)

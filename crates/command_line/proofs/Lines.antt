@@ -1,8 +1,8 @@
 -- Words of one option at most, after a command: they have no fault, and give what is wanted.
-use Rattle.command_line.proofs.Prelude.{◌≡◌, ◌∙◌, List, [], ◌∷◌, ◌++◌, true, false, refl, ap, codes, fold, Row, Text, nothing_held, rows_after, with_default, check_fault, defaults_fault, level_fault, Action, PlaceAction, Locate, Hex, Code, DataBase, Input, Limit, OfPlan, PlanOption, Stack, StackSize, ValueOption, Wanted, option_words, plan_option_name, option_name, usual, usual_place, usual_plan, wants_link, wants_need, wants_place, wants_program, with_plan_text, with_text}
+use Rattle.command_line.proofs.Prelude.{◌≡◌, ◌∙◌, List, [], ◌∷◌, ◌++◌, Some, true, false, refl, ap, codes, fold, Row, Text, nothing_held, rows_after, with_default, check_fault, defaults_fault, level_fault, Action, PlaceAction, Locate, Hex, Code, DataBase, Input, Limit, OfPlan, PlanOption, Stack, StackSize, ValueOption, Wanted, option_words, plan_option_name, option_name, usual, usual_place, usual_plan, wants_link, wants_need, wants_place, wants_program, with_plan_text, with_text}
 use Rattle.command_line.proofs.Files.{files_row, level_of, rows_of_level}
-use Rattle.command_line.proofs.Begins.{Ends, map_flag, need_flag, of_place, of_program, option_row, out, rows_of_flag}
-use Rattle.command_line.proofs.Verbs.{Located, Objects, Sources, Verb, form_of, leaf, leaf_of, link, name_of, place, program, rules_of, wanted_of}
+use Rattle.command_line.proofs.Begins.{Ends, jump, map_flag, need_flag, of_place, of_program, option_row, out, rows_of_flag}
+use Rattle.command_line.proofs.Verbs.{Located, Objects, Placed, Sources, Verb, form_of, leaf, leaf_of, link, name_of, place, program, rules_of, wanted_of}
 
 -- such words have no fault, and give what is wanted
 pub record Line (verb : Verb) (words : List Text) (wanted : Wanted) : Type 0 where
@@ -56,6 +56,13 @@ pub link_line : (name file : Text) (files : List Text) → Ends (leaf Objects (c
 unfolding defaults_fault
 link_line name file files e =
     line_of link (option_words (codes "out") name ++ file ∷ files) (option_row out name ∷ files_row (file ∷ files) ∷ []) (wants_link (record { out = name; objects = file ∷ files })) e refl refl refl
+
+pub jump_line : (text file : Text) (files : List Text) → Ends (leaf Placed (codes "hex")) (option_words (codes "jump") text ++ file ∷ files) (option_row jump text ∷ files_row (file ∷ files) ∷ [])
+    → Line (place Hex) (option_words (codes "jump") text ++ file ∷ files) (wants_place (record (usual_place Hex (file ∷ files)) { jump = Some text }))
+unfolding defaults_fault
+jump_line text file files e =
+    line_of (place Hex) (option_words (codes "jump") text ++ file ∷ files) (option_row jump text ∷ files_row (file ∷ files) ∷ [])
+    (wants_place (record (usual_place Hex (file ∷ files)) { jump = Some text })) e refl refl refl
 
 pub need_line : (file : Text) (files : List Text)
     → Ends (leaf Located (codes "locate")) (codes "--need" ∷ file ∷ files) (rows_of_flag need_flag ++ files_row (file ∷ files) ∷ [])

@@ -1,5 +1,5 @@
 -- The commands, by the form of their arguments.
-use Rattle.command_line.proofs.Prelude.{List, [], codes, Row, Rule, Shape, Text, built_leaf, new_shape, Action, PlaceAction, Locate, Hex, Wanted, compile_app, compile_of, link_app, link_of, locate_app, located_of, name_of_action, name_of_place_action, place_app, place_of, program_app, program_of, wants_compile, wants_link, wants_place, wants_program}
+use Rattle.command_line.proofs.Prelude.{List, [], codes, Row, Rule, Shape, Text, built_leaf, new_shape, Action, PlaceAction, Locate, Hex, Wanted, compile_app, compile_of, link_app, link_of, locate_app, located_of, name_of_action, name_of_place_action, hex_app, place_of, program_app, program_of, wants_compile, wants_link, wants_place, wants_program}
 
 -- what the files of a command are
 pub data Form : Type 0 where
@@ -12,7 +12,7 @@ pub data Form : Type 0 where
 abbrev pub rules : Form → List Rule
 rules Sources = (built_leaf (program_app []).top).rules
 rules Objects = (built_leaf (link_app []).top).rules
-rules Placed = (built_leaf (place_app []).top).rules
+rules Placed = (built_leaf (hex_app []).top).rules
 rules Located = (built_leaf (locate_app []).top).rules
 
 -- that of a command on an object

@@ -344,6 +344,10 @@ Prints a line for each 16 bytes, by rising addresses, and an end line:
   :nnaaaa00bb..ss  nn bytes bb from address aaaa on, and a checksum
   :00000001FF      the end
 
+With --jump it also prints the three bytes of a jump to the start, at that address: a ROM that
+is started at 0 takes --jump 0 --code 3, and a program for CP/M --jump 256 --code 259. A jump
+that overlaps the code, the data or the stack is P1, and one that passes the end of memory P2.
+
 Exit status:
   0  all was printed, or help was asked for
   1  the object or its place was refused, memory ran out, or a file can't be read

@@ -75,6 +75,8 @@ pub struct PlaceOrder<'a> {
     pub files: Vec<&'a str>,
     /// Where the parts of the program are to lie.
     pub plan: PlanTexts<'a>,
+    /// The address of a jump to the start, where that was said. Only `hex` takes one.
+    pub jump: Option<&'a str>,
 }
 
 /// An order to tell how much of the stack the program of sources needs. Its plan has to be one, and changes nothing.

@@ -5,7 +5,7 @@ ghost use Rattle.std.specs.Prelude.{Some, option_and_then, option_map, unwrap_or
 ghost use Rattle.clap.specs.Walk.{texts};
 ghost use Rattle.clap.specs.Words.{all_of, fault_of, first_of, found_of, rows_of, subcommand_rows_of};
 ghost use Rattle.failure.specs.Failure.{IfFault};
-ghost use Rattle.command_line.specs.Command.{IsFaultOf, Orders, OrdersCompile, OrdersFiles, OrdersLink, OrdersMap};
+ghost use Rattle.command_line.specs.Command.{IsFaultOf, Orders, OrdersCompile, OrdersFiles, OrdersJump, OrdersLink, OrdersMap};
 ghost use Rattle.command_line.specs.Command.{OrdersNeed, OrdersPlace, OrdersPlaceText, OrdersText};
 ghost use Rattle.command_line.specs.Command.{files_in, is_set, link_of, located_of, need_of, place_of, plan_in, plan_of};
 ghost use Rattle.command_line.specs.Command.{plm_app, program_of, text_of};
@@ -158,6 +158,7 @@ fn place<'a>(
         action,
         files,
         plan: plan(matches),
+        jump: first(matches, "jump"),
     })))
 }
 
@@ -237,6 +238,7 @@ pub fn command<'a>(alloc: Global, words: &'a [&'a str]) -> Result<Order<'a>, Fai
     ensures link { OrdersLink (texts words.entry.now) result }
     ensures place { OrdersPlace (texts words.entry.now) result }
     ensures place_option { OrdersPlaceText (texts words.entry.now) result }
+    ensures jump { OrdersJump (texts words.entry.now) result }
     ensures need { OrdersNeed (texts words.entry.now) result }
     ensures order { IfOk result (λ order. Orders (texts words.entry.now) order) }
     ensures some { IfOk result (λ order. 0 < length (files_in (wanted_in order))) }

@@ -6,10 +6,10 @@ ghost use Rattle.std.specs.Option.{SomeIff};
 ghost use Rattle.std.specs.Char.{digit_value, is_digit};
 ghost use Rattle.failure.specs.Failure.{IfFault};
 ghost use Rattle.clap.specs.Walk.{texts};
-ghost use Rattle.command_line.specs.Command.{plan_in, program_in};
+ghost use Rattle.command_line.specs.Command.{place_in, plan_in, program_in};
 ghost use Rattle.command_line.specs.Settings.{HasMemory, IsSettingsOf, byte_of, bytes_for, group_bytes};
 ghost use Rattle.command_line.specs.Settings.{groups_bytes};
-ghost use Rattle.command_line.specs.Settings.{input_bytes, input_read, limit_number, only_file, plan_number};
+ghost use Rattle.command_line.specs.Settings.{input_bytes, input_read, jump_read, limit_number, only_file, plan_number};
 ghost use Rattle.command_line.specs.Settings.{plan_read};
 ghost use Rattle.command_line.specs.Settings.{values_read};
 ghost use Rattle.command_line.specs.Settings.{Reads, ReadsFile};
@@ -233,6 +233,19 @@ impl<'a> PlaceOrder<'a> {
         ensures { Reads (plan_read (plan_in self.now.plan)) result }
     {
         plan_of(&self.plan)
+    }
+
+    /// The address of a jump to the start, where one is wanted. It answers U4 only where its text is none of its values.
+    pub fn jump(&self) -> Result<Option<u16>, ValueFault<'a>>
+        ensures { Reads (jump_read (place_in self.now).jump) result }
+    {
+        match self.jump {
+            Some(text) => {
+                let address = place(text)?;
+                Ok(Some(address))
+            }
+            None => Ok(None),
+        }
     }
 
     /// The object file. It answers U4 where there are more files than one, with the second.
