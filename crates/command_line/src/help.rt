@@ -174,6 +174,11 @@ pub(crate) const HEX: Teaching = Teaching {
     printed: PRINTED_BY_HEX,
 };
 
+pub(crate) const EXECUTE: Teaching = Teaching {
+    about: "Merges object files, places the merge in memory, and runs it on a simulated 8080",
+    printed: PRINTED_BY_EXECUTE,
+};
+
 pub(crate) const RUN_LIMIT: &str = "The most instructions that are run, to 1000000000000";
 
 pub(crate) const INTERPRET_LIMIT: &str =
@@ -363,4 +368,38 @@ the code, prints
 
 Numbers, where X is the name or the text that is printed with one:
 " OBJECTS PLACES IMAGES FILES VALUES MEMORY "\n\
+Read more in the folder docs: faults.md (each number with an example and its cure), commands.md");
+
+const PRINTED_BY_EXECUTE: &str = text_of!([] "\
+The objects are merged as `plm link` merges them, and the merge is placed as `plm hex` places it:
+one of them is a main module, and each external name is a public name of another.
+
+Prints what `plm run` prints, a line for each byte at a port, and then how the run ended:
+  OUT pp vv  the program wrote the byte vv to port pp, both in hexadecimal digits
+  IN pp vv   the program read the byte vv from port pp; a port with no input gives FF
+  HALT       the program halted
+  LIMIT      as many instructions were run as --limit says
+  ILLEGAL    an undocumented instruction code was met
+  PORT       a port failed
+
+Input is groups joined by `/`, each a port, a colon and the bytes that the port gives, all in
+hexadecimal digits: 01:0904/02:FF gives 09 and then 04 at port 01, and FF at port 02.
+
+Exit status:
+  0  the program halted, or help was asked for
+  1  an object, the merge or its place was refused, memory ran out, or a file can't be read
+  2  the command line is wrong, or a value in it
+  3  LIMIT
+  4  ILLEGAL or PORT
+
+A refused object prints `number file 0` to standard error, a refused merge the name of a public
+that is there twice (L1) or of an external that none has (L2), or `-`, a refused place
+`number - 0`, and a refused value `U4 text 0`.
+
+Example: run a module together with one that an assembler made
+  plm compile main.plm main.obj
+  plm execute main.obj show.obj
+
+Numbers, where X is the name or the text that is printed with one:
+" MERGES OBJECTS PLACES IMAGES FILES VALUES MEMORY "\n\
 Read more in the folder docs: faults.md (each number with an example and its cure), commands.md");
