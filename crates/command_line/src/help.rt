@@ -83,7 +83,11 @@ macro_rules! text_of {
     ([$($done:literal)*] IMAGES $($rest:tt)*) => {
         text_of!([$($done)* "  P3      an external name is left
   P4      the module has no start
-  P5      a high byte is fixed to what would begin at no multiple of 256
+"] PAGES $($rest)*)
+    };
+    // of what has to begin at a page
+    ([$($done:literal)*] PAGES $($rest:tt)*) => {
+        text_of!([$($done)* "  P5      a high byte is fixed to what would begin at no multiple of 256
   P6      a page-aligned segment would begin at no multiple of 256
 "] $($rest)*)
     };
@@ -401,5 +405,5 @@ Example: run a module together with one that an assembler made
   plm execute main.obj show.obj
 
 Numbers, where X is the name or the text that is printed with one:
-" MERGES OBJECTS PLACES IMAGES FILES VALUES MEMORY "\n\
+" MERGES OBJECTS PLACES PAGES FILES VALUES MEMORY "\n\
 Read more in the folder docs: faults.md (each number with an example and its cure), commands.md");
