@@ -1,7 +1,7 @@
 -- What may come before the files: nothing, an option with its text, or a flag.
-use Rattle.command_line.proofs.Prelude.{◌≡◌, ◌∙◌, List, [], ◌∷◌, ◌++◌, Some, None, false, refl, ap, codes, fold, AllByRecursion, clap_on_literals, Kinds, Row, Shape, Text, Held, Walk, idle, option, has_row, nothing_held, reading_by, settled, walk, walk_from, walked, filled, settle_fault, turn_fault, walk_fault, or_else, CommandLine, PlaceAction, Locate, Hex, Code, DataBase, Input, IsBare, Limit, OfPlan, PlanOption, Stack, StackSize, ValueOption, flag_rule, option_name, option_words, plan_option_name}
+use Rattle.command_line.proofs.Prelude.{◌≡◌, ◌∙◌, List, [], ◌∷◌, ◌++◌, Some, None, false, refl, ap, codes, fold, AllByRecursion, clap_on_literals, Kinds, Row, Shape, Text, Held, Walk, idle, option, has_row, nothing_held, reading_by, settled, walk, walk_from, walked, filled, settle_fault, turn_fault, walk_fault, or_else, CommandLine, PlaceAction, Locate, Hex, Code, DataBase, Input, IsBare, Limit, OfPlan, PlanOption, Stack, StackSize, ExecuteOption, PlaceOf, RunInput, RunLimit, ValueOption, execute_option_name, flag_rule, option_name, option_words, plan_option_name}
 use Rattle.command_line.proofs.Files.{all_done, bare_fault, bare_word, done_of, files_fault, files_filled, files_row, files_rows, files_walk, last_of, rows_more, state}
-use Rattle.command_line.proofs.Verbs.{Form, Located, Objects, Placed, Sources, form_of, leaf, rules}
+use Rattle.command_line.proofs.Verbs.{Executed, Form, Located, Objects, Placed, Sources, form_of, leaf, rules}
 
 then_walk : (form : Form) (w v : Walk) (word : Text) (rest : List Text) → walked (rules form) [] w word ≡ v
     → fold (walked (rules form) []) w (word ∷ rest) ≡ fold (walked (rules form) []) v rest
@@ -41,6 +41,7 @@ found_step Sources rows file bare = rw (bare_word (rules Sources) idle 1 file (f
 found_step Objects rows file bare = rw (bare_word (rules Objects) idle 1 file (found_walk rows).held bare) (rw (nothing_after rows) refl)
 found_step Placed rows file bare = rw (bare_word (rules Placed) idle 1 file (found_walk rows).held bare) (rw (nothing_after rows) refl)
 found_step Located rows file bare = rw (bare_word (rules Located) idle 1 file (found_walk rows).held bare) (rw (nothing_after rows) refl)
+found_step Executed rows file bare = rw (bare_word (rules Executed) idle 1 file (found_walk rows).held bare) (rw (nothing_after rows) refl)
 
 found_turn : (form : Form) (name : Text) (rows : List Row) (file : Text) → IsBare file → turn_fault (leaf form name) [] (found_walk rows) file ≡ []
 found_turn Sources name rows file bare =
@@ -51,6 +52,8 @@ found_turn Placed name rows file bare =
     rw (bare_word (rules Placed) idle 1 file (found_walk rows).held bare, bare_fault (leaf Placed name) idle file (found_walk rows).held bare) refl
 found_turn Located name rows file bare =
     rw (bare_word (rules Located) idle 1 file (found_walk rows).held bare, bare_fault (leaf Located name) idle file (found_walk rows).held bare) refl
+found_turn Executed name rows file bare =
+    rw (bare_word (rules Executed) idle 1 file (found_walk rows).held bare, bare_fault (leaf Executed name) idle file (found_walk rows).held bare) refl
 
 pub plain_begins : (form : Form) (name : Text) → Begins form name [] []
 plain_begins form name = record {
@@ -111,16 +114,22 @@ pub data Choice : Type 0 where
   of_program : ValueOption → Choice
   of_place : PlaceAction → PlanOption → Choice
   out : Choice
+  jump : Choice
+  of_execute : ExecuteOption → Choice
 
 abbrev pub form_at : Choice → Form
 form_at (of_program o) = Sources
 form_at (of_place action o) = form_of action
 form_at out = Objects
+form_at jump = Placed
+form_at (of_execute o) = Executed
 
 abbrev pub name_at : Choice → Text
 name_at (of_program o) = option_name o
 name_at (of_place action o) = plan_option_name o
 name_at out = codes "out"
+name_at jump = codes "jump"
+name_at (of_execute o) = execute_option_name o
 
 abbrev pub option_row : Choice → Text → Row
 option_row o text = record { id = name_at o; values = text ∷ []; count = None; source = Some CommandLine; reading = reading_by files_filled }
@@ -160,6 +169,13 @@ option_step (of_place Hex Stack) = refl
 option_step (of_place Locate StackSize) = refl
 option_step (of_place Hex StackSize) = refl
 option_step out = refl
+option_step jump = refl
+option_step (of_execute (PlaceOf Code)) = refl
+option_step (of_execute (PlaceOf DataBase)) = refl
+option_step (of_execute (PlaceOf Stack)) = refl
+option_step (of_execute (PlaceOf StackSize)) = refl
+option_step (of_execute RunLimit) = refl
+option_step (of_execute RunInput) = refl
 
 option_turn : (name : Text) (o : Choice) → turn_fault (leaf (form_at o) name) [] (found_walk []) (45 ∷ 45 ∷ name_at o) ≡ []
 unfolding clap_on_literals
@@ -178,6 +194,13 @@ option_turn name (of_place Hex Stack) = refl
 option_turn name (of_place Locate StackSize) = refl
 option_turn name (of_place Hex StackSize) = refl
 option_turn name out = refl
+option_turn name jump = refl
+option_turn name (of_execute (PlaceOf Code)) = refl
+option_turn name (of_execute (PlaceOf DataBase)) = refl
+option_turn name (of_execute (PlaceOf Stack)) = refl
+option_turn name (of_execute (PlaceOf StackSize)) = refl
+option_turn name (of_execute RunLimit) = refl
+option_turn name (of_execute RunInput) = refl
 
 text_step : (o : Choice) (text : Text) → IsBare text → walked (rules (form_at o)) [] (waiting_walk o) text ≡ pending_walk o text
 unfolding walked
@@ -196,6 +219,13 @@ text_step (of_place Hex Stack) text bare = rw (bare_word (rules Placed) (waiting
 text_step (of_place Locate StackSize) text bare = rw (bare_word (rules Located) (waiting_walk (of_place Locate StackSize)).waiting 1 text (waiting_walk (of_place Locate StackSize)).held bare) refl
 text_step (of_place Hex StackSize) text bare = rw (bare_word (rules Placed) (waiting_walk (of_place Hex StackSize)).waiting 1 text (waiting_walk (of_place Hex StackSize)).held bare) refl
 text_step out text bare = rw (bare_word (rules Objects) (waiting_walk out).waiting 1 text (waiting_walk out).held bare) refl
+text_step jump text bare = rw (bare_word (rules Placed) (waiting_walk jump).waiting 1 text (waiting_walk jump).held bare) refl
+text_step (of_execute (PlaceOf Code)) text bare = rw (bare_word (rules Executed) (waiting_walk (of_execute (PlaceOf Code))).waiting 1 text (waiting_walk (of_execute (PlaceOf Code))).held bare) refl
+text_step (of_execute (PlaceOf DataBase)) text bare = rw (bare_word (rules Executed) (waiting_walk (of_execute (PlaceOf DataBase))).waiting 1 text (waiting_walk (of_execute (PlaceOf DataBase))).held bare) refl
+text_step (of_execute (PlaceOf Stack)) text bare = rw (bare_word (rules Executed) (waiting_walk (of_execute (PlaceOf Stack))).waiting 1 text (waiting_walk (of_execute (PlaceOf Stack))).held bare) refl
+text_step (of_execute (PlaceOf StackSize)) text bare = rw (bare_word (rules Executed) (waiting_walk (of_execute (PlaceOf StackSize))).waiting 1 text (waiting_walk (of_execute (PlaceOf StackSize))).held bare) refl
+text_step (of_execute RunLimit) text bare = rw (bare_word (rules Executed) (waiting_walk (of_execute RunLimit)).waiting 1 text (waiting_walk (of_execute RunLimit)).held bare) refl
+text_step (of_execute RunInput) text bare = rw (bare_word (rules Executed) (waiting_walk (of_execute RunInput)).waiting 1 text (waiting_walk (of_execute RunInput)).held bare) refl
 
 text_turn : (name : Text) (o : Choice) (text : Text) → IsBare text → turn_fault (leaf (form_at o) name) [] (waiting_walk o) text ≡ []
 text_turn name (of_program (OfPlan Code)) text bare =
@@ -228,6 +258,20 @@ text_turn name (of_place Hex StackSize) text bare =
     rw (bare_word (rules Placed) (waiting_walk (of_place Hex StackSize)).waiting 1 text (waiting_walk (of_place Hex StackSize)).held bare, bare_fault (leaf Placed name) (waiting_walk (of_place Hex StackSize)).waiting text (waiting_walk (of_place Hex StackSize)).held bare) refl
 text_turn name out text bare =
     rw (bare_word (rules Objects) (waiting_walk out).waiting 1 text (waiting_walk out).held bare, bare_fault (leaf Objects name) (waiting_walk out).waiting text (waiting_walk out).held bare) refl
+text_turn name jump text bare =
+    rw (bare_word (rules Placed) (waiting_walk jump).waiting 1 text (waiting_walk jump).held bare, bare_fault (leaf Placed name) (waiting_walk jump).waiting text (waiting_walk jump).held bare) refl
+text_turn name (of_execute (PlaceOf Code)) text bare =
+    rw (bare_word (rules Executed) (waiting_walk (of_execute (PlaceOf Code))).waiting 1 text (waiting_walk (of_execute (PlaceOf Code))).held bare, bare_fault (leaf Executed name) (waiting_walk (of_execute (PlaceOf Code))).waiting text (waiting_walk (of_execute (PlaceOf Code))).held bare) refl
+text_turn name (of_execute (PlaceOf DataBase)) text bare =
+    rw (bare_word (rules Executed) (waiting_walk (of_execute (PlaceOf DataBase))).waiting 1 text (waiting_walk (of_execute (PlaceOf DataBase))).held bare, bare_fault (leaf Executed name) (waiting_walk (of_execute (PlaceOf DataBase))).waiting text (waiting_walk (of_execute (PlaceOf DataBase))).held bare) refl
+text_turn name (of_execute (PlaceOf Stack)) text bare =
+    rw (bare_word (rules Executed) (waiting_walk (of_execute (PlaceOf Stack))).waiting 1 text (waiting_walk (of_execute (PlaceOf Stack))).held bare, bare_fault (leaf Executed name) (waiting_walk (of_execute (PlaceOf Stack))).waiting text (waiting_walk (of_execute (PlaceOf Stack))).held bare) refl
+text_turn name (of_execute (PlaceOf StackSize)) text bare =
+    rw (bare_word (rules Executed) (waiting_walk (of_execute (PlaceOf StackSize))).waiting 1 text (waiting_walk (of_execute (PlaceOf StackSize))).held bare, bare_fault (leaf Executed name) (waiting_walk (of_execute (PlaceOf StackSize))).waiting text (waiting_walk (of_execute (PlaceOf StackSize))).held bare) refl
+text_turn name (of_execute RunLimit) text bare =
+    rw (bare_word (rules Executed) (waiting_walk (of_execute RunLimit)).waiting 1 text (waiting_walk (of_execute RunLimit)).held bare, bare_fault (leaf Executed name) (waiting_walk (of_execute RunLimit)).waiting text (waiting_walk (of_execute RunLimit)).held bare) refl
+text_turn name (of_execute RunInput) text bare =
+    rw (bare_word (rules Executed) (waiting_walk (of_execute RunInput)).waiting 1 text (waiting_walk (of_execute RunInput)).held bare, bare_fault (leaf Executed name) (waiting_walk (of_execute RunInput)).waiting text (waiting_walk (of_execute RunInput)).held bare) refl
 
 value_step : (o : Choice) (text file : Text) → IsBare file → walked (rules (form_at o)) [] (pending_walk o text) file ≡ state (option_row o text ∷ []) [] file
 unfolding walked
@@ -246,6 +290,13 @@ value_step (of_place Hex Stack) text file bare = rw (bare_word (rules Placed) id
 value_step (of_place Locate StackSize) text file bare = rw (bare_word (rules Located) idle 1 file (pending_walk (of_place Locate StackSize) text).held bare) refl
 value_step (of_place Hex StackSize) text file bare = rw (bare_word (rules Placed) idle 1 file (pending_walk (of_place Hex StackSize) text).held bare) refl
 value_step out text file bare = rw (bare_word (rules Objects) idle 1 file (pending_walk out text).held bare) refl
+value_step jump text file bare = rw (bare_word (rules Placed) idle 1 file (pending_walk jump text).held bare) refl
+value_step (of_execute (PlaceOf Code)) text file bare = rw (bare_word (rules Executed) idle 1 file (pending_walk (of_execute (PlaceOf Code)) text).held bare) refl
+value_step (of_execute (PlaceOf DataBase)) text file bare = rw (bare_word (rules Executed) idle 1 file (pending_walk (of_execute (PlaceOf DataBase)) text).held bare) refl
+value_step (of_execute (PlaceOf Stack)) text file bare = rw (bare_word (rules Executed) idle 1 file (pending_walk (of_execute (PlaceOf Stack)) text).held bare) refl
+value_step (of_execute (PlaceOf StackSize)) text file bare = rw (bare_word (rules Executed) idle 1 file (pending_walk (of_execute (PlaceOf StackSize)) text).held bare) refl
+value_step (of_execute RunLimit) text file bare = rw (bare_word (rules Executed) idle 1 file (pending_walk (of_execute RunLimit) text).held bare) refl
+value_step (of_execute RunInput) text file bare = rw (bare_word (rules Executed) idle 1 file (pending_walk (of_execute RunInput) text).held bare) refl
 
 value_turn : (name : Text) (o : Choice) (text file : Text) → IsBare file → turn_fault (leaf (form_at o) name) [] (pending_walk o text) file ≡ []
 value_turn name (of_program (OfPlan Code)) text file bare =
@@ -278,6 +329,20 @@ value_turn name (of_place Hex StackSize) text file bare =
     rw (bare_word (rules Placed) idle 1 file (pending_walk (of_place Hex StackSize) text).held bare, bare_fault (leaf Placed name) idle file (pending_walk (of_place Hex StackSize) text).held bare) refl
 value_turn name out text file bare =
     rw (bare_word (rules Objects) idle 1 file (pending_walk out text).held bare, bare_fault (leaf Objects name) idle file (pending_walk out text).held bare) refl
+value_turn name jump text file bare =
+    rw (bare_word (rules Placed) idle 1 file (pending_walk jump text).held bare, bare_fault (leaf Placed name) idle file (pending_walk jump text).held bare) refl
+value_turn name (of_execute (PlaceOf Code)) text file bare =
+    rw (bare_word (rules Executed) idle 1 file (pending_walk (of_execute (PlaceOf Code)) text).held bare, bare_fault (leaf Executed name) idle file (pending_walk (of_execute (PlaceOf Code)) text).held bare) refl
+value_turn name (of_execute (PlaceOf DataBase)) text file bare =
+    rw (bare_word (rules Executed) idle 1 file (pending_walk (of_execute (PlaceOf DataBase)) text).held bare, bare_fault (leaf Executed name) idle file (pending_walk (of_execute (PlaceOf DataBase)) text).held bare) refl
+value_turn name (of_execute (PlaceOf Stack)) text file bare =
+    rw (bare_word (rules Executed) idle 1 file (pending_walk (of_execute (PlaceOf Stack)) text).held bare, bare_fault (leaf Executed name) idle file (pending_walk (of_execute (PlaceOf Stack)) text).held bare) refl
+value_turn name (of_execute (PlaceOf StackSize)) text file bare =
+    rw (bare_word (rules Executed) idle 1 file (pending_walk (of_execute (PlaceOf StackSize)) text).held bare, bare_fault (leaf Executed name) idle file (pending_walk (of_execute (PlaceOf StackSize)) text).held bare) refl
+value_turn name (of_execute RunLimit) text file bare =
+    rw (bare_word (rules Executed) idle 1 file (pending_walk (of_execute RunLimit) text).held bare, bare_fault (leaf Executed name) idle file (pending_walk (of_execute RunLimit) text).held bare) refl
+value_turn name (of_execute RunInput) text file bare =
+    rw (bare_word (rules Executed) idle 1 file (pending_walk (of_execute RunInput) text).held bare, bare_fault (leaf Executed name) idle file (pending_walk (of_execute RunInput) text).held bare) refl
 
 no_file_in : (o : Choice) (text : Text) → has_row (codes "FILES") (option_row o text ∷ []) ≡ false
 no_file_in (of_program (OfPlan Code)) text = refl
@@ -295,6 +360,13 @@ no_file_in (of_place Hex Stack) text = refl
 no_file_in (of_place Locate StackSize) text = refl
 no_file_in (of_place Hex StackSize) text = refl
 no_file_in out text = refl
+no_file_in jump text = refl
+no_file_in (of_execute (PlaceOf Code)) text = refl
+no_file_in (of_execute (PlaceOf DataBase)) text = refl
+no_file_in (of_execute (PlaceOf Stack)) text = refl
+no_file_in (of_execute (PlaceOf StackSize)) text = refl
+no_file_in (of_execute RunLimit) text = refl
+no_file_in (of_execute RunInput) text = refl
 
 pub option_begins : (name : Text) (o : Choice) (text : Text) → IsBare text → Begins (form_at o) name (option_words (name_at o) text) (option_row o text ∷ [])
 option_begins name o text fits = record {
@@ -320,6 +392,7 @@ settle_by Sources before done last = refl
 settle_by Objects before done last = refl
 settle_by Placed before done last = refl
 settle_by Located before done last = refl
+settle_by Executed before done last = refl
 
 settles_by : (form : Form) (before : List Row) (done : List Text) (last : Text) → has_row (codes "FILES") before ≡ false
     → (settled (rules form) (state before done last).held).rows ≡ before ++ files_rows (done ++ last ∷ [])
@@ -327,6 +400,7 @@ settles_by Sources before done last none = rows_more before done last none
 settles_by Objects before done last none = rows_more before done last none
 settles_by Placed before done last none = rows_more before done last none
 settles_by Located before done last none = rows_more before done last none
+settles_by Executed before done last none = rows_more before done last none
 
 pub ends_by : (form : Form) (name : Text) (first : List Text) (before : List Row) → Begins form name first before → (file : Text) (files : List Text) → IsBare file
     → AllByRecursion IsBare files → Ends (leaf form name) (first ++ file ∷ files) (before ++ files_row (file ∷ files) ∷ [])

@@ -1,8 +1,8 @@
 -- Command lines of one option at most: they have no fault, and give what is wanted.
-use Rattle.command_line.proofs.Prelude.{◌≡◌, ◌∙◌, List, [], ◌∷◌, ◌++◌, Some, Ok, Err, codes, sym, arith, true, HasKind, Text, fault_of, Error, Failure, Action, Order, PlaceAction, Locate, LineFault, IsFailureFor, Gives, IsBare, Orders, OrdersCompile, OrdersFiles, OrdersLink, OrdersMap, OrdersNeed, OrdersPlace, OrdersPlaceText, OrdersText, PlanOption, ValueOption, Wanted, name_of_action, name_of_place_action, option_name, option_words, plan_option_name, plm_app, usual, usual_place, usual_plan, wanted_by, wanted_in, wants_compile, wants_link, wants_need, wants_place, wants_program, with_plan_text, with_text}
-use Rattle.command_line.proofs.Begins.{ends_by, flag_begins, map_flag, need_flag, of_place, of_program, option_begins, option_row, out, plain_begins, rows_of_flag}
-use Rattle.command_line.proofs.Lines.{Line, link_line, map_line, need_line, option_line, place_line, place_option_line, plain_line}
-use Rattle.command_line.proofs.Verbs.{Located, Objects, Sources, Verb, compile, form_of, link, name_of, place, program}
+use Rattle.command_line.proofs.Prelude.{◌≡◌, ◌∙◌, List, [], ◌∷◌, ◌++◌, Some, Ok, Err, codes, sym, arith, true, HasKind, Text, fault_of, Error, Failure, Action, Order, PlaceAction, Hex, Locate, LineFault, IsFailureFor, Gives, IsBare, Orders, OrdersCompile, OrdersExecute, OrdersExecuteText, OrdersFiles, OrdersJump, OrdersLink, OrdersMap, OrdersNeed, OrdersPlace, OrdersPlaceText, OrdersText, ExecuteOption, PlanOption, ValueOption, execute_option_name, usual_execute, wants_execute, with_execute_text, Wanted, name_of_action, name_of_place_action, option_name, option_words, plan_option_name, plm_app, usual, usual_place, usual_plan, wanted_by, wanted_in, wants_compile, wants_link, wants_need, wants_place, wants_program, with_plan_text, with_text}
+use Rattle.command_line.proofs.Begins.{ends_by, flag_begins, jump, map_flag, need_flag, of_execute, of_place, of_program, option_begins, option_row, out, plain_begins, rows_of_flag}
+use Rattle.command_line.proofs.Lines.{Line, execute_line, execute_option_line, jump_line, link_line, map_line, need_line, option_line, place_line, place_option_line, plain_line}
+use Rattle.command_line.proofs.Verbs.{Executed, Located, Objects, Placed, Sources, Verb, compile, execute, form_of, link, name_of, place, program}
 use Rattle.command_line.proofs.Compiles.{compile_line}
 use Rattle.command_line.proofs.CommandLemmas.{only_memory}
 use Rattle.command_line.proofs.PlmWords.{line_fine, line_wanted}
@@ -68,6 +68,14 @@ place_text_wanted words name action (file ∷ files) option text bare g =
     (place_option_line action option text file files
     (ends_by (form_of action) (name_of (place action)) (option_words (plan_option_name option) text) (option_row (of_place action option) text ∷ []) (option_begins (name_of (place action)) (of_place action option) text bare) file files g.bare.0 g.bare.1))
 
+jump_wanted : (words : List Text) (name : Text) (files : List Text) (text : Text) → IsBare text
+    → Gives words name (codes "hex") (option_words (codes "jump") text) files → Wants words (wants_place (record (usual_place Hex files) { jump = Some text }))
+jump_wanted words name [] text bare g = absurd (let none = g.some in omega arith)
+jump_wanted words name (file ∷ files) text bare g =
+    wants_by words (option_words (codes "jump") text ++ file ∷ files) name (place Hex) (wants_place (record (usual_place Hex (file ∷ files)) { jump = Some text })) g.words_are
+    (jump_line text file files
+    (ends_by Placed (codes "hex") (option_words (codes "jump") text) (option_row jump text ∷ []) (option_begins (codes "hex") jump text bare) file files g.bare.0 g.bare.1))
+
 need_wanted : (words : List Text) (name : Text) (files : List Text)
     → Gives words name (codes "locate") (codes "--need" ∷ []) files → Wants words (wants_need (record { files = files; plan = usual_plan }))
 need_wanted words name [] g = absurd (let none = g.some in omega arith)
@@ -75,6 +83,21 @@ need_wanted words name (file ∷ files) g =
     wants_by words (codes "--need" ∷ file ∷ files) name (place Locate) (wants_need (record { files = file ∷ files; plan = usual_plan })) g.words_are
     (need_line file files
     (ends_by Located (codes "locate") (codes "--need" ∷ []) (rows_of_flag need_flag) (flag_begins (codes "locate") need_flag) file files g.bare.0 g.bare.1))
+
+execute_wanted : (words : List Text) (name : Text) (files : List Text)
+    → Gives words name (codes "execute") [] files → Wants words (wants_execute (usual_execute files))
+execute_wanted words name [] g = absurd (let none = g.some in omega arith)
+execute_wanted words name (file ∷ files) g =
+    wants_by words (file ∷ files) name execute (wants_execute (usual_execute (file ∷ files))) g.words_are
+    (execute_line file files (ends_by Executed (codes "execute") [] [] (plain_begins Executed (codes "execute")) file files g.bare.0 g.bare.1))
+
+execute_text_wanted : (words : List Text) (name : Text) (files : List Text) (option : ExecuteOption) (text : Text) → IsBare text
+    → Gives words name (codes "execute") (option_words (execute_option_name option) text) files → Wants words (wants_execute (with_execute_text option text (usual_execute files)))
+execute_text_wanted words name [] option text bare g = absurd (let none = g.some in omega arith)
+execute_text_wanted words name (file ∷ files) option text bare g =
+    wants_by words (option_words (execute_option_name option) text ++ file ∷ files) name execute (wants_execute (with_execute_text option text (usual_execute (file ∷ files)))) g.words_are
+    (execute_option_line option text file files
+    (ends_by Executed (codes "execute") (option_words (execute_option_name option) text) (option_row (of_execute option) text ∷ []) (option_begins (codes "execute") (of_execute option) text bare) file files g.bare.0 g.bare.1))
 
 order_is : (words : List Text) (order : Order) (wanted : Wanted) → Orders words order → Wants words wanted → wanted_in order ≡ wanted
 order_is words order wanted found wants = let same : Some (wanted_in order) ≡ Some wanted = sym found ∙ wants.gives in cc
@@ -101,8 +124,17 @@ place_ordered words order found = λ name action files g. order_is words order (
 pub place_text_ordered : (words : List Text) (order : Order) → Orders words order → OrdersPlaceText words (Ok order)
 place_text_ordered words order found = λ name action files option text bare g. order_is words order (wants_place (record (usual_place action files) { plan = with_plan_text option text usual_plan })) found (place_text_wanted words name action files option text bare g)
 
+pub jump_ordered : (words : List Text) (order : Order) → Orders words order → OrdersJump words (Ok order)
+jump_ordered words order found = λ name files text bare g. order_is words order (wants_place (record (usual_place Hex files) { jump = Some text })) found (jump_wanted words name files text bare g)
+
 pub need_ordered : (words : List Text) (order : Order) → Orders words order → OrdersNeed words (Ok order)
 need_ordered words order found = λ name files g. order_is words order (wants_need (record { files = files; plan = usual_plan })) found (need_wanted words name files g)
+
+pub execute_ordered : (words : List Text) (order : Order) → Orders words order → OrdersExecute words (Ok order)
+execute_ordered words order found = λ name files g. order_is words order (wants_execute (usual_execute files)) found (execute_wanted words name files g)
+
+pub execute_text_ordered : (words : List Text) (order : Order) → Orders words order → OrdersExecuteText words (Ok order)
+execute_text_ordered words order found = λ name files option text bare g. order_is words order (wants_execute (with_execute_text option text (usual_execute files))) found (execute_text_wanted words name files option text bare g)
 
 -- where they have none, only memory can fail
 pub files_failed : (words : List Text) (error : Error) (failure : Failure LineFault) → HasKind (fault_of plm_app words) error → IsFailureFor error failure
@@ -133,6 +165,18 @@ pub place_text_failed : (words : List Text) (error : Error) (failure : Failure L
     → OrdersPlaceText words (Err failure)
 place_text_failed words error failure has is = λ name action files option text bare g. only_memory error failure (fault_of plm_app words) (place_text_wanted words name action files option text bare g).fine has is
 
+pub jump_failed : (words : List Text) (error : Error) (failure : Failure LineFault) → HasKind (fault_of plm_app words) error → IsFailureFor error failure
+    → OrdersJump words (Err failure)
+jump_failed words error failure has is = λ name files text bare g. only_memory error failure (fault_of plm_app words) (jump_wanted words name files text bare g).fine has is
+
 pub need_failed : (words : List Text) (error : Error) (failure : Failure LineFault) → HasKind (fault_of plm_app words) error → IsFailureFor error failure
     → OrdersNeed words (Err failure)
 need_failed words error failure has is = λ name files g. only_memory error failure (fault_of plm_app words) (need_wanted words name files g).fine has is
+
+pub execute_failed : (words : List Text) (error : Error) (failure : Failure LineFault) → HasKind (fault_of plm_app words) error → IsFailureFor error failure
+    → OrdersExecute words (Err failure)
+execute_failed words error failure has is = λ name files g. only_memory error failure (fault_of plm_app words) (execute_wanted words name files g).fine has is
+
+pub execute_text_failed : (words : List Text) (error : Error) (failure : Failure LineFault) → HasKind (fault_of plm_app words) error → IsFailureFor error failure
+    → OrdersExecuteText words (Err failure)
+execute_text_failed words error failure has is = λ name files option text bare g. only_memory error failure (fault_of plm_app words) (execute_text_wanted words name files option text bare g).fine has is

@@ -1,8 +1,8 @@
 -- Words of one option at most, after a command: they have no fault, and give what is wanted.
-use Rattle.command_line.proofs.Prelude.{◌≡◌, ◌∙◌, List, [], ◌∷◌, ◌++◌, true, false, refl, ap, codes, fold, Row, Text, nothing_held, rows_after, with_default, check_fault, defaults_fault, level_fault, Action, PlaceAction, Locate, Hex, Code, DataBase, Input, Limit, OfPlan, PlanOption, Stack, StackSize, ValueOption, Wanted, option_words, plan_option_name, option_name, usual, usual_place, usual_plan, wants_link, wants_need, wants_place, wants_program, with_plan_text, with_text}
+use Rattle.command_line.proofs.Prelude.{◌≡◌, ◌∙◌, List, [], ◌∷◌, ◌++◌, Some, true, false, refl, ap, codes, fold, Row, Text, nothing_held, rows_after, with_default, check_fault, defaults_fault, level_fault, Action, PlaceAction, Locate, Hex, Code, DataBase, Input, Limit, OfPlan, PlanOption, Stack, StackSize, ExecuteOption, PlaceOf, RunInput, RunLimit, ValueOption, execute_option_name, usual_execute, wants_execute, with_execute_text, Wanted, option_words, plan_option_name, option_name, usual, usual_place, usual_plan, wants_link, wants_need, wants_place, wants_program, with_plan_text, with_text}
 use Rattle.command_line.proofs.Files.{files_row, level_of, rows_of_level}
-use Rattle.command_line.proofs.Begins.{Ends, map_flag, need_flag, of_place, of_program, option_row, out, rows_of_flag}
-use Rattle.command_line.proofs.Verbs.{Located, Objects, Sources, Verb, form_of, leaf, leaf_of, link, name_of, place, program, rules_of, wanted_of}
+use Rattle.command_line.proofs.Begins.{Ends, jump, map_flag, need_flag, of_execute, of_place, of_program, option_row, out, rows_of_flag}
+use Rattle.command_line.proofs.Verbs.{Executed, Located, Objects, Placed, Sources, Verb, execute, form_of, leaf, leaf_of, link, name_of, place, program, rules_of, wanted_of}
 
 -- such words have no fault, and give what is wanted
 pub record Line (verb : Verb) (words : List Text) (wanted : Wanted) : Type 0 where
@@ -57,6 +57,13 @@ unfolding defaults_fault
 link_line name file files e =
     line_of link (option_words (codes "out") name ++ file ∷ files) (option_row out name ∷ files_row (file ∷ files) ∷ []) (wants_link (record { out = name; objects = file ∷ files })) e refl refl refl
 
+pub jump_line : (text file : Text) (files : List Text) → Ends (leaf Placed (codes "hex")) (option_words (codes "jump") text ++ file ∷ files) (option_row jump text ∷ files_row (file ∷ files) ∷ [])
+    → Line (place Hex) (option_words (codes "jump") text ++ file ∷ files) (wants_place (record (usual_place Hex (file ∷ files)) { jump = Some text }))
+unfolding defaults_fault
+jump_line text file files e =
+    line_of (place Hex) (option_words (codes "jump") text ++ file ∷ files) (option_row jump text ∷ files_row (file ∷ files) ∷ [])
+    (wants_place (record (usual_place Hex (file ∷ files)) { jump = Some text })) e refl refl refl
+
 pub need_line : (file : Text) (files : List Text)
     → Ends (leaf Located (codes "locate")) (codes "--need" ∷ file ∷ files) (rows_of_flag need_flag ++ files_row (file ∷ files) ∷ [])
     → Line (place Locate) (codes "--need" ∷ file ∷ files) (wants_need (record { files = file ∷ files; plan = usual_plan }))
@@ -99,3 +106,31 @@ place_option_line Locate StackSize text file files e =
 place_option_line Hex StackSize text file files e =
     line_of (place Hex) (option_words (plan_option_name StackSize) text ++ file ∷ files) (option_row (of_place Hex StackSize) text ∷ files_row (file ∷ files) ∷ [])
     (wants_place (record (usual_place Hex (file ∷ files)) { plan = with_plan_text StackSize text usual_plan })) e refl refl refl
+
+pub execute_line : (file : Text) (files : List Text) → Ends (leaf Executed (codes "execute")) (file ∷ files) (files_row (file ∷ files) ∷ [])
+    → Line execute (file ∷ files) (wants_execute (usual_execute (file ∷ files)))
+unfolding defaults_fault
+execute_line file files e = line_of execute (file ∷ files) (files_row (file ∷ files) ∷ []) (wants_execute (usual_execute (file ∷ files))) e refl refl refl
+
+pub execute_option_line : (o : ExecuteOption) (text file : Text) (files : List Text)
+    → Ends (leaf Executed (codes "execute")) (option_words (execute_option_name o) text ++ file ∷ files) (option_row (of_execute o) text ∷ files_row (file ∷ files) ∷ [])
+    → Line execute (option_words (execute_option_name o) text ++ file ∷ files) (wants_execute (with_execute_text o text (usual_execute (file ∷ files))))
+unfolding defaults_fault
+execute_option_line (PlaceOf Code) text file files e =
+    line_of execute (option_words (execute_option_name (PlaceOf Code)) text ++ file ∷ files) (option_row (of_execute (PlaceOf Code)) text ∷ files_row (file ∷ files) ∷ [])
+    (wants_execute (with_execute_text (PlaceOf Code) text (usual_execute (file ∷ files)))) e refl refl refl
+execute_option_line (PlaceOf DataBase) text file files e =
+    line_of execute (option_words (execute_option_name (PlaceOf DataBase)) text ++ file ∷ files) (option_row (of_execute (PlaceOf DataBase)) text ∷ files_row (file ∷ files) ∷ [])
+    (wants_execute (with_execute_text (PlaceOf DataBase) text (usual_execute (file ∷ files)))) e refl refl refl
+execute_option_line (PlaceOf Stack) text file files e =
+    line_of execute (option_words (execute_option_name (PlaceOf Stack)) text ++ file ∷ files) (option_row (of_execute (PlaceOf Stack)) text ∷ files_row (file ∷ files) ∷ [])
+    (wants_execute (with_execute_text (PlaceOf Stack) text (usual_execute (file ∷ files)))) e refl refl refl
+execute_option_line (PlaceOf StackSize) text file files e =
+    line_of execute (option_words (execute_option_name (PlaceOf StackSize)) text ++ file ∷ files) (option_row (of_execute (PlaceOf StackSize)) text ∷ files_row (file ∷ files) ∷ [])
+    (wants_execute (with_execute_text (PlaceOf StackSize) text (usual_execute (file ∷ files)))) e refl refl refl
+execute_option_line RunLimit text file files e =
+    line_of execute (option_words (execute_option_name RunLimit) text ++ file ∷ files) (option_row (of_execute RunLimit) text ∷ files_row (file ∷ files) ∷ [])
+    (wants_execute (with_execute_text RunLimit text (usual_execute (file ∷ files)))) e refl refl refl
+execute_option_line RunInput text file files e =
+    line_of execute (option_words (execute_option_name RunInput) text ++ file ∷ files) (option_row (of_execute RunInput) text ∷ files_row (file ∷ files) ∷ [])
+    (wants_execute (with_execute_text RunInput text (usual_execute (file ∷ files)))) e refl refl refl

@@ -1,5 +1,5 @@
 -- The commands, by the form of their arguments.
-use Rattle.command_line.proofs.Prelude.{List, [], codes, Row, Rule, Shape, Text, built_leaf, new_shape, Action, PlaceAction, Locate, Hex, Wanted, compile_app, compile_of, link_app, link_of, locate_app, located_of, name_of_action, name_of_place_action, place_app, place_of, program_app, program_of, wants_compile, wants_link, wants_place, wants_program}
+use Rattle.command_line.proofs.Prelude.{List, [], codes, Row, Rule, Shape, Text, built_leaf, new_shape, Action, PlaceAction, Locate, Hex, Wanted, compile_app, compile_of, execute_app, execute_of, link_app, link_of, locate_app, located_of, name_of_action, name_of_place_action, hex_app, place_of, program_app, program_of, wants_compile, wants_execute, wants_link, wants_place, wants_program}
 
 -- what the files of a command are
 pub data Form : Type 0 where
@@ -7,13 +7,15 @@ pub data Form : Type 0 where
   Objects : Form
   Placed : Form
   Located : Form
+  Executed : Form
 
 -- the arguments of a command
 abbrev pub rules : Form → List Rule
 rules Sources = (built_leaf (program_app []).top).rules
 rules Objects = (built_leaf (link_app []).top).rules
-rules Placed = (built_leaf (place_app []).top).rules
+rules Placed = (built_leaf (hex_app []).top).rules
 rules Located = (built_leaf (locate_app []).top).rules
+rules Executed = (built_leaf (execute_app []).top).rules
 
 -- that of a command on an object
 abbrev pub form_of : PlaceAction → Form
@@ -33,18 +35,21 @@ pub data Verb : Type 0 where
   program : Action → Verb
   link : Verb
   place : PlaceAction → Verb
+  execute : Verb
 
 abbrev pub name_of : Verb → Text
 name_of compile = codes "compile"
 name_of (program action) = name_of_action action
 name_of link = codes "link"
 name_of (place action) = name_of_place_action action
+name_of execute = codes "execute"
 
 abbrev pub rules_of : Verb → List Rule
 rules_of compile = compile_rules
 rules_of (program action) = rules Sources
 rules_of link = rules Objects
 rules_of (place action) = rules (form_of action)
+rules_of execute = rules Executed
 
 -- the command that was built
 abbrev pub leaf_of : Verb → Shape
@@ -57,3 +62,4 @@ wanted_of (program action) rows = wants_program (program_of action rows)
 wanted_of link rows = wants_link (link_of rows)
 wanted_of (place Locate) rows = located_of rows
 wanted_of (place Hex) rows = wants_place (place_of Hex rows)
+wanted_of execute rows = wants_execute (execute_of rows)

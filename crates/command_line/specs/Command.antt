@@ -18,10 +18,11 @@ use Rattle.command_line.specs.declared.orders.Action.TheVariants.{Run, Interpret
 use Rattle.command_line.specs.declared.orders.PlaceAction.{PlaceAction}
 use Rattle.command_line.specs.declared.orders.PlaceAction.TheVariants.{Locate, Hex}
 use Rattle.command_line.specs.declared.orders.CompileOrder.{CompileOrder}
+use Rattle.command_line.specs.declared.orders.ExecuteOrder.{ExecuteOrder}
 use Rattle.command_line.specs.declared.orders.LinkOrder.{LinkOrder}
 use Rattle.command_line.specs.declared.orders.NeedOrder.{NeedOrder}
 use Rattle.command_line.specs.declared.orders.Order.{Order}
-use Rattle.command_line.specs.declared.orders.Order.TheVariants.{Compile, Link, Need, Place, Program}
+use Rattle.command_line.specs.declared.orders.Order.TheVariants.{Compile, Execute, Link, Need, Place, Program}
 use Rattle.command_line.specs.declared.orders.PlaceOrder.{PlaceOrder}
 use Rattle.command_line.specs.declared.orders.PlanTexts.{PlanTexts}
 use Rattle.command_line.specs.declared.orders.ProgramOrder.{ProgramOrder}
@@ -82,13 +83,21 @@ compile_app name =
 abbrev pub link_app : Text → App
 link_app name = with_rule (with_rule (new_app name) out_rule) files_rule
 
--- the command `name [plan] FILE...`, which asks for one file when it is carried out
-abbrev pub place_app : Text → App
-place_app name = with_rule (with_plan (new_app name)) files_rule
+-- the command `name [plan] [--jump ADDRESS] FILE...`, which asks for one file when it is carried out
+abbrev pub hex_app : Text → App
+hex_app name = with_rule (with_rule (with_plan (new_app name)) (option_rule (codes "jump"))) files_rule
 
 -- the command `name [plan] [--need] FILE...`, which asks for one file when it is carried out without the flag
 abbrev pub locate_app : Text → App
 locate_app name = with_rule (with_rule (with_plan (new_app name)) (flag_rule (codes "need"))) files_rule
+
+-- the command `name [plan] [--limit N] [--input T] OBJECT...`
+abbrev pub execute_app : Text → App
+execute_app name =
+    with_rule (with_rule (with_rule (with_plan (new_app name))
+    (default_rule (codes "limit") (codes "10000000")))
+    (option_rule (codes "input")))
+    files_rule
 
 -- the program, which has to have a command, and which knows its version
 abbrev pub bare_app : App
@@ -107,10 +116,11 @@ programs_app =
 -- the program `plm` with its commands
 abbrev pub plm_app : App
 plm_app =
-    with_subcommand (with_subcommand (with_subcommand programs_app
+    with_subcommand (with_subcommand (with_subcommand (with_subcommand programs_app
     (link_app (codes "link")).top)
     (locate_app (codes "locate")).top)
-    (place_app (codes "hex")).top
+    (hex_app (codes "hex")).top)
+    (execute_app (codes "execute")).top
 
 -- the texts of the options of a plan
 pub record PlanWanted : Type 0 where
@@ -138,11 +148,19 @@ pub record LinkWanted : Type 0 where
   pub out : Text
   pub objects : List Text
 
--- what is wanted of an object that is placed
+-- what is wanted of an object that is placed, with the address of a jump to its start, which `hex` alone takes
 pub record PlaceWanted : Type 0 where
   pub action : PlaceAction
   pub files : List Text
   pub plan : PlanWanted
+  pub jump : Option Text
+
+-- the objects whose merge is placed and run, and how
+pub record ExecuteWanted : Type 0 where
+  pub objects : List Text
+  pub plan : PlanWanted
+  pub limit : Text
+  pub input : Option Text
 
 -- what is wanted of sources whose need is told
 pub record NeedWanted : Type 0 where
@@ -156,6 +174,7 @@ pub data Wanted : Type 0 where
   wants_link : LinkWanted → Wanted
   wants_place : PlaceWanted → Wanted
   wants_need : NeedWanted → Wanted
+  wants_execute : ExecuteWanted → Wanted
 
 -- the files that are read
 abbrev pub files_in : Wanted → List Text
@@ -164,6 +183,7 @@ files_in (wants_program wanted) = wanted.files
 files_in (wants_link wanted) = wanted.objects
 files_in (wants_place wanted) = wanted.files
 files_in (wants_need wanted) = wanted.files
+files_in (wants_execute wanted) = wanted.objects
 
 -- the text of an option that has a default
 abbrev pub text_of : Text → List Row → Text
@@ -204,10 +224,23 @@ abbrev pub link_of : List Row → LinkWanted
 link_of rows = record { out = text_of (codes "out") rows; objects = files_of rows }
 
 abbrev pub place_of : PlaceAction → List Row → PlaceWanted
-place_of action rows = record { action = action; files = files_of rows; plan = plan_of rows }
+place_of action rows = record {
+  action = action;
+  files = files_of rows;
+  plan = plan_of rows;
+  jump = first_of (codes "jump") rows;
+}
 
 abbrev pub need_of : List Row → NeedWanted
 need_of rows = record { files = files_of rows; plan = plan_of rows }
+
+abbrev pub execute_of : List Row → ExecuteWanted
+execute_of rows = record {
+  objects = files_of rows;
+  plan = plan_of rows;
+  limit = text_of (codes "limit") rows;
+  input = first_of (codes "input") rows;
+}
 
 -- what `locate` wants: the places of an object or, with its flag, the need of sources
 abbrev pub located_of : List Row → Wanted
@@ -222,7 +255,8 @@ wanted_of_match (name, rows) =
     else (if bytes_eq name (codes "interpret") then Some (wants_program (program_of Interpret rows))
     else (if bytes_eq name (codes "link") then Some (wants_link (link_of rows))
     else (if bytes_eq name (codes "locate") then Some (located_of rows)
-    else (if bytes_eq name (codes "hex") then Some (wants_place (place_of Hex rows)) else None)))))
+    else (if bytes_eq name (codes "hex") then Some (wants_place (place_of Hex rows))
+    else (if bytes_eq name (codes "execute") then Some (wants_execute (execute_of rows)) else None))))))
 
 -- what the words, with the program's name in front, want
 abbrev pub wanted_by : List Text → Option Wanted
@@ -254,11 +288,23 @@ abbrev pub link_in : LinkOrder → LinkWanted
 link_in order = record { out = order.out.now; objects = texts order.objects.items }
 
 abbrev pub place_in : PlaceOrder → PlaceWanted
-place_in order =
-    record { action = order.action; files = texts order.files.items; plan = plan_in order.plan }
+place_in order = record {
+  action = order.action;
+  files = texts order.files.items;
+  plan = plan_in order.plan;
+  jump = option_map (λ text. text.now) order.jump;
+}
 
 abbrev pub need_in : NeedOrder → NeedWanted
 need_in order = record { files = texts order.files.items; plan = plan_in order.plan }
+
+abbrev pub execute_in : ExecuteOrder → ExecuteWanted
+execute_in order = record {
+  objects = texts order.objects.items;
+  plan = plan_in order.plan;
+  limit = order.limit.now;
+  input = option_map (λ text. text.now) order.input;
+}
 
 abbrev pub wanted_in : Order → Wanted
 wanted_in (Compile order) = wants_compile (compile_in order)
@@ -266,6 +312,7 @@ wanted_in (Program order) = wants_program (program_in order)
 wanted_in (Link order) = wants_link (link_in order)
 wanted_in (Place order) = wants_place (place_in order)
 wanted_in (Need order) = wants_need (need_in order)
+wanted_in (Execute order) = wants_execute (execute_in order)
 
 -- the words give this order
 abbrev pub Orders : List Text → Order → Type 0
@@ -305,7 +352,11 @@ usual action files = record {
 }
 
 abbrev pub usual_place : PlaceAction → List Text → PlaceWanted
-usual_place action files = record { action = action; files = files; plan = usual_plan }
+usual_place action files = record { action = action; files = files; plan = usual_plan; jump = None }
+
+abbrev pub usual_execute : List Text → ExecuteWanted
+usual_execute objects =
+    record { objects = objects; plan = usual_plan; limit = codes "10000000"; input = None }
 
 -- the options of a plan
 pub data PlanOption : Type 0 where
@@ -343,6 +394,23 @@ abbrev pub with_text : ValueOption → Text → ProgramWanted → ProgramWanted
 with_text (OfPlan option) text wanted = record wanted { plan = with_plan_text option text wanted.plan }
 with_text Limit text wanted = record wanted { limit = text }
 with_text Input text wanted = record wanted { input = Some text }
+
+-- the options of `execute`, all with a value
+pub data ExecuteOption : Type 0 where
+  PlaceOf : PlanOption → ExecuteOption
+  RunLimit : ExecuteOption
+  RunInput : ExecuteOption
+
+abbrev pub execute_option_name : ExecuteOption → Text
+execute_option_name (PlaceOf option) = plan_option_name option
+execute_option_name RunLimit = codes "limit"
+execute_option_name RunInput = codes "input"
+
+abbrev pub with_execute_text : ExecuteOption → Text → ExecuteWanted → ExecuteWanted
+with_execute_text (PlaceOf option) text wanted =
+    record wanted { plan = with_plan_text option text wanted.plan }
+with_execute_text RunLimit text wanted = record wanted { limit = text }
+with_execute_text RunInput text wanted = record wanted { input = Some text }
 
 -- the words are a program's name, a command, and then these words and bare files, one at least
 pub record Gives (words : List Text) (name command : Text) (first files : List Text) : Type 0 where
@@ -407,11 +475,31 @@ OrdersPlaceText words answer =
       plan = with_plan_text option text usual_plan;
     })) answer
 
+-- `hex --jump` with bare files wants a jump too
+abbrev pub OrdersJump : List Text → Result Order (Failure LineFault) → Type 0
+OrdersJump words answer = (name : Text) (files : List Text) (text : Text)
+    → IsBare text
+    → Gives words name (codes "hex") (option_words (codes "jump") text) files
+    → IsOrderOf (wants_place (record (usual_place Hex files) { jump = Some text })) answer
+
 -- `locate --need` with bare files wants the need of these sources
 abbrev pub OrdersNeed : List Text → Result Order (Failure LineFault) → Type 0
 OrdersNeed words answer = (name : Text) (files : List Text)
     → Gives words name (codes "locate") (codes "--need" ∷ []) files
     → IsOrderOf (wants_need (record { files = files; plan = usual_plan })) answer
+
+-- `execute` with bare files alone wants their merge run
+abbrev pub OrdersExecute : List Text → Result Order (Failure LineFault) → Type 0
+OrdersExecute words answer = (name : Text) (files : List Text)
+    → Gives words name (codes "execute") [] files
+    → IsOrderOf (wants_execute (usual_execute files)) answer
+
+-- with an option before them, it wants its text too
+abbrev pub OrdersExecuteText : List Text → Result Order (Failure LineFault) → Type 0
+OrdersExecuteText words answer = (name : Text) (files : List Text) (option : ExecuteOption) (text : Text)
+    → IsBare text
+    → Gives words name (codes "execute") (option_words (execute_option_name option) text) files
+    → IsOrderOf (wants_execute (with_execute_text option text (usual_execute files))) answer
 
 -- a fault has one of the kinds that `clap` finds in the words, where Help stands for that of help alone, and Version for
 -- that of the version

@@ -8,9 +8,10 @@ use Rattle.std.specs.Str.Parse.{digits_value}
 use Rattle.clap.specs.Words.{Text}
 use Rattle.failure.specs.declared.Failure.{Failure}
 use Rattle.failure.specs.declared.Failure.TheVariants.{Fault, Memory}
-use Rattle.command_line.specs.Command.{PlanWanted, ProgramWanted}
+use Rattle.command_line.specs.Command.{ExecuteWanted, PlanWanted, ProgramWanted}
 use Rattle.command_line.specs.declared.values.InputByte.{InputByte}
 use Rattle.mem80.specs.declared.plan.Plan.{Plan}
+use Rattle.command_line.specs.declared.values.ExecuteSettings.{ExecuteSettings}
 use Rattle.command_line.specs.declared.values.Settings.{Settings}
 use Rattle.command_line.specs.declared.values.ValueFault.{ValueFault}
 
@@ -102,6 +103,25 @@ values_read wanted = do
   input ← input_read wanted.input
   Ok (record { plan = plan; limit = limit; input = input })
 
+-- the values of the options of `execute`
+pub record ExecuteValues : Type 0 where
+  pub plan : Plan
+  pub limit : ℕ
+  pub input : List InputByte
+
+-- the values of what is wanted of objects, or the first text that is no value
+abbrev pub execute_read : ExecuteWanted → Read ExecuteValues
+execute_read wanted = do
+  plan ← plan_read wanted.plan
+  limit ← limit_number wanted.limit
+  input ← input_read wanted.input
+  Ok (record { plan = plan; limit = limit; input = input })
+
+-- the address of a jump, where one is wanted
+abbrev pub jump_read : Option Text → Read (Option ℕ)
+jump_read None = Ok None
+jump_read (Some text) = plan_number text >>= (λ address. Ok (Some address))
+
 -- the file, where there is one alone: a second one is refused
 abbrev pub only_file : List Text → Read Text
 only_file [] = Err []
@@ -127,6 +147,16 @@ abbrev pub IsSettingsOf : Read Values → Result Settings (Failure ValueFault) �
 IsSettingsOf read (Ok settings) = read ≡ Ok (values_in settings)
 IsSettingsOf read (Err (Fault fault)) = read ≡ Err fault.text.now
 IsSettingsOf read (Err Memory) = Unit {0}
+
+-- the same of objects that are run
+abbrev pub execute_values_in : ExecuteSettings → ExecuteValues
+execute_values_in settings =
+    record { plan = settings.plan; limit = settings.limit; input = settings.input.items }
+
+abbrev pub IsExecuteSettingsOf : Read ExecuteValues → Result ExecuteSettings (Failure ValueFault) → Type 0
+IsExecuteSettingsOf read (Ok settings) = read ≡ Ok (execute_values_in settings)
+IsExecuteSettingsOf read (Err (Fault fault)) = read ≡ Err fault.text.now
+IsExecuteSettingsOf read (Err Memory) = Unit {0}
 
 -- memory did not run out
 abbrev pub HasMemory : Result Settings (Failure ValueFault) → Type 0

@@ -3,13 +3,13 @@
 ghost use Rattle.std.specs.Prelude.{◌≡◌, codes, false};
 ghost use Rattle.clap.specs.Words.{App, Rule, new_app, rule_of, with_rule, with_subcommand};
 ghost use Rattle.command_line.specs.internal.Building.{Builds, IsBuilt};
-ghost use Rattle.command_line.specs.Command.{bare_app, compile_app, default_rule, file_rule, files_rule, flag_rule, link_app};
-ghost use Rattle.command_line.specs.Command.{locate_app, option_rule, out_rule, place_app, plm_app, program_app};
+ghost use Rattle.command_line.specs.Command.{bare_app, compile_app, default_rule, execute_app, file_rule, files_rule, flag_rule, hex_app, link_app};
+ghost use Rattle.command_line.specs.Command.{locate_app, option_rule, out_rule, plm_app, program_app};
 ghost use Rattle.command_line.specs.Command.{programs_app, with_plan, with_run};
 
 use crate::help::{
-    ABOUT, COMPILE, GUIDE, HEX, INTERPRET, INTERPRET_LIMIT, LINK, LOCATE, RUN, RUN_LIMIT, Teaching,
-    VERSION,
+    ABOUT, COMPILE, EXECUTE, GUIDE, HEX, INTERPRET, INTERPRET_LIMIT, LINK, LOCATE, RUN, RUN_LIMIT,
+    Teaching, VERSION,
 };
 use clap::{Arg, ArgAction, Command};
 use std::alloc::{AllocError, Global};
@@ -246,12 +246,19 @@ fn link<'a>(alloc: Global) -> Built<'a>
     )
 }
 
-// A command that places an object file.
-fn place<'a>(alloc: Global, name: &'a str, teaching: Teaching) -> Built<'a>
-    ensures { Builds (place_app name.entry.now) result }
+// The command that prints the bytes of an object file that is placed.
+fn hex<'a>(alloc: Global) -> Built<'a>
+    ensures { Builds (hex_app (codes "hex")) result }
 {
-    let planned = add_plan(alloc, named(alloc, name, teaching));
-    add(planned, files(alloc, "FILE", "The one object file"))
+    let planned = add_plan(alloc, named(alloc, "hex", HEX));
+    let jump = option(
+        alloc,
+        "jump",
+        "ADDRESS",
+        "Where a jump to the start lies too, to 65533",
+    );
+    let with_jump = add(planned, jump);
+    add(with_jump, files(alloc, "FILE", "The one object file"))
 }
 
 // The command that tells where an object lies or, with its flag, how much of the stack sources need.
@@ -272,6 +279,25 @@ fn locate<'a>(alloc: Global) -> Built<'a>
             "FILE",
             "The one object file, or with --need the files with the sources",
         ),
+    )
+}
+
+// The command that runs the merge of object files.
+fn execute<'a>(alloc: Global) -> Built<'a>
+    ensures { Builds (execute_app (codes "execute")) result }
+{
+    let planned = add_plan(alloc, named(alloc, "execute", EXECUTE));
+    let with_limit = add_option(alloc, planned, "limit", "10000000", "N", RUN_LIMIT);
+    let input = option(
+        alloc,
+        "input",
+        "GROUPS",
+        "What the ports give, as 01:0904/02:FF",
+    );
+    let with_input = add(with_limit, input);
+    add(
+        with_input,
+        files(alloc, "OBJECT", "The object files, in their order"),
     )
 }
 
@@ -304,5 +330,6 @@ pub(crate) fn plm_command<'a>(alloc: Global) -> Result<Command<'a>, AllocError>
 {
     let with_link = add_leaf(with_programs(alloc), link(alloc));
     let with_locate = add_leaf(with_link, locate(alloc));
-    add_leaf(with_locate, place(alloc, "hex", HEX))
+    let with_hex = add_leaf(with_locate, hex(alloc));
+    add_leaf(with_hex, execute(alloc))
 }

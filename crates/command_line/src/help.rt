@@ -83,7 +83,11 @@ macro_rules! text_of {
     ([$($done:literal)*] IMAGES $($rest:tt)*) => {
         text_of!([$($done)* "  P3      an external name is left
   P4      the module has no start
-  P5      a high byte is fixed to what would begin at no multiple of 256
+"] PAGES $($rest)*)
+    };
+    // of what has to begin at a page
+    ([$($done:literal)*] PAGES $($rest:tt)*) => {
+        text_of!([$($done)* "  P5      a high byte is fixed to what would begin at no multiple of 256
   P6      a page-aligned segment would begin at no multiple of 256
 "] $($rest)*)
     };
@@ -172,6 +176,11 @@ pub(crate) const LOCATE: Teaching = Teaching {
 pub(crate) const HEX: Teaching = Teaching {
     about: "Places an object file in memory, and prints its bytes as Intel HEX",
     printed: PRINTED_BY_HEX,
+};
+
+pub(crate) const EXECUTE: Teaching = Teaching {
+    about: "Merges object files, places the merge in memory, and runs it on a simulated 8080",
+    printed: PRINTED_BY_EXECUTE,
 };
 
 pub(crate) const RUN_LIMIT: &str = "The most instructions that are run, to 1000000000000";
@@ -344,6 +353,10 @@ Prints a line for each 16 bytes, by rising addresses, and an end line:
   :nnaaaa00bb..ss  nn bytes bb from address aaaa on, and a checksum
   :00000001FF      the end
 
+With --jump it also prints the three bytes of a jump to the start, at that address: a ROM that
+is started at 0 takes --jump 0 --code 3, and a program for CP/M --jump 256 --code 259. A jump
+that overlaps the code, the data or the stack is P1, and one that passes the end of memory P2.
+
 Exit status:
   0  all was printed, or help was asked for
   1  the object or its place was refused, memory ran out, or a file can't be read
@@ -359,4 +372,38 @@ the code, prints
 
 Numbers, where X is the name or the text that is printed with one:
 " OBJECTS PLACES IMAGES FILES VALUES MEMORY "\n\
+Read more in the folder docs: faults.md (each number with an example and its cure), commands.md");
+
+const PRINTED_BY_EXECUTE: &str = text_of!([] "\
+The objects are merged as `plm link` merges them, and the merge is placed as `plm hex` places it:
+one of them is a main module, and each external name is a public name of another.
+
+Prints what `plm run` prints, a line for each byte at a port, and then how the run ended:
+  OUT pp vv  the program wrote the byte vv to port pp, both in hexadecimal digits
+  IN pp vv   the program read the byte vv from port pp; a port with no input gives FF
+  HALT       the program halted
+  LIMIT      as many instructions were run as --limit says
+  ILLEGAL    an undocumented instruction code was met
+  PORT       a port failed
+
+Input is groups joined by `/`, each a port, a colon and the bytes that the port gives, all in
+hexadecimal digits: 01:0904/02:FF gives 09 and then 04 at port 01, and FF at port 02.
+
+Exit status:
+  0  the program halted, or help was asked for
+  1  an object, the merge or its place was refused, memory ran out, or a file can't be read
+  2  the command line is wrong, or a value in it
+  3  LIMIT
+  4  ILLEGAL or PORT
+
+A refused object prints `number file 0` to standard error, a refused merge the name of a public
+that is there twice (L1) or of an external that none has (L2), or `-`, a refused place
+`number - 0`, and a refused value `U4 text 0`.
+
+Example: run a module together with one that an assembler made
+  plm compile main.plm main.obj
+  plm execute main.obj show.obj
+
+Numbers, where X is the name or the text that is printed with one:
+" MERGES OBJECTS PLACES PAGES FILES VALUES MEMORY "\n\
 Read more in the folder docs: faults.md (each number with an example and its cure), commands.md");

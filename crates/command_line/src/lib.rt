@@ -9,8 +9,8 @@ mod values;
 
 pub use mem80::Plan;
 pub use orders::{
-    Action, CompileOrder, LinkOrder, NeedOrder, Order, PlaceAction, PlaceOrder, PlanTexts,
-    ProgramOrder,
+    Action, CompileOrder, ExecuteOrder, LinkOrder, NeedOrder, Order, PlaceAction, PlaceOrder,
+    PlanTexts, ProgramOrder,
 };
 pub use reading::{LineFault, command};
-pub use values::{InputByte, Settings, ValueFault};
+pub use values::{ExecuteSettings, InputByte, Settings, ValueFault};

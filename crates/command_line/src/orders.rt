@@ -75,6 +75,8 @@ pub struct PlaceOrder<'a> {
     pub files: Vec<&'a str>,
     /// Where the parts of the program are to lie.
     pub plan: PlanTexts<'a>,
+    /// The address of a jump to the start, where that was said. Only `hex` takes one.
+    pub jump: Option<&'a str>,
 }
 
 /// An order to tell how much of the stack the program of sources needs. Its plan has to be one, and changes nothing.
@@ -84,6 +86,19 @@ pub struct NeedOrder<'a> {
     pub files: Vec<&'a str>,
     /// Where the parts of a program are to lie.
     pub plan: PlanTexts<'a>,
+}
+
+/// An order to run the merge of object files.
+#[derive(Drop)]
+pub struct ExecuteOrder<'a> {
+    /// The object files, in their order.
+    pub objects: Vec<&'a str>,
+    /// Where the parts of the program are to lie.
+    pub plan: PlanTexts<'a>,
+    /// The most instructions that are run.
+    pub limit: &'a str,
+    /// What the ports give, where that was said.
+    pub input: Option<&'a str>,
 }
 
 /// What the command line asks for.
@@ -99,4 +114,6 @@ pub enum Order<'a> {
     Place(PlaceOrder<'a>),
     /// Tell how much of the stack the program of sources needs.
     Need(NeedOrder<'a>),
+    /// Run the merge of object files.
+    Execute(ExecuteOrder<'a>),
 }

@@ -5,7 +5,8 @@ ghost use Rattle.std.specs.Prelude.{Some, option_and_then, option_map, unwrap_or
 ghost use Rattle.clap.specs.Walk.{texts};
 ghost use Rattle.clap.specs.Words.{all_of, fault_of, first_of, found_of, rows_of, subcommand_rows_of};
 ghost use Rattle.failure.specs.Failure.{IfFault};
-ghost use Rattle.command_line.specs.Command.{IsFaultOf, Orders, OrdersCompile, OrdersFiles, OrdersLink, OrdersMap};
+ghost use Rattle.command_line.specs.Command.{IsFaultOf, Orders, OrdersCompile, OrdersFiles, OrdersJump, OrdersLink, OrdersMap};
+ghost use Rattle.command_line.specs.Command.{OrdersExecute, OrdersExecuteText, execute_of, wants_execute};
 ghost use Rattle.command_line.specs.Command.{OrdersNeed, OrdersPlace, OrdersPlaceText, OrdersText};
 ghost use Rattle.command_line.specs.Command.{files_in, is_set, link_of, located_of, need_of, place_of, plan_in, plan_of};
 ghost use Rattle.command_line.specs.Command.{plm_app, program_of, text_of};
@@ -15,8 +16,8 @@ ghost use Rattle.command_line.specs.internal.Errors.{IsFailureFor};
 
 use crate::app::plm_command;
 use crate::orders::{
-    Action, CompileOrder, LinkOrder, NeedOrder, Order, PlaceAction, PlaceOrder, PlanTexts,
-    ProgramOrder,
+    Action, CompileOrder, ExecuteOrder, LinkOrder, NeedOrder, Order, PlaceAction, PlaceOrder,
+    PlanTexts, ProgramOrder,
 };
 use clap::ArgMatches;
 use clap::error::ErrorKind;
@@ -158,6 +159,7 @@ fn place<'a>(
         action,
         files,
         plan: plan(matches),
+        jump: first(matches, "jump"),
     })))
 }
 
@@ -170,6 +172,20 @@ fn need<'a>(alloc: Global, matches: &ArgMatches<'a>) -> Result<Option<Order<'a>>
     Ok(Some(Order::Need(NeedOrder {
         files,
         plan: plan(matches),
+    })))
+}
+
+// The order to run objects, from the matches of its arguments.
+fn execute<'a>(alloc: Global, matches: &ArgMatches<'a>) -> Result<Option<Order<'a>>, AllocError>
+    ensures { IfOk result (λ order. option_map wanted_in order
+        ≡ Some (wants_execute (execute_of (rows_of (found_of matches.now))))) }
+{
+    let objects = files(alloc, matches)?;
+    Ok(Some(Order::Execute(ExecuteOrder {
+        objects,
+        plan: plan(matches),
+        limit: text(matches, "limit"),
+        input: first(matches, "input"),
     })))
 }
 
@@ -201,6 +217,7 @@ fn order_named<'a>(
         "link" => link(alloc, matches),
         "locate" => locate(alloc, matches),
         "hex" => place(alloc, PlaceAction::Hex, matches),
+        "execute" => execute(alloc, matches),
         _ => Ok(None),
     }
 }
@@ -237,7 +254,10 @@ pub fn command<'a>(alloc: Global, words: &'a [&'a str]) -> Result<Order<'a>, Fai
     ensures link { OrdersLink (texts words.entry.now) result }
     ensures place { OrdersPlace (texts words.entry.now) result }
     ensures place_option { OrdersPlaceText (texts words.entry.now) result }
+    ensures jump { OrdersJump (texts words.entry.now) result }
     ensures need { OrdersNeed (texts words.entry.now) result }
+    ensures execute { OrdersExecute (texts words.entry.now) result }
+    ensures execute_option { OrdersExecuteText (texts words.entry.now) result }
     ensures order { IfOk result (λ order. Orders (texts words.entry.now) order) }
     ensures some { IfOk result (λ order. 0 < length (files_in (wanted_in order))) }
     ensures ok { OnOk result (fault_of plm_app (texts words.entry.now) ≡ []) }

@@ -1,21 +1,22 @@
 //! The values of an order's options.
 
-ghost use Rattle.std.specs.Prelude.{◌≡◌, ◌==◌, ◌<◌, IfOk, IsOk, codes, map, option_map, slice_index};
+ghost use Rattle.std.specs.Prelude.{◌≡◌, ◌==◌, ◌<◌, Err, IfOk, IsOk, codes, map, option_map, slice_index};
 ghost use Rattle.std.specs.List.{slice_split};
 ghost use Rattle.std.specs.Option.{SomeIff};
 ghost use Rattle.std.specs.Char.{digit_value, is_digit};
 ghost use Rattle.failure.specs.Failure.{IfFault};
 ghost use Rattle.clap.specs.Walk.{texts};
-ghost use Rattle.command_line.specs.Command.{plan_in, program_in};
+ghost use Rattle.command_line.specs.Command.{execute_in, place_in, plan_in, program_in};
+ghost use Rattle.command_line.specs.Settings.{IsExecuteSettingsOf, execute_read};
 ghost use Rattle.command_line.specs.Settings.{HasMemory, IsSettingsOf, byte_of, bytes_for, group_bytes};
 ghost use Rattle.command_line.specs.Settings.{groups_bytes};
-ghost use Rattle.command_line.specs.Settings.{input_bytes, input_read, limit_number, only_file, plan_number};
+ghost use Rattle.command_line.specs.Settings.{input_bytes, input_read, jump_read, limit_number, only_file, plan_number};
 ghost use Rattle.command_line.specs.Settings.{plan_read};
 ghost use Rattle.command_line.specs.Settings.{values_read};
 ghost use Rattle.command_line.specs.Settings.{Reads, ReadsFile};
 ghost use Rattle.command_line.specs.internal.Reads.{if_read, in_front};
 
-use crate::orders::{NeedOrder, PlaceOrder, PlanTexts, ProgramOrder};
+use crate::orders::{ExecuteOrder, NeedOrder, PlaceOrder, PlanTexts, ProgramOrder};
 use failure::Failure;
 use mem80::Plan;
 use std::alloc::{AllocError, Global};
@@ -39,6 +40,17 @@ pub struct Settings {
     /// Where the parts of the program are to lie.
     pub plan: Plan,
     /// The most instructions that are run, or the budget of the interpreter.
+    pub limit: u64,
+    /// What the ports give, in the order of the text.
+    pub input: Vec<InputByte>,
+}
+
+/// The values of an order to run objects.
+#[derive(Drop)]
+pub struct ExecuteSettings {
+    /// Where the parts of the program are to lie.
+    pub plan: Plan,
+    /// The most instructions that are run.
     pub limit: u64,
     /// What the ports give, in the order of the text.
     pub input: Vec<InputByte>,
@@ -235,6 +247,19 @@ impl<'a> PlaceOrder<'a> {
         plan_of(&self.plan)
     }
 
+    /// The address of a jump to the start, where one is wanted. It answers U4 only where its text is none of its values.
+    pub fn jump(&self) -> Result<Option<u16>, ValueFault<'a>>
+        ensures { Reads (jump_read (place_in self.now).jump) result }
+    {
+        match self.jump {
+            Some(text) => {
+                let address = place(text)?;
+                Ok(Some(address))
+            }
+            None => Ok(None),
+        }
+    }
+
     /// The object file. It answers U4 where there are more files than one, with the second.
     pub fn file(&self) -> Result<&'a str, ValueFault<'a>>
         ensures { ReadsFile (only_file (texts self.now.files.items)) result }
@@ -244,6 +269,27 @@ impl<'a> PlaceOrder<'a> {
             [_, second, ..] => Err(ValueFault { text: *second }),
             [] => Err(ValueFault { text: "" }),
         }
+    }
+}
+
+impl<'a> ExecuteOrder<'a> {
+    /// The values of the options. It answers U4 only where a text is none of its option's values, with the first
+    /// such text, in the order code, data, stack, stack size, limit, input; else the values, or that memory ran
+    /// out. Only an input takes memory.
+    pub fn settings(&self, alloc: Global) -> Result<ExecuteSettings, Failure<ValueFault<'a>>>
+        ensures values { IsExecuteSettingsOf (execute_read (execute_in self.now)) result }
+        ensures memory { self.now.input ≡ None → result ≡ Err Failure.Memory → ⊥ }
+    {
+        let plan = match plan_of(&self.plan) {
+            Ok(plan) => plan,
+            Err(fault) => return Err(Failure::Fault(fault)),
+        };
+        let limit = match limit(self.limit) {
+            Ok(limit) => limit,
+            Err(fault) => return Err(Failure::Fault(fault)),
+        };
+        let input = input(alloc, self.input)?;
+        Ok(ExecuteSettings { plan, limit, input })
     }
 }
 

@@ -8,7 +8,7 @@ use Rattle.host.specs.Files.{Directory, KeepsFiles}
 use Rattle.host.specs.Refusals.{Tells, TellsRefusal, refusal_line}
 use Rattle.command_line.specs.Command.{NeedWanted, PlaceWanted, Wanted, wants_compile, wants_link, wants_need}
 use Rattle.command_line.specs.Command.{wants_place, wants_program}
-use Rattle.command_line.specs.Settings.{Read, ◌>>=◌, only_file, plan_read, values_read}
+use Rattle.command_line.specs.Settings.{Read, ◌>>=◌, jump_read, only_file, plan_read, values_read}
 use Rattle.command_line.specs.declared.orders.PlaceAction.{PlaceAction}
 use Rattle.command_line.specs.declared.orders.PlaceAction.TheVariants.{Locate, Hex}
 use Rattle.object_commands.specs.Linking.{KeepsOthers, LinksFiles, StopsLinking}
@@ -45,26 +45,30 @@ StopsAsWanted (wants_program program) old new = KeepsFiles old new
 StopsAsWanted (wants_place place) old new = KeepsFiles old new
 StopsAsWanted (wants_need need) old new = KeepsFiles old new
 
--- what a command on an object file prints of the file of this name, placed by this plan
+-- what a command on an object file prints of the file of this name, placed by this plan, where a jump may be wanted
 abbrev pub PrintsPlaced :
-    PlaceAction → Option Directory → (name : List ℕ) → Plan → (old new : Option (List ℕ)) → Type 0
-PrintsPlaced Locate files name plan old new = PrintsPlaces files name plan old new
-PrintsPlaced Hex files name plan old new = PrintsHex files name plan old new
+    PlaceAction → Option Directory → (name : List ℕ) → Plan → (jump : Option ℕ)
+    → (old new : Option (List ℕ)) → Type 0
+PrintsPlaced Locate files name plan jump old new = PrintsPlaces files name plan old new
+PrintsPlaced Hex files name plan jump old new = PrintsHex files name plan jump old new
 
 -- the one file that is wanted, placed by the plan that the texts write, was printed
 pub record PrintsWanted (place : PlaceWanted) (files : Option Directory)
     (old new : Option (List ℕ)) : Type 0 where
   pub name : List ℕ
   pub plan : Plan
+  pub jump : Option ℕ
   pub only : only_file place.files ≡ Ok name
   pub planned : plan_read place.plan ≡ Ok plan
-  pub printed : PrintsPlaced place.action files name plan old new
+  pub jumping : jump_read place.jump ≡ Ok jump
+  pub printed : PrintsPlaced place.action files name plan jump old new
 
 -- of that a beginning was printed, or nothing
 abbrev pub StopsPlaced :
-    PlaceAction → Option Directory → (name : List ℕ) → Plan → (old new : Option (List ℕ)) → Type 0
-StopsPlaced Locate files name plan old new = StopsPlaces files name plan old new
-StopsPlaced Hex files name plan old new = StopsHex files name plan old new
+    PlaceAction → Option Directory → (name : List ℕ) → Plan → (jump : Option ℕ)
+    → (old new : Option (List ℕ)) → Type 0
+StopsPlaced Locate files name plan jump old new = StopsPlaces files name plan old new
+StopsPlaced Hex files name plan jump old new = StopsHex files name plan jump old new
 
 -- the need of the sources that are wanted, beside texts that write a plan, was printed
 pub record PrintsNeedWanted (need : NeedWanted) (files : Option Directory)
@@ -91,17 +95,19 @@ RunsAsWanted (wants_link link) files status old new = status ≡ 0
 RunsAsWanted (wants_place place) files status old new = status ≡ 0
 RunsAsWanted (wants_need need) files status old new = status ≡ 0
 
--- Why an order on an object file is refused. Its plan is one, and it has one file. What is told is the line of
+-- Why an order on an object file is refused. Its plan is one, its jump has an address, and it has one file. What is told is the line of
 -- that file, where its failure was counted, or that of another fault, of which no cause is said. Nothing was
 -- printed by then, or a beginning of what is printed of the file.
 pub record RefusesPlaced (place : PlaceWanted) (files : Option Directory) (before after : ℕ)
     (err_old err_new out_old out_new : Option (List ℕ)) : Type 0 where
   pub name : List ℕ
   pub plan : Plan
+  pub jump : Option ℕ
   pub only : only_file place.files ≡ Ok name
   pub planned : plan_read place.plan ≡ Ok plan
+  pub jumping : jump_read place.jump ≡ Ok jump
   pub told : TellsRefusal files (name ∷ []) before after err_old err_new
-  pub printed : StopsPlaced place.action files name plan out_old out_new
+  pub printed : StopsPlaced place.action files name plan jump out_old out_new
 
 -- why an order to tell a need is refused: its plan is one
 pub record RefusesNeed (need : NeedWanted) (files : Option Directory) (before after : ℕ)
@@ -172,9 +178,12 @@ RefusesByWords (Some wanted) files before after err_old err_new out_old out_new 
     ⊎ RefusesAsWanted wanted files before after err_old err_new out_old out_new
 
 -- the one file of an order on an object, or the first text that is refused: the texts of the plan come first,
--- then the name of a second file
+-- then that of a jump, then the name of a second file
 abbrev pub file_read : PlaceWanted → Read Text
-file_read place = plan_read place.plan >>= (λ plan. only_file place.files)
+file_read place = do
+  plan ← plan_read place.plan
+  jump ← jump_read place.jump
+  only_file place.files
 
 -- this text of what is wanted is the first that is refused: it is none of its option's values, or the name of
 -- a second file

@@ -6,3 +6,4 @@ pub use Rattle.link.specs.Streams
 pub use Rattle.locate.specs.Locating
 pub mod Linking
 pub mod Placing
+pub mod internal

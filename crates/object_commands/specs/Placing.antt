@@ -1,5 +1,5 @@
 -- What is printed of an object file that is placed in memory.
-use Rattle.std.specs.Prelude.{◌⊎◌, ℕ, ◌/◌, ◌%◌, List, [], ◌∷◌, ◌++◌, codes, Option}
+use Rattle.std.specs.Prelude.{◌≡◌, ◌⊎◌, ℕ, ◌/◌, ◌%◌, Bool, ◌||◌, List, [], ◌∷◌, ◌++◌, codes, Option, None, Some}
 use Rattle.std.specs.Fmt.{decimal}
 use Rattle.std.specs.Io.KnownBytes.{Appends, Keeps}
 use Rattle.std.specs.List.{flat_map}
@@ -7,10 +7,17 @@ use Rattle.failure.specs.Writing.{AppendsBeginning}
 use Rattle.host.specs.Files.{Directory, HasFile}
 use Rattle.hex80.specs.Lines.{digits_of}
 use Rattle.hex80.specs.Texts.{BeginsText, WritesText}
+use Rattle.isa8080.specs.Code.{bytes_of}
+use Rattle.isa8080.specs.declared.instr.Instr.TheVariants.{Jmp}
 use Rattle.locate.specs.Locating.{Absolute, IsPlaced, plan_view}
+use Rattle.mem80.specs.Range.{ranges_meet}
 use Rattle.mem80.specs.declared.plan.Plan.{Plan}
+use Rattle.mem80.specs.declared.range.Piece.{Piece}
+use Rattle.mem80.specs.declared.range.Range.{Range}
+use Rattle.omf80.specs.Records.{first_that_holds}
 use Rattle.object_modules.specs.declared.segment.Segment.TheVariants.{Code, Data}
-use Rattle.object_modules.specs.Image.{Symbol}
+use Rattle.object_modules.specs.Image.{PlacementRefusal, PassesMemory, SegmentsMeet, Symbol, code_range}
+use Rattle.object_modules.specs.Image.{data_range, passes_memory, range_at, stack_range}
 use Rattle.object_modules.specs.Module.{ObjectModule, length_of}
 use Rattle.object_modules.specs.Spelling.{Spells}
 
@@ -63,21 +70,56 @@ pub record BeginsPlaces (files : Option Directory) (name : List ℕ) (plan : Pla
   pub of_file : PlacesFile files name plan object absolute
   pub printed : AppendsBeginning old new (places_text plan object absolute)
 
--- the text of the pieces of the placed module was written
-pub record PrintsHex (files : Option Directory) (name : List ℕ) (plan : Plan)
-    (old new : Option (List ℕ)) : Type 0 where
-  pub object : ObjectModule
-  pub absolute : Absolute
-  pub of_file : PlacesFile files name plan object absolute
-  pub printed : WritesText absolute.pieces old new
+-- the bytes of a jump to where a module starts
+abbrev pub jump_piece : (address start : ℕ) → Piece
+jump_piece address start = record { start = address; bytes = bytes_of (Jmp start) }
 
--- a beginning of the text of the pieces of the placed module was written
-pub record BeginsHex (files : Option Directory) (name : List ℕ) (plan : Plan)
+-- the pieces of a placed module, after that of a jump at an address to its start, where one is wanted
+abbrev pub pieces_with : (jump : Option ℕ) → Absolute → List Piece
+pieces_with None absolute = absolute.pieces
+pieces_with (Some address) absolute = jump_piece address absolute.start ∷ absolute.pieces
+
+-- the addresses of a jump
+abbrev pub jump_range : (address : ℕ) → Range
+jump_range address = range_at address 3
+
+-- a jump has an address in common with the code, the data or the stack of a module at a plan
+abbrev pub jump_meets : Plan → ObjectModule → (address : ℕ) → Bool
+jump_meets plan object address =
+    ranges_meet (jump_range address) (code_range (plan_view plan) object)
+    || ranges_meet (jump_range address) (data_range (plan_view plan) object)
+    || ranges_meet (jump_range address) (stack_range (plan_view plan))
+
+-- What can be wrong with a jump beside a module that is placed by a plan, in the order in which it is judged.
+abbrev pub jump_refusals : Plan → ObjectModule → (address : ℕ) → List (Bool × PlacementRefusal)
+jump_refusals plan object address =
+    (passes_memory (jump_range address), PassesMemory)
+    ∷ (jump_meets plan object address, SegmentsMeet)
+    ∷ []
+
+-- why there is no room for a jump, where one is wanted
+abbrev pub jump_refusal : Plan → ObjectModule → (jump : Option ℕ) → Option PlacementRefusal
+jump_refusal plan object None = None
+jump_refusal plan object (Some address) = first_that_holds (jump_refusals plan object address)
+
+-- the text of the pieces of the placed module was written, with a jump to its start, for which there is room, where
+-- one is wanted
+pub record PrintsHex (files : Option Directory) (name : List ℕ) (plan : Plan) (jump : Option ℕ)
     (old new : Option (List ℕ)) : Type 0 where
   pub object : ObjectModule
   pub absolute : Absolute
   pub of_file : PlacesFile files name plan object absolute
-  pub printed : BeginsText absolute.pieces old new
+  pub room : jump_refusal plan object jump ≡ None
+  pub printed : WritesText (pieces_with jump absolute) old new
+
+-- a beginning of that text was written
+pub record BeginsHex (files : Option Directory) (name : List ℕ) (plan : Plan) (jump : Option ℕ)
+    (old new : Option (List ℕ)) : Type 0 where
+  pub object : ObjectModule
+  pub absolute : Absolute
+  pub of_file : PlacesFile files name plan object absolute
+  pub room : jump_refusal plan object jump ≡ None
+  pub printed : BeginsText (pieces_with jump absolute) old new
 
 -- what was not printed whole: nothing was written, or a beginning of the lines, or of the text
 abbrev pub StopsPlaces :
@@ -85,5 +127,6 @@ abbrev pub StopsPlaces :
 StopsPlaces files name plan old new = Keeps old new ⊎ BeginsPlaces files name plan old new
 
 abbrev pub StopsHex :
-    (files : Option Directory) → (name : List ℕ) → Plan → (old new : Option (List ℕ)) → Type 0
-StopsHex files name plan old new = Keeps old new ⊎ BeginsHex files name plan old new
+    (files : Option Directory) → (name : List ℕ) → Plan → (jump : Option ℕ)
+    → (old new : Option (List ℕ)) → Type 0
+StopsHex files name plan jump old new = Keeps old new ⊎ BeginsHex files name plan jump old new
