@@ -15,7 +15,8 @@
 //! a record's length or sum, as a plain walk over the records finds it, and how many have which of these faults.
 //! Each program that a command line runs is also compiled to object files, which are merged and printed as Intel HEX: it is
 //! counted how often these are other bytes than those of the image that is built of the sources.
-//! Then it prints what the machine, its parts and the interpreter do, as the manuals say it; what merges of object files are,
+//! Then it prints what the machine, its parts and the interpreter do, as the manuals say it; what a program does that is executed, where it may
+//! lie, and what the code of expressions computes; what merges of object files are,
 //! made of modules and of files; objects that are read, walked over, placed, loaded and run, texts of Intel HEX that are read, and how
 //! commands end whose output fails part way; whether help has each number with the words of its fault; what long code and code
 //! with many labels is; what calls answer that are made twice; and at last whether the document of the routines, the file `runtime.md` where the program runs, is as
@@ -36,6 +37,8 @@ mod calls;
 mod codes;
 mod damage;
 mod events;
+mod executed;
+mod expressions;
 mod faulty;
 mod interpreting;
 mod linked;
@@ -59,6 +62,8 @@ use assemblies::print_assemblies;
 use block::{Answer, Block};
 use codes::print_codes;
 use damage::print_damage;
+use executed::print_execution;
+use expressions::print_expressions;
 use host::HostFiles;
 use interpreting::print_programs;
 use linked::{Linked, linked_image};
@@ -218,6 +223,8 @@ fn print_parts(page: &mut Page) {
     print_runs(page);
     print_scripts(page);
     print_programs(page);
+    print_execution(page);
+    print_expressions(page);
     print_merges(page);
     print_adjusting(page);
     print_objects(page);
