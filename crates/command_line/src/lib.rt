@@ -5,6 +5,7 @@ mod app;
 mod help;
 mod orders;
 mod reading;
+mod start_memory;
 mod values;
 
 pub use mem80::Plan;
@@ -13,4 +14,5 @@ pub use orders::{
     ProgramOrder,
 };
 pub use reading::{LineFault, command};
+pub use start_memory::MemoryByte;
 pub use values::{InputByte, Settings, ValueFault};
