@@ -1,5 +1,5 @@
 -- What may come before the files: nothing, an option with its text, or a flag.
-use Rattle.command_line.proofs.Prelude.{◌≡◌, ◌∙◌, List, [], ◌∷◌, ◌++◌, Some, None, false, refl, ap, codes, fold, AllByRecursion, clap_on_literals, Kinds, Row, Shape, Text, Held, Walk, idle, option, has_row, nothing_held, reading_by, settled, walk, walk_from, walked, filled, settle_fault, turn_fault, walk_fault, or_else, CommandLine, PlaceAction, Locate, Hex, Code, DataBase, Input, IsBare, Limit, OfPlan, PlanOption, Stack, StackSize, ExecuteOption, PlaceOf, RunInput, RunLimit, ValueOption, execute_option_name, flag_rule, option_name, option_words, plan_option_name}
+use Rattle.command_line.proofs.Prelude.{◌≡◌, ◌∙◌, List, [], ◌∷◌, ◌++◌, Some, None, false, refl, ap, codes, fold, AllByRecursion, clap_on_literals, Kinds, Row, Shape, Text, Held, Walk, idle, option, has_row, nothing_held, reading_by, settled, walk, walk_from, walked, filled, settle_fault, turn_fault, walk_fault, or_else, CommandLine, PlaceAction, Locate, Hex, Code, DataBase, Input, IsBare, Limit, OfPlan, PlanOption, Stack, StackSize, ExecuteOption, PlaceOf, RunInput, RunLimit, ValueOption, execute_option_name, flag_rule, option_name, option_words, plan_option_name, Fill, StartMemory}
 use Rattle.command_line.proofs.Files.{all_done, bare_fault, bare_word, done_of, files_fault, files_filled, files_row, files_rows, files_walk, last_of, rows_more, state}
 use Rattle.command_line.proofs.Verbs.{Executed, Form, Located, Objects, Placed, Sources, form_of, leaf, rules}
 
@@ -160,6 +160,8 @@ option_step (of_program (OfPlan Stack)) = refl
 option_step (of_program (OfPlan StackSize)) = refl
 option_step (of_program Limit) = refl
 option_step (of_program Input) = refl
+option_step (of_program Fill) = refl
+option_step (of_program StartMemory) = refl
 option_step (of_place Locate Code) = refl
 option_step (of_place Hex Code) = refl
 option_step (of_place Locate DataBase) = refl
@@ -185,6 +187,8 @@ option_turn name (of_program (OfPlan Stack)) = refl
 option_turn name (of_program (OfPlan StackSize)) = refl
 option_turn name (of_program Limit) = refl
 option_turn name (of_program Input) = refl
+option_turn name (of_program Fill) = refl
+option_turn name (of_program StartMemory) = refl
 option_turn name (of_place Locate Code) = refl
 option_turn name (of_place Hex Code) = refl
 option_turn name (of_place Locate DataBase) = refl
@@ -210,6 +214,8 @@ text_step (of_program (OfPlan Stack)) text bare = rw (bare_word (rules Sources) 
 text_step (of_program (OfPlan StackSize)) text bare = rw (bare_word (rules Sources) (waiting_walk (of_program (OfPlan StackSize))).waiting 1 text (waiting_walk (of_program (OfPlan StackSize))).held bare) refl
 text_step (of_program Limit) text bare = rw (bare_word (rules Sources) (waiting_walk (of_program Limit)).waiting 1 text (waiting_walk (of_program Limit)).held bare) refl
 text_step (of_program Input) text bare = rw (bare_word (rules Sources) (waiting_walk (of_program Input)).waiting 1 text (waiting_walk (of_program Input)).held bare) refl
+text_step (of_program Fill) text bare = rw (bare_word (rules Sources) (waiting_walk (of_program Fill)).waiting 1 text (waiting_walk (of_program Fill)).held bare) refl
+text_step (of_program StartMemory) text bare = rw (bare_word (rules Sources) (waiting_walk (of_program StartMemory)).waiting 1 text (waiting_walk (of_program StartMemory)).held bare) refl
 text_step (of_place Locate Code) text bare = rw (bare_word (rules Located) (waiting_walk (of_place Locate Code)).waiting 1 text (waiting_walk (of_place Locate Code)).held bare) refl
 text_step (of_place Hex Code) text bare = rw (bare_word (rules Placed) (waiting_walk (of_place Hex Code)).waiting 1 text (waiting_walk (of_place Hex Code)).held bare) refl
 text_step (of_place Locate DataBase) text bare = rw (bare_word (rules Located) (waiting_walk (of_place Locate DataBase)).waiting 1 text (waiting_walk (of_place Locate DataBase)).held bare) refl
@@ -240,6 +246,10 @@ text_turn name (of_program Limit) text bare =
     rw (bare_word (rules Sources) (waiting_walk (of_program Limit)).waiting 1 text (waiting_walk (of_program Limit)).held bare, bare_fault (leaf Sources name) (waiting_walk (of_program Limit)).waiting text (waiting_walk (of_program Limit)).held bare) refl
 text_turn name (of_program Input) text bare =
     rw (bare_word (rules Sources) (waiting_walk (of_program Input)).waiting 1 text (waiting_walk (of_program Input)).held bare, bare_fault (leaf Sources name) (waiting_walk (of_program Input)).waiting text (waiting_walk (of_program Input)).held bare) refl
+text_turn name (of_program Fill) text bare =
+    rw (bare_word (rules Sources) (waiting_walk (of_program Fill)).waiting 1 text (waiting_walk (of_program Fill)).held bare, bare_fault (leaf Sources name) (waiting_walk (of_program Fill)).waiting text (waiting_walk (of_program Fill)).held bare) refl
+text_turn name (of_program StartMemory) text bare =
+    rw (bare_word (rules Sources) (waiting_walk (of_program StartMemory)).waiting 1 text (waiting_walk (of_program StartMemory)).held bare, bare_fault (leaf Sources name) (waiting_walk (of_program StartMemory)).waiting text (waiting_walk (of_program StartMemory)).held bare) refl
 text_turn name (of_place Locate Code) text bare =
     rw (bare_word (rules Located) (waiting_walk (of_place Locate Code)).waiting 1 text (waiting_walk (of_place Locate Code)).held bare, bare_fault (leaf Located name) (waiting_walk (of_place Locate Code)).waiting text (waiting_walk (of_place Locate Code)).held bare) refl
 text_turn name (of_place Hex Code) text bare =
@@ -281,6 +291,8 @@ value_step (of_program (OfPlan Stack)) text file bare = rw (bare_word (rules Sou
 value_step (of_program (OfPlan StackSize)) text file bare = rw (bare_word (rules Sources) idle 1 file (pending_walk (of_program (OfPlan StackSize)) text).held bare) refl
 value_step (of_program Limit) text file bare = rw (bare_word (rules Sources) idle 1 file (pending_walk (of_program Limit) text).held bare) refl
 value_step (of_program Input) text file bare = rw (bare_word (rules Sources) idle 1 file (pending_walk (of_program Input) text).held bare) refl
+value_step (of_program Fill) text file bare = rw (bare_word (rules Sources) idle 1 file (pending_walk (of_program Fill) text).held bare) refl
+value_step (of_program StartMemory) text file bare = rw (bare_word (rules Sources) idle 1 file (pending_walk (of_program StartMemory) text).held bare) refl
 value_step (of_place Locate Code) text file bare = rw (bare_word (rules Located) idle 1 file (pending_walk (of_place Locate Code) text).held bare) refl
 value_step (of_place Hex Code) text file bare = rw (bare_word (rules Placed) idle 1 file (pending_walk (of_place Hex Code) text).held bare) refl
 value_step (of_place Locate DataBase) text file bare = rw (bare_word (rules Located) idle 1 file (pending_walk (of_place Locate DataBase) text).held bare) refl
@@ -311,6 +323,10 @@ value_turn name (of_program Limit) text file bare =
     rw (bare_word (rules Sources) idle 1 file (pending_walk (of_program Limit) text).held bare, bare_fault (leaf Sources name) idle file (pending_walk (of_program Limit) text).held bare) refl
 value_turn name (of_program Input) text file bare =
     rw (bare_word (rules Sources) idle 1 file (pending_walk (of_program Input) text).held bare, bare_fault (leaf Sources name) idle file (pending_walk (of_program Input) text).held bare) refl
+value_turn name (of_program Fill) text file bare =
+    rw (bare_word (rules Sources) idle 1 file (pending_walk (of_program Fill) text).held bare, bare_fault (leaf Sources name) idle file (pending_walk (of_program Fill) text).held bare) refl
+value_turn name (of_program StartMemory) text file bare =
+    rw (bare_word (rules Sources) idle 1 file (pending_walk (of_program StartMemory) text).held bare, bare_fault (leaf Sources name) idle file (pending_walk (of_program StartMemory) text).held bare) refl
 value_turn name (of_place Locate Code) text file bare =
     rw (bare_word (rules Located) idle 1 file (pending_walk (of_place Locate Code) text).held bare, bare_fault (leaf Located name) idle file (pending_walk (of_place Locate Code) text).held bare) refl
 value_turn name (of_place Hex Code) text file bare =
@@ -351,6 +367,8 @@ no_file_in (of_program (OfPlan Stack)) text = refl
 no_file_in (of_program (OfPlan StackSize)) text = refl
 no_file_in (of_program Limit) text = refl
 no_file_in (of_program Input) text = refl
+no_file_in (of_program Fill) text = refl
+no_file_in (of_program StartMemory) text = refl
 no_file_in (of_place Locate Code) text = refl
 no_file_in (of_place Hex Code) text = refl
 no_file_in (of_place Locate DataBase) text = refl

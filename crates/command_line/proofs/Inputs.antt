@@ -1,12 +1,12 @@
--- The bytes of an input, one after another.
-use Rattle.command_line.proofs.Prelude.{◌≡◌, ℕ, ◌<◌, List, [], ◌∷◌, ◌++◌, Option, Some, None, Bool, true, false, length, refl, ◌∙◌, ap, append_assoc, arith, ◌-◌, ◌≤◌, take, drop, get_or, map, Bor, ◌==◌, option_and_then, option_map, append-nil, take-length, Text, byte_of, bytes_for, group_bytes, groups_bytes, if_read, in_front}
+-- The bytes of an input, one after another, and groups.
+use Rattle.command_line.proofs.Prelude.{◌≡◌, ℕ, ◌<◌, List, [], ◌∷◌, ◌++◌, Option, Some, None, Bool, true, false, length, refl, ◌∙◌, ap, append_assoc, arith, ◌-◌, ◌≤◌, take, drop, get_or, map, Bor, ◌==◌, option_and_then, option_map, append-nil, take-length, Text, byte_of, bytes_for, all_groups, if_read, in_front}
 use Rattle.command_line.specs.declared.values.InputByte.{InputByte}
 
-in_front_twice : (before bytes : List InputByte) (found : Option (List InputByte)) → in_front (before ++ bytes) found ≡ in_front before (in_front bytes found)
+pub in_front_twice : {A : Type 0} (before bytes : List A) (found : Option (List A)) → in_front (before ++ bytes) found ≡ in_front before (in_front bytes found)
 in_front_twice before bytes None = refl
 in_front_twice before bytes (Some more) = ap Some (append_assoc before bytes more)
 
-one_in_front : (x : InputByte) (found : Option (List InputByte)) → in_front (x ∷ []) found ≡ option_map (λ more. x ∷ more) found
+pub one_in_front : {A : Type 0} (x : A) (found : Option (List A)) → in_front (x ∷ []) found ≡ option_map (λ more. x ∷ more) found
 one_in_front x None = refl
 one_in_front x (Some more) = refl
 
@@ -30,30 +30,30 @@ bytes_end before port (lone ∷ []) short = refl
 bytes_end before port (high ∷ low ∷ more) short = absurd (omega arith)
 
 -- a group that was added stands in front of the others
-pub one_more_group : (before after : List InputByte) (group : Text) (others : List Text) → in_front before (group_bytes group) ≡ if_read true after
-    → in_front after (groups_bytes others) ≡ in_front before (groups_bytes (group ∷ others))
-one_more_group before after group others e = go (group_bytes group) e
+one_more_group : {A : Type 0} (written : Text → Option (List A)) (before after : List A) (group : Text) (others : List Text) → in_front before (written group) ≡ if_read true after
+    → in_front after (all_groups written others) ≡ in_front before (all_groups written (group ∷ others))
+one_more_group {A} written before after group others e = go (written group) e
   where
-    go : (found : Option (List InputByte)) → in_front before found ≡ Some after
-        → in_front after (groups_bytes others) ≡ in_front before (option_and_then (λ bytes. option_map (λ more. bytes ++ more) (groups_bytes others)) found)
+    go : (found : Option (List A)) → in_front before found ≡ Some after
+        → in_front after (all_groups written others) ≡ in_front before (option_and_then (λ bytes. option_map (λ more. bytes ++ more) (all_groups written others)) found)
     go None f = cc
     go (Some bytes) f =
         let is : before ++ bytes ≡ after = cc in
-        rw (← is) (in_front_twice before bytes (groups_bytes others))
+        rw (← is) (in_front_twice before bytes (all_groups written others))
 
 -- where a group is none, nothing is read
-pub no_group : (before after : List InputByte) (group : Text) (others : List Text) → in_front before (group_bytes group) ≡ if_read false after
-    → in_front before (groups_bytes (group ∷ others)) ≡ None
-no_group before after group others e = go (group_bytes group) e
+pub no_group : {A : Type 0} (written : Text → Option (List A)) (before after : List A) (group : Text) (others : List Text) → in_front before (written group) ≡ if_read false after
+    → in_front before (all_groups written (group ∷ others)) ≡ None
+no_group {A} written before after group others e = go (written group) e
   where
-    go : (found : Option (List InputByte)) → in_front before found ≡ None
-        → in_front before (option_and_then (λ bytes. option_map (λ more. bytes ++ more) (groups_bytes others)) found) ≡ None
+    go : (found : Option (List A)) → in_front before found ≡ None
+        → in_front before (option_and_then (λ bytes. option_map (λ more. bytes ++ more) (all_groups written others)) found) ≡ None
     go None f = refl
     go (Some bytes) f = cc
 
 -- where no group is left, all was read
-pub groups_end : (before : List InputByte) → in_front before (groups_bytes []) ≡ Some before
-groups_end before = ap Some (append-nil before)
+pub groups_end : {A : Type 0} (written : Text → Option (List A)) (before : List A) → in_front before (all_groups written []) ≡ Some before
+groups_end written before = ap Some (append-nil before)
 
 -- a step over two letters that write a byte
 pub pair_step : (before after : List InputByte) (port byte : ℕ) (rest : Text) → 2 ≤ length rest → Some byte ≡ byte_of (get_or rest 0 0) (get_or rest 1 0)
@@ -66,10 +66,10 @@ pair_step before after port byte (high ∷ low ∷ more) two e is =
     rw (is, count, take-length more) (one_more before port byte high low more e)
 
 -- a step over a group
-pub group_step : (before after : List InputByte) (d : Bor Text) (group : Text) (rest : List (Bor Text)) (is_read : Bool) → 1 ≤ length rest → group ≡ (get_or rest 0 d).now
-    → in_front before (group_bytes group) ≡ if_read is_read after → is_read ≡ true
-    → in_front after (groups_bytes (map (λ g. g.now) (take (length rest - 1) (drop 1 rest)))) ≡ in_front before (groups_bytes (map (λ g. g.now) rest))
-group_step before after d group [] is_read one is e all = absurd (omega arith)
-group_step before after d group (g ∷ more) is_read one is e all =
+pub group_step : {A : Type 0} (written : Text → Option (List A)) (before after : List A) (d : Bor Text) (group : Text) (rest : List (Bor Text)) (is_read : Bool) → 1 ≤ length rest
+    → group ≡ (get_or rest 0 d).now → in_front before (written group) ≡ if_read is_read after → is_read ≡ true
+    → in_front after (all_groups written (map (λ g. g.now) (take (length rest - 1) (drop 1 rest)))) ≡ in_front before (all_groups written (map (λ g. g.now) rest))
+group_step written before after d group [] is_read one is e all = absurd (omega arith)
+group_step written before after d group (g ∷ more) is_read one is e all =
     let count : length (g ∷ more) - 1 ≡ length more = omega arith in
-    rw (count, take-length more) (one_more_group before after g.now (map (λ (x : Bor Text). x.now) more) (rw (is, all) at e))
+    rw (count, take-length more) (one_more_group written before after g.now (map (λ (x : Bor Text). x.now) more) (rw (is, all) at e))

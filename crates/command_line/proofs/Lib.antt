@@ -12,3 +12,4 @@ pub mod PlmWords
 pub mod Given
 pub mod Decimals
 pub mod Inputs
+pub mod MemoryBytes

@@ -62,15 +62,22 @@ with_plan app =
     (default_rule (codes "stack") (codes "61440")))
     (default_rule (codes "stack-size") (codes "1024"))
 
+-- a command with the options of the memory at the start
+abbrev pub with_memory : App → App
+with_memory app =
+    with_rule (with_rule app
+    (default_rule (codes "fill") (codes "00")))
+    (option_rule (codes "memory"))
+
 -- a command with the options of a run
 abbrev pub with_run : App → App
 with_run app =
-    with_rule (with_rule (with_rule app
+    with_memory (with_rule (with_rule (with_rule app
     (default_rule (codes "limit") (codes "10000000")))
     (option_rule (codes "input")))
-    (flag_rule (codes "map"))
+    (flag_rule (codes "map")))
 
--- the command `name [plan] [--limit N] [--input T] [--map] SOURCE...`
+-- the command `name [plan] [--limit N] [--input T] [--map] [--fill T] [--memory T] SOURCE...`
 abbrev pub program_app : Text → App
 program_app name = with_rule (with_run (with_plan (new_app name))) files_rule
 
@@ -137,6 +144,8 @@ pub record ProgramWanted : Type 0 where
   pub limit : Text
   pub input : Option Text
   pub map : Bool
+  pub fill : Text
+  pub memory : Option Text
 
 -- the source to be compiled, and the file to which its object module goes
 pub record CompileWanted : Type 0 where
@@ -215,6 +224,8 @@ program_of action rows = record {
   limit = text_of (codes "limit") rows;
   input = first_of (codes "input") rows;
   map = is_set (codes "map") rows;
+  fill = text_of (codes "fill") rows;
+  memory = first_of (codes "memory") rows;
 }
 
 abbrev pub compile_of : List Row → CompileWanted
@@ -279,6 +290,8 @@ program_in order = record {
   limit = order.limit.now;
   input = option_map (λ text. text.now) order.input;
   map = order.map;
+  fill = order.fill.now;
+  memory = option_map (λ text. text.now) order.memory;
 }
 
 abbrev pub compile_in : CompileOrder → CompileWanted
@@ -349,6 +362,8 @@ usual action files = record {
   limit = codes "10000000";
   input = None;
   map = false;
+  fill = codes "00";
+  memory = None;
 }
 
 abbrev pub usual_place : PlaceAction → List Text → PlaceWanted
@@ -370,6 +385,8 @@ pub data ValueOption : Type 0 where
   OfPlan : PlanOption → ValueOption
   Limit : ValueOption
   Input : ValueOption
+  Fill : ValueOption
+  StartMemory : ValueOption
 
 -- the name of an option
 abbrev pub plan_option_name : PlanOption → Text
@@ -382,6 +399,8 @@ abbrev pub option_name : ValueOption → Text
 option_name (OfPlan option) = plan_option_name option
 option_name Limit = codes "limit"
 option_name Input = codes "input"
+option_name Fill = codes "fill"
+option_name StartMemory = codes "memory"
 
 -- what is wanted, with the text of an option
 abbrev pub with_plan_text : PlanOption → Text → PlanWanted → PlanWanted
@@ -394,6 +413,8 @@ abbrev pub with_text : ValueOption → Text → ProgramWanted → ProgramWanted
 with_text (OfPlan option) text wanted = record wanted { plan = with_plan_text option text wanted.plan }
 with_text Limit text wanted = record wanted { limit = text }
 with_text Input text wanted = record wanted { input = Some text }
+with_text Fill text wanted = record wanted { fill = text }
+with_text StartMemory text wanted = record wanted { memory = Some text }
 
 -- the options of `execute`, all with a value
 pub data ExecuteOption : Type 0 where

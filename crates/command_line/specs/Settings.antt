@@ -10,6 +10,8 @@ use Rattle.failure.specs.declared.Failure.{Failure}
 use Rattle.failure.specs.declared.Failure.TheVariants.{Fault, Memory}
 use Rattle.command_line.specs.Command.{ExecuteWanted, PlanWanted, ProgramWanted}
 use Rattle.command_line.specs.declared.values.InputByte.{InputByte}
+use Rattle.command_line.specs.declared.start_memory.MemoryByte.{MemoryByte}
+use Rattle.mem80.specs.declared.memory.TheConstants.{MEMORY_SIZE}
 use Rattle.mem80.specs.declared.plan.Plan.{Plan}
 use Rattle.command_line.specs.declared.values.ExecuteSettings.{ExecuteSettings}
 use Rattle.command_line.specs.declared.values.Settings.{Settings}
@@ -65,26 +67,72 @@ group_bytes (high ∷ low ∷ colon ∷ digits) =
     if colon == 58 then option_and_then (λ port. bytes_for port digits) (byte_of high low) else None
 group_bytes _ = None
 
--- the bytes of several groups, one after another
-abbrev pub groups_bytes : List Text → Option (List InputByte)
-groups_bytes [] = Some []
-groups_bytes (group ∷ others) = option_and_then (λ bytes.
-    option_map (λ more. bytes ++ more) (groups_bytes others)) (group_bytes group)
+-- what several groups write, one after another, by what one of them writes
+abbrev pub all_groups : {A : Type 0} → (Text → Option (List A)) → List Text → Option (List A)
+all_groups written [] = Some []
+all_groups written (group ∷ others) = option_and_then (λ bytes.
+    option_map (λ more. bytes ++ more) (all_groups written others)) (written group)
 
--- the bytes of an input: of its groups, between which slashes (47) stand
+-- what a text writes: its groups, between which slashes (47) stand
+abbrev pub groups_in : {A : Type 0} → (Text → Option (List A)) → Text → Option (List A)
+groups_in written text = all_groups written (slice_split (λ c. c == 47) text)
+
+-- the bytes of an input
 abbrev pub input_bytes : Text → Option (List InputByte)
-input_bytes text = groups_bytes (slice_split (λ c. c == 47) text)
+input_bytes text = groups_in group_bytes text
 
 -- the bytes of an input, of which there are none where it was left out
 abbrev pub input_read : Option Text → Read (List InputByte)
 input_read None = Ok []
 input_read (Some text) = found_in text (input_bytes text)
 
+-- the byte of a text of two hexadecimal digits
+abbrev pub digits_byte : Text → Option ℕ
+digits_byte [] = None
+digits_byte (lone ∷ []) = None
+digits_byte (high ∷ low ∷ []) = byte_of high low
+digits_byte (high ∷ low ∷ more ∷ others) = None
+
+-- the byte that memory has at the start where nothing else is said
+abbrev pub fill_read : Text → Read ℕ
+fill_read text = found_in text (digits_byte text)
+
+-- the address that four hexadecimal digits write, the high byte first
+abbrev pub address_of : ℕ → ℕ → ℕ → ℕ → Option ℕ
+address_of a b c d =
+    option_and_then (λ high. option_map (λ low. high * 256 + low) (byte_of c d)) (byte_of a b)
+
+-- the bytes that an even number of hexadecimal digits writes, from this address on, where none passes FFFFH
+abbrev pub bytes_from : ℕ → Text → Option (List MemoryByte)
+bytes_from address [] = Some []
+bytes_from address (lone ∷ []) = None
+bytes_from address (high ∷ low ∷ rest) =
+    if nat_lt address MEMORY_SIZE then option_and_then (λ byte.
+    option_map (λ more. record { address = address; byte = byte } ∷ more) (bytes_from (address + 1) rest))
+    (byte_of high low) else None
+
+-- a group: the four digits of an address, a colon (58), and the digits of the bytes from there on
+abbrev pub memory_group : Text → Option (List MemoryByte)
+memory_group (a ∷ b ∷ c ∷ d ∷ colon ∷ digits) =
+    if colon == 58 then option_and_then (λ address. bytes_from address digits) (address_of a b c d) else None
+memory_group _ = None
+
+-- the bytes of memory that a text writes
+abbrev pub memory_bytes : Text → Option (List MemoryByte)
+memory_bytes text = groups_in memory_group text
+
+-- the same, of which there are none where the text was left out
+abbrev pub memory_read : Option Text → Read (List MemoryByte)
+memory_read None = Ok []
+memory_read (Some text) = found_in text (memory_bytes text)
+
 -- the values of all options
 pub record Values : Type 0 where
   pub plan : Plan
   pub limit : ℕ
   pub input : List InputByte
+  pub fill : ℕ
+  pub memory : List MemoryByte
 
 -- the plan that texts write
 abbrev pub plan_read : PlanWanted → Read Plan
@@ -101,7 +149,9 @@ values_read wanted = do
   plan ← plan_read wanted.plan
   limit ← limit_number wanted.limit
   input ← input_read wanted.input
-  Ok (record { plan = plan; limit = limit; input = input })
+  fill ← fill_read wanted.fill
+  memory ← memory_read wanted.memory
+  Ok (record { plan = plan; limit = limit; input = input; fill = fill; memory = memory })
 
 -- the values of the options of `execute`
 pub record ExecuteValues : Type 0 where
@@ -140,7 +190,13 @@ ReadsFile read (Err fault) = read ≡ Err fault.text.now
 
 -- what settings hold
 abbrev pub values_in : Settings → Values
-values_in settings = record { plan = settings.plan; limit = settings.limit; input = settings.input.items }
+values_in settings = record {
+  plan = settings.plan;
+  limit = settings.limit;
+  input = settings.input.items;
+  fill = settings.fill;
+  memory = settings.memory.items;
+}
 
 -- the answer is what the texts read as, unless memory ran out
 abbrev pub IsSettingsOf : Read Values → Result Settings (Failure ValueFault) → Type 0

@@ -3,9 +3,7 @@
 ghost use Rattle.std.specs.Prelude.{◌≡◌, codes, false};
 ghost use Rattle.clap.specs.Words.{App, Rule, new_app, rule_of, with_rule, with_subcommand};
 ghost use Rattle.command_line.specs.internal.Building.{Builds, IsBuilt};
-ghost use Rattle.command_line.specs.Command.{bare_app, compile_app, default_rule, execute_app, file_rule, files_rule, flag_rule, hex_app, link_app};
-ghost use Rattle.command_line.specs.Command.{locate_app, option_rule, out_rule, plm_app, program_app};
-ghost use Rattle.command_line.specs.Command.{programs_app, with_plan, with_run};
+ghost use Rattle.command_line.specs.Command.{bare_app, compile_app, default_rule, execute_app, file_rule, files_rule, flag_rule, hex_app, link_app, locate_app, option_rule, out_rule, plm_app, program_app, programs_app, with_plan, with_run, with_memory};
 
 use crate::help::{
     ABOUT, COMPILE, EXECUTE, GUIDE, HEX, INTERPRET, INTERPRET_LIMIT, LINK, LOCATE, RUN, RUN_LIMIT,
@@ -156,7 +154,29 @@ fn add_run<'a>(alloc: Global, command: Built<'a>, limit_help: &'a str) -> Built<
         "map",
         "Print where each object lies, before all else",
     );
-    add(with_input, map)
+    let with_map = add(with_input, map);
+    add_memory(alloc, with_map)
+}
+
+// The command with the options of the memory at the start.
+fn add_memory<'a>(alloc: Global, command: Built<'a>) -> Built<'a>
+    ensures { (app : App) → Builds app command.entry → Builds (with_memory app) result }
+{
+    let with_fill = add_option(
+        alloc,
+        command,
+        "fill",
+        "00",
+        "BYTE",
+        "What each byte of memory is at the start, as FF",
+    );
+    let memory = option(
+        alloc,
+        "memory",
+        "GROUPS",
+        "What bytes of memory are at the start, as 0080:0161/005C:FF",
+    );
+    add(with_fill, memory)
 }
 
 // The flag `--name`, by its line in help.

@@ -5,6 +5,7 @@ mod app;
 mod help;
 mod orders;
 mod reading;
+mod start_memory;
 mod values;
 
 pub use mem80::Plan;
@@ -14,3 +15,4 @@ pub use orders::{
 };
 pub use reading::{LineFault, command};
 pub use values::{ExecuteSettings, InputByte, Settings, ValueFault};
+pub use start_memory::MemoryByte;

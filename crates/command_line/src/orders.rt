@@ -46,6 +46,10 @@ pub struct ProgramOrder<'a> {
     pub input: Option<&'a str>,
     /// Whether it is first printed where each object lies.
     pub map: bool,
+    /// The byte that the memory has at the start where nothing else is said.
+    pub fill: &'a str,
+    /// Other bytes of the memory at the start, where that was said.
+    pub memory: Option<&'a str>,
 }
 
 /// An order to compile a source to an object file.

@@ -119,6 +119,8 @@ fn program<'a>(
         limit: text(matches, "limit"),
         input: first(matches, "input"),
         map: flag(matches, "map"),
+        fill: text(matches, "fill"),
+        memory: first(matches, "memory"),
     })))
 }
 

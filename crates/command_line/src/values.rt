@@ -7,16 +7,14 @@ ghost use Rattle.std.specs.Char.{digit_value, is_digit};
 ghost use Rattle.failure.specs.Failure.{IfFault};
 ghost use Rattle.clap.specs.Walk.{texts};
 ghost use Rattle.command_line.specs.Command.{execute_in, place_in, plan_in, program_in};
-ghost use Rattle.command_line.specs.Settings.{IsExecuteSettingsOf, execute_read};
-ghost use Rattle.command_line.specs.Settings.{HasMemory, IsSettingsOf, byte_of, bytes_for, group_bytes};
-ghost use Rattle.command_line.specs.Settings.{groups_bytes};
-ghost use Rattle.command_line.specs.Settings.{input_bytes, input_read, jump_read, limit_number, only_file, plan_number};
+ghost use Rattle.command_line.specs.Settings.{IsExecuteSettingsOf, execute_read, HasMemory, IsSettingsOf, byte_of, bytes_for, group_bytes, input_bytes, input_read, jump_read, limit_number, only_file, plan_number, all_groups};
 ghost use Rattle.command_line.specs.Settings.{plan_read};
 ghost use Rattle.command_line.specs.Settings.{values_read};
 ghost use Rattle.command_line.specs.Settings.{Reads, ReadsFile};
 ghost use Rattle.command_line.specs.internal.Reads.{if_read, in_front};
 
 use crate::orders::{ExecuteOrder, NeedOrder, PlaceOrder, PlanTexts, ProgramOrder};
+use crate::start_memory::{MemoryByte, fill, memory};
 use failure::Failure;
 use mem80::Plan;
 use std::alloc::{AllocError, Global};
@@ -43,6 +41,10 @@ pub struct Settings {
     pub limit: u64,
     /// What the ports give, in the order of the text.
     pub input: Vec<InputByte>,
+    /// The byte that the memory has at the start at each address, but for the bytes that follow.
+    pub fill: u8,
+    /// Bytes of the memory at the start, a later one over an earlier one of its address.
+    pub memory: Vec<MemoryByte>,
 }
 
 /// The values of an order to run objects.
@@ -140,7 +142,7 @@ fn digit(letter: u8) -> Option<u8>
 }
 
 // The byte that two hexadecimal digits write.
-fn byte(high: u8, low: u8) -> Option<u8>
+pub(crate) fn byte(high: u8, low: u8) -> Option<u8>
     ensures { result ≡ byte_of high low }
 {
     let high = digit(high)?;
@@ -186,7 +188,7 @@ fn add_group(input: &mut Vec<InputByte>, group: &[u8]) -> Result<bool, AllocErro
 // Adds the bytes of groups, and answers whether all of them were read.
 fn add_groups(input: &mut Vec<InputByte>, groups: &[&str]) -> Result<bool, AllocError>
     ensures { IfOk result (λ is_read.
-        in_front input.old.items (groups_bytes (map (λ group. group.now) groups.now))
+        in_front input.old.items (all_groups group_bytes (map (λ group. group.now) groups.now))
         ≡ if_read is_read input.new.items) }
 {
     let mut rest = groups;
@@ -200,7 +202,7 @@ fn add_groups(input: &mut Vec<InputByte>, groups: &[&str]) -> Result<bool, Alloc
 }
 
 // The parts of a text between its slashes.
-fn groups<'a>(alloc: Global, text: &'a str) -> Result<Vec<&'a str>, AllocError>
+pub(crate) fn groups<'a>(alloc: Global, text: &'a str) -> Result<Vec<&'a str>, AllocError>
     ensures { IfOk result (λ groups.
         map (λ group. group.now) groups.items ≡ slice_split (λ c. c == 47) text.entry.now) }
 {
@@ -305,11 +307,11 @@ impl<'a> NeedOrder<'a> {
 
 impl<'a> ProgramOrder<'a> {
     /// The values of the options. It answers U4 only where a text is none of its option's values, with the first
-    /// such text, in the order code, data, stack, stack size, limit, input; else the values, or that memory ran
-    /// out. Only an input takes memory.
+    /// such text, in the order code, data, stack, stack size, limit, input, fill, memory; else the values, or that
+    /// memory ran out. Only an input and bytes of the memory at the start take memory.
     pub fn settings(&self, alloc: Global) -> Result<Settings, Failure<ValueFault<'a>>>
         ensures values { IsSettingsOf (values_read (program_in self.now)) result }
-        ensures memory { self.now.input ≡ None → HasMemory result }
+        ensures memory { self.now.input ≡ None → self.now.memory ≡ None → HasMemory result }
     {
         let plan = match plan_of(&self.plan) {
             Ok(plan) => plan,
@@ -320,6 +322,17 @@ impl<'a> ProgramOrder<'a> {
             Err(fault) => return Err(Failure::Fault(fault)),
         };
         let input = input(alloc, self.input)?;
-        Ok(Settings { plan, limit, input })
+        let fill = match fill(self.fill) {
+            Ok(fill) => fill,
+            Err(fault) => return Err(Failure::Fault(fault)),
+        };
+        let memory = memory(alloc, self.memory)?;
+        Ok(Settings {
+            plan,
+            limit,
+            input,
+            fill,
+            memory,
+        })
     }
 }

@@ -5,6 +5,7 @@ pub mod TextsTold
 pub mod ProgramsTold
 pub mod Compiled
 pub mod Inputs
+pub mod StartMemory
 pub mod Interpreted
 pub mod MapLines
 pub mod Names

@@ -6,7 +6,6 @@ unfoldable pub use Rattle.std.specs.Fmt.{digits}
 pub use Rattle.failure.proofs.WritingLemmas.{beginning_after, on_err}
 pub use Rattle.failure.specs.{Failure.{IfFault}, Writing.{AppendsBeginning, IsBeginning}, declared.Failure.{Failure, TheVariants.{Fault, Memory}}}
 pub use Rattle.mem80.specs.declared.plan.Plan.{Plan}
-unfoldable pub use Rattle.mem80.specs.Memory.{zeros}
 pub use Rattle.ports.specs.{Events.{CountsFailure}, Input.{AddsByte, queue_of}, Session.{Session}, declared.event.Event.{Event}}
 pub use Rattle.typed_trees.specs.{Jumps.{JumpsAreSound}, TypedTrees.{TypedModule}, Views.{module_view, object_view}, declared.module.Typed.{Typed}}
 pub use Rattle.layout.specs.{Joined.{IsJoined}, Placement.{ModulePlacement, Placement, pieces_of}}
@@ -30,6 +29,7 @@ pub use Rattle.commands.specs.Printing.{PrintsNeed, StopsNeed, TellsNoNeed}
 pub use Rattle.commands.specs.ProgramFaults.{fault_line, fault_place, file_place}
 pub use Rattle.commands.specs.Refusing.{RefusesFiles, RunsOut}
 unfoldable pub use Rattle.commands.specs.Refusing.{RefusesCompiling, RefusesFor, RefusesProgram, RefusesTexts, TellsUnwritten}
+pub use Rattle.commands.specs.Starting.{IsStart}
 pub use Rattle.commands.specs.Running.{DoesAs, GivesInput, PrintsFiles, PrintsMachine, PrintsMeaning, PrintsProgram, PrintsTexts, bytes_to, end_status, source_status, source_word}
 unfoldable pub use Rattle.commands.specs.Running.{StopsBuilt}
 pub use Rattle.commands.specs.declared.needs.fault.NeedFault.{NeedFault}

@@ -1,5 +1,5 @@
 -- What was printed of programs, step by step.
-use Rattle.commands.proofs.Prelude.{◌≡◌, ℕ, ◌≤◌, Bool, true, false, List, [], ◌++◌, length, map, Bor, Option, None, Some, inl, inr, refl, sym, ap, subst, ◌∙◌, append-nil, Appends, Keeps, Appends-trans, AppendsBeginning, beginning_after, texts, zeros, Event, Session, Directory, HasFiles, Plan, Joined, CodePlacement, placement_view, ProgramWanted, Values, Action, ToRun, Interpret, MOST_SOURCES, IsProgramOf, program_modules, Construction, IsConstruction, source_of, started, map_if, map_of, DoesAs, GivesInput, PrintsFiles, PrintsMachine, PrintsMeaning, PrintsTexts, StopsBuilt, end_status, source_status, source_word}
+use Rattle.commands.proofs.Prelude.{◌≡◌, ℕ, ◌≤◌, Bool, true, false, List, [], ◌++◌, length, map, Bor, Option, None, Some, inl, inr, refl, sym, ap, subst, ◌∙◌, append-nil, Appends, Keeps, Appends-trans, AppendsBeginning, beginning_after, texts, Event, Session, Directory, HasFiles, Plan, Joined, CodePlacement, placement_view, ProgramWanted, Values, Action, ToRun, Interpret, MOST_SOURCES, IsProgramOf, program_modules, Construction, IsConstruction, source_of, started, map_if, map_of, DoesAs, GivesInput, IsStart, PrintsFiles, PrintsMachine, PrintsMeaning, PrintsTexts, StopsBuilt, end_status, source_status, source_word}
 use Rattle.ports.specs.Events.{IsBeginning}
 use Rattle.printing.specs.{Report.{report_of}, Printing.{BeginsRun, PrintsRun, end_word}}
 use Rattle.cpu8080.specs.{Machine.{Machine}, Runs.{IsRun}, declared.machine.End.{End}}
@@ -19,22 +19,23 @@ unfolding StopsBuilt
 nothing_stops action before values built known = inl (nothing_begun known before)
 
 -- a run of an image that was printed, or a beginning of it
-module _ (values : Values) (built : Construction) (memory : List ℕ) (script : Session) (old new : Option (List ℕ)) (zeroed : memory ≡ zeros) (gives : GivesInput values.input script.script)
+module _ (values : Values) (built : Construction) (memory : List ℕ) (script : Session) (old new : Option (List ℕ)) (start : IsStart values memory) (gives : GivesInput values.input script.script)
     (none : script.events ≡ []) (unfailed : script.failures ≡ 0) where
-  same_start : started built.image memory script.script script.events script.failures ≡ started built.image zeros script.script [] 0
+  same_start : started built.image memory script.script script.events script.failures ≡ started built.image memory script.script [] 0
   same_start =
-      ap (λ (m : List ℕ). started built.image m script.script script.events script.failures) zeroed
-      ∙ ap (λ (es : List Event). started built.image zeros script.script es script.failures) none
-      ∙ ap (λ (n : ℕ). started built.image zeros script.script [] n) unfailed
+      ap (λ (es : List Event). started built.image memory script.script es script.failures) none
+      ∙ ap (λ (n : ℕ). started built.image memory script.script [] n) unfailed
 
   pub prints_machine : (end : End) (machine : Machine) → PrintsRun values.limit (started built.image memory script.script script.events script.failures) end machine old new
       → PrintsMachine [] values built (end_status end) old new
   prints_machine end machine ran = record {
+    memory = memory;
+    start = start;
     script = script.script;
     gives = gives;
     end = end;
     machine = machine;
-    run = subst (λ (start : Machine). IsRun values.limit start end machine) same_start ran.run;
+    run = subst (λ (from : Machine). IsRun values.limit from end machine) same_start ran.run;
     ended = refl;
     printed = ran.printed;
   }
@@ -42,38 +43,41 @@ module _ (values : Values) (built : Construction) (memory : List ℕ) (script : 
   pub begins_machine : BeginsRun values.limit (started built.image memory script.script script.events script.failures) old new → StopsBuilt ToRun [] values built old new
   unfolding StopsBuilt
   begins_machine ran = inr (record {
+    memory = memory;
+    start = start;
     script = script.script;
     gives = gives;
     end = ran.end;
     machine = ran.machine;
-    run = subst (λ (start : Machine). IsRun values.limit start ran.end ran.machine) same_start ran.run;
+    run = subst (λ (from : Machine). IsRun values.limit from ran.end ran.machine) same_start ran.run;
     printed = ran.printed;
   })
 
 -- the meaning of a program that was printed, or a beginning of it
-module _ (values : Values) (built : Construction) (memory : List ℕ) (script : Session) (end : Option Stop) (events : List Event) (old new : Option (List ℕ)) (zeroed : memory ≡ zeros)
+module _ (values : Values) (built : Construction) (memory : List ℕ) (script : Session) (end : Option Stop) (events : List Event) (old new : Option (List ℕ)) (start : IsStart values memory)
     (gives : GivesInput values.input script.script) (none : script.events ≡ []) (does : DoesAs (source_of built memory script.script script.events values.limit) end events) where
-  same_run : DoesAs (source_of built zeros script.script [] values.limit) end events
+  same_run : DoesAs (source_of built memory script.script [] values.limit) end events
   same_run =
-      let same : source_of built memory script.script script.events values.limit ≡ source_of built zeros script.script [] values.limit =
-      ap (λ (m : List ℕ). source_of built m script.script script.events values.limit) zeroed
-      ∙ ap (λ (es : List Event). source_of built zeros script.script es values.limit) none in
+      let same : source_of built memory script.script script.events values.limit ≡ source_of built memory script.script [] values.limit =
+      ap (λ (es : List Event). source_of built memory script.script es values.limit) none in
       subst (λ (run : Run). DoesAs run end events) same does
 
   pub prints_meaning : Appends old new (report_of events (source_word end)) → PrintsMeaning [] values built (source_status end) old new
-  prints_meaning printed = record { script = script.script; gives = gives; end = end; events = events; does = same_run; ended = refl; printed = printed }
+  prints_meaning printed = record { memory = memory; start = start; script = script.script; gives = gives; end = end; events = events; does = same_run; ended = refl; printed = printed }
 
   pub begins_meaning : (shown : List Event) (word : List ℕ) → shown ≡ events → word ≡ source_word end → AppendsBeginning old new (report_of shown word) → StopsBuilt Interpret [] values built old new
   unfolding StopsBuilt
   begins_meaning shown word are is printed =
       let begun : AppendsBeginning old new (report_of events (source_word end)) = subst (λ (es : List Event). AppendsBeginning old new (report_of es (source_word end))) are
       (subst (λ (w : List ℕ). AppendsBeginning old new (report_of shown w)) is printed) in
-      inr (record { script = script.script; gives = gives; end = end; events = events; does = same_run; printed = begun })
+      inr (record { memory = memory; start = start; script = script.script; gives = gives; end = end; events = events; does = same_run; printed = begun })
 
 module _ (before : List ℕ) (values : Values) (built : Construction) (a b c : Option (List ℕ)) where
   -- after a text that was printed before
   pub machine_after : (status : ℕ) → Appends a b before → PrintsMachine [] values built status b c → PrintsMachine before values built status a c
   machine_after status first printed = record {
+    memory = printed.memory;
+    start = printed.start;
     script = printed.script;
     gives = printed.gives;
     end = printed.end;
@@ -85,6 +89,8 @@ module _ (before : List ℕ) (values : Values) (built : Construction) (a b c : O
 
   pub meaning_after : (status : ℕ) → Appends a b before → PrintsMeaning [] values built status b c → PrintsMeaning before values built status a c
   meaning_after status first printed = record {
+    memory = printed.memory;
+    start = printed.start;
     script = printed.script;
     gives = printed.gives;
     end = printed.end;
@@ -103,6 +109,8 @@ module _ (before : List ℕ) (values : Values) (built : Construction) (a b c : O
   unfolding StopsBuilt
   stops_after action first (inl begun) = inl (subst (λ (l : List ℕ). AppendsBeginning a c l) (append-nil before) (begun_after [] first begun))
   stops_after ToRun first (inr begun) = inr (record {
+    memory = begun.memory;
+    start = begun.start;
     script = begun.script;
     gives = begun.gives;
     end = begun.end;
@@ -111,6 +119,8 @@ module _ (before : List ℕ) (values : Values) (built : Construction) (a b c : O
     printed = begun_after (report_of begun.machine.state.events (end_word begun.end)) first begun.printed;
   })
   stops_after Interpret first (inr begun) = inr (record {
+    memory = begun.memory;
+    start = begun.start;
     script = begun.script;
     gives = begun.gives;
     end = begun.end;

@@ -14,6 +14,7 @@ pub use Rattle.commands.specs.NeedFaults as NeedFaults
 pub use Rattle.printing.specs.Printing as PrintedRuns
 pub mod Compiling
 pub mod Map
+pub mod Starting
 pub mod Running
 pub mod ProgramFaults
 pub mod Refusing

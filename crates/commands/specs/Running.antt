@@ -3,7 +3,6 @@ use Rattle.std.specs.Prelude.{◌≡◌, ◌⊎◌, ℕ, ◌==◌, ◌≤◌, Bo
 use Rattle.std.specs.Prelude.{Ok, Option, Some, None}
 use Rattle.std.specs.Io.KnownBytes.{Appends}
 use Rattle.failure.specs.Writing.{AppendsBeginning}
-use Rattle.mem80.specs.Memory.{zeros}
 use Rattle.ports.specs.declared.event.Event.{Event}
 use Rattle.ports.specs.Events.{IsBeginning}
 use Rattle.ports.specs.Input.{queue_of}
@@ -28,6 +27,7 @@ use Rattle.sources.specs.Programs.{IsProgramOf, program_modules}
 use Rattle.tool.specs.Construction.{Construction, IsConstruction}
 use Rattle.tool.specs.Execution.{source_of, started}
 use Rattle.commands.specs.Map.{map_if}
+use Rattle.commands.specs.Starting.{IsStart}
 
 -- the bytes of an input for a port, in their order
 abbrev pub bytes_to : (port : ℕ) → List InputByte → List ℕ
@@ -45,26 +45,30 @@ end_status Limit = 3
 end_status Illegal = 4
 end_status PortFault = 4
 
--- after this text what the image of a program does on a memory of zeros, with this input and this limit, was
--- printed
+-- after this text what the image of a program does on a memory as these values start it, with their input and
+-- their limit, was printed
 pub record PrintsMachine (before : List ℕ) (values : Values) (built : Construction) (status : ℕ)
     (old new : Option (List ℕ)) : Type 0 where
+  pub memory : List ℕ
+  pub start : IsStart values memory
   pub script : List (List ℕ)
   pub gives : GivesInput values.input script
   pub end : End
   pub machine : Machine
-  pub run : IsRun values.limit (started built.image zeros script [] 0) end machine
+  pub run : IsRun values.limit (started built.image memory script [] 0) end machine
   pub ended : status ≡ end_status end
   pub printed : Appends old new (before ++ report_of machine.state.events (end_word end))
 
 -- a beginning of that was printed
 pub record BeginsMachine (before : List ℕ) (values : Values) (built : Construction)
     (old new : Option (List ℕ)) : Type 0 where
+  pub memory : List ℕ
+  pub start : IsStart values memory
   pub script : List (List ℕ)
   pub gives : GivesInput values.input script
   pub end : End
   pub machine : Machine
-  pub run : IsRun values.limit (started built.image zeros script [] 0) end machine
+  pub run : IsRun values.limit (started built.image memory script [] 0) end machine
   pub printed : AppendsBeginning old new (before ++ report_of machine.state.events (end_word end))
 
 -- a run of a source as it ended, with its events, or a port that failed, with a beginning of them
@@ -89,25 +93,30 @@ source_status (Some More) = 3
 source_status (Some (Outside reason)) = 5
 source_status None = 4
 
--- after this text what a program means, from a memory of zeros, with this input and this budget, was printed
+-- after this text what a program means, from a memory as these values start it, with their input and their
+-- budget, was printed
 pub record PrintsMeaning (before : List ℕ) (values : Values) (built : Construction) (status : ℕ)
     (old new : Option (List ℕ)) : Type 0 where
+  pub memory : List ℕ
+  pub start : IsStart values memory
   pub script : List (List ℕ)
   pub gives : GivesInput values.input script
   pub end : Option Stop
   pub events : List Event
-  pub does : DoesAs (source_of built zeros script [] values.limit) end events
+  pub does : DoesAs (source_of built memory script [] values.limit) end events
   pub ended : status ≡ source_status end
   pub printed : Appends old new (before ++ report_of events (source_word end))
 
 -- a beginning of that was printed
 pub record BeginsMeaning (before : List ℕ) (values : Values) (built : Construction)
     (old new : Option (List ℕ)) : Type 0 where
+  pub memory : List ℕ
+  pub start : IsStart values memory
   pub script : List (List ℕ)
   pub gives : GivesInput values.input script
   pub end : Option Stop
   pub events : List Event
-  pub does : DoesAs (source_of built zeros script [] values.limit) end events
+  pub does : DoesAs (source_of built memory script [] values.limit) end events
   pub printed : AppendsBeginning old new (before ++ report_of events (source_word end))
 
 -- what an action prints of a program

@@ -1,14 +1,18 @@
 -- Texts of options that are values, and some that are none.
 use Rattle.std.specs.Prelude.{◌≡◌, ℕ, [], ◌∷◌, Some, None, Ok, Err, codes, refl}
 use Rattle.command_line.specs.declared.orders.Action.TheVariants.{Run}
+use Rattle.command_line.specs.declared.start_memory.MemoryByte.{MemoryByte}
 use Rattle.command_line.specs.declared.values.InputByte.{InputByte}
 use Rattle.command_line.specs.Command.{usual}
-use Rattle.command_line.specs.Settings.{input_bytes, limit_number, plan_number, values_read}
+use Rattle.command_line.specs.Settings.{fill_read, input_bytes, limit_number, memory_bytes, plan_number}
+use Rattle.command_line.specs.Settings.{values_read}
 
 usual_values : values_read (usual Run []) ≡ Ok (record {
   plan = record { code = 256; data_base = 16384; stack = 61440; stack_size = 1024 };
   limit = 10000000;
   input = [];
+  fill = 0;
+  memory = [];
 })
 usual_values = refl
 
@@ -70,3 +74,35 @@ no_colon = refl
 
 no_hexadecimal_digit : input_bytes (codes "01:0G") ≡ None
 no_hexadecimal_digit = refl
+
+a_fill : fill_read (codes "eF") ≡ Ok 239
+a_fill = refl
+
+a_long_fill : fill_read (codes "000") ≡ Err (codes "000")
+a_long_fill = refl
+
+no_fill : fill_read [] ≡ Err []
+no_fill = refl
+
+-- a byte of memory
+abbrev at_address : ℕ → ℕ → MemoryByte
+at_address address byte = record { address = address; byte = byte }
+
+two_groups : memory_bytes (codes "0080:0261/005c:fF")
+    ≡ Some (at_address 128 2 ∷ at_address 129 97 ∷ at_address 92 255 ∷ [])
+two_groups = refl
+
+the_last_byte : memory_bytes (codes "FFFF:07") ≡ Some (at_address 65535 7 ∷ [])
+the_last_byte = refl
+
+past_the_end : memory_bytes (codes "FFFF:0708") ≡ None
+past_the_end = refl
+
+no_bytes_of_memory : memory_bytes (codes "FFFF:") ≡ Some []
+no_bytes_of_memory = refl
+
+three_digits_of_an_address : memory_bytes (codes "080:02") ≡ None
+three_digits_of_an_address = refl
+
+an_odd_digit_of_memory : memory_bytes (codes "0080:022") ≡ None
+an_odd_digit_of_memory = refl

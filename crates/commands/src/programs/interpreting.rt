@@ -13,7 +13,7 @@ ghost use Rattle.commands.specs.Map.{map_if};
 ghost use Rattle.commands.specs.Refusing.{RefusesTexts, TellsUnwritten};
 ghost use Rattle.commands.specs.Running.{DoesAs, PrintsMeaning, PrintsTexts, StopsBuilt, source_status, source_word};
 
-use crate::programs::loading::script_of;
+use crate::programs::loading::{script_of, start_memory};
 use crate::programs::map::print_map;
 use crate::programs::refusals::refuse_sources;
 use command_line::{ProgramOrder, Settings};
@@ -28,7 +28,7 @@ use std::alloc::Global;
 use std::io::Write;
 use tool::{Built, Source, build};
 
-/// Builds the program of sources, and interprets it from a memory of zeros.
+/// Builds the program of sources, and interprets it from a memory as values start it.
 #[tactic(auto, using(crate::proofs::Untold::tells_memory))]
 pub(crate) fn interpret_sources<O: Write, E: Write>(
     alloc: Global,
@@ -56,7 +56,7 @@ pub(crate) fn interpret_sources<O: Write, E: Write>(
     }
 }
 
-// Interprets a program from a memory of zeros, and prints what it does.
+// Interprets a program from a memory as values start it, and prints what it does.
 #[tactic(auto, using(crate::proofs::Printed::meaning_status, crate::proofs::Untold::memory_unwritten, crate::proofs::Untold::output_unwritten))]
 fn interpret_program<O: Write, E: Write>(
     alloc: Global,
@@ -104,7 +104,7 @@ fn print_program<O: Write>(
     Ok(end)
 }
 
-// Prints what a program does from a memory of zeros. After a failure a beginning of that was printed.
+// Prints what a program does from a memory as values start it. After a failure a beginning of that was printed.
 #[tactic(auto, using(crate::proofs::Printed::prints_meaning, crate::proofs::Printed::nothing_stops))]
 fn print_meaning<O: Write>(
     alloc: Global,
@@ -117,7 +117,7 @@ fn print_meaning<O: Write>(
     ensures err { OnErr result (StopsBuilt Interpret [] (values_in settings.now) built.now
         (O.contents out.old) (O.contents out.new)) }
 {
-    let Ok(memory) = Memory::new(alloc) else {
+    let Ok(memory) = start_memory(alloc, settings) else {
         return Err(Failure::Memory);
     };
     let Ok(mut script) = script_of(alloc, settings.input.as_slice()) else {

@@ -11,19 +11,18 @@ ghost use Rattle.commands.specs.Map.{map_if};
 ghost use Rattle.commands.specs.Refusing.{RefusesTexts, TellsUnwritten};
 ghost use Rattle.commands.specs.Running.{PrintsMachine, PrintsTexts, StopsBuilt, end_status};
 
-use crate::programs::loading::script_of;
+use crate::programs::loading::{script_of, start_memory};
 use crate::programs::map::print_map;
 use crate::programs::refusals::refuse_sources;
 use command_line::{ProgramOrder, Settings};
 use cpu8080::End;
 use failure::{Failure, WriteFault};
 use host::{Ending, refuse_memory, refuse_output};
-use mem80::Memory;
 use std::alloc::Global;
 use std::io::Write;
 use tool::{Built, Source, build, print_run};
 
-/// Builds the program of sources, and runs its image on a memory of zeros.
+/// Builds the program of sources, and runs its image on a memory as values start it.
 #[tactic(auto, using(crate::proofs::Untold::tells_memory))]
 pub(crate) fn run_sources<O: Write, E: Write>(
     alloc: Global,
@@ -51,7 +50,7 @@ pub(crate) fn run_sources<O: Write, E: Write>(
     }
 }
 
-// Runs an image on a memory of zeros, and prints what it does.
+// Runs an image on a memory as values start it, and prints what it does.
 #[tactic(auto, using(crate::proofs::Printed::machine_status, crate::proofs::Untold::memory_unwritten, crate::proofs::Untold::output_unwritten))]
 fn run_built<O: Write, E: Write>(
     alloc: Global,
@@ -99,7 +98,7 @@ fn print_built<O: Write>(
     Ok(end)
 }
 
-// Prints what an image does on a memory of zeros. After a failure a beginning of that was printed.
+// Prints what an image does on a memory as values start it. After a failure a beginning of that was printed.
 #[tactic(auto, using(crate::proofs::Printed::prints_machine, crate::proofs::Printed::nothing_stops))]
 fn print_image<O: Write>(
     alloc: Global,
@@ -112,7 +111,7 @@ fn print_image<O: Write>(
     ensures err { OnErr result (StopsBuilt Run [] (values_in settings.now) built.now
         (O.contents out.old) (O.contents out.new)) }
 {
-    let Ok(memory) = Memory::new(alloc) else {
+    let Ok(memory) = start_memory(alloc, settings) else {
         return Err(Failure::Memory);
     };
     let Ok(script) = script_of(alloc, settings.input.as_slice()) else {
