@@ -14,5 +14,5 @@ pub use orders::{
     PlanTexts, ProgramOrder,
 };
 pub use reading::{LineFault, command};
-pub use values::{ExecuteSettings, InputByte, Settings, ValueFault};
 pub use start_memory::MemoryByte;
+pub use values::{ExecuteSettings, InputByte, Settings, ValueFault};
