@@ -33,7 +33,7 @@ pub record Assembled : Type 0 where
   pub fixes : List Fix
   pub places : List (Option ℕ)
 
--- bytes of which some are set
+-- bytes with a flag for each, kept only where the flag is set
 abbrev pub set_bytes : (bytes : List ℕ) → (is_set : List Bool) → List (Option ℕ)
 set_bytes [] is_set = []
 set_bytes (byte ∷ others) [] = None ∷ set_bytes others []
@@ -44,11 +44,11 @@ place_or_start None = 0
 place_or_start (Some None) = 0
 place_or_start (Some (Some place)) = place
 
--- where a label is by a table
+-- the place of a label by a table
 abbrev pub place_in : List (Option ℕ) → (label : ℕ) → ℕ
 place_in places label = place_or_start (slice_get places label)
 
--- where a label of the segment lies, from its start
+-- the place of a label of the segment, from its start
 abbrev pub place_of : Assembled → (label : ℕ) → ℕ
 place_of code label = wrap (place_in code.places label)
 
@@ -77,7 +77,7 @@ segment_of code = record {
 abbrev pub resolved : (address_of : Target → ℕ) → Assembled → List (Option ℕ)
 resolved address_of code = bytes_resolved address_of (places_of code)
 
--- what a reference counts from: a label from the start of the code, a number from nothing
+-- the target that a reference counts from: the code for a label, and none for a number
 abbrev pub target_of : Reference → Option Target
 target_of (AtLabel label) = Some (InSegment Code)
 target_of (AtTarget target offset) = Some target
@@ -140,7 +140,7 @@ pub record Assembles (assembly : Assembly) (code : Assembled) : Type 0 where
   -- each label lies where it is bound
   pub places :
       (label : ℕ) → label < assembly.labels → offset_of label assembly.items ≡ Some (place_of code label)
-  -- and wherever the bytes that are set stand, resolved there, the items do
+  -- and if the set bytes stand anywhere, resolved there, the items stand there
   pub stands :
       (address_of : Target → ℕ) (memory : List ℕ)
       → address_of (InSegment Code) + length code.bytes ≤ MEMORY_SIZE
@@ -156,7 +156,7 @@ pub record Assembles (assembly : Assembly) (code : Assembled) : Type 0 where
 abbrev pub AllBound : Assembly → Type 0
 AllBound assembly = (label : ℕ) → nat_lt label assembly.labels ≡ true → IsTrue (is_bound label assembly.items)
 
--- the code, or why there is none: a label that is not bound, or else too many bytes
+-- the code, or its fault: a label that is not bound, or else too many bytes
 abbrev pub IsFinished : Assembly → Result Assembled Fault → Type 0
 IsFinished assembly (Ok code) =
     AllBound assembly × (size_of_items assembly.items ≤ SEGMENT_LIMIT) × Assembles assembly code

@@ -23,7 +23,7 @@ use Rattle.asm8080.specs.Items.{Assembly}
 use Rattle.asm8080.specs.Runs.{Comes}
 use Rattle.asm8080.specs.Standing.{Keeps, SetBytesStand, below}
 
--- A counts three calls: label 0 is the loop, label 1 what it calls
+-- A counts three calls: label 0 is the loop, label 1 the called routine
 abbrev pub counting : List Item
 counting =
     WithWord (LoadPair Sp) (AtTarget (InSegment Stack) 0)

@@ -16,7 +16,7 @@ use Rattle.asm8080.specs.declared.item.Item.{Item}
 use Rattle.asm8080.specs.declared.item.Item.TheVariants.{Plain, WithWord, Byte, Address, Gap, Mark}
 use Rattle.asm8080.specs.Standing.{BytesStand, size_of_instruction}
 
--- what a program is made of: items in their order, and how many labels there are; the labels are 0, 1 and so
+-- the program: items in their order, and how many labels there are; the labels are 0, 1 and so
 -- on
 pub record Assembly : Type 0 where
   pub items : List Item
@@ -63,19 +63,19 @@ abbrev pub BindsSameBut : (label : ℕ) → (before after : List Item) → Type 
 BindsSameBut label before after =
     (other : ℕ) → (other == label) ≡ false → is_bound other after ≡ is_bound other before
 
--- how far a label is from the start
+-- the offset of a label from the start
 abbrev pub offset_of : (label : ℕ) → List Item → Option ℕ
 offset_of label [] = None
 offset_of label (item ∷ others) =
     if marks label item then Some 0
     else option_map (λ offset. size_of item + offset) (offset_of label others)
 
--- what an object module may refer to: what has a place that isn't known before linking and placing
+-- whether an object module may have a target: its place is not known before linking and placing
 abbrev pub may_be_target : Target → Bool
 may_be_target (InSegment segment) = is_movable segment
 may_be_target (External number) = true
 
--- a label that an item refers to is one of so many, and a target is one that an object module may have
+-- a label that an item refers to is below `labels`, and a target is one that an object module may have
 abbrev pub IsKnown : (labels : ℕ) → Reference → Type 0
 IsKnown labels (AtLabel label) = label < labels
 IsKnown labels (AtTarget target offset) = IsTrue (may_be_target target)
@@ -87,7 +87,7 @@ KnowsLabels labels (Address reference) = IsKnown labels reference
 KnowsLabels labels (Mark label) = label < labels
 KnowsLabels labels item = Unit {0}
 
--- an external name that an item refers to is one of so many, with a number that stands in two bytes
+-- the number of an external name that an item refers to is below `external_count`, and fits two bytes
 abbrev pub IsListed : (external_count : ℕ) → Reference → Type 0
 IsListed external_count (AtTarget (External number) offset) = (number < external_count) × (number < 65536)
 IsListed external_count reference = Unit {0}
@@ -146,8 +146,8 @@ abbrev pub flags_of_items : List Item → List Bool
 flags_of_items [] = []
 flags_of_items (item ∷ others) = flags_of_item item ++ flags_of_items others
 
--- Items stand in a memory from an address to another, and each label that they bind lies where it stands. Of
--- bytes that stay unset nothing is said.
+-- Items stand in a memory from one address to another, and each label that they bind lies where it stands.
+-- Bytes that stay unset are not constrained.
 abbrev pub Stands : Layout → (memory : List ℕ) → List Item → (from to : ℕ) → Type 0
 Stands layout memory [] from to = from ≡ to
 Stands layout memory (Mark label ∷ others) from to =

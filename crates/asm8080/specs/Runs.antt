@@ -8,11 +8,11 @@ use Rattle.isa8080.specs.Act.{act}
 use Rattle.isa8080.specs.Step.{advance, state_after}
 use Rattle.asm8080.specs.Standing.{InstructionStands, size_of_instruction}
 
--- a run with so many steps
+-- a run of `count` steps
 abbrev pub Comes : (script : List (List ℕ)) → (count : ℕ) → (from to : State) → Type 0
 Comes script count from to = to ≡ state_after script count from
 
--- a run that spends of a budget, at most one a step
+-- a run that spends part of a budget, at most one a step
 pub record Spends (script : List (List ℕ)) (budget : ℕ) (from : State) (left : ℕ) (to : State) : Type 0 where
   pub count : ℕ
   pub run : Comes script count from to

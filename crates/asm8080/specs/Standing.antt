@@ -1,4 +1,4 @@
--- Bytes and instructions that stand in a memory, and what a machine keeps of one.
+-- Bytes and instructions that stand in a memory, and the parts of a memory that a machine preserves.
 use Rattle.std.specs.Prelude.{◌≡◌, ℕ, ◌+◌, ◌-◌, ◌≤◌, List, [], ◌∷◌, length, Option, Some, None}
 use Rattle.mem80.specs.declared.memory.TheConstants.{MEMORY_SIZE}
 use Rattle.mem80.specs.declared.range.Range.{Range}
@@ -33,16 +33,16 @@ abbrev pub AgreesIn : Range → (memory other : List ℕ) → Type 0
 AgreesIn range memory other =
     (address : ℕ) → IsIn address range → byte_at other address ≡ byte_at memory address
 
--- a memory becomes another in which no byte differs but at addresses of one's own
+-- a memory becomes another, and they differ only at addresses of `Own`
 pub record Keeps (Own : ℕ → Type 0) (before after : List ℕ) : Type 0 where
   pub size : length after ≡ length before
   pub bytes : (address : ℕ) → (Own address → ⊥) → byte_at after address ≡ byte_at before address
 
--- where the stack ends, counted up to 65536, so that SP is 0 where that is the end of memory
+-- where the stack ends, counted up to 65536, so that SP is 0 at the end of memory
 pub record StackIsAt (level : ℕ) (s : State) : Type 0 where
   pub limit : level ≤ MEMORY_SIZE
   pub pointer : s.registers.sp ≡ wrap level
 
--- so many bytes below a level, which is no less
+-- the `room` bytes below a level, which is at least `room`
 abbrev pub below : (level room : ℕ) → Range
 below level room = record { start = level - room; len = room }

@@ -68,8 +68,8 @@ fn no_places(alloc: Global, labels: usize) -> Result<Vec<Option<u128>>, AllocErr
     Ok(places)
 }
 
-/// How far from the start of items each of so many labels is, by its number; none where it is not bound. And how many
-/// bytes the items take.
+/// The offset of each label from the start of the items, by its number, or none if it is not bound; and the number of
+/// bytes that the items take.
 pub(crate) fn label_places(
     alloc: Global,
     items: &[StoredItem],
@@ -95,7 +95,7 @@ pub(crate) fn all_placed(places: &[Option<u128>]) -> bool
     places.iter().all(|place| place.is_some())
 }
 
-/// The place of a label by a table, modulo 65536; 0 where it is not bound.
+/// The place of a label by a table, modulo 65536; 0 if it is not bound.
 pub(crate) fn place_word(places: &[Option<u128>], label: usize) -> u16
     ensures { result ≡ wrap (place_in places.now label) }
 {
@@ -116,7 +116,7 @@ fn reference_word(reference: Reference, places: &[Option<u128>]) -> u16
     }
 }
 
-// What a reference counts from; none where it is a number.
+// The target that a reference counts from; none if it is a number.
 fn reference_target(reference: Reference) -> Option<Target>
     ensures { result ≡ target_of reference }
 {
@@ -176,7 +176,7 @@ fn push_word(bytes: &mut Vec<u8>, word: u16) -> Result<(), AllocError>
     Ok(())
 }
 
-// Adds bytes of 0, so many.
+// Adds `count` bytes of 0.
 fn push_zeros(bytes: &mut Vec<u8>, count: u16) -> Result<(), AllocError>
     ensures { OnOk result ((bytes.new).items ≡ (bytes.old).items ++ replicate count 0) }
 {
@@ -193,7 +193,7 @@ fn is_set(item: Item) -> bool
     !matches!(item, Item::Gap(_))
 }
 
-// Adds which bytes of an item are set.
+// Adds a flag for each byte of an item: whether it is set.
 fn push_flags(flags: &mut Vec<bool>, item: Item) -> Result<(), AllocError>
     ensures { OnOk result ((flags.new).items ≡ (flags.old).items ++ flags_of_item item) }
 {
@@ -231,7 +231,7 @@ fn push_item(code: &mut CodeParts, item: Item, places: &[Option<u128>]) -> Resul
     push_flags(&mut code.is_set, item)
 }
 
-/// The code of items that fit a segment, whose labels have places in a table. It has room for so many bytes at once.
+/// The code of items that fit a segment, whose labels have places in a table. It reserves memory for `room` bytes.
 pub(crate) fn assemble(
     alloc: Global,
     items: &[StoredItem],

@@ -33,7 +33,7 @@ impl Model for CodeParts {
 }
 
 impl CodeParts {
-    /// No bytes, with room for so many.
+    /// No bytes, with memory for `room` of them.
     pub(crate) fn empty(alloc: Global, room: usize) -> Result<CodeParts, AllocError>
         ensures { IfOk result (λ parts. parts ≡ no_code) }
     {

@@ -34,7 +34,7 @@ impl Model for Label {
     ghost inverse = { λ number. record { number = number } };
 }
 
-/// Code to which more is added at its end. Where there is no memory for it, or it has a label whose number passes 32
+/// Code to which more is added at its end. If memory runs out, or it has a label whose number passes 32
 /// bits, it stays as it was.
 #[derive(Drop)]
 pub struct Code {
@@ -151,7 +151,7 @@ impl Code {
         Ok(())
     }
 
-    /// Adds so many bytes that stay unset.
+    /// Adds `count` bytes that stay unset.
     pub fn leave(&mut self, count: u16) -> Result<(), AllocError>
         ensures ok { OnOk result (self.new
             ≡ record self.old { items = self.old.items ++ Gap count ∷ [] }) }
@@ -170,7 +170,7 @@ impl Code {
         self.labels
     }
 
-    /// A label that is not bound yet. Fails where there are as many as can be counted.
+    /// A label that is not bound yet. Fails if there are as many as can be counted.
     pub fn label(&mut self) -> Result<Label, AllocError>
         ensures ok { IfOk result (λ label. label ≡ self.old.labels) }
         ensures unbound { IfOk result (λ label. is_bound label self.old.items ≡ false) }
@@ -189,7 +189,7 @@ impl Code {
         Ok(label)
     }
 
-    /// The label of this number, if there are so many.
+    /// The label with this number, if there is one.
     pub fn known(&self, number: usize) -> Option<Label>
         ensures known { IfSome result (λ label. label < self.now.labels) }
         ensures same { IfSome result (λ label. label ≡ number) }

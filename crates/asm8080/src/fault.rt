@@ -2,7 +2,7 @@
 
 use thiserror::Error;
 
-/// Why code can't be assembled. Where both causes hold, it is the first.
+/// Why code can't be assembled. If both causes hold, it is the first.
 #[derive(Clone, Copy, Debug, PartialEq, Eq, Error)]
 pub enum Fault {
     /// A1: a label is not bound.

@@ -31,7 +31,7 @@ pub enum WordForm {
 pub enum Reference {
     /// The place of a label, by its number.
     AtLabel(usize),
-    /// So many bytes after what a target's offsets count from, modulo 65536.
+    /// A number of bytes after the origin of a target's offsets, modulo 65536.
     AtTarget(Target, u16),
     /// A number, which nothing moves.
     AtNumber(u16),
@@ -48,7 +48,7 @@ pub enum Item {
     Byte(u8),
     /// A word of data, low byte first.
     Address(Reference),
-    /// So many bytes that stay unset.
+    /// A number of bytes that stay unset.
     Gap(u16),
     /// The place of a label, by its number.
     Mark(usize),

@@ -17,9 +17,9 @@ pub(crate) enum StoredForm {
     Plain(Instr),
     /// An instruction whose word is the place of a label, by its number.
     LabelWord(WordForm, u32),
-    /// An instruction whose word is so many bytes after the start of a segment.
+    /// An instruction whose word is an offset from the start of a segment.
     SegmentWord(WordForm, Segment, u16),
-    /// An instruction whose word is so many bytes after an external name, by its number.
+    /// An instruction whose word is an offset from an external name, by its number.
     ExternalWord(WordForm, u16, u16),
     /// An instruction whose word is a number.
     NumberWord(WordForm, u16),
@@ -27,13 +27,13 @@ pub(crate) enum StoredForm {
     Byte(u8),
     /// A word of data that is the place of a label, by its number.
     LabelAddress(u32),
-    /// A word of data that is so many bytes after the start of a segment.
+    /// A word of data that is an offset from the start of a segment.
     SegmentAddress(Segment, u16),
-    /// A word of data that is so many bytes after an external name, by its number.
+    /// A word of data that is an offset from an external name, by its number.
     ExternalAddress(u16, u16),
     /// A word of data that is a number.
     NumberAddress(u16),
-    /// So many bytes that stay unset.
+    /// A number of bytes that stay unset.
     Gap(u16),
     /// The place of a label, by its number.
     Mark(u32),
@@ -108,7 +108,7 @@ fn stored_mark(label: usize) -> Option<StoredItem>
 }
 
 impl StoredItem {
-    // An item as it is kept; none where the number of its label passes 32 bits.
+    // An item as it is kept; none if the number of its label passes 32 bits.
     fn of(item: Item) -> Option<StoredItem>
         ensures { result ≡ if is_short item then Some item else None }
     {
@@ -159,7 +159,7 @@ impl StoredItem {
     }
 }
 
-/// Adds an item. Where it can't be added, the items stay as they were.
+/// Adds an item. If it can't be added, the items stay as they were.
 pub(crate) fn store(items: &mut Vec<StoredItem>, item: Item) -> Result<(), AllocError>
     ensures items { OnOk result ((items.new).items ≡ (items.old).items ++ item ∷ []) }
     ensures err { OnErr result ((items.new).items ≡ (items.old).items) }

@@ -1,9 +1,9 @@
--- Bytes and scalars that are looked at and changed: a machine has to do so only where the program may.
+-- Bytes and scalars that are read and written: the machine has to do the same only if the program may.
 use Rattle.code_meaning.proofs.Prelude.{◌≡◌, ℕ, ◌+◌, ◌*◌, ◌/◌, ◌%◌, ◌<◌, ◌≤◌, Bool, true, false, if◌then◌else◌, List, slice_set, slice_index, refl, sym, ap, ◌∙◌, arith, MEMORY_SIZE, byte_at, UndeclaredByte, Constant, Program, SourceState, Outside, Outcome, Gave, Stopped, then_do, InMemory, InTheFrame, frame_bytes, is_declared, is_constant, next_place, read_byte, read_scalar, write_byte, write_scalar, State, Does, IsVariable}
 use Rattle.trees.specs.declared.declaration.ScalarType.TheVariants.{Byte, Address}
 use Rattle.meaning.specs.Access.{Place}
 
--- what is outside the language is done by any machine
+-- if the source goes outside the language, any machine does it
 pub outside_does :
     {A : Type 0} {script : List (List ℕ)} {budget more : ℕ} {from : State} {outcome : Outcome A}
     {Good : A → SourceState → State → Type 0} (reason : Rattle.meaning.specs.declared.reason.Reason.Reason) (s : SourceState)
@@ -11,7 +11,7 @@ pub outside_does :
     → Does script budget more from outcome Good
 outside_does reason s same = rw same (record { told = tt })
 
--- which of two a test picks
+-- the branch that a test chooses
 picked_does :
     {A : Type 0} {script : List (List ℕ)} {budget more : ℕ} {from : State} {inside : Outcome A}
     {Good : A → SourceState → State → Type 0} (reason : Rattle.meaning.specs.declared.reason.Reason.Reason) (s : SourceState)
@@ -21,7 +21,7 @@ picked_does :
 picked_does reason s true does = does refl
 picked_does reason s false does = record { told = tt }
 
--- a byte in memory that is looked at
+-- a byte in memory that is read
 pub read_does :
     {script : List (List ℕ)} {budget more : ℕ} {from : State} {Good : ℕ → SourceState → State → Type 0}
     (program : Program) (address : ℕ) (s : SourceState)
@@ -51,7 +51,7 @@ variable_picked address byte s true true does = record { told = tt }
 variable_picked address byte s true false does = does refl refl
 variable_picked address byte s false constant does = record { told = tt }
 
--- a byte in memory that is changed
+-- a byte in memory that is written
 pub write_does :
     {script : List (List ℕ)} {budget more : ℕ} {from : State} {Good : Unit {0} → SourceState → State → Type 0}
     (program : Program) (address byte : ℕ) (s : SourceState)
@@ -72,7 +72,7 @@ pub frame_write_does :
     → Does script budget more from (write_byte program (InTheFrame object offset is_inside) byte s) Good
 frame_write_does program object offset is_inside byte s does = picked_does UndeclaredByte s is_inside does
 
--- an ADDRESS in memory that is looked at
+-- an ADDRESS in memory that is read
 pub read_word_does :
     {script : List (List ℕ)} {budget more : ℕ} {from : State} {Good : ℕ → SourceState → State → Type 0}
     (program : Program) (address : ℕ) (s : SourceState)
@@ -96,7 +96,7 @@ read_word_does {script = script} {budget = budget} {more = more} {from = from} {
     both true false given = record { told = tt }
     both false two given = record { told = tt }
 
--- an ADDRESS in memory that is changed
+-- an ADDRESS in memory that is written
 pub write_word_does :
     {script : List (List ℕ)} {budget more : ℕ} {from : State} {Good : Unit {0} → SourceState → State → Type 0}
     (program : Program) (address number : ℕ) (s : SourceState)

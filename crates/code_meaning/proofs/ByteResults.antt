@@ -1,4 +1,5 @@
--- What the machine's operations on bytes give, in the words of the source's operators, and what the flags show then.
+-- The results of the machine's operations on bytes, in terms of the source's operators, and the flags after
+-- them.
 use Rattle.code_meaning.proofs.Prelude.{◌≡◌, ◌≢◌, ℕ, ◌+◌, ◌-◌, ◌*◌, ◌/◌, ◌%◌, ◌<◌, ◌≤◌, ◌==◌, Bool, true, false, not, nat_lt, nat_le, if◌then◌else◌, refl, sym, ap, ◌∙◌, arith, ltb-true, ltb-false, lt-ltb, le-ltb, leb-true, leb-false, le-leb, lt-leb, eqb-true, eqb-false, eq-eqb, ne_eqb, Flags, bit, subtract_of, add_of, increment_of, decrement_of}
 
 -- a difference modulo 256
@@ -7,7 +8,7 @@ pub difference_is :
     → (subtract_of x y false).value ≡ (x + (256 - y)) % 256
 difference_is x y one two = omega (arith, one, two)
 
--- two tests that come out the same
+-- two tests with the same result
 pub same_test :
     (one other : Bool)
     → (one ≡ true → other ≡ true)
@@ -25,7 +26,7 @@ borrow_shows x y two =
     (λ here. lt-ltb (x + (255 - y) + 1) 256 (omega (arith, two, ltb-true x y here)))
     (λ here. le-ltb (x + (255 - y) + 1) 256 (omega (arith, two, ltb-false x y here))))
 
--- and with a borrow before it, that the first is less than the second with it
+-- with a borrow before it, that the first is less than the second with the borrow added
 pub borrow_shows_more :
     (x y : ℕ) (borrow : Bool) → y < 256
     → (subtract_of x y borrow).flags.cy ≡ nat_lt x (y + bit borrow)
@@ -38,7 +39,7 @@ borrow_shows_more x y false two =
     (λ here. lt-ltb (x + (255 - y) + 1) 256 (omega (arith, two, ltb-true x (y + 0) here)))
     (λ here. le-ltb (x + (255 - y) + 1) 256 (omega (arith, two, ltb-false x (y + 0) here))))
 
--- zero shows that they are equal
+-- the zero flag shows that they are equal
 pub zero_shows :
     (x y : ℕ) → x < 256 → y < 256
     → (subtract_of x y false).flags.z ≡ (x == y)
@@ -70,11 +71,11 @@ word_borrow high low other_high other_low one two = by_low (nat_lt low other_low
         (λ less. le-ltb (256 * high + low) (256 * other_high + other_low)
         (omega (arith, one, two, ltb-false low other_low here, ltb-false high (other_high + 0) less)))
 
--- the carry shows that a sum passes a byte
+-- the carry shows that a sum exceeds a byte
 pub carry_shows : (x y : ℕ) → (add_of x y false).flags.cy ≡ nat_le 256 (x + y)
 carry_shows x y = ap (nat_le 256) (omega arith)
 
--- A that counts up comes to 0 where it was 255
+-- A counted up becomes 0 if it was 255
 pub count_shows : (x : ℕ) (f : Flags) → x < 256 → (increment_of x f).flags.z ≡ (x == 255)
 count_shows x f small =
     sym (same_test (x == 255) ((x + 1) % 256 == 0)

@@ -1,4 +1,4 @@
--- What a machine does that comes to an item: what the item does, and then what the machine does from there.
+-- The run of a machine at an item: the effect of the item, and then the run from there.
 use Rattle.code_meaning.proofs.Prelude.{◌≡◌, ℕ, suc, ◌+◌, true, false, if◌then◌else◌, List, ◌∷◌, ap, ◌∙◌, SourceState, Outcome, Condition, Instr, Registers, State, holds, act, step_of, Item, Plain, WithWord, Reference, AtLabel, WordForm, Jump, JumpWhere, instruction_with, word_of, AgreesIn, size_of_instruction, plain_item_step, word_item_step, Does, at_place, Activation, IsThere, LiesWell}
 use Rattle.ports.specs.declared.event.Event.{Event}
 use Rattle.code_meaning.proofs.Landing.{after_step, after_paid_step}
@@ -30,7 +30,7 @@ word_step script activation form reference items from to r memory events lies ag
     word_item_step script activation.layout form reference items from to r memory events
     (stands_now activation memory (WithWord form reference ∷ items) from to lies agrees there)
 
--- a machine that comes to an instruction
+-- a machine at an instruction
 pub plain_first :
     {A : Type 0} {script : List (List ℕ)} {budget more : ℕ} {outcome : Outcome A}
     {Good : A → SourceState → State → Type 0}
@@ -44,7 +44,7 @@ pub plain_first :
 plain_first {script = script} {activation = activation} {i = i} {items = items} {from = from} {to = to} {memory = memory} {events = events} r lies agrees there rest =
     after_step (plain_step script activation i items from to r memory events lies agrees there) rest
 
--- one with a word
+-- a machine at an instruction with a word
 pub word_first :
     {A : Type 0} {script : List (List ℕ)} {budget more : ℕ} {outcome : Outcome A}
     {Good : A → SourceState → State → Type 0}
@@ -60,7 +60,7 @@ pub word_first :
 word_first {script = script} {activation = activation} {form = form} {reference = reference} {items = items} {from = from} {to = to} {memory = memory} {events = events} r lies agrees there rest =
     after_step (word_step script activation form reference items from to r memory events lies agrees there) rest
 
--- a jump, which may pay for one of the budget
+-- a jump, which may pay for one unit of the budget
 pub jump_paid :
     {A : Type 0} {script : List (List ℕ)} {budget more : ℕ} {outcome : Outcome A}
     {Good : A → SourceState → State → Type 0}
@@ -74,7 +74,7 @@ pub jump_paid :
 jump_paid {script = script} {activation = activation} {label = label} {items = items} {from = from} {to = to} {memory = memory} {events = events} r lies agrees there rest =
     after_paid_step (word_step script activation Jump (AtLabel label) items from to r memory events lies agrees there) rest
 
--- a jump whose condition holds
+-- a jump with a condition that holds
 pub jump_taken :
     {A : Type 0} {script : List (List ℕ)} {budget more : ℕ} {outcome : Outcome A}
     {Good : A → SourceState → State → Type 0}
@@ -92,7 +92,7 @@ jump_taken {script = script} {activation = activation} {c = c} {label = label} {
     ∙ ap (λ b. if b then at_place (activation.layout.place_of label) r memory events else at_place (from + 3) r memory events) true_here)
     rest
 
--- one whose condition does not
+-- a jump with a condition that does not hold
 pub jump_passed :
     {A : Type 0} {script : List (List ℕ)} {budget more : ℕ} {outcome : Outcome A}
     {Good : A → SourceState → State → Type 0}

@@ -1,4 +1,4 @@
--- How what a machine does follows what it did before.
+-- Runs of a machine, one after another.
 use Rattle.code_meaning.proofs.Prelude.{◌≡◌, ℕ, zero, suc, ◌+◌, ◌-◌, ◌<◌, ◌≤◌, ◌==◌, Bool, true, false, List, if◌then◌else◌, refl, sym, ap, ◌∙◌, arith, SourceState, Stop, Ended, More, Outside, Outcome, Gave, Stopped, then_do, taking_one, State, step_of, state_after, Running, Comes, comes_on, step_then, same_after, Lands, IsLeft, Told, Does}
 
 paid_on :
@@ -12,8 +12,8 @@ paid_on budget second more other left j k middle h g f = omega arith
 spent_on : (budget middle second left : ℕ) → middle ≤ budget → second ≤ middle → left ≤ second → left ≤ budget
 spent_on budget middle second left h g f = omega arith
 
--- A run, then another. The second one may have less of the budget than the first one left: as much less as the first one
--- had steps to spare.
+-- A run, then another. The second one may have less of the budget than the first one left: less by the steps
+-- that the first one had to spare.
 pub lands_on :
     {script : List (List ℕ)} {budget more : ℕ} {from : State} {middle : ℕ} {First : State → Type 0}
     (one : Lands script budget more from middle First)
@@ -31,7 +31,7 @@ lands_on {script = script} {budget = budget} {more = more} {from = from} {middle
   is_good = two.is_good;
 }
 
--- what is told of an outcome after a run is told from its start on
+-- the run for an outcome after another run is a run from the start of that one
 pub told_on :
     {A : Type 0} {script : List (List ℕ)} {budget more : ℕ} {from : State} {middle : ℕ} {First : State → Type 0}
     (one : Lands script budget more from middle First)
@@ -59,7 +59,7 @@ landed script budget from Good good = record {
   is_good = good;
 }
 
--- one step, which nothing of the budget pays for
+-- one step, which pays for no budget
 pub one_step :
     (script : List (List ℕ)) (budget : ℕ) (from to : State)
     → step_of script from ≡ to
@@ -73,7 +73,7 @@ one_step script budget from to same = record {
   is_good = refl;
 }
 
--- what was given, at once
+-- the given value, without a step
 pub gives :
     {A : Type 0} {script : List (List ℕ)} {found : A} {t : SourceState} {from : State}
     {Good : A → SourceState → State → Type 0}
@@ -81,7 +81,7 @@ pub gives :
     → Does script t.budget 0 from (Gave found t) Good
 gives {A = A} {script = script} {found = found} {t = t} {from = from} {Good = Good} good = record { told = landed script t.budget from (Good found t) good }
 
--- a step first
+-- first a step
 pub after_step :
     {A : Type 0} {script : List (List ℕ)} {budget more : ℕ} {from to : State} {outcome : Outcome A}
     {Good : A → SourceState → State → Type 0}
@@ -92,7 +92,7 @@ unfolding one_step
 after_step {A = A} {script = script} {budget = budget} {more = more} {from = from} {to = to} {outcome = outcome} {Good = Good} same rest =
     record { told = told_on (one_step script budget from to same) budget more outcome Good (omega arith) (omega arith) rest.told }
 
--- a step first, which pays for one of the budget
+-- first a step, which pays for one unit of the budget
 pub after_paid_step :
     {A : Type 0} {script : List (List ℕ)} {budget more : ℕ} {from to : State} {outcome : Outcome A}
     {Good : A → SourceState → State → Type 0}
@@ -104,7 +104,7 @@ after_paid_step {A = A} {script = script} {budget = budget} {more = more} {from 
     let first = one_step script (suc budget) from to same in
     record { told = told_on first budget more outcome Good (omega arith) (omega arith) rest.told }
 
--- a part that gave something, then others
+-- a part that gives a value, then others
 pub then_does :
     {A B : Type 0} {script : List (List ℕ)} {budget other : ℕ} {from : State} {outcome : Outcome A}
     {go : A → SourceState → Outcome B}

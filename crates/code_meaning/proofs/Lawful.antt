@@ -1,4 +1,4 @@
--- What a lawful placement gives an activation.
+-- The properties of an activation that follow from a lawful placement.
 use Rattle.code_meaning.proofs.Prelude.{◌≡◌, ℕ, ◌+◌, ◌<◌, ◌≤◌, Bool, true, false, List, refl, sym, ◌∙◌, arith, MEMORY_SIZE, Program, PlacementLies}
 use Rattle.layout.specs.Lawful.{IsLawful}
 use Rattle.layout.proofs.Declared.{declared_not_in_stack, writable_not_in_code}

@@ -1,7 +1,7 @@
--- What an activation may change, and what stays while it does.
+-- The bytes that an activation may change, and those that stay.
 use Rattle.code_meaning.proofs.Prelude.{◌≡◌, ◌≢◌, ℕ, ◌+◌, ◌-◌, ◌<◌, ◌≤◌, ◌⊎◌, inl, inr, Bool, true, false, List, length, refl, sym, ◌∙◌, arith, MEMORY_SIZE, byte_at, is_declared, is_constant, Keeps, Activation, IsMine, IsVariable, LiesWell, Owns}
 
--- nothing changed
+-- nothing has changed
 pub keeps_all : (Own : ℕ → Type 0) (memory : List ℕ) → Keeps Own memory memory
 keeps_all Own memory = record { size = refl; bytes = λ address outside. refl }
 
@@ -13,7 +13,7 @@ keeps_both Own one other last first second = record {
   bytes = λ address outside. second.bytes address outside ∙ first.bytes address outside;
 }
 
--- who may change more
+-- a wider set of bytes that may change
 pub keeps_wider :
     (Less More : ℕ → Type 0) (one other : List ℕ)
     → ((address : ℕ) → Less address → More address)
@@ -36,7 +36,7 @@ owns_more activation low high less address (inr (inl mine)) =
     inr (inl (above, omega (arith, below, less)))
 owns_more activation low high less address (inr (inr mine)) = inr (inr mine)
 
--- bytes that are pushed are no one's to change
+-- bytes that are pushed may not be changed
 pub pushed_is_not_owned :
     (activation : Activation) (top address : ℕ)
     → LiesWell activation

@@ -1,4 +1,4 @@
--- Words that are pushed, and are still there after others have run.
+-- Words that are pushed, and are still there after other code has run.
 use Rattle.code_meaning.proofs.Prelude.{◌≡◌, ℕ, ◌+◌, ◌-◌, ◌<◌, ◌≤◌, inl, inr, List, length, slice_set, refl, ◌∙◌, arith, MEMORY_SIZE, HoldBytes, Registers, high_byte, low_byte, wrap, Keeps, IsPushed, pushed, pushed_is_memory, pushed_is_pushed, pushed_keeps, Activation, FrameLies, IsReady, LiesWell, Owns, Shares}
 use Rattle.code_meaning.proofs.Owning.{keeps_all, keeps_both, keeps_wider, owns_more, pushed_is_not_owned}
 
@@ -46,7 +46,7 @@ pushed_frame activation top word frame memory room below lies = record {
       ∙ lies.bytes object offset within;
 }
 
--- after a PUSH code may go on, with the memory after it as the one before
+-- after a PUSH code may continue, with the memory after it as the earlier one
 pub ready_after_push :
     (activation : Activation) (top word : ℕ) (base source : List ℕ) (frame : List (List ℕ)) (r : Registers)
     (memory : List ℕ)
@@ -68,7 +68,7 @@ ready_after_push activation top word base source frame r memory lies room below 
       kept = keeps_all (Owns activation (top - 2)) (pushed top word memory);
     }
 
--- what the pushed bytes become while they stay
+-- a push changes only bytes that the activation owns
 push_keeps :
     (activation : Activation) (top word : ℕ) (memory : List ℕ)
     → activation.floor + 2 ≤ top
@@ -82,7 +82,7 @@ push_keeps activation top word memory room = record {
       (λ same. outside (inr (inl (omega (arith, same, room), omega (arith, same, room)))));
 }
 
--- where others have run with a word pushed, and the stack pointer is as before it
+-- other code has run with a word pushed, and the stack pointer is as before it
 pub ready_after_pop :
     (activation : Activation) (top word : ℕ) (base source other : List ℕ) (frame others : List (List ℕ))
     (r after last : Registers) (memory ended : List ℕ)
@@ -106,7 +106,7 @@ ready_after_pop activation top word base source other frame others r after last 
       (owns_more activation (top - 2) top (omega arith)) ready.kept));
 }
 
--- and the word is still there
+-- the word is still there
 pub still_pushed :
     (activation : Activation) (top word : ℕ) (other : List ℕ) (others : List (List ℕ)) (after : Registers)
     (memory ended : List ℕ)

@@ -1,7 +1,7 @@
--- Items that stand one after another.
+-- Items one after another.
 use Rattle.code_meaning.proofs.Prelude.{◌≡◌, ℕ, ◌+◌, ◌<◌, ◌≤◌, List, [], ◌∷◌, ◌++◌, refl, sym, ap, ◌∙◌, arith, Item, Plain, WithWord, Byte, Address, Gap, Mark, Layout, Stands, size_of, size_of_items, stands_size, Activation, IsThere}
 
--- where the first ones end
+-- the end of the first items
 pub record Parted (layout : Layout) (memory : List ℕ) (one other : List Item) (from to : ℕ) : Type 0 where
   pub middle : ℕ
   pub first : Stands layout memory one from middle
@@ -31,7 +31,7 @@ parted layout memory (Address reference ∷ one) other from to stands =
     let rest = parted layout memory one other (from + 2) to stands.1 in
     record { middle = rest.middle; first = (stands.0, rest.first); second = rest.second }
 
--- items of the code that are two parts
+-- items of the code in two parts
 pub record AreThere (activation : Activation) (one other : List Item) (from to : ℕ) : Type 0 where
   pub middle : ℕ
   pub first : IsThere activation one from middle

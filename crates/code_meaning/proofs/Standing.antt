@@ -1,7 +1,7 @@
--- Items that stand in the code as it was loaded stand in each memory that has that code.
+-- Items in the code as it was loaded are in each memory with that code.
 use Rattle.code_meaning.proofs.Prelude.{◌≡◌, ℕ, ◌+◌, List, ◌∷◌, arith, Instr, Item, Plain, WithWord, Mark, Reference, WordForm, Stands, AgreesIn, size_of_instruction, stands_in, Activation, IsThere, LiesWell}
 
--- items stand in a memory that has the code
+-- items are in a memory with the code
 pub stands_now :
     (activation : Activation) (memory : List ℕ) (items : List Item) (from to : ℕ)
     → LiesWell activation
@@ -12,7 +12,7 @@ stands_now activation memory items from to lies agrees there =
     stands_in activation.layout activation.around.program.placement.code activation.image memory items from to
     lies.placed.code_in_memory there.low there.high agrees there.stands
 
--- what stands after an instruction
+-- the items after an instruction
 pub after_plain :
     {activation : Activation} {i : Instr} {items : List Item} {from to : ℕ}
     → IsThere activation (Plain i ∷ items) from to
@@ -21,7 +21,7 @@ after_plain {activation = activation} {i = i} {items = items} {from = from} {to 
     let low = there.low in
     record { stands = there.stands.1; low = omega (arith, low); high = there.high }
 
--- and after one with a word
+-- the items after an instruction with a word
 pub after_word :
     {activation : Activation} {form : WordForm} {reference : Reference} {items : List Item} {from to : ℕ}
     → IsThere activation (WithWord form reference ∷ items) from to
@@ -30,7 +30,7 @@ after_word {activation = activation} {form = form} {reference = reference} {item
     let low = there.low in
     record { stands = there.stands.1; low = omega (arith, low); high = there.high }
 
--- and after a label, which lies there
+-- the items after a label, and the place of the label
 pub after_mark :
     {activation : Activation} {label : ℕ} {items : List Item} {from to : ℕ}
     → IsThere activation (Mark label ∷ items) from to

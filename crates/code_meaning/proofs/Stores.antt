@@ -1,8 +1,8 @@
--- An activation that is ready stays so when a variable, or a byte of its frame, is changed on both sides.
+-- An activation that is ready remains so if a variable, or a byte of its frame, is changed on both sides.
 use Rattle.code_meaning.proofs.Prelude.{◌≡◌, ◌≢◌, ℕ, ◌+◌, ◌-◌, ◌<◌, ◌≤◌, ◌==◌, ◌⊎◌, inl, inr, Bool, true, false, List, length, slice_set, refl, sym, ap, ◌∙◌, arith, length-set, eqb-true, eqb-false, MEMORY_SIZE, IsMemory, byte_at, Program, is_declared, is_constant, frame_bytes, Registers, AgreesIn, Keeps, byte_kept, byte_put, memory_put, Activation, FrameLies, IsReady, IsVariable, LiesWell, Owns, Shares}
 use Rattle.code_meaning.proofs.Owning.{keeps_both}
 
--- a byte of one memory that is put in another at the same address
+-- a byte of one memory that is written to another at the same address
 put_both :
     (memory source : List ℕ) (address value other : ℕ)
     → address < length memory
@@ -18,7 +18,7 @@ put_both memory source address value other one two false here same =
     let differ : other ≢ address = eqb-false other address here in
     byte_kept memory address other value differ ∙ same ∙ sym (byte_kept source address other value differ)
 
--- a byte put where an activation owns it
+-- a byte written at an address that an activation owns
 pub keeps_put :
     (Own : ℕ → Type 0) (base memory : List ℕ) (address value : ℕ)
     → Own address
@@ -54,7 +54,7 @@ variable_shared program image source memory address value free variable inside s
           ∙ shares.code other there;
     }
 
--- a frame does not change while a byte changes that is none of it
+-- a frame does not change if a byte outside it changes
 frame_kept :
     (activation : Activation) (frame : List (List ℕ)) (memory : List ℕ) (address value : ℕ)
     → ((object offset : ℕ) → offset < activation.size object

@@ -1,5 +1,5 @@
--- Where a call of a procedure, or the main program, lies on the machine, and what its memory has in common with that of
--- the source.
+-- Activations, that is, calls of procedures and the main program on the machine, and the relation between the
+-- memory of the machine and that of the source.
 use Rattle.std.specs.Prelude.{◌≡◌, ◌≢◌, ℕ, ◌+◌, ◌%◌, ◌<◌, ◌≤◌, ◌⊎◌, Bool, true, false, List, length}
 use Rattle.mem80.specs.declared.memory.TheConstants.{MEMORY_SIZE}
 use Rattle.mem80.specs.Memory.{IsMemory, byte_at}
@@ -11,10 +11,10 @@ use Rattle.asm8080.specs.Items.{Layout, Stands}
 use Rattle.asm8080.specs.Standing.{AgreesIn, Keeps}
 use Rattle.code_meaning.specs.Landing.{at_place}
 
--- Where an activation lies: what it is carried out in; the labels and targets of its module's code; the memory as it was
--- loaded, which all code is compared to; the lowest byte of the stack that it may change; where the stack pointer is when
--- nothing is pushed, counted up to 65536; how far above it each object of the frame begins, and how many bytes it has; how
--- far above it the return address and the caller's stack are.
+-- An activation: its surroundings; the labels and targets of its module's code; the memory as it was loaded,
+-- with which all code is compared; the lowest byte of the stack that it may change; the stack pointer when
+-- nothing is pushed, counted up to 65536; the distance from there up to each object of the frame, and its
+-- size in bytes; the distance up to the return address, and that up to the caller's stack.
 pub record Activation : Type 0 where
   pub around : Surroundings
   pub layout : Layout
@@ -30,8 +30,8 @@ pub record Activation : Type 0 where
 abbrev pub IsVariable : Program → (address : ℕ) → Type 0
 IsVariable program address = (is_declared program address ≡ true) × (is_constant program address ≡ false)
 
--- a byte of the stack that an activation may change, where the stack pointer is at a level: one from its floor up to
--- there, or one up to the caller's stack that is not pushed and not of the return address
+-- a byte of the stack that an activation may change when the stack pointer is at a level: one from its floor
+-- up to there, or one below the caller's stack that is neither pushed nor part of the return address
 abbrev pub IsMine : Activation → (top address : ℕ) → Type 0
 IsMine activation top address =
     ((activation.floor ≤ address) × (address < top))
@@ -43,7 +43,7 @@ abbrev pub Owns : Activation → (top address : ℕ) → Type 0
 Owns activation top address =
     IsVariable activation.around.program address ⊎ IsMine activation top address
 
--- a memory that has the bytes of the source's memory where these are declared, and the code as it was loaded
+-- a memory with the bytes of the source's memory at declared addresses, and with the code as it was loaded
 pub record Shares (program : Program) (image source memory : List ℕ) : Type 0 where
   pub is_memory : IsMemory memory
   pub size : length source ≡ MEMORY_SIZE
@@ -51,15 +51,15 @@ pub record Shares (program : Program) (image source memory : List ℕ) : Type 0 
       → byte_at memory address ≡ byte_at source address
   pub code : AgreesIn program.placement.code image memory
 
--- the bytes of a frame lie where they are to
+-- the bytes of a frame are at their places
 pub record FrameLies (activation : Activation) (frame : List (List ℕ)) (memory : List ℕ) : Type 0 where
   pub sizes : (object : ℕ) → length (frame_bytes frame object) ≡ activation.size object
   pub bytes : (object offset : ℕ) → offset < activation.size object
       → byte_at memory (activation.level + activation.distance object + offset)
       ≡ byte_at (frame_bytes frame object) offset
 
--- Code of an activation may go on: the stack pointer is at a level, memory and frame are those of the source, and since
--- a memory before no byte changed but its own.
+-- Code of an activation may continue: the stack pointer is at a level, memory and frame are those of the
+-- source, and compared with an earlier memory only bytes of the activation have changed.
 pub record IsReady
     (activation : Activation) (top : ℕ) (base : List ℕ) (source : List ℕ) (frame : List (List ℕ))
     (r : Registers) (memory : List ℕ) : Type 0 where
@@ -69,13 +69,14 @@ pub record IsReady
   pub frame_lies : FrameLies activation frame memory
   pub kept : Keeps (Owns activation top) base memory
 
--- so many bytes are pushed, all of words, and there is room for so many more below the room that calls have
+-- `pushed` bytes are pushed, all in words, and there is room for `need` bytes below them, beside the room for
+-- calls
 pub record HasRoom (activation : Activation) (top pushed need : ℕ) : Type 0 where
   pub depth : top + pushed ≡ activation.level
   pub even : pushed % 2 ≡ 0
   pub enough : activation.floor + activation.around.room + need ≤ top
 
--- what is true of where a program lies, whatever runs
+-- facts about the placement of a program that do not depend on the run
 pub record PlacementLies (program : Program) : Type 0 where
   pub stack_free : (address : ℕ) → is_declared program address ≡ true
       → program.placement.stack.start ≤ address
@@ -93,7 +94,8 @@ pub record PlacementLies (program : Program) : Type 0 where
   pub code_in_memory : program.placement.code.start + program.placement.code.len ≤ MEMORY_SIZE
   pub stack_in_memory : program.placement.stack.start + program.placement.stack.len ≤ MEMORY_SIZE
 
--- and of where a frame lies: within the stack, each byte of its own, and none of the return address
+-- the same for the placement of a frame: it is in the stack, and each byte has its own place, outside the
+-- return address
 pub record LiesWell (activation : Activation) : Type 0 where
   pub placed : PlacementLies activation.around.program
   pub bottom : activation.around.program.placement.stack.start ≤ activation.floor
@@ -109,13 +111,13 @@ pub record LiesWell (activation : Activation) : Type 0 where
       → activation.distance object + offset ≡ activation.distance other + place
       → (object ≡ other) × (offset ≡ place)
 
--- items that stand in the code as it was loaded
+-- items in the code as it was loaded
 pub record IsThere (activation : Activation) (items : List Item) (from to : ℕ) : Type 0 where
   pub stands : Stands activation.layout activation.image items from to
   pub low : activation.around.program.placement.code.start ≤ from
   pub high : to ≤ activation.around.program.placement.code.start + activation.around.program.placement.code.len
 
--- a machine at a place, ready to go on, where something holds of what was given, the registers and the memory
+-- a machine at a place, ready to continue; `Holds` holds for the value, the registers and the memory
 pub record Arrives
     {A : Type 0} (activation : Activation) (top : ℕ) (base : List ℕ) (place : ℕ)
     (Holds : A → Registers → List ℕ → Type 0) (found : A) (t : SourceState) (end : State) : Type 0 where

@@ -1,5 +1,5 @@
--- What instructions ask, so that what is known after them is true: bytes that a fact then speaks of are steady,
--- and those that are pushed are not.
+-- Requirements of instructions under which the facts after them are true: bytes that such a fact refers to
+-- are steady, and bytes that are pushed are not.
 use Rattle.std.specs.Prelude.{◌≢◌, ℕ, ◌+◌, ◌<◌, Option, Some, None}
 use Rattle.mem80.specs.declared.memory.TheConstants.{MEMORY_SIZE}
 use Rattle.isa8080.specs.declared.instr.Instr.{Instr}
@@ -14,11 +14,11 @@ use Rattle.steps8080.specs.declared.facts.Facts.{Facts}
 use Rattle.code_meaning.specs.Activations.{Activation}
 use Rattle.code_meaning.specs.Holding.{Distances, IsSteady, location_at}
 
--- a steady byte of memory, which may be stored to
+-- a steady byte in memory, which may be stored to
 abbrev pub IsSteadyByte : Activation → (address : ℕ) → Type 0
 IsSteadyByte activation address = IsSteady activation address × (address < MEMORY_SIZE)
 
--- an instruction with a word asks that the bytes there are steady
+-- an instruction with a word requires that the bytes there are steady
 abbrev pub WordAsks : Activation → WordForm → (address : ℕ) → Type 0
 WordAsks activation StoreHl address =
     IsSteadyByte activation address × IsSteadyByte activation (wrap (address + 1))
@@ -27,7 +27,7 @@ WordAsks activation StoreA address = IsSteadyByte activation address
 WordAsks activation LoadA address = IsSteady activation address
 WordAsks activation form address = Unit {0}
 
--- what HL is known to be the address of is steady
+-- the byte at the address that HL is known to hold is steady
 abbrev pub AddressAsks : Activation → Distances → Option Location → Type 0
 AddressAsks activation distance None = Unit {0}
 AddressAsks activation distance (Some location) =
@@ -38,7 +38,7 @@ abbrev pub PushAsks : Activation → (sp : ℕ) → Type 0
 PushAsks activation sp =
     (address : ℕ) → IsSteady activation address → (address ≢ one_less sp) × (address ≢ two_less sp)
 
--- what an instruction asks, where this is known before it
+-- the requirement of an instruction, from the facts before it
 abbrev pub Asks : Activation → Distances → Facts → Instr → Registers → Type 0
 Asks activation distance facts (instructions.Shld number) r = WordAsks activation StoreHl number
 Asks activation distance facts (instructions.Lhld number) r = WordAsks activation LoadHl number

@@ -1,4 +1,4 @@
--- What it means that items compute what a part of an expression means.
+-- Items that compute the meaning of a part of an expression.
 use Rattle.std.specs.Prelude.{◌≡◌, ℕ, List}
 use Rattle.meaning.specs.Outcomes.{State as SourceState, Outcome}
 use Rattle.isa8080.specs.State.{Registers}
@@ -6,8 +6,8 @@ use Rattle.asm8080.specs.declared.item.Item.{Item}
 use Rattle.code_meaning.specs.Landing.{Does, at_place}
 use Rattle.code_meaning.specs.Activations.{Activation, Arrives, HasRoom, IsReady, IsThere}
 
--- Wherever the items stand, with so many bytes pushed and room for as many as they push, a machine that is ready and of
--- which something is known does what is meant, and is ready at their end with what is given in its place.
+-- Take items at any place, with `pushed` bytes pushed and room for `need` bytes. A machine that is ready, and
+-- for which `Known` holds, does what is meant. It is ready at their end, where `Holds` holds for the value.
 abbrev pub Computes :
     {A : Type 0} → Activation → (pushed need : ℕ) → (Known : Registers → List ℕ → Type 0) → List Item
     → (meant : SourceState → Outcome A) → (Holds : A → Registers → List ℕ → Type 0) → Type 0

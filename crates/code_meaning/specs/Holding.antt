@@ -1,4 +1,4 @@
--- What it means that facts of the registers hold: of the registers and the memory of the machine alone.
+-- Facts about the registers that hold for the registers and the memory of the machine.
 use Rattle.std.specs.Prelude.{◌≡◌, ℕ, ◌+◌, ◌<◌, ◌≤◌, ◌==◌, Bool, true, false, List, Option, Some, None}
 use Rattle.mem80.specs.Memory.{byte_at}
 use Rattle.isa8080.specs.State.{Registers, word, wrap}
@@ -10,11 +10,11 @@ use Rattle.steps8080.specs.declared.facts.Facts.{Facts}
 use Rattle.steps8080.specs.Writer.{reference_at}
 use Rattle.code_meaning.specs.Activations.{Activation}
 
--- the word that a place is, by where labels and targets lie
+-- the word of a place, from the addresses of labels and targets
 abbrev pub place_at : Layout → Place → ℕ
 place_at layout place = word_of layout (reference_at place)
 
--- how far above the level of an activation each variable of its frame begins
+-- the distance from the level of an activation up to each variable of its frame
 abbrev pub Distances : Type 0
 Distances = (variable : ℕ) → ℕ
 
@@ -23,11 +23,11 @@ abbrev pub location_at : Activation → Distances → Location → ℕ
 location_at activation distance (Static place) = place_at activation.layout place
 location_at activation distance (Frame variable offset) = wrap (activation.level + distance variable + offset)
 
--- a byte that stays while others are pushed: it is none of the part of the stack below the level
+-- a byte that does not change when others are pushed: it is outside the part of the stack below the level
 pub record IsSteady (activation : Activation) (address : ℕ) : Type 0 where
   pub apart : activation.floor ≤ address → address < activation.level → ⊥
 
--- A byte is the one at an address, and so is a word; all bytes there are steady.
+-- A byte is the one at an address; a word is the one at an address; all bytes there are steady.
 abbrev pub IsByteAt : Activation → (memory : List ℕ) → (address byte : ℕ) → Type 0
 IsByteAt activation memory address byte = (byte ≡ byte_at memory address) × IsSteady activation address
 
@@ -35,7 +35,7 @@ pub record IsWordAt (activation : Activation) (memory : List ℕ) (address high 
   pub low_is : IsByteAt activation memory address low
   pub high_is : IsByteAt activation memory (wrap (address + 1)) high
 
--- Facts hold of A, H and L, the zero flag and a memory.
+-- Facts hold for A, H and L, the zero flag and a memory.
 abbrev pub ByteHolds :
     Activation → Distances → Option Location → (a : ℕ) → (memory : List ℕ) → Type 0
 ByteHolds activation distance None a memory = Unit {0}

@@ -1,4 +1,4 @@
--- What a run of the machine comes to beside what a part of a program means.
+-- The end of a run of the machine, from the outcome of a part of a program.
 use Rattle.std.specs.Prelude.{◌≡◌, ℕ, ◌+◌, ◌≤◌, List}
 use Rattle.ports.specs.declared.event.Event.{Event}
 use Rattle.meaning.specs.Outcomes.{State as SourceState, Ended, More, Outside, Outcome, Gave, Stopped}
@@ -8,11 +8,11 @@ use Rattle.isa8080.specs.State.{Registers, State, wrap}
 use Rattle.isa8080.specs.Step.{running}
 use Rattle.asm8080.specs.Runs.{Comes}
 
--- a machine that runs at a place; places count on past the end of memory, where the program counter begins at 0 again
+-- a running machine at a place; places count on past the end of memory, where the program counter wraps to 0
 abbrev pub at_place : (place : ℕ) → Registers → (memory : List ℕ) → List Event → State
 at_place place r memory events = running (record r { pc = wrap place }) memory events
 
--- A run whose end is good, with at least as many steps as it spends of a budget, and so many more.
+-- A run with a good end that takes at least as many steps as it spends of a budget, plus `more`.
 pub record Lands
     (script : List (List ℕ)) (budget more : ℕ) (from : State) (left : ℕ) (Good : State → Type 0) : Type 0 where
   pub count : ℕ
@@ -22,13 +22,14 @@ pub record Lands
   pub spent : left ≤ budget
   pub is_good : Good end
 
--- a machine of this status, after these events
+-- a machine with this status, after these events
 pub record IsLeft (status : Status) (events : List Event) (end : State) : Type 0 where
   pub status_is : end.status ≡ status
   pub events_are : end.events ≡ events
 
--- Beside an outcome: where something is given, the run comes to a good end; where the program ends the machine halts,
--- and where it wants more budget the machine still runs, after the same events; of what goes outside nothing is said.
+-- The run for an outcome. If a value is given, the run comes to a good end. If the program ends, the machine
+-- halts after the same events. If the budget runs out, the machine still runs after the same events. If the
+-- outcome goes outside, nothing is promised.
 abbrev pub Told :
     {A : Type 0} → (script : List (List ℕ)) → (budget more : ℕ) → (from : State) → Outcome A
     → (Good : A → SourceState → State → Type 0) → Type 0
@@ -38,7 +39,7 @@ Told script budget more from (Stopped Ended t) Good =
 Told script budget more from (Stopped More t) Good = Lands script budget 0 from 0 (IsLeft Running t.events)
 Told script budget more from (Stopped (Outside reason) t) Good = Unit {0}
 
--- the machine does from a state on what an outcome says
+-- from a state on, the machine does what an outcome says
 pub record Does
     {A : Type 0} (script : List (List ℕ)) (budget more : ℕ) (from : State) (outcome : Outcome A)
     (Good : A → SourceState → State → Type 0) : Type 0 where

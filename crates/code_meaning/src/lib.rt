@@ -1,2 +1,2 @@
-//! What it means that code does what its source says, and what is known of registers where it stands.
+//! Definitions: code does what its source means, and the facts about the registers at a point of the code hold.
 #![tactic(auto)]

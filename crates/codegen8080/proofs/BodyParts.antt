@@ -1,11 +1,11 @@
--- The code of procedures and of main programs, from that of their parts.
+-- The code of procedures and of main programs, from the code of their parts.
 use Rattle.codegen8080.proofs.Prelude.{◌≡◌, ◌⊎◌, ℕ, inl, inr, Bool, true, false, List, [], ◌∷◌, ◌++◌, length, None, Result, Ok, Err, OnOk, drop, refl, sym, ap, subst, ◌∙◌, drop_at, IfOk, Instr, Hlt, Sp, Item, LoadPair, Routine, TreeModule, TreeProcedure, FramePlan, HasFrame, HasNothing, IsPlanOf, LiesApart, Facts, LabelNumber, no_facts, label_after, label_of, Writes, stack_end_item, writes_nothing, writes_then, Site, Emission, AreWritten, call_routine, MarkWritten, NoneWritten, PlainWritten, EmitsSteps, HasAll, NotesCalled, AreLabelled, has_itself, none_noted, notes_then, Body, Planned, Generator, Here, AddsCode, AddsList, AddsPlanned, here_of, LabelledList, LabelledSteps, IsFrameOf, IsMainCode, IsProcedureCode, end_steps, entry_labels, entry_steps, AddsEnd, AddsEntry, AddsMain, AddsOwn, AddsProcedure, LabelledCode, LabelledEnd}
 use Rattle.asm8080.specs.declared.item.Item.TheVariants as items
 use Rattle.treecode.specs.declared.procedure.ProcedureKind.TheVariants as kinds
 use Rattle.steps8080.specs.declared.step.Step.TheVariants as steps
 use Rattle.codegen8080.proofs.Driving.{labelled_list_kept, labelled_steps_kept}
 
--- the plan of a frame has what is said of it by the kind of the procedure
+-- the plan of a frame follows from the kind of the procedure
 pub frame_is :
     (procedure : TreeProcedure) {E : Type 0} (result : Result FramePlan E)
     → (procedure.kind ≡ kinds.Reentrant → HasFrame procedure → IfOk result (λ plan. IsPlanOf procedure plan))
@@ -15,7 +15,7 @@ pub frame_is :
 frame_is procedure (Ok plan) planned apart empty = record { planned = planned; apart = apart; empty = empty }
 frame_is procedure (Err fault) planned apart empty = tt
 
--- steps that are planned after others are carried out, with labels from one on that is free then
+-- steps that are planned after others are carried out, with labels from the next free one on
 pub planned_added :
     (body : Body) (list : List Planned) (start : ℕ) (free : (label : ℕ) → ℕ) (before ready after : Generator)
     → ready.emission ≡ record (before.emission) { steps = ready.emission.steps }
@@ -53,7 +53,7 @@ planned_added body list start free before ready after emission labels goes_on pl
           adds.notes;
     }
 
--- and so is how a procedure begins
+-- the entry of a procedure is added
 pub entry_added :
     (body : Body) (start : ℕ) (before ready after : Generator) {E : Type 0} (result : Result (Unit {0}) E)
     → ready.emission ≡ record (before.emission) { steps = ready.emission.steps }
@@ -76,7 +76,7 @@ entry_added body start before ready after (Ok done) emission labels goes_on plan
     }
 entry_added body start before ready after (Err fault) emission labels goes_on plan begins adds = adds
 
--- and how it ends
+-- its end is added
 pub end_added :
     (body : Body) (start : ℕ) (before ready after : Generator) {E : Type 0} (result : Result (Unit {0}) E)
     → body.procedure.now.reaches_its_end ≡ true
@@ -185,7 +185,7 @@ plain_labels :
     → next ≡ from
 plain_labels (PlainWritten NoneWritten) from next labels = labels
 
--- the code of the end of a procedure where more routines are called
+-- the code of the end of a procedure, with more routines called
 pub end_kept :
     (body : Body) (called wider : List Bool) (here : Here) (is_reached : Bool) (list : List Item) (label next : ℕ)
     → HasAll called wider
@@ -298,7 +298,7 @@ own_added tree procedure label body site before begun labelled entered listed af
           end.list list.notes end.notes))));
     }
 
--- and so is a main program
+-- a main program is written part by part
 pub main_added :
     (tree : TreeModule) (label : LabelNumber) (body : Body) (site last : Site)
     (before begun labelled ready listed after : Generator)
@@ -390,7 +390,7 @@ main_added tree label body site last before begun labelled ready listed after tr
           (λ routine. refl) (plain_is halts.written) halts.notes)))));
     }
 
--- no code is added for a procedure that is EXTERNAL
+-- no code is added for an EXTERNAL procedure
 pub external_added :
     (tree : TreeModule) (number name : ℕ) (procedure : TreeProcedure) (before : Generator)
     → procedure.kind ≡ kinds.External name
@@ -407,7 +407,7 @@ external_added tree number name procedure before kind = record {
   notes = λ routine given. inl given;
 }
 
--- and its own for any other
+-- its own code is added for any other
 pub procedure_added :
     (tree : TreeModule) (number : ℕ) (procedure : TreeProcedure) (before after : Generator) {E : Type 0}
     (result : Result (Unit {0}) E)

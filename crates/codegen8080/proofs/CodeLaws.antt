@@ -1,11 +1,11 @@
--- What is carried out with labels counted in its order is the code that the function gives, so that there is only one.
+-- Items with labels counted in their order are the code that the function gives, so that the code is unique.
 use Rattle.codegen8080.proofs.Prelude.{◌≡◌, ℕ, suc, ◌+◌, Bool, List, [], ◌∷◌, Option, Some, None, option_and_then, option_map, refl, sym, ap, subst, ◌∙◌, true, false, ◌++◌, Hlt, Sp, Item, LoadPair, Range, TreeModule, TreeProcedure, Statement, StatementNumber, Facts, no_facts, label_after, stack_end_item, IsFoundDeep, code_of_part, code_of_steps, knowing, found_deeper, found_map, found_then, steps_are_code, Body, Planned, Here, AreAllCarriedOut, AreCarriedOut, HoldsNoStatement, IsCarriedOut, IsListCarriedOut, ListCarriedOut, ListPlanned, MoreStatements, NoneCarriedOut, NoStatements, StatementCarriedOut, StatementPlanned, StepCarriedOut, arriving, carried_steps, here_after, site_of, waiting_after, AreAllLabelled, AreStepsLabelled, IsListLabelled, IsStatementLabelled, IsEndCode, IsEndLabelled, IsMainCode, IsMainLabelled, IsProcedureCode, IsProcedureLabelled, entry_labels, entry_steps, statement_labels, statement_steps}
 use Rattle.asm8080.specs.declared.item.Item.TheVariants as its
 use Rattle.exprgen8080.specs.Code.{Code}
 use Rattle.statements8080.specs.declared.plan.Planned.TheVariants as planned
 use Rattle.codegen8080.specs.Code.{IsCodeOfMainProgram, IsCodeOfPlanned, IsCodeOfProcedure, IsCodeOfStatement, IsCodeOfStatements, StatementCode, before_code, code_of_end, code_of_list, code_of_list_of, code_of_main, code_of_planned, code_of_procedure, code_of_statement, code_of_statements, code_of_steps_of}
 
--- the code of a step that is no statement and no list of such is that of its steps, before that of others
+-- the code of a step that is neither a statement nor a list is that of its steps, before that of others
 alone_is :
     (body : Body) (depth : ℕ) (here : Here) (waiting : Option Facts) (step : Planned) (others : List Planned) (label : ℕ)
     → HoldsNoStatement step
@@ -170,7 +170,7 @@ mutual
       (λ depth. code_of_statements body.tree.now (code_of_statement body depth) middle (suc first) count labels.0)
       rest (all_are_code labels.0 next others labels.2)))
 
--- What is written for the end of a procedure is its code.
+-- The items that are written for the end of a procedure are its code.
 end_is_code :
     (body : Body) (called : List Bool) (here : Here) (is_reached : Bool) (items : List Item) (label next : ℕ)
     → (code : IsEndCode body called here is_reached items)
@@ -189,7 +189,7 @@ end_is_code body called here false items label next code labels = (
   ),
 )
 
--- What is written for a procedure is its code.
+-- The items that are written for a procedure are its code.
 pub procedure_is_code :
     {tree : TreeModule} {called : List Bool} {number : ℕ} {procedure : TreeProcedure} {items : List Item}
     (label next : ℕ)
@@ -284,7 +284,7 @@ procedure_is_code {tree = tree} {called = called} {number = number} {procedure =
           (λ depth. code_of_end body depth body.procedure.now.reaches_its_end code.last labels.ended) ended ends))))),
     )
 
--- What is written for a main program is its code.
+-- The items that are written for a main program are its code.
 pub main_is_code :
     {tree : TreeModule} {called : List Bool} {start : ℕ} {items : List Item} (label next : ℕ)
     → (code : IsMainCode tree called start items)

@@ -12,7 +12,7 @@ emits_after site first second before between after (Ok done) here next =
     emits_then site first second before between after here next
 emits_after site first second before between after (Err fault) here next = next
 
--- What is written where some routines are called is written where more are, with the same labels.
+-- Code that is written with some routines called is also written with more, with the same labels.
 module _ {body : Body} {called : List Bool} (wider : List Bool) (more : HasAll called wider) where
   mutual
     steps_kept : {here last : Here} {waiting : Option Facts} {steps : List Planned} {items : List Item}
@@ -129,7 +129,7 @@ module _ (body : Body) (waiting : Option Facts) (before after : Generator) where
   step_carried_if step (Ok waits) adds alone = step_carried step waits adds alone
   step_carried_if step (Err fault) adds alone = adds
 
-  -- and a statement
+  -- a statement is carried out
   pub statement_carried : (number : StatementNumber)
       → AddsStatement body number before after
       → after.plan.list.items ≡ before.plan.list.items
@@ -146,7 +146,7 @@ module _ (body : Body) (waiting : Option Facts) (before after : Generator) where
     plan = plan;
   }
 
-  -- and a list
+  -- a list is carried out
   pub list_carried : (list : Range)
       → AddsList body list before after
       → after.plan.list.items ≡ before.plan.list.items
@@ -163,7 +163,7 @@ module _ (body : Body) (waiting : Option Facts) (before after : Generator) where
     plan = plan;
   }
 
--- what is added for a step that holds no statement
+-- the code added for a step that holds no statement
 pub step_added : (body : Body) (step : Planned) (waiting waits : Option Facts) (before after : Generator)
     (written : Emission) (here : Here)
     → EmitsSteps (site_of body) (carried_steps (site_of body) (here_of before) step) before.emission written
@@ -181,7 +181,7 @@ step_added body step waiting waits before after written here emits arrives same 
   plan = ap (λ (to : Generator). to.plan) same;
 }
 
--- Planned steps from one on are being carried out; those from an index on are left.
+-- Planned steps from one on are being carried out; those from an index on remain.
 pub record IsCarrying
     (body : Body) (before now : Generator) (waiting : Option Facts) (start index : ℕ) : Type 0 where
   pub list : List Item
@@ -351,7 +351,7 @@ statement_added_if body number statement start before ready after (Err fault) at
     adds =
     adds
 
--- The statements of a list are being written; those from an index on are left.
+-- The statements of a list are being written; those from an index on remain.
 pub record IsListing (body : Body) (range : Range) (before now : Generator) (index : ℕ) : Type 0 where
   pub list : List Item
   pub writes : Writes before.emission.writer now.emission.writer list

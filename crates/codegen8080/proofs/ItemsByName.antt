@@ -1,13 +1,13 @@
--- Items of a module that stand by the numbers that its code has for labels and names stand by the module's own.
+-- Items of a module that stand with the code's numbers for labels and names stand with the module's own.
 use Rattle.codegen8080.proofs.Prelude.{◌≡◌, ℕ, ◌+◌, List, [], ◌∷◌, Option, Some, None, option_map, unwrap_or, refl, sym, ap, subst, ◌∙◌, none-some, high_byte, low_byte, wrap, bytes_of, Target, InSegment, External, Item, Plain, WithWord, Byte, Address, Gap, Mark, Reference, AtLabel, AtTarget, AtNumber, Layout, Stands, instruction_with, word_of, BytesStand, entry, Written, in_front, numbered, numbered_item, numbered_reference}
 use Rattle.codegen8080.proofs.ModuleParts.{same_item}
 
--- a target by the number that code has for its name
+-- a target with the code's number for its name
 abbrev pub target_by : Written → Target → Target
 target_by written (External name) = External (unwrap_or (entry written.externals name) 0)
 target_by written (InSegment segment) = InSegment segment
 
--- where labels and targets lie, by the module's own numbers
+-- the addresses of labels and targets, by the module's own numbers
 abbrev pub layout_by : Layout → Written → Layout
 layout_by layout written = record {
   place_of = λ label. layout.place_of (unwrap_or (entry written.labels label) 0);
@@ -106,7 +106,7 @@ module _ (layout : Layout) (written : Written) (memory : List ℕ) where
             rest _ here.1,
           )
 
-  -- items that stand by the numbers of the code stand by those of the module
+  -- items that stand with the numbers of the code stand with those of the module
   pub items_by_name : (items made : List Item) (from to : ℕ)
       → numbered written items ≡ Some made
       → Stands layout memory made from to

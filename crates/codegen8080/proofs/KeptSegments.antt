@@ -3,11 +3,11 @@ use Rattle.codegen8080.proofs.Prelude.{◌≡◌, ℕ, suc, ◌+◌, ◌-◌, �
 use Rattle.object_modules.proofs.StoredRuns.{content_with, found, found_is, same_over}
 use Rattle.object_laws.proofs.Merges.RunsJoined.{runs_append}
 
--- what was assembled keeps its fixes
+-- assembled code keeps its fixes
 pub assembled_keeps : (assembly : Assembly) (code : Assembled) → Assembles assembly code → KeepsFixes code
 assembled_keeps assembly code is = record { filled = is.filled; whole = is.whole }
 
--- and so does what was finished
+-- finished code keeps its fixes
 pub finished_keeps : (written : Written) (code : Assembled) (labels : List (Option ℕ))
     → Finishes written code labels → KeepsFixes code
 finished_keeps written code labels is = assembled_keeps written.code code is.assembles
@@ -26,7 +26,7 @@ module _ (to : Target → Target) where
   filled_still segment runs (fix ∷ others) =
       ap (λ b. is_in_a_run segment runs fix && b) (filled_still segment runs others)
 
-  -- the kind of the fix at a place stays
+  -- the kind of the fix at a place does not change
   kind_still :
       (test : FixKind → Bool) (or : Bool) (fixes : List Fix) (x : ℕ)
       → option_map_or (λ (fixup : Fixup). test fixup.kind) (fixup_at (map (retargeted to) fixes) x) or
@@ -73,7 +73,7 @@ module _ (to : Target → Target) where
       || is_plain (option_flatten (slice_get (fixed_bytes fixes (offset + 1) others) 0))) && b)
       (whole_still fixes (offset + 1) others)
 
--- Each target is one that a module with so many external names may have.
+-- Each target is one that a module with `count` external names may have.
 listed_valid : (count : ℕ) (number : Option ℕ) → is_target count (listed_target count number) ≡ true
 listed_valid count None = refl
 listed_valid count (Some number) = go (nat_lt number count && nat_lt number 65536) refl
@@ -101,7 +101,7 @@ targets_valid numbers count (fix ∷ others) =
     (list_all (λ (fix : Fix). is_target count fix.target) (map (retargeted (retarget numbers count)) others))
     (target_valid numbers count fix.target) (targets_valid numbers count others)
 
--- the places of a segment that is kept are those of its code
+-- the places of a stored segment are those of its code
 pub places_in :
     (segment : Segment) (code : Assembled) → same_segment segment segment ≡ true
     → (places_stored segment (segment_of code)).places ≡ places_of code
@@ -113,7 +113,7 @@ places_in segment code same =
     ∙ ap (λ n. map (found code.fixes runs) (range_with_len 0 n)) (sym (set_length code.bytes code.is_set))
     ∙ run_places code.fixes 0 bytes
 
--- The segment that code is with other targets is kept, and a module may have it.
+-- The segment of code with other targets is stored, and a module may have it.
 module _ (numbers : List ℕ) (count : ℕ) (code : Assembled) (fits : FitsSegment code) (keeps : KeepsFixes code) where
   abbrev moved : Assembled
   moved = with_targets (retarget numbers count) code
@@ -268,7 +268,7 @@ range_more (byte ∷ others) (suc start) (suc i) le lt =
     ∙ range_more others start i (omega (arith, le)) (omega (arith, lt))
     ∙ ap (λ n. take n (drop start others) ++ slice_index others i ∷ []) (sym same)
 
--- A stretch of bytes from an index to another one that are all set.
+-- A stretch of bytes between two indices that are all set.
 abbrev pub IsStretch : (bytes : List ℕ) → (flags : List Bool) → (start end : ℕ) → Type 0
 IsStretch bytes flags start end =
     take end (set_bytes bytes flags) ≡ take start (set_bytes bytes flags) ++ map Some (slice_range bytes start end)
@@ -294,7 +294,7 @@ stretch_more bytes flags start i le lt set is =
     ∙ ap (λ rest. take start places ++ rest) (sym (map-append Some (slice_range bytes start i) (byte ∷ [])))
     ∙ ap (λ items. take start places ++ map Some items) (sym (range_more bytes start i le lt))
 
--- where it ends, the runs have it
+-- at the end of a stretch, the runs include it
 pub stretch_ended :
     (bytes : List ℕ) (flags : List Bool) (start end : ℕ) → start ≤ end → end ≤ length bytes
     → IsStretch bytes flags start end

@@ -1,11 +1,11 @@
--- The code of a module, from that of its parts.
+-- The code of a module, from the code of its parts.
 use Rattle.codegen8080.proofs.Prelude.{◌≡◌, ℕ, zero, suc, ◌+◌, inl, inr, Bool, true, false, List, replicate, slice_index_or, [], ◌∷◌, ◌++◌, Option, Some, None, Result, Ok, Err, OnOk, slice_get, length, take, drop, ◌-◌, ◌<◌, arith, unwrap_or, refl, sym, ap, subst, ◌∙◌, append_assoc, append-nil, add-one, option_map, none-some, Item, Routine, Content, TreeModule, ProcedureKind, TreeProcedure, Extends, entry, no_facts, label_after, Written, Writes, in_front, items_stay, writes_nothing, writes_then, has_routine, index_of_routine, module_routine_label, HasAll, IsEmpty, NotesCalled, has_itself, none_noted, notes_then, Generator, LabelledList, LabelledSteps, AreRoutines, IsCodeOfRoutine, IsCodeWritten, IsMainCode, IsMainLabelled, IsOwnCode, IsProcedureCode, IsProcedureLabelled, all_routines, content_items, contents_items, has_main, entry_labels, entry_steps, AddsCalled, AddsCodeOfMain, AddsMain, AddsOwnCode, AddsProcedure, AddsProcedures, AddsRoutineIf, AddsRoutines, LabelledCode, LabelledCodeOfMain, LabelledEnd, LabelledProcedure, LabelledProcedures}
 use Rattle.asm8080.specs.declared.item.Item.TheVariants as items
 use Rattle.treecode.specs.declared.procedure.ProcedureKind.TheVariants as kinds
 use Rattle.codegen8080.proofs.BodyParts.{end_kept}
 use Rattle.codegen8080.proofs.Driving.{labelled_list_kept, labelled_steps_kept}
 
--- all of a list are as many as it has
+-- as many items of a list as it has are the list
 pub take_all : {A : Type 0} (list : List A) (count : ℕ) → count ≡ length list → take count list ≡ list
 take_all [] count same = ap (λ number. take number []) same
 take_all (first ∷ others) count same =
@@ -14,7 +14,7 @@ take_all (first ∷ others) count same =
 pub same_item : {A : Type 0} (one other : A) → Some one ≡ Some other → one ≡ other
 same_item one other same = ap (λ (found : Option _). unwrap_or found one) same
 
--- What stands in a segment is being added; some of it is left.
+-- The contents of a segment are being added; some of them remain.
 pub record IsPutting (before now : Written) (whole left : List Content) : Type 0 where
   pub list : List Item
   pub writes : Writes before now list
@@ -53,7 +53,7 @@ pub putting_ends :
 putting_ends before now whole putting =
     subst (Writes before now) (sym (append-nil putting.list) ∙ putting.left_is) putting.writes
 
--- The code of a procedure where more routines are called.
+-- The code of a procedure with more routines called.
 module _ (tree : TreeModule) (called wider : List Bool) (more : HasAll called wider) where
   own_kept : (number : ℕ) (procedure : TreeProcedure) (list : List Item) (label next : ℕ)
       → LabelledProcedure tree called number procedure list label next
@@ -106,7 +106,7 @@ module _ (tree : TreeModule) (called wider : List Bool) (more : HasAll called wi
   kind_kept number procedure kinds.Static list label next is = own_kept number procedure list label next is
   kind_kept number procedure kinds.Reentrant list label next is = own_kept number procedure list label next is
 
-  -- and that of a main program
+  -- the code of a main program with more routines called
   main_kept : (start : ℕ) (is_there : Bool) (list : List Item) (label next : ℕ)
       → LabelledCodeOfMain tree called start is_there list label next
       → LabelledCodeOfMain tree wider start is_there list label next
@@ -129,7 +129,7 @@ module _ (tree : TreeModule) (called wider : List Bool) (more : HasAll called wi
       (code, record { named = labels.named; written = written.1 })
   main_kept start false list label next is = is
 
--- Procedures are being added; some are left, of which the first has this number.
+-- Procedures are being added; some remain, from the first with this number on.
 pub record AreBeingPut
     (tree : TreeModule) (before now : Generator) (number : ℕ) (whole left : List TreeProcedure) : Type 0 where
   pub list : List Item
@@ -224,7 +224,7 @@ procedures_done tree before now number whole [] none putting =
     procedures_end tree before now number whole putting
 procedures_done tree before now number whole (first ∷ others) none putting = absurd (omega (arith, none))
 
--- a main program is added where there is one
+-- a main program is added, if there is one
 pub main_there :
     (tree : TreeModule) (start : ℕ) (before after : Generator) {E : Type 0} (result : Result (Unit {0}) E)
     → has_main tree ≡ true
@@ -315,7 +315,7 @@ own_code_added tree start before ready between after constants same start_is tak
           after.emission.is_called.items main.list procedures.list main.notes procedures.notes);
     }
 
--- The code of a routine where code has more labels.
+-- The code of a routine, if code has more labels.
 routine_kept :
     (tree : TreeModule) (before after : Written) (routine : Routine) (is_called : Bool) (list : List Item)
     → Extends before.labels after.labels
@@ -339,7 +339,7 @@ one_front made None given = let bad : None ≡ Some made = given in cc
 one_front made (Some found) given =
     (found, refl, ap (λ (list : Option (List Item)). elim list [ Some all ↦ all | None ↦ [] ]) (sym given))
 
--- what is added where a routine is called
+-- the items added for a routine, if it is called
 record AddsOne (tree : TreeModule) (is_called : Bool) (routine : Routine) (before after : Written) : Type 0 where
   list : List Item
   added : after.code.items ≡ before.code.items ++ list
@@ -427,7 +427,7 @@ routine_then tree called routine others before between after first rest =
       no_names = λ number found given. one.no_names number found (rest.no_names number found given);
     }
 
--- routines where code has more labels
+-- the code of routines, if code has more labels
 are_kept :
     (tree : TreeModule) (called : List Bool) (before after : Written) (routines : List Routine) (list : List Item)
     → Extends before.labels after.labels
@@ -442,7 +442,7 @@ are_kept tree called before after (routine ∷ others) list labels are = (
   are.4,
 )
 
--- and before others
+-- the code of routines before others
 are_then :
     (tree : TreeModule) (called : List Bool) (written : Written) (routines others : List Routine)
     (list more : List Item)
@@ -478,7 +478,7 @@ routines_then tree called routines others before between after first second = re
   no_names = λ number found given. first.no_names number found (second.no_names number found given);
 }
 
--- where no name has a number, none is found
+-- if no name has a number, no number is found
 no_number : (count name number : ℕ) → entry (replicate count None) name ≡ Some number → ⊥
 no_number zero name number given = none-some number given
 no_number (suc count) zero number given = none-some number given
@@ -490,7 +490,7 @@ no_flag zero index given = let no : false ≡ true = given in cc
 no_flag (suc count) zero given = let no : false ≡ true = given in cc
 no_flag (suc count) (suc index) given = no_flag count index given
 
--- the code of a module, from its own and the routines
+-- the code of a module, from its own code and the routines
 pub code_written :
     (tree : TreeModule) (start : ℕ) (before between : Generator) (called : List Bool) (written after : Written)
     → IsEmpty tree before.emission

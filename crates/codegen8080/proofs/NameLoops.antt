@@ -2,7 +2,7 @@
 use Rattle.codegen8080.proofs.Prelude.{◌≡◌, ℕ, ◌-◌, ◌<◌, List, [], ◌∷◌, ◌++◌, Option, Some, None, length, take, drop, slice_get, refl, sym, ap, subst, ◌∙◌, arith, append_assoc, append-nil, none-some, Public, Assembled, ExternalName, PublicName, used_names, AreListed, ArePublicsIn, HavePlaces, IsPlaceAfter, IsPublicIn, used_name, Linkage}
 use Rattle.codegen8080.proofs.ModuleParts.{same_item, take_all}
 
--- Names are being listed; some numbers and names are left.
+-- Names are being listed; some numbers and names remain.
 pub record IsListingNames
     (externals : List ExternalName) (numbers : List (Option ℕ)) (places : List ℕ) (place : ℕ)
     (rest : List ExternalName) (left : List (Option ℕ)) (names : Linkage) : Type 0 where
@@ -78,7 +78,7 @@ listing_names_ends externals numbers places place rest [] names none listing = r
 listing_names_ends externals numbers places place rest (known ∷ left) names none listing =
     absurd (omega (arith, none))
 
--- PUBLIC names are being added; some are left.
+-- PUBLIC names are being added; some remain.
 pub record IsAddingPublics
     (labels : List (Option ℕ)) (bytes : Assembled) (publics : List PublicName) (before now : Linkage)
     (left : List PublicName) : Type 0 where

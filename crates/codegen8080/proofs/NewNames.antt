@@ -1,4 +1,4 @@
--- Names, none of them twice, and one more.
+-- Distinct names, and one more.
 use Rattle.codegen8080.proofs.Prelude.{◌≡◌, ℕ, Bool, true, false, not, ◌||◌, List, [], ◌∷◌, ◌++◌, map, if◌then◌else◌, refl, sym, ap, ◌∙◌, list_all, bytes_eq, and_true, left_true, right_true, is_name, Public, are_new, is_among, is_valid_public, IsLinkage, Linkage, names_of}
 use Rattle.indexmap.specs.IndexSet.{insert_key}
 
@@ -28,13 +28,13 @@ new_after (first ∷ others) known name new other fresh =
     (or_false (bytes_eq name first) (is_among name known)
     (left_false (bytes_eq name first) (is_among name others) other) fresh))
 
--- names that differ, and another one
+-- distinct names, and another one
 pub one_more :
     (names : List (List ℕ)) (name : List ℕ)
     → are_new names [] ≡ true → is_among name names ≡ false → are_new (names ++ name ∷ []) [] ≡ true
 one_more names name new other = new_after names [] name new other refl
 
--- what holds of all, and of one more
+-- a property of all, and of one more
 pub all_and_one :
     {A : Type 0} (test : A → Bool) (items : List A) (item : A)
     → list_all test items ≡ true → test item ≡ true → list_all test (items ++ item ∷ []) ≡ true
@@ -56,7 +56,7 @@ pub map_more : {A B : Type 0} (f : A → B) (items : List A) (item : A) → map 
 map_more f [] item = refl
 map_more {A = A} {B = B} f (first ∷ others) item = ap (λ (rest : List B). f first ∷ rest) (map_more f others item)
 
--- an external name more, where there is no public one
+-- one more external name, before any public one
 pub external_names :
     (externals : List (List ℕ)) (publics : List Public) (name : List ℕ)
     → publics ≡ []
@@ -68,7 +68,7 @@ external_names externals publics name none =
     ∙ ap (λ (e : List (List ℕ)). e ++ name ∷ []) (sym (append_nothing externals))
     ∙ ap (λ (p : List Public). names_of (record { externals = externals; publics = p }) ++ name ∷ []) (sym none)
 
--- a public name more
+-- one more public name
 pub public_names :
     (externals : List (List ℕ)) (publics : List Public) (public : Public)
     → names_of (record { externals = externals; publics = publics ++ public ∷ [] })
@@ -77,7 +77,7 @@ public_names externals publics public =
     ap (λ (names : List (List ℕ)). externals ++ names) (map_more (λ (p : Public). p.name) publics public)
     ∙ append_again externals (map (λ (p : Public). p.name) publics) public.name
 
--- with a name more they stay those that a module may have
+-- with one more name, they are still names that a module may have
 pub grown :
     (before after : Linkage) (name : List ℕ)
     → names_of after ≡ names_of before ++ name ∷ []
@@ -90,7 +90,7 @@ grown before after name more is valid absent publics = record {
   publics = publics;
 }
 
--- and the set of them is what it is to be
+-- the set of names includes it
 pub grown_known :
     (known new : List (List ℕ)) (before after : Linkage) (name : List ℕ)
     → known ≡ names_of before → is_among name known ≡ false → new ≡ insert_key bytes_eq known name

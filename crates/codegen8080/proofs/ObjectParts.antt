@@ -2,7 +2,7 @@
 use Rattle.codegen8080.proofs.Prelude.{◌≡◌, ℕ, zero, suc, ◌+◌, ◌<◌, inl, inr, Bool, true, false, ◌&&◌, nat_lt, if◌then◌else◌, List, [], ◌∷◌, ◌++◌, length, map, Option, Some, None, slice_get, refl, sym, ap, subst, ◌∙◌, arith, append_assoc, lt-ltb, none-some, unwrap_or, Segment, Absolute, Code, Data, Stack, Target, InSegment, External, ObjectModule, Places, Public, is_movable, places_stored, Assembled, segment_of, ExternalName, PublicName, PublicPlace, Object, Procedure, TreeModule, Extends, entry, Finishes, NumbersNames, Written, known_label, numbered, place_of_known, place_of_label, use_either, AreTargets, ArePublicsOf, IsCodeWritten, IsGenerated, IsPublicOf, contents_items, has_main, used_names, AreListed, ArePublicsIn, HavePlaces, IsMadeOf, IsPublicIn, Linkage, with_targets, listed_target, retarget}
 use Rattle.codegen8080.proofs.KeptSegments.{places_in}
 
--- the label of a number is known by the table of known labels
+-- the label with this number, from the table of known labels
 known_at :
     (count : ℕ) (table : List (Option ℕ)) (number : ℕ)
     → entry (map (known_label count) table) number ≡ known_label count (entry table number)
@@ -18,7 +18,7 @@ known_by written bytes labels number known =
     ap (λ table. place_of_known bytes (entry table number)) known
     ∙ ap (place_of_known bytes) (known_at written.code.labels written.labels number)
 
--- publics in code whose labels are known
+-- publics in code with known labels
 public_of :
     (written : Written) (bytes : Assembled) (labels : List (Option ℕ)) (name : List ℕ) (place : PublicPlace)
     (public : Public)
@@ -44,7 +44,7 @@ publics_of written bytes labels (name ∷ names) (public ∷ publics) known are 
   publics_of written bytes labels names publics known are.1,
 )
 
--- a name that code has a number for, in the list of names and in the table of places
+-- a name for which code has a number, in the list of names and in the table of places
 record IsFound
     (externals : List ExternalName) (listed : List (List ℕ)) (places : List ℕ) (index number : ℕ) : Type 0 where
   external : ExternalName
@@ -168,7 +168,7 @@ targets_are externals numbers places listed is have = record {
       };
 }
 
--- the object module is made of its parts
+-- the object module consists of its parts
 pub generated :
     (tree : TreeModule) (start_label : ℕ) (code variables : Written) (code_bytes variable_bytes : Assembled)
     (code_labels variable_labels : List (Option ℕ)) (listed names : Linkage) (places : List ℕ) (start : Option ℕ)

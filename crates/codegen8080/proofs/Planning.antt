@@ -2,7 +2,7 @@
 use Rattle.codegen8080.proofs.Prelude.{◌≡◌, ℕ, suc, ◌+◌, ◌-◌, ◌<◌, ◌≤◌, List, ◌++◌, sym, ap, subst, ◌∙◌, arith, min, Parameter, Facts, label_after, Plan, Planned, PlanAdds, PlanAddsWithLabels, IsAdding, known_at, known_from, popped_at, popped_from}
 use Rattle.statements8080.proofs.Adding.{adding_ends, adding_goes_on}
 
--- planners that take no label, as such that may take some
+-- planners that take no label, as a special case of those that may take some
 pub none_taken : (before after : Plan) (list : List Planned)
     → PlanAdds before after list
     → PlanAddsWithLabels before after 0 (λ first. list)
@@ -32,7 +32,7 @@ module _ (parameters : List Parameter) where
   popped_more left some =
       let more : left ≡ suc (left - 1) = omega (arith, some) in ap (popped_from parameters) more
 
-  -- one of the arguments that are left is stored
+  -- one of the remaining arguments is stored
   pub popped_next : (before now next : Plan) (whole : List Planned) (left : ℕ) → 0 < left
       → IsAdding before now whole (popped_from parameters left)
       → PlanAdds now next (popped_at parameters (left - 1))
@@ -41,7 +41,7 @@ module _ (parameters : List Parameter) where
       adding_goes_on before now next whole (popped_at parameters (left - 1)) (popped_from parameters (left - 1))
       (subst (IsAdding before now whole) (popped_more left some) adding) adds
 
-  -- none is left
+  -- no argument remains
   pub popped_done : (before now : Plan) (whole : List Planned) (left : ℕ) → left ≤ 0
       → IsAdding before now whole (popped_from parameters left) → PlanAdds before now whole
   unfolding popped_from
@@ -50,7 +50,7 @@ module _ (parameters : List Parameter) where
       adding_ends before now whole
       (subst (λ count. IsAdding before now whole (popped_from parameters count)) no adding)
 
-  -- the same for what is known
+  -- the same for the facts
   pub known_next : (facts : Facts) (left : ℕ) → 0 < left
       → known_from facts parameters left
       ≡ known_from (known_at facts parameters (left - 1)) parameters (left - 1)

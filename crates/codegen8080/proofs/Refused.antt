@@ -7,7 +7,7 @@ use Rattle.codegen8080.specs.declared.fault.Fault.{Fault}
 use Rattle.codegen8080.specs.declared.fault.Fault.TheVariants as faults
 use Rattle.codegen8080.specs.Refusals.{CodeIsNone, DataAreNone, IsNoSegment, MayRefuse}
 
--- code is not finished, since it is too long
+-- code cannot be finished, since it is too long
 pub too_long :
     (written : Written) (A : Type 0) (result : Result A (Failure CodeFault))
     → result ≡ Err (failures.Fault code_faults.TooLong)
@@ -18,7 +18,7 @@ too_long written A result same given =
     (λ (to : Result A (Failure CodeFault)). IfFault to (λ (fault : CodeFault). IsFinished written.code (Err fault)))
     same given).1
 
--- what is said of the fault of a result is said of that of another which hands it on
+-- a property of the fault of a result holds for the fault that is passed on
 handed_on :
     (A B : Type 0) (before : Result A (Failure Fault)) (result : Result B (Failure Fault)) (failure : Failure Fault)
     (Before After : Fault → Type 0)
@@ -48,7 +48,7 @@ code_refused tree start code A B before result failure was same is none =
     handed_on A B before result failure (λ fault. IsNoSegment fault code) (λ fault. MayRefuse tree fault) was same
     (λ fault no. CodeIsNone start code is no) none
 
--- and so are its data
+-- the data of a module are refused
 pub data_refused :
     (tree : TreeModule) (start : ℕ) (code variables : Written) (A B : Type 0) (before : Result A (Failure Fault))
     (result : Result B (Failure Fault)) (failure : Failure Fault)

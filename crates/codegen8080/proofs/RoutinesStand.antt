@@ -1,8 +1,8 @@
--- The routines that are called stand where the code of a module stands.
+-- The routines that are called are placed with the code of a module.
 use Rattle.codegen8080.proofs.Prelude.{◌≡◌, ℕ, ◌+◌, ◌≤◌, ◌⊎◌, inl, inr, Bool, true, List, [], ◌∷◌, Option, unwrap_or, sym, ap, subst, ◌∙◌, arith, append-nil, Item, Layout, Stands, size_of_items, stands_in_parts, Routine, IsRoutine, size_of_routine, TreeModule, Written, has_routine, module_label_of_routine, AreRoutines, IsCodeOfRoutine}
 use Rattle.codegen8080.proofs.ItemsByName.{layout_by}
 
--- a routine stands at its label, within code from one address to another
+-- a routine is at its label, within code from one address to another
 pub record RoutineStands
     (tree : TreeModule) (written : Written) (layout : Layout) (memory : List ℕ) (routine : Routine) (from to : ℕ) :
     Type 0 where
@@ -21,7 +21,7 @@ abbrev pub IsOneOf : Routine → List Routine → Type 0
 IsOneOf routine [] = ⊥
 IsOneOf routine (first ∷ others) = (routine ≡ first) ⊎ IsOneOf routine others
 
--- items end as many bytes on as they take
+-- items end at their start plus their size
 end_is : (layout : Layout) (memory : List ℕ) (list : List Item) (from to : ℕ)
     → Stands layout memory list from to → from + size_of_items list ≡ to
 end_is layout memory list from to stands =

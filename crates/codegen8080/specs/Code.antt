@@ -1,4 +1,4 @@
--- The code of statements, procedures and a main program as a function of what it is for: of the body, of what is known of the
+-- The code of statements, procedures and a main program as a function of the body, of the facts about the
 -- registers before it, and of its first label.
 use Rattle.std.specs.Prelude.{ℕ, zero, suc, Bool, true, false, List, [], ◌∷◌, ◌++◌, Option, Some, None, option_and_then, option_map, slice_get}
 use Rattle.isa8080.specs.declared.instr.Instr.TheVariants.{Hlt}
@@ -24,17 +24,17 @@ use Rattle.codegen8080.specs.Generated.{arriving, carried_steps, here_after, sit
 use Rattle.codegen8080.specs.Procedures.{end_steps, entry_labels, entry_steps}
 use Rattle.codegen8080.specs.Statements.{statement_labels, statement_steps}
 
--- items, where the code is after them, and the first label that they leave
+-- items, the end of the code after them, and the first label that is free after them
 pub record StatementCode : Type 0 where
   pub items : List Item
   pub here : Here
   pub label : ℕ
 
--- items before those of code
+-- items, then those of code
 abbrev pub before_code : List Item → StatementCode → StatementCode
 before_code items code = record code { items = items ++ code.items }
 
--- The code of so many statements of the table of lists, from an entry on, by that of each.
+-- The code of `count` statements of the table of lists, from an entry on, by the code of each statement.
 unfoldable pub code_of_statements :
     TreeModule → (code_of : Facts → StatementNumber → (label : ℕ) → Option StatementCode)
     → Here → (first count label : ℕ) → Option StatementCode
@@ -54,8 +54,9 @@ abbrev pub code_of_list :
     → Facts → Range → (label : ℕ) → Option StatementCode
 code_of_list tree code_of facts list label = code_of_statements tree code_of (arriving (Some facts)) list.first list.count label
 
--- The code of planned steps where the code is here, and this waits: that of a statement or a list by that of statements,
--- and that of any other step by the steps of expressions that it is, whose parts stand in each other at most so deep.
+-- The code of planned steps, from this end of the code and these waiting facts. A statement or a list has the
+-- code of its statements; any other step has that of its expression steps, with parts nested at most `depth`
+-- deep.
 unfoldable pub code_of_planned :
     Body → (depth : ℕ) → (code_of : Facts → StatementNumber → (label : ℕ) → Option StatementCode)
     → Here → (waiting : Option Facts) → List Planned → (label : ℕ) → Option StatementCode
@@ -82,8 +83,8 @@ code_of_planned body depth code_of here waiting (step ∷ others) label =
     (code_of_steps body.tree.now (code_of_part (site_of body) depth) here.facts
     (carried_steps (site_of body) here step) label)
 
--- The code of a statement, where statements and parts stand in each other at most so deep: that of its steps, whose labels
--- come first.
+-- The code of a statement, with statements and parts nested at most `depth` deep: that of its steps, with
+-- their labels first.
 unfoldable pub code_of_statement :
     Body → (depth : ℕ) → Facts → StatementNumber → (label : ℕ) → Option StatementCode
 code_of_statement body zero facts number label = None
@@ -95,7 +96,7 @@ code_of_statement body (suc depth) facts number label =
     (label_after label (statement_labels body (knowing (site_of body) facts) statement)))
     (slice_get body.tree.now.statements.items number.index)
 
--- the code of planned steps of a body, and of a list of its statements, with nothing that waits
+-- the code of planned steps of a body, and of a list of its statements, without waiting facts
 abbrev pub code_of_steps_of : Body → (depth : ℕ) → Here → List Planned → (label : ℕ) → Option StatementCode
 code_of_steps_of body depth here list label =
     code_of_planned body depth (code_of_statement body depth) here None list label
@@ -104,13 +105,13 @@ abbrev pub code_of_list_of : Body → (depth : ℕ) → Facts → (label : ℕ) 
 code_of_list_of body depth facts label =
     code_of_list body.tree.now (code_of_statement body depth) facts body.procedure.now.body label
 
--- The code of the end of a procedure, where it is reached.
+-- The code of the end of a procedure, if it can be reached.
 abbrev pub code_of_end : Body → (depth : ℕ) → (is_reached : Bool) → Here → (label : ℕ) → Option StatementCode
 code_of_end body depth true here label = code_of_steps_of body depth here (end_steps body) label
 code_of_end body depth false here label = Some (record { items = []; here = here; label = label })
 
--- The code of a procedure by its number: its label, its beginning, its statements, and its end. The labels of its source
--- come first, then those of its beginning.
+-- The code of the procedure with this number: its label, its entry, its statements, and its end. The labels
+-- of its source come first, then those of its entry.
 unfoldable pub code_of_procedure : Body → (depth : ℕ) → (number label : ℕ) → Option StatementCode
 code_of_procedure body depth number label =
     option_map (before_code (items.Mark number ∷ []))
@@ -126,7 +127,8 @@ code_of_procedure body depth number label =
     (entry_steps body (label_after label body.procedure.now.label_count))
     (label_after (label_after label body.procedure.now.label_count) (entry_labels body))))
 
--- The code of a main program by its label: the stack begins at its end, its statements, and the machine halts.
+-- The code of a main program with its label: it sets the stack pointer to the end of the stack, carries out
+-- its statements, and halts.
 unfoldable pub code_of_main : Body → (depth : ℕ) → (start label : ℕ) → Option StatementCode
 code_of_main body depth start label =
     option_map
@@ -150,7 +152,7 @@ abbrev pub IsCodeOfPlanned :
 IsCodeOfPlanned body here waiting list label code =
     IsFoundDeep (λ depth. code_of_planned body depth (code_of_statement body depth) here waiting list label) code
 
--- that of a procedure, and of a main program
+-- the code of a procedure, and of a main program
 abbrev pub IsCodeOfProcedure : Body → (number label : ℕ) → StatementCode → Type 0
 IsCodeOfProcedure body number label code = IsFoundDeep (λ depth. code_of_procedure body depth number label) code
 

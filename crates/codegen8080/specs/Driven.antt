@@ -1,4 +1,4 @@
--- What the generator of statements promises of the code that it adds.
+-- Relations for the code that the generator of statements adds.
 use Rattle.std.specs.Prelude.{◌≡◌, ℕ, Bool, List, Option, None}
 use Rattle.asm8080.specs.declared.item.Item.{Item}
 use Rattle.treecode.specs.declared.lists.Range.{Range}
@@ -15,11 +15,12 @@ use Rattle.codegen8080.specs.declared.meeting.Here.{Here}
 use Rattle.codegen8080.specs.Generated.{carried_steps, here_after, site_of, waiting_after}
 use Rattle.codegen8080.specs.Labelled.{LabelledList, LabelledStatement, LabelledSteps}
 
--- where the code of a generator ends
+-- the end of the code of a generator
 abbrev pub here_of : Generator → Here
 here_of generator = record { facts = generator.emission.facts; goes_on = generator.goes_on }
 
--- Items of a module are added that are code of some kind, by the routines that are called and by the labels that it takes.
+-- Items of a module are added. They are code of some kind, with the routines that are called and the labels
+-- that it takes.
 pub record AddsCode
     (tree : TreeModule) (IsCode : (called : List Bool) → List Item → (label next : ℕ) → Type 0)
     (before after : Generator) : Type 0 where
@@ -38,7 +39,7 @@ AddsStatement body number before after =
     LabelledStatement body called before.emission.facts number list (here_of after) label next)
     before after
 
--- that of a list
+-- the code of a list is added
 abbrev pub AddsList : Body → Range → (before after : Generator) → Type 0
 AddsList body range before after =
     AddsCode body.tree.now
@@ -46,7 +47,7 @@ AddsList body range before after =
     LabelledList body called before.emission.facts range list (here_of after) label next)
     before after
 
--- that of planned steps
+-- the code of planned steps is added
 abbrev pub AddsPlanned : Body → List Planned → (before after : Generator) → Type 0
 AddsPlanned body planned before after =
     AddsCode body.tree.now
@@ -54,7 +55,7 @@ AddsPlanned body planned before after =
     LabelledSteps body called (here_of before) None planned list (here_of after) label next)
     before after
 
--- the code of a step that holds no statement is added, and what waits after it
+-- the code of a step that holds no statement is added; `waits` are the waiting facts after it
 pub record AddsStep
     (body : Body) (step : Planned) (waiting : Option Facts) (before after : Generator)
     (waits : Option Facts) : Type 0 where

@@ -1,5 +1,5 @@
--- The code of statements: which items are written for them, what is known of the registers after these, and whether the
--- code goes on there.
+-- The code of statements: their items, the facts about the registers after them, and whether their end can be
+-- reached.
 use Rattle.std.specs.Prelude.{◌≡◌, ℕ, suc, ◌&&◌, Bool, true, false, if◌then◌else◌, List, [], ◌∷◌, ◌++◌, Option, Some, None, slice_get}
 use Rattle.isa8080.specs.declared.instr.Instr.TheVariants.{Inx}
 use Rattle.isa8080.specs.declared.instr.Pair.TheVariants.{Hl}
@@ -29,20 +29,20 @@ use Rattle.statements8080.specs.declared.plan.Planned.TheVariants as planned
 use Rattle.codegen8080.specs.declared.meeting.Here.{Here}
 use Rattle.codegen8080.specs.Statements.{statement_steps}
 
--- where the code of a body stands
+-- the site of a body, without facts about the registers
 abbrev pub site_of : Body → Site
 site_of body = record { tree = body.tree; frame = body.frame; facts = no_facts }
 
--- what is known there, if the code comes there
+-- the facts at the end of code, if the end can be reached
 abbrev pub known_here : Here → Option Facts
 known_here here = if here.goes_on then Some here.facts else None
 
--- a place to which code comes where this is known, if it comes there
+-- a point that code reaches with these facts, if any
 abbrev pub arriving : Option Facts → Here
 arriving (Some facts) = record { facts = facts; goes_on = true }
 arriving None = record { facts = no_facts; goes_on = false }
 
--- what is known by both of two facts
+-- the location, if both are the same
 abbrev pub common_location : (one other : Option Location) → Option Location
 common_location (Some one) (Some other) = if same_location one other then Some one else None
 common_location one other = None
@@ -55,21 +55,20 @@ common one other = record {
   zero_shows_a = one.zero_shows_a && other.zero_shows_a;
 }
 
--- what is known where code comes from two places, if it comes from them
+-- the facts at a point that two paths may reach; none if neither path does
 abbrev pub met : (one other : Option Facts) → Option Facts
 met (Some one) (Some other) = Some (common one other)
 met (Some one) None = Some one
 met None other = other
 
--- facts of A alone, and of HL alone
+-- facts about A alone, and about HL alone
 abbrev pub byte_in_a : Location → Facts
 byte_in_a location = record no_facts { byte_in_a = Some location }
 
 abbrev pub word_in_hl : Location → Facts
 word_in_hl location = record no_facts { word_in_hl = Some location }
 
--- the byte at the address of a reference comes into A, by its location: LDA, or MOV A,M where its address is
--- in HL already or is to come there
+-- puts the byte at the address of a reference into A, by its location: LDA, or MOV A,M with its address in HL
 abbrev pub byte_at_address_steps : Reference → List Step
 byte_at_address_steps reference = part (tasks.Address reference) 0 ∷ steps.Plain (load A) ∷ []
 
@@ -79,7 +78,7 @@ byte_at_steps facts reference (Static place) =
     else steps.Word LoadA place ∷ []
 byte_at_steps facts reference (Frame variable offset) = byte_at_address_steps reference
 
--- a BYTE that lies at a location comes into A, where it is not there
+-- puts a BYTE at a location into A, unless A holds it
 unfoldable pub load_byte_steps : Site → Reference → List Step
 load_byte_steps site reference = elim (location_of site reference) [
   | Some location ↦
@@ -88,7 +87,7 @@ load_byte_steps site reference = elim (location_of site reference) [
   | None ↦ []
 ]
 
--- the word at the address of a reference comes into HL, by its location: LHLD, or byte by byte
+-- puts the word at the address of a reference into HL, by its location: LHLD, or byte by byte
 abbrev pub frame_word_steps : Reference → List Step
 frame_word_steps reference =
     part (tasks.Address reference) 0
@@ -102,7 +101,7 @@ abbrev pub word_at_steps : Reference → Location → List Step
 word_at_steps reference (Static place) = steps.Word LoadHl place ∷ []
 word_at_steps reference (Frame variable offset) = frame_word_steps reference
 
--- an ADDRESS that lies at a location comes into HL, where it is not there
+-- puts an ADDRESS at a location into HL, unless HL holds it
 unfoldable pub load_word_steps : Site → Reference → List Step
 load_word_steps site reference = elim (location_of site reference) [
   | Some location ↦
@@ -111,12 +110,12 @@ load_word_steps site reference = elim (location_of site reference) [
   | None ↦ []
 ]
 
--- a jump to a label, where the code goes on
+-- a jump to a label, if the end of the code can be reached
 abbrev pub jump_on_steps : (goes_on : Bool) → LabelNumber → List Step
 jump_on_steps true label = steps.Jump Jump label ∷ []
 jump_on_steps false label = []
 
--- the steps of expressions that a planned step is, where the code is here
+-- the expression steps of a planned step, from this end of the code
 unfoldable pub carried_steps : Site → Here → Planned → List Step
 carried_steps site here (planned.Code step) = step ∷ []
 carried_steps site here (planned.LoadByte reference) = load_byte_steps (knowing site here.facts) reference
@@ -127,8 +126,8 @@ carried_steps site here (planned.Meet label) = steps.Mark label ∷ []
 carried_steps site here (planned.Again label facts is_entered) = steps.Mark label ∷ []
 carried_steps site here step = []
 
--- Where the code is after them, by what is known at their end, and what is known where the code before `Jumped` jumps,
--- which waits for the next label of `Turn` or `Meet`.
+-- The end of the code after them, from the facts there and the waiting facts: those at the label to which the
+-- code before `Jumped` jumps, which is the next label of `Turn` or `Meet`.
 unfoldable pub here_after : Here → (waiting : Option Facts) → (known : Facts) → Planned → Here
 here_after here waiting known (planned.Turn other end) = arriving waiting
 here_after here waiting known (planned.Meet label) = arriving (met (known_here here) waiting)
@@ -137,22 +136,22 @@ here_after here waiting known (planned.Again label facts is_entered) =
 here_after here waiting known (planned.Reaches goes_on) = record { facts = known; goes_on = goes_on }
 here_after here waiting known step = record { facts = known; goes_on = here.goes_on }
 
--- what waits after them
+-- the waiting facts after them
 unfoldable pub waiting_after : Here → (waiting : Option Facts) → Planned → Option Facts
 waiting_after here waiting (planned.Jumped is_the_only_one) =
     Some (if is_the_only_one then here.facts else no_facts)
 waiting_after here waiting (planned.Turn other end) = known_here here
 waiting_after here waiting step = waiting
 
--- a planned step is no statement and no list of such
+-- a planned step is neither a statement nor a list of statements
 abbrev pub HoldsNoStatement : Planned → Type 0
 HoldsNoStatement (planned.Statement number) = ⊥
 HoldsNoStatement (planned.List list) = ⊥
 HoldsNoStatement step = Unit {0}
 
 mutual
-  -- Planned steps where the code is here, and this waits: the items of their code, and where the code is after them. The
-  -- table has the routines that are called.
+  -- Planned steps, from this end of the code and these waiting facts: the items of their code, and the end of
+  -- the code after them. The table marks the routines that are called.
   pub data AreCarriedOut (body : Body) (called : List Bool) :
       Here → (waiting : Option Facts) → List Planned → List Item → Here → Type 0 where
     NoneCarriedOut : {here : Here} {waiting : Option Facts} → AreCarriedOut body called here waiting [] [] here
@@ -174,8 +173,8 @@ mutual
         → AreCarriedOut body called middle waiting others more last
         → AreCarriedOut body called here waiting (planned.List list ∷ others) (first ++ more) last
 
-  -- a statement, whose steps are planned where this is known, with labels from a number on: which one,
-  -- `IsStatementLabelled` says
+  -- a statement with steps that are planned from these facts, with labels from a number on (see
+  -- `IsStatementLabelled`)
   pub data IsCarriedOut (body : Body) (called : List Bool) :
       Facts → StatementNumber → List Item → Here → Type 0 where
     StatementPlanned : {facts : Facts} {number : StatementNumber} {statement : TreeStatement}
@@ -192,7 +191,7 @@ mutual
         range.first range.count list last
         → IsListCarriedOut body called facts range list last
 
-  -- so many statements of the table of lists, from an entry on
+  -- `count` statements of the table of lists, from an entry on
   pub data AreAllCarriedOut (body : Body) (called : List Bool) :
       Here → (first count : ℕ) → List Item → Here → Type 0 where
     NoStatements : {here : Here} {first : ℕ} → AreAllCarriedOut body called here first 0 [] here

@@ -1,4 +1,4 @@
--- Which labels the code of statements has: they are counted in the order of the code.
+-- The labels of the code of statements: they are counted in the order of the code.
 use Rattle.std.specs.Prelude.{◌≡◌, ℕ, Bool, List, Option}
 use Rattle.asm8080.specs.declared.item.Item.{Item}
 use Rattle.treecode.specs.declared.lists.Range.{Range}
@@ -14,8 +14,8 @@ use Rattle.codegen8080.specs.Generated.{AreAllCarriedOut, AreCarriedOut, IsCarri
 use Rattle.codegen8080.specs.Statements.{statement_labels}
 
 abbrev mutual
-  -- The labels of planned steps follow each other from this one on, and the next one is not taken: a statement takes its
-  -- own, and then its parts theirs.
+  -- The labels of planned steps are consecutive from `label` on, up to the next one that is not taken. A
+  -- statement takes its own labels first, and then those of its parts.
   pub AreStepsLabelled :
       {body : Body} {called : List Bool} {here last : Here} {waiting : Option Facts} {list : List Planned}
       {items : List Item}
@@ -28,7 +28,7 @@ abbrev mutual
   AreStepsLabelled (ListCarriedOut first others) label next =
       (middle : ℕ) × IsListLabelled first label middle × AreStepsLabelled others middle next
 
-  -- those of a statement
+  -- the labels of a statement
   pub IsStatementLabelled :
       {body : Body} {called : List Bool} {facts : Facts} {number : StatementNumber} {items : List Item} {last : Here}
       → IsCarriedOut body called facts number items last → (label next : ℕ) → Type 0
@@ -36,13 +36,13 @@ abbrev mutual
       (at ≡ label)
       × AreStepsLabelled steps (label_after label (statement_labels body (knowing (site_of body) facts) statement)) next
 
-  -- of the statements of a list
+  -- the labels of the statements of a list
   pub IsListLabelled :
       {body : Body} {called : List Bool} {facts : Facts} {range : Range} {items : List Item} {last : Here}
       → IsListCarriedOut body called facts range items last → (label next : ℕ) → Type 0
   IsListLabelled (ListPlanned all) label next = AreAllLabelled all label next
 
-  -- and of so many statements one after another
+  -- the labels of consecutive statements
   pub AreAllLabelled :
       {body : Body} {called : List Bool} {here last : Here} {first count : ℕ} {items : List Item}
       → AreAllCarriedOut body called here first count items last → (label next : ℕ) → Type 0
@@ -50,7 +50,7 @@ abbrev mutual
   AreAllLabelled (MoreStatements found first others) label next =
       (middle : ℕ) × IsStatementLabelled first label middle × AreAllLabelled others middle next
 
--- planned steps, a statement, a list and so many statements with these labels
+-- planned steps, a statement, a list and consecutive statements, with these labels
 abbrev pub LabelledSteps :
     (body : Body) (called : List Bool) (here : Here) (waiting : Option Facts) (list : List Planned)
     (items : List Item) (last : Here) (label next : ℕ)

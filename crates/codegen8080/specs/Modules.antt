@@ -1,5 +1,5 @@
--- What the object module of a module is: the items of its code and of its data, how these are bytes of its segments, and
--- its names.
+-- The object module of a module: the items of its code and of its data, the bytes of its segments, and its
+-- names.
 use Rattle.std.specs.Prelude.{◌≡◌, ℕ, suc, nat_lt, Bool, true, false, if◌then◌else◌, List, [], ◌∷◌, ◌++◌, flat_map, Option, Some, None, slice_get}
 use Rattle.isa8080.specs.declared.instr.Instr.TheVariants.{Hlt}
 use Rattle.isa8080.specs.declared.instr.Pair.TheVariants.{Sp}
@@ -43,13 +43,13 @@ use Rattle.codegen8080.specs.Labelled.{AreStepsLabelled, IsListLabelled}
 use Rattle.codegen8080.specs.Procedures.{end_steps, entry_labels, entry_steps}
 use Rattle.codegen8080.specs.Targets.{with_targets}
 
--- the items of what stands in a segment
+-- the items of a piece of a segment
 abbrev pub content_items : Content → List Item
 content_items (contents.Byte value) = items.Byte value ∷ []
 content_items (contents.Word place) = address_items place
 content_items (contents.Gap count) = items.Gap count ∷ []
 
--- and of all of it, from the start of the segment on
+-- the items of the contents of a segment
 abbrev pub contents_items : List Content → List Item
 contents_items contents = flat_map content_items contents
 
@@ -57,7 +57,8 @@ contents_items contents = flat_map content_items contents
 abbrev pub has_main : TreeModule → Bool
 has_main tree = nat_lt 0 tree.main.body.count
 
--- The code of a main program, from its label on: the stack begins at its end, and after its statements the machine halts.
+-- The code of a main program, from its label on: it sets the stack pointer to the end of the stack, carries
+-- out its statements, and halts.
 pub record IsMainCode (tree : TreeModule) (called : List Bool) (start : ℕ) (list : List Item) : Type 0 where
   pub body : Body
   pub tree_is : body.tree.now ≡ tree
@@ -70,25 +71,25 @@ pub record IsMainCode (tree : TreeModule) (called : List Bool) (start : ℕ) (li
       list
       ≡ items.Mark start ∷ stack_end_item (LoadPair Sp) ∷ (statements ++ (items.Plain Hlt ∷ []))
 
--- where there is one
+-- the same, if there is a main program
 abbrev pub IsCodeOfMain :
     TreeModule → (called : List Bool) → (start : ℕ) → (is_there : Bool) → List Item → Type 0
 IsCodeOfMain tree called start true list = IsMainCode tree called start list
 IsCodeOfMain tree called start false list = list ≡ []
 
--- the plan of the frame with which the code of a procedure is made
+-- the plan of the frame with which the code of a procedure is generated
 pub record IsFrameOf (procedure : TreeProcedure) (plan : FramePlan) : Type 0 where
   pub planned : procedure.kind ≡ kinds.Reentrant → HasFrame procedure → IsPlanOf procedure plan
   pub apart : procedure.kind ≡ kinds.Reentrant → HasFrame procedure → LiesApart procedure plan
   pub empty : (procedure.kind ≡ kinds.Reentrant → ⊥) → HasNothing plan
 
--- the code of the end of a procedure, where it is reached
+-- the code of the end of a procedure, if it can be reached
 abbrev pub IsEndCode : Body → (called : List Bool) → Here → (is_reached : Bool) → List Item → Type 0
 IsEndCode body called here true list =
     (last : Here) × AreCarriedOut body called here None (end_steps body) list last
 IsEndCode body called here false list = list ≡ []
 
--- The code of a procedure, from its label on: how it begins, its statements, and how it ends.
+-- The code of a procedure, from its label on: its entry, its statements, and its end.
 pub record IsProcedureCode
     (tree : TreeModule) (called : List Bool) (number : ℕ) (procedure : TreeProcedure) (list : List Item) :
     Type 0 where
@@ -109,13 +110,13 @@ pub record IsProcedureCode
   pub ends : IsEndCode body called last procedure.reaches_its_end ending
   pub list_is : list ≡ items.Mark number ∷ (beginning ++ (statements ++ ending))
 
--- that of any; an EXTERNAL one has none
+-- the code of any procedure; an EXTERNAL one has none
 abbrev pub IsCodeOf :
     TreeModule → (called : List Bool) → (number : ℕ) → TreeProcedure → ProcedureKind → List Item → Type 0
 IsCodeOf tree called number procedure (kinds.External name) list = list ≡ []
 IsCodeOf tree called number procedure kind list = IsProcedureCode tree called number procedure list
 
--- the code of procedures one after another, which are numbered from here on
+-- the code of procedures one after another, numbered from `number` on
 abbrev pub AreCodeOf :
     TreeModule → (called : List Bool) → (number : ℕ) → List TreeProcedure → List Item → Type 0
 AreCodeOf tree called number [] list = list ≡ []
@@ -126,7 +127,7 @@ AreCodeOf tree called number (procedure ∷ others) list =
     × AreCodeOf tree called (suc number) others more
     × (list ≡ first ++ more)
 
--- what a code segment begins with: the constants, the main program and the procedures
+-- the start of a code segment: the constants, the main program and the procedures
 pub record IsOwnCode (tree : TreeModule) (called : List Bool) (start : ℕ) (list : List Item) : Type 0 where
   pub main : List Item
   pub procedures : List Item
@@ -134,28 +135,29 @@ pub record IsOwnCode (tree : TreeModule) (called : List Bool) (start : ℕ) (lis
   pub procedures_are : AreCodeOf tree called 0 tree.procedures.items procedures
   pub list_is : list ≡ contents_items tree.constants.items ++ (main ++ procedures)
 
--- the labels of the end of a procedure, where it is reached
+-- the labels of the end of a procedure, if it can be reached
 abbrev pub IsEndLabelled :
     (body : Body) (called : List Bool) (here : Here) (is_reached : Bool) (items : List Item)
     → IsEndCode body called here is_reached items → (label next : ℕ) → Type 0
 IsEndLabelled body called here true items code label next = AreStepsLabelled code.1 label next
 IsEndLabelled body called here false items code label next = next ≡ label
 
--- The labels of a main program: those that its source names, and then those of its statements.
+-- The labels of a main program: those that its source declares, and then those of its statements.
 pub record IsMainLabelled
     {tree : TreeModule} {called : List Bool} {start : ℕ} {items : List Item}
     (code : IsMainCode tree called start items) (label next : ℕ) : Type 0 where
   pub named : code.body.first_label ≡ label_of label
   pub written : IsListLabelled code.written (label_after label tree.main.label_count) next
 
--- where there is one
+-- the same, if there is a main program
 abbrev pub IsCodeOfMainLabelled :
     (tree : TreeModule) (called : List Bool) (start : ℕ) (is_there : Bool) (items : List Item)
     → IsCodeOfMain tree called start is_there items → (label next : ℕ) → Type 0
 IsCodeOfMainLabelled tree called start true items code label next = IsMainLabelled code label next
 IsCodeOfMainLabelled tree called start false items code label next = next ≡ label
 
--- The labels of a procedure: those that its source names, and then those of its beginning, its statements and its end.
+-- The labels of a procedure: those that its source declares, and then those of its entry, its statements and
+-- its end.
 pub record IsProcedureLabelled
     {tree : TreeModule} {called : List Bool} {number : ℕ} {procedure : TreeProcedure} {items : List Item}
     (code : IsProcedureCode tree called number procedure items) (label next : ℕ) : Type 0 where
@@ -168,7 +170,7 @@ pub record IsProcedureLabelled
   pub ends :
       IsEndLabelled code.body called code.last procedure.reaches_its_end code.ending code.ends ended next
 
--- of any: an EXTERNAL one has no code, and takes no label
+-- the labels of any procedure: an EXTERNAL one has no code, and takes no label
 abbrev pub IsCodeLabelled :
     (tree : TreeModule) (called : List Bool) (number : ℕ) (procedure : TreeProcedure) (kind : ProcedureKind)
     (items : List Item)
@@ -177,7 +179,7 @@ IsCodeLabelled tree called number procedure (kinds.External name) items code lab
 IsCodeLabelled tree called number procedure kinds.Static items code label next = IsProcedureLabelled code label next
 IsCodeLabelled tree called number procedure kinds.Reentrant items code label next = IsProcedureLabelled code label next
 
--- of procedures one after another
+-- the labels of procedures one after another
 abbrev pub AreProceduresLabelled :
     (tree : TreeModule) (called : List Bool) (number : ℕ) (procedures : List TreeProcedure) (items : List Item)
     → AreCodeOf tree called number procedures items → (label next : ℕ) → Type 0
@@ -187,8 +189,8 @@ AreProceduresLabelled tree called number (procedure ∷ others) items code label
     × IsCodeLabelled tree called number procedure procedure.kind code.0 code.2 label middle
     × AreProceduresLabelled tree called (suc number) others code.1 code.3 middle next
 
--- The labels of a module's own code: of its main program, and then of its procedures, after those of the entries of the
--- procedures, of the routines, and of the main program's entry.
+-- The labels of a module's own code: of its main program, and then of its procedures. The labels before them
+-- are those of the entries of the procedures, of the routines, and of the main program's entry.
 pub record IsOwnLabelled
     {tree : TreeModule} {called : List Bool} {start : ℕ} {items : List Item}
     (code : IsOwnCode tree called start items) (next : ℕ) : Type 0 where
@@ -198,7 +200,7 @@ pub record IsOwnLabelled
   pub procedures :
       AreProceduresLabelled tree called 0 tree.procedures.items code.procedures code.procedures_are begun next
 
--- the routines in the order in which they stand
+-- the routines in the order of their code
 abbrev pub all_routines : List Routine
 all_routines =
     routines.Multiply
@@ -212,8 +214,8 @@ all_routines =
     ∷ routines.Move
     ∷ []
 
--- A routine that is called, after its label, which the code has by a number of its own. The labels of its listing are
--- known to nobody else.
+-- A routine that is called, after its label, for which the code has a number of its own. No other code refers
+-- to the labels of its listing.
 pub record IsRoutineCode
     (tree : TreeModule) (written : Written) (routine : Routine) (list : List Item) : Type 0 where
   pub label : ℕ
@@ -223,13 +225,13 @@ pub record IsRoutineCode
   pub size : size_of_items listing ≡ size_of_routine routine
   pub list_is : list ≡ items.Mark label ∷ listing
 
--- where it is called
+-- the same, if it is called
 abbrev pub IsCodeOfRoutine :
     TreeModule → Written → Routine → (is_called : Bool) → List Item → Type 0
 IsCodeOfRoutine tree written routine true list = IsRoutineCode tree written routine list
 IsCodeOfRoutine tree written routine false list = list ≡ []
 
--- routines one after another, of which those that are called are there
+-- routines one after another; only those that are called have code
 abbrev pub AreRoutines :
     TreeModule → (called : List Bool) → Written → List Routine → List Item → Type 0
 AreRoutines tree called written [] list = list ≡ []
@@ -240,9 +242,9 @@ AreRoutines tree called written (routine ∷ others) list =
     × AreRoutines tree called written others more
     × (list ≡ first ++ more)
 
--- Code as it was written: its items are those of the module, by the numbers that the code has for labels and names, and
--- the routines that are called. The labels of the module's items are counted in their order. Items of the module refer to
--- each name that has a number, and call each of the routines.
+-- Code as it was written: its items are those of the module, with the code's numbers for labels and names,
+-- and those of the routines that are called. The labels of the module's items are counted in their order.
+-- Items of the module refer to each name that has a number, and call each of the routines.
 pub record IsCodeWritten (tree : TreeModule) (start : ℕ) (written : Written) : Type 0 where
   pub called : List Bool
   pub own : List Item
@@ -257,9 +259,9 @@ pub record IsCodeWritten (tree : TreeModule) (start : ℕ) (written : Written) :
   pub names : (name number : ℕ) → entry written.externals name ≡ Some number → use_name name own ≡ true
   pub calls : (routine : Routine) → has_routine called routine ≡ true → call_routine tree routine own ≡ true
 
--- What was written is a segment of an object module, with these targets of its fixes. Resolved, its bytes are the items
--- where they stand from the address of the code segment on: code does wherever it is placed. Of data, which lie
--- elsewhere, that says what the bytes are before they are resolved, and where the fixes are.
+-- The code that was written is a segment of an object module, with these targets of its fixes. For code, its
+-- resolved bytes are the items at their places from the address of the code segment on, wherever that is. For
+-- data, which are placed elsewhere, this gives the bytes before they are resolved, and the fixes.
 pub record IsSegmentOf
     (written : Written) (bytes : Assembled) (to : Target → Target) (segment : Places) : Type 0 where
   pub assembles : Assembles written.code bytes
@@ -267,7 +269,8 @@ pub record IsSegmentOf
   pub same : segment.places ≡ places_of (with_targets to bytes)
   pub alignment : segment.alignment ≡ OnByte
 
--- A name that code knows by a number is one of the external names of an object module, which the target of that number is.
+-- The EXTERNAL name with a number in the code is one of the external names of an object module, and the
+-- target of that number.
 pub record IsNamed
     (externals : List ExternalName) (listed : List (List ℕ)) (to : Target → Target) (index number : ℕ) :
     Type 0 where
@@ -277,7 +280,7 @@ pub record IsNamed
   pub target : to (External number) ≡ External place
   pub found : slice_get listed place ≡ Some external.name
 
--- targets that code knows as an object module has them: its segments, and external names by their places among these
+-- targets in an object module: its segments, and external names by their places among them
 pub record AreTargets
     (externals : List ExternalName) (numbers : List (Option ℕ)) (listed : List (List ℕ))
     (to : Target → Target) : Type 0 where
@@ -294,7 +297,7 @@ used_names numbers [] = []
 used_names (None ∷ numbers) (external ∷ externals) = used_names numbers externals
 used_names (Some number ∷ numbers) (external ∷ externals) = external.name ∷ used_names numbers externals
 
--- a public of an object of the module stands for where that lies
+-- a public of an object of the module has the place of that object
 abbrev pub IsAtPlace : (name : List ℕ) → Place → Public → Type 0
 IsAtPlace name (places.Number number) public =
     public ≡ record { segment = segments.Absolute; offset = number; name = name }
@@ -304,7 +307,7 @@ IsAtPlace name (places.Data offset) public =
     public ≡ record { segment = segments.Data; offset = offset; name = name }
 IsAtPlace name (places.External offset index) public = ⊥
 
--- and one of a procedure for where its code begins
+-- a public of a procedure has the place at which its code begins
 abbrev pub IsPublicOf : Written → Assembled → (name : List ℕ) → PublicPlace → Public → Type 0
 IsPublicOf written bytes name (Object place) public = IsAtPlace name place public
 IsPublicOf written bytes name (Procedure number) public =
@@ -330,7 +333,7 @@ pub record IsGenerated (tree : TreeModule) (object : ObjectModule) : Type 0 wher
   pub variables : Written
   pub variable_bytes : Assembled
   pub variables_are : numbered variables (contents_items tree.variables.items) ≡ Some variables.code.items
-  -- both know the same names, by the same numbers
+  -- code and data refer to the same names, by the same numbers
   pub grown : Extends code.externals variables.externals
   -- the external names are those that code or data refer to, in the order of the text
   pub externals : object.externals ≡ used_names variables.externals tree.externals.items
@@ -346,6 +349,6 @@ pub record IsGenerated (tree : TreeModule) (object : ObjectModule) : Type 0 wher
   pub stack : object.stack_length ≡ 0
   -- the PUBLIC names, in the order of the text
   pub publics : ArePublicsOf code code_bytes tree.publics.items object.publics
-  -- a module with a main program starts where that begins
+  -- a module with a main program starts at its entry
   pub start : object.start
       ≡ (if has_main tree then Some (place_of_label code code_bytes start_label) else None)

@@ -1,4 +1,4 @@
--- How procedures take their arguments and how they return.
+-- Entries, arguments and returns of procedures.
 use Rattle.std.specs.Prelude.{ℕ, zero, suc, ◌+◌, ◌-◌, ◌/◌, ◌%◌, min, Bool, true, false, if◌then◌else◌, nat_eq, nat_le, slice_get, take, length, List, [], ◌∷◌, ◌++◌, Option, Some, None, replicate}
 use Rattle.isa8080.specs.declared.instr.Condition.TheVariants.{NotZero}
 use Rattle.isa8080.specs.declared.instr.Instr.{Instr}
@@ -28,35 +28,35 @@ use Rattle.statements8080.specs.declared.plan.Planned.{Planned}
 use Rattle.statements8080.specs.Plans.{all, holds, jump, mark, plain, word}
 use Rattle.codegen8080.specs.declared.procedures.TheConstants.{POPPED_BYTES, PUSHED_WORDS}
 
--- so many words are dropped from the stack, where BC is not wanted
+-- drops `words` words from the stack; BC is overwritten
 unfoldable pub pops_steps : (words : ℕ) → List Planned
 pops_steps words = replicate words (plain (Pop StackBc))
 
--- HL is kept in DE along steps, where a result is there
+-- keeps HL in DE during the steps, if it holds a result
 unfoldable pub kept_steps : (result : Option ScalarType) → List Instr → List Planned
 kept_steps (Some Address) instructions = plain Xchg ∷ (all instructions ++ (plain Xchg ∷ []))
 kept_steps result instructions = all instructions
 
--- so many bytes are dropped from the stack; the result stays where it is
+-- drops `bytes` bytes from the stack; the result stays in its register
 unfoldable pub drop_steps : (bytes : ℕ) → (result : Option ScalarType) → List Planned
 drop_steps bytes result =
     if nat_le bytes POPPED_BYTES then pops_steps (bytes / 2) ++ replicate (bytes % 2) (plain (Inx Sp))
     else kept_steps result (Lxi Hl bytes ∷ Dad Sp ∷ Sphl ∷ [])
 
--- a return over so many words of arguments above the return address, one or more; the result stays where it
--- is
+-- a return over `words` words of arguments (at least one) above the return address; the result stays in its
+-- register
 unfoldable pub return_over_steps : (words : ℕ) → (result : Option ScalarType) → List Planned
 return_over_steps words (Some Address) =
     plain (Pop StackDe) ∷ (pops_steps words ++ (plain (Push StackDe) ∷ plain Ret ∷ []))
 return_over_steps words result = plain (Pop StackHl) ∷ (pops_steps words ++ (plain Pchl ∷ []))
 
--- a return over any words
+-- a return over any number of words
 unfoldable pub return_over_any_steps : (words : ℕ) → (result : Option ScalarType) → List Planned
 return_over_any_steps words result =
     if nat_eq words 0 then plain Ret ∷ [] else return_over_steps words result
 
--- the frame of a REENTRANT procedure is dropped with the arguments: its variables and the last argument lie
--- below the return address, the other arguments above it
+-- drops the frame of a REENTRANT procedure with the arguments: its variables and the last argument are below
+-- the return address, the other arguments above it
 unfoldable pub return_of_frame_steps : Body → List Planned
 return_of_frame_steps body =
     let count = body.frame.now.parameter_count in
@@ -64,7 +64,7 @@ return_of_frame_steps body =
     drop_steps (min (body.frame.now.variable_bytes + (if nat_eq count 0 then 0 else 2)) 65535) result
     ++ return_over_any_steps (count - 1) result
 
--- a return, with the result where it is to be
+-- a return, with the result in its register
 unfoldable pub return_steps_by : ProcedureKind → Body → List Planned
 return_steps_by Reentrant body = return_of_frame_steps body
 return_steps_by kind body = plain Ret ∷ []
@@ -72,7 +72,7 @@ return_steps_by kind body = plain Ret ∷ []
 abbrev pub return_steps : Body → List Planned
 return_steps body = return_steps_by body.procedure.now.kind body
 
--- the end of a procedure that is reached: a result is 0
+-- the end of a procedure, if it can be reached: the result is 0
 unfoldable pub zero_result_steps : (result : Option ScalarType) → List Planned
 zero_result_steps (Some Byte) = plain clear_a ∷ []
 zero_result_steps (Some Address) = plain (Lxi Hl 0) ∷ []
@@ -86,7 +86,7 @@ abbrev pub place_in_memory : Location → Place
 place_in_memory (Static place) = place
 place_in_memory (Frame variable offset) = Number 0
 
--- an argument in A or HL goes to its parameter
+-- stores an argument in A or HL in its parameter
 abbrev pub store_argument : ScalarType → Location → Planned
 store_argument Byte location = word StoreA (place_in_memory location)
 store_argument Address location = word StoreHl (place_in_memory location)
@@ -94,7 +94,7 @@ store_argument Address location = word StoreHl (place_in_memory location)
 abbrev pub argument_step : Parameter → Planned
 argument_step parameter = store_argument parameter.scalar parameter.location
 
--- what is known of a parameter whose argument is in A or HL
+-- the facts about a parameter with its argument in A or HL
 abbrev pub argument_facts : ScalarType → Location → Facts → Facts
 argument_facts Byte location facts = record facts { byte_in_a = Some location }
 argument_facts Address location facts = record facts { word_in_hl = Some location }
@@ -102,28 +102,28 @@ argument_facts Address location facts = record facts { word_in_hl = Some locatio
 abbrev pub with_argument : Facts → Parameter → Facts
 with_argument facts parameter = argument_facts parameter.scalar parameter.location facts
 
--- the register in which a value of a type is on the stack
+-- the register pair that a value of a type is pushed from
 abbrev pub pair_of : ScalarType → StackPair
 pair_of Byte = Psw
 pair_of Address = StackHl
 
--- an argument on the stack goes to its parameter
+-- pops an argument into its parameter
 abbrev pub popped_argument_steps : Parameter → List Planned
 popped_argument_steps parameter = plain (Pop (pair_of parameter.scalar)) ∷ argument_step parameter ∷ []
 
--- the argument on the stack goes to the parameter of an index
+-- pops the argument of the parameter at an index
 unfoldable pub popped_at : List Parameter → (index : ℕ) → List Planned
 popped_at parameters index = elim (slice_get parameters index) [
   | Some parameter ↦ popped_argument_steps parameter
   | None ↦ []
 ]
 
--- arguments on the stack go to the first so many parameters, from the last of these on
+-- pops arguments into the first `count` parameters, the last one first
 unfoldable pub popped_from : List Parameter → (count : ℕ) → List Planned
 popped_from parameters zero = []
 popped_from parameters (suc others) = popped_at parameters others ++ popped_from parameters others
 
--- what is known after that
+-- the facts after that
 unfoldable pub known_at : Facts → List Parameter → (index : ℕ) → Facts
 known_at facts parameters index = elim (slice_get parameters index) [
   | Some parameter ↦ with_argument facts parameter
@@ -134,8 +134,8 @@ unfoldable pub known_from : Facts → List Parameter → (count : ℕ) → Facts
 known_from facts parameters zero = facts
 known_from facts parameters (suc others) = known_from (known_at facts parameters others) parameters others
 
--- the same for all parameters, with the return address above them, which is in DE meanwhile; a single ADDRESS takes its
--- place by XTHL
+-- the same for all parameters; the return address is above the arguments, and in DE meanwhile; a single
+-- ADDRESS is exchanged with it by XTHL
 unfoldable pub pushed_arguments_steps : List Parameter → List Planned
 pushed_arguments_steps parameters =
     plain (Pop StackDe) ∷ (popped_from parameters (length parameters) ++ (plain (Push StackDe) ∷ []))
@@ -154,8 +154,8 @@ below_return_steps (parameter ∷ []) =
     else pushed_arguments_steps (parameter ∷ [])
 below_return_steps (first ∷ next ∷ others) = pushed_arguments_steps (first ∷ next ∷ others)
 
--- the arguments of a procedure that is not REENTRANT go to its parameters: the last one, which is in A or HL,
--- then those on the stack
+-- stores the arguments of a procedure that is not REENTRANT in its parameters: first the last one, which is
+-- in A or HL, then those on the stack
 unfoldable pub stores_steps : (last : Parameter) → (others : List Parameter) → List Planned
 stores_steps last others =
     argument_step last
@@ -168,14 +168,14 @@ static_entry_steps parameters = elim (slice_get parameters (length parameters - 
   | None ↦ holds no_facts ∷ []
 ]
 
--- DE is pushed four times a turn, in a loop of so many turns
+-- pushes DE four times per turn, in a loop of `turns` turns
 unfoldable pub push_loop_steps : (turns : ℕ) → (again : LabelNumber) → List Planned
 push_loop_steps turns again =
     plain (Mvi (Of B) turns)
     ∷ mark again
     ∷ (replicate 4 (plain (Push StackDe)) ++ (plain (Dcr (Of B)) ∷ jump (JumpWhere NotZero) again ∷ []))
 
--- DE is pushed so many times, by a loop where that is less code; a REENTRANT procedure has at most 1024 bytes of
+-- pushes DE `words` times, by a loop if that is less code; a REENTRANT procedure has at most 1024 bytes of
 -- variables
 unfoldable pub pushes_steps : (words first : ℕ) → List Planned
 pushes_steps words first =
@@ -189,7 +189,7 @@ pushes_labels words = if nat_le words PUSHED_WORDS then 0 else 1
 unfoldable pub odd_byte_steps : (bytes : ℕ) → List Planned
 odd_byte_steps bytes = if nat_eq (bytes % 2) 1 then plain (Push StackDe) ∷ plain (Inx Sp) ∷ [] else []
 
--- so many bytes of zeros are pushed; A and HL stay as they are
+-- pushes `bytes` bytes of zeros; A and HL are kept
 unfoldable pub zeros_steps : (bytes first : ℕ) → List Planned
 zeros_steps bytes first =
     if nat_eq bytes 0 then []
@@ -198,7 +198,7 @@ zeros_steps bytes first =
 unfoldable pub zeros_labels : (bytes : ℕ) → ℕ
 zeros_labels bytes = if nat_eq bytes 0 then 0 else pushes_labels (bytes / 2)
 
--- the last argument of a REENTRANT procedure is pushed, and stays in A or HL
+-- pushes the last argument of a REENTRANT procedure, which stays in A or HL
 unfoldable pub last_argument_steps : List Parameter → List Planned
 last_argument_steps parameters = elim (slice_get parameters (length parameters - 1)) [
   | Some last ↦ plain (Push (pair_of last.scalar)) ∷ []
@@ -211,13 +211,13 @@ last_argument_facts parameters = elim (slice_get parameters (length parameters -
   | None ↦ no_facts
 ]
 
--- the frame of a REENTRANT procedure is made: its last argument, and zeros for its variables
+-- makes the frame of a REENTRANT procedure: its last argument, and zeros for its variables
 unfoldable pub frame_entry_steps : List Parameter → (bytes first : ℕ) → List Planned
 frame_entry_steps parameters bytes first =
     last_argument_steps parameters
     ++ (zeros_steps bytes first ++ (holds (last_argument_facts parameters) ∷ []))
 
--- how a procedure begins
+-- the entry of a procedure
 unfoldable pub entry_steps_by : ProcedureKind → Body → (first : ℕ) → List Planned
 entry_steps_by Reentrant body first =
     frame_entry_steps body.procedure.now.parameters.items body.frame.now.variable_bytes first
@@ -226,7 +226,7 @@ entry_steps_by kind body first = static_entry_steps body.procedure.now.parameter
 abbrev pub entry_steps : Body → (first : ℕ) → List Planned
 entry_steps body first = entry_steps_by body.procedure.now.kind body first
 
--- how many labels that takes
+-- the number of labels that it takes
 unfoldable pub entry_labels_by : ProcedureKind → Body → ℕ
 entry_labels_by Reentrant body = zeros_labels body.frame.now.variable_bytes
 entry_labels_by kind body = 0

@@ -1,4 +1,4 @@
--- Why a module has no object module.
+-- The reasons for which a module has no object module.
 use Rattle.std.specs.Prelude.{◌≡◌, ◌≤◌, ◌+◌, ℕ, Some}
 use Rattle.object_modules.specs.declared.segment.TheConstants.{SEGMENT_LIMIT}
 use Rattle.asm8080.specs.Items.{size_of_items}
@@ -9,11 +9,11 @@ use Rattle.codegen8080.specs.declared.fault.Fault.{Fault}
 use Rattle.codegen8080.specs.declared.fault.Fault.TheVariants.{TooLong}
 use Rattle.codegen8080.specs.Modules.{IsCodeWritten, contents_items}
 
--- items that were written are no segment: they take more bytes than one may have
+-- items are not a segment, because they take more bytes than a segment may have
 abbrev pub IsNoSegment : Fault → Written → Type 0
 IsNoSegment TooLong written = SEGMENT_LIMIT + 1 ≤ size_of_items written.code.items
 
--- A module is refused only where its code as it is written is no segment, or its data after it are none.
+-- A module is refused only if its code, or its data after it, are not a segment.
 pub data MayRefuse (tree : TreeModule) (fault : Fault) : Type 0 where
   CodeIsNone : (start : ℕ) (code : Written)
       → IsCodeWritten tree start code

@@ -1,5 +1,5 @@
--- Which steps the code of a statement has. What is not said here stands in Assignments, Branches, Cases, Iterations and Moves
--- of statements8080.
+-- The steps of each statement. Those that are not given here are in Assignments, Branches, Cases, Iterations
+-- and Moves of statements8080.
 use Rattle.std.specs.Prelude.{ℕ, false, List, [], ◌∷◌, ◌++◌, Option, Some}
 use Rattle.isa8080.specs.declared.instr.Instr.TheVariants.{Hlt}
 use Rattle.asm8080.specs.declared.item.WordForm.TheVariants.{Jump}
@@ -23,40 +23,40 @@ use Rattle.statements8080.specs.Moves.{move_steps}
 use Rattle.statements8080.specs.Plans.{jump, mark, part, plain}
 use Rattle.codegen8080.specs.Procedures.{return_steps}
 
--- the machine halts
+-- halts the machine
 abbrev pub halt_steps : List Planned
 halt_steps = plain Hlt ∷ Reaches false ∷ []
 
--- the code goes on at a label
+-- a jump to a label
 abbrev pub goto_steps : LabelNumber → List Planned
 goto_steps label = jump Jump label ∷ Reaches false ∷ []
 
--- the value of a RETURN into A or HL, by the type of the procedure
+-- puts the value of a RETURN into A or HL, by the type of the procedure
 abbrev pub returned_value_steps : Option ExpressionNumber → (result : Option ScalarType) → List Planned
 returned_value_steps (Some value) (Some scalars.Byte) = part (tasks.Byte value) 0 ∷ []
 returned_value_steps (Some value) (Some scalars.Address) = part (tasks.Word value) 0 ∷ []
 returned_value_steps value result = []
 
--- the code returns, with a value where there is one
+-- a return, with a value if there is one
 unfoldable pub return_of_steps : Body → Option ExpressionNumber → List Planned
 return_of_steps body value =
     returned_value_steps value body.procedure.now.result ++ (return_steps body ++ (Reaches false ∷ []))
 
--- the steps of a statement, where its labels follow each other from this one on
+-- the steps of a statement, with consecutive labels from `first` on
 unfoldable pub statement_steps : Body → Site → Statement → (first : ℕ) → List Planned
 -- the place of a label of the source
 statement_steps body site (Label label) first = mark (body_label body label) ∷ []
 -- nothing
 statement_steps body site Null first = []
--- the value comes into A or HL, and from there to each target
+-- puts the value into A or HL, and stores it in each target
 statement_steps body site (Assignment targets value) first = assignment_steps body site targets value
--- the arguments are passed, and the procedure is called
+-- passes the arguments, and calls the procedure
 statement_steps body site (Call procedure arguments) first = part (tasks.Call procedure arguments) 0 ∷ []
--- bytes are copied, by the routine for that
+-- copies bytes, by the routine for that
 statement_steps body site (Move count source destination) first = move_steps site count source destination
--- the value comes into A or HL, and the procedure returns
+-- puts the value into A or HL, and returns
 statement_steps body site (Return value) first = return_of_steps body value
--- the machine halts
+-- halts the machine
 statement_steps body site Halt first = halt_steps
 -- a jump to the place of a label
 statement_steps body site (Goto label) first = goto_steps (body_label body label)
@@ -69,10 +69,10 @@ statement_steps body site (Do list) first = ListOf list ∷ []
 statement_steps body site (While condition list) first = while_steps site condition list first
 -- a counter, a test of it, the statements, a step, and a jump back
 statement_steps body site (Iterate head list) first = iteration_steps body site head list first
--- a jump by a table of jumps to the statement that is chosen
+-- a jump through a table of jumps to the chosen statement
 statement_steps body site (Case choice list) first = case_steps body site choice list first
 
--- how many labels that takes
+-- the number of labels that they take
 unfoldable pub statement_labels : Body → Site → Statement → ℕ
 statement_labels body site (If condition then_part else_part) = if_labels body site condition then_part else_part
 statement_labels body site (While condition list) = while_labels site condition

@@ -1,4 +1,4 @@
--- Code whose fixes have other targets.
+-- Code with other targets of its fixes.
 use Rattle.std.specs.Prelude.{map}
 use Rattle.object_modules.specs.declared.segment.Fix.{Fix}
 use Rattle.object_modules.specs.declared.segment.Target.{Target}
@@ -8,6 +8,6 @@ use Rattle.asm8080.specs.Assembled.{Assembled}
 abbrev pub retargeted : (Target → Target) → Fix → Fix
 retargeted to fix = record { kind = fix.kind; target = to fix.target; offset = fix.offset }
 
--- code whose fixes have other targets
+-- code with other targets of its fixes
 abbrev pub with_targets : (Target → Target) → Assembled → Assembled
 with_targets to code = record code { fixes = map (retargeted to) code.fixes }

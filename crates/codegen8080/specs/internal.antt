@@ -1,4 +1,4 @@
--- What only private functions and proofs cite.
+-- Definitions that only private functions and proofs cite.
 pub mod Names
 pub mod Segments
 pub mod Carrying

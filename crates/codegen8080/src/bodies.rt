@@ -25,7 +25,7 @@ fn frame_of(alloc: Global, procedure: &TreeProcedure) -> Result<FramePlan, Alloc
     frame_plan(alloc, procedure)
 }
 
-// A body with the next labels of the code for its own.
+// A body with the next labels of the code for its labels.
 fn body_of<'a>(
     generator: &mut Generator,
     tree: &'a TreeModule,
@@ -50,7 +50,7 @@ fn body_of<'a>(
     }
 }
 
-// Plans how a procedure begins, with the next labels.
+// Plans the entry of a procedure, with the next labels.
 #[tactic(auto, using(crate::proofs::Planning::next_is_free, crate::proofs::Planning::labels_are_taken))]
 fn plan_next_entry(generator: &mut Generator, body: &Body<'_>) -> Result<(), AllocError>
     ensures plan { OnOk result (generator.new.plan.list.items ≡ generator.old.plan.list.items
@@ -69,7 +69,7 @@ fn plan_next_entry(generator: &mut Generator, body: &Body<'_>) -> Result<(), All
     Ok(())
 }
 
-// Adds the beginning of a procedure.
+// Adds the entry of a procedure.
 fn put_entry(generator: &mut Generator, body: &Body<'_>) -> Result<(), AllocError>
     ensures { OnOk result (AddsEntry body.now generator.old generator.new) }
 {
@@ -78,7 +78,7 @@ fn put_entry(generator: &mut Generator, body: &Body<'_>) -> Result<(), AllocErro
     generator.planned(body, start, 0)
 }
 
-// Adds the end of a procedure, where it is reached.
+// Adds the end of a procedure, if it can be reached.
 fn put_end(generator: &mut Generator, body: &Body<'_>) -> Result<(), AllocError>
     ensures { OnOk result (AddsEnd body.now generator.old generator.new) }
 {
@@ -110,7 +110,7 @@ fn put_own(
     Ok(())
 }
 
-/// Adds the code of a procedure with its number, unless it is EXTERNAL.
+/// Adds the code of the procedure with this number, unless it is EXTERNAL.
 pub(crate) fn put_procedure(
     alloc: Global,
     generator: &mut Generator,
@@ -132,7 +132,7 @@ pub(crate) fn put_procedure(
     }
 }
 
-/// Adds the code of the main program, from a label on.
+/// Adds the code of the main program, with a label at its start.
 pub(crate) fn put_main(
     alloc: Global,
     generator: &mut Generator,

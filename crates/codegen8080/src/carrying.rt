@@ -1,4 +1,4 @@
-//! Planned steps that hold no statement, as they are written.
+//! Emission of planned steps that hold no statement.
 
 ghost use Rattle.std.specs.Prelude.{◌≡◌, ◌∷◌, ◌++◌, [], OnOk};
 ghost use Rattle.steps8080.specs.declared.step.Step.TheVariants.{Holds, Mark};
@@ -16,7 +16,7 @@ use std::alloc::AllocError;
 use steps8080::is_at;
 use treecode::{Location, Reference};
 
-/// Where the code of a body stands, with nothing known.
+/// The site of a body, without facts about the registers.
 pub(crate) fn site_of<'a>(body: &Body<'a>) -> Site<'a>
     ensures { result ≡ site_of body.now }
 {
@@ -27,14 +27,14 @@ pub(crate) fn site_of<'a>(body: &Body<'a>) -> Site<'a>
     }
 }
 
-// Adds the code of a step of expressions.
+// Adds the code of an expression step.
 fn add(emission: &mut Emission, body: &Body<'_>, step: Step) -> Result<(), AllocError>
     ensures { OnOk result (EmitsSteps (site_of body.now) (step ∷ []) emission.old emission.new) }
 {
     emission.add(&site_of(body), step)
 }
 
-// The address of a reference comes into HL.
+// The step that puts the address of a reference into HL.
 fn address(reference: Reference) -> Step
     ensures { result ≡ part (tasks.Address reference) 0 }
 {
@@ -44,7 +44,7 @@ fn address(reference: Reference) -> Step
     })
 }
 
-// The byte at the address of a reference comes into A.
+// Puts the byte at the address of a reference into A.
 fn byte_at_address(
     emission: &mut Emission,
     body: &Body<'_>,
@@ -61,7 +61,7 @@ fn byte_at_address(
     )
 }
 
-// The BYTE at a location comes into A.
+// Puts the BYTE at a location into A.
 fn byte_at(
     emission: &mut Emission,
     body: &Body<'_>,
@@ -83,7 +83,7 @@ fn byte_at(
     }
 }
 
-// The BYTE at a location comes into A, and is known to be there.
+// Puts the BYTE at a location into A, and notes that A holds it.
 fn known_byte_at(
     emission: &mut Emission,
     body: &Body<'_>,
@@ -105,7 +105,7 @@ fn known_byte_at(
     )
 }
 
-// A BYTE that lies at a location comes into A, where it is not there.
+// Puts a BYTE at a location into A, unless A holds it.
 #[tactic(auto, unfolding(crate::specs::Generated::load_byte_steps), using(exprgen8080::proofs::Emitting::emits_nothing))]
 fn load_byte(
     emission: &mut Emission,
@@ -129,7 +129,7 @@ fn load_byte(
     }
 }
 
-// An ADDRESS in the frame comes into HL.
+// Puts an ADDRESS in the frame into HL.
 fn frame_word(
     emission: &mut Emission,
     body: &Body<'_>,
@@ -157,7 +157,7 @@ fn frame_word(
     )
 }
 
-// The ADDRESS at a location comes into HL.
+// Puts the ADDRESS at a location into HL.
 fn word_at(
     emission: &mut Emission,
     body: &Body<'_>,
@@ -173,7 +173,7 @@ fn word_at(
     }
 }
 
-// The ADDRESS at a location comes into HL, and is known to be there.
+// Puts the ADDRESS at a location into HL, and notes that HL holds it.
 fn known_word_at(
     emission: &mut Emission,
     body: &Body<'_>,
@@ -195,7 +195,7 @@ fn known_word_at(
     )
 }
 
-// An ADDRESS that lies at a location comes into HL, where it is not there.
+// Puts an ADDRESS at a location into HL, unless HL holds it.
 #[tactic(auto, unfolding(crate::specs::Generated::load_word_steps), using(exprgen8080::proofs::Emitting::emits_nothing))]
 fn load_word(
     emission: &mut Emission,
@@ -219,7 +219,7 @@ fn load_word(
     }
 }
 
-// A jump to a label, where the code goes on.
+// Adds a jump to a label, if the end of the code can be reached.
 #[tactic(auto, using(exprgen8080::proofs::Emitting::emits_nothing))]
 fn jump_on(
     emission: &mut Emission,
@@ -237,7 +237,7 @@ fn jump_on(
     }
 }
 
-// The end of one way and the begin of another.
+// Ends one path and starts another.
 fn turn(
     emission: &mut Emission,
     body: &Body<'_>,
@@ -252,7 +252,7 @@ fn turn(
     add(emission, body, Step::Mark(other))
 }
 
-/// Adds the code of a step that holds no statement, where the code goes on to here or not. Any other is refused.
+/// Adds the code of a step that holds no statement, at the given end of the code. Any other step is refused.
 #[tactic(auto, unfolding(crate::specs::Generated::carried_steps), using(exprgen8080::proofs::Emitting::emits_nothing))]
 pub(crate) fn carry(
     emission: &mut Emission,

@@ -1,8 +1,8 @@
-//! Why there is no code of a module.
+//! The faults of code generation.
 
 use thiserror::Error;
 
-/// Why there is no code of a module.
+/// A fault of code generation.
 #[derive(Clone, Copy, Debug, PartialEq, Eq, Error)]
 pub enum Fault {
     /// G1: its code segment would have more than 65535 bytes.
@@ -14,7 +14,7 @@ impl Fault {
     ghost use Rattle.std.specs.Prelude.{◌≡◌};
     ghost use Rattle.codegen8080.specs.Faults.{number_of};
 
-    /// The number by which the documentation and the command line know the fault.
+    /// The number of the fault in the documentation and on the command line.
     pub fn number(&self) -> &'static str
         ensures { result.now ≡ number_of self.now }
     {

@@ -1,4 +1,4 @@
-//! Planned code of statements as it is written.
+//! Emission of planned code of statements.
 
 ghost use Rattle.std.specs.Prelude.{◌≡◌, ◌<◌, ◌+◌, [], ◌++◌, drop, take, length, slice_get, Some, IfOk, OnOk};
 ghost use Rattle.treecode.specs.Nodes.{item_of};
@@ -18,14 +18,14 @@ use statements8080::{Body, Plan, Planned};
 use std::alloc::{AllocError, Global};
 use treecode::{Range, Statement, StatementNumber, TreeModule};
 
-/// Code that is being written: that of a module, the steps that are planned, and whether it goes on at its end.
+/// Code that is being emitted: that of a module, the planned steps, and whether the end of the code can be reached.
 pub(crate) struct Generator {
     pub emission: Emission,
     pub plan: Plan,
     pub goes_on: bool,
 }
 
-// The statement of an index in a list, which is to number below a bound. Fails where it does not.
+// The statement at an index in a list. Its number must be below a bound; fails if it is not.
 fn item_below(
     tree: &TreeModule,
     list: Range,
@@ -55,7 +55,7 @@ impl Generator {
         })
     }
 
-    /// The code that was written.
+    /// Returns the code.
     pub(crate) fn into_emission(self) -> Emission
         ensures { result ≡ self.emission }
     {
@@ -67,7 +67,7 @@ impl Generator {
         emission
     }
 
-    // Where the code ends.
+    // The end of the code.
     fn here(&self) -> Here
         ensures { result ≡ here_of self.now }
     {
@@ -77,7 +77,7 @@ impl Generator {
         }
     }
 
-    // The code ends here.
+    // Sets the end of the code.
     fn arrive(&mut self, here: Here)
         ensures { self.new ≡ record self.old {
           emission = record (self.old.emission) { facts = here.facts };
@@ -88,7 +88,8 @@ impl Generator {
         self.goes_on = here.goes_on;
     }
 
-    // Carries out a step that holds no statement. Gives what is known where the code before `Jumped` jumps to.
+    // Carries out a step that holds no statement. Returns the facts at the label to which the code before `Jumped`
+    // jumps.
     fn step(
         &mut self,
         body: &Body<'_>,
@@ -127,7 +128,8 @@ impl Generator {
         Ok(())
     }
 
-    // Adds the code of a statement. Fails where a part of it does not number below it: there is none in what `lower` gives.
+    // Adds the code of a statement. Fails if the number of a part is not below its own, which the tree code of `lower`
+    // rules out.
     #[cycle(statement)]
     fn statement(&mut self, body: &Body<'_>, number: StatementNumber) -> Result<(), AllocError>
         ensures code { OnOk result (AddsStatement body.now number self.old self.new) }
@@ -142,7 +144,7 @@ impl Generator {
         self.planned(body, start, number.index)
     }
 
-    // Carries out a step. A statement in it is to number below a bound.
+    // Carries out a step. The number of a statement in it must be below a bound.
     #[cycle(statement)]
     fn carry_out(
         &mut self,
@@ -169,7 +171,7 @@ impl Generator {
         }
     }
 
-    /// Adds the code of the steps that are planned from an index on, and takes them away. Statements in it are to number
+    /// Adds the code of the planned steps from an index on, and removes them. The numbers of statements in them must be
     /// below a bound.
     #[cycle(statement)]
     pub(crate) fn planned(
@@ -193,7 +195,7 @@ impl Generator {
         Ok(())
     }
 
-    /// Adds the code of the statements of a list, one after another, which are to number below a bound.
+    /// Adds the code of the statements of a list, one after another. Their numbers must be below a bound.
     #[cycle(statement)]
     pub(crate) fn list(
         &mut self,
@@ -213,7 +215,7 @@ impl Generator {
     }
 }
 
-// Written out, so that what it holds is let go here.
+// Written out so that the fields are dropped in one place.
 impl Drop for Generator {
     fn drop(self) {
         let Generator {

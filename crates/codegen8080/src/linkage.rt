@@ -1,4 +1,4 @@
-//! The names by which modules know each other, none of them twice.
+//! The EXTERNAL and PUBLIC names of a module, without duplicates.
 
 ghost use Rattle.std.specs.Prelude.{◌≡◌, [], ◌∷◌, ◌++◌, length, map, IfOk, IsTrue, OnOk};
 ghost use Rattle.std.specs.Str.{bytes_eq};
@@ -12,7 +12,7 @@ use object_modules::{Name, OwnedPublic};
 use std::alloc::{AllocError, Global};
 use std::marker::Model;
 
-// Names, each of them once, in the order in which they came.
+// A set of names, in the order in which they were added.
 struct NameSet {
     names: IndexSet<Name>,
 }
@@ -35,14 +35,14 @@ impl NameSet {
         }
     }
 
-    // Whether a name is among them.
+    // Whether the set has a name.
     fn contains(&self, name: Name) -> bool
         ensures { result ≡ is_among name self.now }
     {
         self.names.contains(&name)
     }
 
-    // One more name.
+    // Adds a name.
     fn insert(&mut self, name: Name) -> Result<(), AllocError>
         ensures { OnOk result (self.new ≡ insert_key bytes_eq self.old name) }
     {
@@ -51,7 +51,7 @@ impl NameSet {
     }
 }
 
-/// A name, which is valid.
+/// Returns the name, which is valid.
 pub(crate) fn valid(name: Name) -> Name
     ensures same { result ≡ name }
     ensures valid { IsTrue (is_name result) }
@@ -60,7 +60,7 @@ pub(crate) fn valid(name: Name) -> Name
     name
 }
 
-/// The EXTERNAL names that a module refers to, and its PUBLIC names, both in the order of the text. No name is taken twice.
+/// The EXTERNAL names that a module refers to, and its PUBLIC names, both in the order of the text, without duplicates.
 pub(crate) struct LinkageNames {
     known: NameSet,
     externals: Vec<Name>,
@@ -100,15 +100,14 @@ impl LinkageNames {
         }
     }
 
-    /// How many EXTERNAL names there are.
+    /// The number of EXTERNAL names.
     pub(crate) fn external_count(&self) -> usize
         ensures { result ≡ length self.now.externals }
     {
         self.externals.len()
     }
 
-    /// One more EXTERNAL name, where there is no PUBLIC one yet. Fails where it is there already: there is none in what
-    /// `lower` gives.
+    /// Adds an EXTERNAL name, before any PUBLIC one. Fails on a duplicate, which the tree code of `lower` rules out.
     pub(crate) fn with_external(self, name: Name) -> Result<LinkageNames, AllocError>
         requires { self.publics ≡ [] }
         ensures publics { IfOk result (λ names. names.publics ≡ []) }
@@ -132,7 +131,7 @@ impl LinkageNames {
         })
     }
 
-    /// One more PUBLIC name. Fails where it is there already: there is none in what `lower` gives.
+    /// Adds a PUBLIC name. Fails on a duplicate, which the tree code of `lower` rules out.
     pub(crate) fn with_public(self, public: OwnedPublic) -> Result<LinkageNames, AllocError>
         requires { IsTrue (may_have_publics public.segment) }
         ensures externals { IfOk result (λ names. names.externals ≡ self.externals) }
@@ -171,7 +170,7 @@ impl LinkageNames {
     }
 }
 
-// Written out, so that what these hold is let go here.
+// Written out so that the fields are dropped in one place.
 impl Drop for NameSet {
     fn drop(self) {
         let NameSet { names: _ } = self;

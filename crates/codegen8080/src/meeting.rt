@@ -1,4 +1,4 @@
-//! What is known where code comes from several places.
+//! Facts at points that several paths reach.
 
 ghost use Rattle.std.specs.Prelude.{◌≡◌};
 ghost use Rattle.codegen8080.specs.Generated.{arriving, common, common_location, here_after, known_here, met, waiting_after};
@@ -7,14 +7,14 @@ use exprgen8080::Facts;
 use statements8080::Planned;
 use treecode::Location;
 
-/// The end of code: what is known of the registers there, and whether the code goes on to it.
+/// The end of code: the facts about the registers there, and whether the end can be reached.
 #[derive(Clone, Copy)]
 pub struct Here {
     pub facts: Facts,
     pub goes_on: bool,
 }
 
-// What is known by both of two facts.
+// The location, if both are the same.
 fn common_location(one: Option<Location>, other: Option<Location>) -> Option<Location>
     ensures { result ≡ common_location one other }
 {
@@ -24,7 +24,7 @@ fn common_location(one: Option<Location>, other: Option<Location>) -> Option<Loc
     }
 }
 
-// What two places have in common, of which both may be the one before this.
+// The facts that hold in both.
 fn common(one: Facts, other: Facts) -> Facts
     ensures { result ≡ common one other }
 {
@@ -36,7 +36,7 @@ fn common(one: Facts, other: Facts) -> Facts
     }
 }
 
-// What is known where code comes from two places, if it comes from them.
+// The facts at a point that two paths may reach; none if neither path does.
 fn met(one: Option<Facts>, other: Option<Facts>) -> Option<Facts>
     ensures { result ≡ met one other }
 {
@@ -47,14 +47,14 @@ fn met(one: Option<Facts>, other: Option<Facts>) -> Option<Facts>
     }
 }
 
-// What is known at the end of code, if it goes on to it.
+// The facts at the end of code, if the end can be reached.
 fn known_here(here: Here) -> Option<Facts>
     ensures { result ≡ known_here here }
 {
     if here.goes_on { Some(here.facts) } else { None }
 }
 
-/// A place to which code comes with these facts, if it comes there.
+/// A point that code reaches with these facts, if any.
 pub(crate) fn arriving(facts: Option<Facts>) -> Here
     ensures { result ≡ arriving facts }
 {
@@ -70,8 +70,8 @@ pub(crate) fn arriving(facts: Option<Facts>) -> Here
     }
 }
 
-/// Where the code is after a step that holds no statement, by where it is before it and what is known after the step's
-/// code. What waits is known where the code before `Jumped` jumps to.
+/// The end of the code after a step that holds no statement, from the end before it and the facts after the code of the
+/// step. `waiting` are the facts at the label to which the code before `Jumped` jumps.
 #[tactic(auto, unfolding(crate::specs::Generated::here_after))]
 pub(crate) fn here_after(here: Here, waiting: Option<Facts>, known: Facts, step: Planned) -> Here
     ensures { result ≡ here_after here waiting known step }
@@ -104,7 +104,7 @@ pub(crate) fn here_after(here: Here, waiting: Option<Facts>, known: Facts, step:
     }
 }
 
-/// What waits after a step that holds no statement.
+/// The waiting facts after a step that holds no statement.
 #[tactic(auto, unfolding(crate::specs::Generated::waiting_after))]
 pub(crate) fn waiting_after(here: Here, waiting: Option<Facts>, step: Planned) -> Option<Facts>
     ensures { result ≡ waiting_after here waiting step }

@@ -1,4 +1,4 @@
-//! Modules of tree code as object modules.
+//! Generation of object modules from modules of tree code.
 
 ghost use Rattle.std.specs.Prelude.{◌≡◌, ◌+◌, false, slice_index_or, Some, IfOk, OnOk};
 ghost use Rattle.failure.specs.Failure.{IfFault};
@@ -28,7 +28,7 @@ struct ModuleCode {
     start: LabelNumber,
 }
 
-// Adds what stands in a segment.
+// Adds a piece of the contents of a segment.
 fn put_content(writer: &mut Writer, content: Content) -> Result<(), AllocError>
     ensures { OnOk result (Writes writer.old writer.new (content_items content)) }
 {
@@ -39,7 +39,7 @@ fn put_content(writer: &mut Writer, content: Content) -> Result<(), AllocError>
     }
 }
 
-// Adds what stands in a segment, from its start on.
+// Adds the contents of a segment.
 #[tactic(auto, using(crate::proofs::ModuleParts::putting_begins, crate::proofs::ModuleParts::putting_ends))]
 fn put_contents(writer: &mut Writer, contents: &[Content]) -> Result<(), AllocError>
     ensures { OnOk result (Writes writer.old writer.new (contents_items contents.now)) }
@@ -52,14 +52,14 @@ fn put_contents(writer: &mut Writer, contents: &[Content]) -> Result<(), AllocEr
     Ok(())
 }
 
-// Whether a module has a main program: a statement at its outer level.
+// Whether a module has a main program, that is, a statement at its outer level.
 fn is_main(tree: &TreeModule) -> bool
     ensures { result ≡ has_main tree.now }
 {
     tree.main.body.count > 0
 }
 
-// The number after another one. Fails where there is none.
+// The next number. Fails past the greatest one.
 fn next_number(number: u32) -> Result<u32, AllocError>
     ensures { IfOk result (λ next. next ≡ number + 1) }
 {
@@ -69,7 +69,7 @@ fn next_number(number: u32) -> Result<u32, AllocError>
     }
 }
 
-// Adds the code of procedures, which are numbered from 0 on.
+// Adds the code of procedures, numbered from 0.
 #[tactic(auto, using(crate::proofs::ModuleParts::procedures_begin))]
 fn put_procedures(
     alloc: Global,
@@ -89,7 +89,7 @@ fn put_procedures(
     Ok(())
 }
 
-// Adds the code of a main program, from a label on, where there is one.
+// Adds the code of a main program, with a label at its start, if there is one.
 #[tactic(auto, using(crate::proofs::ModuleParts::main_there, crate::proofs::ModuleParts::no_main_there))]
 fn put_main_if_any(
     alloc: Global,
@@ -106,7 +106,7 @@ fn put_main_if_any(
     }
 }
 
-// Whether the routine of an index is called.
+// Whether the routine with this index is called.
 fn is_called_at(is_called: &[bool], index: u32) -> bool
     ensures { result ≡ slice_index_or is_called.now index false }
 {
@@ -116,7 +116,7 @@ fn is_called_at(is_called: &[bool], index: u32) -> bool
     }
 }
 
-// Adds a routine, by its place among them, where it is called.
+// Adds the routine with this index, if it is called.
 fn with_called(
     writer: Writer,
     tree: &TreeModule,
@@ -147,7 +147,7 @@ fn with_arithmetic(
     Ok(writer)
 }
 
-// Adds the other shifts that are called.
+// Adds the other shift routines that are called.
 fn with_shifts(writer: Writer, tree: &TreeModule, is_called: &[bool]) -> Result<Writer, AllocError>
     ensures { IfOk result (λ after. AddsRoutines tree.now is_called.now next_routines writer after) }
 {
@@ -157,7 +157,7 @@ fn with_shifts(writer: Writer, tree: &TreeModule, is_called: &[bool]) -> Result<
     Ok(writer)
 }
 
-// Adds the rotations and MOVE, where they are called.
+// Adds the rotations and MOVE, if they are called.
 fn with_others(writer: Writer, tree: &TreeModule, is_called: &[bool]) -> Result<Writer, AllocError>
     ensures { IfOk result (λ after. AddsRoutines tree.now is_called.now last_routines writer after) }
 {
@@ -181,7 +181,7 @@ fn with_routines(
     Ok(writer)
 }
 
-// Adds the constants of a module, its main program and its procedures. Gives the label of the main program.
+// Adds the constants of a module, its main program and its procedures. Returns the label of the main program.
 fn put_own_code(
     alloc: Global,
     generator: &mut Generator,
@@ -207,7 +207,7 @@ fn code_of(alloc: Global, tree: &TreeModule) -> Result<ModuleCode, AllocError>
     Ok(ModuleCode { writer, start })
 }
 
-// The data segment of a module, which shares the names of other modules with its code.
+// The data segment of a module. It uses the same numbers of EXTERNAL names as the code.
 fn variables_of(
     alloc: Global,
     tree: &TreeModule,
@@ -224,7 +224,7 @@ fn variables_of(
     Ok(writer)
 }
 
-// Code as bytes, with the names that it refers to.
+// Code as bytes, and the EXTERNAL names that it refers to.
 #[tactic(auto, using(crate::proofs::KeptSegments::finished_keeps, crate::proofs::Refused::too_long))]
 fn finish(writer: Writer) -> Result<(Finished, Externals), Failure<Fault>>
     ensures keeps { IfOk result (λ both. KeepsFixes both.0.bytes) }
@@ -235,13 +235,13 @@ fn finish(writer: Writer) -> Result<(Finished, Externals), Failure<Fault>>
     match writer.finish() {
         Ok(both) => Ok(both),
         Err(Failure::Fault(asm8080::Fault::TooLong)) => Err(Failure::Fault(Fault::TooLong)),
-        // That is not expected: each label that the code of a module goes to has its place in it.
+        // This does not occur: each label that the code of a module refers to has its place in it.
         Err(Failure::Fault(asm8080::Fault::UnboundLabel)) => Err(Failure::Memory),
         Err(Failure::Memory) => Err(Failure::Memory),
     }
 }
 
-// Where the code of a main program begins.
+// The offset at which the code of a main program begins.
 fn start_of(tree: &TreeModule, code: &Finished, start: LabelNumber) -> Option<u16>
     ensures { result ≡ start_in tree.now code.now.bytes code.now.labels.items start.index }
 {
@@ -252,7 +252,7 @@ fn start_of(tree: &TreeModule, code: &Finished, start: LabelNumber) -> Option<u1
     }
 }
 
-// The names of a module as its object module lists them.
+// The names of a module, as its object module lists them.
 fn names_of(
     alloc: Global,
     tree: &TreeModule,
@@ -267,8 +267,8 @@ fn names_of(
     Ok(listed)
 }
 
-/// The object module of a module: its constants and its code in the code segment, its variables in the data segment, its
-/// PUBLIC names, and the EXTERNAL names that it refers to. Refuses a module only where its code or its data have more than
+/// The object module of a module: its constants and its code in the code segment, its variables in the data segment,
+/// its PUBLIC names, and the EXTERNAL names that it refers to. A module is refused only if its code or its data exceed
 /// 65535 bytes.
 pub fn generate(alloc: Global, tree: &TreeModule) -> Result<ObjectModule, Failure<Fault>>
     ensures made { IfOk result (λ object. IsGenerated tree.now object) }

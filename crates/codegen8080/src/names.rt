@@ -1,4 +1,4 @@
-//! The names of a module that other modules know, and those that it knows of them.
+//! The PUBLIC and EXTERNAL names of a module in its object module.
 
 ghost use Rattle.std.specs.Prelude.{◌≡◌, ◌+◌, [], ◌++◌, true, Some, slice_get, IfOk, IsTrue};
 ghost use Rattle.object_modules.specs.Module.{may_have_publics};
@@ -12,7 +12,7 @@ use object_modules::{Name, OwnedPublic, Segment};
 use std::alloc::{AllocError, Global};
 use treecode::{ExternalName, Place, PublicName, PublicPlace, TreeModule};
 
-/// The EXTERNAL names that code refers to, and the place of each among them by the number by which the code knows it.
+/// The EXTERNAL names that code refers to, and the place of each among them, by its number in the code.
 pub(crate) struct ListedNames {
     pub names: LinkageNames,
     pub numbers: Vec<u16>,
@@ -29,14 +29,14 @@ impl ListedNames {
     }
 }
 
-// Sets the place that a name has among others, by the number by which the code knows it.
+// Sets the place of a name, by its number in the code.
 fn set_place(places: &mut Vec<u16>, number: u16, place: u16) {
     if let Some(entry) = places.get_mut(number as usize) {
         *entry = place;
     }
 }
 
-// The place after another one. Fails where there is none.
+// The next place. Fails past the greatest one.
 fn next_place(place: u16) -> Result<u16, AllocError>
     ensures { IfOk result (λ next. next ≡ place + 1) }
 {
@@ -46,7 +46,7 @@ fn next_place(place: u16) -> Result<u16, AllocError>
     }
 }
 
-// The place among the names that code refers to of each of them, by the number by which the code knows it.
+// The place of each EXTERNAL name that code refers to, by its number in the code.
 fn places_of(alloc: Global, numbers: &[Option<u16>]) -> Result<Vec<u16>, AllocError> {
     let mut places = vec![in alloc; 0; numbers.len()]?;
     let mut place = 0;
@@ -59,7 +59,7 @@ fn places_of(alloc: Global, numbers: &[Option<u16>]) -> Result<Vec<u16>, AllocEr
     Ok(places)
 }
 
-// Whether a name that code knows by a number has a place.
+// Whether the table has this place for the number of a name.
 fn has_place(places: &[u16], number: u16, place: u16) -> bool
     ensures { result ≡ true → slice_get places.now number ≡ Some place }
 {
@@ -69,7 +69,8 @@ fn has_place(places: &[u16], number: u16, place: u16) -> bool
     }
 }
 
-// The place after that of a name, if it has one. Fails where the table has another one for it: no two names have a number.
+// The place after that of a name, if the code has a number for it. Fails if the table has another place for it: no two
+// names share a number.
 fn place_after(places: &[u16], number: Option<u16>, place: u16) -> Result<u16, AllocError>
     ensures { IfOk result (λ next. IsPlaceAfter places.now number place next) }
 {
@@ -83,7 +84,7 @@ fn place_after(places: &[u16], number: Option<u16>, place: u16) -> Result<u16, A
     }
 }
 
-// Names with one of them more, if code refers to it.
+// Adds a name, if code refers to it.
 fn with_used(
     names: LinkageNames,
     external: ExternalName,
@@ -100,7 +101,7 @@ fn with_used(
     }
 }
 
-// The names that code refers to, each at the place that a table has for it.
+// The names that code refers to, each at its place in a table.
 fn names_at(
     alloc: Global,
     externals: &[ExternalName],
@@ -125,7 +126,7 @@ fn names_at(
     Ok(names)
 }
 
-/// The names that code refers to, from all EXTERNAL names of a module and the numbers by which the code knows them.
+/// The names that code refers to, from all EXTERNAL names of a module and their numbers in the code.
 pub(crate) fn listed_names(
     alloc: Global,
     externals: &[ExternalName],
@@ -141,7 +142,7 @@ pub(crate) fn listed_names(
     })
 }
 
-// A public name of an object. Fails where it lies in another module: there is none in what `lower` gives.
+// A public name of an object. Fails if the object is in another module, which the tree code of `lower` rules out.
 fn public_object(name: Name, place: Place) -> Result<OwnedPublic, AllocError>
     ensures may { IfOk result (λ public. IsTrue (may_have_publics public.segment)) }
     ensures is { IfOk result (λ public. IsAtPlace name place (owned_public_view public)) }
@@ -182,7 +183,7 @@ fn public_of(name: Name, place: PublicPlace, code: &Finished) -> Result<OwnedPub
     }
 }
 
-// Names with PUBLIC ones.
+// Adds PUBLIC names.
 fn with_all_publics(
     names: LinkageNames,
     publics: &[PublicName],
@@ -202,7 +203,7 @@ fn with_all_publics(
     Ok(names)
 }
 
-/// The names of a module with its PUBLIC ones.
+/// Adds the PUBLIC names of a module.
 pub(crate) fn with_publics(
     listed: ListedNames,
     tree: &TreeModule,
@@ -219,7 +220,7 @@ pub(crate) fn with_publics(
     Ok(ListedNames { names, numbers })
 }
 
-// Written out, so that what it holds is let go here.
+// Written out so that the fields are dropped in one place.
 impl Drop for ListedNames {
     fn drop(self) {
         let ListedNames {

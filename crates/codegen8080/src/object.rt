@@ -10,8 +10,8 @@ use asm8080::CodeBytes;
 use object_modules::{ModuleParts, Name, ObjectModule};
 use std::alloc::{AllocError, Global};
 
-/// The object module of this name with these segments and names. Its fixes know the EXTERNAL names by numbers that a table
-/// gives their places among the names.
+/// The object module of this name with these segments and names. Its fixes refer to EXTERNAL names by numbers, and a
+/// table maps these numbers to places among the names.
 pub(crate) fn object_of(
     alloc: Global,
     name: Name,

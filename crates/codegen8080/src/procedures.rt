@@ -1,4 +1,4 @@
-//! Procedures: how they take their arguments and how they return.
+//! Entries, arguments and returns of procedures.
 
 ghost use Rattle.std.specs.Prelude.{◌≡◌, ◌∷◌, [], length, IfOk, OnOk};
 ghost use Rattle.statements8080.specs.Plans.{PlanAdds, PlanAddsWithLabels};
@@ -12,13 +12,13 @@ use std::alloc::AllocError;
 use treecode::{Location, Parameter, Place, ProcedureKind};
 use trees::ScalarType;
 
-// Up to how many bytes POP drops them from the stack, which is then less code than adding to the stack pointer.
+// The greatest number of bytes that POP drops from the stack with less code than an addition to the stack pointer.
 const POPPED_BYTES: u16 = 12;
 
-// Up to how many words PUSH stands once for each of them.
+// The greatest number of words that are pushed without a loop.
 const PUSHED_WORDS: u16 = 12;
 
-// Drops so many words from the stack, where BC is not wanted.
+// Drops `words` words from the stack. BC is overwritten.
 #[tactic(auto, unfolding(crate::specs::Procedures::pops_steps))]
 fn plan_pops(plan: &mut Plan, words: u16) -> Result<(), AllocError>
     ensures { OnOk result (PlanAdds plan.old plan.new (pops_steps words)) }
@@ -26,7 +26,7 @@ fn plan_pops(plan: &mut Plan, words: u16) -> Result<(), AllocError>
     plan.repeated(Instr::Pop(StackPair::StackBc), words)
 }
 
-// Instructions that keep a result where it is: HL is in DE along them.
+// Instructions that keep a result in place: HL is in DE meanwhile.
 #[tactic(auto, unfolding(crate::specs::Procedures::kept_steps))]
 fn plan_kept(
     plan: &mut Plan,
@@ -45,7 +45,7 @@ fn plan_kept(
     }
 }
 
-// Drops so many bytes from the stack. The result stays where it is.
+// Drops `bytes` bytes from the stack. The result stays in its register.
 #[tactic(auto, unfolding(crate::specs::Procedures::drop_steps))]
 fn plan_drop(plan: &mut Plan, bytes: u16, result_type: Option<ScalarType>) -> Result<(), AllocError>
     ensures { OnOk result (PlanAdds plan.old plan.new (drop_steps bytes result_type)) }
@@ -65,7 +65,7 @@ fn plan_drop(plan: &mut Plan, bytes: u16, result_type: Option<ScalarType>) -> Re
     )
 }
 
-// Returns, with this many words of arguments above the return address, one or more. The result stays where it is.
+// Returns, with this many words of arguments (at least one) above the return address. The result stays in its register.
 #[tactic(auto, unfolding(crate::specs::Procedures::return_over_steps))]
 fn plan_return_over(
     plan: &mut Plan,
@@ -89,7 +89,7 @@ fn plan_return_over(
     }
 }
 
-// The same with any number of words.
+// The same for any number of words, including 0.
 #[tactic(auto, unfolding(crate::specs::Procedures::return_over_any_steps))]
 fn plan_return_over_any(
     plan: &mut Plan,
@@ -116,7 +116,7 @@ fn plan_return_of_frame(body: &Body<'_>, plan: &mut Plan) -> Result<(), AllocErr
     plan_return_over_any(plan, count.saturating_sub(1), scalar)
 }
 
-/// The steps of a return, with the result where it is to be.
+/// The steps of a return, with the result in its register.
 #[tactic(auto, unfolding(crate::specs::Procedures::return_steps_by))]
 pub(crate) fn plan_return(body: &Body<'_>, plan: &mut Plan) -> Result<(), AllocError>
     ensures { OnOk result (PlanAdds plan.old plan.new (return_steps body.now)) }
@@ -137,7 +137,7 @@ fn place_of(location: Location) -> Place
     }
 }
 
-// What is known besides where the argument of a parameter is in A or HL.
+// The facts with the argument of a parameter in A or HL.
 fn with_argument(facts: Facts, parameter: Parameter) -> Facts
     ensures { result ≡ with_argument facts parameter }
 {
@@ -153,7 +153,7 @@ fn with_argument(facts: Facts, parameter: Parameter) -> Facts
     }
 }
 
-// The register in which a value of a type is on the stack.
+// The register pair that a value of a type is pushed from.
 fn pair_of(scalar: ScalarType) -> StackPair
     ensures { result ≡ pair_of scalar }
 {
@@ -163,7 +163,7 @@ fn pair_of(scalar: ScalarType) -> StackPair
     }
 }
 
-// An argument in A or HL goes to its parameter.
+// Stores an argument in A or HL in its parameter.
 fn plan_argument(plan: &mut Plan, parameter: Parameter) -> Result<(), AllocError>
     ensures { OnOk result (PlanAdds plan.old plan.new (argument_step parameter ∷ [])) }
 {
@@ -174,7 +174,7 @@ fn plan_argument(plan: &mut Plan, parameter: Parameter) -> Result<(), AllocError
     }
 }
 
-// An argument on the stack goes to its parameter.
+// Pops an argument into its parameter.
 fn plan_popped_argument(plan: &mut Plan, parameter: Parameter) -> Result<(), AllocError>
     ensures { OnOk result (PlanAdds plan.old plan.new (popped_argument_steps parameter)) }
 {
@@ -182,7 +182,7 @@ fn plan_popped_argument(plan: &mut Plan, parameter: Parameter) -> Result<(), All
     plan_argument(plan, parameter)
 }
 
-// The argument on the stack goes to the parameter of an index.
+// Pops the argument of the parameter at an index.
 #[tactic(auto, unfolding(crate::specs::Procedures::popped_at))]
 fn plan_popped_at(plan: &mut Plan, parameters: &[Parameter], index: usize) -> Result<(), AllocError>
     ensures { OnOk result (PlanAdds plan.old plan.new (popped_at parameters.now index)) }
@@ -193,7 +193,7 @@ fn plan_popped_at(plan: &mut Plan, parameters: &[Parameter], index: usize) -> Re
     }
 }
 
-// Arguments on the stack go to their parameters, from the last one on.
+// Pops arguments into their parameters, the last one first.
 #[tactic(auto, using(statements8080::proofs::Adding::adding_begins, crate::proofs::Planning::popped_next, crate::proofs::Planning::popped_done))]
 fn plan_popped_arguments(plan: &mut Plan, parameters: &[Parameter]) -> Result<(), AllocError>
     ensures { OnOk result (PlanAdds plan.old plan.new (popped_from parameters.now (length parameters.now))) }
@@ -206,7 +206,7 @@ fn plan_popped_arguments(plan: &mut Plan, parameters: &[Parameter]) -> Result<()
     Ok(())
 }
 
-// What is known after the argument of the parameter of an index is there.
+// The facts after the argument of the parameter at an index is stored.
 #[tactic(auto, unfolding(crate::specs::Procedures::known_at))]
 fn known_at(facts: Facts, parameters: &[Parameter], index: usize) -> Facts
     ensures { result ≡ known_at facts parameters.now index }
@@ -217,7 +217,7 @@ fn known_at(facts: Facts, parameters: &[Parameter], index: usize) -> Facts
     }
 }
 
-// What is known after all are there.
+// The facts after all arguments are stored.
 #[tactic(auto, using(crate::proofs::Planning::known_next, crate::proofs::Planning::known_done))]
 fn known_from(facts: Facts, parameters: &[Parameter]) -> Facts
     ensures { result ≡ known_from facts parameters.now (length parameters.now) }
@@ -231,7 +231,7 @@ fn known_from(facts: Facts, parameters: &[Parameter]) -> Facts
     known
 }
 
-// The arguments below the return address go to the first parameters, from the last of them on.
+// Stores the arguments below the return address in the first parameters, the last one first.
 #[tactic(auto, unfolding(crate::specs::Procedures::pushed_arguments_steps))]
 fn plan_pushed_arguments(plan: &mut Plan, parameters: &[Parameter]) -> Result<(), AllocError>
     ensures { OnOk result (PlanAdds plan.old plan.new (pushed_arguments_steps parameters.now)) }
@@ -241,7 +241,7 @@ fn plan_pushed_arguments(plan: &mut Plan, parameters: &[Parameter]) -> Result<()
     plan.plain(Instr::Push(StackPair::StackDe))
 }
 
-// The argument below the return address goes to a parameter that is an ADDRESS.
+// Stores the argument below the return address in a parameter that is an ADDRESS.
 #[tactic(auto, unfolding(crate::specs::Procedures::exchanged_steps))]
 fn plan_exchanged_argument(plan: &mut Plan, parameter: Parameter) -> Result<(), AllocError>
     ensures { OnOk result (PlanAdds plan.old plan.new (exchanged_steps parameter)) }
@@ -251,7 +251,7 @@ fn plan_exchanged_argument(plan: &mut Plan, parameter: Parameter) -> Result<(), 
     plan_argument(plan, parameter)
 }
 
-// The arguments below the return address go to the first parameters, if there are any.
+// Stores the arguments below the return address in the first parameters, if there are any.
 #[tactic(auto, unfolding(crate::specs::Procedures::below_return_steps))]
 fn plan_below_return(plan: &mut Plan, parameters: &[Parameter]) -> Result<(), AllocError>
     ensures { OnOk result (PlanAdds plan.old plan.new (below_return_steps parameters.now)) }
@@ -266,8 +266,8 @@ fn plan_below_return(plan: &mut Plan, parameters: &[Parameter]) -> Result<(), Al
     }
 }
 
-// The arguments go to the parameters of a procedure that is not REENTRANT: the last one from A or HL, the others from the
-// stack. The last one that goes to a BYTE stays in A, and the last one that goes to an ADDRESS in HL.
+// Stores the arguments in the parameters of a procedure that is not REENTRANT: the last one from A or HL, the others
+// from the stack. The last one for a BYTE stays in A, and the last one for an ADDRESS in HL.
 #[tactic(auto, unfolding(crate::specs::Procedures::stores_steps))]
 fn plan_stores(plan: &mut Plan, last: Parameter, others: &[Parameter]) -> Result<(), AllocError>
     ensures { OnOk result (PlanAdds plan.old plan.new (stores_steps last others.now)) }
@@ -277,7 +277,7 @@ fn plan_stores(plan: &mut Plan, last: Parameter, others: &[Parameter]) -> Result
     plan.holds(known_from(with_argument(Facts::none(), last), others))
 }
 
-// How a procedure that is not REENTRANT begins.
+// The entry of a procedure that is not REENTRANT.
 #[tactic(auto, unfolding(crate::specs::Procedures::static_entry_steps))]
 fn plan_static_entry(plan: &mut Plan, parameters: &[Parameter]) -> Result<(), AllocError>
     ensures { OnOk result (PlanAdds plan.old plan.new (static_entry_steps parameters.now)) }
@@ -289,7 +289,7 @@ fn plan_static_entry(plan: &mut Plan, parameters: &[Parameter]) -> Result<(), Al
     }
 }
 
-// Pushes DE four times a turn, in a loop of so many turns.
+// Pushes DE four times per turn, in a loop of `turns` turns.
 #[tactic(auto, unfolding(crate::specs::Procedures::push_loop_steps))]
 fn plan_push_loop(plan: &mut Plan, turns: u8, again: LabelNumber) -> Result<(), AllocError>
     ensures { OnOk result (PlanAdds plan.old plan.new (push_loop_steps turns again)) }
@@ -301,7 +301,7 @@ fn plan_push_loop(plan: &mut Plan, turns: u8, again: LabelNumber) -> Result<(), 
     plan.jump(WordForm::JumpWhere(Condition::NotZero), again)
 }
 
-// Pushes DE so many times. A frame has at most 1024 bytes of variables.
+// Pushes DE `words` times. A frame has at most 1024 bytes of variables.
 #[tactic(auto, unfolding(crate::specs::Procedures::pushes_steps, crate::specs::Procedures::pushes_labels))]
 fn plan_pushes(plan: &mut Plan, words: u16) -> Result<(), AllocError>
     ensures { OnOk result (PlanAddsWithLabels plan.old plan.new (pushes_labels words) (pushes_steps words)) }
@@ -327,7 +327,7 @@ fn plan_odd_byte(plan: &mut Plan, bytes: u16) -> Result<(), AllocError>
     Ok(())
 }
 
-// Pushes so many bytes of zeros. A and HL stay as they are.
+// Pushes `bytes` bytes of zeros. A and HL are kept.
 #[tactic(auto, unfolding(crate::specs::Procedures::zeros_steps, crate::specs::Procedures::zeros_labels))]
 fn plan_zeros(plan: &mut Plan, bytes: u16) -> Result<(), AllocError>
     ensures { OnOk result (PlanAddsWithLabels plan.old plan.new (zeros_labels bytes) (zeros_steps bytes)) }
@@ -340,7 +340,7 @@ fn plan_zeros(plan: &mut Plan, bytes: u16) -> Result<(), AllocError>
     plan_odd_byte(plan, bytes)
 }
 
-// The last argument of a REENTRANT procedure is pushed, and stays in A or HL.
+// Pushes the last argument of a REENTRANT procedure, which stays in A or HL.
 #[tactic(auto, unfolding(crate::specs::Procedures::last_argument_steps, crate::specs::Procedures::last_argument_facts))]
 fn plan_last_argument(plan: &mut Plan, parameters: &[Parameter]) -> Result<Facts, AllocError>
     ensures steps { OnOk result (PlanAdds plan.old plan.new (last_argument_steps parameters.now)) }
@@ -355,7 +355,7 @@ fn plan_last_argument(plan: &mut Plan, parameters: &[Parameter]) -> Result<Facts
     }
 }
 
-// The frame of a REENTRANT procedure is made: its last argument, and zeros for its variables.
+// Makes the frame of a REENTRANT procedure: its last argument, and zeros for its variables.
 #[tactic(auto, unfolding(crate::specs::Procedures::frame_entry_steps))]
 fn plan_frame_entry(plan: &mut Plan, parameters: &[Parameter], bytes: u16) -> Result<(), AllocError>
     ensures { OnOk result (PlanAddsWithLabels plan.old plan.new
@@ -366,7 +366,7 @@ fn plan_frame_entry(plan: &mut Plan, parameters: &[Parameter], bytes: u16) -> Re
     plan.holds(facts)
 }
 
-/// How a procedure begins.
+/// The entry of a procedure.
 #[tactic(auto, unfolding(crate::specs::Procedures::entry_steps_by, crate::specs::Procedures::entry_labels_by))]
 pub(crate) fn plan_entry(body: &Body<'_>, plan: &mut Plan) -> Result<(), AllocError>
     ensures { OnOk result
@@ -396,7 +396,7 @@ fn plan_zero_result(plan: &mut Plan, result_type: Option<ScalarType>) -> Result<
     }
 }
 
-/// How a procedure ends whose end is reached: a result is 0.
+/// The end of a procedure, if it can be reached: the result is 0.
 #[tactic(auto, unfolding(crate::specs::Procedures::end_steps))]
 pub(crate) fn plan_end(body: &Body<'_>, plan: &mut Plan) -> Result<(), AllocError>
     ensures { OnOk result (PlanAdds plan.old plan.new (end_steps body.now)) }

@@ -1,4 +1,4 @@
-//! Segments of object modules from assembled code.
+//! Segments of object modules, from assembled code.
 
 ghost use Rattle.std.specs.Prelude.{◌≡◌, ◌∷◌, ◌++◌, ◌≤◌, ◌<◌, [], All, Some, false, length, map, slice_index_or, slice_range, IfOk, OnOk};
 ghost use Rattle.object_modules.specs.declared.segment.TheConstants.{SEGMENT_LIMIT};
@@ -13,7 +13,7 @@ use asm8080::CodeBytes;
 use object_modules::{Alignment, Run, SegmentBytes};
 use std::alloc::{AllocError, Global};
 
-// Whether the byte of an index is set.
+// Whether the byte at an index is set.
 fn is_set_at(is_set: &[bool], index: usize) -> bool
     ensures { result ≡ slice_index_or is_set.now index false }
 {
@@ -23,7 +23,7 @@ fn is_set_at(is_set: &[bool], index: usize) -> bool
     }
 }
 
-// Adds two runs, as one where the second begins at the end of the first.
+// Adds two runs, as one if the second begins at the end of the first.
 fn add_after(runs: &mut Vec<Run>, last: Run, run: Run) -> Result<(), AllocError>
     ensures { OnOk result (runs.new.items ≡ runs.old.items ++ with_run (last ∷ []) run) }
 {
@@ -38,7 +38,7 @@ fn add_after(runs: &mut Vec<Run>, last: Run, run: Run) -> Result<(), AllocError>
     Ok(())
 }
 
-// Adds a run after others, to the last of them where it begins at its end.
+// Adds a run to others, joined with the last of them if it begins at its end.
 #[tactic(auto, using(object_laws::proofs::Merges::RunsJoined::with_run_last))]
 fn add_run(runs: &mut Vec<Run>, run: Run) -> Result<(), AllocError>
     ensures { OnOk result (runs.new.items ≡ with_run runs.old.items run) }
@@ -52,7 +52,7 @@ fn add_run(runs: &mut Vec<Run>, run: Run) -> Result<(), AllocError>
     }
 }
 
-// Adds the bytes from an index to another one after runs, where there are any.
+// Adds the bytes between two indices to runs, if there are any.
 #[tactic(auto, using(crate::proofs::KeptSegments::none_added, crate::proofs::KeptSegments::some_added))]
 fn add_bytes(
     alloc: Global,
@@ -74,7 +74,7 @@ fn add_bytes(
     add_run(runs, Run::new(start as u16, bytes))
 }
 
-// How many bytes there are.
+// The number of bytes.
 fn count_of(bytes: &[u8]) -> usize
     ensures count { result ≡ length bytes.now }
     ensures bytes { All (λ byte. byte < 256) bytes.now }
@@ -82,7 +82,7 @@ fn count_of(bytes: &[u8]) -> usize
     bytes.len()
 }
 
-// The longest runs of bytes that are set.
+// The maximal runs of bytes that are set.
 #[tactic(auto, using(crate::proofs::KeptSegments::runs_begun, crate::proofs::KeptSegments::stretch_begun, crate::proofs::KeptSegments::stretch_more, crate::proofs::KeptSegments::stretch_ended, crate::proofs::KeptSegments::runs_unset, crate::proofs::KeptSegments::runs_ended))]
 fn runs_of(alloc: Global, bytes: &[u8], is_set: &[bool]) -> Result<Vec<Run>, AllocError>
     requires { length bytes.now ≤ SEGMENT_LIMIT }
@@ -100,8 +100,7 @@ fn runs_of(alloc: Global, bytes: &[u8], is_set: &[bool]) -> Result<Vec<Run>, All
     Ok(runs)
 }
 
-/// The segment that code is, where external names, so many, have these numbers in place of those by which its fixes know
-/// them.
+/// The segment of code. A table maps the numbers of EXTERNAL names in its fixes to other numbers, below `count`.
 pub(crate) fn segment_of(
     alloc: Global,
     code: CodeBytes,

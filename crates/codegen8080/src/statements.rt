@@ -1,4 +1,4 @@
-//! Which steps the code of a statement has.
+//! The steps of each statement.
 
 ghost use Rattle.std.specs.Prelude.{◌∷◌, [], OnOk};
 ghost use Rattle.steps8080.specs.declared.step.Task.TheVariants.{Call};
@@ -16,7 +16,7 @@ use std::alloc::AllocError;
 use treecode::{ExpressionNumber, Range, Statement};
 use trees::ScalarType;
 
-// The code ends with this instruction.
+// The code ends with HLT.
 fn plan_halt(plan: &mut Plan) -> Result<(), AllocError>
     ensures { OnOk result (PlanAdds plan.old plan.new halt_steps) }
 {
@@ -24,7 +24,7 @@ fn plan_halt(plan: &mut Plan) -> Result<(), AllocError>
     plan.push(Planned::Reaches(false))
 }
 
-// The code goes on at a label.
+// A jump to a label.
 fn plan_goto(plan: &mut Plan, label: LabelNumber) -> Result<(), AllocError>
     ensures { OnOk result (PlanAdds plan.old plan.new (goto_steps label)) }
 {
@@ -32,7 +32,7 @@ fn plan_goto(plan: &mut Plan, label: LabelNumber) -> Result<(), AllocError>
     plan.push(Planned::Reaches(false))
 }
 
-// The value of a RETURN into A or HL, by the type of the procedure.
+// Puts the value of a RETURN into A or HL, by the type of the procedure.
 fn plan_returned_value(
     plan: &mut Plan,
     value: Option<ExpressionNumber>,
@@ -47,7 +47,7 @@ fn plan_returned_value(
     }
 }
 
-// The code returns, with a value where there is one.
+// A return, with a value if there is one.
 #[tactic(auto, unfolding(crate::specs::Statements::return_of_steps))]
 fn plan_return_of(
     body: &Body<'_>,

@@ -1,4 +1,4 @@
-//! What fixes count from.
+//! Targets of fixes.
 
 ghost use Rattle.std.specs.Prelude.{◌≡◌, length, map, IfOk};
 ghost use Rattle.codegen8080.specs.Targets.{retargeted};
@@ -7,7 +7,7 @@ ghost use Rattle.codegen8080.specs.internal.Segments.{listed_target, retarget};
 use object_modules::{Fix, Segment, Target};
 use std::alloc::{AllocError, Global};
 
-// The target of a name by its number, if that is one of so many; else the start of the code, which no code needs.
+// The target of a name by its number, if it is below `count`; else the start of the code, which no code needs.
 fn listed_target(number: Option<u16>, count: usize) -> Target
     ensures { result ≡ listed_target count number }
 {
@@ -17,7 +17,7 @@ fn listed_target(number: Option<u16>, count: usize) -> Target
     }
 }
 
-// A target, where external names, so many, have these numbers.
+// A target, with new numbers, below `count`, for EXTERNAL names.
 fn retarget(target: Target, numbers: &[u16], count: usize) -> Target
     ensures { result ≡ retarget numbers.now count target }
 {
@@ -28,7 +28,7 @@ fn retarget(target: Target, numbers: &[u16], count: usize) -> Target
     }
 }
 
-/// Fixes, where external names, so many, have these numbers.
+/// Fixups, with new numbers, below `count`, for EXTERNAL names.
 pub(crate) fn retargeted(
     alloc: Global,
     fixes: &[Fix],

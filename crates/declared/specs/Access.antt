@@ -1,4 +1,4 @@
--- What reads and writes of memory give, by what the modules of a program declare where they lie.
+-- The results of reads and writes of memory, by the bytes that the modules of a program declare.
 use Rattle.std.specs.Prelude.{ℕ, ◌+◌, ◌*◌, ◌/◌, ◌%◌, Bool, List, map, slice_set, Result, Ok, Err, if◌then◌else◌}
 use Rattle.mem80.specs.declared.memory.TheConstants.{MEMORY_SIZE}
 use Rattle.mem80.specs.Memory.{byte_at}
@@ -32,12 +32,12 @@ is_declared_at modules placement address = placements.is_declared modules placem
 unfoldable pub is_constant_at : List TypedModule → Placement → (address : ℕ) → Bool
 is_constant_at modules placement address = placements.is_constant modules placement address
 
--- what a read of a byte answers: a byte that is read is declared
+-- the result of a read of a byte: a byte that is read is declared
 abbrev pub byte_read : List TypedModule → Placement → (memory : List ℕ) → (address : ℕ) → Result ℕ Reason
 byte_read modules placement memory address =
     if is_declared_at modules placement address then Ok (byte_at memory address) else Err UndeclaredByte
 
--- what a write answers, and the memory that it leaves
+-- the result of a write, and the memory after it
 pub record Written : Type 0 where
   pub answer : Result (Unit {0}) Reason
   pub memory : List ℕ
@@ -48,7 +48,7 @@ written memory = record { answer = Ok tt; memory = memory }
 abbrev pub refused : Reason → (memory : List ℕ) → Written
 refused reason memory = record { answer = Err reason; memory = memory }
 
--- a byte that is written is declared, and no constant
+-- a byte that is written is declared, and not a constant
 abbrev pub byte_written :
     List TypedModule → Placement → (memory : List ℕ) → (address byte : ℕ) → Written
 byte_written modules placement memory address byte =
@@ -61,13 +61,13 @@ byte_written modules placement memory address byte =
 abbrev pub next_address : (address : ℕ) → ℕ
 next_address address = (address + 1) % MEMORY_SIZE
 
--- the number of which two bytes were read, the low one first
+-- the number of two bytes that were read, the low one first
 abbrev pub number_of_bytes : (low high : Result ℕ Reason) → Result ℕ Reason
 number_of_bytes (Ok low) (Ok high) = Ok (low + 256 * high)
 number_of_bytes (Ok low) (Err reason) = Err reason
 number_of_bytes (Err reason) high = Err reason
 
--- what a read of a scalar answers
+-- the result of a read of a scalar
 abbrev pub scalar_read :
     List TypedModule → Placement → (memory : List ℕ) → ScalarType → (address : ℕ) → Result ℕ Reason
 scalar_read modules placement memory Byte address = byte_read modules placement memory address
@@ -75,7 +75,7 @@ scalar_read modules placement memory Address address =
     number_of_bytes (byte_read modules placement memory address)
     (byte_read modules placement memory (next_address address))
 
--- a further write to the memory that a write left, unless that was refused
+-- a further write to the memory after a write, unless that was refused
 abbrev pub then_write : Written → (List ℕ → Written) → Written
 then_write first next = by_answer first.answer
   where

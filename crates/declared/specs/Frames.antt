@@ -1,5 +1,5 @@
--- The frames of calls: what an object has in the frame of a procedure, and what reads and writes of the last
--- frame give.
+-- The frames of calls: the bytes of an object in the frame of a procedure, and the results of reads and writes of
+-- the last frame.
 use Rattle.std.specs.Prelude.{ℕ, ◌+◌, ◌*◌, ◌/◌, ◌%◌, ◌==◌, Bool, false, List, [], ◌∷◌, length, map, replicate, slice_index, slice_set, Option, Some, None, if◌then◌else◌}
 use Rattle.trees.specs.declared.declaration.ScalarType.{ScalarType}
 use Rattle.trees.specs.declared.declaration.ScalarType.TheVariants.{Byte, Address}
@@ -47,7 +47,7 @@ zeroed sizes = map (λ size. replicate size 0) sizes
 abbrev pub zeroed_frame : (procedure : ℕ) → ModuleFrames → List (List ℕ)
 zeroed_frame procedure frames = zeroed (sizes_in procedure frames.objects)
 
--- the last frame; nothing is in it where only the main program runs
+-- the last frame; it is empty while only the main program runs
 abbrev pub current_frame : List (List (List ℕ)) → List (List ℕ)
 current_frame [] = []
 current_frame (frame ∷ callers) = frame

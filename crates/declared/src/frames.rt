@@ -34,7 +34,7 @@ impl<'a> Model for Frames<'a> {
     ghost invariant = { λ frames. AreFrames frames.current frames.callers.items frames.bytes.items };
 }
 
-// Adds so many zeros.
+// Adds `count` zeros.
 fn add_zeros(bytes: &mut Vec<u8>, count: usize) -> Result<(), AllocError>
     ensures { MatchResult result (λ _. bytes.new.items ≡ bytes.old.items ++ replicate count 0)
         (λ _. bytes.new.items ≡ bytes.old.items) }
@@ -74,7 +74,7 @@ impl OpenFrame<'_> {
     ghost use Rattle.declared.specs.internal.Cuts.{total};
     ghost use Rattle.declared.specs.internal.Nesting.{sizes_of};
 
-    // The bytes of an object among those of all frames: none where it is not in the frame.
+    // The bytes of an object among those of all frames: none if it is not in the frame.
     #[inline(always)]
     fn part(&self, object: u32) -> Part
         requires procedure { (self.now).procedure < ((self.now).slots.now).procedures }
@@ -108,7 +108,7 @@ impl<'a> Frames<'a> {
         }
     }
 
-    /// Opens the frame of a call of a procedure, each of its bytes 0. Fails where there is no memory for it, and then nothing
+    /// Opens the frame of a call of a procedure, each of its bytes 0. Fails if memory runs out, and then nothing
     /// changes.
     pub fn open(&mut self, slots: &'a FrameSlots, procedure: usize) -> Result<(), AllocError>
         requires { procedure < (slots.now).procedures }
@@ -141,7 +141,7 @@ impl<'a> Frames<'a> {
         }
     }
 
-    // The bytes of an object in the last frame: none where it is not there.
+    // The bytes of an object in the last frame: none if it is not there.
     #[inline(always)]
     fn bytes_of(&self, object: u32) -> &[u8]
         ensures { result.now ≡ frame_bytes (current_frame self.now) object }
@@ -153,7 +153,7 @@ impl<'a> Frames<'a> {
         &self.bytes[part.start..part.start + part.size]
     }
 
-    /// Reads a byte of an object in the last frame, so many bytes after where the object begins: 0 where there is none.
+    /// Reads a byte of an object in the last frame, at an offset from the start of the object: 0 if it has no such byte.
     #[inline(always)]
     pub fn read(&self, object: u32, offset: usize) -> u8
         ensures { result ≡ slice_index (frame_bytes (current_frame self.now) object) offset }
@@ -161,7 +161,7 @@ impl<'a> Frames<'a> {
         byte_of(self.bytes_of(object), offset)
     }
 
-    /// Writes a byte of an object in the last frame. Where there is none, nothing changes.
+    /// Writes a byte of an object in the last frame. Nothing changes if it has no such byte.
     #[inline(always)]
     pub fn write(&mut self, object: u32, offset: usize, byte: u8)
         ensures { self.new ≡ with_current (frame_with_byte object offset byte) self.old }

@@ -34,7 +34,7 @@ pub fn read_scalar(
     }
 }
 
-/// Writes the scalar at an address; of a BYTE the low byte of the number. Where the high byte of an ADDRESS is refused, the low
+/// Writes the scalar at an address; of a BYTE the low byte of the number. If the high byte of an ADDRESS is refused, the low
 /// byte stays written.
 #[inline(always)]
 pub fn write_scalar(

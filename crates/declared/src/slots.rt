@@ -17,7 +17,7 @@ pub(crate) struct ObjectSlot {
     size: usize,
 }
 
-/// So many bytes, from one of them on.
+/// A number of bytes, from one of them on.
 #[derive(Clone, Copy)]
 pub(crate) struct Part {
     pub(crate) start: usize,
@@ -83,7 +83,7 @@ fn exact_size(object: &TypedObject) -> Result<usize, AllocError>
     }
 }
 
-// So many zeros.
+// `count` zeros.
 fn zeros(alloc: Global, count: usize) -> Result<Vec<usize>, AllocError>
     ensures { IfOk result (λ zeros. zeros.items ≡ replicate count 0) }
 {
@@ -97,7 +97,7 @@ impl FrameSlots {
     ghost use Rattle.declared.specs.Frames.{frame_object, module_frames, sizes_in};
     ghost use Rattle.declared.specs.internal.Cuts.{total};
 
-    // No objects yet, and so many procedures.
+    // No objects yet, and a number of procedures.
     fn without_objects(
         alloc: Global,
         objects: usize,
@@ -127,7 +127,7 @@ impl FrameSlots {
         Ok(())
     }
 
-    // Adds an object of so many bytes in the frame of a procedure.
+    // Adds an object of `size` bytes in the frame of a procedure.
     fn add_inside(&mut self, procedure: usize, size: usize) -> Result<(), AllocError>
         ensures { OnOk result (self.new ≡ record self.old {
           objects = self.old.objects ++ record { procedure = Some procedure; size = size } ∷ [];
@@ -174,7 +174,7 @@ impl FrameSlots {
         }
     }
 
-    /// The slots of a module. Fails where there is no memory for them, and where a frame has more bytes than a computer can have.
+    /// The slots of a module. Fails if memory runs out, or if a frame has more bytes than a computer can have.
     pub fn new(alloc: Global, typed: &Typed) -> Result<FrameSlots, AllocError>
         ensures { IfOk result (λ slots. slots ≡ module_frames (module_view typed.now)) }
     {
@@ -197,7 +197,7 @@ impl FrameSlots {
         self.frame_sizes[procedure]
     }
 
-    /// The bytes of an object in the frame of a procedure: none where it is not in it.
+    /// The bytes of an object in the frame of a procedure: none if it is not in it.
     #[inline(always)]
     pub(crate) fn part(&self, procedure: usize, object: u32) -> Part
         requires { procedure < (self.now).procedures }

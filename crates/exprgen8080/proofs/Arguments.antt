@@ -2,14 +2,14 @@
 use Rattle.exprgen8080.proofs.Prelude.{◌≡◌, ℕ, suc, ◌+◌, ◌-◌, ◌%◌, ◌<◌, ◌≤◌, List, [], ◌∷◌, ◌++◌, Option, Some, None, Result, Ok, Err, OnOk, arith, ap, sym, ◌∙◌, append_assoc, refl, append-nil, ExpressionNumber, Range, argument, Step, CallProcedure, Steps, Adds, Site}
 use Rattle.exprgen8080.specs.Calls.{argument_steps, arguments_steps, call_steps, last_argument_steps, pushed_argument_steps}
 
--- steps are those of a call, but for its arguments from this one on, and no label is taken
+-- the steps of a call up to the arguments from this index on are planned, and no label is taken
 pub record IsBefore
     (site : Site) (arguments : Range) (pushed : ℕ) (before steps : Steps) (index depth : ℕ) : Type 0 where
   pub added : steps.list.items ++ arguments_steps site arguments (arguments.count - index) depth
       ≡ before.list.items ++ arguments_steps site arguments arguments.count pushed
   pub labels : steps.labels ≡ before.labels
 
--- what is next, and what follows
+-- the next argument, and those after it
 abbrev with_next : Site → Range → Option ExpressionNumber → (others depth : ℕ) → List Step
 with_next site arguments found others depth = elim found [
   | Some expression ↦
@@ -43,7 +43,7 @@ none_planned site arguments pushed before =
     }
 
 module _ (site : Site) (arguments : Range) (pushed : ℕ) (before steps : Steps) (index depth : ℕ) where
-  -- an argument that others follow is planned
+  -- an argument with others after it is planned
   pub pushed_planned : (after : Steps) (expression : ExpressionNumber)
       → index < arguments.count - 1
       → argument site.tree.now arguments index ≡ Some expression
@@ -92,7 +92,7 @@ module _ (site : Site) (arguments : Range) (pushed : ℕ) (before steps : Steps)
         labels = adds.labels ∙ so_far.labels;
       }
 
-  -- an argument that is not there is passed over
+  -- an argument that is absent is passed over
   pub none_passed : index < arguments.count
       → argument site.tree.now arguments index ≡ None
       → IsBefore site arguments pushed before steps index depth
@@ -126,7 +126,7 @@ module _ (site : Site) (arguments : Range) (pushed : ℕ) (before steps : Steps)
         labels = adds.labels ∙ so_far.labels;
       }
 
-  -- all are planned, and the call
+  -- all arguments are planned, and the call
   pub call_planned : (after : Steps) (procedure : ℕ) {E : Type 0} (result : Result (Unit {0}) E)
       → arguments.count ≤ index
       → IsBefore site arguments pushed before steps index depth

@@ -1,9 +1,9 @@
--- What is written with labels counted in its order is the code that the function gives, so that there is only one.
+-- Items with labels counted in their order are the code that the function gives, so that the code is unique.
 use Rattle.exprgen8080.proofs.Prelude.{◌≡◌, ℕ, suc, ◌+◌, Bool, List, [], ◌++◌, Option, Some, option_and_then, option_map, sym, ap, subst, ◌∙◌, arith, Item, Facts, Part, Step, label_after, Site, Emission, AreWritten, IsWritten, NoneWritten, PlainWritten, WordWritten, JumpWritten, MarkWritten, RoutineWritten, CallWritten, TestWritten, HoldsWritten, ChangeWritten, PartWritten, Planned, knowing, Emits, after_step, step_items, task_labels, task_steps, AreLabelled, IsLabelled}
 use Rattle.steps8080.specs.declared.step.Step.TheVariants as steps
 use Rattle.exprgen8080.specs.Code.{AddsCodeOfPart, Code, IsCodeOfPart, IsCodeOfSteps, IsFoundDeep, code_of_part, code_of_steps, in_front}
 
--- What is found by a function of what is found, and by one that looks one deeper.
+-- A value found by a function of another found value, looked up one level deeper.
 pub found_then : {A B : Type 0} (first_at : (depth : ℕ) → Option A) (then_at : (depth : ℕ) → A → Option B)
     (first : A) (found : B)
     → IsFoundDeep first_at first
@@ -31,7 +31,7 @@ found_deeper found_at found is =
     let deeper : (extra : ℕ) → suc (is.0 + extra) ≡ suc is.0 + extra = λ extra. omega arith in
     (suc is.0, λ extra. subst (λ depth. found_at depth ≡ Some found) (deeper extra) (is.1 extra))
 
--- There is one at most.
+-- At most one value is found.
 pub one_is_found : {A : Type 0} (found_at : (depth : ℕ) → Option A) (one other : A)
     → IsFoundDeep found_at one → IsFoundDeep found_at other → one ≡ other
 one_is_found found_at one other is also =
@@ -123,7 +123,7 @@ mutual
       code)
       labels.0 (steps_are_code after next steps labels.1))
 
--- What a call adds for a part is the code of that part.
+-- The items that a call adds for a part are the code of that part.
 pub emitted_is_code :
     (site : Site) (part : Part) (before after : Emission)
     → Emits site part before after

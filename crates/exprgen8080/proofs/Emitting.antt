@@ -4,7 +4,7 @@ use Rattle.runtime8080.specs.declared.routine.Routine.{Routine}
 use Rattle.steps8080.specs.declared.step.Step.TheVariants as steps
 use Rattle.steps8080.proofs.Numbered.{either_true, is_itself, writes_nothing, writes_then}
 
--- a table has all that it has
+-- a table marks all that it marks
 pub has_itself : (called : List Bool) → HasAll called called
 has_itself called = λ routine given. given
 
@@ -16,12 +16,12 @@ kept_at (first ∷ others) zero (suc number) given = given
 kept_at (first ∷ others) (suc index) zero given = given
 kept_at (first ∷ others) (suc index) (suc number) given = kept_at others index number given
 
--- a table in which one more routine is noted
+-- a table with one more routine marked
 pub note_kept : (before after : List Bool) (index : ℕ) → after ≡ set before index true → HasAll before after
 note_kept before after index same = subst (λ to. HasAll before to) (sym same)
     (λ routine given. kept_at before index (index_of_routine routine) given)
 
--- nothing is noted
+-- no routine is marked
 pub note_none : (called : List Bool) (index : ℕ) → NotesOnly index called called
 note_none called index = λ other given. inl given
 
@@ -31,7 +31,7 @@ pub none_noted : (tree : TreeModule) (before after : Emission) (list : List Item
 none_noted tree before after list same = λ routine given.
     inl (ap (λ flags. has_routine flags.items routine) (sym same) ∙ given)
 
--- one routine is
+-- one routine is marked
 pub note_only : (before after : List Bool) (index : ℕ) → after ≡ set before index true → NotesOnly index before after
 note_only before after index same = subst (NotesOnly index before) (sym same) (only before index)
   where
@@ -43,7 +43,7 @@ note_only before after index same = subst (NotesOnly index before) (sym same) (o
     only (first ∷ others) (suc index) (suc other) given =
         elim (only others index other given) [ inl kept ↦ inl kept | inr same ↦ inr (ap suc same) ]
 
--- and it is called
+-- it is called
 pub call_noted : (tree : TreeModule) (routine : Routine) (before after : List Bool)
     → NotesOnly (index_of_routine routine) before after
     → NotesCalled tree before after (jump_item CallTo (module_label_of_routine tree routine) ∷ [])
@@ -58,7 +58,7 @@ call_noted tree routine before after only = λ other given.
           )
     ]
 
--- routines that are noted one after another
+-- routines that are marked one after another
 pub notes_then : (tree : TreeModule) (before between after : List Bool) (list later : List Item)
     → NotesCalled tree before between list
     → NotesCalled tree between after later
@@ -81,7 +81,7 @@ notes_then tree before between after list later first second = λ routine given.
 
 module _ {site : Site} {called wider : List Bool} (more : HasAll called wider) where
   mutual
-    -- what is written where some routines are called is written where more are
+    -- code that is written with some routines called is also written with more
     pub are_kept : {facts last : Facts} {list : List Step} {items : List Item}
         → AreWritten site called facts list items last → AreWritten site wider facts list items last
     are_kept NoneWritten = NoneWritten
@@ -133,19 +133,19 @@ module _ {site : Site} {called : List Bool} (wider : List Bool) (more : HasAll c
       are_labels_kept (label_after label (task_labels (knowing site facts) part)) next steps labels.1,
     )
 
--- steps that are written, with labels from this one on, of which that one is the next
+-- steps that are written, with labels from `label` on, up to the next one
 abbrev pub LabelledSteps : (site : Site) (called : List Bool) (facts : Facts) (list : List Step) (items : List Item)
     (last : Facts) (label next : ℕ) → Type 0
 LabelledSteps site called facts list items last label next =
     (written : AreWritten site called facts list items last) × AreLabelled written label next
 
--- and a part
+-- the same for a part
 abbrev pub LabelledPart : (site : Site) (called : List Bool) (facts : Facts) (part : Part) (items : List Item)
     (last : Facts) (label next : ℕ) → Type 0
 LabelledPart site called facts part items last label next =
     (written : IsWritten site called facts part items last) × IsLabelled written label next
 
--- a step that is no part is written, and others after it
+-- a step that is not a part is written, and others after it
 pub step_written : (site : Site) (called : List Bool) (facts last : Facts) (step : Step)
     (others : List Step) (more : List Item) (label next : ℕ)
     → IsAlone called step
@@ -171,7 +171,7 @@ step_written site called facts last steps.MemoryChanged others more label next a
     (ChangeWritten written.0, written.1)
 step_written site called facts last (steps.Part part) others more label next alone written = absurd alone
 
--- a step is alone where more routines are called
+-- a step is alone, also with more routines called
 pub alone_kept : (called wider : List Bool) (step : Step) → HasAll called wider
     → IsAlone called step → IsAlone wider step
 alone_kept called wider (steps.CallRoutine routine) more alone = more routine alone
@@ -254,7 +254,7 @@ emits_then site first second before between after here next =
       labels = all.1;
     }
 
--- a step that is no part
+-- a step that is not a part
 pub emits_step : (site : Site) (step : Step) (before after : Emission)
     → AddsItems before after (step_items site.tree.now before.facts step) (after_step before.facts step)
     → IsAlone after.is_called.items step
@@ -304,7 +304,7 @@ emits_part site part before after emits =
       labels = written.1;
     }
 
--- The steps of a part are being written, those up to an end; those from an index on are left.
+-- The steps of a part are being written, up to an end; those from an index on remain.
 pub record IsWriting (site : Site) (part : Part) (before now : Emission) (index end : ℕ) : Type 0 where
   pub list : List Item
   pub writes : Writes before.writer now.writer list
@@ -316,7 +316,7 @@ pub record IsWriting (site : Site) (part : Part) (before now : Emission) (index 
   pub begins : take (length before.steps.list.items) now.steps.list.items ≡ before.steps.list.items
   pub count : length now.steps.list.items ≡ end
 
--- what is left where an index is within
+-- the remaining steps, if an index is within
 pub left_is : {A : Type 0} (list : List A) (index : ℕ) (found : A) → slice_get list index ≡ Some found
     → drop index list ≡ found ∷ drop (index + 1) list
 left_is list index found is =
@@ -324,7 +324,7 @@ left_is list index found is =
     ∙ ap (λ at. at ∷ drop (index + 1) list) (get_or_from_slice_get list index found found is)
 
 module _ (site : Site) (part : Part) (before now : Emission) where
-  -- all steps of a part are left
+  -- all steps of a part remain
   pub writing_begins : (planned : Emission) (end : ℕ)
       → planned ≡ record before { steps = planned.steps }
       → AddsWithLabels before.steps planned.steps
@@ -430,7 +430,7 @@ module _ (site : Site) (part : Part) (before now : Emission) where
         labels = written.1;
       }
 
--- past the end nothing is left
+-- past the end no step remains
 pub none_is : {A : Type 0} (list : List A) (index : ℕ) → slice_get list index ≡ None
     → drop index list ≡ drop (index + 1) list
 none_is list index none = past list index none ∙ ap (λ at. drop at list) (next index)
@@ -445,7 +445,7 @@ none_is list index none = past list index none ∙ ap (λ at. drop at list) (nex
     past (first ∷ others) zero none = let bad : Some first ≡ None = none in cc
     past (first ∷ others) (suc index) none = past others index none
 
--- no step is left
+-- no step remains
 pub none_passed : (site : Site) (part : Part) (before now : Emission) (index end : ℕ)
     → IsWriting site part before now index end
     → slice_get now.steps.list.items index ≡ None

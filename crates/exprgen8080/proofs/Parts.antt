@@ -1,4 +1,4 @@
--- Planners that take no label, as such that may take some.
+-- Planners that take no label, as a special case of those that may take some.
 use Rattle.exprgen8080.proofs.Prelude.{List, ap, Step, Steps, Adds, AddsWithLabels, label_after}
 
 pub none_taken : (before after : Steps) (list : List Step)

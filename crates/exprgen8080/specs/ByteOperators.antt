@@ -1,4 +1,4 @@
--- The code of operators whose low byte comes into A.
+-- The code of operators on low bytes, with the result in A.
 use Rattle.std.specs.Prelude.{ℕ, ◌+◌, ◌-◌, ◌%◌, ◌==◌, Bool, true, false, ◌&&◌, List, [], ◌∷◌, ◌++◌, Option, Some, None, is_some, option_map, if◌then◌else◌}
 use Rattle.isa8080.specs.declared.instr.Instr.TheVariants.{AccumulateImmediate, Cma, Dcr, Inr, Pop, Push}
 use Rattle.isa8080.specs.declared.instr.Operand.TheVariants.{Of}
@@ -28,7 +28,7 @@ use Rattle.exprgen8080.specs.declared.byte_operators.Operands.{Operands}
 use Rattle.exprgen8080.specs.Halves.{byte_number_steps, low_of_word_steps}
 use Rattle.exprgen8080.specs.ByteShifts.{low_byte_shifted_right_steps}
 
--- whether the sides of an operation may be changed
+-- whether the operands of an operation may be exchanged
 unfoldable pub commutes : Operation → Bool
 commutes Add = true
 commutes And = true
@@ -36,7 +36,7 @@ commutes ExclusiveOr = true
 commutes Or = true
 commutes operation = false
 
--- a number is added to A
+-- adds a number to A
 unfoldable pub added_steps : (number : ℕ) → List Step
 added_steps number =
     if number == 0 then []
@@ -44,7 +44,7 @@ added_steps number =
     else if number == 255 then Plain (Dcr (Of A)) ∷ []
     else Plain (AccumulateImmediate Add number) ∷ []
 
--- an operation with A and a number, in the shortest form; a difference is a sum with 256 less the number
+-- an operation on A with a number, in the shortest form; a difference is a sum with 256 minus the number
 unfoldable pub immediate_steps : Operation → (number : ℕ) → List Step
 immediate_steps Add number = added_steps number
 immediate_steps Subtract number = added_steps ((256 - number) % 256)
@@ -56,8 +56,8 @@ immediate_steps ExclusiveOr number =
 immediate_steps And number = if number == 255 then [] else Plain (AccumulateImmediate And number) ∷ []
 immediate_steps operation number = Plain (AccumulateImmediate operation number) ∷ []
 
--- an operation with a byte on the left and a number on the right into A; where the number alone gives the
--- value, the byte is evaluated for what that does
+-- an operation with a byte on the left and a number on the right, into A; if the number alone gives the
+-- result, the byte is evaluated for its effects
 unfoldable pub with_number_steps : Operation → ExpressionNumber → (number pushed : ℕ) → List Step
 with_number_steps And value number pushed =
     if number == 0 then part (tasks.Effects value) pushed ∷ Plain clear_a ∷ []
@@ -68,35 +68,35 @@ with_number_steps Or value number pushed =
 with_number_steps operation value number pushed =
     part (tasks.Byte value) pushed ∷ immediate_steps operation number
 
--- an operation with a number on the left and a byte on the right into A; a difference is a sum with the
+-- an operation with a number on the left and a byte on the right, into A; a difference is a sum with the
 -- complement
 unfoldable pub from_number_steps : Operation → (number : ℕ) → ExpressionNumber → (pushed : ℕ) → List Step
 from_number_steps operation number value pushed =
     if commutes operation then with_number_steps operation value number pushed
     else part (tasks.Byte value) pushed ∷ Plain Cma ∷ added_steps ((number + 1) % 256)
 
--- the form where the right operand comes first, if the left one is in memory or free
+-- the form that evaluates the right operand first, if the left one is in memory or free
 unfoldable pub form_after_right : Site → Operation → Operands → Option ByteForm
 form_after_right site operation operands =
     if commutes operation then option_map LeftInMemory (operand_in_memory site operands.left)
     else if is_free site operands.left then Some LeftFree
     else None
 
--- the form where the right operand is in a register already, if that makes one shorter
+-- the form for a right operand that is in a register already, if that makes the code shorter
 unfoldable pub form_from_register : Site → Operation → Operands → Option ByteForm
 form_from_register site operation operands =
     if is_byte_in_register site operands.right && may_exchange site operands.left operands.right
     then form_after_right site operation operands
     else None
 
--- the form where no operand is in memory
+-- the form if no operand is in memory
 unfoldable pub form_without_memory : Site → Operation → Operands → ByteForm
 form_without_memory site operation operands =
     if may_exchange site operands.left operands.right && is_free site operands.left then LeftFree
     else if commutes operation && is_free site operands.right then RightFree
     else Pushed
 
--- the form where the right operand is not in memory
+-- the form if the right operand is not in memory
 unfoldable pub form_with_left : Site → Operation → Operands → ByteForm
 form_with_left site operation operands =
     if may_exchange site operands.left operands.right && commutes operation
@@ -106,7 +106,7 @@ form_with_left site operation operands =
     ]
     else form_without_memory site operation operands
 
--- the form in which two operands, neither of which is a number, come to an operation
+-- the form of an operation on two operands that are not numbers
 unfoldable pub form_of : Site → Operation → Operands → ByteForm
 form_of site operation operands = elim (form_from_register site operation operands) [
   | Some form ↦ form
@@ -116,19 +116,20 @@ form_of site operation operands = elim (form_from_register site operation operan
   ]
 ]
 
--- one operand into A, and an operation with the other one, which is in memory
+-- puts one operand into A, and does the operation with the other one in memory
 unfoldable pub with_memory_steps :
     Operation → ExpressionNumber → (other : Reference) → (pushed : ℕ) → List Step
 with_memory_steps operation value other pushed =
     part (tasks.Byte value) pushed ∷ part (tasks.Address other) pushed ∷ Plain (with_memory operation) ∷ []
 
--- one operand into E, then the other one, whose code changes A alone, and an operation with E
+-- puts one operand into E, then the other one, with code that changes only A, into A; does the operation with
+-- E
 unfoldable pub with_e_steps : Operation → (first second : ExpressionNumber) → (pushed : ℕ) → List Step
 with_e_steps operation first second pushed =
     part (tasks.Byte first) pushed ∷ Plain (copy E A) ∷ part (tasks.Byte second) pushed
     ∷ Plain (with_register operation E) ∷ []
 
--- the left operand onto the stack, then the right one, and an operation with both
+-- pushes the left operand, evaluates the right one, and does the operation with both
 unfoldable pub with_stack_steps : Operation → Operands → (pushed : ℕ) → List Step
 with_stack_steps operation operands pushed =
     part (tasks.Byte operands.left) pushed ∷ Plain (Push Psw)
@@ -136,7 +137,7 @@ with_stack_steps operation operands pushed =
     ∷ (if commutes operation then Plain (Pop StackBc) ∷ [] else Plain (copy B A) ∷ Plain (Pop Psw) ∷ [])
     ++ (Plain (with_register operation B) ∷ [])
 
--- an operation with two operands, neither of which is a number, in a form
+-- an operation with two operands that are not numbers, in a form
 unfoldable pub in_form_steps : ByteForm → Operation → Operands → (pushed : ℕ) → List Step
 in_form_steps (RightInMemory reference) operation operands pushed =
     with_memory_steps operation operands.left reference pushed
@@ -146,7 +147,7 @@ in_form_steps LeftFree operation operands pushed = with_e_steps operation operan
 in_form_steps RightFree operation operands pushed = with_e_steps operation operands.left operands.right pushed
 in_form_steps Pushed operation operands pushed = with_stack_steps operation operands pushed
 
--- an operation with the low bytes of two operands into A
+-- puts the result of an operation with the low bytes of two operands into A
 unfoldable pub byte_operation_steps : Site → Operation → Operands → (pushed : ℕ) → List Step
 byte_operation_steps site operation operands pushed = elim (low_number site operands.right) [
   | Some number ↦ with_number_steps operation operands.left number pushed
@@ -156,7 +157,7 @@ byte_operation_steps site operation operands pushed = elim (low_number site oper
   ]
 ]
 
--- the low byte of a product into A
+-- puts the low byte of a product into A
 unfoldable pub product_byte_steps : Site → (number : ExpressionNumber) → Operands → (pushed : ℕ) → List Step
 product_byte_steps site number operands pushed = elim (low_number site operands.right) [
   | Some factor ↦ byte_product_steps operands.left factor pushed
@@ -166,21 +167,21 @@ product_byte_steps site number operands pushed = elim (low_number site operands.
   ]
 ]
 
--- the low byte of a quotient into A
+-- puts the low byte of a quotient into A
 unfoldable pub quotient_byte_steps : Site → (number : ExpressionNumber) → Operands → (pushed : ℕ) → List Step
 quotient_byte_steps site number operands pushed = elim (power site operands.right) [
   | Some count ↦ low_byte_shifted_right_steps site operands.left count pushed
   | None ↦ low_of_word_steps number pushed
 ]
 
--- the number that an expression is, if it is a power of two
+-- the value of an expression, if it is known as a power of 2
 unfoldable pub number_of_two : Site → ExpressionNumber → Option ℕ
 number_of_two site expression = elim (number_of site expression) [
   | Some number ↦ if is_some (power site expression) then Some number else None
   | None ↦ None
 ]
 
--- the low byte of a remainder into A: by a power of two it is the bits below it
+-- puts the low byte of a remainder into A; for a power of 2, masks the bits below it
 unfoldable pub remainder_byte_steps : Site → Operands → (pushed : ℕ) → List Step
 remainder_byte_steps site operands pushed = elim (number_of_two site operands.right) [
   | Some number ↦ with_number_steps And operands.left (low ((number + 65535) % 65536)) pushed
@@ -189,7 +190,7 @@ remainder_byte_steps site operands pushed = elim (number_of_two site operands.ri
       ++ (CallRoutine routines.Divide ∷ Plain (copy A E) ∷ [])
 ]
 
--- the low byte of the value of an operator with two operands into A
+-- puts the low byte of the result of an operator with two operands into A
 unfoldable pub byte_binary_steps :
     Site → (number : ExpressionNumber) → BinaryOperator → Operands → (pushed : ℕ) → List Step
 byte_binary_steps site number operators.Add operands pushed = byte_operation_steps site Add operands pushed

@@ -24,51 +24,50 @@ use Rattle.steps8080.specs.Widths.{fits_byte, operand_in_memory}
 use Rattle.exprgen8080.specs.declared.byte_shifts.Shifted.{Shifted}
 use Rattle.exprgen8080.specs.Halves.{high_byte_steps, low_of_word_steps}
 
--- the ones that stay of a byte shifted to the right by a count below 8
+-- the mask of the bits that a right shift of a byte by a count below 8 keeps
 unfoldable pub kept_bits : (count : ℕ) → ℕ
 kept_bits count = if nat_lt count 8 then 255 / 2 ^ count else 0
 
--- A turned to the right by a count below 8, the shorter way
+-- rotates A right by a count below 8, in the shorter direction
 unfoldable pub turned_right_steps : (count : ℕ) → List Step
 turned_right_steps count = if nat_le count 4 then repeat_steps Rrc count else repeat_steps Rlc (8 - count)
 
--- A shifted to the right by a count below 8: by 1 through the carry, by more by turning it and masking what
--- came in
+-- shifts A right by a count below 8: by 1 through the carry, by more with a rotation and a mask
 unfoldable pub right_shift_steps : (count : ℕ) → List Step
 right_shift_steps count =
     if count == 0 then []
     else if count == 1 then plain (with_register Or A ∷ Rar ∷ [])
     else turned_right_steps count ++ (Plain (AccumulateImmediate And (kept_bits count)) ∷ [])
 
--- A rotated to the left by a count below 8, the shorter way
+-- rotates A left by a count below 8, in the shorter direction
 unfoldable pub rotation_steps : (count : ℕ) → List Step
 rotation_steps count = if nat_le count 4 then repeat_steps Rlc count else repeat_steps Rrc (8 - count)
 
--- 0 into A, after what an expression does
+-- evaluates an expression for its effects, and puts 0 into A
 unfoldable pub zero_steps : ExpressionNumber → (pushed : ℕ) → List Step
 zero_steps value pushed = part (tasks.Effects value) pushed ∷ Plain clear_a ∷ []
 
--- the low byte of a value shifted to the left by a count into A
+-- puts the low byte of a value shifted left by a count into A
 unfoldable pub shifted_left_steps : ExpressionNumber → (count pushed : ℕ) → List Step
 shifted_left_steps value count pushed =
     if nat_le 8 count then zero_steps value pushed
     else part (tasks.Byte value) pushed ∷ repeat_steps (with_register Add A) count
 
--- a value below 256 shifted to the right by a count into A
+-- puts a value below 256 shifted right by a count into A
 unfoldable pub byte_shifted_right_steps : ExpressionNumber → (count pushed : ℕ) → List Step
 byte_shifted_right_steps value count pushed =
     if nat_le 8 count then zero_steps value pushed
     else part (tasks.Byte value) pushed ∷ right_shift_steps count
 
--- the low byte of a word shifted to the right by a count from 1 to 7 into A: it is the high byte of the word
--- shifted to the left by what is missing to 8
+-- puts the low byte of a word shifted right by a count from 1 to 7 into A: it is the high byte of the word
+-- shifted left by 8 minus the count
 unfoldable pub middle_byte_steps : ExpressionNumber → (count pushed : ℕ) → List Step
 middle_byte_steps value count pushed =
     if count == 1
     then part (tasks.Word value) pushed ∷ plain (with_register Or A ∷ copy A H ∷ Rar ∷ copy A L ∷ Rar ∷ [])
     else part (tasks.Word value) pushed ∷ repeat_steps (Dad Hl) (8 - count) ++ (Plain (copy A H) ∷ [])
 
--- the low byte of a value shifted to the right by a count into A
+-- puts the low byte of a value shifted right by a count into A
 unfoldable pub low_byte_shifted_right_steps : Site → ExpressionNumber → (count pushed : ℕ) → List Step
 low_byte_shifted_right_steps site value count pushed =
     if fits_byte site value then byte_shifted_right_steps value count pushed
@@ -77,7 +76,7 @@ low_byte_shifted_right_steps site value count pushed =
     else if count == 0 then part (tasks.Byte value) pushed ∷ []
     else middle_byte_steps value count pushed
 
--- the low byte of a value shifted or rotated by a number into A
+-- puts the low byte of a value shifted or rotated by a number into A
 unfoldable pub by_number_steps :
     Site → ShiftFunction → (value : ExpressionNumber) → (count pushed : ℕ) → List Step
 by_number_steps site ShiftLeft value count pushed = shifted_left_steps value count pushed
@@ -94,13 +93,13 @@ byte_routine ShiftRight = routines.ShiftRightByte
 byte_routine RotateLeft = routines.RotateLeft
 byte_routine RotateRight = routines.RotateRight
 
--- a BYTE into A, and a count in memory, whose address keeps A, into E
+-- puts a BYTE into A, and a count in memory into E; the code for the address of the count keeps A
 unfoldable pub count_in_memory_steps : ExpressionNumber → (count : Reference) → (pushed : ℕ) → List Step
 count_in_memory_steps value count pushed =
     part (tasks.Byte value) pushed ∷ part (tasks.Address count) pushed ∷ Plain (load E) ∷ []
 
--- a BYTE into A, and a count into E: the count first where the value leaves E alone and may come second, else
--- the value waits on the stack
+-- puts a BYTE into A, and a count into E: the count first if the code of the value keeps E and it may come
+-- second; else the value is pushed
 unfoldable pub operands_steps : Site → (value count : ExpressionNumber) → (pushed : ℕ) → List Step
 operands_steps site value count pushed = elim (operand_in_memory site count) [
   | Some reference ↦ count_in_memory_steps value reference pushed
@@ -111,7 +110,7 @@ operands_steps site value count pushed = elim (operand_in_memory site count) [
       ∷ Plain (copy E A) ∷ Plain (Pop Psw) ∷ []
 ]
 
--- the low byte of a shift or a rotation into A
+-- puts the low byte of a shift or a rotation into A
 unfoldable pub byte_shift_steps : Site → (number : ExpressionNumber) → Shifted → (pushed : ℕ) → List Step
 byte_shift_steps site number shifted pushed = elim (number_of site shifted.count) [
   | Some count ↦ by_number_steps site shifted.function shifted.value count pushed

@@ -1,4 +1,4 @@
--- The code of the low bytes of values, in A.
+-- Code that puts the low bytes of values into A.
 use Rattle.std.specs.Prelude.{ℕ, Bool, true, List, [], ◌∷◌, ◌++◌, Some, None}
 use Rattle.isa8080.specs.declared.instr.Instr.TheVariants.{Cma, In, Inr}
 use Rattle.isa8080.specs.declared.instr.Operand.TheVariants.{Of}
@@ -32,42 +32,42 @@ use Rattle.exprgen8080.specs.ByteOperators.{byte_binary_steps}
 use Rattle.exprgen8080.specs.ByteShifts.{byte_shift_steps}
 use Rattle.exprgen8080.specs.Calls.{call_steps, value_task}
 
--- the low byte of a known value into A
+-- puts the low byte of a known value into A
 unfoldable pub known_byte_steps : Place → List Step
 known_byte_steps place = elim (place_number place) [
   | Some number ↦ byte_number_steps (low number)
   | None ↦ Word (LoadPair Hl) place ∷ Plain (copy A L) ∷ []
 ]
 
--- NOT or `-` of a byte, in A
+-- puts NOT or `-` of a byte into A
 unfoldable pub byte_unary_steps : UnaryOperator → ExpressionNumber → (pushed : ℕ) → List Step
 byte_unary_steps Not operand pushed = part (tasks.Byte operand) pushed ∷ Plain Cma ∷ []
 byte_unary_steps Negate operand pushed =
     part (tasks.Byte operand) pushed ∷ Plain Cma ∷ Plain (Inr (Of A)) ∷ []
 
--- the value of an assignment into A or HL, by its type, and to its target
+-- puts the value of an assignment into A or HL, by its type, and stores it in the target
 unfoldable pub embedded_steps : Target → ExpressionNumber → (is_wanted : Bool) → (pushed : ℕ) → List Step
 embedded_steps target value is_wanted pushed =
     part (value_task (source target) value) pushed ∷ part (tasks.Store target is_wanted) pushed ∷ []
 
--- the low byte of a value of a type that is in A or HL by that type, into A
+-- puts the low byte of a value that is in A or HL, by its type, into A
 unfoldable pub low_of_value_steps : ScalarType → List Step
 low_of_value_steps scalars.Byte = []
 low_of_value_steps scalars.Address = Plain (copy A L) ∷ []
 
--- the low byte of the value of a call into A
+-- puts the low byte of the result of a call into A
 unfoldable pub called_byte_steps :
     Site → (number : ExpressionNumber) → (procedure : ℕ) → Range → (pushed : ℕ) → List Step
 called_byte_steps site number procedure arguments pushed =
     call_steps site procedure arguments pushed ++ low_of_value_steps (scalar site number)
 
--- LOW, HIGH or DOUBLE of a value, its low byte in A
+-- puts the low byte of LOW, HIGH or DOUBLE of a value into A
 unfoldable pub byte_function_steps : Site → UnaryFunction → ExpressionNumber → (pushed : ℕ) → List Step
 byte_function_steps site Low operand pushed = part (tasks.Byte operand) pushed ∷ []
 byte_function_steps site High operand pushed = high_byte_steps site operand pushed
 byte_function_steps site Double operand pushed = part (tasks.Byte operand) pushed ∷ []
 
--- the low byte of the value of an operator with two operands, a shift or a rotation into A
+-- puts the low byte of the result of an operator with two operands, a shift or a rotation into A
 unfoldable pub byte_of_two_steps :
     Site → (number : ExpressionNumber) → ExpressionForm → (pushed : ℕ) → List Step
 byte_of_two_steps site number (forms.Binary operands operator left right) pushed =
@@ -76,7 +76,7 @@ byte_of_two_steps site number (forms.Shift function value count) pushed =
     byte_shift_steps site number (record { function = function; value = value; count = count }) pushed
 byte_of_two_steps site number form pushed = []
 
--- the low byte of the value of an expression that is neither known nor in memory into A
+-- puts the low byte of an expression that is neither known nor in memory into A
 unfoldable pub byte_form_steps :
     Site → (number : ExpressionNumber) → ExpressionForm → (pushed : ℕ) → List Step
 byte_form_steps site number (forms.Conversion inner) pushed = part (tasks.Byte inner) pushed ∷ []
@@ -94,7 +94,7 @@ byte_form_steps site number (forms.Call procedure arguments) pushed =
 byte_form_steps site number (forms.Input port) pushed = Plain (In port) ∷ []
 byte_form_steps site number form pushed = low_of_word_steps number pushed
 
--- the low byte of the value of an expression into A, whatever its type
+-- puts the low byte of the value of an expression into A, whatever its type
 unfoldable pub byte_steps : Site → (number : ExpressionNumber) → (pushed : ℕ) → List Step
 byte_steps site number pushed = elim (known site number) [
   | Some place ↦ known_byte_steps place

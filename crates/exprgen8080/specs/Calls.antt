@@ -16,31 +16,31 @@ use Rattle.steps8080.specs.Step.{part}
 use Rattle.steps8080.specs.declared.sites.site.Site.{Site}
 use Rattle.steps8080.specs.Site.{scalar}
 
--- a value of a type into A or HL
+-- the task of putting a value into A or HL, by its type
 unfoldable pub value_task : ScalarType → ExpressionNumber → Task
 value_task Byte expression = tasks.Byte expression
 value_task Address expression = tasks.Word expression
 
--- an argument into A or HL, by its type
+-- puts an argument into A or HL, by its type
 unfoldable pub last_argument_steps : Site → ExpressionNumber → (pushed : ℕ) → List Step
 last_argument_steps site expression pushed = part (value_task (scalar site expression) expression) pushed ∷ []
 
--- a value of a type goes from A or HL onto the stack
+-- pushes a value from A or HL, by its type
 unfoldable pub push_of : ScalarType → Instr
 push_of Byte = Push Psw
 push_of Address = Push StackHl
 
--- an argument onto the stack
+-- pushes an argument
 unfoldable pub pushed_argument_steps : Site → ExpressionNumber → (pushed : ℕ) → List Step
 pushed_argument_steps site expression pushed =
     last_argument_steps site expression pushed ++ (Plain (push_of (scalar site expression)) ∷ [])
 
--- an argument that so many others follow: the last one stays in A or HL, any other goes onto the stack
+-- an argument with `others` arguments after it: the last one stays in A or HL, any other is pushed
 unfoldable pub argument_steps : Site → ExpressionNumber → (others pushed : ℕ) → List Step
 argument_steps site expression zero pushed = last_argument_steps site expression pushed
 argument_steps site expression (suc others) pushed = pushed_argument_steps site expression pushed
 
--- the last so many arguments of a call, of which each but the last one leaves a word on the stack
+-- the last `count` arguments of a call; each but the last one leaves a word on the stack
 unfoldable pub arguments_steps : Site → Range → (count pushed : ℕ) → List Step
 arguments_steps site arguments zero pushed = []
 arguments_steps site arguments (suc others) pushed =
@@ -51,8 +51,8 @@ arguments_steps site arguments (suc others) pushed =
       | None ↦ arguments_steps site arguments others pushed
     ]
 
--- the call of a procedure by its number in the module: the arguments from left to right, of which all but the
--- last one are pushed, and the last one stays in A or HL; the result comes in A or HL
+-- calls a procedure by its number in the module; the arguments are evaluated from left to right, and pushed
+-- except for the last one, which is in A or HL; the result is in A or HL
 unfoldable pub call_steps : Site → (procedure : ℕ) → Range → (pushed : ℕ) → List Step
 call_steps site procedure arguments pushed =
     arguments_steps site arguments arguments.count pushed ++ (CallProcedure procedure ∷ [])

@@ -1,4 +1,4 @@
--- Code as a function of what it is for: of the site, of what is known of the registers before it, and of its first label.
+-- Code as a function of the site, of the facts about the registers before it, and of its first label.
 use Rattle.std.specs.Prelude.{◌≡◌, ℕ, zero, suc, ◌+◌, List, [], ◌∷◌, ◌++◌, Option, Some, None, option_and_then, option_map}
 use Rattle.asm8080.specs.declared.item.Item.{Item}
 use Rattle.treecode.specs.declared.module.TreeModule.{TreeModule}
@@ -13,17 +13,17 @@ use Rattle.exprgen8080.specs.Emission.{knowing}
 use Rattle.exprgen8080.specs.Emitted.{Emits, after_step, step_items}
 use Rattle.exprgen8080.specs.Forms.{task_labels, task_steps}
 
--- items, what is known of the registers after them, and the first label that they leave
+-- items, the facts about the registers after them, and the first label that is free after them
 pub record Code : Type 0 where
   pub items : List Item
   pub facts : Facts
   pub label : ℕ
 
--- items before those of code
+-- items, then those of code
 abbrev pub in_front : List Item → Code → Code
 in_front items code = record code { items = items ++ code.items }
 
--- The code of steps, by that of their parts: the items of each step, or the code of the part that it is.
+-- The code of steps, from the code of their parts: the items of a step, or the code of a part.
 unfoldable pub code_of_steps :
     TreeModule → (code_of : Facts → Part → (label : ℕ) → Option Code)
     → Facts → List Step → (label : ℕ) → Option Code
@@ -37,14 +37,14 @@ code_of_steps tree code_of facts (step ∷ others) label =
     option_map (in_front (step_items tree facts step))
     (code_of_steps tree code_of (after_step facts step) others label)
 
--- The code of a part, where parts stand in each other at most so deep: that of its steps, whose labels come first.
+-- The code of a part with parts nested at most `depth` deep: that of its steps, with their labels first.
 unfoldable pub code_of_part : Site → (depth : ℕ) → Facts → Part → (label : ℕ) → Option Code
 code_of_part site zero facts part label = None
 code_of_part site (suc depth) facts part label =
     code_of_steps site.tree.now (code_of_part site depth) facts
     (task_steps (knowing site facts) part label) (label_after label (task_labels (knowing site facts) part))
 
--- what a function gives at a depth and at every greater one
+-- the value of a function at some depth and at every greater one
 abbrev pub IsFoundDeep : {A : Type 0} → (found_at : (depth : ℕ) → Option A) → A → Type 0
 IsFoundDeep found_at found = (depth : ℕ) × ((extra : ℕ) → found_at (depth + extra) ≡ Some found)
 
@@ -56,7 +56,7 @@ abbrev pub IsCodeOfSteps : Site → Facts → List Step → (label : ℕ) → Co
 IsCodeOfSteps site facts list label code =
     IsFoundDeep (λ depth. code_of_steps site.tree.now (code_of_part site depth) facts list label) code
 
--- The items that are added to code for a part are the code of that, with the first labels that are not taken.
+-- The items that are added to code for a part are its code, with the first labels that are not taken.
 pub record AddsCodeOfPart (site : Site) (part : Part) (before after : Emission) : Type 0 where
   pub emits : Emits site part before after
   pub is_code :

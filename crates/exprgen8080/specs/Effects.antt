@@ -1,4 +1,4 @@
--- The code of expressions whose value is not wanted.
+-- Code that evaluates expressions for their effects.
 use Rattle.std.specs.Prelude.{ℕ, false, List, [], ◌∷◌, ◌++◌, Option, Some, None, if◌then◌else◌}
 use Rattle.isa8080.specs.declared.instr.Instr.TheVariants.{In}
 use Rattle.treecode.specs.declared.expression.ExpressionForm.{ExpressionForm}
@@ -15,23 +15,23 @@ use Rattle.steps8080.specs.Site.{expression}
 use Rattle.exprgen8080.specs.Bytes.{embedded_steps}
 use Rattle.exprgen8080.specs.Calls.{call_steps}
 
--- what a subscript does, if there is one
+-- the effects of a subscript, if there is one
 unfoldable pub subscript_effects_steps : Option Subscript → (pushed : ℕ) → List Step
 subscript_effects_steps (Some subscript) pushed = part (tasks.Effects subscript.index) pushed ∷ []
 subscript_effects_steps None pushed = []
 
--- what the subscripts of an object or a part of it do
+-- the effects of the subscripts of an object or a part of it
 unfoldable pub reference_effects_steps : Reference → (pushed : ℕ) → List Step
 reference_effects_steps reference pushed =
     subscript_effects_steps reference.subscript pushed
     ++ subscript_effects_steps reference.member_subscript pushed
 
--- what two expressions do
+-- the effects of two expressions
 unfoldable pub both_effects_steps : (first second : ExpressionNumber) → (pushed : ℕ) → List Step
 both_effects_steps first second pushed =
     part (tasks.Effects first) pushed ∷ part (tasks.Effects second) pushed ∷ []
 
--- what an expression of a form does
+-- the effects of an expression of this form
 unfoldable pub form_effects_steps : Site → ExpressionForm → (pushed : ℕ) → List Step
 form_effects_steps site (forms.Number number) pushed = []
 form_effects_steps site (forms.List offset) pushed = []
@@ -47,7 +47,7 @@ form_effects_steps site (forms.Assignment target value) pushed = embedded_steps 
 form_effects_steps site (forms.Call procedure arguments) pushed = call_steps site procedure arguments pushed
 form_effects_steps site (forms.Input port) pushed = Plain (In port) ∷ []
 
--- what an expression does beside its value: nothing where it is quiet
+-- the effects of an expression, without its value: none if it is quiet
 unfoldable pub effects_steps : Site → ExpressionNumber → (pushed : ℕ) → List Step
 effects_steps site number pushed = elim (expression site number) [
   | Some found ↦ if found.traits.is_quiet then [] else form_effects_steps site found.form pushed

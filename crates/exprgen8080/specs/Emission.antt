@@ -1,4 +1,4 @@
--- The code of steps: which items are written for them, and what is known of the registers after these.
+-- The code of steps: their items, and the facts about the registers after them.
 use Rattle.std.specs.Prelude.{◌≡◌, ◌==◌, ℕ, Bool, true, false, if◌then◌else◌, List, [], ◌∷◌, ◌++◌, length, Some, None, slice_get, slice_index_or}
 use Rattle.std.specs.List.{list_any}
 use Rattle.isa8080.specs.declared.instr.Instr.{Instr}
@@ -28,7 +28,7 @@ use Rattle.steps8080.specs.Writer.{external_call_item, jump_item, word_item}
 use Rattle.steps8080.specs.declared.sites.site.Site.{Site}
 use Rattle.exprgen8080.specs.Forms.{task_steps}
 
--- the routines in the order of their labels
+-- the index of each routine, in the order of their labels
 abbrev pub index_of_routine : Routine → ℕ
 index_of_routine routines.Multiply = 0
 index_of_routine routines.Divide = 1
@@ -40,11 +40,11 @@ index_of_routine routines.RotateLeft = 6
 index_of_routine routines.RotateRight = 7
 index_of_routine routines.Move = 8
 
--- the first label that is no entry's: after those of the procedures of a module, and of the routines
+-- the first label after those of the procedures of a module and of the routines
 abbrev pub first_label : TreeModule → ℕ
 first_label tree = label_after (length tree.procedures.items) 9
 
--- the label of a routine of an index, after those of the procedures of the module
+-- the label of the routine with this index, after those of the procedures of the module
 abbrev pub module_routine_label : TreeModule → (index : ℕ) → LabelNumber
 module_routine_label tree index = label_of (label_after (length tree.procedures.items) index)
 
@@ -55,11 +55,11 @@ module_label_of_routine tree routine = module_routine_label tree (index_of_routi
 abbrev pub label_of_routine : Site → Routine → LabelNumber
 label_of_routine site routine = module_label_of_routine site.tree.now routine
 
--- whether a table of routines has one
+-- whether a table marks a routine as called
 abbrev pub has_routine : (called : List Bool) → Routine → Bool
 has_routine called routine = slice_index_or called (index_of_routine routine) false
 
--- whether an item calls a label, and whether one of items calls a routine of a module
+-- whether an item calls a label; whether one of items calls a routine of a module
 abbrev pub calls_label : (label : ℕ) → Item → Bool
 calls_label label (items.WithWord CallTo (AtLabel other)) = label == other
 calls_label label item = false
@@ -67,11 +67,11 @@ calls_label label item = false
 abbrev pub call_routine : TreeModule → Routine → List Item → Bool
 call_routine tree routine list = list_any (calls_label (module_label_of_routine tree routine).index) list
 
--- the site where this is known of the registers
+-- the site with these facts
 abbrev pub knowing : Site → Facts → Site
 knowing site facts = record site { facts = facts }
 
--- the call of a procedure of a number: of its label, or of the name of one of another module
+-- the call of the procedure with this number: of its label, or of its name if it is in another module
 abbrev pub items_of_call : (procedure : ℕ) → ProcedureKind → List Item
 items_of_call procedure (kinds.External name) = external_call_item name ∷ []
 items_of_call procedure kind = jump_item CallTo (label_of procedure) ∷ []
@@ -89,7 +89,7 @@ call_items site procedure = module_call_items site.tree.now procedure
 abbrev pub test_of_a : Instr
 test_of_a = Accumulate Or (Of A)
 
--- the test of A, where the zero flag does not show yet whether it is 0
+-- the test of A, unless the zero flag shows already whether A is 0
 abbrev pub test_items : Facts → List Item
 test_items facts = if facts.zero_shows_a then [] else items.Plain test_of_a ∷ []
 
@@ -97,8 +97,8 @@ abbrev pub after_test : Facts → Facts
 after_test facts = if facts.zero_shows_a then facts else after facts test_of_a
 
 mutual
-  -- Steps where this is known of the registers, the items of their code, and what is known after it. The table has
-  -- the routines that are called.
+  -- Steps with the facts before them, the items of their code, and the facts after them. The table marks the
+  -- routines that are called.
   pub data AreWritten (site : Site) (called : List Bool) : Facts → List Step → List Item → Facts → Type 0 where
     NoneWritten : {facts : Facts} → AreWritten site called facts [] [] facts
     PlainWritten : {facts last : Facts} {i : Instr} {others : List Step} {more : List Item}
@@ -137,7 +137,7 @@ mutual
         → AreWritten site called middle others more last
         → AreWritten site called facts (steps.Part part ∷ others) (first ++ more) last
 
-  -- a part, whose steps are planned where this is known, with labels from a number on: which one, `IsLabelled` says
+  -- a part with steps that are planned from these facts, with labels from a number on (see `IsLabelled`)
   pub data IsWritten (site : Site) (called : List Bool) : Facts → Part → List Item → Facts → Type 0 where
     Planned : {facts last : Facts} {part : Part} {list : List Item} (label : ℕ)
         → AreWritten site called facts (task_steps (knowing site facts) part label) list last

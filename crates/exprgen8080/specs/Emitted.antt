@@ -1,4 +1,4 @@
--- What is written when code is emitted.
+-- The code that emission adds.
 use Rattle.std.specs.Prelude.{◌≡◌, ◌⊎◌, ℕ, Bool, true, false, List, [], ◌∷◌, None, replicate, length, slice_index_or}
 use Rattle.asm8080.specs.declared.item.Item.{Item}
 use Rattle.asm8080.specs.declared.item.Item.TheVariants as items
@@ -16,25 +16,25 @@ use Rattle.exprgen8080.specs.declared.emission.Emission.{Emission}
 use Rattle.exprgen8080.specs.Emission.{AreWritten, IsWritten, after_test, call_routine, first_label, has_routine, module_call_items, module_label_of_routine, test_items}
 use Rattle.exprgen8080.specs.Labelled.{AreLabelled, IsLabelled}
 
--- a table of routines that has all that another one has
+-- the second table of routines marks all that the first marks
 abbrev pub HasAll : (called wider : List Bool) → Type 0
 HasAll called wider = (routine : Routine) → has_routine called routine ≡ true → has_routine wider routine ≡ true
 
--- no routine is noted that items do not call
+-- a routine is marked only if items call it
 abbrev pub NotesCalled : TreeModule → (before after : List Bool) → List Item → Type 0
 NotesCalled tree before after list =
     (routine : Routine)
     → has_routine after routine ≡ true
     → (has_routine before routine ≡ true) ⊎ (call_routine tree routine list ≡ true)
 
--- no routine is noted but one, by its place among them
+-- only one routine is marked, by its index
 abbrev pub NotesOnly : (index : ℕ) → (before after : List Bool) → Type 0
 NotesOnly index before after =
     (other : ℕ)
     → slice_index_or after other false ≡ true
     → (slice_index_or before other false ≡ true) ⊎ (other ≡ index)
 
--- the items of a step that is no part, where this is known of the registers
+-- the items of a step that is not a part, from the facts before it
 abbrev pub step_items : TreeModule → Facts → Step → List Item
 step_items tree facts (steps.Plain i) = items.Plain i ∷ []
 step_items tree facts (steps.Word form place) = word_item form place ∷ []
@@ -48,7 +48,7 @@ step_items tree facts (steps.Holds held) = []
 step_items tree facts steps.MemoryChanged = []
 step_items tree facts (steps.Part part) = []
 
--- and what is known after it
+-- the facts after it
 abbrev pub after_step : Facts → Step → Facts
 after_step facts (steps.Plain i) = after facts i
 after_step facts (steps.Word form place) = after_word facts form place
@@ -61,21 +61,21 @@ after_step facts (steps.Holds held) = with_facts facts held
 after_step facts steps.MemoryChanged = without_memory facts
 after_step facts (steps.Part part) = facts
 
--- a step is no part, and a table has the routine that it calls
+-- a step is not a part, and a table marks the routine that it calls
 abbrev pub IsAlone : (called : List Bool) → Step → Type 0
 IsAlone called (steps.CallRoutine routine) = has_routine called routine ≡ true
 IsAlone called (steps.Part part) = ⊥
 IsAlone called step = Unit {0}
 
--- items are added to code, after which this is known; no step is planned and no label taken
+-- items are added to code, with these facts after them; no step is planned and no label taken
 pub record AddsItems (before after : Emission) (list : List Item) (known : Facts) : Type 0 where
   pub writes : Writes before.writer after.writer list
   pub facts : after.facts ≡ known
   pub called : HasAll before.is_called.items after.is_called.items
   pub steps : after.steps ≡ before.steps
 
--- The code of steps is added, and that of a part. No step stays planned, and their labels are the first ones that are not
--- taken.
+-- The code of steps, and that of a part, is added. No planned step remains, and their labels are the first
+-- ones that are not taken.
 pub record EmitsSteps (site : Site) (planned : List Step) (before after : Emission) : Type 0 where
   pub list : List Item
   pub writes : Writes before.writer after.writer list

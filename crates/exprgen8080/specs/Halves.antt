@@ -1,4 +1,4 @@
--- The code of numbers in A, and of the halves of words in A.
+-- Code that puts numbers, and halves of words, into A.
 use Rattle.std.specs.Prelude.{ℕ, ◌==◌, List, [], ◌∷◌, Some, None, if◌then◌else◌}
 use Rattle.isa8080.specs.declared.instr.Register.TheVariants.{A, H, L}
 use Rattle.treecode.specs.declared.expression.ExpressionNumber.{ExpressionNumber}
@@ -12,15 +12,15 @@ use Rattle.steps8080.specs.Queries.{number as number_of}
 use Rattle.steps8080.specs.Widths.{fits_byte, high_byte_in_memory}
 use Rattle.operands8080.specs.Loads.{byte_in_memory_steps}
 
--- a number into A
+-- puts a number into A
 unfoldable pub byte_number_steps : (number : ℕ) → List Step
 byte_number_steps number = if number == 0 then Plain clear_a ∷ [] else Plain (set A number) ∷ []
 
--- the low byte of the value of an ADDRESS expression into A, by way of HL
+-- puts the low byte of the value of an ADDRESS expression into A, through HL
 unfoldable pub low_of_word_steps : ExpressionNumber → (pushed : ℕ) → List Step
 low_of_word_steps expression pushed = part (tasks.Word expression) pushed ∷ Plain (copy A L) ∷ []
 
--- the high byte of the value of an expression into A, 0 of a BYTE
+-- puts the high byte of the value of an expression into A; it is 0 for a BYTE
 unfoldable pub high_byte_steps : Site → ExpressionNumber → (pushed : ℕ) → List Step
 high_byte_steps site expression pushed = elim (number_of site expression) [
   | Some number ↦ byte_number_steps (high number)

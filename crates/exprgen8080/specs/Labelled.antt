@@ -1,4 +1,4 @@
--- Which labels code has: they are counted through its parts, one after another.
+-- The labels of code: they are counted through its parts, one after another.
 use Rattle.std.specs.Prelude.{◌≡◌, ℕ, Bool, List}
 use Rattle.asm8080.specs.declared.item.Item.{Item}
 use Rattle.steps8080.specs.declared.facts.Facts.{Facts}
@@ -10,8 +10,8 @@ use Rattle.exprgen8080.specs.Emission.{AreWritten, IsWritten, NoneWritten, Plain
 use Rattle.exprgen8080.specs.Forms.{task_labels}
 
 abbrev mutual
-  -- The labels of steps follow each other from this one on, and the next one is not taken: a part takes its own, and
-  -- then its parts theirs.
+  -- The labels of steps are consecutive from `label` on, up to the next one that is not taken. A part takes
+  -- its own labels first, and then those of its parts.
   pub AreLabelled :
       {site : Site} {called : List Bool} {facts last : Facts} {list : List Step} {items : List Item}
       → AreWritten site called facts list items last → (label next : ℕ) → Type 0
@@ -28,7 +28,7 @@ abbrev mutual
   AreLabelled (PartWritten first others) label next =
       (middle : ℕ) × IsLabelled first label middle × AreLabelled others middle next
 
-  -- those of a part
+  -- the same for a part
   pub IsLabelled :
       {site : Site} {called : List Bool} {facts last : Facts} {part : Part} {items : List Item}
       → IsWritten site called facts part items last → (label next : ℕ) → Type 0

@@ -1,4 +1,4 @@
--- The code of operators whose value comes into HL.
+-- The code of operators with the result in HL.
 use Rattle.std.specs.Prelude.{ℕ, ◌+◌, ◌-◌, ◌%◌, ◌==◌, nat_lt, Bool, true, false, ◌&&◌, ◌||◌, List, [], ◌∷◌, ◌++◌, Option, Some, None, if◌then◌else◌}
 use Rattle.isa8080.specs.declared.instr.Instr.TheVariants.{AccumulateImmediate, Cma, Dad, Xchg}
 use Rattle.isa8080.specs.declared.instr.Operation.{Operation}
@@ -34,7 +34,7 @@ use Rattle.exprgen8080.specs.Halves.{high_byte_steps}
 use Rattle.exprgen8080.specs.ByteOperators.{byte_operation_steps, number_of_two, with_number_steps}
 use Rattle.exprgen8080.specs.WordShifts.{word_shifted_right_steps}
 
--- a sum into HL: a known operand comes last, and is added; else one operand comes into DE
+-- puts a sum into HL: a known operand is added last; else one operand is put into DE
 unfoldable pub sum_steps : Site → Operands → (pushed : ℕ) → List Step
 sum_steps site operands pushed = elim (known site operands.right) [
   | Some place ↦ part (tasks.Word operands.left) pushed ∷ addition_steps place
@@ -44,7 +44,7 @@ sum_steps site operands pushed = elim (known site operands.right) [
   ]
 ]
 
--- HL taken from a number, into HL
+-- subtracts HL from a number, with the result in HL
 unfoldable pub taken_from_number_steps : (number : ℕ) → List Step
 taken_from_number_steps number =
     (if low number == 0 then Plain clear_a else Plain (set A (low number)))
@@ -52,20 +52,20 @@ taken_from_number_steps number =
     with_register Subtract L ∷ copy L A
     ∷ set A (high number) ∷ with_register SubtractWithBorrow H ∷ copy H A ∷ [])
 
--- an operation with HL and a word in memory, which is on the left, into HL
+-- puts the result of an operation with a word in memory on the left and HL on the right into HL
 unfoldable pub with_word_steps : Place → (on_low on_high : Operation) → List Step
 with_word_steps place on_low on_high =
     Word LoadA place ∷ Plain (with_register on_low L) ∷ Plain (copy L A)
     ∷ Word LoadA (place_after place 1) ∷ Plain (with_register on_high H) ∷ Plain (copy H A) ∷ []
 
--- an operation with HL and DE, of which the left operand is in one, into HL
+-- puts the result of an operation with HL and DE into HL; the order is which operand is in HL
 unfoldable pub with_pair_steps : PairOrder → (on_low on_high : Operation) → List Step
 with_pair_steps LeftInHl on_low on_high = plain (
     copy A L ∷ with_register on_low E ∷ copy L A ∷ copy A H ∷ with_register on_high D ∷ copy H A ∷ [])
 with_pair_steps RightInHl on_low on_high = plain (
     copy A E ∷ with_register on_low L ∷ copy L A ∷ copy A D ∷ with_register on_high H ∷ copy H A ∷ [])
 
--- two operands into HL and DE, and an operation with both into HL
+-- puts two operands into HL and DE, and the result of an operation with both into HL
 unfoldable pub paired_steps : Site → Operands → (on_low on_high : Operation) → (pushed : ℕ) → List Step
 paired_steps site operands on_low on_high pushed =
     pair_steps site operands.left operands.right false pushed
@@ -78,7 +78,7 @@ left_word site operands = elim (direct_word site operands.left) [
   | None ↦ None
 ]
 
--- a difference into HL: a number on the right is added as what it lacks to 65536
+-- puts a difference into HL: a number on the right is added as 65536 minus that number
 unfoldable pub difference_steps : Site → Operands → (pushed : ℕ) → List Step
 difference_steps site operands pushed = elim (number_of site operands.right) [
   | Some number ↦ part (tasks.Word operands.left) pushed ∷ addition_steps (Number ((65536 - number) % 65536))
@@ -92,12 +92,12 @@ difference_steps site operands pushed = elim (number_of site operands.right) [
   ]
 ]
 
--- a register of HL, an operation and a number through A
+-- an operation on a register of HL with a number, through A
 unfoldable pub half_through_a_steps : Operation → Register → (number : ℕ) → List Step
 half_through_a_steps operation register number =
     plain (copy A register ∷ AccumulateImmediate operation number ∷ copy register A ∷ [])
 
--- an operation with a byte of HL and a number, in the shortest form
+-- an operation on a byte of HL with a number, in the shortest form
 unfoldable pub half_steps : Operation → Register → (number : ℕ) → List Step
 half_steps And register number =
     if number == 255 then []
@@ -113,39 +113,39 @@ half_steps ExclusiveOr register number =
     else half_through_a_steps ExclusiveOr register number
 half_steps operation register number = half_through_a_steps operation register number
 
--- the high byte of a value AND a number as the high byte of HL, whose low byte is 0
+-- ANDs the high byte of a value with a number, as the high byte of HL, with the low byte 0
 unfoldable pub high_half_steps : Site → ExpressionNumber → (number pushed : ℕ) → List Step
 high_half_steps site value number pushed =
     high_byte_steps site value pushed
     ++ (if number == 255 then [] else Plain (AccumulateImmediate And number) ∷ [])
     ++ plain (copy H A ∷ set L 0 ∷ [])
 
--- an operation with both bytes of a value and a number into HL
+-- puts the result of an operation with both bytes of a value and a number into HL
 unfoldable pub both_halves_steps : Operation → ExpressionNumber → (number pushed : ℕ) → List Step
 both_halves_steps operation value number pushed =
     part (tasks.Word value) pushed
     ∷ half_steps operation L (low number)
     ++ half_steps operation H (high number)
 
--- AND of a value and a number into HL: a byte of the number that is 0 leaves nothing of that of the value
+-- puts AND of a value and a number into HL: a byte of the number that is 0 clears that byte of the value
 unfoldable pub and_with_number_steps : Site → ExpressionNumber → (number pushed : ℕ) → List Step
 and_with_number_steps site value number pushed =
     if nat_lt number 256 then with_number_steps And value (low number) pushed ++ extension_steps
     else if low number == 0 then high_half_steps site value (high number) pushed
     else both_halves_steps And value number pushed
 
--- AND, OR or XOR of a value and a number into HL
+-- puts AND, OR or XOR of a value and a number into HL
 unfoldable pub logic_with_number_steps : Site → Operation → ExpressionNumber → (number pushed : ℕ) → List Step
 logic_with_number_steps site And value number pushed = and_with_number_steps site value number pushed
 logic_with_number_steps site operation value number pushed = both_halves_steps operation value number pushed
 
--- OR or XOR of a value and a byte whose code changes A alone into HL
+-- puts OR or XOR of a value and a byte, with code that changes only A, into HL
 unfoldable pub logic_with_byte_steps : Operation → (value byte : ExpressionNumber) → (pushed : ℕ) → List Step
 logic_with_byte_steps operation value byte pushed =
     part (tasks.Word value) pushed ∷ part (tasks.Byte byte) pushed
     ∷ Plain (with_register operation L) ∷ Plain (copy L A) ∷ []
 
--- an operand whose code leaves HL alone, if it is one
+-- the operand as one with code that does not change HL, if it is
 unfoldable pub simple_operand : Site → ExpressionNumber → Option Simple
 simple_operand site expression =
     if fits_byte site expression && is_free site expression then Some (simple.Byte expression)
@@ -154,7 +154,7 @@ simple_operand site expression =
       | None ↦ None
     ]
 
--- AND, OR or XOR of a value and a simple operand into HL
+-- puts AND, OR or XOR of a value and a simple operand into HL
 unfoldable pub logic_with_simple_steps : Operation → ExpressionNumber → Simple → (pushed : ℕ) → List Step
 logic_with_simple_steps operation value (simple.Byte byte) pushed =
     logic_with_byte_steps operation value byte pushed
@@ -166,7 +166,7 @@ unfoldable pub exchanged_operand : Site → Operands → Option Simple
 exchanged_operand site operands =
     if may_exchange site operands.left operands.right then simple_operand site operands.left else None
 
--- which of two operands comes first, and the other one, by which of them is simple
+-- the operand that is evaluated first, and the other one, by which of them is simple
 unfoldable pub first_and_simple :
     Site → Operands → (right exchanged : Option Simple) → Option (ExpressionNumber × Simple)
 first_and_simple site operands (Some operand) (Some exchanged) =
@@ -176,17 +176,17 @@ first_and_simple site operands (Some operand) None = Some (operands.left, operan
 first_and_simple site operands None (Some exchanged) = Some (operands.right, exchanged)
 first_and_simple site operands None None = None
 
--- the operand of AND, OR or XOR that comes first, and the other one, which is simple
+-- the operand of AND, OR or XOR that is evaluated first, and the other one, which is simple
 unfoldable pub with_simple : Site → Operands → Option (ExpressionNumber × Simple)
 with_simple site operands =
     first_and_simple site operands (simple_operand site operands.right) (exchanged_operand site operands)
 
--- whether a value of AND, OR or XOR is one of bytes
+-- whether AND, OR or XOR of two operands fits a byte
 unfoldable pub is_of_bytes : Site → Operation → Operands → Bool
 is_of_bytes site And operands = fits_byte site operands.left || fits_byte site operands.right
 is_of_bytes site operation operands = false
 
--- AND, OR or XOR of operands that are no numbers into HL
+-- puts AND, OR or XOR of operands that are not numbers into HL
 unfoldable pub computed_logic_steps : Site → Operation → Operands → (pushed : ℕ) → List Step
 computed_logic_steps site operation operands pushed =
     if is_of_bytes site operation operands
@@ -196,7 +196,7 @@ computed_logic_steps site operation operands pushed =
       | None ↦ paired_steps site operands operation operation pushed
     ]
 
--- AND, OR or XOR into HL
+-- puts AND, OR or XOR into HL
 unfoldable pub logic_steps : Site → Operation → Operands → (pushed : ℕ) → List Step
 logic_steps site operation operands pushed = elim (number_of site operands.right) [
   | Some number ↦ logic_with_number_steps site operation operands.left number pushed
@@ -206,13 +206,13 @@ logic_steps site operation operands pushed = elim (number_of site operands.right
   ]
 ]
 
--- in which order operands of a product are wanted: the routine is faster where DE is below 256
+-- the wanted order of the operands of a product: the routine is faster if DE is below 256
 unfoldable pub product_order : (left_fits right_fits : Bool) → Option PairOrder
 product_order false true = Some LeftInHl
 product_order true false = Some RightInHl
 product_order left_fits right_fits = None
 
--- a product into HL
+-- puts a product into HL
 unfoldable pub product_word_steps : Site → Operands → (pushed : ℕ) → List Step
 product_word_steps site operands pushed = elim (number_of site operands.right) [
   | Some number ↦ product_steps operands.left number pushed
@@ -225,26 +225,26 @@ product_word_steps site operands pushed = elim (number_of site operands.right) [
   ]
 ]
 
--- one operand divided by the other one: the quotient into HL, the remainder into DE
+-- divides one operand by the other one: puts the quotient into HL, and the remainder into DE
 unfoldable pub division_steps : Site → Operands → (pushed : ℕ) → List Step
 division_steps site operands pushed =
     pair_steps site operands.left operands.right true pushed ++ (CallRoutine routines.Divide ∷ [])
 
--- a quotient into HL
+-- puts a quotient into HL
 unfoldable pub quotient_steps : Site → Operands → (pushed : ℕ) → List Step
 quotient_steps site operands pushed = elim (power site operands.right) [
   | Some count ↦ word_shifted_right_steps site operands.left count pushed
   | None ↦ division_steps site operands pushed
 ]
 
--- a remainder into HL: by a power of two it is the bits below it
+-- puts a remainder into HL; for a power of 2, masks the bits below it
 unfoldable pub remainder_steps : Site → Operands → (pushed : ℕ) → List Step
 remainder_steps site operands pushed = elim (number_of_two site operands.right) [
   | Some number ↦ logic_with_number_steps site And operands.left ((number + 65535) % 65536) pushed
   | None ↦ division_steps site operands pushed ++ (Plain Xchg ∷ [])
 ]
 
--- the value of an operator with two ADDRESS operands into HL; the others give a BYTE
+-- puts the result of an operator with two ADDRESS operands into HL; the other operators give a BYTE
 unfoldable pub word_binary_steps : Site → BinaryOperator → Operands → (pushed : ℕ) → List Step
 word_binary_steps site operators.Add operands pushed = sum_steps site operands pushed
 word_binary_steps site operators.Subtract operands pushed = difference_steps site operands pushed

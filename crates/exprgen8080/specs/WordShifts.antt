@@ -24,11 +24,11 @@ use Rattle.exprgen8080.specs.declared.byte_shifts.Shifted.{Shifted}
 use Rattle.exprgen8080.specs.Halves.{high_byte_steps}
 use Rattle.exprgen8080.specs.ByteShifts.{byte_shifted_right_steps, right_shift_steps}
 
--- 0 into HL, after what an expression does
+-- evaluates an expression for its effects, and puts 0 into HL
 unfoldable pub zero_steps : ExpressionNumber → (pushed : ℕ) → List Step
 zero_steps value pushed = part (tasks.Effects value) pushed ∷ Word (LoadPair Hl) (Number 0) ∷ []
 
--- a word shifted to the left by a number into HL: from 8 on the low byte becomes the high one first
+-- puts a word shifted left by a number into HL: from 8 on, the low byte is moved to the high one first
 unfoldable pub shifted_left_steps : ExpressionNumber → (count pushed : ℕ) → List Step
 shifted_left_steps value count pushed =
     if nat_le 16 count then zero_steps value pushed
@@ -36,11 +36,11 @@ shifted_left_steps value count pushed =
     then part (tasks.Byte value) pushed ∷ plain (copy H A ∷ set L 0 ∷ []) ++ repeat_steps (Dad Hl) (count - 8)
     else part (tasks.Word value) pushed ∷ repeat_steps (Dad Hl) count
 
--- HL shifted to the right by 1, through A
+-- shifts HL right by 1, through A
 unfoldable pub half_steps : List Step
 half_steps = plain (with_register Or A ∷ copy A H ∷ Rar ∷ copy H A ∷ copy A L ∷ Rar ∷ copy L A ∷ [])
 
--- HL shifted to the right by 2, through A: the two low bits of H come beside the six high ones of L, and turn
+-- shifts HL right by 2, through A: puts the two low bits of H beside the six high bits of L, and rotates them
 -- to the top
 unfoldable pub quarter_steps : List Step
 quarter_steps = plain (
@@ -49,7 +49,7 @@ quarter_steps = plain (
     ∷ copy A H ∷ AccumulateImmediate And 0xfc
     ∷ Rrc ∷ Rrc ∷ copy H A ∷ [])
 
--- a word shifted to the right by a count below 8 into HL
+-- puts a word shifted right by a count below 8 into HL
 unfoldable pub shifted_right_little_steps : ExpressionNumber → (count pushed : ℕ) → List Step
 shifted_right_little_steps value count pushed =
     part (tasks.Word value) pushed
@@ -58,7 +58,7 @@ shifted_right_little_steps value count pushed =
     else if count == 2 then quarter_steps
     else Plain (set A (count % 256)) ∷ CallRoutine routines.ShiftRightAddress ∷ [])
 
--- the value of an expression, as an ADDRESS, shifted to the right by a number into HL
+-- puts the value of an expression, as an ADDRESS, shifted right by a number into HL
 unfoldable pub word_shifted_right_steps : Site → ExpressionNumber → (count pushed : ℕ) → List Step
 word_shifted_right_steps site value count pushed =
     if count == 0 then part (tasks.Word value) pushed ∷ []
@@ -75,19 +75,19 @@ word_routine RotateLeft = routines.ShiftLeftAddress
 word_routine ShiftRight = routines.ShiftRightAddress
 word_routine RotateRight = routines.ShiftRightAddress
 
--- a count into A, while the word in HL stays there or waits on the stack
+-- puts a count into A, while the word stays in HL or is pushed
 unfoldable pub count_beside_word_steps : Site → (count : ExpressionNumber) → (pushed : ℕ) → List Step
 count_beside_word_steps site count pushed =
     if is_free site count then part (tasks.Byte count) pushed ∷ []
     else Plain (Push StackHl) ∷ part (tasks.Byte count) ((pushed + 2) % 65536) ∷ Plain (Pop StackHl) ∷ []
 
--- a word shifted by a count that is not known into HL
+-- puts a word shifted by a count that is not known into HL
 unfoldable pub computed_count_steps : Site → Shifted → (pushed : ℕ) → List Step
 computed_count_steps site shifted pushed =
     part (tasks.Word shifted.value) pushed ∷ count_beside_word_steps site shifted.count pushed
     ++ (CallRoutine (word_routine shifted.function) ∷ [])
 
--- a shift of an ADDRESS by a number into HL
+-- puts a shift of an ADDRESS by a number into HL
 unfoldable pub word_by_number_steps :
     Site → ShiftFunction → (value : ExpressionNumber) → (count pushed : ℕ) → List Step
 word_by_number_steps site ShiftRight value count pushed = word_shifted_right_steps site value count pushed
@@ -95,7 +95,7 @@ word_by_number_steps site RotateRight value count pushed = word_shifted_right_st
 word_by_number_steps site ShiftLeft value count pushed = shifted_left_steps value count pushed
 word_by_number_steps site RotateLeft value count pushed = shifted_left_steps value count pushed
 
--- a shift of an ADDRESS into HL
+-- puts a shift of an ADDRESS into HL
 unfoldable pub word_shift_steps : Site → Shifted → (pushed : ℕ) → List Step
 word_shift_steps site shifted pushed = elim (number_of site shifted.count) [
   | Some count ↦ word_by_number_steps site shifted.function shifted.value count pushed

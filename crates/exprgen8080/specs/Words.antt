@@ -1,4 +1,4 @@
--- The code of values in HL.
+-- Code that puts values into HL.
 use Rattle.std.specs.Prelude.{ℕ, true, List, [], ◌∷◌, Some, None}
 use Rattle.isa8080.specs.declared.instr.Instr.TheVariants.{Cma}
 use Rattle.isa8080.specs.declared.instr.Operation.TheVariants.{Subtract, SubtractWithBorrow}
@@ -27,26 +27,26 @@ use Rattle.exprgen8080.specs.Calls.{call_steps}
 use Rattle.exprgen8080.specs.WordOperators.{word_binary_steps}
 use Rattle.exprgen8080.specs.WordShifts.{word_shift_steps}
 
--- NOT or `-` of the word in HL
+-- replaces the word in HL by NOT or `-` of it
 unfoldable pub word_unary_steps : UnaryOperator → List Step
 word_unary_steps Not = plain (copy A L ∷ Cma ∷ copy L A ∷ copy A H ∷ Cma ∷ copy H A ∷ [])
 word_unary_steps Negate = plain (
     clear_a ∷ with_register Subtract L ∷ copy L A
     ∷ set A 0 ∷ with_register SubtractWithBorrow H ∷ copy H A ∷ [])
 
--- the value of a BYTE expression into HL
+-- puts the value of a BYTE expression into HL
 unfoldable pub extended_byte_steps : Site → ExpressionNumber → (pushed : ℕ) → List Step
 extended_byte_steps site number pushed = elim (memory site number) [
   | Some reference ↦ extended_byte_in_memory_steps site reference pushed
   | None ↦ part (tasks.Byte number) pushed ∷ extension_steps
 ]
 
--- LOW, HIGH or DOUBLE of a value, an ADDRESS, into HL; the first two give a BYTE
+-- puts LOW, HIGH or DOUBLE of a value, as an ADDRESS, into HL; the first two give a BYTE
 unfoldable pub word_function_steps : UnaryFunction → ExpressionNumber → (pushed : ℕ) → List Step
 word_function_steps Double operand pushed = part (tasks.Word operand) pushed ∷ []
 word_function_steps function operand pushed = []
 
--- the value of an operator with two ADDRESS operands or a shift of an ADDRESS into HL
+-- puts the result of an operator with two ADDRESS operands, or of a shift of an ADDRESS, into HL
 unfoldable pub word_of_two_steps : Site → ExpressionForm → (pushed : ℕ) → List Step
 word_of_two_steps site (forms.Binary operands operator left right) pushed =
     word_binary_steps site operator (record { left = left; right = right }) pushed
@@ -54,7 +54,7 @@ word_of_two_steps site (forms.Shift function value count) pushed =
     word_shift_steps site (record { function = function; value = value; count = count }) pushed
 word_of_two_steps site form pushed = []
 
--- the value of an ADDRESS expression that is not known into HL
+-- puts the value of an ADDRESS expression that is not known into HL
 unfoldable pub word_form_steps : Site → ExpressionForm → (pushed : ℕ) → List Step
 word_form_steps site (forms.Value reference) pushed = word_in_memory_steps site reference pushed
 word_form_steps site (forms.Location reference) pushed = part (tasks.Address reference) pushed ∷ []
@@ -70,7 +70,7 @@ word_form_steps site (forms.Assignment target value) pushed = embedded_steps tar
 word_form_steps site (forms.Call procedure arguments) pushed = call_steps site procedure arguments pushed
 word_form_steps site form pushed = []
 
--- the value of an expression that is not known into HL
+-- puts the value of an expression that is not known into HL
 unfoldable pub computed_word_steps :
     Site → (number : ExpressionNumber) → Expression → (pushed : ℕ) → List Step
 computed_word_steps site number found pushed = elim found.traits.scalar [
@@ -78,7 +78,7 @@ computed_word_steps site number found pushed = elim found.traits.scalar [
   | scalars.Address ↦ word_form_steps site found.form pushed
 ]
 
--- the value of an expression into HL, a BYTE with zeros added
+-- puts the value of an expression into HL; a BYTE is zero-extended
 unfoldable pub word_steps : Site → (number : ExpressionNumber) → (pushed : ℕ) → List Step
 word_steps site number pushed = elim (known site number) [
   | Some place ↦ location_address_steps site (Static place) pushed

@@ -1,4 +1,4 @@
-//! Operators whose low byte comes into A.
+//! Operators on low bytes, with the result in A.
 
 ghost use Rattle.std.specs.Prelude.{OnOk, ◌≡◌};
 ghost use Rattle.steps8080.specs.Step.{Adds};
@@ -21,22 +21,22 @@ pub struct Operands {
     pub right: ExpressionNumber,
 }
 
-/// How two operands, neither of which is a number, come to an operation.
+/// The ways to bring two operands that are not numbers to an operation.
 #[derive(Clone, Copy)]
 pub enum ByteForm {
-    /// The left one in A, the right one in memory.
+    /// The left one is in A, the right one in memory.
     RightInMemory(Reference),
-    /// The right one in A, the left one in memory.
+    /// The right one is in A, the left one in memory.
     LeftInMemory(Reference),
-    /// The right one first, into E, then the left one.
+    /// The right one is put into E first, then the left one into A.
     LeftFree,
-    /// The left one first, into E, then the right one.
+    /// The left one is put into E first, then the right one into A.
     RightFree,
-    /// The left one first, onto the stack.
+    /// The left one is evaluated first, and pushed.
     Pushed,
 }
 
-// Whether the sides of an operation may be changed.
+// Whether the operands of an operation may be exchanged.
 #[tactic(auto, unfolding(crate::specs::ByteOperators::commutes))]
 fn commutes(operation: Operation) -> bool
     ensures { result ≡ commutes operation }
@@ -63,7 +63,7 @@ fn plan_added(number: u8, steps: &mut Steps) -> Result<(), AllocError>
     }
 }
 
-// Carries out an operation with A and a number for which it has no shorter form.
+// Carries out an operation on A with a number that has no shorter form.
 #[tactic(auto, unfolding(crate::specs::ByteOperators::immediate_steps))]
 fn plan_immediate(operation: Operation, number: u8, steps: &mut Steps) -> Result<(), AllocError>
     ensures { OnOk result (Adds steps.old steps.new (immediate_steps operation number)) }
@@ -77,7 +77,7 @@ fn plan_immediate(operation: Operation, number: u8, steps: &mut Steps) -> Result
     }
 }
 
-/// An operation with a byte on the left and a number on the right into A.
+/// Puts the result of an operation with a byte on the left and a number on the right into A.
 #[tactic(auto, unfolding(crate::specs::ByteOperators::with_number_steps))]
 pub(crate) fn plan_with_number(
     operation: Operation,
@@ -104,7 +104,8 @@ pub(crate) fn plan_with_number(
     }
 }
 
-// An operation with a number on the left and a byte on the right into A. A difference is a sum with the complement.
+// Puts the result of an operation with a number on the left and a byte on the right into A. A difference is a sum with
+// the complement.
 #[tactic(auto, unfolding(crate::specs::ByteOperators::from_number_steps))]
 fn plan_from_number(
     operation: Operation,
@@ -123,7 +124,7 @@ fn plan_from_number(
     plan_added(number.wrapping_add(1), steps)
 }
 
-// The form where the right operand is in a register already, if that makes one shorter.
+// The form for a right operand that is in a register already, if that makes the code shorter.
 #[tactic(auto, unfolding(crate::specs::ByteOperators::form_from_register, crate::specs::ByteOperators::form_after_right))]
 fn form_from_register(site: &Site<'_>, operation: Operation, operands: Operands) -> Option<ByteForm>
     ensures { result ≡ form_from_register site.now operation operands }
@@ -146,7 +147,7 @@ fn form_from_register(site: &Site<'_>, operation: Operation, operands: Operands)
     }
 }
 
-// The form in which two operands, neither of which is a number, come to an operation.
+// The form of an operation on two operands that are not numbers.
 #[tactic(auto, unfolding(crate::specs::ByteOperators::form_of, crate::specs::ByteOperators::form_with_left, crate::specs::ByteOperators::form_without_memory))]
 fn form_of(site: &Site<'_>, operation: Operation, operands: Operands) -> ByteForm
     ensures { result ≡ form_of site.now operation operands }
@@ -172,7 +173,7 @@ fn form_of(site: &Site<'_>, operation: Operation, operands: Operands) -> ByteFor
     }
 }
 
-// One operand into A, and an operation with the other one, which is in memory.
+// Puts one operand into A, and does the operation with the other one in memory.
 #[tactic(auto, unfolding(crate::specs::ByteOperators::with_memory_steps))]
 fn plan_with_memory(
     operation: Operation,
@@ -188,7 +189,7 @@ fn plan_with_memory(
     steps.plain(with_memory(operation))
 }
 
-// One operand into E, then the other one, whose code changes A alone, and an operation with E.
+// Puts one operand into E, then the other one, with code that changes only A, into A, and does the operation with E.
 #[tactic(auto, unfolding(crate::specs::ByteOperators::with_e_steps))]
 fn plan_with_e(
     operation: Operation,
@@ -205,7 +206,7 @@ fn plan_with_e(
     steps.plain(with_register(operation, Register::E))
 }
 
-// The left operand onto the stack, then the right one, and an operation with both.
+// Pushes the left operand, evaluates the right one, and does the operation with both.
 #[tactic(auto, unfolding(crate::specs::ByteOperators::with_stack_steps))]
 fn plan_with_stack(
     operation: Operation,
@@ -226,7 +227,7 @@ fn plan_with_stack(
     steps.plain(with_register(operation, Register::B))
 }
 
-/// An operation with the low bytes of two operands into A.
+/// Puts the result of an operation with the low bytes of two operands into A.
 #[tactic(auto, unfolding(crate::specs::ByteOperators::byte_operation_steps, crate::specs::ByteOperators::in_form_steps))]
 pub(crate) fn plan_byte_operation(
     site: &Site<'_>,
@@ -258,7 +259,7 @@ pub(crate) fn plan_byte_operation(
     }
 }
 
-// The low byte of a product into A.
+// Puts the low byte of a product into A.
 #[tactic(auto, unfolding(crate::specs::ByteOperators::product_byte_steps))]
 fn plan_product_byte(
     site: &Site<'_>,
@@ -278,7 +279,7 @@ fn plan_product_byte(
     plan_low_of_word(number, pushed, steps)
 }
 
-// The low byte of a quotient into A.
+// Puts the low byte of a quotient into A.
 #[tactic(auto, unfolding(crate::specs::ByteOperators::quotient_byte_steps))]
 fn plan_quotient_byte(
     site: &Site<'_>,
@@ -295,7 +296,7 @@ fn plan_quotient_byte(
     }
 }
 
-// The low byte of a remainder into A.
+// Puts the low byte of a remainder into A.
 #[tactic(auto, unfolding(crate::specs::ByteOperators::remainder_byte_steps, crate::specs::ByteOperators::number_of_two))]
 fn plan_remainder_byte(
     site: &Site<'_>,
@@ -315,7 +316,7 @@ fn plan_remainder_byte(
     steps.plain(copy(Register::A, Register::E))
 }
 
-/// The low byte of the value of an operator with two operands into A.
+/// Puts the low byte of the result of an operator with two operands into A.
 #[tactic(auto, unfolding(crate::specs::ByteOperators::byte_binary_steps))]
 pub(crate) fn plan_byte_binary(
     site: &Site<'_>,

@@ -13,7 +13,7 @@ use treecode::{ExpressionNumber, Reference};
 use trees::ScalarType;
 use typed_trees::ShiftFunction;
 
-/// A value that is shifted or rotated, and by how much.
+/// A value that is shifted or rotated, and the count.
 #[derive(Clone, Copy)]
 pub struct Shifted {
     pub function: ShiftFunction,
@@ -21,7 +21,7 @@ pub struct Shifted {
     pub count: ExpressionNumber,
 }
 
-// The ones that stay of a byte shifted to the right by a count below 8.
+// The mask of the bits that a right shift of a byte by a count below 8 keeps.
 #[tactic(auto, unfolding(crate::specs::ByteShifts::kept_bits))]
 fn kept_bits(count: u16) -> u8
     ensures { result ≡ kept_bits count }
@@ -29,7 +29,7 @@ fn kept_bits(count: u16) -> u8
     if count < 8 { 255_u8 >> count } else { 0 }
 }
 
-/// Shifts A to the right by a count below 8.
+/// Shifts A right by a count below 8.
 #[tactic(auto, unfolding(crate::specs::ByteShifts::right_shift_steps, crate::specs::ByteShifts::turned_right_steps))]
 pub(crate) fn plan_right_shift(count: u16, steps: &mut Steps) -> Result<(), AllocError>
     ensures { OnOk result (Adds steps.old steps.new (right_shift_steps count)) }
@@ -48,7 +48,7 @@ pub(crate) fn plan_right_shift(count: u16, steps: &mut Steps) -> Result<(), Allo
     steps.plain(Instr::AccumulateImmediate(Operation::And, kept_bits(count)))
 }
 
-// Rotates A to the left by a count below 8.
+// Rotates A left by a count below 8.
 #[tactic(auto, unfolding(crate::specs::ByteShifts::rotation_steps))]
 fn plan_rotation(count: u16, steps: &mut Steps) -> Result<(), AllocError>
     ensures { OnOk result (Adds steps.old steps.new (rotation_steps count)) }
@@ -60,7 +60,7 @@ fn plan_rotation(count: u16, steps: &mut Steps) -> Result<(), AllocError>
     }
 }
 
-// 0 into A, after what an expression does.
+// Evaluates an expression for its effects, and puts 0 into A.
 #[tactic(auto, unfolding(crate::specs::ByteShifts::zero_steps))]
 fn plan_zero(value: ExpressionNumber, pushed: u16, steps: &mut Steps) -> Result<(), AllocError>
     ensures { OnOk result (Adds steps.old steps.new (zero_steps value pushed)) }
@@ -69,7 +69,7 @@ fn plan_zero(value: ExpressionNumber, pushed: u16, steps: &mut Steps) -> Result<
     steps.plain(clear_a())
 }
 
-// The low byte of a value shifted to the left by a count into A.
+// Puts the low byte of a value shifted left by a count into A.
 #[tactic(auto, unfolding(crate::specs::ByteShifts::shifted_left_steps))]
 fn plan_shifted_left(
     value: ExpressionNumber,
@@ -86,7 +86,7 @@ fn plan_shifted_left(
     repeat(with_register(Operation::Add, Register::A), count, steps)
 }
 
-/// A value below 256 shifted to the right by a count into A.
+/// Puts a value below 256 shifted right by a count into A.
 #[tactic(auto, unfolding(crate::specs::ByteShifts::byte_shifted_right_steps))]
 pub(crate) fn plan_byte_shifted_right(
     value: ExpressionNumber,
@@ -103,7 +103,7 @@ pub(crate) fn plan_byte_shifted_right(
     plan_right_shift(count, steps)
 }
 
-// The low byte of a word shifted to the right by a count from 1 to 7 into A.
+// Puts the low byte of a word shifted right by a count from 1 to 7 into A.
 #[tactic(auto, unfolding(crate::specs::ByteShifts::middle_byte_steps))]
 fn plan_middle_byte(
     value: ExpressionNumber,
@@ -127,7 +127,7 @@ fn plan_middle_byte(
     steps.plain(copy(Register::A, Register::H))
 }
 
-/// The low byte of a value shifted to the right by a count into A.
+/// Puts the low byte of a value shifted right by a count into A.
 #[tactic(auto, unfolding(crate::specs::ByteShifts::low_byte_shifted_right_steps))]
 pub(crate) fn plan_low_byte_shifted_right(
     site: &Site<'_>,
@@ -155,7 +155,7 @@ pub(crate) fn plan_low_byte_shifted_right(
     plan_middle_byte(value, count, pushed, steps)
 }
 
-// The low byte of a value shifted or rotated by a number into A.
+// Puts the low byte of a value shifted or rotated by a number into A.
 #[tactic(auto, unfolding(crate::specs::ByteShifts::by_number_steps))]
 fn plan_by_number(
     site: &Site<'_>,
@@ -196,7 +196,7 @@ fn byte_routine(function: ShiftFunction) -> Routine
     }
 }
 
-// A BYTE into A, and a count in memory, whose address keeps A, into E.
+// Puts a BYTE into A, and a count in memory into E; the code for the address of the count keeps A.
 #[tactic(auto, unfolding(crate::specs::ByteShifts::count_in_memory_steps))]
 fn plan_count_in_memory(
     value: ExpressionNumber,
@@ -211,7 +211,7 @@ fn plan_count_in_memory(
     steps.plain(load(Register::E))
 }
 
-// A BYTE into A, and a count into E.
+// Puts a BYTE into A, and a count into E.
 #[tactic(auto, unfolding(crate::specs::ByteShifts::operands_steps))]
 fn plan_operands(
     site: &Site<'_>,
@@ -237,7 +237,7 @@ fn plan_operands(
     steps.all(&[copy(Register::E, Register::A), Instr::Pop(StackPair::Psw)])
 }
 
-/// The low byte of a shift or a rotation into A.
+/// Puts the low byte of a shift or a rotation into A.
 #[tactic(auto, unfolding(crate::specs::ByteShifts::byte_shift_steps))]
 pub(crate) fn plan_byte_shift(
     site: &Site<'_>,

@@ -1,4 +1,4 @@
-//! Low bytes of values in A.
+//! Code that puts low bytes of values into A.
 
 ghost use Rattle.std.specs.Prelude.{OnOk};
 ghost use Rattle.steps8080.specs.Step.{Adds};
@@ -17,7 +17,7 @@ use treecode::{ExpressionForm, ExpressionNumber, Place, Range, Target};
 use trees::{ScalarType, UnaryOperator};
 use typed_trees::UnaryFunction;
 
-// The low byte of a known value into A.
+// Puts the low byte of a known value into A.
 #[tactic(auto, unfolding(crate::specs::Bytes::known_byte_steps))]
 fn plan_known_byte(place: Place, steps: &mut Steps) -> Result<(), AllocError>
     ensures { OnOk result (Adds steps.old steps.new (known_byte_steps place)) }
@@ -31,7 +31,7 @@ fn plan_known_byte(place: Place, steps: &mut Steps) -> Result<(), AllocError>
     }
 }
 
-// NOT or `-` of a byte, in A.
+// Puts NOT or `-` of a byte into A.
 #[tactic(auto, unfolding(crate::specs::Bytes::byte_unary_steps))]
 fn plan_byte_unary(
     operator: UnaryOperator,
@@ -49,7 +49,7 @@ fn plan_byte_unary(
     }
 }
 
-/// The value of an assignment into A or HL, by its type, and to its target.
+/// Puts the value of an assignment into A or HL, by its type, and stores it in the target.
 #[tactic(auto, unfolding(crate::specs::Bytes::embedded_steps, crate::specs::Calls::value_task))]
 pub(crate) fn plan_embedded(
     target: Target,
@@ -68,7 +68,7 @@ pub(crate) fn plan_embedded(
     steps.part(Task::Store { target, is_wanted }, pushed)
 }
 
-// The low byte of a value of a type that is in A or HL by that type, into A.
+// Puts the low byte of a value that is in A or HL, by its type, into A.
 #[tactic(auto, unfolding(crate::specs::Bytes::low_of_value_steps))]
 fn plan_low_of_value(scalar: ScalarType, steps: &mut Steps) -> Result<(), AllocError>
     ensures { OnOk result (Adds steps.old steps.new (low_of_value_steps scalar)) }
@@ -79,7 +79,7 @@ fn plan_low_of_value(scalar: ScalarType, steps: &mut Steps) -> Result<(), AllocE
     }
 }
 
-// The low byte of the value of a call into A.
+// Puts the low byte of the result of a call into A.
 #[tactic(auto, unfolding(crate::specs::Bytes::called_byte_steps))]
 fn plan_called_byte(
     site: &Site<'_>,
@@ -96,7 +96,7 @@ fn plan_called_byte(
     plan_low_of_value(site.scalar(number), steps)
 }
 
-// LOW, HIGH or DOUBLE of a value, its low byte in A.
+// Puts the low byte of LOW, HIGH or DOUBLE of a value into A.
 #[tactic(auto, unfolding(crate::specs::Bytes::byte_function_steps))]
 fn plan_byte_function(
     site: &Site<'_>,
@@ -113,7 +113,8 @@ fn plan_byte_function(
     }
 }
 
-// The low byte of the value of an operator with two operands, a shift or a rotation into A. No other form comes here.
+// Puts the low byte of the result of an operator with two operands, a shift or a rotation into A. It is not called with
+// other forms.
 #[tactic(auto, unfolding(crate::specs::Bytes::byte_of_two_steps))]
 fn plan_byte_of_two(
     site: &Site<'_>,
@@ -150,7 +151,7 @@ fn plan_byte_of_two(
     }
 }
 
-// The low byte of the value of an expression that is neither known nor in memory into A.
+// Puts the low byte of an expression that is neither known nor in memory into A.
 #[tactic(auto, unfolding(crate::specs::Bytes::byte_form_steps))]
 fn plan_byte_form(
     site: &Site<'_>,
@@ -188,7 +189,7 @@ fn plan_byte_form(
     }
 }
 
-/// The low byte of the value of an expression into A, whatever its type.
+/// Puts the low byte of the value of an expression into A, whatever its type.
 #[tactic(auto, unfolding(crate::specs::Bytes::byte_steps))]
 pub(crate) fn plan_byte(
     site: &Site<'_>,

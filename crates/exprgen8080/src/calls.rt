@@ -10,7 +10,7 @@ use steps8080::{Site, Step, Steps, Task};
 use treecode::{ExpressionNumber, Range};
 use trees::ScalarType;
 
-// An argument into A or HL, by its type.
+// Puts an argument into A or HL, by its type.
 #[tactic(auto, unfolding(crate::specs::Calls::last_argument_steps, crate::specs::Calls::value_task))]
 fn plan_last_argument(
     site: &Site<'_>,
@@ -26,7 +26,7 @@ fn plan_last_argument(
     }
 }
 
-// An argument onto the stack.
+// Pushes an argument.
 #[tactic(auto, unfolding(crate::specs::Calls::pushed_argument_steps, crate::specs::Calls::push_of))]
 fn plan_pushed_argument(
     site: &Site<'_>,
@@ -43,8 +43,8 @@ fn plan_pushed_argument(
     }
 }
 
-/// The call of a procedure by its number in the module. All arguments but the last one are pushed, the last one stays in
-/// A or HL; the result comes in A or HL.
+/// Calls a procedure by its number in the module. All arguments but the last are pushed; the last is in A or HL, and so
+/// is the result.
 #[tactic(auto, unfolding(crate::specs::Calls::call_steps))]
 pub(crate) fn plan_call(
     site: &Site<'_>,

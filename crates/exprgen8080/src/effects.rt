@@ -1,4 +1,4 @@
-//! Expressions whose value is not wanted.
+//! Expressions that are evaluated for their effects.
 
 ghost use Rattle.std.specs.Prelude.{OnOk};
 ghost use Rattle.steps8080.specs.Step.{Adds};
@@ -11,7 +11,7 @@ use std::alloc::AllocError;
 use steps8080::{Site, Steps, Task};
 use treecode::{ExpressionForm, ExpressionNumber, Reference, Subscript};
 
-// What a subscript, if there is one, does.
+// The effects of a subscript, if there is one.
 #[tactic(auto, unfolding(crate::specs::Effects::subscript_effects_steps))]
 fn plan_subscript_effects(
     subscript: Option<Subscript>,
@@ -26,7 +26,7 @@ fn plan_subscript_effects(
     }
 }
 
-// What the subscripts of an object or a part of it do.
+// The effects of the subscripts of an object or a part of it.
 #[tactic(auto, unfolding(crate::specs::Effects::reference_effects_steps))]
 fn plan_reference_effects(
     reference: &Reference,
@@ -39,7 +39,7 @@ fn plan_reference_effects(
     plan_subscript_effects(reference.member_subscript, pushed, steps)
 }
 
-// What two expressions do.
+// The effects of two expressions.
 #[tactic(auto, unfolding(crate::specs::Effects::both_effects_steps))]
 fn plan_both_effects(
     first: ExpressionNumber,
@@ -53,7 +53,7 @@ fn plan_both_effects(
     steps.part(Task::Effects(second), pushed)
 }
 
-// What an expression of a form does.
+// The effects of an expression of this form.
 #[tactic(auto, unfolding(crate::specs::Effects::form_effects_steps))]
 fn plan_form_effects(
     site: &Site<'_>,
@@ -88,7 +88,7 @@ fn plan_form_effects(
     }
 }
 
-/// What an expression does beside its value.
+/// The effects of an expression, without its value.
 #[tactic(auto, unfolding(crate::specs::Effects::effects_steps))]
 pub(crate) fn plan_effects(
     site: &Site<'_>,

@@ -1,4 +1,4 @@
-//! Planned code as it is written.
+//! Emission of planned code.
 
 ghost use Rattle.std.specs.Prelude.{◌≡◌, ◌∷◌, ◌<◌, [], true, false, slice_index_or, IfOk, OnOk};
 ghost use Rattle.asm8080.specs.declared.item.Item.TheVariants.{Plain, Mark};
@@ -30,14 +30,14 @@ pub const ROUTINES: [Routine; 9] = [
     Routine::Move,
 ];
 
-/// Tells that a number of labels has 32 bits, and does nothing.
+/// Shows that a `u32` number of labels has 32 bits. It does nothing.
 pub fn hold_labels(labels: u32)
     ensures { labels < 4294967296 }
 {
     let _ = labels;
 }
 
-// The place of a routine among them.
+// The index of a routine in `ROUTINES`.
 fn routine_index(routine: Routine) -> u32
     ensures { result ≡ index_of_routine routine }
 {
@@ -54,16 +54,16 @@ fn routine_index(routine: Routine) -> u32
     }
 }
 
-/// Code that is being written: the code, the steps that are planned, and what is known of the registers at its end.
+/// Code that is being emitted: the code, the planned steps, and the facts about the registers at its end.
 pub struct Emission {
     pub writer: Writer,
     pub steps: Steps,
     pub facts: Facts,
-    /// Of each routine, whether the code calls it.
+    /// Whether the code calls each routine.
     pub is_called: Vec<bool>,
 }
 
-// The rank of a part, which is to be below another one. Fails where it is not.
+// The rank of a part, which must be below another one. Fails if it is not.
 fn rank_below(site: &Site<'_>, part: Part, rank: u64) -> Result<u64, AllocError>
     ensures { IfOk result (λ below. below < rank) }
 {
@@ -89,7 +89,7 @@ impl Emission {
         })
     }
 
-    /// The code, and of each routine whether the code calls it.
+    /// Returns the code, and whether it calls each routine.
     pub fn into_code(self) -> (Writer, Vec<bool>)
         ensures writer { result.0 ≡ self.writer }
         ensures called { result.1 ≡ self.is_called }
@@ -103,7 +103,7 @@ impl Emission {
         (writer, is_called)
     }
 
-    /// Where code stands at its end, in a body with this site.
+    /// The site at the end of the code, in the body of the given site.
     pub fn site<'a>(&self, site: &Site<'a>) -> Site<'a>
         ensures { result ≡ knowing site.now self.now.facts }
     {
@@ -144,7 +144,7 @@ impl Emission {
         self.writer.jump(form, label)
     }
 
-    // Gives a label its place here, to which code may jump from anywhere.
+    // Gives a label its place here. Code may jump to it from anywhere.
     fn mark(&mut self, label: LabelNumber) -> Result<(), AllocError>
         ensures items { OnOk result (AddsItems self.old self.new (Mark label.index ∷ []) no_facts) }
         ensures called { self.new.is_called ≡ self.old.is_called }
@@ -153,7 +153,7 @@ impl Emission {
         self.writer.mark(label)
     }
 
-    // Adds a test of A, where the zero flag does not show yet whether it is 0.
+    // Adds a test of A, unless the zero flag shows already whether A is 0.
     fn test_a(&mut self) -> Result<(), AllocError>
         ensures items { OnOk result (AddsItems self.old self.new
             (test_items self.old.facts) (after_test self.old.facts)) }
@@ -165,7 +165,7 @@ impl Emission {
         self.plain(Instr::Accumulate(Operation::Or, Operand::Of(Register::A)))
     }
 
-    // Notes that the code calls a routine, by its place among them.
+    // Notes that the code calls a routine, by its index.
     #[tactic(auto, using(crate::proofs::Emitting::note_kept, crate::proofs::Emitting::note_only, crate::proofs::Emitting::note_none))]
     fn note(&mut self, index: usize) -> Result<(), AllocError>
         ensures noted { OnOk result (slice_index_or self.new.is_called.items index false ≡ true) }
@@ -196,7 +196,7 @@ impl Emission {
             .jump(WordForm::CallTo, routine_label(tree, index))
     }
 
-    // Adds a call of a procedure. Fails where there is none of that number: there is one in what `lower` gives.
+    // Adds a call of a procedure. Fails if there is no procedure with this number; the tree code of `lower` has it.
     fn call_procedure(&mut self, tree: &TreeModule, procedure: u32) -> Result<(), AllocError>
         ensures items { OnOk result (AddsItems self.old self.new
             (module_call_items tree.now procedure) no_facts) }
@@ -214,7 +214,7 @@ impl Emission {
         }
     }
 
-    // Adds the code of a step that is no part. A part is refused.
+    // Adds the code of a step that is not a part. A part is refused.
     #[tactic(auto, using(crate::proofs::Emitting::none_noted))]
     fn step(&mut self, tree: &TreeModule, step: Step) -> Result<(), AllocError>
         ensures items { OnOk result (AddsItems self.old self.new
@@ -243,7 +243,7 @@ impl Emission {
         }
     }
 
-    /// Adds the code of a step, in a body with this site. What is known of the registers is not taken from there.
+    /// Adds the code of a step, in the body of the given site. The facts of that site are not used.
     #[tactic(auto, using(crate::proofs::Emitting::emits_step, crate::proofs::Emitting::emits_part))]
     pub fn add(&mut self, site: &Site<'_>, step: Step) -> Result<(), AllocError>
         ensures { OnOk result (EmitsSteps site.now (step ∷ []) self.old self.new) }
@@ -254,7 +254,7 @@ impl Emission {
         }
     }
 
-    /// Adds the code of a part. Fails where a part of it does not rank below it: there is none in what `lower` gives.
+    /// Adds the code of a part. Fails if a part of it does not rank below it, which the tree code of `lower` rules out.
     pub fn emit(&mut self, site: &Site<'_>, part: Part) -> Result<(), AllocError>
         ensures { OnOk result (Emits site.now part self.old self.new) }
     {
@@ -262,7 +262,7 @@ impl Emission {
         self.emit_ranked(site, part, rank)
     }
 
-    // Adds the code of a step. A part is to rank below this.
+    // Adds the code of a step. If it is a part, it must rank below `rank`.
     #[cycle(parts)]
     #[tactic(auto, using(crate::proofs::Emitting::emits_step, crate::proofs::Emitting::emits_part))]
     fn add_below(&mut self, site: &Site<'_>, step: Step, rank: u64) -> Result<(), AllocError>
@@ -297,9 +297,9 @@ impl Emission {
     }
 }
 
-/// Takes code over and hands it back with the code of one expression or location of the tree code added, in a body with this
-/// site: the value comes into A or HL, or its address into HL, or it is stored, or code jumps by it, as the task of the part
-/// says. A refusal drops the code.
+/// Takes code, and returns it with the code of one expression or location added, in the body of the given site. The
+/// task of the part says what that code does: put the value into A or HL or its address into HL, store it, or jump by
+/// it. A refusal drops the code.
 #[tactic(auto, using(crate::proofs::CodeLaws::emitted_is_code))]
 pub fn emit_expression(code: Emission, site: &Site<'_>, part: Part) -> Result<Emission, AllocError>
     ensures emits { IfOk result (λ after. Emits site.now part code after) }
@@ -310,7 +310,7 @@ pub fn emit_expression(code: Emission, site: &Site<'_>, part: Part) -> Result<Em
     Ok(code)
 }
 
-/// The label of a routine, by its place among `ROUTINES`.
+/// The label of a routine, by its index in `ROUTINES`.
 pub fn routine_label(tree: &TreeModule, index: u32) -> LabelNumber
     ensures { result ≡ module_routine_label tree.now index }
 {
@@ -320,7 +320,7 @@ pub fn routine_label(tree: &TreeModule, index: u32) -> LabelNumber
     }
 }
 
-// Written out, so that what it holds is let go here, and each crate that lets one go calls this.
+// Written out so that the fields are dropped in one place, which other crates call.
 impl Drop for Emission {
     fn drop(self) {
         let Emission {

@@ -1,4 +1,4 @@
-//! Which steps carry out a task.
+//! The steps of each task.
 
 ghost use Rattle.std.specs.Prelude.{OnOk};
 ghost use Rattle.steps8080.specs.Step.{AddsWithLabels};
@@ -12,7 +12,7 @@ use operands8080::{plan_address, plan_branch, plan_store};
 use std::alloc::AllocError;
 use steps8080::{Part, Site, Steps, Task};
 
-/// The steps that carry out a task. What is known of the registers at the site is used for the first step alone.
+/// The steps of a task. Only the first step uses the facts of the site.
 #[tactic(auto, unfolding(crate::specs::Forms::task_steps, crate::specs::Forms::task_labels, crate::specs::Forms::steps_of, crate::specs::Forms::labels_of), using(crate::proofs::Parts::none_taken))]
 pub fn plan_task(site: &Site<'_>, part: Part, steps: &mut Steps) -> Result<(), AllocError>
     ensures { OnOk result (AddsWithLabels steps.old steps.new

@@ -10,7 +10,7 @@ use std::alloc::AllocError;
 use steps8080::{Site, Steps, Task, clear_a, copy, high, set};
 use treecode::ExpressionNumber;
 
-/// A number into A.
+/// Puts a number into A.
 #[tactic(auto, unfolding(crate::specs::Halves::byte_number_steps))]
 pub(crate) fn plan_byte_number(number: u8, steps: &mut Steps) -> Result<(), AllocError>
     ensures { OnOk result (Adds steps.old steps.new (byte_number_steps number)) }
@@ -22,7 +22,7 @@ pub(crate) fn plan_byte_number(number: u8, steps: &mut Steps) -> Result<(), Allo
     }
 }
 
-/// The low byte of the value of an ADDRESS expression into A, by way of HL.
+/// Puts the low byte of the value of an ADDRESS expression into A, through HL.
 #[tactic(auto, unfolding(crate::specs::Halves::low_of_word_steps))]
 pub(crate) fn plan_low_of_word(
     number: ExpressionNumber,
@@ -35,7 +35,7 @@ pub(crate) fn plan_low_of_word(
     steps.plain(copy(Register::A, Register::L))
 }
 
-/// The high byte of the value of an expression into A, 0 of a BYTE.
+/// Puts the high byte of the value of an expression into A; it is 0 for a BYTE.
 #[tactic(auto, unfolding(crate::specs::Halves::high_byte_steps))]
 pub(crate) fn plan_high_byte(
     site: &Site<'_>,

@@ -1,4 +1,4 @@
-//! Operators whose value comes into HL.
+//! Operators with the result in HL.
 
 ghost use Rattle.std.specs.Prelude.{OnOk, ◌≡◌};
 ghost use Rattle.steps8080.specs.Step.{Adds};
@@ -18,7 +18,7 @@ use steps8080::{
 use treecode::{ExpressionNumber, Place};
 use trees::BinaryOperator;
 
-// A sum into HL.
+// Puts a sum into HL.
 #[tactic(auto, unfolding(crate::specs::WordOperators::sum_steps))]
 fn plan_sum(
     site: &Site<'_>,
@@ -41,7 +41,7 @@ fn plan_sum(
     steps.plain(Instr::Dad(Pair::De))
 }
 
-// Takes HL from a number, into HL.
+// Subtracts HL from a number, with the result in HL.
 #[tactic(auto, unfolding(crate::specs::WordOperators::taken_from_number_steps))]
 fn plan_taken_from_number(number: u16, steps: &mut Steps) -> Result<(), AllocError>
     ensures { OnOk result (Adds steps.old steps.new (taken_from_number_steps number)) }
@@ -60,7 +60,7 @@ fn plan_taken_from_number(number: u16, steps: &mut Steps) -> Result<(), AllocErr
     ])
 }
 
-// Carries out an operation with HL and a word in memory, which is on the left, into HL.
+// Puts the result of an operation with a word in memory on the left and HL on the right into HL.
 #[tactic(auto, unfolding(crate::specs::WordOperators::with_word_steps))]
 fn plan_with_word(
     place: Place,
@@ -82,7 +82,7 @@ fn plan_with_word(
     ])
 }
 
-// Carries out an operation with HL and DE, of which the left operand is in one, into HL.
+// Puts the result of an operation with HL and DE into HL. `order` is the operand that is in HL.
 #[tactic(auto, unfolding(crate::specs::WordOperators::with_pair_steps))]
 fn plan_with_pair(
     order: PairOrder,
@@ -112,7 +112,7 @@ fn plan_with_pair(
     }
 }
 
-// A difference into HL.
+// Puts a difference into HL.
 #[tactic(auto, unfolding(crate::specs::WordOperators::difference_steps, crate::specs::WordOperators::left_word, crate::specs::WordOperators::paired_steps))]
 fn plan_difference(
     site: &Site<'_>,
@@ -167,7 +167,8 @@ fn plan_half(
     }
 }
 
-// The high byte of a value AND a number as the high byte of HL, whose low byte is 0.
+// ANDs the high byte of a value with a number, and puts the result into HL as the high byte of a word with the low byte
+// 0.
 #[tactic(auto, unfolding(crate::specs::WordOperators::high_half_steps))]
 fn plan_high_half(
     site: &Site<'_>,
@@ -185,7 +186,7 @@ fn plan_high_half(
     steps.all(&[copy(Register::H, Register::A), set(Register::L, 0)])
 }
 
-// AND, OR or XOR of a value and a number into HL.
+// Puts AND, OR or XOR of a value and a number into HL.
 #[tactic(auto, unfolding(crate::specs::WordOperators::logic_with_number_steps, crate::specs::WordOperators::and_with_number_steps, crate::specs::WordOperators::both_halves_steps))]
 fn plan_logic_with_number(
     site: &Site<'_>,
@@ -210,7 +211,7 @@ fn plan_logic_with_number(
     plan_half(operation, Register::H, high(number), steps)
 }
 
-// OR or XOR of a value and a byte whose code changes A alone into HL.
+// Puts OR or XOR of a value and a byte, with code that changes only A, into HL.
 #[tactic(auto, unfolding(crate::specs::WordOperators::logic_with_byte_steps))]
 fn plan_logic_with_byte(
     operation: Operation,
@@ -229,16 +230,16 @@ fn plan_logic_with_byte(
     ])
 }
 
-/// An operand whose code leaves HL alone, of AND, OR or XOR.
+/// An operand of AND, OR or XOR with code that does not change HL.
 #[derive(Clone, Copy)]
 pub enum Simple {
-    /// A byte whose code changes A alone.
+    /// A byte with code that changes only A.
     Byte(ExpressionNumber),
     /// A word in memory.
     Word(Place),
 }
 
-// An operand whose code leaves HL alone, if it is one.
+// The operand as one with code that does not change HL, if it is.
 #[tactic(auto, unfolding(crate::specs::WordOperators::simple_operand))]
 fn simple_operand(site: &Site<'_>, number: ExpressionNumber) -> Option<Simple>
     ensures { result ≡ simple_operand site.now number }
@@ -252,7 +253,7 @@ fn simple_operand(site: &Site<'_>, number: ExpressionNumber) -> Option<Simple>
     }
 }
 
-// AND, OR or XOR of a value and a simple operand into HL.
+// Puts AND, OR or XOR of a value and a simple operand into HL.
 #[tactic(auto, unfolding(crate::specs::WordOperators::logic_with_simple_steps))]
 fn plan_logic_with_simple(
     operation: Operation,
@@ -273,7 +274,7 @@ fn plan_logic_with_simple(
     }
 }
 
-// The operand of AND, OR or XOR that comes first, and the other one, which is simple.
+// The operand of AND, OR or XOR that is evaluated first, and the other one, which is simple.
 #[tactic(auto, unfolding(crate::specs::WordOperators::with_simple, crate::specs::WordOperators::first_and_simple, crate::specs::WordOperators::exchanged_operand))]
 fn with_simple(site: &Site<'_>, operands: Operands) -> Option<(ExpressionNumber, Simple)>
     ensures { result ≡ with_simple site.now operands }
@@ -293,7 +294,7 @@ fn with_simple(site: &Site<'_>, operands: Operands) -> Option<(ExpressionNumber,
     }
 }
 
-// AND, OR or XOR into HL.
+// Puts AND, OR or XOR into HL.
 #[tactic(auto, unfolding(crate::specs::WordOperators::logic_steps, crate::specs::WordOperators::computed_logic_steps, crate::specs::WordOperators::is_of_bytes, crate::specs::WordOperators::paired_steps))]
 fn plan_logic(
     site: &Site<'_>,
@@ -322,7 +323,7 @@ fn plan_logic(
     plan_with_pair(order, operation, operation, steps)
 }
 
-// A product into HL. The routine is faster where DE is below 256.
+// Puts a product into HL. The routine is faster if DE is below 256.
 #[tactic(auto, unfolding(crate::specs::WordOperators::product_word_steps, crate::specs::WordOperators::product_order))]
 fn plan_product_word(
     site: &Site<'_>,
@@ -348,7 +349,7 @@ fn plan_product_word(
     steps.push(Step::CallRoutine(Routine::Multiply))
 }
 
-// Divides one operand by the other one: the quotient into HL, the remainder into DE.
+// Divides one operand by the other one: puts the quotient into HL, and the remainder into DE.
 #[tactic(auto, unfolding(crate::specs::WordOperators::division_steps))]
 fn plan_division(
     site: &Site<'_>,
@@ -363,7 +364,7 @@ fn plan_division(
     steps.push(Step::CallRoutine(Routine::Divide))
 }
 
-// A quotient into HL.
+// Puts a quotient into HL.
 #[tactic(auto, unfolding(crate::specs::WordOperators::quotient_steps))]
 fn plan_quotient(
     site: &Site<'_>,
@@ -379,7 +380,7 @@ fn plan_quotient(
     }
 }
 
-// A remainder into HL.
+// Puts a remainder into HL.
 #[tactic(auto, unfolding(crate::specs::WordOperators::remainder_steps, crate::specs::ByteOperators::number_of_two))]
 fn plan_remainder(
     site: &Site<'_>,
@@ -398,7 +399,7 @@ fn plan_remainder(
     steps.plain(Instr::Xchg)
 }
 
-/// The value of an operator with two ADDRESS operands into HL.
+/// Puts the result of an operator with two ADDRESS operands into HL.
 #[tactic(auto, unfolding(crate::specs::WordOperators::word_binary_steps))]
 pub(crate) fn plan_word_binary(
     site: &Site<'_>,

@@ -14,7 +14,7 @@ use steps8080::{Site, Step, Steps, Task, copy, plan_extension, repeat, set, with
 use treecode::{ExpressionNumber, Place};
 use typed_trees::ShiftFunction;
 
-// 0 into HL, after what an expression does.
+// Evaluates an expression for its effects, and puts 0 into HL.
 #[tactic(auto, unfolding(crate::specs::WordShifts::zero_steps))]
 fn plan_zero(value: ExpressionNumber, pushed: u16, steps: &mut Steps) -> Result<(), AllocError>
     ensures { OnOk result (Adds steps.old steps.new (zero_steps value pushed)) }
@@ -23,7 +23,7 @@ fn plan_zero(value: ExpressionNumber, pushed: u16, steps: &mut Steps) -> Result<
     steps.word(WordForm::LoadPair(Pair::Hl), Place::Number(0))
 }
 
-// A word shifted to the left by a number into HL.
+// Puts a word shifted left by a number into HL.
 #[tactic(auto, unfolding(crate::specs::WordShifts::shifted_left_steps))]
 fn plan_shifted_left(
     value: ExpressionNumber,
@@ -46,7 +46,7 @@ fn plan_shifted_left(
     repeat(twice, count, steps)
 }
 
-// Shifts HL to the right by 1, through A.
+// Shifts HL right by 1, through A.
 #[tactic(auto, unfolding(crate::specs::WordShifts::half_steps))]
 fn plan_half(steps: &mut Steps) -> Result<(), AllocError>
     ensures { OnOk result (Adds steps.old steps.new half_steps) }
@@ -62,7 +62,8 @@ fn plan_half(steps: &mut Steps) -> Result<(), AllocError>
     ])
 }
 
-// Shifts HL to the right by 2, through A: the two low bits of H come beside the six high ones of L, and turn to the top.
+// Shifts HL right by 2, through A: puts the two low bits of H beside the six high bits of L, and rotates them to the
+// top.
 #[tactic(auto, unfolding(crate::specs::WordShifts::quarter_steps))]
 fn plan_quarter(steps: &mut Steps) -> Result<(), AllocError>
     ensures { OnOk result (Adds steps.old steps.new quarter_steps) }
@@ -84,7 +85,7 @@ fn plan_quarter(steps: &mut Steps) -> Result<(), AllocError>
     ])
 }
 
-// A word shifted to the right by a count below 8 into HL.
+// Puts a word shifted right by a count below 8 into HL.
 #[tactic(auto, unfolding(crate::specs::WordShifts::shifted_right_little_steps))]
 fn plan_shifted_right_little(
     value: ExpressionNumber,
@@ -106,7 +107,7 @@ fn plan_shifted_right_little(
     }
 }
 
-/// The value of an expression, as an ADDRESS, shifted to the right by a number into HL.
+/// Puts the value of an expression, as an ADDRESS, shifted right by a number into HL.
 #[tactic(auto, unfolding(crate::specs::WordShifts::word_shifted_right_steps))]
 pub(crate) fn plan_word_shifted_right(
     site: &Site<'_>,
@@ -146,7 +147,7 @@ fn word_routine(function: ShiftFunction) -> Routine
     }
 }
 
-// A word shifted by a count that is not known into HL.
+// Puts a word shifted by a count that is not known into HL.
 #[tactic(auto, unfolding(crate::specs::WordShifts::computed_count_steps, crate::specs::WordShifts::count_beside_word_steps))]
 fn plan_computed_count(
     site: &Site<'_>,
@@ -167,7 +168,7 @@ fn plan_computed_count(
     steps.push(Step::CallRoutine(word_routine(shifted.function)))
 }
 
-/// A shift of an ADDRESS into HL.
+/// Puts a shift of an ADDRESS into HL.
 #[tactic(auto, unfolding(crate::specs::WordShifts::word_shift_steps, crate::specs::WordShifts::word_by_number_steps))]
 pub(crate) fn plan_word_shift(
     site: &Site<'_>,

@@ -1,4 +1,4 @@
-//! Values in HL.
+//! Code that puts values into HL.
 
 ghost use Rattle.std.specs.Prelude.{OnOk};
 ghost use Rattle.steps8080.specs.Step.{Adds};
@@ -18,7 +18,7 @@ use treecode::{ExpressionForm, ExpressionNumber, Location};
 use trees::{ScalarType, UnaryOperator};
 use typed_trees::UnaryFunction;
 
-// NOT or `-` of the word in HL.
+// Replaces the word in HL by NOT or `-` of it.
 #[tactic(auto, unfolding(crate::specs::Words::word_unary_steps))]
 fn plan_word_unary(operator: UnaryOperator, steps: &mut Steps) -> Result<(), AllocError>
     ensures { OnOk result (Adds steps.old steps.new (word_unary_steps operator)) }
@@ -43,7 +43,7 @@ fn plan_word_unary(operator: UnaryOperator, steps: &mut Steps) -> Result<(), All
     }
 }
 
-// The value of a BYTE expression into HL.
+// Puts the value of a BYTE expression into HL.
 #[tactic(auto, unfolding(crate::specs::Words::extended_byte_steps))]
 fn plan_extended_byte(
     site: &Site<'_>,
@@ -60,7 +60,7 @@ fn plan_extended_byte(
     plan_extension(steps)
 }
 
-// LOW, HIGH or DOUBLE of a value, an ADDRESS, into HL.
+// Puts LOW, HIGH or DOUBLE of a value, as an ADDRESS, into HL.
 #[tactic(auto, unfolding(crate::specs::Words::word_function_steps))]
 fn plan_word_function(
     function: UnaryFunction,
@@ -77,7 +77,8 @@ fn plan_word_function(
     }
 }
 
-// The value of an operator with two ADDRESS operands or a shift of an ADDRESS into HL. No other form comes here.
+// Puts the result of an operator with two ADDRESS operands, or of a shift of an ADDRESS, into HL. It is not called with
+// other forms.
 #[tactic(auto, unfolding(crate::specs::Words::word_of_two_steps))]
 fn plan_word_of_two(
     site: &Site<'_>,
@@ -110,7 +111,7 @@ fn plan_word_of_two(
     }
 }
 
-// The value of an ADDRESS expression that is not known into HL.
+// Puts the value of an ADDRESS expression that is not known into HL.
 #[tactic(auto, unfolding(crate::specs::Words::word_form_steps))]
 fn plan_word_form(
     site: &Site<'_>,
@@ -145,7 +146,7 @@ fn plan_word_form(
     }
 }
 
-/// The value of an expression into HL, a BYTE with zeros added.
+/// Puts the value of an expression into HL; a BYTE is zero-extended.
 #[tactic(auto, unfolding(crate::specs::Words::word_steps, crate::specs::Words::computed_word_steps))]
 pub(crate) fn plan_word(
     site: &Site<'_>,

@@ -21,7 +21,7 @@ pub two_at_most : (scalar : ScalarType) → size_of_scalar scalar ≤ 2
 two_at_most Byte = omega arith
 two_at_most Address = omega arith
 
--- whether an object is in the frame, in the words of the typed module
+-- whether an object is in the frame, in terms of the typed module
 same_test : (procedure : ℕ) (home : Home) → is_in_frame procedure home ≡ lives_in_frame procedure home
 same_test procedure (InData values) = refl
 same_test procedure (InConstants values) = refl
@@ -41,7 +41,7 @@ bytes_there procedure object lives is =
     ap (λ (lives : Bool). if lives && not object.is_parameter then size_of_object object else 0)
     (same_test procedure object.home ∙ is)
 
--- no object takes more than all together
+-- no object takes more than all objects together
 at_most_sum :
     (bytes : TypedObject → ℕ) (objects : List TypedObject) (index : ℕ) (object : TypedObject)
     → slice_get objects index ≡ Some object
@@ -53,7 +53,7 @@ at_most_sum bytes (first ∷ others) zero object found =
 at_most_sum bytes (first ∷ others) (suc index) object found =
     omega (arith, sum_by-cons bytes first others, at_most_sum bytes others index object found)
 
--- the bytes of an object before the return address are those that the typed module counts
+-- the bytes of an object before the return address, as the typed module counts them
 abbrev IsCounted : TypedModule → (number : ℕ) → TypedObject → Type 0
 IsCounted typed number object =
     bytes_by_parameter (min (size_of_object object) 65535)
@@ -108,7 +108,7 @@ bytes_from typed procedure first (object ∷ others) counted =
     at_next : (index : ℕ) → first + suc index ≡ first + 1 + index
     at_next index = omega arith
 
--- an object that is called a parameter is one of its procedure
+-- an object that is marked as a parameter is one of its procedure
 pub record IsListed (heading : TypedProcedure) (number : ℕ) : Type 0 where
   pub index : ℕ
   pub stands : slice_get heading.parameters index ≡ Some number
@@ -131,7 +131,7 @@ listed typed procedure heading number object has found home named =
           ∙ ap (λ (one : ℕ). Some one) (any.3 ∙ any.4);
     }
 
--- a variable in a frame takes no more than the limit of frames
+-- a variable in a frame takes at most the limit of frames
 variable_fits :
     (typed : TypedModule) (procedure : ℕ) (heading : TypedProcedure) (number : ℕ) (object : TypedObject)
     → FrameFits typed.objects procedure heading
@@ -151,7 +151,7 @@ variable_fits typed procedure heading number object fits found home named =
     sum_fits : sum_by (variable_bytes procedure) typed.objects ≤ 1024
     sum_fits = subst (λ (bytes : ℕ). bytes ≤ 1024) fits.variables fits.bytes
 
--- nor does any object in a frame
+-- an object in a frame does too
 pub object_fits :
     (typed : TypedModule) (procedure : ℕ) (heading : TypedProcedure) (number : ℕ) (object : TypedObject)
     → HasParameters typed procedure heading

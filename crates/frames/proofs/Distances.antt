@@ -1,4 +1,4 @@
--- One pass over a frame finds the distances of its plan.
+-- One pass over a frame computes the distances of its plan.
 use Rattle.frames.proofs.Prelude.{◌≡◌, ℕ, zero, suc, ◌+◌, ◌-◌, ◌*◌, ◌<◌, ◌≤◌, List, [], ◌∷◌, length, drop, take, Option, Some, None, refl, ap, sym, ◌∙◌, subst, arith, unwrap_or, slice_get, slice_index_or, drop_of_length-le, none-some, slice_get_within, ScalarType, size_of_scalar, FrameVariable, Parameter, TreeProcedure, FramePlan, bytes_by_parameter, variable_bytes, distance_by_parameter, bytes_of_call, HasSize, parameter_distance, HasFrame, IsPlanOf, capped, capped_parameter, capped_distance, next_after, distances_from, IsFound}
 use Rattle.frames.proofs.Words.{parameter_is}
 
@@ -12,7 +12,7 @@ pub bytes_passed :
 bytes_passed frame i bytes all past small summed =
     omega (arith, small, summed, ap variable_bytes (drop_of_length-le frame past))
 
--- where the next variable begins
+-- the distance of the next variable
 next_is :
     (next size : ℕ) (parameter : Option ℕ)
     → next + bytes_by_parameter size parameter < 65536
@@ -20,7 +20,7 @@ next_is :
 next_is next size None fits = omega arith
 next_is next size (Some index) fits = omega arith
 
--- the distance of a variable or parameter of what is left of a frame, whose variables begin so far on
+-- the distance of a variable or parameter in the rest of a frame, with variables from `next` on
 abbrev distance_left : (bytes parameters next : ℕ) → (left : List FrameVariable) → (number size : ℕ)
     → Option ℕ → ℕ
 distance_left bytes parameters next left number size None = next + variable_bytes (take number left)
@@ -66,7 +66,7 @@ passed bytes parameters next (first ∷ others) (suc number) variable fits found
     (omega (arith, fits)) found
     ∙ later_left bytes parameters next first others number variable.size variable.parameter
 
--- a parameter has its exact distance where the frame is one
+-- a parameter has its exact distance, if the frame is a frame
 exact :
     (procedure : TreeProcedure) (number size : ℕ) (parameter : Option ℕ)
     → ((index : ℕ) → parameter ≡ Some index → HasSize size (slice_get procedure.parameters.items index))
@@ -109,7 +109,7 @@ exact procedure number size (Some index) sized bytes fits =
         parameter.scalar sized (slice_get_within procedure.parameters.items index parameter is)
         (omega (arith, bytes, fits))
 
--- a plan with the distances that one pass finds is the plan of a frame
+-- a plan with the distances that one pass computes is the plan of a frame
 pub planned :
     (procedure : TreeProcedure) (plan : FramePlan)
     → HasFrame procedure

@@ -1,4 +1,4 @@
--- The objects in the frame of a procedure, one after another: which one has which number there.
+-- The objects in the frame of a procedure, one after another, and their numbers there.
 use Rattle.frames.proofs.Prelude.{◌≡◌, ℕ, zero, suc, ◌+◌, Bool, true, false, cond, filter, List, [], ◌∷◌, length, take, slice_get, Some, refl, ap, sym, ◌∙◌, subst, arith, enumerate_from, eqb-true, eq-eqb, false≢true, none-some, same_Some, Home, InData, InConstants, Placed, BasedOn, Elsewhere, Nowhere, InFrame, TypedObject, lives_in_frame, numbered_in_frame}
 
 -- whether an object is in the frame
@@ -18,11 +18,11 @@ pub lives_there : (procedure : ℕ) (home : Home) → home ≡ InFrame procedure
 lives_there procedure home is =
     ap (λ (home : Home). lives_in_frame procedure home) is ∙ eq-eqb procedure procedure refl
 
--- the objects in the frame, with their numbers, which begin at a first one
+-- the objects in the frame with their numbers, from a first number on
 abbrev pub entries : (procedure first : ℕ) → List TypedObject → List (ℕ × TypedObject)
 entries procedure first objects = filter (numbered_in_frame procedure) (enumerate_from first objects)
 
--- how many of the objects before one are in the frame
+-- the number of objects in the frame before one
 abbrev pub position_of : (procedure : ℕ) → List TypedObject → (index : ℕ) → ℕ
 position_of procedure objects index = length (filter (in_frame procedure) (take index objects))
 
@@ -35,7 +35,7 @@ pub record IsEntry
   pub home : (entry.1).home ≡ InFrame procedure
   pub place : position ≡ position_of procedure objects index
 
--- the same, where one more object stands before
+-- the same with one more object before
 later_entry :
     (procedure first : ℕ) (object : TypedObject) (others : List TypedObject) (lives : Bool) (position : ℕ)
     (entry : ℕ × TypedObject)
@@ -98,7 +98,7 @@ entry_after procedure first object others true (suc position) entry is found res
 entry_after procedure first object others false position entry is found rest =
     later_entry procedure first object others false position entry is (rest position found)
 
--- what stands at a place in the frame
+-- the object at a place in the frame
 pub entry_at :
     (procedure first : ℕ) (objects : List TypedObject) (position : ℕ) (entry : ℕ × TypedObject)
     → slice_get (entries procedure first objects) position ≡ Some entry
@@ -124,7 +124,7 @@ stands_later procedure first object others true index found is rest =
 stands_later procedure first object others false index found is rest =
     rest ∙ ap (λ (number : ℕ). Some (number, found)) (omega arith)
 
--- an object in the frame stands there after as many as are before it
+-- the place of an object in the frame is the number of those before it
 pub stands_at :
     (procedure first : ℕ) (objects : List TypedObject) (index : ℕ) (found : TypedObject)
     → slice_get objects index ≡ Some found

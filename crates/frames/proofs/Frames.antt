@@ -1,4 +1,4 @@
--- A procedure of tree code has the frame of the typed procedure, and is charged as that.
+-- A procedure of tree code has the frame and the charge of the typed procedure.
 use Rattle.frames.proofs.Prelude.{◌≡◌, ℕ, ◌+◌, ◌*◌, ◌%◌, ◌<◌, ◌≤◌, min, List, length, zip, slice_get, Option, Some, None, refl, ap, sym, ◌∙◌, subst, mod-eq_of_lt, arith, option_map, length-map, none-some, same_Some, slice_get-map, slice_get_within, ScalarType, Byte, Address, charge_of, height_of_list, InFrame, TypedObject, TypedProcedure, TypedModule, size_of_scalar, size_of_object, home_of_parameters, FramesFit, HasParameters, ParametersFit, Storage, FrameVariable, Parameter, TreeProcedure, frame_position, frame_variable, frame_variables, parameter_at, parameter_number, parameters_of, HasBody, IsProcedure, Nodes, charge_in, IsChargedAs, variable_bytes, HasSize, HasFrame}
 use Rattle.mem80.specs.declared.memory.TheConstants.{MEMORY_SIZE}
 use Rattle.treecode.specs.declared.place.Home.{Home}
@@ -6,7 +6,7 @@ use Rattle.frames.proofs.Entries.{entries, entry_at, IsEntry}
 use Rattle.frames.proofs.Parameters.{as_many, has_parameters, frame_fits, IsFramed, framed}
 use Rattle.frames.proofs.Bytes.{scalar_size, bytes_are}
 
--- the object that a variable of a frame is
+-- the object of a variable of a frame
 record IsVariable (typed : TypedModule) (procedure position : ℕ) (variable : FrameVariable) : Type 0 where
   number : ℕ
   object : TypedObject
@@ -94,7 +94,7 @@ parameter_at_place typed procedure heading number object index fit stands found 
         of_framed other (framed typed procedure heading number object other fit stands found home search)
         (same_Some (other % 65536) index same)
 
--- its size is that of its type, at its place among the parameters
+-- its size is that of its type, by its index among the parameters
 capped_size : (scalar : ScalarType) → min (size_of_scalar scalar) 65535 ≡ size_of_scalar scalar
 capped_size Byte = refl
 capped_size Address = refl
@@ -204,7 +204,7 @@ has_frame typed nodes storage number procedure heading fit frames_fit stands is 
         ∙ (of_variable index same entry_other parameter_other).stands))
         ∙ sym entry_other.place
 
--- a body is charged as its procedure, where it has as many parameters and as large a frame
+-- a body is charged as its procedure, if it has as many parameters and as large a frame
 pub charged_as :
     (nodes : Nodes) (storage : Storage) (procedure : TreeProcedure) (heading : TypedProcedure)
     → length procedure.parameters.items ≡ length heading.parameters
@@ -227,7 +227,7 @@ is_charged typed nodes storage number procedure heading fit stands is =
     (has_parameters typed number heading fit stands) is.has_body.parameters)
     is.frame_bytes is.has_body
 
--- the main program has no parameters, and where it has no frame it is charged as the typed one
+-- the main program has no parameters; without a frame it is charged as the typed one
 pub main_is_charged :
     (typed : TypedModule) (nodes : Nodes) (storage : Storage) (procedure : TreeProcedure)
     → ParametersFit typed

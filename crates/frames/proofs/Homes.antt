@@ -1,13 +1,13 @@
--- An object in the frame of a procedure begins where its number there says, and one in the data segment where its
--- storage says.
+-- An object in the frame of a procedure begins at its number there, and one in the data segment at its place
+-- in the storage.
 use Rattle.frames.proofs.Prelude.{◌≡◌, ℕ, zero, suc, ◌+◌, ◌<◌, List, [], ◌∷◌, ◌++◌, length, slice_get, slice_index_or, get_or, None, Some, refl, ap, sym, ◌∙◌, arith, get_or_append_left, get_or_push, length_push, none-some, same_Some, TypedHome, InData, InFrame, TypedObject, TypedModule, Storage, Static, Frame, Number, frame_number, home_of_object, homes_from, homes_of, place_of_slot, home_at}
 use Rattle.treecode.specs.declared.place.Home.{Home}
 
--- where the object after those before begins
+-- the home of the object after those before
 abbrev next_home : TypedModule → Storage → (before : List Home) → TypedObject → Home
 next_home typed storage before object = home_of_object typed storage before (length before) object.home
 
--- those before stay
+-- the homes of those before are kept
 kept :
     (typed : TypedModule) (storage : Storage) (before : List Home) (objects : List TypedObject)
     (number : ℕ) (default : Home)
@@ -67,7 +67,7 @@ home_in_frame typed storage procedure number object found home =
     from_zero : number ≡ 0 + number
     from_zero = omega arith
 
--- a variable of the data segment begins where its storage says
+-- a variable of the data segment begins at its place in the storage
 data_home :
     (typed : TypedModule) (storage : Storage) (before : List Home) (objects : List TypedObject)
     (index : ℕ) (object : TypedObject) (default : Home)

@@ -1,4 +1,4 @@
--- What a procedure of tree code takes of the stack, and where its objects lie there, in the words of the typed
+-- The stack that a procedure of tree code takes, and the places of its objects there, in terms of the typed
 -- module that it is lowered from.
 use Rattle.frames.proofs.Prelude.{◌≡◌, ℕ, ◌+◌, ◌<◌, ◌≤◌, Bool, min, if◌then◌else◌, List, length, slice_get, Option, Some, None, IsSomeAnd, refl, ap, sym, ◌∙◌, subst, arith, option_map, option_map_or, lt-ltb, same_Some, slice_get-map, slice_get_within, InFrame, TypedObject, TypedProcedure, TypedModule, size_of_object, FramesFit, ParametersFit, Storage, TreeModule, FrameVariable, TreeProcedure, frame_number, frame_position, frame_variable, frame_variables, IsProcedure, IsLowered, Nodes, nodes_of, FramePlan, IsChargedAs, bytes_of_call, distance_of, return_of, size_in, IsPlanOf, LiesApart, TakeBytes}
 use Rattle.frames.proofs.Places.{apart}
@@ -10,7 +10,7 @@ use Rattle.frames.proofs.Bytes.{object_fits}
 use Rattle.frames.proofs.Frames.{parameter_count, has_frame, is_charged, same_charge}
 use Rattle.frames.proofs.Short.{position_small}
 
--- the number of an object in the frame is how many are before it there
+-- the number of an object in the frame is the number of those before it there
 number_is :
     (typed : TypedModule) (procedure : ℕ) (heading : TypedProcedure) (number : ℕ) (object : TypedObject)
     → TakeBytes typed
@@ -30,7 +30,7 @@ number_is typed procedure heading number object sized fit frames_fit stands foun
           (frame_fits typed procedure heading frames_fit stands) found home,
     )
 
--- at that number it stands, with its size
+-- the entry with that number is the object, with its size
 pub entry_is :
     (typed : TypedModule) (procedure : ℕ) (heading : TypedProcedure) (number : ℕ) (object : TypedObject)
     → TakeBytes typed
@@ -100,8 +100,8 @@ byte_of typed procedure number offset byte = by_object (slice_get typed.objects 
     by_object (Some object) found holds =
         record { object = object; found = found; home = holds.0; within = holds.1 }
 
--- Each object in the frame of a procedure lies among the bytes of its call, off the return address, and apart
--- from all others.
+-- Each object in the frame of a procedure is among the bytes of its call, outside the return address, and
+-- does not overlap any other.
 objects_lie :
     (typed : TypedModule) (nodes : Nodes) (storage : Storage) (number : ℕ) (procedure : TreeProcedure)
     (heading : TypedProcedure) (plan : FramePlan)
@@ -182,7 +182,7 @@ objects_lie typed nodes storage number procedure heading plan sized fit frames_f
           omega (arith, same, ap (λ (number : ℕ). distance_of plan number) number_same),
         )
 
--- a procedure of tree code takes of the stack what its typed procedure does
+-- a procedure of tree code takes the same stack as its typed procedure
 pub framed_as :
     (typed : TypedModule) (nodes : Nodes) (storage : Storage) (number : ℕ) (procedure : TreeProcedure)
     (heading : TypedProcedure)
@@ -203,7 +203,7 @@ framed_as typed nodes storage number procedure heading sized fit frames_fit stan
     charged : IsChargedAs procedure heading
     charged = is_charged typed nodes storage number procedure heading fit stands is
 
--- so does each procedure of tree code that is lowered from a module
+-- the same for each procedure of tree code that is lowered from a module
 pub lowered_framed :
     (typed : TypedModule) (storage : Storage) (tree : TreeModule) (number : ℕ) (procedure : TreeProcedure)
     (heading : TypedProcedure)

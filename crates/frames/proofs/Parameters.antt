@@ -1,8 +1,8 @@
--- Which objects of a module are parameters, and of which procedure.
+-- The objects of a module that are parameters, and their procedures.
 use Rattle.frames.proofs.Prelude.{◌≡◌, ℕ, zero, suc, ◌+◌, ◌<◌, ◌==◌, Bool, true, false, if◌then◌else◌, List, [], ◌∷◌, length, zip, slice_get, get_or, Option, Some, None, IsSomeAnd, refl, ap, sym, ◌∙◌, subst, arith, All, enumerate_from, eqb-true, eq-eqb, All-get_or, length-enumerate_from, get_or-enumerate_from, none-some, same_Some, slice_get_within, get_or_from_slice_get, ScalarType, Visibility, Home, InData, InConstants, Placed, BasedOn, Elsewhere, Nowhere, InFrame, TypedObject, TypedProcedure, TypedModule, IsScalar, home_of_parameters, IsParameter, AreParameters, FrameFits, FramesFit, HasParameters, ParametersFit, latest, parameter_from, parameter_number}
 use Rattle.typed_trees.specs.declared.parts.Visibility.TheVariants as visibilities
 
--- what holds of each item with its number holds of one
+-- a property of each item with its number holds for one
 pub numbered_at :
     {X : Type 0} (P : ℕ × X → Type 0) (items : List X) (at : ℕ) (item : X)
     → All P (enumerate_from 0 items)
@@ -39,7 +39,7 @@ frame_fits typed number heading fit found =
     numbered_at (λ (numbered : ℕ × TypedProcedure). FrameFits typed.objects numbered.0 numbered.1)
     typed.procedures number heading fit.procedures found
 
--- the parameter of a number is the object, which the numbers begin with a first one
+-- the parameter with this number is the object, if the numbers begin with a first one
 record StandsFrom (object first : ℕ) (parameters : List ℕ) (found : ℕ) : Type 0 where
   index : ℕ
   is : found ≡ first + index
@@ -129,7 +129,7 @@ parameter_later_or_here procedure others object index None is rest =
 parameter_later_or_here procedure others object index (Some later) is rest =
     parameter_later procedure others object index (rest is)
 
--- what a search among the procedures finds
+-- the result of a search among the procedures
 pub parameter_of :
     (procedures : List TypedProcedure) (object index : ℕ)
     → parameter_number procedures object ≡ Some index
@@ -139,7 +139,7 @@ parameter_of (procedure ∷ others) object index is =
     parameter_later_or_here procedure others object index (parameter_number others object) is
     (λ later. parameter_of others object index later)
 
--- nothing is found only where there is nothing
+-- a search finds nothing only if both parts find nothing
 earlier_none : (earlier later : Option ℕ) → latest earlier later ≡ None → (earlier ≡ None) × (later ≡ None)
 earlier_none earlier None is = (is, refl)
 earlier_none earlier (Some later) is = absurd (none-some later (sym is))
@@ -221,7 +221,7 @@ typed_at typed home (scalar ∷ scalars) (first ∷ parameters) (suc index) para
         → IsTyped typed home (scalar ∷ scalars) (first ∷ parameters) (suc index) parameter
     further rest = record { scalar = rest.scalar; paired = rest.paired; object = rest.object }
 
--- in whose frame an object is
+-- the procedure with the frame that an object is in
 abbrev frame_of : Home → Option ℕ
 frame_of (InFrame number) = Some number
 frame_of (InData values) = None
@@ -242,7 +242,7 @@ own_frame number procedure false visibilities.Private is = absurd (none-some pro
 own_frame number procedure false visibilities.Public is = absurd (none-some procedure (ap frame_of is))
 own_frame number procedure false visibilities.External is = absurd (none-some procedure (ap frame_of is))
 
--- what is said of an object that is found
+-- a property of an object that is found
 pub of_found :
     {X : Type 0} (P : X → Type 0) (found : Option X) (item : X)
     → found ≡ Some item
@@ -251,7 +251,7 @@ pub of_found :
 of_found P None item is holds = absurd holds
 of_found P (Some other) item is holds = subst P (same_Some other item is) holds
 
--- a parameter of a procedure that is in a frame: its type, its number, and that it is called one
+-- a parameter of a procedure that is in a frame: its type, its number, and its mark as a parameter
 pub record IsFramed
     (typed : TypedModule) (heading : TypedProcedure) (object : TypedObject) (number index : ℕ) : Type 0 where
   pub stands : slice_get heading.parameters index ≡ Some number
@@ -260,7 +260,7 @@ pub record IsFramed
   pub scalar_is : IsScalar scalar object
   pub named : object.is_parameter ≡ true
 
--- what a search finds of an object in the frame of a procedure is a parameter of that procedure
+-- a search for an object in the frame of a procedure finds a parameter of that procedure
 pub framed :
     (typed : TypedModule) (procedure : ℕ) (heading : TypedProcedure) (number : ℕ) (object : TypedObject)
     (index : ℕ)

@@ -1,8 +1,8 @@
--- The bytes of a frame lie apart from each other and from the return address.
+-- The bytes of a frame do not overlap each other or the return address.
 use Rattle.frames.proofs.Prelude.{◌≡◌, ◌⊎◌, inl, inr, ℕ, zero, suc, ◌+◌, ◌-◌, ◌<◌, ◌≤◌, List, [], ◌∷◌, length, take, Option, Some, None, refl, ap, sym, ◌∙◌, subst, arith, unwrap_or, slice_get, option_map_or, none-some, slice_get_within, FrameVariable, Parameter, TreeProcedure, FramePlan, bytes_by_parameter, variable_bytes, return_distance, word_distance, parameter_distance, distance_by_parameter, bytes_of_call, HasSize, HasFrame, distance_of, IsPlanOf, size_in, LiesApart}
 use Rattle.frames.proofs.Words.{words_apart, word_after, word_within, word_off_return, return_after, return_within, in_word}
 
--- the variables before one, and that one, are among all
+-- the variables up to one are among all
 ends_within :
     (frame : List FrameVariable) (number : ℕ) (variable : FrameVariable)
     → slice_get frame number ≡ Some variable
@@ -16,7 +16,7 @@ ends_within (first ∷ others) zero variable found =
 ends_within (first ∷ others) (suc number) variable found =
     omega (arith, ends_within others number variable found)
 
--- and one before another ends where that begins, or before
+-- the variables before another one end at or before its start
 ends_before :
     (frame : List FrameVariable) (number other : ℕ) (variable : FrameVariable)
     → number < other
@@ -55,7 +55,7 @@ IsOf procedure number place =
     IsOfVariable procedure.frame.items number place
     ⊎ IsOfParameter procedure.frame.items (length procedure.parameters.items) number place
 
--- where a byte of a frame lies
+-- the place of a byte of a frame
 of_parameter :
     (procedure : TreeProcedure) (number offset index : ℕ) (variable : FrameVariable)
     (found : Option Parameter)
@@ -207,7 +207,7 @@ in_order (suc number) (suc other) = later (in_order number other)
     later (inr (inl same)) = inr (inl (omega (arith, same)))
     later (inr (inr after)) = inr (inr (omega (arith, after)))
 
--- nor does a variable with a parameter
+-- a variable and a parameter share no byte
 never_both :
     (frame : List FrameVariable) (parameters number other place : ℕ)
     → IsOfVariable frame number place
@@ -252,7 +252,7 @@ same_byte procedure number other place frame (inr left) (inr right) =
               right.ends,
         )
 
--- the bytes of a frame lie apart where a plan has it
+-- the bytes of a frame do not overlap in a plan
 pub apart :
     (procedure : TreeProcedure) (plan : FramePlan)
     → HasFrame procedure

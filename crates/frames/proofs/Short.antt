@@ -1,4 +1,4 @@
--- A frame holds so few objects that their numbers there fit 16 bits.
+-- A frame has so few objects that their numbers there fit 16 bits.
 use Rattle.frames.proofs.Prelude.{◌≡◌, ℕ, zero, suc, ◌+◌, ◌<◌, ◌≤◌, ◌==◌, Bool, true, false, not, ◌||◌, cond, if◌then◌else◌, List, [], ◌∷◌, length, slice_get, sum_by, Some, refl, ap, ◌∙◌, subst, arith, eqb-true, eq-eqb, ne_eqb, All-get_or, sum_by-cons, none-some, same_Some, slice_get_within, get_or_from_slice_get, InFrame, TypedObject, TypedProcedure, TypedModule, size_of_object, FrameFits, HasParameters, frame_position, TakeBytes}
 use Rattle.typed_trees.specs.Frames.{variable_bytes}
 use Rattle.frames.proofs.Entries.{in_frame, home_is, lives_there, entries, position_of, stands_at}
@@ -12,7 +12,7 @@ is_among (first ∷ others) number = (first == number) || is_among others number
 abbrev one_if : Bool → ℕ
 one_if test = if test then 1 else 0
 
--- how many objects have such a number, where the numbers begin with a first one
+-- the number of objects with such a number, if the numbers begin with a first one
 abbrev count_among : List ℕ → (first : ℕ) → List TypedObject → ℕ
 count_among numbers first [] = 0
 count_among numbers first (object ∷ others) =
@@ -173,7 +173,7 @@ accounted typed procedure heading number object sized has found home = by_name o
     by_name true named = of_listed (listed typed procedure heading number object has found home named)
     by_name false named = omega (arith, takes, bytes_is named)
 
--- where each object takes a byte the numbers in a frame are small
+-- if each object takes a byte, the numbers in a frame are small
 pub position_small :
     (typed : TypedModule) (procedure : ℕ) (heading : TypedProcedure) (number : ℕ) (object : TypedObject)
     → TakeBytes typed

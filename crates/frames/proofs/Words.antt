@@ -1,7 +1,7 @@
--- The words of parameters on the stack: where they lie, and that they lie apart.
+-- The words of parameters on the stack: their places, which do not overlap.
 use Rattle.frames.proofs.Prelude.{◌≡◌, ◌⊎◌, inl, inr, ℕ, zero, suc, ◌+◌, ◌*◌, ◌<◌, ◌≤◌, refl, arith, ScalarType, Byte, Address, size_of_scalar, return_distance, word_distance, parameter_distance, capped_parameter}
 
--- a byte that is in two words is in one
+-- two words that share a byte are the same word
 pub words_apart :
     (bytes left right place : ℕ)
     → word_distance bytes left ≤ place
@@ -14,7 +14,7 @@ words_apart bytes zero (suc right) place from_left in_left from_right in_right =
 words_apart bytes (suc left) zero place from_left in_left from_right in_right = omega arith
 words_apart bytes (suc left) (suc right) place from_left in_left from_right in_right = omega arith
 
--- words lie after the variables, and end within the bytes of the call
+-- words are after the variables, and end within the bytes of the call
 pub word_after : (bytes followers : ℕ) → bytes ≤ word_distance bytes followers
 word_after bytes zero = omega arith
 word_after bytes (suc others) = omega arith
@@ -37,7 +37,7 @@ word_off_return bytes zero followers place below starts ends = absurd (omega ari
 word_off_return bytes (suc others) zero place below starts ends = inl (omega arith)
 word_off_return bytes (suc others) (suc followers) place below starts ends = inr (omega arith)
 
--- the return address lies after the variables, and within the bytes of the call
+-- the return address is after the variables, and within the bytes of the call
 pub return_after : (bytes parameters : ℕ) → bytes ≤ return_distance bytes parameters
 return_after bytes zero = omega arith
 return_after bytes (suc others) = omega arith
@@ -46,7 +46,7 @@ pub return_within : (bytes parameters : ℕ) → return_distance bytes parameter
 return_within bytes zero = omega arith
 return_within bytes (suc others) = omega arith
 
--- a parameter lies in its word
+-- a parameter is in its word
 pub in_word :
     (bytes followers : ℕ) (scalar : ScalarType) (offset : ℕ)
     → offset < size_of_scalar scalar
@@ -54,7 +54,7 @@ pub in_word :
 in_word bytes followers Byte offset within = omega arith
 in_word bytes followers Address offset within = omega arith
 
--- no sum of 16 bits passes the greatest number, where the bytes of the call are less than all of memory
+-- no sum exceeds 16 bits, if the bytes of the call are less than all of memory
 pub parameter_is :
     (bytes parameters followers : ℕ) (scalar : ScalarType)
     → followers < parameters

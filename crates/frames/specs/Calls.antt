@@ -1,4 +1,4 @@
--- What a call of a procedure takes of the stack, in the words of the typed module.
+-- The stack that a call of a procedure takes, in terms of the typed module.
 use Rattle.std.specs.Prelude.{ℕ, ◌+◌, ◌*◌, length}
 use Rattle.typed_trees.specs.TypedTrees.{TypedProcedure}
 

@@ -1,7 +1,8 @@
--- Where the variables and parameters of a call of a REENTRANT procedure lie on the stack. Upwards from the
--- stack pointer, where nothing is pushed: the variables in the order of their declarations; a word with the
--- last parameter; the return address; a word with each other parameter, from the last to the first. Without
--- parameters the return address follows the variables. Distances are bytes upwards from the stack pointer.
+-- The places of the variables and parameters of a call of a REENTRANT procedure on the stack. Upwards from
+-- the stack pointer, when nothing is pushed, these are: the variables in the order of their declarations; a
+-- word with the last parameter; the return address; a word with each other parameter, from the last to the
+-- first. Without parameters the return address follows the variables. Distances are in bytes, upwards from
+-- the stack pointer.
 use Rattle.std.specs.Prelude.{◌≡◌, ℕ, zero, suc, ◌+◌, ◌-◌, ◌*◌, ◌<◌, ◌≤◌, List, [], ◌∷◌, length, take, Option, Some, None, slice_get, slice_index_or}
 use Rattle.std.specs.Option.{option_map_or}
 use Rattle.mem80.specs.declared.memory.TheConstants.{MEMORY_SIZE}
@@ -23,21 +24,21 @@ abbrev pub variable_bytes : List FrameVariable → ℕ
 variable_bytes [] = 0
 variable_bytes (first ∷ others) = bytes_by_parameter first.size first.parameter + variable_bytes others
 
--- where the return address lies, by the bytes of the variables and the number of parameters
+-- the distance of the return address, from the bytes of the variables and the number of parameters
 abbrev pub return_distance : (bytes parameters : ℕ) → ℕ
 return_distance bytes zero = bytes
 return_distance bytes (suc others) = bytes + 2
 
--- where the word of a parameter lies that so many others follow
+-- the distance of the word of a parameter with `followers` parameters after it
 abbrev pub word_distance : (bytes followers : ℕ) → ℕ
 word_distance bytes zero = bytes
 word_distance bytes (suc others) = bytes + 4 + 2 * others
 
--- where a parameter of so many bytes begins: a BYTE is the high byte of its word
+-- the distance of a parameter of `size` bytes: a BYTE is the high byte of its word
 abbrev pub parameter_distance : (bytes followers size : ℕ) → ℕ
 parameter_distance bytes followers size = word_distance bytes followers + (2 - size)
 
--- where the variable or parameter of a number in the frame begins
+-- the distance of the variable or parameter with this number in the frame
 abbrev pub distance_by_parameter :
     List FrameVariable → (parameters number size : ℕ) → (parameter : Option ℕ) → ℕ
 distance_by_parameter frame parameters number size None = variable_bytes (take number frame)
@@ -52,13 +53,12 @@ distance_in frame parameters number variable =
 abbrev pub bytes_of_call : TreeProcedure → ℕ
 bytes_of_call procedure = 2 + 2 * length procedure.parameters.items + procedure.frame_bytes
 
--- what is found is a parameter of a type of so many bytes
+-- the parameter was found, and its type has `size` bytes
 abbrev pub HasSize : (size : ℕ) → Option Parameter → Type 0
 HasSize size None = ⊥
 HasSize size (Some parameter) = size ≡ size_of_scalar parameter.scalar
 
--- The frame that a typed procedure has, where it is less than all of memory. In a longer one no call finds
--- room.
+-- The frame of a typed procedure, if it is smaller than memory. A larger one never fits when called.
 pub record HasFrame (procedure : TreeProcedure) : Type 0 where
   -- each parameter in it is one of the procedure's, and has the size of its type
   pub parameters :
@@ -66,7 +66,7 @@ pub record HasFrame (procedure : TreeProcedure) : Type 0 where
       → slice_get procedure.frame.items number ≡ Some variable
       → variable.parameter ≡ Some index
       → HasSize variable.size (slice_get procedure.parameters.items index)
-  -- no parameter stands twice in it
+  -- no parameter is in it twice
   pub once :
       (number other index : ℕ) (variable same : FrameVariable)
       → slice_get procedure.frame.items number ≡ Some variable
@@ -77,7 +77,7 @@ pub record HasFrame (procedure : TreeProcedure) : Type 0 where
   pub bytes : procedure.frame_bytes ≡ variable_bytes procedure.frame.items
   pub in_memory : bytes_of_call procedure < MEMORY_SIZE
 
--- how far above the stack pointer a plan has the variable or parameter of a number, and the return address
+-- the distance of the variable or parameter with this number in a plan, and that of the return address
 abbrev pub distance_of : FramePlan → (number : ℕ) → ℕ
 distance_of plan number = slice_index_or plan.distances.items number 0
 
@@ -100,12 +100,12 @@ pub record IsPlanOf (procedure : TreeProcedure) (plan : FramePlan) : Type 0 wher
       → distance_of plan number
       ≡ distance_in procedure.frame.items (length procedure.parameters.items) number variable
 
--- how many bytes the variable or parameter of a number takes
+-- the size in bytes of the variable or parameter with this number
 abbrev pub size_in : List FrameVariable → (number : ℕ) → ℕ
 size_in frame number = option_map_or (λ (variable : FrameVariable). variable.size) (slice_get frame number) 0
 
--- Each byte of a frame has a place of its own among the bytes of the call, and none is one of the return
--- address. Those of one variable or parameter follow each other upwards.
+-- Each byte of a frame has a place of its own among the bytes of the call, outside the return address. The
+-- bytes of one variable or parameter are consecutive, upwards.
 pub record LiesApart (procedure : TreeProcedure) (plan : FramePlan) : Type 0 where
   pub within :
       (number offset : ℕ)

@@ -1,3 +1,3 @@
 pub mod Distances
--- What a procedure of a module takes of the stack, and where its objects lie there.
+-- The stack that a procedure of a module takes, and the places of its objects there.
 pub mod Objects

@@ -1,4 +1,4 @@
-//! What a call of a procedure is charged.
+//! The stack charge of a call of a procedure.
 
 ghost use Rattle.std.specs.Prelude.{◌≡◌, ◌≤◌, min};
 ghost use Rattle.mem80.specs.declared.memory.TheConstants.{MEMORY_SIZE};
@@ -8,14 +8,14 @@ ghost use Rattle.frames.specs.Charges.{charge_in, IsChargedAs};
 
 use treecode::TreeProcedure;
 
-/// How many bytes of the stack a call of a procedure is charged (4,294,967,295 where that is more). The main program is
-/// charged as a procedure without parameters.
+/// The stack charge of a call of a procedure in bytes (4,294,967,295 if it is more). The main program is charged as a
+/// procedure without parameters.
 #[tactic(auto, unfolding(typed_trees::specs::Charge::charge_of))]
 pub fn charge(procedure: &TreeProcedure) -> u32
     ensures exact { result ≡ min (charge_in procedure.now) 4294967295 }
     ensures of_typed { (typed : TypedProcedure) → IsChargedAs procedure.now typed
         → height_of_list typed.body ≤ 65535 → result ≡ min (charge_of typed) 4294967295 }
-    // Where it is higher both are more than memory has.
+    // If the height is above 65535, both exceed the size of memory.
     ensures in_memory { (typed : TypedProcedure) → IsChargedAs procedure.now typed
         → min result MEMORY_SIZE ≡ min (charge_of typed) MEMORY_SIZE }
 {

@@ -1,4 +1,4 @@
-//! Where the variables and parameters of a call lie.
+//! The places of the variables and parameters of a call.
 
 ghost use Rattle.std.specs.Prelude.{◌≡◌, IfOk};
 ghost use Rattle.treecode.specs.declared.procedure.ProcedureKind.TheVariants.{Reentrant};
@@ -8,16 +8,16 @@ ghost use Rattle.frames.specs.internal.Distances.{capped, capped_parameter, dist
 use std::alloc::{AllocError, Global};
 use treecode::{FrameVariable, ProcedureKind, TreeProcedure};
 
-/// Where the variables and parameters of a call of a REENTRANT procedure lie on the stack. Upwards from the stack pointer,
-/// where nothing is pushed: the variables in the order of their declarations; a word with the last parameter, a BYTE as
-/// its high byte; the return address; a word with each other parameter, from the last to the first. Without parameters
-/// the return address follows the variables.
+/// The places of the variables and parameters of a call of a REENTRANT procedure on the stack. Upwards from the stack
+/// pointer, when nothing is pushed, these are: the variables in the order of their declarations; a word with the last
+/// parameter, a BYTE as its high byte; the return address; a word with each other parameter, from the last to the
+/// first. Without parameters the return address follows the variables.
 pub struct FramePlan {
-    /// How far above the stack pointer each variable or parameter begins, by its number in the frame.
+    /// The distance from the stack pointer up to the start of each variable or parameter, by its number in the frame.
     distances: Vec<u16>,
-    /// How many bytes the variables take.
+    /// The number of bytes of the variables.
     pub variable_bytes: u16,
-    /// How many parameters there are.
+    /// The number of parameters.
     pub parameter_count: u16,
 }
 
@@ -33,8 +33,8 @@ impl FramePlan {
         }
     }
 
-    /// How far above the stack pointer, where nothing is pushed, a variable or parameter begins, by its number in the
-    /// frame (0 where there is none of that number).
+    /// The distance from the stack pointer, when nothing is pushed, up to the start of a variable or parameter, by its
+    /// number in the frame (0 if there is none with this number).
     pub fn distance(&self, variable: u16) -> u16
         ensures { result ≡ distance_of self.now variable }
     {
@@ -45,7 +45,7 @@ impl FramePlan {
     }
 }
 
-// How many bytes the variables of a frame take, without parameters (65,535 where they take more).
+// The number of bytes of the variables of a frame, without parameters (65,535 if it is more).
 fn variable_bytes(frame: &[FrameVariable]) -> u16
     ensures { result ≡ capped (variable_bytes frame.now) }
 {
@@ -58,8 +58,8 @@ fn variable_bytes(frame: &[FrameVariable]) -> u16
     bytes
 }
 
-// How far above the stack pointer a parameter begins that so many others follow. The return address lies between the word
-// of the last one and those of the others. A BYTE is the high byte of its word.
+// The distance from the stack pointer up to the start of a parameter with `followers` parameters after it. The return
+// address is between the word of the last parameter and those of the others. A BYTE is the high byte of its word.
 fn parameter_distance(variable_bytes: u16, followers: u16, size: u16) -> u16
     ensures { result ≡ capped_parameter variable_bytes followers size }
 {
@@ -74,7 +74,7 @@ fn parameter_distance(variable_bytes: u16, followers: u16, size: u16) -> u16
     }
 }
 
-// How far above the stack pointer each variable or parameter of a frame begins.
+// The distance from the stack pointer up to the start of each variable or parameter of a frame.
 fn distances_of(
     alloc: Global,
     frame: &[FrameVariable],
@@ -100,7 +100,7 @@ fn distances_of(
     Ok(distances)
 }
 
-// Where the variables and parameters of a call of a REENTRANT procedure lie.
+// The places of the variables and parameters of a call of a REENTRANT procedure.
 fn reentrant_plan(alloc: Global, procedure: &TreeProcedure) -> Result<FramePlan, AllocError>
     ensures { IfOk result (λ plan. IsFound procedure.now plan) }
 {
@@ -114,7 +114,8 @@ fn reentrant_plan(alloc: Global, procedure: &TreeProcedure) -> Result<FramePlan,
     })
 }
 
-/// Where the variables and parameters of a call of a procedure lie. The plan of a procedure that is not REENTRANT is empty.
+/// The places of the variables and parameters of a call of a procedure. The plan of a procedure that is not REENTRANT
+/// is empty.
 #[tactic(auto, using(crate::proofs::Distances::planned, crate::proofs::Places::apart))]
 pub fn plan(alloc: Global, procedure: &TreeProcedure) -> Result<FramePlan, AllocError>
     ensures planned { procedure.now.kind ≡ Reentrant
@@ -129,7 +130,7 @@ pub fn plan(alloc: Global, procedure: &TreeProcedure) -> Result<FramePlan, Alloc
     }
 }
 
-// Written out, so that what it holds is let go here, and each crate that lets one go calls this.
+// Written out so that the fields are dropped in one place, which other crates call.
 impl Drop for FramePlan {
     fn drop(self) {
         let FramePlan {

@@ -1,4 +1,4 @@
-//! Frames that are worked out by hand.
+//! Frames that were computed by hand.
 
 use crate::charging::charge;
 use crate::frame_plan::plan;
@@ -15,8 +15,7 @@ fn variable(size: u16) -> FrameVariable {
     }
 }
 
-// A REENTRANT procedure with these parameters, of which the first declared is the last of the heading, and then these
-// variables.
+// A REENTRANT procedure with these parameters, declared in the reverse order of the heading, and then these variables.
 fn procedure(
     alloc: Global,
     scalars: &[ScalarType],

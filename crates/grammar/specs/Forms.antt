@@ -1,11 +1,11 @@
--- What the lines of the grammar say of trees: the levels of operators, lists that are not empty, and with which IF an
+-- The rules of the grammar for trees: the levels of operators, lists that are not empty, and with which IF an
 -- ELSE goes.
 use Rattle.std.specs.Prelude.{ℕ, Bool, true, false, List, [], ◌∷◌, IfSome}
 use Rattle.trees.specs.declared.expression.BinaryOperator.{BinaryOperator}
 use Rattle.trees.specs.declared.expression.BinaryOperator.TheVariants.{Or, Xor, And, Equal, Less, Greater, LessOrEqual, GreaterOrEqual, Unequal, Add, Subtract, Multiply, Divide, Modulo}
 use Rattle.trees.specs.Trees.{ItemTypeTree, ScalarItem, StructureItem, ValueListTree, SubjectTree, SingleSubject, GroupSubject, ItemTree, ElementTree, LiterallyElement, ItemElement, StatementTree, LabelledStatement, StatementKindTree, NullStatement, AssignmentStatement, CallStatement, ReturnStatement, HaltStatement, GotoStatement, IfStatement, DoStatement, WhileStatement, IterateStatement, CaseStatement, ElseTree, NoElse, ElseStatement}
 
--- The levels of the grammar's expressions. What stands at a level may stand at each lower one.
+-- The levels of the grammar's expressions. An expression of a level may stand at each lower one.
 abbrev pub expression_level : ℕ
 expression_level = 0
 
@@ -47,22 +47,22 @@ level_of Multiply = term_level
 level_of Divide = term_level
 level_of Modulo = term_level
 
--- a list of one thing at least
+-- a list with at least one item
 abbrev pub IsNotEmpty : {A : Type 0} → List A → Type 0
 IsNotEmpty [] = ⊥
 IsNotEmpty (first ∷ others) = Unit {0}
 
--- names in parentheses are one at least
+-- names in parentheses are at least one
 abbrev pub IsSubject : SubjectTree → Type 0
 IsSubject (SingleSubject name base) = Unit {0}
 IsSubject (GroupSubject names) = IsNotEmpty names
 
--- a structure has one member at least
+-- a structure has at least one member
 abbrev pub IsItemType : ItemTypeTree → Type 0
 IsItemType (ScalarItem scalar) = Unit {0}
 IsItemType (StructureItem members) = IsNotEmpty members
 
--- a list has one value at least
+-- a list has at least one value
 abbrev pub IsValueList : ValueListTree → Type 0
 IsValueList list = IsNotEmpty list.values
 

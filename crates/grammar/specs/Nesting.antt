@@ -1,4 +1,4 @@
--- How deep a tree nests, and whether the names after END match what they end.
+-- How deep a tree nests, and whether the names after END match.
 use Rattle.std.specs.Prelude.{◌≡◌, ℕ, suc, ◌≤◌, max, List, [], ◌∷◌, Option, IfSome}
 use Rattle.std.specs.Option.{option_map_or}
 use Rattle.trees.specs.declared.identifier.Identifier.{Identifier}
@@ -21,7 +21,7 @@ abbrev mutual
   expression_height (BinaryNode operator left right) =
       suc (max (expression_height left) (expression_height right))
 
-  -- the levels of a reference's arguments; the reference itself is none
+  -- the levels of a reference's arguments; the reference itself adds no level
   pub reference_height : ReferenceTree → ℕ
   reference_height (ReferenceTo name arguments member) =
       max (arguments_height arguments) (member_height member)
@@ -49,8 +49,8 @@ iteration_height iteration =
     max (expression_height iteration.first)
     (max (expression_height iteration.last) (optional_height iteration.step))
 
--- How many levels a statement or a declaration takes. A statement and a procedure are one level, and what they hold
--- is deeper. Labels and DECLARE take none.
+-- How many levels a statement or a declaration takes. A statement and a procedure are one level, and the parts inside
+-- are deeper. Labels and DECLARE take none.
 abbrev mutual
   pub statement_height : StatementTree → ℕ
   statement_height (LabelledStatement labels kind) = kind_height kind

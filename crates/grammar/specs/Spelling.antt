@@ -1,4 +1,4 @@
--- How the parts of declarations, and what ends a block, are spelled: their symbols, and then the symbols after
+-- How the parts of declarations, and the end of a block, are spelled: their symbols, and then the symbols after
 -- them.
 use Rattle.std.specs.Prelude.{List, [], ◌∷◌, Option, Some, None}
 use Rattle.words.specs.declared.vocabulary.Mark.TheVariants.{EqualSign, LessSign, GreaterSign, LessEqualSign, GreaterEqualSign, UnequalSign, PlusSign, MinusSign, Asterisk, Slash, LeftParenthesis, RightParenthesis, Comma, Colon, Period}

@@ -14,8 +14,8 @@ use Rattle.trees.specs.declared.identifier.Place.{Place}
 use Rattle.symbols.specs.Names.{is_name, name_of}
 use Rattle.trees.specs.Trees.{StringTree}
 
--- A name, a number and a string by what they stand for and where, a reserved word, for some with where it stands,
--- or a mark, for a semicolon with where it stands.
+-- A name, a number and a string by their values and places; a reserved word, for some with its place;
+-- or a mark, for a semicolon with its place.
 -- A word that is said to be a name and has other characters is a symbol that the grammar doesn't have.
 pub data Symbol : Type 0 where
   NameSymbol : Identifier → Symbol

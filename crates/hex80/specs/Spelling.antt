@@ -1,4 +1,4 @@
--- Which pieces a HEX text spells, and what the first fault of another text is.
+-- The pieces that a HEX text spells, and the first fault of another text.
 use Rattle.std.specs.Prelude.{◌≡◌, ℕ, ◌+◌, ◌-◌, ◌*◌, ◌%◌, ◌==◌, Bool, true, false, not, ◌&&◌, IsTrue, nat_lt, nat_le, if◌then◌else◌, List, [], ◌∷◌, ◌++◌, length, map, take, sum, Option, Some, None, option_map, option_and_then}
 use Rattle.std.specs.List.{list_all, list_any}
 use Rattle.std.specs.Option.{option_map_or}
@@ -39,7 +39,7 @@ abbrev pub has_form : (count address type : ℕ) → (rest : List ℕ) → Bool
 has_form count address type rest =
     type == 0 && length rest == count + 1 && nat_le (address + count) MEMORY_SIZE
 
--- what the bytes of a line say: a piece, if they have the form of a data line
+-- the piece in the bytes of a line, if they have the form of a data line
 abbrev pub piece_in : List ℕ → Option Piece
 piece_in (count ∷ high ∷ low ∷ type ∷ rest) =
     if has_form count (256 * high + low) type rest
@@ -53,7 +53,7 @@ read_line line =
     option_and_then
     (λ (bytes : List ℕ). option_map (λ (piece : Piece). (piece, bytes)) (piece_in bytes)) (bytes_of_line line)
 
--- a line of data has a wrong sum, or else an address that another piece has
+-- a line of data has a wrong sum, or else an address of another piece
 abbrev pub fault_of_data : (before : List Piece) → Piece × List ℕ → Option Fault
 fault_of_data before read =
     if not (sum read.1 % 256 == 0) then Some WrongSum
@@ -75,7 +75,7 @@ fault_at before (line ∷ others) =
     if bytes_eq line end_line then (if is_empty others then None else Some BadLine)
     else fault_of_line before line
 
--- the piece of a line: at most 255 bytes, all in memory, and none where another piece has one
+-- the piece of a line: at most 255 bytes, all in memory, and none at an address of another piece
 abbrev pub is_line_piece : (before : List Piece) → Piece → Bool
 is_line_piece before piece =
     nat_lt (length piece.bytes) 256 && list_all (λ byte. nat_lt byte 256) piece.bytes
@@ -93,7 +93,7 @@ pub record Spells (text : List ℕ) (pieces : List Piece) : Type 0 where
   pub lines_of_text : lines text ≡ map data_line pieces ++ end_line ∷ []
   pub accepted : IsTrue (are_line_pieces [] pieces)
 
--- A text has a fault, its first: data lines of pieces stand before it, and it is at the front of the lines
+-- A text has a fault, its first: data lines of pieces come before it, and it is at the front of the lines
 -- after them.
 pub record HasFirstFault (text : List ℕ) (fault : Fault) : Type 0 where
   pub before : List Piece

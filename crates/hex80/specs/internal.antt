@@ -1,4 +1,4 @@
--- A text judged line by line, what the parts of the reader and of the writer do, and worked texts.
+-- A text judged line by line, the parts of the reader and of the writer, and worked texts.
 pub mod Judgement
 pub mod Reading
 pub mod Writing

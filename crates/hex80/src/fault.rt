@@ -1,14 +1,14 @@
-//! Why a text is no HEX text.
+//! Why a text is not a HEX text.
 
 use thiserror::Error;
 
 /// How many bytes a written line has, but for the last of a piece.
 pub const BYTES_IN_LINE: usize = 16;
 
-/// Why a text is no HEX text: the first fault in it.
+/// Why a text is not a HEX text: the first fault in it.
 #[derive(Clone, Copy, Debug, PartialEq, Eq, Error)]
 pub enum Fault {
-    /// H1: a line that is none, or text after the end line.
+    /// H1: neither a data line nor the end line, or text after the end line.
     #[error("a line that is neither a data line nor the last one")]
     BadLine,
     /// H2: the bytes of a line don't add up to 0.

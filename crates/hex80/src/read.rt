@@ -49,7 +49,7 @@ fn byte_of(high: u8, low: u8) -> Option<u8>
     Some(16 * high + low)
 }
 
-// Puts the bytes of digits at the front of a buffer, and tells how many there are.
+// Puts the bytes of digits at the front of a buffer, and returns how many there are.
 fn put_bytes(digits: &[u8], buffer: &mut [u8]) -> Option<usize>
     requires { length digits.now ≤ 2 * length buffer.old }
     ensures bytes { bytes_in digits.now ≡ option_map (λ count. take count buffer.new) result }
@@ -65,8 +65,8 @@ fn put_bytes(digits: &[u8], buffer: &mut [u8]) -> Option<usize>
     Some(count)
 }
 
-// Puts the bytes of a line at the front of a buffer, and tells how many there are. There are none of a line that has no
-// colon, has other characters than digits, or is longer than data lines are.
+// Puts the bytes of a line at the front of a buffer, and returns how many there are. It returns `None` for a line
+// without a colon, with other characters than digits, or longer than data lines are.
 fn put_line(line: &[u8], buffer: &mut [u8; MOST_BYTES]) -> Option<usize>
     ensures bytes { MatchOption result (read_line line.now ≡ None)
         (λ count. bytes_of_line line.now ≡ Some (take count buffer.new)) }
@@ -111,7 +111,7 @@ fn read_line(line: &[u8], buffer: &mut [u8; MOST_BYTES]) -> Option<Place>
     place_of(&buffer[..count])
 }
 
-// Whether an address is marked that a line has.
+// Whether an address of a line is marked.
 #[tactic(auto, using(crate::proofs::ReadLemmas::any_hit, crate::proofs::ReadLemmas::any_miss, crate::proofs::ReadLemmas::any_end))]
 fn is_used(used: &[bool], place: Place) -> bool
     requires { place.start + place.count ≤ length used.now }

@@ -1,4 +1,4 @@
--- What an object module of a module has of its segments, and what it asks of linking and placing.
+-- The segments in an object module of a module, and the requirements of linking and placing.
 use Rattle.std.specs.Prelude.{◌≡◌, [], length}
 use Rattle.object_modules.specs.declared.segment.Alignment.TheVariants.{Byte}
 use Rattle.object_modules.specs.declared.segment.Segment.{Segment}

@@ -1,5 +1,5 @@
 -- Object modules that have the segments of modules: their code begins with the constants, their data are the variables,
--- and their PUBLIC names stand for where the objects lie.
+-- and their PUBLIC names stand for the places of the objects.
 use Rattle.std.specs.Prelude.{◌≡◌, ℕ, List, [], ◌∷◌, Option, Some, None, slice_get, true}
 use Rattle.object_modules.specs.declared.segment.FixKind.TheVariants.{Both}
 use Rattle.object_modules.specs.declared.segment.Segment.TheVariants.{Absolute}
@@ -34,7 +34,7 @@ BeginWith object [] places = Unit {0}
 BeginWith object (byte ∷ bytes) (here ∷ others) = IsPlace object byte here × BeginWith object bytes others
 BeginWith object (byte ∷ bytes) [] = ⊥
 
--- a public says where something lies that is in no other module
+-- a public gives this location, which is in no other module
 abbrev pub IsPublicAt : (name : List ℕ) → Location → Public → Type 0
 IsPublicAt name (AtNumber address) public =
     public ≡ record { segment = Absolute; offset = address; name = name }
@@ -42,7 +42,7 @@ IsPublicAt name (After (SegmentStart segment) offset) public =
     public ≡ record { segment = segment_of segment; offset = offset; name = name }
 IsPublicAt name (After (ExternalName other) offset) public = ⊥
 
--- one of the publics says where something lies
+-- one of the publics gives this location
 pub record HasPublic (name : List ℕ) (location : Location) (publics : List Public) : Type 0 where
   pub place : ℕ
   pub public : Public

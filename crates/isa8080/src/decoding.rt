@@ -1,5 +1,5 @@
 //! From bytes to the instruction that they begin with (8080 Assembly Language Programming Manual, appendix
-//! "Instruction summary"). A code has three octal digits: the first tells one of four groups, the middle one,
+//! "Instruction summary"). A code has three octal digits: the first gives one of four groups, the middle one,
 //! here the row, is mostly that of a register, a pair or a condition, the last one the kind.
 #![tactic(auto, using(crate::proofs::DecodingLemmas::reads))]
 
@@ -68,7 +68,7 @@ fn indirect(row: u8, low: u8, high: u8) -> Option<(Instr, u8)>
     }
 }
 
-// The codes of the first group whose last digit is 7: what changes the accumulator or the carry alone.
+// The codes of the first group whose last digit is 7: instructions on the accumulator or the carry alone.
 fn accumulator_and_carry(row: u8, low: u8, high: u8) -> Option<(Instr, u8)>
     requires { row < 8 }
     ensures { Reads (8 * row + 7) low high result }
@@ -85,7 +85,7 @@ fn accumulator_and_carry(row: u8, low: u8, high: u8) -> Option<(Instr, u8)>
     }
 }
 
-// The codes 40H to 7FH: a move from the operand of the last digit to that of the row, and a halt where both
+// The codes 40H to 7FH: a move from the operand of the last digit to that of the row, and a halt if both
 // are memory.
 fn move_group(code: u8, low: u8, high: u8) -> Option<(Instr, u8)>
     requires from { 0x40 ≤ code }
@@ -131,7 +131,7 @@ fn last_group(code: u8, low: u8, high: u8) -> Option<(Instr, u8)>
     }
 }
 
-// The codes of the last group whose last digit is 1 and whose row is odd.
+// The codes of the last group with a last digit of 1 and an odd row.
 fn return_group(row: u8, low: u8, high: u8) -> Option<(Instr, u8)>
     requires odd { row % 2 ≡ 1 }
     requires small { row < 8 }

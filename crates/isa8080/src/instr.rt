@@ -141,15 +141,15 @@ pub enum Instr {
     Accumulate(Operation, Operand),
     /// ADI, ACI, SUI, SBI, ANI, XRI, ORI or CPI: A with a byte of the instruction.
     AccumulateImmediate(Operation, u8),
-    /// RNZ, RZ, RNC, RC, RPO, RPE, RP or RM: returns where a condition holds.
+    /// RNZ, RZ, RNC, RC, RPO, RPE, RP or RM: returns if a condition holds.
     ReturnIf(Condition),
-    /// JNZ, JZ, JNC, JC, JPO, JPE, JP or JM: jumps where a condition holds.
+    /// JNZ, JZ, JNC, JC, JPO, JPE, JP or JM: jumps if a condition holds.
     JumpIf(Condition, u16),
-    /// CNZ, CZ, CNC, CC, CPO, CPE, CP or CM: calls where a condition holds.
+    /// CNZ, CZ, CNC, CC, CPO, CPE, CP or CM: calls if a condition holds.
     CallIf(Condition, u16),
     /// RET: returns from a subroutine.
     Ret,
-    /// JMP: goes on at an address.
+    /// JMP: continues at an address.
     Jmp(u16),
     /// CALL: calls the subroutine at an address.
     Call(u16),
@@ -167,12 +167,12 @@ pub enum Instr {
     Xthl,
     /// XCHG: exchanges H and L with D and E.
     Xchg,
-    /// PCHL: goes on at the address in H and L, as for a table of jumps.
+    /// PCHL: continues at the address in H and L, as for a table of jumps.
     Pchl,
     /// SPHL: moves the stack to the address in H and L.
     Sphl,
-    /// DI: disables interrupts, of which this machine has none.
+    /// DI: disables interrupts, which this machine doesn't have.
     Di,
-    /// EI: enables interrupts, of which this machine has none.
+    /// EI: enables interrupts, which this machine doesn't have.
     Ei,
 }

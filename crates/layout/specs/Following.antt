@@ -18,7 +18,7 @@ abbrev pub base_of : Bases → Segment → ℕ
 base_of bases Code = bases.code_base
 base_of bases Data = bases.data_base
 
--- Where a slot lies: so much after the base of its segment. What has no byte and stands at the end of memory
+-- The address of a slot: its offset after the base of its segment. A slot without bytes at the end of memory
 -- has the address 0.
 abbrev pub address_of_slot : Bases → Slot → ℕ
 address_of_slot bases slot = (base_of bases slot.segment + slot.offset) % MEMORY_SIZE

@@ -46,7 +46,7 @@ same_parameters [] [] = true
 same_parameters (left ∷ lefts) (right ∷ rights) = same_scalar left right && same_parameters lefts rights
 same_parameters lefts rights = false
 
--- what a global is declared to be
+-- the declaration of a global
 pub data Declared : Type 0 where
   DeclaredObject : TypedObject → Declared
   DeclaredProcedure : TypedProcedure → Declared
@@ -98,7 +98,7 @@ externals_of modules = filter (λ (global : Global). not global.is_public) (glob
 abbrev pub public_named : List Global → List ℕ → Option Global
 public_named publics name = find (λ (global : Global). bytes_eq global.name name) publics
 
--- the first PUBLIC whose name stood before
+-- the first PUBLIC with the name of one before it
 abbrev pub first_repeated : (before : List (List ℕ)) → List Global → Option Global
 first_repeated before [] = None
 first_repeated before (global ∷ others) =
@@ -123,7 +123,7 @@ has_statement (ListOf first_label places (MoreStatements first others)) = true
 abbrev pub is_main : TypedModule → Bool
 is_main typed = has_statement typed.main.body
 
--- why modules make no program
+-- why modules do not make a program
 pub data JoinRefusal : Type 0 where
   -- an EXTERNAL without PUBLIC, two PUBLICs of a name, an EXTERNAL and a PUBLIC that differ: with the name
   NoPublic : (name : List ℕ) → JoinRefusal

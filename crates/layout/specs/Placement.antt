@@ -21,7 +21,7 @@ pub record Placement : Type 0 where
   pub code : Range
   pub stack : Range
 
--- what lies somewhere: a static object, an object with DATA or a constant list, or an object with AT
+-- a placed piece: a static object, an object with DATA or a constant list, or an object with AT
 pub data PieceKind : Type 0 where
   StaticPiece : PieceKind
   ConstantPiece : PieceKind
@@ -37,8 +37,8 @@ range_of start len = record { start = start; len = len }
 abbrev pub EndsInMemory : Range → Type 0
 EndsInMemory range = range.start + range.len ≤ MEMORY_SIZE
 
--- The address that AT says, where the objects of the module lie as told: a number, or so much after where
--- another object begins, modulo the size of memory.
+-- The address that AT gives, with these addresses of the objects of the module: a number, or an offset from the
+-- start of another object, modulo the size of memory.
 abbrev pub address_at : (addresses : List ℕ) → AtAddress → ℕ
 address_at addresses (AtNumber address) = address
 address_at addresses (AtObject object offset) = (slice_index addresses object + offset) % MEMORY_SIZE
@@ -63,7 +63,7 @@ pieces_of_module placed =
     filter_map object_piece (zip (placed.0).objects (placed.1).objects)
     ++ map list_piece (zip (placed.0).constants.lists (placed.1).lists)
 
--- all that is placed of a program
+-- all pieces of a program
 abbrev pub pieces_of : List TypedModule → Placement → List PlacedPiece
 pieces_of modules placement = flat_map pieces_of_module (zip modules placement.modules)
 
@@ -75,7 +75,7 @@ is_constant_piece piece = is_constant_kind piece.kind
     is_constant_kind ConstantPiece = true
     is_constant_kind AtPiece = false
 
--- what has a place of its own, which nothing shares
+-- whether a piece has a place of its own, which it shares with no other
 abbrev pub has_own_place : PlacedPiece → Bool
 has_own_place piece = is_own_kind piece.kind
   where
@@ -91,7 +91,7 @@ own_pieces modules placement = filter has_own_place (pieces_of modules placement
 abbrev pub constant_pieces : List TypedModule → Placement → List PlacedPiece
 constant_pieces modules placement = filter is_constant_piece (pieces_of modules placement)
 
--- a byte is declared where something that is placed has it, and it is a constant where an object with DATA or
+-- a byte is declared if a placed piece has it, and it is a constant if an object with DATA or
 -- a constant list has it
 abbrev pub IsOneOf : List PlacedPiece → (address : ℕ) → Type 0
 IsOneOf pieces address = Any (λ (piece : PlacedPiece). IsIn address piece.range) pieces
@@ -113,7 +113,7 @@ is_declared modules placement address = list_any (holds_byte address) (pieces_of
 abbrev pub is_constant : List TypedModule → Placement → (address : ℕ) → Bool
 is_constant modules placement address = list_any (holds_byte address) (constant_pieces modules placement)
 
--- a declared byte that is no constant may be written
+-- a declared byte that is not a constant may be written
 pub record IsWritable (modules : List TypedModule) (placement : Placement) (address : ℕ) : Type 0 where
   pub declared : IsDeclared modules placement address
   pub variable : ¬ IsConstant modules placement address

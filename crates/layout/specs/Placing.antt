@@ -19,7 +19,7 @@ pub record Plan : Type 0 where
   pub stack_base : ℕ
   pub stack_size : ℕ
 
--- the ranges of a program, of which each module has a code segment of so many bytes, its constants first
+-- the ranges of a program, with a code segment of a given length for each module, its constants first
 abbrev pub code_range : Plan → (code_lengths : List ℕ) → Range
 code_range plan code_lengths = range_of plan.code_base (sum code_lengths)
 

@@ -1,4 +1,4 @@
--- What stands in the segments of a module before it has its place in memory: where its objects lie, and the
+-- The contents of the segments of a module before it is placed in memory: where its objects lie, and the
 -- bytes of its constants and of its variables. An address that is not known yet is counted from where a
 -- segment of the module begins, or from what an EXTERNAL name stands for.
 use Rattle.std.specs.Prelude.{ℕ, ◌+◌, ◌-◌, ◌*◌, ◌/◌, ◌%◌, List, [], ◌∷◌, ◌++◌, length, map, flat_map, replicate, Option, Some, None, option_map, slice_get}
@@ -19,7 +19,7 @@ use Rattle.layout.specs.declared.slot.Slot.{Slot}
 use Rattle.layout.specs.StartingMemory.{bytes_of_word, values_in}
 use Rattle.layout.specs.Storage.{slot_of_object}
 
--- what an address is counted from that is not known yet
+-- the origin of an address that is not known yet
 pub data Target : Type 0 where
   -- the beginning of a segment of the module
   SegmentStart : Segment → Target
@@ -30,10 +30,10 @@ pub data Target : Type 0 where
 pub data Location : Type 0 where
   -- at a number
   Absolute : (address : ℕ) → Location
-  -- so many bytes after a target, modulo the size of memory
+  -- an offset from a target, modulo the size of memory
   After : Target → (offset : ℕ) → Location
 
--- so many bytes further on
+-- the location at a distance from another
 abbrev pub further_on : Location → (distance : ℕ) → Location
 further_on (Absolute address) distance = Absolute ((address + distance) % MEMORY_SIZE)
 further_on (After target offset) distance = After target ((offset + distance) % MEMORY_SIZE)
@@ -43,17 +43,17 @@ abbrev pub address_of_location : (address_of : Target → ℕ) → Location → 
 address_of_location address_of (Absolute address) = address
 address_of_location address_of (After target offset) = (address_of target + offset) % MEMORY_SIZE
 
--- the location of an object of a list; 0 where there is none of that number
+-- the location of an object of a list; 0 if the list has no such object
 abbrev pub location_in : List Location → (number : ℕ) → Location
 location_in locations number =
     option_map_or (λ (location : Location). location) (slice_get locations number) (Absolute 0)
 
--- where AT puts something: at a number, or so much after where an object before it lies
+-- where AT puts something: at a number, or at an offset from an object before it
 abbrev pub location_at : (before : List Location) → AtAddress → Location
 location_at before (AtNumber address) = Absolute address
 location_at before (AtObject object offset) = further_on (location_in before object) offset
 
--- where a slot lies; without one it says nothing and is 0
+-- the location of a slot; 0, which says nothing, without one
 abbrev pub location_of_slot : Option Slot → Location
 location_of_slot None = Absolute 0
 location_of_slot (Some slot) = After (SegmentStart slot.segment) slot.offset
@@ -78,8 +78,8 @@ locations_after typed before (object ∷ others) =
 abbrev pub location_of : TypedModule → (number : ℕ) → Location
 location_of typed number = location_in (locations_after typed [] typed.objects) number
 
--- A byte that a module sets. Where it has a target, it is the low byte of a word that gains the address of
--- that.
+-- A byte that a module sets. One with a target is the low byte of a word that gains the address of the
+-- target.
 pub record SegmentByte : Type 0 where
   pub value : ℕ
   pub target : Option Target
@@ -104,7 +104,7 @@ abbrev pub places_of_location : Location → Places
 places_of_location (Absolute address) = places_of_bytes (bytes_of_word address)
 places_of_location (After target offset) = places_of_fixed_word target offset
 
--- the bytes of a value, where objects lie as told
+-- the bytes of a value, with these locations of objects
 abbrev pub places_of_value : (location_of : ℕ → Location) → InitialValue → Places
 places_of_value location_of (ByteValue byte) = places_of_bytes (byte ∷ [])
 places_of_value location_of (WordValue word) = places_of_bytes (bytes_of_word word)
@@ -128,7 +128,7 @@ places_of_constant typed (ConstantList number) =
 abbrev pub constant_places : TypedModule → Places
 constant_places typed = flat_map (places_of_constant typed) typed.constants.items
 
--- what an object has in the data segment
+-- the bytes of an object in the data segment
 abbrev pub places_by_home : (location_of : ℕ → Location) → TypedObject → Home → Places
 places_by_home location_of object (InData values) = places_of_object location_of object
 places_by_home location_of object home = []
@@ -160,7 +160,7 @@ abbrev pub value_resolved : (address_of : Target → ℕ) → (before : Option S
 value_resolved address_of before here =
     option_map_or (low_resolved address_of here.value) here.target (value_after address_of before here.value)
 
--- bytes after one, where targets have their addresses; nothing where nothing is set
+-- bytes after one, where targets have their addresses; none where nothing is set
 abbrev pub resolved_after :
     (address_of : Target → ℕ) → (before : Option SegmentByte) → Places → List (Option ℕ)
 resolved_after address_of before [] = []

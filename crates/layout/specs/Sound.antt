@@ -1,4 +1,4 @@
--- What is true of a typed module, so that code can be made of it.
+-- What holds of a typed module, so that code can be made of it.
 use Rattle.std.specs.Prelude.{◌≡◌, ℕ, ◌<◌, true, All, Some, slice_get}
 use Rattle.typed_trees.specs.declared.parts.AtAddress.TheVariants.{AtObject}
 use Rattle.typed_trees.specs.declared.parts.InitialValue.TheVariants.{LocationValue}
@@ -12,7 +12,7 @@ use Rattle.typed_trees.specs.TypedTrees.{Home, Placed, BasedOn, InFrame, TypedOb
 use Rattle.typed_trees.specs.WellTyped.{IsWellTyped}
 use Rattle.layout.specs.StartingMemory.{values_in}
 
--- what an object is BASED on stands before it in the table
+-- the object that another is BASED on is before it in the table
 abbrev pub BasesStandBefore : TypedModule → Type 0
 BasesStandBefore typed =
     (object base : ℕ) (found : TypedObject)
@@ -31,7 +31,7 @@ FramesAreReentrant typed =
 abbrev pub TakeBytes : TypedModule → Type 0
 TakeBytes typed = All (λ (object : TypedObject). 0 < size_of_object object) typed.objects
 
--- what INITIAL and DATA add to where an object lies is a word
+-- the number that INITIAL and DATA add to the location of an object is a word
 abbrev pub AddsWord : InitialValue → Type 0
 AddsWord (LocationValue object offset) = offset < 65536
 AddsWord value = Unit {0}
@@ -39,7 +39,7 @@ AddsWord value = Unit {0}
 abbrev pub AddWords : TypedModule → Type 0
 AddWords typed = All (λ (object : TypedObject). All AddsWord (values_in object.home)) typed.objects
 
--- and so is what AT adds
+-- and so is the number that AT adds
 abbrev pub AtAddsWord : Home → Type 0
 AtAddsWord (Placed (AtObject other offset)) = offset < 65536
 AtAddsWord home = Unit {0}
@@ -47,7 +47,7 @@ AtAddsWord home = Unit {0}
 abbrev pub PlacesAddWords : TypedModule → Type 0
 PlacesAddWords typed = All (λ (object : TypedObject). AtAddsWord object.home) typed.objects
 
--- What is true of every module that a source text is.
+-- What holds of every module that is typed from a source text.
 pub record IsSoundlyTyped (typed : TypedModule) : Type 0 where
   pub types : IsWellTyped typed
   pub jumps : JumpsAreSound typed

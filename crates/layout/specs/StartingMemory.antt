@@ -17,7 +17,7 @@ address_in placement at =
     option_map_or (λ (placed : ModulePlacement). slice_index placed.objects at.number)
     (slice_get placement.modules at.number_of_module) 0
 
--- where what an object of a module stands for lies
+-- the address of the object that an object of a module stands for
 abbrev pub meant_in : List TypedModule → (number_of_module number : ℕ) → TypedModule → Option InProgram
 meant_in modules number_of_module number typed =
     option_and_then
@@ -34,7 +34,7 @@ address_of_object modules placement number_of_module typed number =
 abbrev pub bytes_of_word : ℕ → List ℕ
 bytes_of_word word = word % 256 ∷ word / 256 ∷ []
 
--- the bytes of a value, where objects lie as told
+-- the bytes of a value, with these addresses of objects
 abbrev pub bytes_of_value : (address_of : ℕ → ℕ) → InitialValue → List ℕ
 bytes_of_value address_of (ByteValue byte) = byte ∷ []
 bytes_of_value address_of (WordValue word) = bytes_of_word word

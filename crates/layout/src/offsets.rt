@@ -46,7 +46,7 @@ impl Offsets {
         })
     }
 
-    // Something stands among the constants at an offset, where it does not stand before.
+    // Sets the offset of a constant, if it has none.
     fn put(&mut self, item: ConstantItem, offset: u32)
         ensures { self.new ≡ put self.old item offset }
     {
@@ -56,14 +56,14 @@ impl Offsets {
         }
     }
 
-    /// The offset of an object; another where it does not stand among the constants.
+    /// The offset of an object, or another if it is not among the constants.
     pub(crate) fn object(&self, number: usize, otherwise: u32) -> u32
         ensures { result ≡ offset_in (self.now).objects number otherwise }
     {
         offset_in(self.objects.as_slice(), number, otherwise)
     }
 
-    /// The offset of a list; another where it does not stand among the constants.
+    /// The offset of a list, or another if it is not among the constants.
     pub(crate) fn list(&self, number: usize, otherwise: u32) -> u32
         ensures { result ≡ offset_in (self.now).lists number otherwise }
     {
@@ -80,7 +80,7 @@ fn offset_in(table: &[Option<u32>], number: usize, otherwise: u32) -> u32
     }
 }
 
-// A number gets an offset, where it has none.
+// A number gets an offset, if it has none.
 #[tactic(auto, using(crate::proofs::Tables::put_first_at, crate::proofs::Tables::put_first_past, crate::proofs::Tables::put_first_kept))]
 fn put_first(table: &mut Vec<Option<u32>>, number: u32, offset: u32)
     ensures { (table.new).items ≡ put_first (table.old).items number offset }

@@ -9,7 +9,7 @@ ghost use Rattle.layout.specs.Storage.{bytes_in_constants, bytes_in_data, consta
 use crate::slot::SEGMENT_LIMIT;
 use typed_trees::{ConstantItem, Home, Typed, TypedObject};
 
-/// The bytes of the data segment that an object takes (4,294,967,295 where it takes more).
+/// The bytes of the data segment that an object takes (4,294,967,295 if it takes more).
 pub(crate) fn size_in_data(object: &TypedObject) -> u32
     ensures { result ≡ min (bytes_in_data (object_view object.now).home (object_view object.now)) 4294967295 }
 {
@@ -19,7 +19,7 @@ pub(crate) fn size_in_data(object: &TypedObject) -> u32
     }
 }
 
-/// The bytes of the data segment (4,294,967,295 where it has more).
+/// The bytes of the data segment (4,294,967,295 if it has more).
 #[tactic(auto, using(crate::proofs::Sums::data_more, crate::proofs::Sums::data_end))]
 pub(crate) fn data_size(typed: &Typed) -> u32
     ensures { result ≡ min (data_bytes (module_view typed.now).objects) 4294967295 }
@@ -31,7 +31,7 @@ pub(crate) fn data_size(typed: &Typed) -> u32
     total
 }
 
-/// The bytes of something that stands among the constants (4,294,967,295 where it has more).
+/// The bytes of a constant (4,294,967,295 if it has more).
 pub(crate) fn size_of(typed: &Typed, item: ConstantItem) -> u32
     ensures { result ≡ min (size_of_constant (module_view typed.now) item) 4294967295 }
 {
@@ -58,7 +58,7 @@ fn capped(count: usize) -> u32
     }
 }
 
-/// The bytes of the constants (4,294,967,295 where they have more).
+/// The bytes of the constants (4,294,967,295 if they have more).
 #[tactic(auto, using(crate::proofs::Sums::constants_more, crate::proofs::Sums::constants_end))]
 pub(crate) fn constant_size(typed: &Typed) -> u32
     ensures { result ≡ min (constant_bytes (module_view typed.now)) 4294967295 }
@@ -106,7 +106,7 @@ fn lists_fit(lists: &[Vec<u8>]) -> bool
     true
 }
 
-/// Whether the constants of a module, which have so many bytes, fit into a segment.
+/// Whether the constants of a module, which have `constant_size` bytes, fit into a segment.
 pub(crate) fn constants_fit(typed: &Typed, constant_size: u32) -> bool
     requires size { constant_size ≡ min (constant_bytes (module_view typed.now)) 4294967295 }
     ensures { result ≡ constants_fit (module_view typed.now) }

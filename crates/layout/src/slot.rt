@@ -27,7 +27,7 @@ pub struct Layout {
     pub constant_size: u32,
 }
 
-// Written out, so that what it holds is let go here, and each crate that lets one go calls this.
+// Written out, so that it is freed here, and each crate that frees one calls this.
 impl Drop for Layout {
     fn drop(self) {
         let Layout {

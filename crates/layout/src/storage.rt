@@ -88,8 +88,8 @@ fn list_slots(
     Ok(slots)
 }
 
-/// Where the objects and the constant lists of a module lie in its segments. Refuses a module whose data segment or whose
-/// constants have over 65535 bytes.
+/// Where the objects and the constant lists of a module lie in its segments. Refuses a module with over 65535 bytes in its
+/// data segment or in its constants.
 #[tactic(auto, using(crate::proofs::Slots::data_too_large, crate::proofs::Slots::constants_too_large))]
 pub fn layout(alloc: Global, typed: &Typed) -> Result<Layout, Failure<Fault>>
     ensures ok { IfOk result (λ found. storage_of (module_view typed.now) ≡ Ok (layout_view found)) }

@@ -47,7 +47,7 @@ pub record IsRefused (files : List (List ℕ)) (refusal : LinkRefusal) : Type 0 
   pub spelled : AllZip Spells files objects
   pub refused : merge_of objects ≡ Err refusal
 
--- what a fault of a stream says of the files and of what was written
+-- the meaning of a fault of a stream, for the files and for the bytes that were written
 abbrev pub HasStreamFault : List (List ℕ) → (old new : Option (List ℕ)) → StreamFault → Type 0
 HasStreamFault files old new (stream.Object file fault) = IsFirstFaulty files file fault × Keeps old new
 HasStreamFault files old new (stream.Link fault) = IsRefused files (refusal_of fault) × Keeps old new

@@ -77,8 +77,8 @@ fn add_files<'a>(
     Ok(())
 }
 
-/// The code and the data of a merge, made of the contents of files, file by file. One content at a time is
-/// looked at.
+/// The code and the data of a merge, made of the contents of files, file by file. It looks at one content at
+/// a time.
 pub(crate) fn segments_of<'a>(
     alloc: Global,
     publics: &Publics<'_, 'a>,

@@ -14,7 +14,7 @@ use std::alloc::{AllocError, Global};
 use std::marker::Model;
 
 /// A segment of a merge as far as contents were added: its runs, its fixes, and whether a high byte is fixed to
-/// what moves by no multiple of 256.
+/// a target that moves by a number that is not a multiple of 256.
 #[derive(Drop)]
 pub(crate) struct GrowingSegment {
     runs: Vec<Run>,
@@ -34,7 +34,7 @@ impl Model for GrowingSegment {
     } };
 }
 
-// The byte at an index, or the word that begins there, gains a number.
+// Adds a number to the byte at an index, or to the word that begins there.
 fn fix_bytes(bytes: &mut [u8], kind: FixKind, index: usize, gain: u16)
     requires { index + width_of kind ≤ length bytes.old }
     ensures fixed { bytes.new ≡ bytes_fixed kind index gain bytes.old }
@@ -55,7 +55,7 @@ fn fix_bytes(bytes: &mut [u8], kind: FixKind, index: usize, gain: u16)
     }
 }
 
-// Bytes from a place on after fixes of some of them.
+// Applies fixes to bytes from a place on.
 fn fix_all(bytes: &mut [u8], offset: u16, fixes: &[Fix], resolved: &Resolved)
     requires { AreWithin offset (length bytes.old) fixes.now }
     ensures { bytes.new ≡ bytes_after (gain_by resolved.now) offset fixes.now bytes.old }
@@ -66,7 +66,7 @@ fn fix_all(bytes: &mut [u8], offset: u16, fixes: &[Fix], resolved: &Resolved)
     }
 }
 
-// Bytes of a content at their place in a merge, after these fixes, which are within them.
+// The bytes of a content at their place in a merge, after these fixes, which are within them.
 fn moved_run(
     alloc: Global,
     content: &Content<'_>,
@@ -84,7 +84,7 @@ fn moved_run(
     Ok(Run::new(resolved.start(content.segment) + content.offset, bytes))
 }
 
-// Adds two runs, as one where the second begins at the end of the first.
+// Adds two runs, as one if the second begins at the end of the first.
 fn add_after(runs: &mut Vec<Run>, last: Run, run: Run) -> Result<(), AllocError>
     ensures { OnOk result (runs.new.items ≡ runs.old.items ++ with_run (last ∷ []) run) }
 {
@@ -99,7 +99,7 @@ fn add_after(runs: &mut Vec<Run>, last: Run, run: Run) -> Result<(), AllocError>
     Ok(())
 }
 
-// Adds a run after others, to the last of them where it begins at its end.
+// Adds a run after others, to the last of them if it begins at its end.
 #[tactic(auto, using(object_laws::proofs::Merges::RunsJoined::with_run_last))]
 fn add_run(runs: &mut Vec<Run>, run: Run) -> Result<(), AllocError>
     ensures { OnOk result (runs.new.items ≡ with_run runs.old.items run) }
@@ -194,7 +194,7 @@ impl GrowingSegment {
         Ok(())
     }
 
-    /// Whether a high byte is fixed to what moves by no multiple of 256.
+    /// Whether a high byte is fixed to a target that moves by a number that is not a multiple of 256.
     pub(crate) fn moves(&self) -> bool
         ensures { result ≡ self.now.moves }
     {

@@ -35,7 +35,7 @@ use std::io::Write;
 /// Why files can't be merged, or what was not written.
 #[derive(Clone, Copy)]
 pub enum StreamFault {
-    /// A file is no object file.
+    /// A file is not an object file.
     Object { file: usize, fault: Fault },
     /// The modules have no merge.
     Link(LinkFault),
@@ -63,7 +63,7 @@ fn judged_file<'a>(
     }
 }
 
-// Puts the files in their order, each of which spells a module.
+// Judges the files in their order. Each of them must spell a module.
 #[tactic(auto, using(crate::proofs::Reading::first_faulty))]
 fn judge_files<'a>(
     alloc: Global,
@@ -95,13 +95,13 @@ fn merge(alloc: Global, files: &[&[u8]]) -> Result<ObjectModule, Failure<StreamF
     }
 }
 
-/// Writes the text of the merge of the modules that files spell, in their order. The first file that is no object file,
-/// and why there is no merge, is answered before the first byte is written, and so is out of memory. After that each
+/// Writes the text of the merge of the modules that files spell, in their order. Before the first byte is written it
+/// answers the first file that is not an object file, why there is no merge, and out of memory. After that each
 /// failure is one of the writer, which then has a beginning of the text.
 ///
 /// It looks at one content at a time, and leaves the files' bytes where they are. Memory grows with the number of files
 /// and with their names. Beside these it holds the code and the data of the merge, however long the files are: of each at
-/// most 65535 bytes, with as many runs and fixes, which is some 5 MB.
+/// most 65535 bytes, with as many runs and fixes, which is about 5 MB.
 pub fn link_records<W: Write>(
     alloc: Global,
     files: &[&[u8]],

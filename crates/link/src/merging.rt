@@ -49,7 +49,7 @@ fn merged_alignment(segment: Segment, placed: &[PlacedFile<'_>]) -> Alignment
     Alignment::Byte
 }
 
-// Whether a high byte is fixed to what moves by no multiple of 256, in the code or in the data.
+// Whether a high byte is fixed to a target that moves by a number that is not a multiple of 256, in the code or in the data.
 fn high_byte_moves(code: &GrowingSegment, data_bytes: &GrowingSegment) -> bool
     ensures { result ≡ (code.now.moves || data_bytes.now.moves) }
 {
@@ -176,7 +176,7 @@ fn merge_named<'a>(
     }
 }
 
-/// The merge of the modules that files spell, in this order. Where there is none, the first cause in the order
+/// The merge of the modules that files spell, in this order. If they have no merge, the first cause in the order
 /// of the faults is answered.
 pub(crate) fn merge_files(
     alloc: Global,

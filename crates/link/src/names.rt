@@ -66,7 +66,7 @@ impl<'a> NameTable<'a> {
         self.names.get_index_of(&name)
     }
 
-    // One more name. Tells whether it is a new one.
+    // Adds a name. Returns whether it is new.
     fn insert(&mut self, name: &'a [u8]) -> Result<bool, Failure<LinkFault>>
         ensures new { IfOk result (λ is_new. is_new ≡ not (is_among name.now self.old)) }
         ensures names { IfOk result (λ is_new. self.new

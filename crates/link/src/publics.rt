@@ -94,7 +94,7 @@ fn add_publics(
     Ok(())
 }
 
-/// The publics of files, moved with their pieces, file by file. Takes memory for so many at once.
+/// The publics of files, moved with their pieces, file by file. Reserves memory for `count` of them.
 pub(crate) fn publics_of(
     alloc: Global,
     count: usize,

@@ -1,4 +1,4 @@
-//! What the targets of the fixes of a file become in a merge.
+//! The targets of the fixes of a file in a merge.
 
 ghost use Rattle.std.specs.Prelude.{◌≡◌, ◌++◌, map, IfOk};
 ghost use Rattle.std.specs.List.{list_any};
@@ -53,7 +53,7 @@ fn meant_by<'a>(
     Ok(meant)
 }
 
-// What a place stays fixed to that is fixed to a public.
+// The target of a place that is fixed to a public.
 fn target_of(public: &OwnedPublic) -> Option<Target>
     ensures { result ≡ target_of_public (owned_public_view public.now) }
 {
@@ -66,7 +66,7 @@ fn target_of(public: &OwnedPublic) -> Option<Target>
 }
 
 impl Resolved {
-    /// What the targets of a file become in a merge with these publics.
+    /// The targets of a file in a merge with these publics.
     pub(crate) fn new<'a>(
         alloc: Global,
         publics: &Publics<'_, 'a>,
@@ -110,7 +110,7 @@ impl Resolved {
         }
     }
 
-    /// What a place stays fixed to, if it does.
+    /// The target to which a place stays fixed, if it does.
     pub(crate) fn kept(&self, target: Target) -> Option<Target>
         ensures { result ≡ kept_by self.now target }
     {
@@ -123,7 +123,7 @@ impl Resolved {
         }
     }
 
-    // Whether a fix is one of a high byte that gains no multiple of 256.
+    // Whether a fix is one of a high byte that gains a number that is not a multiple of 256.
     fn moves(&self, fix: &Fix) -> bool
         ensures { result ≡ moves_by self.now fix.now }
     {

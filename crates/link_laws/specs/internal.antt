@@ -1,5 +1,5 @@
--- What the loops of linking go by.
+-- The invariants of the loops of linking.
 pub mod Passes
 pub mod Building
--- What the loops over the contents of files go by.
+-- The invariants of the loops over the contents of files.
 pub mod Growing

@@ -18,7 +18,7 @@ pub enum LinkFault {
     /// L4: no module has a start, or several have one.
     #[error("no module is a main module, or several are")]
     NotOneMain,
-    /// L5: a high byte is fixed to what moves by no multiple of 256, or to a public whose address is none.
+    /// L5: a high byte is fixed to a target that moves by a number, or to a public at an address, that is not a multiple of 256.
     #[error("a high byte is fixed to what moves by no multiple of 256")]
     HighByteMoves,
 }

@@ -1,4 +1,4 @@
--- The expansion of a list of words, and why there is none.
+-- The expansion of a list of words, or the reason for which it has no expansion.
 use Rattle.std.specs.Prelude.{◌≡◌, ◌⊎◌, ℕ, ◌+◌, ◌<◌, ◌≤◌, ◌&&◌, Bool, true, false}
 use Rattle.std.specs.Prelude.{List, [], ◌∷◌, ◌++◌, map, reverse, None, Some, IfSome, is_some}
 use Rattle.words.specs.declared.fault.Fault.{Fault as TextFault}
@@ -44,7 +44,7 @@ pub data IsTooDeep (output : List Lexeme) : ℕ → List Lexeme → Type 0 where
       → IsTooDeep output depth words
       → IsTooDeep output depth (word ∷ words)
 
--- At least so many words are processed for words at a depth, those of the texts that they stand for included.
+-- At least this many words are processed for words at a depth, those of the texts that they stand for included.
 pub data ProcessesAtLeast (output : List Lexeme) : ℕ → List Lexeme → ℕ → Type 0 where
   none_yet : {depth : ℕ} {words : List Lexeme}
       → ProcessesAtLeast output depth words 0
@@ -63,7 +63,7 @@ abbrev pub begins_with_literally : List Lexeme → Bool
 begins_with_literally [] = false
 begins_with_literally (word ∷ words) = is_literally word.kind
 
--- whether a word is a name in force, and is to be defined again
+-- whether a word is a name in force, and is defined again
 abbrev pub is_defined_again : List Lexeme → Lexeme → List Lexeme → Bool
 is_defined_again output word words = is_some (in_force output word) && begins_with_literally words
 
@@ -75,7 +75,7 @@ IsSoundText text = (has_quote text ≡ false) × ((inner : List Lexeme) × Spell
 abbrev pub IsSound : List Lexeme → Lexeme → Type 0
 IsSound output word = IfSome (definition_by word (reverse output)) (λ definition. IsSoundText definition.1)
 
--- Words after an output, before which so many words were processed, make it this whole output.
+-- Words after an output, with a count of the words processed before, make it this whole output.
 pub data ExpandsFrom : List Lexeme → ℕ → List Lexeme → List Lexeme → Type 0 where
   at_end : {output : List Lexeme} {processed : ℕ}
       → ExpandsFrom output processed [] output
@@ -94,7 +94,7 @@ on_line line (text_faults.Unclosed place) = text_faults.Unclosed line
 on_line line (text_faults.Number place) = text_faults.Number line
 on_line line (text_faults.Name place) = text_faults.Name line
 
--- Words after an output lead up to one for which there is no expansion, with this fault.
+-- Words after an output lead up to one that can't be expanded, with this fault.
 pub data FaultFrom : List Lexeme → ℕ → List Lexeme → Fault → Type 0 where
   defined_again : {output words : List Lexeme} {processed : ℕ} {word : Lexeme}
       → is_defined_again output word words ≡ true

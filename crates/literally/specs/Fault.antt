@@ -1,4 +1,4 @@
--- What a fault of a list of words is reported as.
+-- How a fault of a list of words is reported.
 use Rattle.std.specs.Prelude.{ℕ, List, codes}
 use Rattle.words.specs.Fault as text_fault
 use Rattle.literally.specs.declared.fault.Fault.{Fault}

@@ -35,7 +35,7 @@ impl<'a> Definitions<'a> {
         }
     }
 
-    // The words by which a word is to be replaced, if it is a name in force.
+    // The words that replace a word, if it is a name in force.
     pub(crate) fn text_for(&self, word: &Word<'a>) -> Option<&[Word<'a>]>
         ensures { (output : List Lexeme) → AreHeld output self.now.texts → MatchOption result
             (in_force output (lexeme_of word.now) ≡ None)

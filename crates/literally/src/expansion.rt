@@ -40,8 +40,8 @@ pub fn expand<'a>(alloc: Global, words: &[Word<'a>]) -> Result<Vec<Word<'a>>, Fa
     Ok(output)
 }
 
-// Adds to the output what a word of the list becomes, and answers how many words are then processed. The words after
-// it tell whether it is to be defined again.
+// Adds to the output what a word of the list becomes, and returns how many words are then processed. The words after
+// it decide whether it is defined again.
 fn expand_word<'a>(
     alloc: Global,
     definitions: &mut Definitions<'a>,
@@ -75,7 +75,7 @@ fn expand_word<'a>(
     }
 }
 
-// Adds to the output what a word of the list becomes that stands for a text, and answers how many words are then
+// Adds to the output what a word of the list that stands for a text becomes, and returns how many words are then
 // processed. The texts that are not done wait on a stack.
 fn replace<'a, 'd>(
     alloc: Global,
@@ -114,7 +114,7 @@ fn replace<'a, 'd>(
     Ok(processed)
 }
 
-// Whether a name within so many texts is not to be replaced any more.
+// Whether a name at this depth of texts is not replaced any more.
 fn is_deepest(depth: usize) -> bool
     ensures { IsTrue result ↔ (depth ≡ DEEPEST) }
 {

@@ -11,7 +11,7 @@ ghost use Rattle.literally.specs.internal.Keys.{name_respects};
 
 use std::hash::{Hash, Hasher};
 
-/// A name, known by the bytes of its word. Names are equal where their characters are: `$` is ignored, and a small
+/// A name, known by the bytes of its word. Names are equal if their characters are: `$` is ignored, and a small
 /// letter is read as its capital.
 #[derive(Clone, Copy)]
 pub(crate) struct Name<'a> {

@@ -18,7 +18,7 @@ plan_view plan = record {
   stack_size = plan.stack_size;
 }
 
--- the refusal that a fault tells
+-- the refusal that a fault stands for
 abbrev pub refusal_of : LocateFault → PlacementRefusal
 refusal_of faults.ExternalLeft = ExternalLeft
 refusal_of faults.NoStart = NoStart
@@ -41,7 +41,7 @@ pub record IsPlaced (plan : Plan) (object : ObjectModule) (absolute : Absolute) 
   pub start : absolute.start ≡ image.start
   pub symbols : absolute.symbols ≡ image.symbols
 
--- what each placed module keeps: runs, which lie in memory
+-- the rules that each placed module follows: its pieces are runs that lie in memory
 pub record IsAbsolute (absolute : Absolute) : Type 0 where
   pub runs : IsTrue (are_runs absolute.pieces)
   pub in_memory : All EndsInMemory absolute.pieces

@@ -43,7 +43,7 @@ impl Model for Absolute {
     }) };
 }
 
-// Written out, so that what it holds is let go here, and each crate that lets one go calls this.
+// Written out, so that it is freed here, and each crate that frees one calls this.
 impl Drop for Absolute {
     fn drop(self) {
         let Absolute {

@@ -2,7 +2,7 @@
 
 use thiserror::Error;
 
-/// Why a module can't be placed by a plan. Where several causes hold, it is the first in this order.
+/// Why a module can't be placed by a plan. If several causes hold, it is the first in this order.
 #[derive(Clone, Copy, Debug, PartialEq, Eq, Error)]
 pub enum LocateFault {
     /// P3: an external name is left.
@@ -17,10 +17,10 @@ pub enum LocateFault {
     /// P1: two of the code, the data and the stack have an address in common.
     #[error("two of the code, the data and the stack overlap")]
     SegmentsMeet,
-    /// P6: a page-aligned segment would begin at no multiple of 256.
+    /// P6: a page-aligned segment would begin at an address that is not a multiple of 256.
     #[error("a page-aligned segment would begin at no multiple of 256")]
     PageBroken,
-    /// P5: a high byte is fixed to what would begin at no multiple of 256.
+    /// P5: a high byte is fixed to a segment that would begin at an address that is not a multiple of 256.
     #[error("a high byte is fixed to what would begin at no multiple of 256")]
     HighByteBroken,
 }

@@ -95,7 +95,7 @@ fn absolute_of(alloc: Global, object: &ObjectModule, plan: &Plan) -> Result<Abso
     Ok(absolute)
 }
 
-/// Places a module by a plan: the length of its stack is that of the plan. Nothing is placed where an
+/// Places a module by a plan: the length of its stack is that of the plan. Nothing is placed if an
 /// external name is left or one of the other causes holds; the first in their order is the fault. Each memory
 /// into which the placed module is put has the bytes of the image, and is a memory still.
 #[tactic(auto, using(crate::proofs::Placing::is_refused))]

@@ -24,7 +24,7 @@ fn whole_of(last: Piece, next: &Piece) -> Result<Piece, AllocError>
     })
 }
 
-// Puts a piece after two others of which the second is the last; as one where it touches that.
+// Puts a piece after two others. The second of them is the last, and becomes one with the piece if they touch.
 fn add_after(pieces: &mut Vec<Piece>, last: Piece, next: Piece) -> Result<(), AllocError>
     ensures { OnOk result (pieces.new.items ≡ pieces.old.items ++ joined last next) }
 {

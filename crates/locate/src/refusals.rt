@@ -23,7 +23,7 @@ struct Ranges {
     stack: Range,
 }
 
-// So many addresses from a base on.
+// The `size` addresses from a base on.
 fn range_from(base: u16, size: u16) -> Range
     ensures { result ≡ range_at base size }
 {
@@ -90,7 +90,7 @@ fn page_breaks(object: &ObjectModule, segment: Segment, plan: &Plan) -> bool
     }
 }
 
-// Whether a high byte is fixed to what would begin within a page.
+// Whether a high byte is fixed to a segment that would begin within a page.
 fn high_breaks(fix: &Fix, plan: &Plan) -> bool
     ensures { result ≡ breaks_high (gain_at (plan_view plan.now)) fix.now }
 {
@@ -113,7 +113,7 @@ fn any_breaks(fixes: &[Fix], plan: &Plan) -> bool
     false
 }
 
-// Whether any high byte of a module is fixed to what would begin within a page.
+// Whether any high byte of a module is fixed to a segment that would begin within a page.
 #[tactic(auto, using(crate::proofs::Highs::high_is))]
 fn any_high_breaks(object: &ObjectModule, plan: &Plan) -> bool
     ensures { result ≡ list_any (λ target. not (gain_at (plan_view plan.now) target % 256 == 0))
@@ -130,7 +130,7 @@ fn has_externals(object: &ObjectModule) -> bool
     !object.externals().is_empty()
 }
 
-// Whether the module is no main module.
+// Whether the module is not a main module.
 fn has_no_start(object: &ObjectModule) -> bool
     ensures { result ≡ is_none object.now.start }
 {

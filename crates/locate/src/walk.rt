@@ -1,4 +1,4 @@
-//! The bytes of a run with their fixes done: a walk over the bytes, with the fixes beside them.
+//! The bytes of a run with their fixes applied: a walk over the bytes, with the fixes beside them.
 
 ghost use Rattle.std.specs.Prelude.{◌≡◌, ◌<◌, ◌≤◌, ◌+◌, length, IfOk};
 ghost use Rattle.std.specs.Option.{option_map};
@@ -13,7 +13,7 @@ use mem80::{MEMORY_SIZE, Plan};
 use object_modules::{Fix, FixKind, Run};
 use std::alloc::{AllocError, Global};
 
-// The first byte of a word as it was, and what the word gains.
+// The first byte of a word as it was, and the gain of the word.
 #[derive(Clone, Copy)]
 struct Carry {
     first: u8,
@@ -37,7 +37,7 @@ impl Drop for Walk<'_> {
     }
 }
 
-// What the first byte of a fix becomes, where its target gains a number.
+// The new value of the first byte of a fix, if its target gains a number.
 fn first_byte(kind: FixKind, value: u8, gain: u16) -> u8
     ensures { result ≡ first_byte_moved kind value gain }
 {
@@ -48,7 +48,7 @@ fn first_byte(kind: FixKind, value: u8, gain: u16) -> u8
     }
 }
 
-// What a byte becomes at which no fix begins.
+// The new value of a byte at which no fix begins.
 fn second_byte(value: u8, word: Option<Carry>) -> u8
     ensures { result ≡ second_by value (option_map carry_view word) }
 {
@@ -89,7 +89,7 @@ fn take_first(fixes: &[Fix], offset: u32) -> (Option<Fix>, &[Fix])
     }
 }
 
-// What a byte becomes, by the fix that begins there and the word before it.
+// The new value of a byte, by the fix that begins there and the word before it.
 fn byte_with(value: u8, word: Option<Carry>, fix: Option<Fix>, plan: &Plan) -> u8
     ensures { result ≡ value_by (gain_at (plan_view plan.now)) value (option_map carry_view word) fix }
 {
@@ -110,7 +110,7 @@ fn word_with(value: u8, fix: Option<Fix>, plan: &Plan) -> Option<Carry>
 }
 
 impl Walk<'_> {
-    // What the byte at this place becomes, and on to the next place.
+    // The new value of the byte at this place, and on to the next place.
     fn place(&mut self, value: u8, plan: &Plan) -> u8
         requires { self.old.offset < MEMORY_SIZE }
         ensures value { result ≡ value_at (gain_at (plan_view plan.now)) (walk_view self.old) value }
@@ -126,7 +126,7 @@ impl Walk<'_> {
     }
 }
 
-/// The bytes of a run with the first of the fixes done, and the fixes that are left.
+/// The bytes of a run with the first of the fixes applied, and the fixes that are left.
 pub(crate) fn moved_bytes<'a>(
     alloc: Global,
     run: &Run,

@@ -1,5 +1,5 @@
--- Looking at and changing the bytes that a program declares (PL/M-80 Programming Manual, "Arrays and
--- structures" and "Based variables"). What goes outside the language here is this profile's own.
+-- Reading and changing the bytes that a program declares (PL/M-80 Programming Manual, "Arrays and
+-- structures" and "Based variables"). Which accesses go outside the language is this profile's own rule.
 use Rattle.std.specs.Prelude.{ℕ, ◌+◌, ◌*◌, ◌/◌, ◌%◌, Bool, true, ◌&&◌, nat_le, nat_lt, List, [], slice_get, slice_index, slice_index_or, slice_set, if◌then◌else◌}
 use Rattle.std.specs.Option.{option_map_or}
 use Rattle.mem80.specs.declared.memory.TheConstants.{MEMORY_SIZE}
@@ -18,8 +18,8 @@ is_declared program address = placements.is_declared program.modules program.pla
 abbrev pub is_constant : Program → (address : ℕ) → Bool
 is_constant program address = placements.is_constant program.modules program.placement address
 
--- Where something lies: in memory at an address; or in the frame, so many bytes after where an object begins,
--- and whether each of its subscripts is below its dimension.
+-- Where something lies: in memory at an address; or in the frame, at an offset from the start of an object,
+-- with whether each of its subscripts is below its dimension.
 pub data Place : Type 0 where
   InMemory : (address : ℕ) → Place
   InTheFrame : (object offset : ℕ) → (is_inside : Bool) → Place
@@ -33,7 +33,7 @@ next_place (InTheFrame object offset is_inside) = InTheFrame object (offset + 1)
 abbrev pub frame_bytes : List (List ℕ) → (object : ℕ) → List ℕ
 frame_bytes frame object = slice_index_or frame object []
 
--- a byte that is looked at is declared, and in a frame it is one of an element that there is
+-- a byte that is read is declared, and in a frame it is one of an existing element
 abbrev pub read_byte : Program → Place → State → Outcome ℕ
 read_byte program (InMemory address) s =
     if is_declared program address then Gave (byte_at s.memory address) s
@@ -42,7 +42,7 @@ read_byte program (InTheFrame object offset is_inside) s =
     if is_inside then Gave (slice_index (frame_bytes s.frame object) offset) s
     else Stopped (Outside UndeclaredByte) s
 
--- one that is changed is no constant either
+-- a byte that is changed is also not a constant
 abbrev pub write_byte : Program → Place → (byte : ℕ) → State → Outcome (Unit {0})
 write_byte program (InMemory address) byte s =
     if is_declared program address
@@ -92,7 +92,7 @@ address_of around object =
     address_of_object around.program.modules around.program.placement around.number_of_module typed object)
     (slice_get around.program.modules around.number_of_module) 0
 
--- so many bytes after where an object begins that is not BASED
+-- the place at an offset from the start of an object that is not BASED
 abbrev pub place_in : Home → Surroundings → (object offset : ℕ) → (is_inside : Bool) → Place
 place_in (InFrame procedure) around object offset is_inside = InTheFrame object offset is_inside
 place_in home around object offset is_inside = InMemory ((address_of around object + offset) % MEMORY_SIZE)

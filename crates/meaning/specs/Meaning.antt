@@ -2,7 +2,7 @@
 -- and jumps mean is given from outside. `later_by` gives it for a budget below a number, by what calls, turns
 -- and jumps are defined as here: `IsMeantBelow` says so.
 --
--- All trees have a meaning here, also those that no source has: where an object, a list, a callee or a
+-- All trees have a meaning here, also those that no source has. Where an object, a list, a callee or a
 -- parameter is not there, or a body is left by a jump, a number is 0 and nothing is done. A program that is
 -- built of texts takes no such case: so says `TakesNoDefault` of `meaning_laws`, case by case.
 use Rattle.std.specs.Prelude.{◌≡◌, ℕ, zero, suc, ◌+◌, ◌<◌, ◌-◌, ◌*◌, ◌%◌, ◌==◌, Bool, true, false, ◌&&◌, nat_le, nat_lt, List, [], ◌∷◌, ◌++◌, replicate, map, slice_get, slice_index, Option, Some, None, option_map, if◌then◌else◌}
@@ -28,14 +28,14 @@ pub data Turn : Type 0 where
   IterateTurn : (head : TypedIteration) → (body : TypedList) → Turn
 
 -- what is given from outside: the call of a procedure with the values of its arguments, which gives its
--- value; a further turn of a loop; and what follows a jump to a label of a list: the rest of the list from the
--- label on
+-- value; a further turn of a loop; and the rest of a list after a jump to one of its
+-- labels
 pub record Later : Type 0 where
   pub call : InProgram → List ℕ → Surroundings → State → Outcome ℕ
   pub again : Turn → Surroundings → State → Outcome Flow
   pub onto : TypedList → (rest : TypedStatements) → Surroundings → State → Outcome Flow
 
--- what a subscript adds to where something lies, and whether it is below its dimension
+-- the bytes that a subscript adds to a place, and whether it is below its dimension
 pub record Displacement : Type 0 where
   pub bytes : ℕ
   pub is_inside : Bool
@@ -46,14 +46,14 @@ no_displacement = record { bytes = 0; is_inside = true }
 abbrev pub displaced : (stride count index : ℕ) → Displacement
 displaced stride count index = record { bytes = stride * index; is_inside = nat_lt index count }
 
--- the place of a part of an object; where it is BASED its base is read for it
+-- the place of a part of an object; for one that is BASED its base is read
 abbrev pub based_place : Home → Surroundings → (object bytes : ℕ) → (is_inside : Bool) → State → Outcome Place
 based_place (BasedOn base) around object bytes is_inside s =
     then_do (read_scalar around.program Address (place_of around base) s)
     (λ start t. Gave (InMemory ((start + bytes) % MEMORY_SIZE)) t)
 based_place home around object bytes is_inside s = Gave (place_in home around object bytes is_inside) s
 
--- the address of a place; what lies in a frame has none that a program could ask for
+-- the address of a place; one in a frame has none that a program could ask for
 abbrev pub address_in_memory : Place → ℕ
 address_in_memory (InMemory address) = address
 address_in_memory (InTheFrame object offset is_inside) = 0
@@ -75,7 +75,7 @@ taken_in around port s =
     let number : ℕ = input_value around.program.script s.events port in
     Gave number (record s { events = s.events ++ read_event port number ∷ [] })
 
--- what a procedure of a module stands for where it is called
+-- the procedure that a call in a module stands for
 abbrev pub callee_in : Surroundings → (procedure : ℕ) → Option InProgram
 callee_in around procedure =
     option_and_then
@@ -166,13 +166,13 @@ moved program (suc count) source destination s =
     then_do (write_byte program (InMemory (destination % MEMORY_SIZE)) byte t)
     (λ _ u. moved program count (source + 1) (destination + 1) u))
 
--- what a RETURN gives, 0 where it has no expression
+-- the value of a RETURN, 0 if it has no expression
 abbrev pub returned : Later → Surroundings → Option TypedExpression → State → Outcome Flow
 returned later around None s = Gave (Returned 0) s
 returned later around (Some expression) s =
     then_do (value later around expression s) (λ number t. Gave (Returned number) t)
 
--- after a turn of a loop: the next turn, where the turn did not return or jump
+-- after a turn of a loop: the next turn, if the turn did not return or jump
 abbrev pub after_turn : Later → Surroundings → Turn → Flow → State → Outcome Flow
 after_turn later around turn Onward s = later.again turn around s
 after_turn later around turn flow s = Gave flow s
@@ -189,7 +189,7 @@ rest_from label (ListOf first_label places statements) =
     then option_map (λ place. dropped place statements) (slice_get places (label - first_label))
     else None
 
--- a jump out of a part of a list goes on in the list, if that holds the label
+-- a jump out of a part of a list continues in the list, if that holds the label
 abbrev pub landed : Later → Surroundings → TypedList → (label : ℕ) → Option TypedStatements → State → Outcome Flow
 landed later around list label (Some rest) s = later.onto list rest around s
 landed later around list label None s = Gave (Jumped label) s
@@ -210,13 +210,13 @@ abbrev pub step_value : Later → Surroundings → Option TypedExpression → St
 step_value later around None s = Gave 1 s
 step_value later around (Some step) s = value later around step s
 
--- what follows a statement, where it did not return or jump
+-- the run after a statement that did not return or jump
 abbrev pub going_on : Flow → (State → Outcome Flow) → State → Outcome Flow
 going_on Onward go s = go s
 going_on flow go s = Gave flow s
 
 -- After the body of an iterative DO the step is evaluated, and the variable read again and changed by it. The
--- loop ends where the sum exceeds the type of the variable.
+-- loop ends if the sum exceeds the type of the variable.
 abbrev pub next_turn : Later → Surroundings → TypedIteration → TypedList → (sum : ℕ) → State → Outcome Flow
 next_turn later around head body sum s =
     if nat_lt sum (values_of head.scalar) then later.again (IterateTurn head body) around s else Gave Onward s
@@ -244,7 +244,7 @@ iterated later around head body body_done s =
     else taking_one u (λ v. then_do (body_done v) (stepped later around head body))))
 
 abbrev mutual
-  -- what a statement does
+  -- the meaning of a statement
   pub done : Later → Surroundings → TypedStatement → State → Outcome Flow
   done later around (LabelStatement label) s = Gave Onward s
   done later around NullStatement s = Gave Onward s
@@ -288,7 +288,7 @@ abbrev mutual
   done_else later around NoElse s = Gave Onward s
   done_else later around (ElseStatement statement) s = done later around statement s
 
-  -- the statement of a number, counted from 0, or nothing where there is none
+  -- the statement of a number, counted from 0; nothing is done if there are not enough statements
   pub done_case : Later → Surroundings → TypedStatements → ℕ → State → Outcome Flow
   done_case later around NoStatements number s = Gave Onward s
   done_case later around (MoreStatements first others) zero s = done later around first s
@@ -312,7 +312,7 @@ turn_of later (WhileTurn condition body) around s = done later around (WhileStat
 turn_of later (IterateTurn head body) around s =
     iterated later around head body (done_list later around body) s
 
--- the rest of a list, a jump out of which may go on in the list
+-- the rest of a list, where a jump out of it may go on in the list
 abbrev pub rest_of : Later → TypedList → TypedStatements → Surroundings → State → Outcome Flow
 rest_of later list rest around s = then_do (done_all later around rest s) (caught_in later around list)
 
@@ -350,7 +350,7 @@ entered later typed number procedure arguments around s =
     then_do (done_list later around procedure.body t)
     (λ flow u. Gave (value_of_flow flow) (record u { frame = s.frame })))
 
--- takes the charge from the room, or goes outside where there is less
+-- takes the charge from the room, or goes outside if the room is less
 abbrev pub charged : {A : Type 0} → (charge : ℕ) → Surroundings → State → (Surroundings → State → Outcome A) → Outcome A
 charged charge around s go =
     if nat_lt around.room charge then Stopped (Outside Stack) s
@@ -383,7 +383,7 @@ nothing_later = record {
   onto = λ list rest around s. Stopped More s;
 }
 
--- so many calls, turns and jumps within each other
+-- `count` calls, turns and jumps within each other
 abbrev pub later_by : ℕ → Later
 later_by zero = nothing_later
 later_by (suc count) = record {

@@ -11,9 +11,9 @@ pub record Program : Type 0 where
   pub placement : Placement
   pub script : List (List ℕ)
 
--- What a run changes: the memory; the frame of the call that runs, which has the bytes of its variables and
--- parameters by the numbers of their objects, and no bytes for an object that is not in it; the events so far;
--- and how many more turns of loops, jumps and calls it may take.
+-- What a run changes: the memory; the frame of the call that runs; the events so far; and how many more turns of
+-- loops, jumps and calls it may take. The frame has the bytes of its variables and parameters by the numbers of their
+-- objects, and no bytes for an object that is not in it.
 pub record State : Type 0 where
   pub memory : List ℕ
   pub frame : List (List ℕ)
@@ -32,12 +32,12 @@ pub data Outcome (A : Type 0) : Type 0 where
   Gave : A → State → Outcome A
   Stopped : Stop → State → Outcome A
 
--- goes on with what a part gave, where the run did not stop
+-- goes on with the value of a part, if the run did not stop
 abbrev pub then_do : {A B : Type 0} → Outcome A → (A → State → Outcome B) → Outcome B
 then_do (Gave found s) go = go found s
 then_do (Stopped why s) go = Stopped why s
 
--- takes one of the budget, or stops where nothing is left
+-- takes one of the budget, or stops if the budget is 0
 abbrev pub taking_one : {A : Type 0} → State → (State → Outcome A) → Outcome A
 taking_one s go = if s.budget == 0 then Stopped More s else go (record s { budget = s.budget - 1 })
 

@@ -1,4 +1,4 @@
--- What operators and built-in functions give (PL/M-80 Programming Manual, "Expressions and assignments" and
+-- The results of operators and built-in functions (PL/M-80 Programming Manual, "Expressions and assignments" and
 -- "Built-in procedures"). All values are numbers from 0 on.
 use Rattle.std.specs.Prelude.{ℕ, ◌+◌, ◌-◌, ◌*◌, ◌/◌, ◌%◌, ◌^◌, ◌==◌, Bool, not, nat_le, nat_lt, Option, Some, None, if◌then◌else◌, bit_and, bit_or, bit_xor}
 use Rattle.trees.specs.declared.declaration.ScalarType.{ScalarType}
@@ -21,15 +21,15 @@ values_of Address = 65536
 abbrev pub as_type : ScalarType → ℕ → ℕ
 as_type scalar number = number % values_of scalar
 
--- a condition is true where its lowest bit is 1
+-- a condition is true if its lowest bit is 1
 abbrev pub is_true : ℕ → Bool
 is_true number = number % 2 == 1
 
--- what a comparison gives
+-- the result of a comparison
 abbrev pub truth : Bool → ℕ
 truth holds = if holds then 255 else 0
 
--- what an operator gives of operands of a type, or None: there is no quotient and no remainder by 0
+-- the result of an operator on operands of a type, or None: there is no quotient and no remainder by 0
 abbrev pub result_of : ScalarType → BinaryOperator → (left right : ℕ) → Option ℕ
 result_of operands Or left right = Some (bit_or left right)
 result_of operands Xor left right = Some (bit_xor left right)

@@ -59,7 +59,7 @@ pub fn unary_function(function: UnaryFunction, operand: u16) -> u16
     }
 }
 
-/// What an operator gives of operands of a type, or `None`: there is no quotient and no remainder by 0.
+/// The result of an operator on operands of a type, or `None`: there is no quotient and no remainder by 0.
 #[inline(always)]
 pub fn binary(operands: ScalarType, operator: BinaryOperator, left: u16, right: u16) -> Option<u16>
     ensures { result ≡ result_of operands operator left right }
@@ -82,7 +82,7 @@ pub fn binary(operands: ScalarType, operator: BinaryOperator, left: u16, right: 
     }
 }
 
-// What a comparison gives.
+// The result of a comparison.
 #[inline(always)]
 fn truth(holds: bool) -> u16
     ensures { result ≡ truth holds }

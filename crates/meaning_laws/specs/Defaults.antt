@@ -19,12 +19,12 @@ use Rattle.meaning_laws.specs.Meant.{GivesBytes, GivesInMemory, GivesSoMany, Has
 use Rattle.meaning_laws.specs.Named.{NamesAreMeant}
 use Rattle.meaning_laws.specs.Places.{LocationsLie, ObjectsLie}
 
--- statements of which a label is the first
+-- statements that begin with a label
 abbrev pub BeginsWith : (label : ℕ) → TypedStatements → Type 0
 BeginsWith label (MoreStatements (LabelStatement other) others) = other ≡ label
 BeginsWith label _ = ⊥
 
--- What goes on in a body leaves as many bytes in memory, and in its frame for each object, as it began with: the
+-- Each part of a body leaves as many bytes in memory, and in its frame for each object, as it began with: the
 -- bytes themselves may change. It leaves no more of the budget, and a jump took one of that.
 pub record KeepsBytes (around : Surroundings) (typed : TypedModule) (within : Within) (number : ℕ) (s : State)
     : Type 0 where
@@ -43,8 +43,8 @@ pub record KeepsBytes (around : Surroundings) (typed : TypedModule) (within : Wi
   pub parameters : (scalars : List ScalarType) (parameters arguments : List ℕ)
       → LeavesBytes typed within s (parameters_set around scalars parameters arguments s)
 
--- Where there are as many bytes, those are among them that the body reads and changes: of scalars, of what objects
--- are BASED on, and of the variables of iterative DOs. (Those that MOVE reads and changes are bytes of memory.)
+-- If there are as many bytes, they include those that the body reads and changes: of scalars, of the bases of
+-- objects, and of the variables of iterative DOs. (Those that MOVE reads and changes are bytes of memory.)
 pub record FindsBytes (around : Surroundings) (typed : TypedModule) (within : Within) (number : ℕ) (s : State)
     : Type 0 where
   pub scalar : (scalar : ScalarType) (reference : TypedReference) → RefersToScalar typed within scalar reference
@@ -55,8 +55,8 @@ pub record FindsBytes (around : Surroundings) (typed : TypedModule) (within : Wi
   pub counter : (head : TypedIteration) → Counts typed within head
       → IsThere (size_of_scalar head.scalar) (place_of around head.variable) s
 
--- What a program has before it runs is all there when a run begins: each module has a placement, with an address for
--- each of its objects and constant lists, and of INITIAL, DATA and these lists each byte is in memory where it lies.
+-- All that a program has before it runs is there when a run begins. Each module has a placement, with an address for
+-- each of its objects and constant lists. Each byte of INITIAL, DATA and these lists is in memory where it lies.
 pub record BeginsWithAll (program : Program) : Type 0 where
   pub for_each_module : length program.placement.modules ≡ length program.modules
   pub complete : All HasAddresses (zip program.modules program.placement.modules)
@@ -68,10 +68,10 @@ pub record BeginsWithAll (program : Program) : Type 0 where
 
 -- in a module, which is carried out in these surroundings
 pub record TakesNoDefaultIn (around : Surroundings) (typed : TypedModule) : Type 0 where
-  -- What other fields ask of references and of the variables of iterative DOs is true of those in its bodies. `returned`:
+  -- The premises of other fields on references and on the variables of iterative DOs hold of those in its bodies. `returned`:
   -- a RETURN without a value in a procedure that has a result, or with one in another.
   pub types : IsWellTyped typed
-  -- and what they ask of lists is true of those in its bodies
+  -- and their premises on lists hold of those in its bodies
   pub jumps : JumpsAreSound typed
   -- `home_in`, `home_of`, `place_in`: no such object, or one that is nowhere; `address_of`,
   -- `address_of_object`, `address_in`, `address_of_list`: no number where its address stands; `callee_in`,
@@ -83,7 +83,7 @@ pub record TakesNoDefaultIn (around : Surroundings) (typed : TypedModule) : Type
   -- `address_of_object` of what INITIAL and DATA locate, with which `source_run` begins: no such object, or one
   -- that has no place
   pub locations : LocationsLie around.program around.number_of_module typed
-  -- `address_in_memory`: the address of what lies in a frame
+  -- `address_in_memory`: the address of a place in a frame
   pub addresses : (later : Later) (within : Within) (reference : TypedReference) (s : State)
       → RefersToLocation typed within reference → GivesInMemory (located later around reference s)
   -- `parameters_set`: more or fewer values than arguments, for which there are as many parameters by `named`
@@ -95,9 +95,9 @@ pub record TakesNoDefaultIn (around : Surroundings) (typed : TypedModule) : Type
       → Leaves LeavesProcedure (done_list (later_by count) around procedure.body s)
   -- `run_of`: a main program that is left by a jump or a RETURN
   pub main_left : (count : ℕ) (s : State) → Leaves LeavesMain (done_list (later_by count) around typed.main.body s)
-  -- `frame_bytes`, `read_byte`, `write_byte`: no such byte of memory or of the frame. A main program begins with as
-  -- many as there are to be, and so does what is called, those of its parameters among them; there are as many after
-  -- each part of a run; and what is read or changed is among them. `main_done` begins with a budget that is below
+  -- `frame_bytes`, `read_byte`, `write_byte`: no such byte of memory or of the frame. A main program begins with all
+  -- bytes, and so does a called procedure, those of its parameters among them; there are as many after
+  -- each part of a run; and each byte that is read or changed is among them. `main_done` begins with a budget below
   -- the number of `later_by`, and it stays below it.
   pub main_begins : (given : List ℕ) (s : State) → length given ≡ MEMORY_SIZE
       → s.memory ≡ starting_memory around.program.modules around.program.placement given
@@ -114,9 +114,9 @@ pub record TakesNoDefaultIn (around : Surroundings) (typed : TypedModule) : Type
   pub there : (within : Within) (number : ℕ) (s : State) → s.budget < number → HasBytes typed within s
       → FindsBytes around typed within number s
 
--- In a program: law `takes_no_default` says it of one that is joined of soundly typed modules and lies lawfully, and in
--- which PUBLIC objects and what INITIAL and DATA locate have places; law `built_takes_no_default` of `built_laws` says
--- it of each program that is built of texts.
+-- In a program. Law `takes_no_default` says it of one that is joined of soundly typed modules and lies lawfully, and in
+-- which PUBLIC objects and those that INITIAL and DATA locate have places. Law `built_takes_no_default` of `built_laws`
+-- says it of each program that is built of texts.
 --
 -- That values are of their types is not said here. Of one that is above its type `result_of` and `result_of_one` take a
 -- difference that stops at 0. Where numbers are words, and the bytes of memory and of the queues of the script are below

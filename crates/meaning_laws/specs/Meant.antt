@@ -1,5 +1,5 @@
--- What there is for the names and the places of a program, for which the meaning has cases where they are not
--- there: modules, objects, bases, constant lists, callees, parameters, and bytes of memory and of frames. How
+-- The existence of what the names and places of a program stand for. The meaning has cases for those that do not
+-- exist: modules, objects, bases, constant lists, callees, parameters, and bytes of memory and of frames. How
 -- bodies are left, and which bytes change.
 use Rattle.std.specs.Prelude.{◌≡◌, ◌≢◌, ℕ, ◌+◌, ◌<◌, ◌≤◌, true, List, [], ◌∷◌, length, All, Option, Some, IsSomeAnd, find, slice_get}
 use Rattle.mem80.specs.declared.memory.TheConstants.{MEMORY_SIZE}
@@ -34,14 +34,14 @@ HasAddress Nowhere = ⊥
 HasAddress home = Unit {0}
 
 -- The placement has a number where the address of an object of a program stands. It has one for each object,
--- also for one that is BASED, in a frame or nowhere, of which that number says nothing: that an object has a
+-- also for one that is BASED, in a frame or nowhere, where that number says nothing: that an object has a
 -- place is what `HasDeclaredBytes` says.
 abbrev pub IsPlaced : Placement → InProgram → Type 0
 IsPlaced placement at =
     IsSomeAnd (slice_get placement.modules at.number_of_module)
     (λ (placed : ModulePlacement). at.number < length placed.objects)
 
--- an object of a module stands for one, of this or another module, of which the placement has a number
+-- an object of a module stands for one, of this or another module, that has a number in the placement
 abbrev pub ObjectIsMeant : Program → (number_of_module : ℕ) → TypedModule → (object : ℕ) → Type 0
 ObjectIsMeant program number_of_module typed object =
     IsSomeAnd (meant_in program.modules number_of_module object typed) (IsPlaced program.placement)
@@ -82,7 +82,7 @@ ReferenceIsMeant program number typed within (PartOf object _ member offset _) =
     IsSomeAnd (slice_get typed.objects object)
     (λ (found : TypedObject). IsNamed program number typed within object found.home)
 
--- What is called by a heading: a procedure of the module and the number that are said, which is not EXTERNAL,
+-- What is called by a heading: a procedure of the module and the number that are given, which is not EXTERNAL. It
 -- has the same result and types of parameters, and an object for each parameter: a scalar of its type, in the
 -- frame or among the variables of the module.
 pub record IsCallee (modules : List TypedModule) (heading : TypedProcedure) (at : InProgram)
@@ -96,15 +96,15 @@ pub record IsCallee (modules : List TypedModule) (heading : TypedProcedure) (at 
       (home_of_parameters at.number procedure.is_reentrant procedure.visibility) procedure.parameter_types
       procedure.parameters
 
--- what a call of a procedure of a module stands for is there, as its heading says
+-- the procedure that a call in a module stands for is there, as its heading says
 abbrev pub CalleeIsMeant : Surroundings → (procedure : ℕ) → (heading : TypedProcedure) → Type 0
 CalleeIsMeant around procedure heading =
     IsSomeAnd (callee_in around procedure)
     (λ (at : InProgram). IsSomeAnd (procedure_at around.program.modules at)
     (λ (found : TypedModule × TypedProcedure). IsCallee around.program.modules heading at found.0 found.1))
 
--- what a part of a module calls for a result with arguments is there: a heading with this result and parameters
--- of the types of the arguments, and what it stands for
+-- a call in a part of a module, for a result and with arguments, is there: a heading with this result and parameters
+-- of the types of the arguments, and the procedure that it stands for
 abbrev pub CallIsMeant :
     Surroundings → TypedModule → (procedure : ℕ) → Option ScalarType → TypedArguments → Type 0
 CallIsMeant around typed procedure result arguments =
@@ -112,7 +112,7 @@ CallIsMeant around typed procedure result arguments =
     (λ (heading : TypedProcedure). (heading.result ≡ result) × (heading.parameter_types ≡ types_of arguments)
     × CalleeIsMeant around procedure heading)
 
--- as many values are given
+-- `count` values are given
 abbrev pub GivesSoMany : ℕ → Outcome (List ℕ) → Type 0
 GivesSoMany count (Gave found t) = length found ≡ count
 GivesSoMany count (Stopped why t) = Unit {0}
@@ -122,7 +122,7 @@ abbrev pub IsInMemory : Place → Type 0
 IsInMemory (InMemory address) = Unit {0}
 IsInMemory (InTheFrame object offset is_inside) = ⊥
 
--- what is given is in memory
+-- the given place is in memory
 abbrev pub GivesInMemory : Outcome Place → Type 0
 GivesInMemory (Gave place t) = IsInMemory place
 GivesInMemory (Stopped why t) = Unit {0}
@@ -145,8 +145,8 @@ abbrev pub JumpTakesOne : State → Outcome Flow → Type 0
 JumpTakesOne s (Gave (Jumped label) t) = t.budget < s.budget
 JumpTakesOne s outcome = Unit {0}
 
--- So many bytes from a place on are there in a state: in memory all addresses are, and in a frame, where each
--- subscript is below its dimension, so many bytes of the object are.
+-- Bytes from a place on are there in a state, `size` of them: in memory all addresses are, and in a frame, where
+-- each subscript is below its dimension, `size` bytes of the object are.
 abbrev pub IsThere : (size : ℕ) → Place → State → Type 0
 IsThere size (InMemory address) s = (address < MEMORY_SIZE) × (length s.memory ≡ MEMORY_SIZE)
 IsThere size (InTheFrame object offset is_inside) s =
@@ -160,12 +160,12 @@ ParametersAreThere around (scalar ∷ scalars) (parameter ∷ parameters) s =
 ParametersAreThere around [] [] s = Unit {0}
 ParametersAreThere around scalars parameters s = ⊥
 
--- the place that is given has so many bytes in the state that is left
+-- the given place has `size` bytes in the state after it
 abbrev pub GivesBytes : (size : ℕ) → Outcome Place → Type 0
 GivesBytes size (Gave place t) = IsThere size place t
 GivesBytes size (Stopped why t) = Unit {0}
 
--- what is given leaves this frame
+-- after a given value the frame is this one
 abbrev pub LeavesFrame : List (List ℕ) → Outcome ℕ → Type 0
 LeavesFrame frame (Gave found t) = t.frame ≡ frame
 LeavesFrame frame (Stopped why t) = Unit {0}
@@ -180,7 +180,7 @@ abbrev pub LeavesMain : Flow → Type 0
 LeavesMain Onward = Unit {0}
 LeavesMain flow = ⊥
 
--- how an outcome leaves what it is of
+-- an outcome with a flow leaves so
 abbrev pub Leaves : (Flow → Type 0) → Outcome Flow → Type 0
 Leaves by (Gave flow t) = by flow
 Leaves by (Stopped why t) = Unit {0}

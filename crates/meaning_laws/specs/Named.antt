@@ -1,6 +1,6 @@
--- What the statements and expressions of a module name is there in a program: each object of a reference, and
--- the object that it is BASED on, each variable of an iterative DO, each constant list, and what each call
--- stands for.
+-- The parts of a program that the statements and expressions of a module name are there: the objects of references
+-- and their bases, the variables of iterative DOs, the constant lists, and the procedures that calls stand
+-- for.
 use Rattle.std.specs.Prelude.{ℕ, List, [], ◌∷◌, IfSome, All, Some, None}
 use Rattle.std.specs.List.{enumerate_from}
 use Rattle.typed_trees.specs.TypedTrees.{TypedExpression, NumberNode, ValueNode, LocationNode, ListNode, ConversionNode, AssignmentNode, UnaryNode, BinaryNode, CallNode, FunctionNode, ShiftNode, InputNode, TypedReference, PartOf, Subscript, NoSubscript, At, TypedTarget, StoredIn, SentTo, TypedArguments, NoArguments, MoreArguments, TypedIteration, TypedStatement, LabelStatement, NullStatement, AssignmentStatement, CallStatement, MoveStatement, ReturnStatement, HaltStatement, GotoStatement, IfStatement, DoStatement, WhileStatement, IterateStatement, CaseStatement, TypedElse, NoElse, ElseStatement, TypedStatements, NoStatements, MoreStatements, TypedList, ListOf, TypedProcedure, TypedModule}

@@ -27,7 +27,7 @@ LocatesObject objects (LocationValue object offset) =
     IsSomeAnd (slice_get objects object) (λ (found : TypedObject). HasAddress found.home)
 LocatesObject objects value = Unit {0}
 
--- so it is with each value of an object
+-- the same for each value of an object
 abbrev pub LocatesObjects : (objects : List TypedObject) → TypedObject → Type 0
 LocatesObjects objects object = All (LocatesObject objects) (values_in object.home)
 

@@ -1,4 +1,4 @@
--- How much tree code weighs, counted on its nodes, and how many bytes its code segment has at most.
+-- The weight of tree code, counted on its nodes, and the greatest size of its code segment.
 use Rattle.std.specs.Prelude.{ℕ, zero, suc, ◌+◌, ◌*◌, List, drop, length, slice_get, sum_by, take}
 use Rattle.std.specs.Option.{option_map_or}
 use Rattle.typed_trees.specs.declared.limits.TheConstants.{CODE_BYTES, CODE_BYTES_FOR_WEIGHT}
@@ -26,7 +26,7 @@ abbrev pub weight_of_arguments : Nodes → Range → ℕ
 weight_of_arguments nodes arguments =
     weight_of_given (beside_at nodes) nodes.arguments arguments.first arguments.count
 
--- a target weighs 1, its subscripts, and 1 more where it converts
+-- a target weighs 1, its subscripts, and 1 more if it converts
 abbrev pub weight_of_target : Nodes → Target → ℕ
 weight_of_target nodes target = 1 + weight_in_target (beside_at nodes) target
 
@@ -41,12 +41,12 @@ weight_of_iteration nodes head =
     + weight_of_expression nodes head.first + weight_of_expression nodes head.last
     + option_map_or (weight_of_expression nodes) head.step 0
 
--- the statements of a list, where this is what those of numbers weigh
+-- the statements of a list, from the weights of statements by number
 abbrev pub weight_of_range : (weight : ℕ → ℕ) → Nodes → Range → ℕ
 weight_of_range weight nodes range =
     weight_of_entries (λ (number : StatementNumber). weight number.index) nodes.lists range
 
--- each statement weighs 1, but for labels, and what its parts weigh
+-- each statement except a label weighs 1 and the weight of its parts
 abbrev pub weight_of_statement : (weight : ℕ → ℕ) → Nodes → Statement → ℕ
 weight_of_statement weight nodes (statements.Label label) = 0
 weight_of_statement weight nodes statements.Null = 1
@@ -72,14 +72,14 @@ weight_of_statement weight nodes (statements.Iterate head body) =
 weight_of_statement weight nodes (statements.Case choice body) =
     1 + weight_of_expression nodes choice + weight_of_range weight nodes body
 
--- the statement of a number, where each part has a lower number and there are so many levels
+-- the statement with this number, with each part at a lower number and at most `levels` levels
 abbrev pub weight_within : Nodes → (levels number : ℕ) → ℕ
 weight_within nodes zero number = 0
 weight_within nodes (suc levels) number =
     option_map_or (weight_of_statement (weight_within nodes levels) nodes)
     (slice_get nodes.statements number) 0
 
--- The statements of a body: there are no more levels than statements.
+-- The statements of a body: there are at most as many levels as statements.
 abbrev pub weight_of_body : Nodes → Range → ℕ
 weight_of_body nodes body = weight_of_range (weight_within nodes (length nodes.statements)) nodes body
 
@@ -88,13 +88,13 @@ abbrev pub weight_of_procedure : Nodes → TreeProcedure → ℕ
 weight_of_procedure nodes procedure =
     1 + length procedure.parameters.items + weight_of_body nodes procedure.body
 
--- the main program is no procedure
+-- the main program does not count as a procedure
 unfoldable pub weight_of_tree : TreeModule → ℕ
 weight_of_tree tree =
     sum_by (weight_of_procedure (nodes_of tree)) tree.procedures.items
     + weight_of_body (nodes_of tree) tree.main.body
 
--- how many bytes the constants take
+-- the size of the constants in bytes
 abbrev pub size_of_content : Content → ℕ
 size_of_content (contents.Byte value) = 1
 size_of_content (contents.Word place) = 2

@@ -1,4 +1,4 @@
--- How many bytes code pushes: a count along its items alone.
+-- The number of bytes that code pushes, counted on its items alone.
 use Rattle.std.specs.Prelude.{◌≡◌, ℕ, ◌+◌, ◌-◌, ◌*◌, ◌≤◌, Bool, true, false, List, [], ◌∷◌, ◌++◌, length, slice_get}
 use Rattle.std.specs.Option.{option_map_or}
 use Rattle.typed_trees.specs.declared.limits.TheConstants.{FRAME_LIMIT}
@@ -18,7 +18,7 @@ use Rattle.treecode.specs.declared.procedure.TreeProcedure.{TreeProcedure}
 use Rattle.steps8080.specs.Writer.{jump_item}
 use Rattle.exprgen8080.specs.Emission.{module_call_items, module_label_of_routine}
 
--- an instruction that leaves the stack pointer as it is, and after which the next one comes
+-- an instruction that does not change the stack pointer, and continues with the next instruction
 abbrev pub keeps_stack : Instr → Bool
 keeps_stack (instructions.Lxi Sp word) = false
 keeps_stack (instructions.Inx Sp) = false
@@ -37,7 +37,7 @@ keeps_stack instructions.Pchl = false
 keeps_stack instructions.Sphl = false
 keeps_stack instruction = true
 
--- one with a word that does so, whatever the word is
+-- the same for an instruction with a word, whatever the word is
 abbrev pub keeps_stack_with : WordForm → Bool
 keeps_stack_with (forms.LoadPair Sp) = false
 keeps_stack_with forms.Jump = false
@@ -46,15 +46,16 @@ keeps_stack_with forms.CallTo = false
 keeps_stack_with (forms.CallWhere condition) = false
 keeps_stack_with form = true
 
--- the bytes of arguments that a procedure of a module takes from the stack: a word for each but the last
+-- the bytes of arguments that a procedure of a module pops: a word for each but the last
 abbrev pub taken_by : TreeModule → (procedure : ℕ) → ℕ
 taken_by tree procedure =
     option_map_or (λ (found : TreeProcedure). 2 * (length found.parameters.items - 1))
     (slice_get tree.procedures.items procedure) 0
 
--- Items of a module that find room on the stack: so many bytes are free before them, and so many after them. PUSH
--- takes two bytes, and a call two for its return address while it lasts. Jumps are made, and labels are met, where as
--- many bytes are free as at a level, or more; what follows a label, or what no instruction leads on to, begins there.
+-- Items of a module that find room on the stack, with `free` bytes free before them and `after` bytes after
+-- them. PUSH takes two bytes, and a call takes two for its return address while it lasts. Jumps and labels
+-- need at least `level` free bytes. After a label, and at code that no instruction continues to, `level`
+-- bytes count as free.
 pub data FindsRoom (tree : TreeModule) (level : ℕ) :
     (free : ℕ) → List Item → (after : ℕ) → Type 0 where
   NothingThere : {free : ℕ} → FindsRoom tree level free [] free
@@ -74,8 +75,8 @@ pub data FindsRoom (tree : TreeModule) (level : ℕ) :
       → FindsRoom tree level free others after
       → FindsRoom tree level free
       (jump_item forms.CallTo (module_label_of_routine tree routine) ∷ others) after
-  -- a return takes away what its call has on the stack; where it does so by a sum, that is at most the bytes of a
-  -- frame and of a parameter
+  -- a return drops what its call has on the stack; if it does so by an addition, that is at most the bytes of
+  -- a frame and of a parameter
   ByteDropped : {free after : ℕ} {others : List Item}
       → FindsRoom tree level (free + 1) others after
       → FindsRoom tree level free (Plain (instructions.Inx Sp) ∷ others) after
@@ -118,7 +119,7 @@ pub data FindsRoom (tree : TreeModule) (level : ℕ) :
       → FindsRoom tree level level others after
       → FindsRoom tree level free (Mark label ∷ others) after
 
--- Code pushes at most so many bytes: where these are free at its start, it finds room, with all of them free where it
--- jumps, at its labels, and at its end.
+-- Code pushes at most `bytes` bytes: if these are free at its start, it finds room, with all of them free at
+-- its jumps, at its labels, and at its end.
 abbrev pub PushesAtMost : TreeModule → (bytes : ℕ) → List Item → Type 0
 PushesAtMost tree bytes list = FindsRoom tree bytes bytes list bytes

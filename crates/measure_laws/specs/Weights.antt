@@ -1,4 +1,4 @@
--- What the nodes of tree code weigh beside the 1 that each expression does.
+-- The weights of the nodes of tree code, beside the 1 for each expression.
 use Rattle.std.specs.Prelude.{ℕ, zero, suc, ◌+◌, List, Option, Some, None, slice_get}
 use Rattle.std.specs.Option.{option_map_or}
 use Rattle.trees.specs.declared.declaration.ScalarType.TheVariants as scalars
@@ -13,7 +13,7 @@ use Rattle.treecode.specs.declared.reference.Target.{Target}
 use Rattle.treecode.specs.declared.reference.Target.TheVariants as targets
 use Rattle.treecode.specs.Nodes.{Nodes}
 
--- what the subscripts of a reference weigh, where this is what expressions weigh beside 1
+-- the weight of the subscripts of a reference, from the weights of expressions beside 1
 abbrev pub weight_of_index : (beside : ℕ → ℕ) → Option Subscript → ℕ
 weight_of_index beside None = 0
 weight_of_index beside (Some subscript) = 1 + beside subscript.index.index
@@ -22,20 +22,20 @@ abbrev pub weight_of_indices : (beside : ℕ → ℕ) → Reference → ℕ
 weight_of_indices beside reference =
     weight_of_index beside reference.subscript + weight_of_index beside reference.member_subscript
 
--- what a target weighs beside 1
+-- the weight of a target beside 1
 abbrev pub weight_in_target : (beside : ℕ → ℕ) → Target → ℕ
 weight_in_target beside (targets.Stored from to reference) =
     weight_of_storing from to + weight_of_indices beside reference
 weight_in_target beside (targets.Sent from port) = weight_of_storing from scalars.Byte
 
--- what so many arguments weigh from one on
+-- the weight of `count` arguments, from a first one on
 abbrev pub weight_of_given : (beside : ℕ → ℕ) → List ExpressionNumber → (first count : ℕ) → ℕ
 weight_of_given beside table first zero = 0
 weight_of_given beside table first (suc count) =
     option_map_or (λ (number : ExpressionNumber). 1 + beside number.index) (slice_get table first) 0
     + weight_of_given beside table (suc first) count
 
--- what a form weighs beside 1
+-- the weight of a form beside 1
 abbrev pub weight_in_form : (beside : ℕ → ℕ) → List ExpressionNumber → ExpressionForm → ℕ
 weight_in_form beside table (forms.Number number) = 0
 weight_in_form beside table (forms.Value reference) = weight_of_indices beside reference
@@ -53,7 +53,8 @@ weight_in_form beside table (forms.Function function operand) = 1 + beside opera
 weight_in_form beside table (forms.Shift function value count) = 2 + beside value.index + beside count.index
 weight_in_form beside table (forms.Input port) = 1
 
--- what the expression of a number weighs beside 1, where each part has a lower number and there are so many levels
+-- the weight beside 1 of the expression with this number, with each part at a lower number and at most
+-- `levels` levels
 abbrev pub beside_within : Nodes → (levels number : ℕ) → ℕ
 beside_within nodes zero number = 0
 beside_within nodes (suc levels) number =

@@ -1,4 +1,4 @@
--- What only proofs cite.
+-- Definitions that only proofs cite.
 pub mod Sizes
 pub mod Parts
 pub mod Going

@@ -1,4 +1,4 @@
--- What the uses of names in a module are bound to, and what is wrong with names.
+-- The bindings of the uses of names in a module, and the faults of names.
 use Rattle.std.specs.Prelude.{◌≡◌, true, false, List, [], ◌∷◌, Option, Some, None}
 use Rattle.std.specs.Option.{option_or}
 use Rattle.trees.specs.Trees.{ModuleTree}
@@ -7,7 +7,7 @@ use Rattle.names.specs.declared.fault.Fault.{Fault}
 use Rattle.names.specs.declared.fault.Fault.TheVariants.{Unknown, DeclaredTwice}
 use Rattle.names.specs.Events.{Event, Use, Declaration, events_of}
 
--- what the uses among events are bound to, in the order of the text
+-- the bindings of the uses among events, in the order of the text
 abbrev pub bindings_of : List Event → List Binding
 bindings_of [] = []
 bindings_of (Use name (Some binding) ∷ others) = binding ∷ bindings_of others
@@ -31,6 +31,6 @@ pub record IsBinding (tree : ModuleTree) (bindings : List Binding) : Type 0 wher
   pub faultless : first_fault (events_of tree) ≡ None
   pub bound : bindings ≡ bindings_of (events_of tree)
 
--- what is wrong first in the text of a module
+-- the first fault in the text of a module
 abbrev pub IsFirstFault : ModuleTree → Fault → Type 0
 IsFirstFault tree fault = first_fault (events_of tree) ≡ Some fault

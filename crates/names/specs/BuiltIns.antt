@@ -25,6 +25,6 @@ abbrev pub binding_of : Here → List ℕ → Option Binding
 binding_of here name =
     option_or (option_map Declared (entity_of here name)) (option_map BuiltInName (built_in_of name))
 
--- what the name after GOTO is bound to
+-- the binding of the name after GOTO
 abbrev pub jump_of : Here → List ℕ → Binding
 jump_of here name = option_map_or Declared (label_of here name) UnknownLabel

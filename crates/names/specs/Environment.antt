@@ -10,11 +10,11 @@ use Rattle.trees.specs.declared.identifier.Identifier.{Identifier}
 use Rattle.names.specs.declared.entity.Entity.{Entity}
 use Rattle.names.specs.declared.entity.Entity.TheVariants.{Object, Procedure, Label, Definition}
 
--- names with what they stand for
+-- names with their entities
 abbrev pub Names : Type 0
 Names = List (List ℕ × Entity)
 
--- what a name stands for in the first of these that has it
+-- the entity of a name in the first of these that has it
 abbrev pub known_in : List Names → List ℕ → Option Entity
 known_in [] name = None
 known_in (names ∷ others) name = option_or (lookup (bytes_eq name) names) (known_in others name)
@@ -26,9 +26,9 @@ is_among names name = list_any (bytes_eq name) names
 -- What a text has declared so far in one body, that of a module or of a procedure. The blocks around a place are the
 -- body itself and its simple DOs.
 pub record Body : Type 0 where
-  -- what the innermost block around the place declares
+  -- the names that the innermost block around the place declares
   pub block : Names
-  -- what the blocks around that one declare, the innermost first
+  -- the names that the blocks around that one declare, the innermost first
   pub outer_blocks : List Names
   -- the labels of the lists of statements around the place, the innermost list first
   pub lists : List Names
@@ -58,11 +58,11 @@ at_the_start = record { body = empty_body; outer_bodies = []; objects = 0; proce
 abbrev pub label_of : Here → List ℕ → Option Entity
 label_of here name = known_in here.body.lists name
 
--- what a body declares a name to be: in the innermost block that has it
+-- the entity that a body declares for a name: in the innermost block that has it
 abbrev pub declared_in : Body → List ℕ → Option Entity
 declared_in body name = known_in (body.block ∷ body.outer_blocks) name
 
--- what bodies declare a name to be: in the innermost that has it
+-- the entity that bodies declare for a name: in the innermost that has it
 abbrev pub declared_around : List Body → List ℕ → Option Entity
 declared_around [] name = None
 declared_around (body ∷ outer) name = option_or (declared_in body name) (declared_around outer name)

@@ -1,4 +1,4 @@
--- What a module does with names, in the order of the text: uses, with what they are bound to, and declarations.
+-- The events of names in a module, in the order of the text: uses, with their bindings, and declarations.
 use Rattle.std.specs.Prelude.{ℕ, Bool, Option, Some, List, [], ◌∷◌, ◌++◌, map}
 use Rattle.std.specs.List.{flat_map}
 use Rattle.trees.specs.declared.identifier.Identifier.{Identifier}
@@ -10,7 +10,7 @@ use Rattle.names.specs.Uses.{names_in_expression, names_in_reference, names_in_a
 
 -- one thing that a text does with a name
 pub data Event : Type 0 where
-  -- a use of a name, and what it is bound to, if the name is known there
+  -- a use of a name, and its binding, if the name is known there
   Use : Identifier → Option Binding → Event
   -- a declaration of a name, and whether the name may not be declared there again
   Declaration : Identifier → Bool → Event
@@ -93,7 +93,7 @@ abbrev pub labels_of : StatementTrees → List Identifier
 labels_of NoStatements = []
 labels_of (MoreStatements (LabelledStatement labels kind) others) = labels ++ labels_of others
 
--- what stands in a simple DO, in the body of a procedure, in a list of statements
+-- the inside of a simple DO, of the body of a procedure, of a list of statements
 abbrev pub in_block : (Here → Seen) → Here → Seen
 in_block inside = in_turn (moves into_block) (in_turn inside (moves out_of_block))
 
@@ -155,7 +155,7 @@ abbrev mutual
   see_declarations NoDeclarations = nothing
   see_declarations (MoreDeclarations first others) = in_turn (see_declaration first) (see_declarations others)
 
--- what a block declares and does
+-- the declarations and the statements of a block
 abbrev pub see_block : DeclarationTrees → StatementTrees → Here → Seen
 see_block declared body = in_turn (see_declarations declared) (in_list body (see_statements body))
 

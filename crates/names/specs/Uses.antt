@@ -1,5 +1,5 @@
--- The names that expressions and items use, in the order of the text. Names of members are no uses, and neither are
--- names after END.
+-- The names that expressions and items use, in the order of the text. Names of members and names after END are not
+-- uses.
 use Rattle.std.specs.Prelude.{List, [], ◌∷◌, ◌++◌, Option, Some, None}
 use Rattle.std.specs.List.{flat_map}
 use Rattle.trees.specs.declared.identifier.Identifier.{Identifier}
@@ -42,7 +42,7 @@ names_in_bounds iteration =
 abbrev pub names_in_iteration : IterationTree → List Identifier
 names_in_iteration iteration = iteration.variable ∷ names_in_bounds iteration
 
--- a constant, or the name of what is located
+-- a constant, or the name of the located object
 abbrev pub names_in_origin : OriginTree → List Identifier
 names_in_origin (ConstantOrigin constant) = []
 names_in_origin (LocationOrigin name) = name ∷ []

@@ -123,7 +123,7 @@ impl Binder {
         }
     }
 
-    // Binds the names that an item uses, and declares its own. That one of these is declared twice comes first.
+    // Binds the names that an item uses, and declares its own. A name of its own that is declared twice is refused first.
     fn item(&mut self, item: &Item) -> Result<(), Failure<Fault>>
         ensures { Does result self.new (gives (see_element (ItemElement (item_tree item.now))) self.old) }
     {
@@ -264,7 +264,7 @@ impl Binder {
         self.kind(&statement.kind)
     }
 
-    // Goes through what a statement does.
+    // Goes through a statement, its labels aside.
     #[cycle(walk)]
     fn kind(&mut self, kind: &StatementKind) -> Result<(), Failure<Fault>>
         ensures { Does result self.new (gives (see_kind (kind_tree kind.now)) self.old) }
@@ -377,7 +377,7 @@ impl Binder {
         Ok(())
     }
 
-    // Goes through what a block declares and does.
+    // Goes through the declarations and the statements of a block.
     #[cycle(walk)]
     fn block(&mut self, block: &Block) -> Result<(), Failure<Fault>>
         ensures { Does result self.new
@@ -430,7 +430,7 @@ impl Binder {
         Ok(())
     }
 
-    // Goes through what stands in a procedure.
+    // Goes through the inside of a procedure.
     #[cycle(walk)]
     fn procedure_inside(&mut self, procedure: &Procedure) -> Result<(), Failure<Fault>>
         ensures { Does result self.new (gives (see_body procedure.now) self.old) }

@@ -12,13 +12,13 @@ use std::alloc::Global;
 use trees::Module;
 
 /// A module, and what each use of a name in it is bound to, in the order of the text. Names of members and names after
-/// END are no uses.
+/// END are not uses.
 pub struct Bound {
     pub parsed: Module,
     pub bindings: Vec<Binding>,
 }
 
-/// Binds each use of a name in a module to what it stands for. Refuses a name that is not known where it is used, and one
+/// Binds each use of a name in a module to its entity. Refuses a name that is not known where it is used, and one
 /// that is declared where it may not be declared again, the first of these in the text.
 pub fn bind(alloc: Global, parsed: Module) -> Result<Bound, Failure<Fault>>
     ensures ok { IfOk result (λ bound. IsBinding (module_tree parsed) bound.bindings.items) }
@@ -39,7 +39,7 @@ fn bindings_of(alloc: Global, parsed: &Module) -> Result<Vec<Binding>, Failure<F
     Ok(binder.into_bindings())
 }
 
-// Written out, so that what it holds is let go here, and each crate that lets one go calls this.
+// Written out, so that it is freed here, and each crate that frees one calls this.
 impl Drop for Bound {
     fn drop(self) {
         let Bound {

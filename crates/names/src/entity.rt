@@ -42,6 +42,6 @@ pub enum Binding {
     Declared(Entity),
     /// A built-in procedure.
     BuiltInName(BuiltIn),
-    /// The name after GOTO is no label that is known there.
+    /// The name after GOTO is not a label that is known there.
     UnknownLabel,
 }

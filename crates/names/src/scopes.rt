@@ -168,7 +168,7 @@ impl BodyNames {
     }
 }
 
-// Written out, so that who lets a body's names go calls this.
+// Written out, so that each place that frees a body's names calls this.
 impl Drop for BodyNames {
     fn drop(self) {
         let BodyNames {
@@ -190,7 +190,7 @@ fn declared_twice(name: Identifier) -> Failure<Fault>
     })
 }
 
-// The number after this one. There is no source with so many names, but the numbers end.
+// The next number. No source reaches the greatest one, after which this fails.
 fn next_number(number: u32) -> Result<u32, Failure<Fault>>
     ensures ok { IfOk result (λ next. next ≡ number + 1) }
     ensures err { IfFault result (λ _. ⊥) }
@@ -273,9 +273,9 @@ fn built_in(name: &[u8]) -> Option<BuiltIn>
     }
 }
 
-/// What names stand for at a place of a module, for who goes through its text from the start: each simple DO, each body
-/// of a procedure and each list of statements is opened before what stands in it and closed after it, and each name is
-/// declared where it stands. A call that is refused leaves the scopes for nothing more than to be dropped.
+/// What names stand for at a place of a module. The caller goes through the text from the start. It opens each simple DO,
+/// each body of a procedure and each list of statements where it begins, closes it where it ends, and declares each name
+/// at its place. After a call that is refused, the scopes can only be dropped.
 pub struct Scopes {
     alloc: Global,
     body: BodyNames,
@@ -349,7 +349,7 @@ impl Scopes {
         }
     }
 
-    /// Goes into a list of statements, in the whole of which its labels are known. They get the next numbers.
+    /// Goes into a list of statements, with its labels known in the whole of it. They get the next numbers.
     pub fn open_list(&mut self, statements: &[Statement]) -> Result<(), Failure<Fault>>
         ensures ok { OnOk result
             (self.new ≡ into_list (labels_of (statement_trees statements.now)) self.old) }
@@ -467,7 +467,7 @@ impl Scopes {
     }
 }
 
-// Written out, so that what they hold is let go here, and each crate that lets scopes go calls this.
+// Written out, so that they are freed here, and each crate that frees scopes calls this.
 impl Drop for Scopes {
     fn drop(self) {
         let Scopes {

@@ -16,7 +16,7 @@ use std::alloc::Global;
 use std::marker::Model;
 use trees::Name;
 
-/// Names with what they stand for.
+/// Names with their entities.
 #[derive(Drop)]
 pub(crate) struct Names {
     entries: IndexMap<Name, Entity>,

@@ -1,5 +1,5 @@
--- What the records before a place in an object file tell of it. Of those records, the latest stands first in
--- a list.
+-- What the records before a place in an object file say of the file. A list of those records has the latest one
+-- first.
 use Rattle.std.specs.Prelude.{ℕ, ◌+◌, ◌==◌, Bool, true, false, not, ◌&&◌, ◌||◌, nat_le, if◌then◌else◌, List, [], ◌∷◌, length, map, flat_map, find, take_while, Option, Some, None}
 use Rattle.std.specs.Option.{option_or, option_map_or}
 use Rattle.omf80.specs.declared.kind.RecordKind.{RecordKind}
@@ -16,7 +16,7 @@ is_empty (first ∷ others) = false
 abbrev pub same_segment : Segment → Segment → Bool
 same_segment left right = segment_number left == segment_number right
 
--- Order. A number for each kind of record: none comes after one with a greater number.
+-- Order. A number for each kind of record: no record comes after one with a greater number.
 abbrev pub rank_of : RecordKind → ℕ
 rank_of kinds.Header = 0
 rank_of kinds.ExternalNames = 1
@@ -34,8 +34,8 @@ is_fix_record kinds.Relocation = true
 is_fix_record kinds.IntersegmentReferences = true
 is_fix_record kind = false
 
--- what may come right after a record of a kind: a fix record only where there is a content that it belongs
--- to, and the end of the file only after the end of the module, of which there is one
+-- whether a record may come right after one of a kind: a fix record only if there is a content that it belongs
+-- to, and the end of the file only after the one end of the module
 abbrev pub may_come_after : (latest : RecordKind) → RecordKind → Bool
 may_come_after latest kinds.Header = false
 may_come_after latest kinds.EndOfFile = rank_of latest == 4
@@ -55,7 +55,7 @@ abbrev pub is_ended : (before : List Part) → Bool
 is_ended [] = false
 is_ended (latest ∷ others) = rank_of (kind_of_part latest) == 5
 
--- What the records before tell.
+-- What the records before say.
 abbrev pub entries_of : Part → List SegmentEntry
 entries_of (HeaderPart name translator version entries) = entries
 entries_of part = []

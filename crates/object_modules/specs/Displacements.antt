@@ -54,7 +54,7 @@ linked_from code_before data_before (object ∷ others) =
 abbrev pub linked_modules : List ObjectModule → List Linked
 linked_modules objects = linked_from 0 0 objects
 
--- by how much the offsets of a segment grow; absolute addresses and what is fixed to the stack stay
+-- by how much the offsets of a segment grow; absolute addresses and those fixed to the stack stay
 abbrev pub start_of : Start → Segment → ℕ
 start_of start Absolute = 0
 start_of start Code = start.code
@@ -68,7 +68,7 @@ displacement_in linked segment = start_of linked.start segment
 abbrev pub starts_of : List ObjectModule → List Start
 starts_of objects = map (λ (one : Linked). one.start) (linked_modules objects)
 
--- where the piece of a segment begins of the module of this number
+-- where the piece of a segment of the module with this number begins
 abbrev pub start_in : List Start → (number : ℕ) → Segment → ℕ
 start_in starts number segment = option_map_or (λ start. start_of start segment) (slice_get starts number) 0
 
@@ -92,7 +92,7 @@ abbrev pub public_meant : List Public → ObjectModule → (number : ℕ) → Op
 public_meant publics object number =
     option_and_then (public_named publics) (slice_get object.externals number)
 
--- what a fixed place of a module gains: how far its target moves, or the merged address of the public
+-- the gain of a fixed place of a module: how far its target moves, or the merged address of the public
 abbrev pub gain_in : List Public → Linked → Target → ℕ
 gain_in publics linked (InSegment segment) = displacement_in linked segment
 gain_in publics linked (External number) =

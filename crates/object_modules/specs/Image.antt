@@ -15,7 +15,7 @@ use Rattle.object_modules.specs.Moving.{bytes_resolved, high_targets}
 use Rattle.object_modules.specs.Before.{is_empty}
 use Rattle.object_modules.specs.Merge.{unless_refused}
 
--- where code, data and stack are to begin, and how many bytes the stack has, whatever the module says of that
+-- where code, data and stack begin, and the size of the stack, whatever the module says of that
 pub record Plan : Type 0 where
   pub code_base : ℕ
   pub data_base : ℕ
@@ -26,7 +26,7 @@ pub record Plan : Type 0 where
 pub data PlacementRefusal : Type 0 where
   -- an external name is left
   ExternalLeft : PlacementRefusal
-  -- it is no main module
+  -- it is not a main module
   NoStart : PlacementRefusal
   -- code, data or stack passes the end of memory
   PassesMemory : PlacementRefusal
@@ -34,7 +34,7 @@ pub data PlacementRefusal : Type 0 where
   SegmentsMeet : PlacementRefusal
   -- a page-aligned segment would begin within a page
   PageBroken : PlacementRefusal
-  -- a high byte is fixed to what would begin within a page
+  -- a high byte is fixed to a segment that would begin within a page
   HighByteBroken : PlacementRefusal
 
 abbrev pub range_at : (base size : ℕ) → Range
@@ -52,7 +52,7 @@ placement_number SegmentsMeet = codes "P1"
 placement_number PageBroken = codes "P6"
 placement_number HighByteBroken = codes "P5"
 
--- what the offsets of a segment are counted from; for the stack the address just past it
+-- the origin of the offsets of a segment; for the stack the address just past it
 abbrev pub base_of : Plan → Segment → ℕ
 base_of plan Absolute = 0
 base_of plan Code = plan.code_base
@@ -63,11 +63,11 @@ abbrev pub gain_at : Plan → Target → ℕ
 gain_at plan (InSegment segment) = base_of plan segment
 gain_at plan (External number) = 0
 
--- the bytes of a segment with all fixes done
+-- the bytes of a segment with all fixes applied
 abbrev pub placed_bytes : Plan → ObjectModule → Segment → List (Option ℕ)
 placed_bytes plan object segment = bytes_resolved (gain_at plan) (places_of object segment)
 
--- what bytes from a base on have at an address
+-- the byte at an address, of bytes that are placed from a base on
 abbrev pub at_address : (base : ℕ) → List (Option ℕ) → (address : ℕ) → Option ℕ
 at_address base bytes address =
     if nat_lt address base then None else option_flatten (slice_get bytes (address - base))
@@ -111,7 +111,7 @@ data_range plan object = range_at plan.data_base (length_of object Data)
 abbrev pub passes_memory : Range → Bool
 passes_memory range = nat_lt MEMORY_SIZE (range.start + range.len)
 
--- a segment is page-aligned, and its base is no multiple of 256
+-- a segment is page-aligned, and its base is not a multiple of 256
 abbrev pub breaks_page : Plan → ObjectModule → Segment → Bool
 breaks_page plan object segment =
     is_page (alignment_of object segment) && not (base_of plan segment % 256 == 0)

@@ -1,4 +1,4 @@
--- The merge of modules, or why there is none.
+-- The merge of modules, or the reason for which they can't be merged.
 use Rattle.std.specs.Prelude.{ℕ, ◌+◌, ◌-◌, ◌%◌, ◌==◌, Bool, not, ◌||◌, nat_lt, if◌then◌else◌, List, [], ◌∷◌, ◌++◌, codes, length, map, flat_map, filter_map, find, sum_by, replicate, slice_get, Option, Some, None, option_map, Result, Ok, Err}
 use Rattle.std.specs.List.{list_any}
 use Rattle.std.specs.Option.{option_or, option_map_or}
@@ -13,7 +13,7 @@ use Rattle.object_modules.specs.Displacements.{Linked, code_end, data_end, linke
 
 -- why modules can't be merged
 pub data LinkRefusal : Type 0 where
-  -- a public name stood already: the first one in the order of the modules
+  -- a public name occurs again: the first such name in the order of the modules
   DuplicatePublic : (name : List ℕ) → LinkRefusal
   -- an external name that no module has as a public: the first one
   UnresolvedExternal : (name : List ℕ) → LinkRefusal
@@ -21,7 +21,7 @@ pub data LinkRefusal : Type 0 where
   SegmentTooLong : LinkRefusal
   -- no module is a main module, or several are
   NotOneMain : LinkRefusal
-  -- a high byte is fixed to what moves by no multiple of 256
+  -- a high byte is fixed to a target that moves by a number that is not a multiple of 256
   HighByteMoves : LinkRefusal
 
 -- the number of a refusal
@@ -82,7 +82,7 @@ joined objects linked = record {
   start = option_map (λ (main : List ℕ × ℕ). main.1) (slice_get (main_modules linked) 0);
 }
 
--- the first name that stood before
+-- the first name that occurs again
 abbrev pub repeated_after : (known names : List (List ℕ)) → Option (List ℕ)
 repeated_after known [] = None
 repeated_after known (name ∷ others) =
@@ -92,7 +92,7 @@ abbrev pub public_names : List ObjectModule → List (List ℕ)
 public_names objects =
     flat_map (λ (object : ObjectModule). map (λ (public : Public). public.name) object.publics) objects
 
--- the first external name that is no public
+-- the first external name that is not a public
 abbrev pub unresolved : List ObjectModule → Option (List ℕ)
 unresolved objects =
     find (λ name. not (is_among name (public_names objects)))
@@ -112,7 +112,7 @@ some_segment_is_too_long objects linked =
     is_too_long (last_end code_end linked) || is_too_long (last_end data_end linked)
     || is_too_long (sum_by (λ (object : ObjectModule). object.stack_length) objects)
 
--- a high byte of the module is fixed to what gains no multiple of 256
+-- a high byte of the module is fixed to a target that gains a number that is not a multiple of 256
 abbrev pub some_high_byte_moves : List Public → Linked → Bool
 some_high_byte_moves publics one =
     list_any (λ target. not (gain_in publics one target % 256 == 0)) (high_targets one.object)

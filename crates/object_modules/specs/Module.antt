@@ -120,7 +120,7 @@ may_have_publics Code = true
 may_have_publics Data = true
 may_have_publics Stack = false
 
--- a module with so many external names has this target; the number of one stands in two bytes
+-- a module with `external_count` external names may have this target; the number of a name fits two bytes
 abbrev pub is_target : (external_count : ℕ) → Target → Bool
 is_target external_count (InSegment segment) = is_movable segment
 is_target external_count (External number) = nat_lt number external_count && nat_lt number 65536

@@ -40,7 +40,7 @@ value_moved gain_of before here = by_fixup here.fixup
     by_fixup None = value_after gain_of before here.value
     by_fixup (Some fixup) = first_byte_moved fixup.kind here.value (gain_of fixup.target)
 
--- what a fix stays fixed to, if it does
+-- the target to which a fix stays fixed, if it does
 abbrev pub fixup_moved : (kept : Target → Option Target) → Fixup → Option Fixup
 fixup_moved kept fixup =
     option_map (λ (target : Target). record { kind = fixup.kind; target = target }) (kept fixup.target)
@@ -66,7 +66,7 @@ abbrev pub moved :
     → List (Option SetByte) → List (Option SetByte)
 moved gain_of kept places = moved_after gain_of kept None places
 
--- the bytes of places where targets have these addresses: all fixes are done
+-- the bytes of places where targets have these addresses: all fixes are applied
 abbrev pub bytes_resolved : (address_of : Target → ℕ) → List (Option SetByte) → List (Option ℕ)
 bytes_resolved address_of places =
     map (option_map (λ (here : SetByte). here.value)) (moved address_of (λ target. None) places)
@@ -80,7 +80,7 @@ high_target fixup = by_kind fixup.kind
     by_kind High = Some fixup.target
     by_kind Both = None
 
--- what the high bytes of a module are fixed to
+-- the targets to which the high bytes of a module are fixed
 abbrev pub high_targets : ObjectModule → List Target
 high_targets object = filter_map target_at (places_of object Code ++ places_of object Data)
   where

@@ -31,7 +31,7 @@ pub record Content : Type 0 where
   pub offset : ℕ
   pub bytes : List ℕ
 
--- what a record says; the two bytes after a module's name tell of its translator, and nothing here looks at
+-- the contents of a record; the two bytes after a module's name describe its translator, and nothing here looks at
 -- them
 pub data Part : Type 0 where
   HeaderPart : (name : List ℕ) → (translator version : ℕ) → List SegmentEntry → Part

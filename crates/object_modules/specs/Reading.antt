@@ -1,4 +1,4 @@
--- What the body of a record says, read from its bytes; nothing, where no part has that body.
+-- What the body of a record says, read from its bytes, or none if no part has that body.
 use Rattle.std.specs.Prelude.{ℕ, zero, suc, ◌+◌, ◌*◌, ◌==◌, nat_le, ◌&&◌, if◌then◌else◌, List, [], ◌∷◌, length, take, drop, find, slice_index, Option, Some, None, option_map, option_and_then}
 use Rattle.omf80.specs.declared.kind.RecordKind.{RecordKind}
 use Rattle.omf80.specs.declared.kind.RecordKind.TheVariants as kinds
@@ -18,7 +18,7 @@ segment_of number =
 abbrev pub fix_kind_of : (number : ℕ) → Option FixKind
 fix_kind_of number = find (λ kind. fix_kind_number kind == number) (Low ∷ High ∷ Both ∷ [])
 
--- what bytes begin with, and the bytes after it
+-- the value at the front of bytes, and the bytes after it
 abbrev pub Front : Type 0 → Type 0
 Front A = Option (A × List ℕ)
 
@@ -26,7 +26,7 @@ abbrev pub word_in_front : List ℕ → Front ℕ
 word_in_front (low ∷ high ∷ rest) = Some (low + 256 * high, rest)
 word_in_front bytes = None
 
--- a length, and so many bytes
+-- a length, and a name of that length
 abbrev pub name_in_front : List ℕ → Front (List ℕ)
 name_in_front [] = None
 name_in_front (size ∷ rest) =
@@ -78,7 +78,7 @@ segment_entries_in (number ∷ low ∷ high ∷ alignment ∷ rest) =
     (segment_of number)
 segment_entries_in bytes = None
 
--- what stands one after another to the end of the bytes, at most so many
+-- values one after another to the end of the bytes, at most `count` of them
 abbrev pub at_most : {A : Type 0} → (count : ℕ) → (List ℕ → Front A) → List ℕ → Option (List A)
 at_most count front [] = Some []
 at_most zero front (byte ∷ rest) = None
@@ -87,7 +87,7 @@ at_most {A} (suc count) front (byte ∷ rest) =
     (λ (read : A × List ℕ). option_map (λ (others : List A). read.0 ∷ others) (at_most count front read.1))
     (front (byte ∷ rest))
 
--- what stands one after another to the end of the bytes, each with at least one byte
+-- values one after another to the end of the bytes, each with at least one byte
 abbrev pub all_in : {A : Type 0} → (List ℕ → Front A) → List ℕ → Option (List A)
 all_in front bytes = at_most (length bytes) front bytes
 
@@ -165,7 +165,7 @@ part_in kinds.IntersegmentReferences body = intersegment_in body
 part_in kinds.ModuleEnd body = module_end_in body
 part_in kinds.EndOfFile body = end_of_file_in body
 
--- the part that bytes begin with, where they begin with a record
+-- the part that bytes begin with, if they begin with a record
 abbrev pub first_part : List ℕ → Option Part
 first_part bytes =
     option_and_then (λ kind. part_in kind (first_body bytes)) (kind_of_type (slice_index bytes 0))

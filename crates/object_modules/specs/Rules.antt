@@ -1,5 +1,5 @@
--- The rules of an object file, record by record, and the fault that breaking each of them is. A record is
--- judged by the records before it, of which the latest stands first.
+-- The rules of an object file, record by record, and the fault of breaking each of them. A record is judged
+-- by the records before it, the latest first.
 use Rattle.std.specs.Prelude.{ℕ, ◌+◌, ◌==◌, Bool, true, false, not, ◌&&◌, ◌||◌, nat_lt, nat_le, if◌then◌else◌, List, [], ◌∷◌, length, flat_map, slice_index, Option, Some, None, option_map}
 use Rattle.std.specs.List.{list_all, list_any}
 use Rattle.std.specs.Option.{option_or, option_map_or, option_and_then}
@@ -83,7 +83,7 @@ fit_content before part (Some content) =
     list_all (is_within content) (fixes_of content.segment part)
     && are_apart (fixes_of content.segment part) (leading_fixes content.segment before)
 
--- What can be wrong with a part that may stand here, and the fault that it is, in the order in which it is
+-- What can be wrong with a part that may stand here, each with its fault, in the order in which it is
 -- judged.
 abbrev pub part_faults : (before : List Part) → Part → List (Bool × Fault)
 part_faults before part =

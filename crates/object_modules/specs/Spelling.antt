@@ -1,4 +1,4 @@
--- Which object module a file spells, and what the first fault of another file is.
+-- The object module that a file spells, and the first fault of another file.
 use Rattle.std.specs.Prelude.{◌≡◌, ℕ, ◌-◌, ◌==◌, Bool, ◌&&◌, IsTrue, nat_lt, nat_le, if◌then◌else◌, List, [], ◌∷◌, ◌++◌, map, flat_map, filter_map, find, reverse, slice_get, slice_index, Option, Some, None, option_map}
 use Rattle.std.specs.List.{range_with_len}
 use Rattle.std.specs.Option.{option_map_or}
@@ -30,7 +30,7 @@ holds_place segment offset fixed =
     same_segment (fixed.content).segment segment
     && nat_le (fixed.content).offset offset && nat_lt offset (content_end fixed.content)
 
--- what a content sets at a place that it has, and the fix that begins there
+-- the byte of a content at a place that it has, and the fix that begins there
 abbrev pub set_at : (offset : ℕ) → FixedContent → SetByte
 set_at offset fixed = record {
   value = slice_index (fixed.content).bytes (offset - (fixed.content).offset);
@@ -39,11 +39,11 @@ set_at offset fixed = record {
       (find (λ (fix : Fix). fix.offset == offset) fixed.fixes);
 }
 
--- what is set at a place of a segment
+-- the byte that is set at a place of a segment
 abbrev pub set_in : List FixedContent → Segment → (offset : ℕ) → Option SetByte
 set_in contents segment offset = option_map (set_at offset) (find (holds_place segment offset) contents)
 
--- a segment may begin anywhere where the header says so or doesn't name it, and where it has no bytes
+-- a segment may begin anywhere if the header says so or doesn't name it, or if it has no bytes
 abbrev pub alignment_with : SegmentEntry → Alignment
 alignment_with entry = if entry.alignment == 1 && nat_lt 0 entry.length then Page else Byte
 
@@ -95,7 +95,7 @@ module_of parts = record {
   start = start_in parts;
 }
 
--- A file has these parts: it is their bytes, each may stand where it stands, and the last one ends the file.
+-- A file has these parts: it is their bytes, each may stand at its place, and the last one ends the file.
 pub record IsFileOf (bytes : List ℕ) (parts : List Part) : Type 0 where
   pub accepted : IsTrue (are_accepted [] parts)
   pub ended : IsTrue (is_ended (reverse parts))
@@ -107,8 +107,8 @@ pub record Spells (bytes : List ℕ) (object : ObjectModule) : Type 0 where
   pub file : IsFileOf bytes parts
   pub said : object ≡ module_of parts
 
--- A file has a fault, its first: it is at the front of the bytes after parts that each may stand where they
--- stand.
+-- A file has a fault, its first: it is at the front of the bytes after parts that may stand at their
+-- places.
 pub record HasFirstFault (bytes : List ℕ) (fault : Fault) : Type 0 where
   pub before : List Part
   pub rest : List ℕ

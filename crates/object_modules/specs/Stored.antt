@@ -11,7 +11,7 @@ use Rattle.object_modules.specs.Rules.{fix_end, is_within}
 use Rattle.object_modules.specs.Text.{Run}
 use Rattle.object_modules.specs.Walking.{places_by}
 
--- a segment of a size, of which these bytes are set and depend on these targets
+-- a segment by its size, its alignment, the runs of its set bytes, and their fixes
 pub record StoredSegment : Type 0 where
   pub size : ℕ
   pub alignment : Alignment
@@ -48,7 +48,7 @@ fixes_ascend (fix ∷ next ∷ others) = nat_le (fix_end fix) next.offset && fix
 abbrev pub is_in_a_run : Segment → List (Run ℕ) → Fix → Bool
 is_in_a_run segment runs fix = list_any (λ (run : Run ℕ). is_within (content_of_run segment run) fix) runs
 
--- what each segment that is kept keeps to
+-- the rules that each stored segment follows
 pub record IsStored (segment : Segment) (stored : StoredSegment) : Type 0 where
   pub runs : IsTrue (are_longest stored.size stored.runs)
   pub ascending : IsTrue (fixes_ascend stored.fixes)

@@ -19,8 +19,8 @@ use Rattle.object_modules.specs.Before.{same_segment}
 abbrev pub content_limit : ℕ
 content_limit = BODY_LIMIT - 3
 
--- Lists cut into groups, each as long as there is room: an item goes into the group before it where the room
--- that is left there is at least what it needs, and takes room from it. The first of the groups goes on one
+-- Lists cut into groups, each as long as there is room: an item goes into the group before it if the room
+-- left there is at least what it needs, and takes room from it. The first of the groups continues one
 -- that is begun.
 abbrev pub groups_after : {A : Type 0} → (needs takes : A → ℕ) → (limit room : ℕ) → List A → List (List A)
 groups_after needs takes limit room [] = [] ∷ []
@@ -29,12 +29,12 @@ groups_after needs takes limit room (item ∷ others) =
     then [] ∷ onto_first item (groups_after needs takes limit (limit - takes item) others)
     else onto_first item (groups_after needs takes limit (room - takes item) others)
 
--- a list cut into groups within a limit; nothing gives none
+-- a list cut into groups within a limit; an empty list gives none
 abbrev pub groups_of : {A : Type 0} → (needs takes : A → ℕ) → (limit : ℕ) → List A → List (List A)
 groups_of needs takes limit [] = []
 groups_of needs takes limit (item ∷ others) = groups_after needs takes limit limit (item ∷ others)
 
--- groups of items that need what they take
+-- groups of items, where each item takes the room that it needs
 abbrev pub packed : {A : Type 0} → (size : A → ℕ) → (limit : ℕ) → List A → List (List A)
 packed size limit items = groups_of size size limit items
 
@@ -92,7 +92,7 @@ runs_from offset [] = []
 runs_from offset (None ∷ others) = runs_from (offset + 1) others
 runs_from offset (Some item ∷ others) = before_runs offset item (runs_from (offset + 1) others)
 
--- A content takes as many bytes of a run as it may have, but a word that is fixed goes whole into one.
+-- A content takes as many bytes of a run as it may have, but a word that is fixed is not split.
 abbrev pub bytes_wanted : SetByte → ℕ
 bytes_wanted here = if begins_word (Some here) then 2 else 1
 
@@ -177,7 +177,7 @@ abbrev pub segment_parts : ObjectModule → Segment → List Part
 segment_parts object segment =
     flat_map (content_parts segment) (flat_map contents_of_run (runs_from 0 (places_of object segment)))
 
--- what is written for a module, record by record
+-- the records that are written for a module
 unfoldable pub written_parts : ObjectModule → List Part
 written_parts object =
     header_for object

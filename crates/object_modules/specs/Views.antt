@@ -1,4 +1,4 @@
--- What the types of the code are.
+-- The views of the types of the code.
 use Rattle.std.specs.Prelude.{map}
 use Rattle.object_modules.specs.declared.object.ModuleParts.{ModuleParts}
 use Rattle.object_modules.specs.declared.public.OwnedPublic.{OwnedPublic}
@@ -27,7 +27,7 @@ module_of_parts parts = record {
   start = parts.start;
 }
 
--- what the parts of a module keep to
+-- the rules that the parts of a module follow
 pub record AreKept (parts : ModuleParts) : Type 0 where
   pub code : IsStored Code parts.code
   pub data_places : IsStored Data parts.data_bytes

@@ -1,4 +1,4 @@
--- What is left to be told of a file whose parts are handed out one after another.
+-- What remains of a file whose parts are handed out one after another.
 use Rattle.std.specs.Prelude.{◌≡◌, ℕ, zero, suc, List, [], ◌∷◌, ◌++◌, length, drop, flat_map, map, Option, Some, None, unwrap_or}
 use Rattle.std.specs.List.{range_with_len}
 use Rattle.omf80.specs.Records.{record_fault, record_end}
@@ -14,7 +14,7 @@ use Rattle.object_modules.specs.Parts.{Content, Part, PublicsPart}
 use Rattle.object_modules.specs.Reading.{Front, listed_name_in_front, definition_in_front, all_in, first_part}
 use Rattle.object_modules.specs.Spelling.{FixedContent, IsFileOf, fixed_contents, set_in, alignment_in, name_in, publics_of, start_in}
 
--- What a walk tells at any time, and what it has not handed out yet, in the order of the file: external
+-- What a walk says at any time, and what it has not handed out yet, in the order of the file: external
 -- names, publics, contents, and the fixes of the content that it handed out last.
 pub record Walking : Type 0 where
   pub name : List ℕ
@@ -69,7 +69,7 @@ abbrev pub places_by : List FixedContent → Segment → Alignment → (size : �
 places_by contents segment alignment size =
     record { alignment = alignment; places = map (set_in contents segment) (range_with_len 0 size) }
 
--- the module that a walk tells, before anything was handed out
+-- the module that a walk gives, before anything was handed out
 unfoldable pub module_by : Walking → ObjectModule
 module_by walking = record {
   name = walking.name;
@@ -91,7 +91,7 @@ abbrev pub before_parts : Option Part → (later : List Part) → List Part
 before_parts None later = []
 before_parts (Some part) later = part ∷ later
 
--- at most so many
+-- at most `count` of these parts
 abbrev pub parts_within : (count : ℕ) → List ℕ → List Part
 parts_within zero bytes = []
 parts_within (suc count) bytes =
@@ -122,7 +122,7 @@ abbrev pub HandsOut : {A : Type 0} → (old new : List A) → Option A → Type 
 HandsOut old new (Some first) = old ≡ first ∷ new
 HandsOut old new None = (old ≡ []) × (new ≡ [])
 
--- the next content is handed out, and its fixes are those to be handed out; where there is none, nothing
+-- the next content is handed out, and its fixes are those to be handed out; if no content is left, nothing
 -- changes
 abbrev pub HandsOutContent : (old new : Walking) → Option Content → Type 0
 HandsOutContent old new (Some content) =

@@ -1,8 +1,8 @@
-//! Why bytes are no object file.
+//! Why bytes are not an object file.
 
 use thiserror::Error;
 
-/// Why bytes are no object file: the first fault in them.
+/// Why bytes are not an object file: the first fault in them.
 #[derive(Clone, Copy, Debug, PartialEq, Eq, Error)]
 pub enum Fault {
     /// O1: the bytes end within a record, or before an end-of-file record.

@@ -111,7 +111,7 @@ impl ObjectModule {
         self.parts.publics.as_slice()
     }
 
-    /// The public name with this index, from 0; none where there are not so many.
+    /// The public name with this index, from 0; none if the index is too great.
     pub fn public(&self, number: usize) -> Option<PublicName<'_>>
         ensures { option_map public_view result ≡ slice_get self.now.publics number }
     {
@@ -128,7 +128,7 @@ impl ObjectModule {
         self.parts.externals.as_slice()
     }
 
-    /// The external name with this number, from 0; none where there are not so many.
+    /// The external name with this number, from 0; none if the number is too great.
     pub fn external(&self, number: usize) -> Option<&[u8]>
         ensures { option_map (λ name. name.now) result ≡ slice_get self.now.externals number }
     {
@@ -171,7 +171,7 @@ impl ObjectModule {
     }
 }
 
-// Written out, so that what these hold is let go here, and each crate that lets one go calls this.
+// Written out, so that the parts are freed here, and each crate that frees them calls this.
 impl Drop for ModuleParts {
     fn drop(self) {
         let ModuleParts {

@@ -22,7 +22,7 @@ impl Model for Run {
 }
 
 impl Run {
-    /// Bytes from an offset on. That they lie within a segment is asked for where a module is made of it.
+    /// Bytes from an offset on. Making a module of it requires that they lie within a segment.
     pub fn new(offset: u16, bytes: Vec<u8>) -> Run
         ensures { result ≡ record { offset = offset; items = bytes.items } }
     {
@@ -43,7 +43,7 @@ impl Run {
         self.bytes.as_slice()
     }
 
-    /// Adds bytes after its last one. Fails only where there is no memory for them, and then nothing changes.
+    /// Adds bytes after its last one. Fails only if memory runs out, and then nothing changes.
     pub fn append(&mut self, bytes: &[u8]) -> Result<(), AllocError>
         ensures offset { self.new.offset ≡ self.old.offset }
         ensures ok { OnOk result (self.new.items ≡ self.old.items ++ bytes.now) }
@@ -76,9 +76,9 @@ impl Model for SegmentBytes {
 }
 
 impl SegmentBytes {
-    /// A segment of this many bytes, 0 to 65535, with these runs and fixes. Takes no memory. What they are to
-    /// keep to is asked for where a module is made of it: the longest runs, within the segment, and fixes
-    /// within these, both in the order of their offsets.
+    /// A segment of this many bytes, 0 to 65535, with these runs and fixes. Takes no memory. Making a module of it
+    /// requires the longest runs, within the segment, and fixes within these runs, both in the order of their
+    /// offsets.
     pub fn new(size: u16, alignment: Alignment, runs: Vec<Run>, fixes: Vec<Fix>) -> SegmentBytes
         ensures { result ≡ record {
           size = size;
@@ -124,7 +124,7 @@ impl SegmentBytes {
     }
 }
 
-// Written out, so that what these hold is let go here, and each crate that lets one go calls this.
+// Written out, so that these are freed here, and each crate that frees one calls this.
 impl Drop for Run {
     fn drop(self) {
         let Run {

@@ -22,7 +22,7 @@ pub record AreEntries {A : Type 0} (spell : A → List ℕ) (bytes : List ℕ) :
   pub items : List A
   pub spelled : bytes ≡ flat_map spell items
 
--- a body, where it is that of such a record
+-- a body, if it is that of such a record
 abbrev pub body_where : Bool → List ℕ → List ℕ
 body_where true body = body
 body_where false body = []
@@ -39,7 +39,7 @@ abbrev pub is_content : RecordKind → Bool
 is_content kinds.Content = true
 is_content kind = false
 
--- the segment of public names and the bytes of their entries, where a body is that of such a record
+-- the segment of public names and the bytes of their entries, if a body is that of such a record
 abbrev pub publics_where : Bool → List ℕ → Segment × List ℕ
 publics_where true (number ∷ entries) = (unwrap_or (segment_of number) Absolute, entries)
 publics_where true [] = (Absolute, [])
@@ -51,7 +51,7 @@ definition_at offset name = record { offset = offset; name = name }
 abbrev pub content_at : Segment → (offset : ℕ) → (bytes : List ℕ) → Content
 content_at segment offset bytes = record { segment = segment; offset = offset; bytes = bytes }
 
--- a content, where a body is that of such a record
+-- a content, if a body is that of such a record
 abbrev pub content_where : Bool → List ℕ → Option Content
 content_where true (number ∷ low ∷ high ∷ bytes) =
     option_map (λ (segment : Segment). content_at segment (low + 256 * high) bytes) (segment_of number)

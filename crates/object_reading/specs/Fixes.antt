@@ -37,7 +37,7 @@ fix_in_front None kind entries = None
 fix_in_front (Some target) kind (low ∷ high ∷ rest) = Some (segment_fix kind target (low + 256 * high), rest)
 fix_in_front (Some target) kind entries = None
 
--- the target that is a segment, the kind and the bytes of the entries, where a record is a fix record
+-- the target that is a segment, the kind and the bytes of the entries, if a record is a fix record
 abbrev pub FixHead : Type 0
 FixHead = Option Segment × FixKind × List ℕ
 

@@ -15,7 +15,7 @@ use Rattle.object_reading.specs.declared.rules.extents.Extents.{Extents}
 abbrev pub entry_at : Segment → (length alignment : ℕ) → SegmentEntry
 entry_at segment length alignment = record { segment = segment; length = length; alignment = alignment }
 
--- where no entry is
+-- without an entry
 abbrev pub nothing_said : Extents
 nothing_said = record {
   code_length = 0;
@@ -25,7 +25,7 @@ nothing_said = record {
   stack_length = 0;
 }
 
--- what is said of a segment, and of each other as before
+-- the extents with those of a segment replaced
 abbrev pub extents_with : Segment → SegmentEntry → Extents → Extents
 extents_with Absolute entry extents = extents
 extents_with Code entry extents =
@@ -34,7 +34,7 @@ extents_with Data entry extents =
     record extents { data_length = entry.length; data_alignment = alignment_with entry }
 extents_with Stack entry extents = record extents { stack_length = entry.length }
 
--- what entries say, the first of which has a greater number than this
+-- what entries say; in bytes, the first has a greater number than `number`
 abbrev pub extents_after : List SegmentEntry → Extents → Extents
 extents_after [] extents = extents
 extents_after (entry ∷ others) extents = extents_after others (extents_with entry.segment entry extents)

@@ -1,4 +1,4 @@
--- What is told of a valid file once it is judged.
+-- What the judgement of a valid file gives.
 use Rattle.std.specs.Prelude.{◌≡◌, ℕ, List, flat_map}
 use Rattle.object_modules.specs.declared.segment.Segment.TheVariants.{Code, Data, Stack}
 use Rattle.object_modules.specs.Before.{entries_of, stated_length_of}
@@ -6,7 +6,7 @@ use Rattle.object_modules.specs.Parts.{Part}
 use Rattle.object_modules.specs.Spelling.{IsFileOf, alignment_in, name_in, start_in}
 use Rattle.object_reading.specs.declared.judgement.header.Header.{Header}
 
--- a file has parts, and a header tells what they say of its name, its segments and its start
+-- a file has parts, and a header holds what they say of its name, its segments and its start
 pub record IsJudged (bytes : List ℕ) (header : Header) : Type 0 where
   pub parts : List Part
   pub file : IsFileOf bytes parts

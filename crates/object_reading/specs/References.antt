@@ -1,4 +1,4 @@
--- Entries of fix records, judged by what they refer to.
+-- Entries of fix records, judged by their references.
 use Rattle.std.specs.Prelude.{ℕ, Bool, true, not, ◌&&◌, nat_lt, List, Option, Some, None, is_some}
 use Rattle.std.specs.List.{list_all}
 use Rattle.omf80.specs.declared.kind.RecordKind.{RecordKind}
@@ -13,7 +13,7 @@ use Rattle.object_modules.specs.Module.{is_movable}
 use Rattle.object_modules.specs.Reading.{references_in, words_in}
 use Rattle.object_reading.specs.Fixes.{fixes_in}
 
--- a target is a segment, or one of so many external names
+-- a target is a segment, or an external name with a number below `external_count`
 abbrev pub is_known : (external_count : ℕ) → Target → Bool
 is_known external_count (InSegment segment) = true
 is_known external_count (External number) = nat_lt number external_count
@@ -28,7 +28,7 @@ entries_fit external_count target kind entries =
     are_entries target entries
     && list_all (λ (fix : Fix). is_known external_count fix.target) (fixes_in target kind entries)
 
--- the target of a fix record whose content is in this segment: of intersegment references another segment
+-- the target of a fix record whose content is in this segment: an intersegment reference has another segment
 abbrev pub target_fits : (own : Segment) → RecordKind → Option Segment → Bool
 target_fits own kinds.IntersegmentReferences (Some target) = is_movable target && not (same_segment target own)
 target_fits own kind target = true

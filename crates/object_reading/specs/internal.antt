@@ -1,4 +1,4 @@
--- What the judgement rests on, and nobody else.
+-- What the judgement alone rests on.
 pub mod States
 -- What proofs of walks speak of.
 pub mod Cursors

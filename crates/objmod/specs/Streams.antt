@@ -26,7 +26,7 @@ pub record ReadsFault (old new : Option (List ℕ)) (fault : ObjectFault) : Type
   pub faulty : HasFirstFault bytes fault
   pub none : (object : ObjectModule) → ¬ Spells bytes object
 
--- what a fault of a reader says of the bytes that it had
+-- the meaning of a fault of a reader, for the bytes that it had
 abbrev pub HasReadFault : (old new : Option (List ℕ)) → ReadFault → Type 0
 HasReadFault old new Read = TakesSome old new
 HasReadFault old new (Object fault) = ReadsFault old new fault

@@ -24,7 +24,7 @@ pub enum ReadFault {
     /// The reader failed.
     #[error("a file can't be read")]
     Read,
-    /// The bytes are no object file.
+    /// The bytes are not an object file.
     #[error("{0}")]
     Object(Fault),
 }
@@ -44,7 +44,7 @@ impl ReadFault {
     }
 }
 
-// The module that a walk tells which has handed out nothing.
+// The module that a walk gives, before it has handed out anything.
 fn module_of_walk(alloc: Global, walk: &mut Walk<'_>) -> Result<ObjectModule, AllocError>
     requires object { IsObjectModule (module_by walk.old) }
     requires contents { ContentsFit walk.old }

@@ -5,7 +5,7 @@ use Rattle.isa8080.specs.declared.instr.Instr.{Instr}
 use Rattle.steps8080.specs.declared.step.Step.{Step}
 use Rattle.operands8080.specs.Products.{bit_steps, chain_from, has_bit}
 
--- one bit more, where so many are done
+-- one more bit
 pub bit_added :
     (made now total : List Step) (number index : ℕ) (twice once_more : Instr) (is_below is_set : Bool)
     → made ++ chain_from (16 - index) number twice once_more is_below ≡ total

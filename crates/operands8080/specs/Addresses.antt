@@ -1,4 +1,4 @@
--- The code of addresses of objects and their parts, in HL.
+-- Code that puts addresses of objects and their parts into HL.
 use Rattle.std.specs.Prelude.{ℕ, ◌+◌, ◌-◌, ◌%◌, ◌==◌, List, [], ◌∷◌, ◌++◌, Option, Some, None, if◌then◌else◌, nat_le}
 use Rattle.isa8080.specs.declared.instr.Instr.TheVariants.{Dad, Dcx, Inx, Lxi, Pop, Push, Xchg}
 use Rattle.isa8080.specs.declared.instr.Pair.TheVariants.{Bc, De, Hl, Sp}
@@ -27,39 +27,39 @@ use Rattle.steps8080.specs.Site.{distance}
 use Rattle.steps8080.specs.Widths.{unknown}
 use Rattle.operands8080.specs.Products.{product_steps}
 
--- what is to be taken from 65536 to add a number
+-- the number that is subtracted from 65536 to give this one
 abbrev pub negated : (number : ℕ) → ℕ
 negated number = (65536 - number) % 65536
 
--- a number is added to HL; A and DE are kept
+-- adds a number to HL; A and DE are kept
 abbrev pub number_added_steps : (number : ℕ) → List Step
 number_added_steps number =
     if nat_le number 3 then repeat_steps (Inx Hl) number
     else if nat_le (negated number) 3 then repeat_steps (Dcx Hl) (negated number)
     else plain (Lxi Bc number ∷ Dad Bc ∷ [])
 
--- a known word is added to HL; A and DE are kept
+-- adds a known word to HL; A and DE are kept
 abbrev pub addition_steps : Place → List Step
 addition_steps place = elim (place_number place) [
   | Some number ↦ number_added_steps number
   | None ↦ Word (LoadPair Bc) place ∷ Plain (Dad Bc) ∷ []
 ]
 
--- HL holds the address of a location
+-- notes that HL holds the address of a location
 abbrev pub hold_address_steps : Location → List Step
 hold_address_steps location = Holds (record no_facts { address_in_hl = Some location }) ∷ []
 
--- HL holds the word at a location
+-- notes that HL holds the word at a location
 abbrev pub hold_word_steps : Location → List Step
 hold_word_steps location = Holds (record no_facts { word_in_hl = Some location }) ∷ []
 
--- the address of a location into HL, whatever is there
+-- puts the address of a location into HL, whatever the registers hold
 abbrev pub new_address_steps : Site → Location → (pushed : ℕ) → List Step
 new_address_steps site (locations.Static place) pushed = Word (LoadPair Hl) place ∷ []
 new_address_steps site (locations.Frame variable offset) pushed =
     plain (Lxi Hl (distance site variable offset pushed) ∷ Dad Sp ∷ [])
 
--- the address of a location into HL, where this comes first; A and DE are kept
+-- puts the address of a location into HL, if these steps come first; A and DE are kept
 abbrev pub location_address_steps : Site → Location → (pushed : ℕ) → List Step
 location_address_steps site location pushed =
     if is_at site.facts.address_in_hl location then []
@@ -68,12 +68,12 @@ location_address_steps site location pushed =
     then Plain (Dcx Hl) ∷ hold_address_steps location
     else new_address_steps site location pushed ++ hold_address_steps location
 
--- HL becomes the word at the address that it holds; DE is kept
+-- loads HL with the word at the address that it holds; DE is kept
 abbrev pub word_at_hl_steps : List Step
 word_at_hl_steps = plain (load A ∷ Inx Hl ∷ load H ∷ copy L A ∷ [])
 
--- the word at a location of the frame into HL, where this comes first: a word next to the stack pointer is
--- taken from the stack and put back; DE is kept
+-- puts the word at a location of the frame into HL, if these steps come first; a word next to the stack
+-- pointer is popped and pushed back; DE is kept
 abbrev pub frame_word_steps : Site → Location → (away pushed : ℕ) → List Step
 frame_word_steps site location away pushed =
     if away == 0 then plain (Pop StackHl ∷ Push StackHl ∷ []) ++ hold_word_steps location
@@ -81,7 +81,7 @@ frame_word_steps site location away pushed =
     then plain (Pop StackBc ∷ Pop StackHl ∷ Push StackHl ∷ Push StackBc ∷ []) ++ hold_word_steps location
     else location_address_steps site location pushed ++ word_at_hl_steps ++ hold_word_steps location
 
--- the word at a location into HL, where this comes first; DE is kept, and A where the location is static
+-- puts the word at a location into HL, if these steps come first; DE is kept, and A if the location is static
 abbrev pub location_word_steps : Site → Location → (pushed : ℕ) → List Step
 location_word_steps site location pushed =
     if is_at site.facts.word_in_hl location then []
@@ -91,7 +91,7 @@ location_word_steps site location pushed =
           frame_word_steps site (locations.Frame variable offset) (distance site variable offset pushed) pushed
     ]
 
--- the address that a base without computed subscripts is, into HL
+-- puts the address of a base without computed subscripts into HL
 abbrev pub base_steps : Site → Base → (pushed : ℕ) → List Step
 base_steps site (bases.Static place) pushed = location_address_steps site (locations.Static place) pushed
 base_steps site (bases.Frame variable offset) pushed =
@@ -99,7 +99,7 @@ base_steps site (bases.Frame variable offset) pushed =
 base_steps site (bases.Based pointer offset) pushed =
     location_word_steps site pointer pushed ++ addition_steps (Number offset)
 
--- the address that a base is, is added to the computed subscripts in HL
+-- adds the address of a base to the computed subscripts in HL
 abbrev pub base_added_steps : Site → Base → (pushed : ℕ) → List Step
 base_added_steps site (bases.Static place) pushed = addition_steps place
 base_added_steps site (bases.Frame variable offset) pushed =
@@ -108,7 +108,7 @@ base_added_steps site (bases.Based pointer offset) pushed =
     Plain Xchg ∷ location_word_steps (unknown site) pointer pushed
     ++ (Plain (Dad De) ∷ addition_steps (Number offset))
 
--- a second subscript is added to the first one, which is in HL, and waits in DE or on the stack
+-- adds a second subscript to the first one, which is in HL and is kept in DE or on the stack meanwhile
 abbrev pub second_steps : Site → Subscript → (pushed : ℕ) → List Step
 second_steps site second pushed =
     if (keeps site second.index).de
@@ -116,7 +116,7 @@ second_steps site second pushed =
     else Plain (Push StackHl) ∷ product_steps second.index second.stride ((pushed + 2) % 65536)
     ++ plain (Pop StackDe ∷ Dad De ∷ [])
 
--- the address of an object or a part of it, taken apart, into HL
+-- puts the address of an object or a part of it, from its parts, into HL
 abbrev pub located_steps : Site → Located → (pushed : ℕ) → List Step
 located_steps site parts pushed = elim parts.first [
   | None ↦ base_steps site parts.base pushed
@@ -128,6 +128,6 @@ located_steps site parts pushed = elim parts.first [
   ]
 ]
 
--- the address of an object or a part of it into HL
+-- puts the address of an object or a part of it into HL
 abbrev pub address_steps : Site → Reference → (pushed : ℕ) → List Step
 address_steps site reference pushed = located_steps site (located site reference) pushed

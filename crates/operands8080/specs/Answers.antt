@@ -6,6 +6,6 @@ use Rattle.steps8080.specs.declared.step.Task.TheVariants.{Effects}
 use Rattle.steps8080.specs.Step.{part}
 use Rattle.operands8080.specs.declared.answers.Setting.{Setting}
 
--- an operand is evaluated for what that does, where the answer is known
+-- evaluates an operand for its effects, when the answer is known
 abbrev pub known_steps : ExpressionNumber → Setting → List Step
 known_steps operand setting = part (Effects operand) setting.pushed ∷ []

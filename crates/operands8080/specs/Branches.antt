@@ -1,4 +1,4 @@
--- The code of jumps where a condition holds, or where it does not.
+-- The code of jumps on a condition.
 use Rattle.std.specs.Prelude.{ℕ, ◌%◌, ◌==◌, Bool, true, false, not, List, [], ◌∷◌, ◌++◌, Option, Some, None, if◌then◌else◌}
 use Rattle.isa8080.specs.declared.instr.Condition.{Condition}
 use Rattle.isa8080.specs.declared.instr.Condition.TheVariants.{NotZero, Zero, NoCarry, Carry, ParityOdd, ParityEven, Plus, Minus}
@@ -34,20 +34,20 @@ use Rattle.operands8080.specs.declared.relations.Outcome.TheVariants as outcomes
 use Rattle.operands8080.specs.WordRelations.{equality_of_words, high_difference_steps, low_difference_steps, words_of, words_steps}
 use Rattle.operands8080.specs.Relations.{relation_outcome, relation_steps}
 
--- the jump where the condition is the other way round
+-- the jump on the opposite condition
 abbrev pub opposite : Branch → Branch
 opposite branch = record branch { sense = not branch.sense }
 
--- the jump on a condition of this kind
+-- the jump on a condition with this sense
 abbrev pub branch_part : Branch → (condition : ExpressionNumber) → Step
 branch_part branch condition = part (tasks.Branch condition branch.label branch.sense) branch.pushed
 
--- the jump where the answer is known
+-- the jump for a known answer
 abbrev pub known_branch_steps : Branch → (answer : Bool) → List Step
 known_branch_steps branch answer =
     if agree answer branch.sense then Jump forms.Jump branch.label ∷ [] else []
 
--- the condition that holds where another does not
+-- the condition that holds if the given one does not
 abbrev pub opposite_condition : Condition → Condition
 opposite_condition NotZero = Zero
 opposite_condition Zero = NotZero
@@ -58,7 +58,7 @@ opposite_condition ParityEven = ParityOdd
 opposite_condition Plus = Minus
 opposite_condition Minus = Plus
 
--- the jump where the answer is yes where the flags are so
+-- the jump for an answer that is yes if a condition of the flags holds
 abbrev pub where_flags_steps : Branch → Condition → List Step
 where_flags_steps branch condition =
     let wanted = if branch.sense then condition else opposite_condition condition in
@@ -111,7 +111,7 @@ shape_of site condition = elim (queries.number site condition) [
   ]
 ]
 
--- a jump by two operands: where the left one decides, the right one is passed over
+-- a jump by two operands: if the left one decides, the right one is skipped
 abbrev pub joined_steps : Junction → Branch → (first : ℕ) → List Step
 joined_steps junction branch first =
     if agree branch.sense junction.deciding
@@ -130,8 +130,7 @@ abbrev pub by_bit_steps : (condition : ExpressionNumber) → Branch → List Ste
 by_bit_steps condition branch =
     part (tasks.Byte condition) branch.pushed ∷ Plain Rrc ∷ where_flags_steps branch Carry
 
--- a jump where two ADDRESSes are equal, or where they are not: where the low bytes differ, the high ones are
--- passed over
+-- a jump if two ADDRESSes are equal, or if they are not; if the low bytes differ, the high ones are skipped
 abbrev pub equality_steps : Site → Comparison → (is_equal : Bool) → Branch → (first : ℕ) → List Step
 equality_steps site comparison is_equal branch first =
     let words = words_of site comparison in
@@ -148,12 +147,12 @@ equality_steps site comparison is_equal branch first =
 abbrev pub equality_labels : (is_equal : Bool) → ℕ
 equality_labels is_equal = if is_equal then 1 else 0
 
--- a jump by where a relation holds
+-- a jump by the outcome of a relation
 abbrev pub outcome_branch_steps : Branch → Outcome → List Step
 outcome_branch_steps branch (outcomes.Known answer) = known_branch_steps branch answer
 outcome_branch_steps branch (outcomes.Where condition) = where_flags_steps branch condition
 
--- a relation is asked for a jump
+-- the setting of a relation that is asked for a jump
 abbrev pub branch_setting : (pushed : ℕ) → Setting
 branch_setting pushed = record { purpose = purposes.Branch; pushed = pushed }
 
@@ -172,7 +171,7 @@ relation_branch_labels site relation branch = elim (equality_of_words site relat
   | None ↦ 0
 ]
 
--- a jump by a relation, or by the lowest bit of a value that is none
+-- a jump by a relation, or by the lowest bit of a value that is not a relation
 abbrev pub other_steps : Site → (condition : ExpressionNumber) → Branch → (first : ℕ) → List Step
 other_steps site condition branch first = elim (relation_of site condition) [
   | Some relation ↦ relation_branch_steps site relation branch first
@@ -185,7 +184,7 @@ other_labels site condition branch = elim (relation_of site condition) [
   | None ↦ 0
 ]
 
--- a jump by a condition of a shape
+-- a jump by a condition with this source of its lowest bit
 abbrev pub shape_steps : Site → Shape → (condition : ExpressionNumber) → Branch → (first : ℕ) → List Step
 shape_steps site (Known answer) condition branch first = known_branch_steps branch answer
 shape_steps site (SameAs inner) condition branch first = branch_part branch inner ∷ []
@@ -200,7 +199,7 @@ shape_labels site (Joined junction) condition branch = joined_labels junction br
 shape_labels site Other condition branch = other_labels site condition branch
 shape_labels site shape condition branch = 0
 
--- a jump to a label where the lowest bit of a value is 1 (`sense`) or 0 (not `sense`)
+-- a jump to a label if the lowest bit of a value is 1 (`sense`) or 0 (not `sense`)
 abbrev pub branch_steps :
     Site → (condition : ExpressionNumber) → (label : LabelNumber) → (sense : Bool) → (pushed first : ℕ)
     → List Step
@@ -209,7 +208,7 @@ branch_steps site condition label sense pushed first =
     (record { label = label; sense = sense; pushed = pushed })
     first
 
--- and how many labels it takes
+-- the number of labels that it takes
 abbrev pub branch_labels :
     Site → (condition : ExpressionNumber) → (label : LabelNumber) → (sense : Bool) → (pushed : ℕ) → ℕ
 branch_labels site condition label sense pushed =

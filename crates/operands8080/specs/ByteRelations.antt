@@ -30,7 +30,7 @@ use Rattle.operands8080.specs.declared.byte_relations.Form.TheVariants.{WithMemo
 use Rattle.operands8080.specs.declared.byte_relations.Sides.{Sides}
 use Rattle.operands8080.specs.Answers.{known_steps}
 
--- A is compared with a number that is not 0: by the zero flag, or by whether A is 0 then
+-- compares A with a number that is not 0; sets the zero flag, or leaves 0 in A, if both are equal
 abbrev pub byte_is_steps : (number : ℕ) → Setting → List Step
 byte_is_steps number setting = elim setting.purpose [
   | Branch ↦ Plain (AccumulateImmediate Compare number) ∷ []
@@ -40,14 +40,14 @@ byte_is_steps number setting = elim setting.purpose [
       else Plain (AccumulateImmediate Subtract number) ∷ []
 ]
 
--- whether A is 0
+-- tests whether A is 0
 abbrev pub is_zero_steps : Setting → List Step
 is_zero_steps setting = elim setting.purpose [
   | Branch ↦ TestA ∷ []
   | Value ↦ []
 ]
 
--- what is asked of A and a number
+-- answers a question about A and a number
 abbrev pub number_in_a_steps : NumberQuestion → Setting → List Step
 number_in_a_steps Never setting = []
 number_in_a_steps (Below number) setting =
@@ -59,7 +59,7 @@ number_in_a_steps (Is number) setting =
     else if nat_lt number 256 then byte_is_steps number setting
     else []
 
--- and how that leaves the answer
+-- the place where that leaves the answer
 abbrev pub number_in_a_answer : NumberQuestion → Answer
 number_in_a_answer Never = Known false
 number_in_a_answer (Below number) =
@@ -71,13 +71,13 @@ number_in_a_answer (Is number) =
     else if nat_lt number 256 then Zero
     else Known false
 
--- the answer to a question about a BYTE that does not depend on it
+-- the answer to a question about a BYTE, if it is the same for every BYTE
 abbrev pub known_answer : NumberQuestion → Option Bool
 known_answer Never = Some false
 known_answer (Below number) = if nat_lt 255 number then Some true else None
 known_answer (Is number) = if nat_lt 255 number then Some false else None
 
--- what is asked of a BYTE and a number
+-- answers a question about a BYTE and a number
 abbrev pub byte_number_steps : (operand : ExpressionNumber) → NumberQuestion → Setting → List Step
 byte_number_steps operand question setting = elim (known_answer question) [
   | Some answer ↦ known_steps operand setting
@@ -90,7 +90,7 @@ byte_number_answer question = elim (known_answer question) [
   | None ↦ number_in_a_answer question
 ]
 
--- the operation that answers a question: where equality is asked for a value, A is to be 0
+-- the operation that answers a question; for equality as a value it leaves 0 in A
 abbrev pub comparing : Question → Setting → Operation
 comparing LeftBelow setting = Compare
 comparing RightBelow setting = Compare
@@ -99,25 +99,25 @@ comparing Equal setting = elim setting.purpose [
   | Value ↦ Subtract
 ]
 
--- how the operation leaves the answer
+-- the place where the operation leaves the answer
 abbrev pub answer_to : Question → Answer
 answer_to LeftBelow = Carry
 answer_to RightBelow = Carry
 answer_to Equal = Zero
 
--- the left operand in A
+-- the left operand first, in A
 abbrev pub in_order : Comparison → Sides
 in_order comparison = record { first = comparison.left; second = comparison.right; is_in_order = true }
 
--- the right operand in A
+-- the right operand first, in A
 abbrev pub exchanged : Comparison → Sides
 exchanged comparison = record { first = comparison.right; second = comparison.left; is_in_order = false }
 
--- whether the operands can be evaluated with this one first
+-- whether this operand can be evaluated first
 abbrev pub may_begin_with : Site → Comparison → (is_left : Bool) → Bool
 may_begin_with site comparison is_left = is_left || may_exchange site comparison.left comparison.right
 
--- the comparison of A with a byte in memory, where it can be made
+-- the comparison of A with a byte in memory, if possible
 abbrev pub memory_form : Site → Comparison → Sides → Option Form
 memory_form site comparison sides = elim (operand_in_memory site sides.second) [
   | Some reference ↦
@@ -125,14 +125,14 @@ memory_form site comparison sides = elim (operand_in_memory site sides.second) [
   | None ↦ None
 ]
 
--- the comparison of A with E, where it can be made
+-- the comparison of A with E, if possible
 abbrev pub register_form : Site → Comparison → Sides → Option Form
 register_form site comparison sides =
     if is_free site sides.first && may_begin_with site comparison (not sides.is_in_order)
     then Some (WithE sides)
     else None
 
--- the better one of the two comparisons without a push, where one can be made
+-- the better one of the two comparisons without a push, if any is possible
 unfoldable pub without_push : Site → Comparison → Sides → Option Form
 without_push site comparison sides =
     if is_some (register_form site comparison sides) && is_byte_in_register site sides.second
@@ -142,15 +142,16 @@ without_push site comparison sides =
       | None ↦ register_form site comparison sides
     ]
 
--- whether the operands are better compared with the right one in A: it is at hand, or the address of the left
--- one is in HL and stays there
+-- whether the comparison with the right operand in A is better: a register holds it, or HL holds the address
+-- of the left one and the code of the right one changes only A
 unfoldable pub is_better_exchanged : Site → Comparison → Bool
 is_better_exchanged site comparison =
     if is_byte_in_register site comparison.left then false
     else is_byte_in_register site comparison.right
     || is_at_hl site comparison.left && is_free site comparison.right
 
--- the better one of the comparisons with the left one in A and with the right one, or the one with a push
+-- the better one of the comparisons with the left one in A and with the right one in A; else the one with a
+-- push
 abbrev pub better_form : (one other : Option Form) → (is_other_better : Bool) → Form
 better_form (Some form) (Some other) true = other
 better_form (Some (WithE sides)) (Some (WithMemory others reference)) false = WithMemory others reference
@@ -158,19 +159,19 @@ better_form (Some form) other is_other_better = form
 better_form None (Some other) is_other_better = other
 better_form None None is_other_better = Pushed
 
--- how equality is tested: either operand may be in A
+-- the form of a test for equality: either operand may be in A
 abbrev pub form_of_equality : Site → Comparison → Form
 form_of_equality site comparison =
     better_form (without_push site comparison (in_order comparison))
     (without_push site comparison (exchanged comparison))
     (is_better_exchanged site comparison)
 
--- how two operands are compared with one of them in A, or with a push
+-- the given form, or the one with a push
 abbrev pub form_or_push : Option Form → Form
 form_or_push (Some form) = form
 form_or_push None = Pushed
 
--- how two operands are compared
+-- the form of a comparison of two operands
 unfoldable pub form_of : Site → Comparison → Form
 form_of site comparison = elim comparison.question [
   | LeftBelow ↦ form_or_push (without_push site comparison (in_order comparison))
@@ -178,12 +179,12 @@ form_of site comparison = elim comparison.question [
   | Equal ↦ form_of_equality site comparison
 ]
 
--- the first operand is compared with the second one in memory
+-- compares the first operand with the second one in memory
 abbrev pub with_memory_steps : Sides → Reference → Operation → (pushed : ℕ) → List Step
 with_memory_steps sides reference operation pushed =
     part (Byte sides.first) pushed ∷ part (Address reference) pushed ∷ Plain (with_memory operation) ∷ []
 
--- the first operand is compared with the second one in E
+-- compares the first operand with the second one in E
 abbrev pub with_e_steps : Sides → Operation → (pushed : ℕ) → List Step
 with_e_steps sides operation pushed =
     part (Byte sides.second) pushed
@@ -192,13 +193,13 @@ with_e_steps sides operation pushed =
     ∷ Plain (with_register operation E)
     ∷ []
 
--- the left operand comes back from the stack: into A where it is to be below the right one, which goes to B
+-- pops the left operand: into A if it is tested to be below the right one, which is moved to B
 abbrev pub left_back_steps : Question → List Step
 left_back_steps LeftBelow = plain (copy B A ∷ Pop Psw ∷ [])
 left_back_steps RightBelow = Plain (Pop StackBc) ∷ []
 left_back_steps Equal = Plain (Pop StackBc) ∷ []
 
--- two operands are compared of which the left one is pushed
+-- compares two operands, and pushes the left one
 abbrev pub pushed_steps : Comparison → Operation → (pushed : ℕ) → List Step
 pushed_steps comparison operation pushed =
     part (Byte comparison.left) pushed
@@ -207,7 +208,7 @@ pushed_steps comparison operation pushed =
     ∷ left_back_steps comparison.question
     ++ (Plain (with_register operation B) ∷ [])
 
--- what is asked of two BYTEs; the answer is left as `answer_to` says
+-- answers a question about two BYTEs; `answer_to` is the place of the answer
 abbrev pub byte_relation_steps : Site → Comparison → Setting → List Step
 byte_relation_steps site comparison setting =
     let operation = comparing comparison.question setting in

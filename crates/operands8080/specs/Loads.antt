@@ -1,4 +1,4 @@
--- The code of values in memory.
+-- Code that loads values from memory.
 use Rattle.std.specs.Prelude.{ℕ, ◌==◌, List, [], ◌∷◌, ◌++◌, Option, Some, None, if◌then◌else◌}
 use Rattle.isa8080.specs.declared.instr.Instr.TheVariants.{Pop, Push}
 use Rattle.isa8080.specs.declared.instr.Register.TheVariants.{A, H, L}
@@ -18,11 +18,11 @@ use Rattle.steps8080.specs.Queries.{location_of}
 use Rattle.steps8080.specs.Site.{distance}
 use Rattle.operands8080.specs.Addresses.{hold_word_steps, location_address_steps, location_word_steps, word_at_hl_steps}
 
--- the word at the stack pointer into HL
+-- puts the word at the stack pointer into HL
 abbrev pub top_word_steps : List Step
 top_word_steps = plain (Pop StackHl ∷ Push StackHl ∷ [])
 
--- the byte at a location of the frame into A, where this comes first
+-- puts the byte at a location of the frame into A, if these steps come first
 abbrev pub frame_byte_steps : Site → Location → (away pushed : ℕ) → List Step
 frame_byte_steps site location away pushed =
     if away == 0 then top_word_steps ++ hold_word_steps location ++ (Plain (copy A L) ∷ [])
@@ -30,7 +30,7 @@ frame_byte_steps site location away pushed =
     then top_word_steps ++ hold_word_steps (before location) ++ (Plain (copy A H) ∷ [])
     else location_address_steps site location pushed ++ (Plain (load A) ∷ [])
 
--- the byte at a location into A, where this comes first; where the location is static, A alone changes
+-- puts the byte at a location into A, if these steps come first; for a static location, only A changes
 abbrev pub location_byte_steps : Site → Location → (pushed : ℕ) → List Step
 location_byte_steps site location pushed =
     if is_at site.facts.byte_in_a location then []
@@ -43,21 +43,21 @@ location_byte_steps site location pushed =
       ]
     ]
 
--- the byte of a part of memory into A, where this comes first
+-- puts the byte of a part of memory into A, if these steps come first
 abbrev pub byte_in_memory_steps : Site → Reference → (pushed : ℕ) → List Step
 byte_in_memory_steps site reference pushed = elim (location_of site reference) [
   | Some location ↦ location_byte_steps site location pushed
   | None ↦ part (Address reference) pushed ∷ Plain (load A) ∷ []
 ]
 
--- the byte at a location of the frame into L, where this comes first; A and DE are kept
+-- puts the byte at a location of the frame into L, if these steps come first; A and DE are kept
 abbrev pub frame_byte_to_l_steps : Site → Location → (away pushed : ℕ) → List Step
 frame_byte_to_l_steps site location away pushed =
     if away == 0 then top_word_steps
     else if away == 1 then top_word_steps ++ (Plain (copy L H) ∷ [])
     else location_address_steps site location pushed ++ (Plain (load L) ∷ [])
 
--- the byte at a location into L, where this comes first; A and DE are kept
+-- puts the byte at a location into L, if these steps come first; A and DE are kept
 abbrev pub byte_to_l_steps : Site → Location → (pushed : ℕ) → List Step
 byte_to_l_steps site location pushed =
     if is_at site.facts.word_in_hl location then []
@@ -70,15 +70,16 @@ byte_to_l_steps site location pushed =
       ]
     ]
 
--- the byte of a part of memory into HL, with zeros added, where this comes first; A and DE are kept where the
--- address keeps them
+-- puts the byte of a part of memory into HL, zero-extended, if these steps come first; A and DE are kept if
+-- the code for the address keeps them
 abbrev pub extended_byte_in_memory_steps : Site → Reference → (pushed : ℕ) → List Step
 extended_byte_in_memory_steps site reference pushed = elim (location_of site reference) [
   | Some location ↦ byte_to_l_steps site location pushed ++ (Plain (set H 0) ∷ [])
   | None ↦ part (Address reference) pushed ∷ plain (load L ∷ set H 0 ∷ [])
 ]
 
--- the word of a part of memory into HL, where this comes first; DE is kept where the address keeps it
+-- puts the word of a part of memory into HL, if these steps come first; DE is kept if that for the address
+-- keeps it
 abbrev pub word_in_memory_steps : Site → Reference → (pushed : ℕ) → List Step
 word_in_memory_steps site reference pushed = elim (location_of site reference) [
   | Some location ↦ location_word_steps site location pushed

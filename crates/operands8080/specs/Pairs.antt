@@ -1,4 +1,4 @@
--- The code of two words, of which one comes into HL and the other into DE.
+-- Code that puts two words into HL and DE.
 use Rattle.std.specs.Prelude.{ℕ, ◌+◌, ◌%◌, Bool, ◌&&◌, List, [], ◌∷◌, ◌++◌, Option, Some, None, if◌then◌else◌}
 use Rattle.isa8080.specs.declared.instr.Instr.TheVariants.{Pop, Push, Xchg}
 use Rattle.isa8080.specs.declared.instr.Pair.TheVariants.{De}
@@ -21,11 +21,11 @@ use Rattle.operands8080.specs.declared.pairs.PairForm.TheVariants.{RightKnown, L
 use Rattle.operands8080.specs.declared.pairs.PairOrder.{PairOrder}
 use Rattle.operands8080.specs.declared.pairs.PairOrder.TheVariants.{LeftInHl, RightInHl}
 
--- whether an operand is a byte that can be put into A by code that changes A alone
+-- whether an operand is a byte that code can put into A without changing anything but A and the flags
 abbrev pub is_free_byte : Site → ExpressionNumber → Bool
 is_free_byte site number = fits_byte site number && is_free site number
 
--- what two operands allow
+-- the choices for two operands
 abbrev pub choices_of : Site → (left right : ExpressionNumber) → Choices
 choices_of site left right = record {
   right_keeps = (keeps site right).de;
@@ -36,7 +36,7 @@ choices_of site left right = record {
   right_is_in_hl = is_word_in_hl site right;
 }
 
--- the form where either order will do
+-- the form if either order will do
 abbrev pub any_order : Choices → PairForm
 any_order choices =
     if choices.left_keeps && choices.right_is_in_hl then LeftKeeps
@@ -46,7 +46,7 @@ any_order choices =
     else if choices.left_is_free then LeftFree
     else Pushed
 
--- where the left one is wanted in HL
+-- the form if the left one is wanted in HL
 abbrev pub left_in_hl : Choices → PairForm
 left_in_hl choices =
     if choices.left_is_in_hl && choices.right_is_free then RightFree
@@ -55,7 +55,7 @@ left_in_hl choices =
     else if choices.right_is_free then RightFree
     else any_order choices
 
--- where the right one is wanted in HL
+-- the form if the right one is wanted in HL
 abbrev pub right_in_hl : Choices → PairForm
 right_in_hl choices =
     if choices.right_is_in_hl && choices.left_is_free then LeftFree
@@ -64,7 +64,7 @@ right_in_hl choices =
     else if choices.left_is_free then LeftFree
     else any_order choices
 
--- the form in which two operands come into HL and DE
+-- the form in which two operands are put into HL and DE
 abbrev pub pair_form : Site → (left right : ExpressionNumber) → (wish : Option PairOrder) → PairForm
 pair_form site left right wish = elim (known site right) [
   | Some place ↦ RightKnown place
@@ -80,7 +80,7 @@ pair_form site left right wish = elim (known site right) [
   ]
 ]
 
--- which operand is in HL after a form
+-- the operand that is in HL after a form
 abbrev pub order_of : PairForm → PairOrder
 order_of (RightKnown place) = LeftInHl
 order_of (LeftKnown place) = RightInHl
@@ -90,21 +90,21 @@ order_of RightFree = LeftInHl
 order_of LeftFree = RightInHl
 order_of Pushed = RightInHl
 
--- the first one into HL, then a known word into DE
+-- puts the first one into HL, then a known word into DE
 abbrev pub with_known_steps : (first : ExpressionNumber) → Place → (pushed : ℕ) → List Step
 with_known_steps first place pushed = part (tasks.Word first) pushed ∷ Word (LoadPair De) place ∷ []
 
--- the first one into DE, then the second one, which leaves DE alone, into HL
+-- puts the first one into DE, then the second one into HL; the code of the second one keeps DE
 abbrev pub with_exchange_steps : (first second : ExpressionNumber) → (pushed : ℕ) → List Step
 with_exchange_steps first second pushed =
     part (tasks.Word first) pushed ∷ Plain Xchg ∷ part (tasks.Word second) pushed ∷ []
 
--- the first one into HL, then the second one, a byte whose code changes A alone, into DE
+-- puts the first one into HL, then the second one, a byte with code that changes only A, into DE
 abbrev pub with_byte_steps : (first second : ExpressionNumber) → (pushed : ℕ) → List Step
 with_byte_steps first second pushed =
     part (tasks.Word first) pushed ∷ part (tasks.Byte second) pushed ∷ plain (copy E A ∷ set D 0 ∷ [])
 
--- the first one onto the stack, then the second one into HL, and the first one into DE
+-- pushes the first one, puts the second one into HL, and pops the first one into DE
 abbrev pub with_stack_steps : (first second : ExpressionNumber) → (pushed : ℕ) → List Step
 with_stack_steps first second pushed =
     part (tasks.Word first) pushed
@@ -113,7 +113,7 @@ with_stack_steps first second pushed =
     ∷ Plain (Pop StackDe)
     ∷ []
 
--- two operands in a form
+-- puts two operands into HL and DE in a form
 abbrev pub form_steps : PairForm → (left right : ExpressionNumber) → (pushed : ℕ) → List Step
 form_steps (RightKnown place) left right pushed = with_known_steps left place pushed
 form_steps (LeftKnown place) left right pushed = with_known_steps right place pushed
@@ -123,35 +123,35 @@ form_steps RightFree left right pushed = with_byte_steps left right pushed
 form_steps LeftFree left right pushed = with_byte_steps right left pushed
 form_steps Pushed left right pushed = with_stack_steps left right pushed
 
--- they change places where they are not in the order that is wished for
+-- exchanges both if they are not in the wanted order
 abbrev pub wished_steps : (wish : Option PairOrder) → (order : PairOrder) → List Step
 wished_steps None order = []
 wished_steps (Some LeftInHl) LeftInHl = []
 wished_steps (Some RightInHl) RightInHl = []
 wished_steps (Some wish) order = Plain Xchg ∷ []
 
--- two operands into HL and DE, in the order that is wished for, if one is
+-- puts two operands into HL and DE, in the wanted order if one is given
 abbrev pub pair_in_order_steps :
     Site → (left right : ExpressionNumber) → (wish : Option PairOrder) → (pushed : ℕ) → List Step
 pair_in_order_steps site left right wish pushed =
     let form = pair_form site left right wish in
     form_steps form left right pushed ++ wished_steps wish (order_of form)
 
--- and that order
+-- the operand that is in HL then
 abbrev pub pair_order_by : Site → (left right : ExpressionNumber) → (wish : Option PairOrder) → PairOrder
 pair_order_by site left right (Some wish) = wish
 pair_order_by site left right None = order_of (pair_form site left right None)
 
--- the order that is wished for where the left one is wanted in HL, or either will do
+-- the wanted order if the left one is wanted in HL; none if either will do
 abbrev pub wish_for_left : (wants_left_in_hl : Bool) → Option PairOrder
 wish_for_left wants_left_in_hl = if wants_left_in_hl then Some LeftInHl else None
 
--- two operands into HL and DE; the left one into HL where that is wanted
+-- puts two operands into HL and DE, the left one into HL if that is wanted
 abbrev pub pair_steps :
     Site → (left right : ExpressionNumber) → (wants_left_in_hl : Bool) → (pushed : ℕ) → List Step
 pair_steps site left right wants_left_in_hl pushed =
     pair_in_order_steps site left right (wish_for_left wants_left_in_hl) pushed
 
--- and which of them is in HL
+-- the operand that is in HL then
 abbrev pub pair_order : Site → (left right : ExpressionNumber) → (wants_left_in_hl : Bool) → PairOrder
 pair_order site left right wants_left_in_hl = pair_order_by site left right (wish_for_left wants_left_in_hl)

@@ -27,7 +27,7 @@ use Rattle.operands8080.specs.declared.relations.Outcome.TheVariants.{Known, Whe
 use Rattle.operands8080.specs.ByteRelations.{answer_to, byte_number_answer, byte_number_steps, byte_relation_steps}
 use Rattle.operands8080.specs.WordRelations.{word_number_answer, word_number_steps, word_relation_steps}
 
--- where a relation holds by the answer to its question
+-- the outcome of a relation from the answer to its question
 abbrev pub outcome_of : Answer → (holds_if : Bool) → Outcome
 outcome_of (answers.Known answer) holds_if = Known (agree answer holds_if)
 outcome_of answers.Carry true = Where conditions.Carry
@@ -35,7 +35,7 @@ outcome_of answers.Carry false = Where conditions.NoCarry
 outcome_of answers.Zero true = Where conditions.Zero
 outcome_of answers.Zero false = Where conditions.NotZero
 
--- what is asked of an operand and a number
+-- answers a question about an operand and a number
 abbrev pub number_steps : Site → ExpressionNumber → ScalarType → NumberQuestion → Setting → List Step
 number_steps site operand Byte question setting = byte_number_steps operand question setting
 number_steps site operand Address question setting = word_number_steps site operand question setting
@@ -44,14 +44,14 @@ abbrev pub number_answer : Site → ExpressionNumber → ScalarType → NumberQu
 number_answer site operand Byte question = byte_number_answer question
 number_answer site operand Address question = word_number_answer site operand question
 
--- what is asked of two operands
+-- answers a question about two operands
 abbrev pub comparison_steps : Site → Comparison → Setting → List Step
 comparison_steps site comparison setting = elim comparison.operands [
   | Byte ↦ byte_relation_steps site comparison setting
   | Address ↦ word_relation_steps site comparison setting
 ]
 
--- what a relation asks
+-- answers the question of a relation
 abbrev pub inquiry_steps : Site → Inquiry → Setting → List Step
 inquiry_steps site (Between comparison) setting = comparison_steps site comparison setting
 inquiry_steps site (WithNumber operand scalar question) setting =
@@ -64,29 +64,29 @@ inquiry_answer site (WithNumber operand scalar question) = number_answer site op
 abbrev pub relation_steps : Site → Relation → Setting → List Step
 relation_steps site relation setting = inquiry_steps site relation.inquiry setting
 
--- where it holds after that
+-- the outcome of the relation then
 abbrev pub relation_outcome : Site → Relation → Outcome
 relation_outcome site relation = outcome_of (inquiry_answer site relation.inquiry) relation.holds_if
 
--- the carry becomes that of an outcome
+-- sets the carry if the outcome is true, and clears it otherwise
 abbrev pub carry_steps : Condition → List Step
 carry_steps conditions.NoCarry = Plain Cmc ∷ []
 carry_steps conditions.Zero = Plain (AccumulateImmediate Subtract 1) ∷ []
 carry_steps conditions.NotZero = Plain (AccumulateImmediate Add 255) ∷ []
 carry_steps condition = []
 
--- 0FFH into A where an outcome is true, else 0
+-- puts 0FFH into A if an outcome is true, else 0
 abbrev pub outcome_value_steps : Outcome → List Step
 outcome_value_steps (Known true) = Plain (set A 255) ∷ []
 outcome_value_steps (Known false) = Plain clear_a ∷ []
 outcome_value_steps (Where condition) =
     carry_steps condition ++ (Plain (with_register SubtractWithBorrow A) ∷ [])
 
--- a relation is asked for a value
+-- the setting of a relation that is asked for a value
 abbrev pub value_setting : (pushed : ℕ) → Setting
 value_setting pushed = record { purpose = Value; pushed = pushed }
 
--- 0FFH into A where a relation holds, else 0; nothing where the expression is no relation
+-- puts 0FFH into A if a relation holds, else 0; no steps if the expression is not a relation
 abbrev pub relation_value_steps : Site → ExpressionNumber → (pushed : ℕ) → List Step
 relation_value_steps site operand pushed = elim (relation_of site operand) [
   | Some relation ↦

@@ -1,4 +1,4 @@
--- The code of stores of a value that is in A or HL.
+-- Code that stores a value from A or HL.
 use Rattle.std.specs.Prelude.{ℕ, ◌+◌, ◌%◌, ◌==◌, Bool, true, false, ◌&&◌, not, List, [], ◌∷◌, ◌++◌, Option, Some, None, if◌then◌else◌}
 use Rattle.isa8080.specs.declared.instr.Instr.TheVariants.{Inx, MovToMemory, Mvi, Out, Pop, Push, Xchg}
 use Rattle.isa8080.specs.declared.instr.Operand.TheVariants.{M}
@@ -26,7 +26,7 @@ use Rattle.operands8080.specs.declared.stores.Goal.{Goal}
 use Rattle.operands8080.specs.declared.stores.Near.{Near}
 use Rattle.operands8080.specs.declared.stores.Near.TheVariants.{First, Second}
 
--- the scalar that a value goes to
+-- the scalar that a value is stored in
 abbrev pub goal_of : Site → (to : ScalarType) → Reference → Goal
 goal_of site to reference = record {
   to = to;
@@ -35,42 +35,42 @@ goal_of site to reference = record {
   keeps = keeps_of_address site reference;
 }
 
--- which word next to the stack pointer lies so far above it, if it is one
+-- the word next to the stack pointer at this distance above it, if any
 abbrev pub near_at : (away : ℕ) → Option Near
 near_at away =
     if away == 0 then Some First
     else if away == 2 then Some Second
     else None
 
--- which word next to the stack pointer a location is, if it is one
+-- the word next to the stack pointer that is at a location, if any
 abbrev pub word_near : Site → Location → (pushed : ℕ) → Option Near
 word_near site (Static place) pushed = None
 word_near site (Frame variable offset) pushed = near_at (distance site variable offset pushed)
 
--- what is known of HL after a word was stored from it
+-- notes that HL holds the word that was stored from it
 abbrev pub word_is_here_steps : Option Location → List Step
 word_is_here_steps location = Holds (record no_facts { word_in_hl = location }) ∷ []
 
--- what is known of A after its byte was stored
+-- notes that A holds the byte that was stored from it
 abbrev pub byte_is_here_steps : Option Location → List Step
 byte_is_here_steps location = Holds (record no_facts { byte_in_a = location }) ∷ []
 
--- HL takes the place of a word next to the stack pointer
+-- replaces a word next to the stack pointer by HL
 abbrev pub exchange_near : Near → List Step
 exchange_near First = plain (Pop StackBc ∷ Push StackHl ∷ [])
 exchange_near Second = plain (Pop StackBc ∷ Pop StackDe ∷ Push StackHl ∷ Push StackBc ∷ [])
 
--- HL is stored in a word next to the stack pointer
+-- stores HL in a word next to the stack pointer
 abbrev pub store_near_steps : Near → Location → List Step
 store_near_steps near location = exchange_near near ++ (MemoryChanged ∷ word_is_here_steps (Some location))
 
--- an address into HL while A keeps its value
+-- puts an address into HL while A keeps its value
 abbrev pub address_beside_a_steps : Goal → (pushed : ℕ) → List Step
 address_beside_a_steps goal pushed =
     if goal.keeps.a then part (tasks.Address goal.reference) pushed ∷ []
     else Plain (Push Psw) ∷ part (tasks.Address goal.reference) ((pushed + 2) % 65536) ∷ Plain (Pop Psw) ∷ []
 
--- an address into HL, and the value that was there into DE
+-- puts an address into HL, and the value that was in HL into DE
 abbrev pub address_beside_de_steps : Goal → (pushed : ℕ) → List Step
 address_beside_de_steps goal pushed =
     if goal.keeps.de then Plain Xchg ∷ part (tasks.Address goal.reference) pushed ∷ []
@@ -79,19 +79,19 @@ address_beside_de_steps goal pushed =
     ∷ Plain (Pop StackDe)
     ∷ []
 
--- the high byte of an ADDRESS, which is 0, after the low one
+-- stores the high byte of an ADDRESS, which is 0, after the low one
 abbrev pub high_zero_steps : Goal → List Step
 high_zero_steps goal = elim goal.to [
   | Byte ↦ []
   | Address ↦ plain (Inx Hl ∷ Mvi M 0 ∷ []) ++ byte_is_here_steps goal.location
 ]
 
--- A is stored at an address that is computed; the value stays in A
+-- stores A at a computed address; the value stays in A
 abbrev pub store_a_at_steps : Goal → (pushed : ℕ) → List Step
 store_a_at_steps goal pushed =
     address_beside_a_steps goal pushed ++ (Plain (MovToMemory A) ∷ high_zero_steps goal)
 
--- A is stored in an ADDRESS at a location; the value stays in A
+-- stores A in an ADDRESS at a location; the value stays in A
 abbrev pub store_extended_steps : Site → Goal → Location → (pushed : ℕ) → List Step
 store_extended_steps site goal (Static place) pushed =
     extension_steps ++ (Word StoreHl place ∷ byte_is_here_steps (Some (Static place)))
@@ -102,7 +102,7 @@ store_extended_steps site goal (Frame variable offset) pushed =
       | None ↦ store_a_at_steps goal pushed
     ]
 
--- A is stored; the value stays in A
+-- stores A; the value stays in A
 abbrev pub store_a_steps : Site → Goal → (pushed : ℕ) → List Step
 store_a_steps site goal pushed = elim goal.location [
   | None ↦ store_a_at_steps goal pushed
@@ -115,14 +115,14 @@ store_a_steps site goal pushed = elim goal.location [
   ]
 ]
 
--- the high byte of a word after the low one, where it goes to an ADDRESS
+-- stores the high byte of a word after the low one, if the scalar is an ADDRESS
 abbrev pub high_byte_steps : Goal → List Step
 high_byte_steps goal = elim goal.to [
   | Byte ↦ []
   | Address ↦ plain (Inx Hl ∷ MovToMemory D ∷ [])
 ]
 
--- the value comes back into HL where it is wanted
+-- puts the value back into HL if it is wanted
 abbrev pub value_back_steps : Goal → (is_wanted : Bool) → List Step
 value_back_steps goal false = []
 value_back_steps goal true = Plain Xchg ∷ elim goal.to [
@@ -130,19 +130,19 @@ value_back_steps goal true = Plain Xchg ∷ elim goal.to [
   | Address ↦ word_is_here_steps goal.location
 ]
 
--- the value in HL, or its low byte, is stored at an address that is computed
+-- stores the value in HL, or its low byte, at a computed address
 abbrev pub store_hl_at_steps : Goal → (is_wanted : Bool) → (pushed : ℕ) → List Step
 store_hl_at_steps goal is_wanted pushed =
     address_beside_de_steps goal pushed ++ (Plain (MovToMemory E) ∷ high_byte_steps goal)
     ++ value_back_steps goal is_wanted
 
--- the low byte of HL is stored at an address that is computed: by way of A where that is shorter
+-- stores the low byte of HL at a computed address, through A if that is shorter
 abbrev pub store_low_byte_at_steps : Goal → (is_wanted : Bool) → (pushed : ℕ) → List Step
 store_low_byte_at_steps goal is_wanted pushed =
     if goal.keeps.a && not is_wanted then Plain (copy A L) ∷ store_a_at_steps goal pushed
     else store_hl_at_steps goal is_wanted pushed
 
--- the low byte of HL is stored
+-- stores the low byte of HL
 abbrev pub store_low_byte_steps : Goal → (is_wanted : Bool) → (pushed : ℕ) → List Step
 store_low_byte_steps goal is_wanted pushed = elim goal.location [
   | None ↦ store_low_byte_at_steps goal is_wanted pushed
@@ -152,7 +152,7 @@ store_low_byte_steps goal is_wanted pushed = elim goal.location [
   ]
 ]
 
--- HL is stored in an ADDRESS
+-- stores HL in an ADDRESS
 abbrev pub store_word_steps : Site → Goal → (is_wanted : Bool) → (pushed : ℕ) → List Step
 store_word_steps site goal is_wanted pushed = elim goal.location [
   | None ↦ store_hl_at_steps goal is_wanted pushed
@@ -165,13 +165,13 @@ store_word_steps site goal is_wanted pushed = elim goal.location [
   ]
 ]
 
--- the low byte of a value goes to a port
+-- sends the low byte of a value to a port
 abbrev pub send_steps : (from : ScalarType) → (port : ℕ) → List Step
 send_steps Byte port = Plain (Out port) ∷ []
 send_steps Address port = Plain (copy A L) ∷ Plain (Out port) ∷ []
 
--- the value in A (from a BYTE) or HL (from an ADDRESS) is stored in a scalar; where it `is_wanted` after it, it
--- is in the same register then
+-- stores the value in A (from a BYTE) or HL (from an ADDRESS) in a scalar; if it `is_wanted` afterwards, it
+-- is still in that register
 abbrev pub goal_steps : Site → (from : ScalarType) → Goal → (is_wanted : Bool) → (pushed : ℕ) → List Step
 goal_steps site Byte goal is_wanted pushed = store_a_steps site goal pushed
 goal_steps site Address goal is_wanted pushed = elim goal.to [
@@ -179,7 +179,7 @@ goal_steps site Address goal is_wanted pushed = elim goal.to [
   | Address ↦ store_word_steps site goal is_wanted pushed
 ]
 
--- and in a target
+-- stores it in a target
 abbrev pub store_steps : Site → Target → (is_wanted : Bool) → (pushed : ℕ) → List Step
 store_steps site (Sent from port) is_wanted pushed = send_steps from port
 store_steps site (Stored from to reference) is_wanted pushed =

@@ -53,7 +53,7 @@ in_hl = record { low = L; high = H }
 abbrev pub in_de : WordRegisters
 in_de = record { low = E; high = D }
 
--- the ADDRESS and the number of which an expression is the AND, if it is one
+-- the ADDRESS and the number, if an expression is the AND of both
 abbrev pub masked_form : Site → ExpressionForm → Option (ExpressionNumber × ℕ)
 masked_form site (Binary scalars.Address operators.And left right) = elim (queries.number site right) [
   | Some mask ↦ Some (left, mask)
@@ -70,11 +70,11 @@ masked site operand = elim (expression site operand) [
   | None ↦ None
 ]
 
--- the byte at a place into A
+-- loads the byte at a place into A
 abbrev pub load_a_steps : Place → List Step
 load_a_steps place = steps.Word LoadA place ∷ []
 
--- the high byte of an ADDRESS into A: by way of HL, or from memory
+-- puts the high byte of an ADDRESS into A: through HL, or from memory
 abbrev pub high_by_hl_steps : ExpressionNumber → (pushed : ℕ) → List Step
 high_by_hl_steps operand pushed = part (Word operand) pushed ∷ Plain (copy A H) ∷ []
 
@@ -89,7 +89,7 @@ high_byte_steps site operand pushed = elim (high_byte_in_memory site operand) [
   | None ↦ high_by_hl_steps operand pushed
 ]
 
--- whether HL is below a number
+-- tests whether HL is below a number
 abbrev pub below_steps : (number : ℕ) → List Step
 below_steps number =
     plain
@@ -99,13 +99,13 @@ below_steps number =
     ∷ AccumulateImmediate SubtractWithBorrow (high number)
     ∷ [])
 
--- a number is taken from HL
+-- subtracts a number from HL
 abbrev pub difference_steps : (number : ℕ) → List Step
 difference_steps number =
     if nat_lt (negated number) 4 then repeat_steps (Inx Hl) (negated number)
     else plain (Lxi De (negated number) ∷ Dad De ∷ [])
 
--- whether HL is a number
+-- tests whether HL is a number
 abbrev pub word_is_steps : (number : ℕ) → List Step
 word_is_steps number =
     if number == 0 then plain (copy A L ∷ with_register Or H ∷ [])
@@ -113,13 +113,13 @@ word_is_steps number =
     then plain (copy A L ∷ AccumulateImmediate ExclusiveOr (low number) ∷ with_register Or H ∷ [])
     else difference_steps number ++ plain (copy A L ∷ with_register Or H ∷ [])
 
--- the only byte of an ADDRESS of which a mask has bits, into A, with the other bits 0
+-- ANDs an ADDRESS with a mask that has bits in only one byte, and puts that byte into A
 abbrev pub masked_steps : Site → ExpressionNumber → (mask pushed : ℕ) → List Step
 masked_steps site operand mask pushed =
     if nat_lt mask 256 then part (Byte operand) pushed ∷ Plain (AccumulateImmediate And (low mask)) ∷ []
     else high_byte_steps site operand pushed ++ (Plain (AccumulateImmediate And (high mask)) ∷ [])
 
--- whether an ADDRESS is 0: by its value in HL, or by the byte of it that counts, in A
+-- tests whether an ADDRESS is 0: by its value in HL, or by its only byte that counts, in A
 abbrev pub zero_by_hl_steps : ExpressionNumber → (pushed : ℕ) → List Step
 zero_by_hl_steps operand pushed = part (Word operand) pushed ∷ word_is_steps 0
 
@@ -132,7 +132,7 @@ word_is_zero_steps site operand setting = elim (masked site operand) [
   | None ↦ zero_by_hl_steps operand setting.pushed
 ]
 
--- whether an ADDRESS is below a number, which is not 0
+-- tests whether an ADDRESS is below a number that is not 0
 abbrev pub word_below_steps : Site → ExpressionNumber → (number : ℕ) → Setting → List Step
 word_below_steps site operand number setting =
     if number % 256 == 0
@@ -142,7 +142,7 @@ word_below_steps site operand number setting =
 abbrev pub word_below_answer : (number : ℕ) → Answer
 word_below_answer number = if number % 256 == 0 then number_in_a_answer (Below (number / 256)) else Carry
 
--- what is asked of an ADDRESS and a number
+-- answers a question about an ADDRESS and a number
 abbrev pub word_question_steps : Site → ExpressionNumber → NumberQuestion → Setting → List Step
 word_question_steps site operand Never setting = known_steps operand setting
 word_question_steps site operand (Below number) setting =
@@ -157,7 +157,7 @@ word_question_answer Never = Known false
 word_question_answer (Below number) = if number == 1 then Zero else word_below_answer number
 word_question_answer (Is number) = Zero
 
--- as of a BYTE where its high byte is 0
+-- the same, as about a BYTE if its high byte is 0
 abbrev pub word_number_steps : Site → ExpressionNumber → NumberQuestion → Setting → List Step
 word_number_steps site operand question setting =
     if fits_byte site operand then byte_number_steps operand question setting
@@ -167,28 +167,27 @@ abbrev pub word_number_answer : Site → ExpressionNumber → NumberQuestion →
 word_number_answer site operand question =
     if fits_byte site operand then byte_number_answer question else word_question_answer question
 
--- the place of an ADDRESS that lies in memory at a place without a computed part, if it is one that is not in
--- HL already
+-- the place of an ADDRESS in memory, if it has no computed part and the word is not in HL already
 abbrev pub place_apart : Site → ExpressionNumber → Option Place
 place_apart site operand = if is_word_in_hl site operand then None else direct_word site operand
 
--- an operand as one that stays in memory, where that can be, and the other one
+-- an operand as one that stays in memory, if possible, and the other one
 abbrev pub apart_of : Option Place → (other : ExpressionNumber) → Option Apart
 apart_of None other = None
 apart_of (Some place) other = Some (record { place = place; other = other })
 
--- the left operand
+-- the left operand as one that stays in memory
 abbrev pub left_apart : Site → Comparison → Option Apart
 left_apart site comparison =
     if may_exchange site comparison.left comparison.right
     then apart_of (place_apart site comparison.left) comparison.right
     else None
 
--- the right operand
+-- the right operand as one that stays in memory
 abbrev pub right_apart : Site → Comparison → Option Apart
 right_apart site comparison = apart_of (place_apart site comparison.right) comparison.left
 
--- the operand that stays in memory, from which the other one is taken, where there is one
+-- the operand that stays in memory, from which the other one is subtracted, if any
 unfoldable pub operand_apart : Site → Comparison → Option Apart
 operand_apart site comparison = elim comparison.question [
   | LeftBelow ↦ left_apart site comparison
@@ -199,27 +198,27 @@ operand_apart site comparison = elim comparison.question [
   ]
 ]
 
--- the low byte of a word is taken from A; for equality the difference is kept in B
+-- subtracts the low byte of a word from A; for equality, keeps the difference in B
 abbrev pub low_steps : WordRegisters → Question → List Step
 low_steps word LeftBelow = Plain (with_register Subtract word.low) ∷ []
 low_steps word RightBelow = Plain (with_register Subtract word.low) ∷ []
 low_steps word Equal = Plain (with_register Subtract word.low) ∷ Plain (copy B A) ∷ []
 
--- the high byte of a word is taken from A, after the low one; for equality A is 0 where both are
+-- subtracts the high byte of a word from A, after the low one; for equality, A is 0 if both differences are
 abbrev pub high_steps : WordRegisters → Question → List Step
 high_steps word LeftBelow = Plain (with_register SubtractWithBorrow word.high) ∷ []
 high_steps word RightBelow = Plain (with_register SubtractWithBorrow word.high) ∷ []
 high_steps word Equal =
     Plain (with_register SubtractWithBorrow word.high) ∷ Plain (with_register Or B) ∷ []
 
--- HL is taken from a word in memory
+-- subtracts HL from a word in memory
 abbrev pub with_place_steps : Apart → Question → (pushed : ℕ) → List Step
 with_place_steps apart question pushed =
     part (Word apart.other) pushed ∷ load_a_steps apart.place ++ low_steps in_hl question
     ++ load_a_steps (place_after apart.place 1)
     ++ high_steps in_hl question
 
--- the registers of the operand from which the other one is taken
+-- the registers of the operand from which the other one is subtracted
 abbrev pub word_taken_from : Question → PairOrder → WordRegisters
 word_taken_from LeftBelow LeftInHl = in_hl
 word_taken_from LeftBelow RightInHl = in_de
@@ -227,27 +226,27 @@ word_taken_from RightBelow LeftInHl = in_de
 word_taken_from RightBelow RightInHl = in_hl
 word_taken_from Equal order = in_de
 
--- the other one of the two words in registers
+-- the registers of the other word
 abbrev pub other_word : WordRegisters → WordRegisters
 other_word word = elim word.low [
   | L ↦ in_de
   | register ↦ in_hl
 ]
 
--- a word in registers is taken from another one
+-- subtracts a word in registers from another one
 abbrev pub taken_steps : (from taken : WordRegisters) → Question → List Step
 taken_steps from taken question =
     Plain (copy A from.low) ∷ low_steps taken question
     ++ (Plain (copy A from.high) ∷ high_steps taken question)
 
--- two operands are compared of which one is in HL and the other in DE
+-- compares two operands, one in HL and the other in DE
 abbrev pub with_pair_steps : Site → Comparison → (pushed : ℕ) → List Step
 with_pair_steps site comparison pushed =
     let from = word_taken_from comparison.question (pair_order site comparison.left comparison.right false) in
     pair_steps site comparison.left comparison.right false pushed
     ++ taken_steps from (other_word from) comparison.question
 
--- the two ADDRESSes of which a relation asks whether they are equal, where that takes both their bytes
+-- the two ADDRESSes that a relation tests for equality, if that takes both their bytes
 abbrev pub words_compared : Site → Comparison → Option Comparison
 words_compared site comparison =
     if fits_byte site comparison.left && fits_byte site comparison.right then None else Some comparison
@@ -266,33 +265,33 @@ words_asked site (WithNumber operand scalar question) = None
 unfoldable pub equality_of_words : Site → Relation → Option Comparison
 equality_of_words site relation = words_asked site relation.inquiry
 
--- two ADDRESSes come to where their bytes can be compared
+-- puts two ADDRESSes into places where their bytes can be compared
 abbrev pub words_steps : Site → Comparison → (pushed : ℕ) → List Step
 words_steps site comparison pushed = elim (operand_apart site comparison) [
   | Some apart ↦ part (Word apart.other) pushed ∷ []
   | None ↦ pair_steps site comparison.left comparison.right false pushed
 ]
 
--- and where they are then
+-- the places where they are then
 abbrev pub words_of : Site → Comparison → Words
 words_of site comparison = elim (operand_apart site comparison) [
   | Some apart ↦ PlaceAndHl apart.place
   | None ↦ DeAndHl
 ]
 
--- the difference of the low bytes into A; the words stay where they are
+-- puts the difference of the low bytes into A; the words are kept
 abbrev pub low_difference_steps : Words → List Step
 low_difference_steps (PlaceAndHl place) = load_a_steps place ++ (Plain (with_register Subtract L) ∷ [])
 low_difference_steps DeAndHl = plain (copy A E ∷ with_register Subtract L ∷ [])
 
--- and of the high bytes
+-- puts the difference of the high bytes into A; the words are kept
 abbrev pub high_difference_steps : Words → List Step
 high_difference_steps (PlaceAndHl place) =
     load_a_steps (place_after place 1) ++ (Plain (with_register Subtract H) ∷ [])
 high_difference_steps DeAndHl = plain (copy A D ∷ with_register Subtract H ∷ [])
 
--- what is asked of two ADDRESSes: as of BYTEs where their high bytes are 0; the answer is left as `answer_to`
--- says
+-- answers a question about two ADDRESSes, as about BYTEs if their high bytes are 0; `answer_to` is the place
+-- of the answer
 abbrev pub word_relation_steps : Site → Comparison → Setting → List Step
 word_relation_steps site comparison setting =
     if fits_byte site comparison.left && fits_byte site comparison.right

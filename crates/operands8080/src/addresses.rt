@@ -1,4 +1,4 @@
-//! Addresses of objects and their parts in HL.
+//! Code that puts addresses of objects and their parts into HL.
 
 ghost use Rattle.std.specs.Prelude.{◌≡◌, OnOk};
 ghost use Rattle.steps8080.specs.Step.{Adds};
@@ -38,7 +38,7 @@ pub fn plan_addition(place: Place, steps: &mut Steps) -> Result<(), AllocError>
     }
 }
 
-// HL holds the address of a location.
+// Notes that HL holds the address of a location.
 fn hold_address(location: Location, steps: &mut Steps) -> Result<(), AllocError>
     ensures { OnOk result (Adds steps.old steps.new (hold_address_steps location)) }
 {
@@ -48,7 +48,7 @@ fn hold_address(location: Location, steps: &mut Steps) -> Result<(), AllocError>
     }))
 }
 
-/// HL holds the word at a location.
+/// Notes that HL holds the word at a location.
 pub fn hold_word(location: Location, steps: &mut Steps) -> Result<(), AllocError>
     ensures { OnOk result (Adds steps.old steps.new (hold_word_steps location)) }
 {
@@ -58,7 +58,7 @@ pub fn hold_word(location: Location, steps: &mut Steps) -> Result<(), AllocError
     }))
 }
 
-// The address of a location into HL, whatever is there.
+// Puts the address of a location into HL, whatever the registers hold.
 fn plan_new_address(
     site: &Site<'_>,
     location: Location,
@@ -76,7 +76,7 @@ fn plan_new_address(
     }
 }
 
-/// The address of a location into HL, where this comes first. A and DE are kept.
+/// Puts the address of a location into HL, if these steps come first. A and DE are kept.
 pub fn plan_location_address(
     site: &Site<'_>,
     location: Location,
@@ -111,7 +111,7 @@ pub fn plan_word_at_hl(steps: &mut Steps) -> Result<(), AllocError>
     ])
 }
 
-// The word at a location of the frame into HL, where this comes first. DE is kept.
+// Puts the word at a location of the frame into HL, if these steps come first. DE is kept.
 fn plan_frame_word(
     site: &Site<'_>,
     location: Location,
@@ -138,7 +138,7 @@ fn plan_frame_word(
     hold_word(location, steps)
 }
 
-/// The word at a location into HL, where this comes first. DE is kept, and A where the location is static.
+/// Puts the word at a location into HL, if these steps come first. DE is kept; so is A, if the location is static.
 pub fn plan_location_word(
     site: &Site<'_>,
     location: Location,
@@ -159,7 +159,7 @@ pub fn plan_location_word(
     }
 }
 
-// The address that a base without computed subscripts is, into HL.
+// Puts the address of a base without computed subscripts into HL.
 fn plan_base(site: &Site<'_>, base: Base, pushed: u16, steps: &mut Steps) -> Result<(), AllocError>
     ensures { OnOk result (Adds steps.old steps.new (base_steps site.now base pushed)) }
 {
@@ -178,7 +178,7 @@ fn plan_base(site: &Site<'_>, base: Base, pushed: u16, steps: &mut Steps) -> Res
     }
 }
 
-// Adds the address that a base is to the computed subscripts in HL.
+// Adds the address of a base to the computed subscripts in HL.
 fn plan_base_added(
     site: &Site<'_>,
     base: Base,
@@ -222,7 +222,7 @@ fn plan_second(
     steps.all(&[Instr::Pop(StackPair::StackDe), Instr::Dad(Pair::De)])
 }
 
-/// The address of an object or a part of it into HL.
+/// Puts the address of an object or a part of it into HL.
 pub fn plan_address(
     site: &Site<'_>,
     reference: &Reference,

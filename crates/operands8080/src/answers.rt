@@ -1,4 +1,4 @@
-//! What the answer of a question is wanted for, and how its code leaves it.
+//! The purpose of an answer, and the place where its code leaves it.
 
 ghost use Rattle.std.specs.Prelude.{◌≡◌, IfOk, OnOk};
 ghost use Rattle.operands8080.specs.declared.answers.Answer.TheVariants.{Known};
@@ -9,33 +9,33 @@ use std::alloc::AllocError;
 use steps8080::{Steps, Task};
 use treecode::ExpressionNumber;
 
-/// What the answer of a question is wanted for.
+/// The purpose of the answer to a question.
 #[derive(Clone, Copy)]
 pub enum Purpose {
-    /// A jump: the flags show it.
+    /// A jump: the flags show the answer.
     Branch,
-    /// A value: whether A is 0 may show it.
+    /// A value: whether A is 0 may show the answer.
     Value,
 }
 
-/// Where the code of a question stands, and what the answer is wanted for.
+/// The number of bytes that are pushed where a question is asked, and the purpose of the answer.
 #[derive(Clone, Copy)]
 pub struct Setting {
     pub purpose: Purpose,
     pub pushed: u16,
 }
 
-/// How the code of a question leaves the answer.
+/// The place where the code of a question leaves the answer.
 #[derive(Clone, Copy)]
 pub enum Answer {
     Known(bool),
-    /// It is yes where the carry is set.
+    /// The answer is yes if the carry is set.
     Carry,
-    /// It is yes where the zero flag is set (for a jump), or where A is 0 (for a value).
+    /// The answer is yes if the zero flag is set (for a jump), or if A is 0 (for a value).
     Zero,
 }
 
-/// The steps that evaluate an operand for what that does, where the answer is known.
+/// The steps that evaluate an operand for its effects, when the answer is known.
 pub fn plan_known(
     operand: ExpressionNumber,
     answer: bool,

@@ -1,4 +1,4 @@
-//! Jumps where a condition holds, or where it does not.
+//! Jumps on a condition.
 
 ghost use Rattle.std.specs.Prelude.{◌≡◌, [], ◌∷◌, OnOk};
 ghost use Rattle.steps8080.specs.Step.{Adds, AddsWithLabels};
@@ -15,7 +15,7 @@ use treecode::{ExpressionForm, ExpressionNumber};
 use trees::{BinaryOperator, UnaryOperator};
 use typed_trees::UnaryFunction;
 
-/// A jump to a label where a condition holds (`sense`), or where it does not.
+/// A jump to a label if a condition holds (`sense`), or if it does not.
 #[derive(Clone, Copy)]
 pub struct Branch {
     pub label: LabelNumber,
@@ -23,7 +23,7 @@ pub struct Branch {
     pub pushed: u16,
 }
 
-/// AND or OR, by the answer of one operand that makes it the answer of the whole.
+/// AND or OR, given by the answer of one operand that decides the whole.
 #[derive(Clone, Copy)]
 pub struct Junction {
     pub deciding: bool,
@@ -31,25 +31,25 @@ pub struct Junction {
     pub right: ExpressionNumber,
 }
 
-/// How the lowest bit of a condition comes about.
+/// The source of the lowest bit of a condition.
 #[derive(Clone, Copy)]
 pub enum Shape {
     /// It is known.
     Known(bool),
-    /// It is that of another value.
+    /// It equals that of another value.
     SameAs(ExpressionNumber),
-    /// It is not that of another value.
+    /// It is the negation of that of another value.
     Opposite(ExpressionNumber),
-    /// It is this whatever the value is.
+    /// It is this bit for every value.
     Whatever(ExpressionNumber, bool),
-    /// Both operands, or one of them, have it; the right one changes nothing when it is evaluated.
+    /// AND or OR combines those of two operands. Evaluating the right one changes nothing.
     Joined(Junction),
-    /// It is that of the value alone.
+    /// It has to be computed from the value.
     Other,
 }
 
 impl Branch {
-    // The jump where the condition is the other way round.
+    // The jump on the opposite condition.
     fn opposite(self) -> Branch
         ensures { result ≡ opposite self }
     {
@@ -59,7 +59,7 @@ impl Branch {
         }
     }
 
-    // Adds the jump on a condition of this kind.
+    // Adds the jump on a condition with this sense.
     fn part(self, condition: ExpressionNumber, steps: &mut Steps) -> Result<(), AllocError>
         ensures { OnOk result (Adds steps.old steps.new (branch_part self condition ∷ [])) }
     {
@@ -78,7 +78,7 @@ impl Branch {
         )
     }
 
-    // Adds the jump where the answer is known.
+    // Adds the jump for a known answer.
     fn known(self, answer: bool, steps: &mut Steps) -> Result<(), AllocError>
         ensures { OnOk result (Adds steps.old steps.new (known_branch_steps self answer)) }
     {
@@ -89,7 +89,7 @@ impl Branch {
         }
     }
 
-    // Adds the jump where the answer is yes where the flags are so.
+    // Adds the jump for an answer that is yes if a condition of the flags holds.
     fn where_flags(self, condition: Condition, steps: &mut Steps) -> Result<(), AllocError>
         ensures { OnOk result (Adds steps.old steps.new (where_flags_steps self condition)) }
     {
@@ -102,7 +102,7 @@ impl Branch {
     }
 }
 
-// The condition that holds where another does not.
+// The condition that holds if the given one does not.
 fn negated(condition: Condition) -> Condition
     ensures { result ≡ opposite_condition condition }
 {
@@ -224,7 +224,7 @@ fn shape_of(site: &Site<'_>, condition: ExpressionNumber) -> Shape
     }
 }
 
-// The steps that jump by two operands. Where the left one decides, the right one is passed over.
+// The steps that jump by two operands. If the left one decides, the right one is skipped.
 fn plan_joined(junction: Junction, branch: Branch, steps: &mut Steps) -> Result<(), AllocError>
     ensures { OnOk result (AddsWithLabels steps.old steps.new (joined_labels junction branch)
         (joined_steps junction branch)) }
@@ -262,8 +262,8 @@ fn plan_by_bit(
     branch.where_flags(Condition::Carry, steps)
 }
 
-// The steps that jump where two ADDRESSes are equal, or where they are not. Where the low bytes differ, the high ones are
-// passed over. At each jump A is the difference, so nothing else is known of it there.
+// The steps that jump if two ADDRESSes are equal, or if they are not. If the low bytes differ, the high ones are
+// skipped. At each jump A is the difference, so nothing else is known of A there.
 fn plan_equality(
     site: &Site<'_>,
     comparison: &Comparison,
@@ -288,7 +288,7 @@ fn plan_equality(
     steps.mark(past)
 }
 
-// The steps that jump by a relation, or by the lowest bit of a value that is none.
+// The steps that jump by a relation, or by the lowest bit of a value that is not a relation.
 fn plan_other(
     site: &Site<'_>,
     condition: ExpressionNumber,
@@ -315,7 +315,7 @@ fn plan_other(
     }
 }
 
-/// The steps that jump to a label where the lowest bit of a value is 1 (`sense`) or 0 (not `sense`).
+/// The steps that jump to a label if the lowest bit of a value is 1 (`sense`) or 0 (not `sense`).
 pub fn plan_branch(
     site: &Site<'_>,
     condition: ExpressionNumber,

@@ -12,28 +12,28 @@ use steps8080::{
 };
 use treecode::{ExpressionNumber, Reference};
 
-/// Two operands, of which the second is to be compared with the first one, which is in A.
+/// Two operands: the first is in A, and the second is compared with it.
 #[derive(Clone, Copy)]
 pub struct Sides {
     pub first: ExpressionNumber,
     pub second: ExpressionNumber,
-    /// Whether the first one is the left one.
+    /// Whether the first one is the left operand.
     pub is_in_order: bool,
 }
 
-/// The ways in which two operands can be compared.
+/// The ways to compare two operands.
 #[derive(Clone, Copy)]
 pub enum Form {
-    /// The first one comes into A, then the address of the second one into HL.
+    /// Puts the first operand into A, then the address of the second one into HL.
     WithMemory(Sides, Reference),
-    /// The second one comes into E, then the first one into A.
+    /// Puts the second operand into E, then the first one into A.
     WithE(Sides),
-    /// The left one is pushed while the right one is evaluated.
+    /// Pushes the left operand while the right one is evaluated.
     Pushed,
 }
 
 impl Sides {
-    // The left operand in A.
+    // The left operand first, in A.
     fn in_order(comparison: &Comparison) -> Sides
         ensures { result ≡ in_order comparison.now }
     {
@@ -44,7 +44,7 @@ impl Sides {
         }
     }
 
-    // The right operand in A.
+    // The right operand first, in A.
     fn exchanged(comparison: &Comparison) -> Sides
         ensures { result ≡ exchanged comparison.now }
     {
@@ -56,7 +56,7 @@ impl Sides {
     }
 }
 
-// The steps that compare A with a number that is not 0: by the zero flag, or by whether A is 0 then.
+// The steps that compare A with a number that is not 0. They set the zero flag, or leave 0 in A, if both are equal.
 fn plan_is(number: u8, setting: Setting, steps: &mut Steps) -> Result<(), AllocError>
     ensures { OnOk result (Adds steps.old steps.new (byte_is_steps number setting)) }
 {
@@ -70,7 +70,7 @@ fn plan_is(number: u8, setting: Setting, steps: &mut Steps) -> Result<(), AllocE
     }
 }
 
-// The steps that tell whether A is 0.
+// The steps that test whether A is 0.
 fn plan_is_zero(setting: Setting, steps: &mut Steps) -> Result<(), AllocError>
     ensures { OnOk result (Adds steps.old steps.new (is_zero_steps setting)) }
 {
@@ -80,7 +80,7 @@ fn plan_is_zero(setting: Setting, steps: &mut Steps) -> Result<(), AllocError>
     }
 }
 
-/// The steps that answer what is asked of A and a number.
+/// The steps that answer a question about A and a number.
 pub fn plan_number_in_a(
     question: NumberQuestion,
     setting: Setting,
@@ -112,7 +112,7 @@ pub fn plan_number_in_a(
     }
 }
 
-// The answer to a question about a BYTE that does not depend on it.
+// The answer to a question about a BYTE, if it is the same for every BYTE.
 fn known_answer(question: NumberQuestion) -> Option<bool>
     ensures { result ≡ known_answer question }
 {
@@ -124,7 +124,7 @@ fn known_answer(question: NumberQuestion) -> Option<bool>
     }
 }
 
-/// The steps that answer what is asked of a BYTE and a number.
+/// The steps that answer a question about a BYTE and a number.
 pub fn plan_byte_number(
     operand: ExpressionNumber,
     question: NumberQuestion,
@@ -143,7 +143,7 @@ pub fn plan_byte_number(
     }
 }
 
-// The operation that answers a question: where equality is asked for a value, A is to be 0.
+// The operation that answers a question. For equality as a value it leaves 0 in A.
 fn comparing(question: Question, setting: Setting) -> Operation
     ensures { result ≡ comparing question setting }
 {
@@ -153,7 +153,7 @@ fn comparing(question: Question, setting: Setting) -> Operation
     }
 }
 
-// How the operation leaves the answer.
+// The place where the operation leaves the answer.
 fn answer_to(question: Question) -> Answer
     ensures { result ≡ answer_to question }
 {
@@ -163,14 +163,14 @@ fn answer_to(question: Question) -> Answer
     }
 }
 
-// Whether the operands can be evaluated with this one first.
+// Whether this operand can be evaluated first.
 fn may_begin_with(site: &Site<'_>, comparison: &Comparison, is_left: bool) -> bool
     ensures { result ≡ may_begin_with site.now comparison.now is_left }
 {
     is_left || site.may_exchange(comparison.left, comparison.right)
 }
 
-// The comparison of A with a byte in memory, where it can be made.
+// The comparison of A with a byte in memory, if possible.
 fn memory_form(site: &Site<'_>, comparison: &Comparison, sides: Sides) -> Option<Form>
     ensures { result ≡ memory_form site.now comparison.now sides }
 {
@@ -182,7 +182,7 @@ fn memory_form(site: &Site<'_>, comparison: &Comparison, sides: Sides) -> Option
     }
 }
 
-// The comparison of A with E, where it can be made.
+// The comparison of A with E, if possible.
 fn register_form(site: &Site<'_>, comparison: &Comparison, sides: Sides) -> Option<Form>
     ensures { result ≡ register_form site.now comparison.now sides }
 {
@@ -193,7 +193,7 @@ fn register_form(site: &Site<'_>, comparison: &Comparison, sides: Sides) -> Opti
     }
 }
 
-// The better one of the two comparisons without a push, where one can be made.
+// The better one of the two comparisons without a push, if any is possible.
 #[tactic(auto, unfolding(crate::specs::ByteRelations::without_push))]
 fn without_push(site: &Site<'_>, comparison: &Comparison, sides: Sides) -> Option<Form>
     ensures { result ≡ without_push site.now comparison.now sides }
@@ -208,8 +208,8 @@ fn without_push(site: &Site<'_>, comparison: &Comparison, sides: Sides) -> Optio
     }
 }
 
-// Whether the operands are better compared with the right one in A: it is at hand, or the address of the left one is in HL
-// and stays there.
+// Whether the comparison with the right operand in A is better: a register holds it, or HL holds the address of the
+// left one and the code of the right one changes only A.
 #[tactic(auto, unfolding(crate::specs::ByteRelations::is_better_exchanged))]
 fn is_better_exchanged(site: &Site<'_>, comparison: &Comparison) -> bool
     ensures { result ≡ is_better_exchanged site.now comparison.now }
@@ -221,7 +221,7 @@ fn is_better_exchanged(site: &Site<'_>, comparison: &Comparison) -> bool
         || site.is_at_hl(comparison.left) && site.is_free(comparison.right)
 }
 
-// The better one of the comparisons with the left operand in A and with the right one, or the one with a push.
+// The better one of the comparisons with the left operand in A and with the right one in A; else the one with a push.
 fn better_form(one: Option<Form>, other: Option<Form>, is_other_better: bool) -> Form
     ensures { result ≡ better_form one other is_other_better }
 {
@@ -235,7 +235,7 @@ fn better_form(one: Option<Form>, other: Option<Form>, is_other_better: bool) ->
     }
 }
 
-// How equality is tested: either operand may be in A.
+// The form of a test for equality: either operand may be in A.
 fn form_of_equality(site: &Site<'_>, comparison: &Comparison) -> Form
     ensures { result ≡ form_of_equality site.now comparison.now }
 {
@@ -246,7 +246,7 @@ fn form_of_equality(site: &Site<'_>, comparison: &Comparison) -> Form
     )
 }
 
-// How two operands are compared.
+// The form of a comparison of two operands.
 #[tactic(auto, unfolding(crate::specs::ByteRelations::form_of))]
 fn form_of(site: &Site<'_>, comparison: &Comparison) -> Form
     ensures { result ≡ form_of site.now comparison.now }
@@ -292,7 +292,7 @@ fn plan_with_e(
     steps.plain(with_register(operation, Register::E))
 }
 
-// The steps that compare two operands of which the left one is pushed.
+// The steps that compare two operands and push the left one.
 fn plan_pushed(
     comparison: &Comparison,
     operation: Operation,
@@ -314,7 +314,7 @@ fn plan_pushed(
     steps.plain(with_register(operation, Register::B))
 }
 
-/// The steps that answer what is asked of two BYTEs.
+/// The steps that answer a question about two BYTEs.
 pub fn plan_byte_relation(
     site: &Site<'_>,
     comparison: &Comparison,

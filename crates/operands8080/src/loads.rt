@@ -1,4 +1,4 @@
-//! Values in memory.
+//! Code that loads values from memory.
 
 ghost use Rattle.std.specs.Prelude.{◌≡◌, OnOk};
 ghost use Rattle.steps8080.specs.Step.{Adds};
@@ -11,7 +11,7 @@ use std::alloc::AllocError;
 use steps8080::{Site, Steps, Task, before, copy, is_at, load, set};
 use treecode::{Location, Reference};
 
-// The word at the stack pointer into HL.
+// Puts the word at the stack pointer into HL.
 fn plan_top_word(steps: &mut Steps) -> Result<(), AllocError>
     ensures { OnOk result (Adds steps.old steps.new top_word_steps) }
 {
@@ -21,7 +21,7 @@ fn plan_top_word(steps: &mut Steps) -> Result<(), AllocError>
     ])
 }
 
-// The byte at a location of the frame into A, where this comes first.
+// Puts the byte at a location of the frame into A, if these steps come first.
 fn plan_frame_byte(
     site: &Site<'_>,
     location: Location,
@@ -49,7 +49,7 @@ fn plan_frame_byte(
     }
 }
 
-// The byte at a location into A, where this comes first. Where the location is static, A alone changes.
+// Puts the byte at a location into A, if these steps come first. For a static location, only A changes.
 fn plan_location_byte(
     site: &Site<'_>,
     location: Location,
@@ -73,7 +73,7 @@ fn plan_location_byte(
     }
 }
 
-/// The byte of a part of memory into A, where this comes first.
+/// Puts the byte of a part of memory into A, if these steps come first.
 pub fn plan_byte_in_memory(
     site: &Site<'_>,
     reference: &Reference,
@@ -91,7 +91,7 @@ pub fn plan_byte_in_memory(
     }
 }
 
-// The byte at a location of the frame into L, where this comes first. A and DE are kept.
+// Puts the byte at a location of the frame into L, if these steps come first. A and DE are kept.
 fn plan_frame_byte_to_l(
     site: &Site<'_>,
     location: Location,
@@ -115,7 +115,7 @@ fn plan_frame_byte_to_l(
     }
 }
 
-// The byte at a location into L, where this comes first. A and DE are kept.
+// Puts the byte at a location into L, if these steps come first. A and DE are kept.
 fn plan_byte_to_l(
     site: &Site<'_>,
     location: Location,
@@ -139,8 +139,8 @@ fn plan_byte_to_l(
     }
 }
 
-/// The byte of a part of memory into HL, with zeros added, where this comes first. A and DE are kept where the address
-/// keeps them.
+/// Puts the byte of a part of memory into HL, zero-extended, if these steps come first. A and DE are kept if the code
+/// for the address keeps them.
 pub fn plan_extended_byte_in_memory(
     site: &Site<'_>,
     reference: &Reference,
@@ -162,7 +162,8 @@ pub fn plan_extended_byte_in_memory(
     }
 }
 
-/// The word of a part of memory into HL, where this comes first. DE is kept where the address keeps it.
+/// Puts the word of a part of memory into HL, if these steps come first. DE is kept if the code for the address keeps
+/// it.
 pub fn plan_word_in_memory(
     site: &Site<'_>,
     reference: &Reference,

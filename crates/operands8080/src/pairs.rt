@@ -1,4 +1,4 @@
-//! Two words, one in HL and the other in DE.
+//! Code that puts two words into HL and DE.
 
 ghost use Rattle.std.specs.Prelude.{◌≡◌, IfOk, OnOk};
 ghost use Rattle.steps8080.specs.Step.{Adds};
@@ -10,56 +10,56 @@ use std::alloc::AllocError;
 use steps8080::{Site, Steps, Task, copy, set};
 use treecode::{ExpressionNumber, Place};
 
-/// Which of two operands is in HL. The other one is in DE.
+/// The operand in HL. The other one is in DE.
 #[derive(Clone, Copy, PartialEq, Eq)]
 pub enum PairOrder {
     LeftInHl,
     RightInHl,
 }
 
-/// How two operands come into HL and DE.
+/// The ways to put two operands into HL and DE.
 #[derive(Clone, Copy)]
 pub enum PairForm {
-    /// The left one, then a known word into DE.
+    /// Puts the left one into HL, then the right one, a known word, into DE.
     RightKnown(Place),
-    /// The right one, then a known word into DE.
+    /// Puts the right one into HL, then the left one, a known word, into DE.
     LeftKnown(Place),
-    /// The left one, which goes to DE, then the right one.
+    /// Evaluates the left one, moves it to DE, then evaluates the right one.
     RightKeeps,
-    /// The right one, which goes to DE, then the left one.
+    /// Evaluates the right one, moves it to DE, then evaluates the left one.
     LeftKeeps,
-    /// The left one, then the right one, a byte, through A into DE.
+    /// Evaluates the left one, then puts the right one, a byte, through A into DE.
     RightFree,
-    /// The right one, then the left one, a byte, through A into DE.
+    /// Evaluates the right one, then puts the left one, a byte, through A into DE.
     LeftFree,
-    /// The left one, which waits on the stack, then the right one.
+    /// Evaluates the left one, pushes it, then evaluates the right one.
     Pushed,
 }
 
-/// What two operands, neither of which is known, allow.
+/// The choices for two operands that are not known.
 #[derive(Clone, Copy)]
 pub struct Choices {
-    /// The right one leaves DE alone.
+    /// The code of the right one keeps DE.
     pub right_keeps: bool,
-    /// The left one leaves DE alone, and may come second.
+    /// The code of the left one keeps DE, and it may come second.
     pub left_keeps: bool,
-    /// The right one is a byte whose code changes A alone.
+    /// The right one is a byte, and its code changes only A.
     pub right_is_free: bool,
-    /// The left one is a byte whose code changes A alone, and may come second.
+    /// The left one is a byte, its code changes only A, and it may come second.
     pub left_is_free: bool,
-    /// HL holds it.
+    /// HL holds the left one.
     pub left_is_in_hl: bool,
     pub right_is_in_hl: bool,
 }
 
-// Whether an operand is a byte that can be put into A by code that changes A alone.
+// Whether an operand is a byte that code can put into A without changing anything but A and the flags.
 fn is_free_byte(site: &Site<'_>, number: ExpressionNumber) -> bool
     ensures { result ≡ is_free_byte site.now number }
 {
     site.fits_byte(number) && site.is_free(number)
 }
 
-// What two operands allow.
+// The choices for two operands.
 fn choices_of(site: &Site<'_>, left: ExpressionNumber, right: ExpressionNumber) -> Choices
     ensures { result ≡ choices_of site.now left right }
 {
@@ -75,7 +75,7 @@ fn choices_of(site: &Site<'_>, left: ExpressionNumber, right: ExpressionNumber) 
 }
 
 impl Choices {
-    // The form where either order will do.
+    // The form if either order will do.
     fn any_order(&self) -> PairForm
         ensures { result ≡ any_order self.now }
     {
@@ -94,7 +94,7 @@ impl Choices {
         }
     }
 
-    // The form where the left one is wanted in HL.
+    // The form if the left operand is wanted in HL.
     fn left_in_hl(&self) -> PairForm
         ensures { result ≡ left_in_hl self.now }
     {
@@ -111,7 +111,7 @@ impl Choices {
         }
     }
 
-    // The form where the right one is wanted in HL.
+    // The form if the right operand is wanted in HL.
     fn right_in_hl(&self) -> PairForm
         ensures { result ≡ right_in_hl self.now }
     {
@@ -129,7 +129,7 @@ impl Choices {
     }
 }
 
-// The form in which two operands come into HL and DE.
+// The form in which two operands are put into HL and DE.
 fn form_of(
     site: &Site<'_>,
     left: ExpressionNumber,
@@ -152,7 +152,7 @@ fn form_of(
     }
 }
 
-// The first one into HL, then a known word into DE.
+// Puts the first one into HL, then a known word into DE.
 fn plan_with_known(
     first: ExpressionNumber,
     known: Place,
@@ -165,7 +165,7 @@ fn plan_with_known(
     steps.word(WordForm::LoadPair(Pair::De), known)
 }
 
-// The first one into DE, then the second one, which leaves DE alone, into HL.
+// Puts the first one into DE, then the second one into HL; the code of the second one keeps DE.
 fn plan_with_exchange(
     first: ExpressionNumber,
     second: ExpressionNumber,
@@ -179,7 +179,7 @@ fn plan_with_exchange(
     steps.part(Task::Word(second), pushed)
 }
 
-// The first one into HL, then the second one, a byte whose code changes A alone, into DE.
+// Puts the first one into HL, then the second one, a byte with code that changes only A, into DE.
 fn plan_with_byte(
     first: ExpressionNumber,
     second: ExpressionNumber,
@@ -193,7 +193,7 @@ fn plan_with_byte(
     steps.all(&[copy(Register::E, Register::A), set(Register::D, 0)])
 }
 
-// The first one onto the stack, then the second one into HL, and the first one into DE.
+// Pushes the first one, puts the second one into HL, and pops the first one into DE.
 fn plan_with_stack(
     first: ExpressionNumber,
     second: ExpressionNumber,
@@ -208,7 +208,7 @@ fn plan_with_stack(
     steps.plain(Instr::Pop(StackPair::StackDe))
 }
 
-// Two operands in a form.
+// Puts two operands into HL and DE in a form.
 fn plan_form(
     form: PairForm,
     left: ExpressionNumber,
@@ -232,7 +232,7 @@ fn plan_form(
 }
 
 impl PairForm {
-    // Which operand is in HL after it.
+    // The operand that is in HL after this form.
     fn order(self) -> PairOrder
         ensures { result ≡ order_of self }
     {
@@ -246,7 +246,7 @@ impl PairForm {
     }
 }
 
-/// Two operands into HL and DE, in the order that is wished for, if one is.
+/// Puts two operands into HL and DE, in the wanted order if one is given.
 pub fn plan_pair_in_order(
     site: &Site<'_>,
     left: ExpressionNumber,
@@ -272,7 +272,7 @@ pub fn plan_pair_in_order(
     }
 }
 
-/// Two operands into HL and DE; the left one into HL where that is wanted.
+/// Puts two operands into HL and DE, the left one into HL if that is wanted.
 pub fn plan_pair(
     site: &Site<'_>,
     left: ExpressionNumber,

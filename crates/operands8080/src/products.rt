@@ -22,7 +22,7 @@ fn has_bit(number: u16, bit: u16) -> bool
     }
 }
 
-// Repeats for a bit below the highest one: twice, and once more where the bit is 1.
+// The steps for a bit below the highest one: `twice`, and `once_more` if the bit is 1.
 fn plan_bit(
     twice: Instr,
     once_more: Instr,
@@ -41,7 +41,7 @@ fn plan_bit(
     Ok(())
 }
 
-// Repeats for each bit of a number below its highest one, from there on down: twice, and once more where the bit is 1.
+// The steps for each bit of a number below its highest one, from high to low: `twice`, and `once_more` if the bit is 1.
 fn plan_chain(
     number: u16,
     twice: Instr,
@@ -76,7 +76,7 @@ fn plan_small_multiple(number: u16, steps: &mut Steps) -> Result<(), AllocError>
     }
 }
 
-// Multiplies HL by a number that is not 0, whose low byte may be. A and DE are kept.
+// Multiplies HL by a number that is not 0; its low byte may be 0. A and DE are kept.
 fn plan_multiple(number: u16, steps: &mut Steps) -> Result<(), AllocError>
     ensures { OnOk result (Adds steps.old steps.new (multiple_steps number)) }
 {
@@ -87,7 +87,7 @@ fn plan_multiple(number: u16, steps: &mut Steps) -> Result<(), AllocError>
     plan_small_multiple(number / 256, steps)
 }
 
-/// The value of an expression times a number into HL. A and DE are kept where the code of the value keeps them.
+/// Puts the product of an expression and a number into HL. A and DE are kept if the code of the expression keeps them.
 pub fn plan_product(
     value: ExpressionNumber,
     number: u16,
@@ -104,7 +104,7 @@ pub fn plan_product(
     plan_multiple(number, steps)
 }
 
-/// The low byte of the value of an expression times a number into A.
+/// Puts the low byte of the product of an expression and a number into A.
 pub fn plan_byte_product(
     value: ExpressionNumber,
     number: u8,

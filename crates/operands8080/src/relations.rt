@@ -17,16 +17,16 @@ use steps8080::{
 use treecode::ExpressionNumber;
 use trees::ScalarType;
 
-/// Where a relation holds.
+/// The outcome of a relation.
 #[derive(Clone, Copy)]
 pub enum Outcome {
-    /// Everywhere, or nowhere.
+    /// It always holds, or never.
     Known(bool),
-    /// Where a condition of the flags does; for a value, `Zero` is that A is 0, and `NotZero` that it is not.
+    /// It holds if a condition of the flags does. For a value, `Zero` means that A is 0, and `NotZero` that it is not.
     Where(Condition),
 }
 
-// Where a relation holds by the answer to its question.
+// The outcome of a relation from the answer to its question.
 fn outcome_of(answer: Answer, holds_if: bool) -> Outcome
     ensures { result ≡ outcome_of answer holds_if }
 {
@@ -39,7 +39,7 @@ fn outcome_of(answer: Answer, holds_if: bool) -> Outcome
     }
 }
 
-// The steps that answer what is asked of an operand and a number.
+// The steps that answer a question about an operand and a number.
 fn plan_number(
     site: &Site<'_>,
     operand: ExpressionNumber,
@@ -58,7 +58,7 @@ fn plan_number(
     }
 }
 
-// The steps that answer what is asked of two operands.
+// The steps that answer a question about two operands.
 fn plan_comparison(
     site: &Site<'_>,
     comparison: &Comparison,
@@ -74,7 +74,7 @@ fn plan_comparison(
     }
 }
 
-/// The steps after which a relation holds where the outcome says.
+/// The steps of a relation, and its outcome after them.
 pub fn plan_relation(
     site: &Site<'_>,
     relation: &Relation,
@@ -95,7 +95,7 @@ pub fn plan_relation(
     Ok(outcome_of(answer, relation.holds_if))
 }
 
-// The steps that make the carry of an outcome.
+// The steps that set the carry if the outcome is true, and clear it otherwise.
 fn plan_carry(condition: Condition, steps: &mut Steps) -> Result<(), AllocError>
     ensures { OnOk result (Adds steps.old steps.new (carry_steps condition)) }
 {
@@ -107,7 +107,7 @@ fn plan_carry(condition: Condition, steps: &mut Steps) -> Result<(), AllocError>
     }
 }
 
-// The steps that put 0FFH into A where an outcome is true, else 0.
+// The steps that put 0FFH into A if an outcome is true, else 0.
 fn plan_outcome_value(outcome: Outcome, steps: &mut Steps) -> Result<(), AllocError>
     ensures { OnOk result (Adds steps.old steps.new (outcome_value_steps outcome)) }
 {
@@ -121,7 +121,7 @@ fn plan_outcome_value(outcome: Outcome, steps: &mut Steps) -> Result<(), AllocEr
     }
 }
 
-/// The steps that put 0FFH into A where a relation holds, else 0. None where the expression is no relation.
+/// The steps that put 0FFH into A if a relation holds, else 0. None if the expression is not a relation.
 pub fn plan_relation_value(
     site: &Site<'_>,
     number: ExpressionNumber,

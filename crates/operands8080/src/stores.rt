@@ -1,4 +1,4 @@
-//! Stores of a value that is in A or HL.
+//! Code that stores a value from A or HL.
 
 ghost use Rattle.std.specs.Prelude.{◌≡◌, OnOk};
 ghost use Rattle.steps8080.specs.Step.{Adds};
@@ -11,7 +11,7 @@ use steps8080::{Facts, Site, Step, Steps, Task, copy, plan_extension};
 use treecode::{Keeps, Location, Reference, Target};
 use trees::ScalarType;
 
-/// A scalar that is stored in: its type, its place, and where it lies if no computed part has a part in that.
+/// A scalar to store in: its type, its place, and its location if its address has no computed part.
 #[derive(Clone, Copy)]
 pub struct Goal {
     pub to: ScalarType,
@@ -29,7 +29,7 @@ pub enum Near {
     Second,
 }
 
-// The scalar that a value goes to.
+// The scalar that a value is stored in.
 fn goal_of(site: &Site<'_>, to: ScalarType, reference: Reference) -> Goal
     ensures { result ≡ goal_of site.now to reference }
 {
@@ -41,7 +41,7 @@ fn goal_of(site: &Site<'_>, to: ScalarType, reference: Reference) -> Goal
     }
 }
 
-// Which word next to the stack pointer a location is, if it is one.
+// The word next to the stack pointer that is at a location, if any.
 fn word_near(site: &Site<'_>, location: Location, pushed: u16) -> Option<Near>
     ensures { result ≡ word_near site.now location pushed }
 {
@@ -55,7 +55,7 @@ fn word_near(site: &Site<'_>, location: Location, pushed: u16) -> Option<Near>
     }
 }
 
-// Adds what is known of HL after a word was stored from it.
+// Notes that HL holds the word that was stored from it.
 fn word_is_here(location: Option<Location>, steps: &mut Steps) -> Result<(), AllocError>
     ensures { OnOk result (Adds steps.old steps.new (word_is_here_steps location)) }
 {
@@ -65,7 +65,7 @@ fn word_is_here(location: Option<Location>, steps: &mut Steps) -> Result<(), All
     }))
 }
 
-// Adds what is known of A after its byte was stored.
+// Notes that A holds the byte that was stored from it.
 fn byte_is_here(location: Option<Location>, steps: &mut Steps) -> Result<(), AllocError>
     ensures { OnOk result (Adds steps.old steps.new (byte_is_here_steps location)) }
 {
@@ -108,7 +108,7 @@ fn address_beside_a(goal: &Goal, pushed: u16, steps: &mut Steps) -> Result<(), A
     steps.plain(Instr::Pop(StackPair::Psw))
 }
 
-// The steps that put an address into HL and the value that was there into DE.
+// The steps that put an address into HL and the value that was in HL into DE.
 fn address_beside_de(goal: &Goal, pushed: u16, steps: &mut Steps) -> Result<(), AllocError>
     ensures { OnOk result (Adds steps.old steps.new (address_beside_de_steps goal.now pushed)) }
 {
@@ -122,7 +122,7 @@ fn address_beside_de(goal: &Goal, pushed: u16, steps: &mut Steps) -> Result<(), 
     steps.plain(Instr::Pop(StackPair::StackDe))
 }
 
-// The steps that store A at an address that is computed. The value stays in A.
+// The steps that store A at a computed address. The value stays in A.
 fn store_a_at(goal: &Goal, pushed: u16, steps: &mut Steps) -> Result<(), AllocError>
     ensures { OnOk result (Adds steps.old steps.new (store_a_at_steps goal.now pushed)) }
 {
@@ -176,7 +176,7 @@ fn store_extended(
     }
 }
 
-// The steps that store the value in HL, or its low byte, at an address that is computed. Where it is wanted, it comes
+// The steps that store the value in HL, or its low byte, at a computed address. If the value is wanted, they put it
 // back into HL.
 fn store_hl_at(
     goal: &Goal,
@@ -255,8 +255,8 @@ fn send(from: ScalarType, port: u8, steps: &mut Steps) -> Result<(), AllocError>
     steps.plain(Instr::Out(port))
 }
 
-/// The steps that store A (from a BYTE) or HL (from an ADDRESS) in a target. Where the value `is_wanted` after it, it is
-/// in the same register then.
+/// The steps that store A (from a BYTE) or HL (from an ADDRESS) in a target. If the value `is_wanted` afterwards, it is
+/// still in that register.
 pub fn plan_store(
     site: &Site<'_>,
     target: Target,

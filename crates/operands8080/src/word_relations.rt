@@ -19,7 +19,7 @@ use steps8080::{
 use treecode::{ExpressionForm, ExpressionNumber, Place};
 use trees::{BinaryOperator, ScalarType};
 
-/// Two registers of a word.
+/// The two registers of a word.
 #[derive(Clone, Copy)]
 pub struct Word {
     pub low: Register,
@@ -36,7 +36,7 @@ const IN_DE: Word = Word {
     high: Register::D,
 };
 
-/// An operand that stays in memory, and the one that comes into HL.
+/// An operand that stays in memory, and the one that is put into HL.
 #[derive(Clone, Copy)]
 pub struct Apart {
     pub place: Place,
@@ -52,7 +52,7 @@ pub enum Words {
     DeAndHl,
 }
 
-// The ADDRESS and the number of which an expression is the AND, if it is one.
+// The ADDRESS and the number, if an expression is the AND of both.
 #[tactic(auto, unfolding(crate::specs::WordRelations::masked))]
 fn masked(site: &Site<'_>, number: ExpressionNumber) -> Option<(ExpressionNumber, u16)>
     ensures { result ≡ masked site.now number }
@@ -108,7 +108,7 @@ fn plan_high_byte(
     }
 }
 
-// The steps that tell whether HL is below a number.
+// The steps that test whether HL is below a number.
 fn plan_below(number: u16, steps: &mut Steps) -> Result<Answer, AllocError>
     ensures adds { OnOk result (Adds steps.old steps.new (below_steps number)) }
     ensures answer { IfOk result (λ answer. answer ≡ Carry) }
@@ -122,7 +122,7 @@ fn plan_below(number: u16, steps: &mut Steps) -> Result<Answer, AllocError>
     Ok(Answer::Carry)
 }
 
-// The steps that take a number from HL.
+// The steps that subtract a number from HL.
 fn plan_difference(number: u16, steps: &mut Steps) -> Result<(), AllocError>
     ensures { OnOk result (Adds steps.old steps.new (difference_steps number)) }
 {
@@ -132,7 +132,7 @@ fn plan_difference(number: u16, steps: &mut Steps) -> Result<(), AllocError>
     }
 }
 
-// The steps that tell whether HL is a number.
+// The steps that test whether HL is a number.
 fn plan_is(number: u16, steps: &mut Steps) -> Result<Answer, AllocError>
     ensures adds { OnOk result (Adds steps.old steps.new (word_is_steps number)) }
     ensures answer { IfOk result (λ answer. answer ≡ Zero) }
@@ -151,7 +151,7 @@ fn plan_is(number: u16, steps: &mut Steps) -> Result<Answer, AllocError>
     Ok(Answer::Zero)
 }
 
-// The steps that put into A the only byte of an ADDRESS of which a mask has bits, with the other bits 0.
+// The steps that AND an ADDRESS with a mask that has bits in only one byte, and put that byte into A.
 fn plan_masked(
     site: &Site<'_>,
     operand: ExpressionNumber,
@@ -169,7 +169,7 @@ fn plan_masked(
     steps.plain(Instr::AccumulateImmediate(Operation::And, high(mask)))
 }
 
-// The steps that tell whether an ADDRESS is 0.
+// The steps that test whether an ADDRESS is 0.
 #[tactic(auto, using(std::proofs::lemmas::List::append_assoc), unfolding(crate::specs::WordRelations::word_is_zero_steps))]
 fn plan_word_is_zero(
     site: &Site<'_>,
@@ -192,7 +192,7 @@ fn plan_word_is_zero(
     }
 }
 
-// The steps that tell whether an ADDRESS is below a number, which is not 0.
+// The steps that test whether an ADDRESS is below a number that is not 0.
 fn plan_word_below(
     site: &Site<'_>,
     operand: ExpressionNumber,
@@ -211,7 +211,7 @@ fn plan_word_below(
     plan_below(number, steps)
 }
 
-/// The steps that answer what is asked of an ADDRESS and a number.
+/// The steps that answer a question about an ADDRESS and a number.
 pub fn plan_word_number(
     site: &Site<'_>,
     operand: ExpressionNumber,
@@ -239,7 +239,7 @@ pub fn plan_word_number(
     }
 }
 
-// The place of an ADDRESS that lies in memory at a place without a computed part, if it is one that is not in HL already.
+// The place of an ADDRESS in memory, if it has no computed part and the word is not in HL already.
 fn place_apart(site: &Site<'_>, number: ExpressionNumber) -> Option<Place>
     ensures { result ≡ place_apart site.now number }
 {
@@ -249,7 +249,7 @@ fn place_apart(site: &Site<'_>, number: ExpressionNumber) -> Option<Place>
     site.direct_word(number)
 }
 
-// The left operand as one that stays in memory, where that can be.
+// The left operand as one that stays in memory, if possible.
 fn left_apart(site: &Site<'_>, comparison: &Comparison) -> Option<Apart>
     ensures { result ≡ left_apart site.now comparison.now }
 {
@@ -265,7 +265,7 @@ fn left_apart(site: &Site<'_>, comparison: &Comparison) -> Option<Apart>
     }
 }
 
-// The right operand as one that stays in memory, where that can be.
+// The right operand as one that stays in memory, if possible.
 fn right_apart(site: &Site<'_>, comparison: &Comparison) -> Option<Apart>
     ensures { result ≡ right_apart site.now comparison.now }
 {
@@ -278,7 +278,7 @@ fn right_apart(site: &Site<'_>, comparison: &Comparison) -> Option<Apart>
     }
 }
 
-// The operand that stays in memory, from which the other one is taken, where there is one.
+// The operand that stays in memory, from which the other one is subtracted, if any.
 #[tactic(auto, unfolding(crate::specs::WordRelations::operand_apart))]
 fn operand_apart(site: &Site<'_>, comparison: &Comparison) -> Option<Apart>
     ensures { result ≡ operand_apart site.now comparison.now }
@@ -293,7 +293,7 @@ fn operand_apart(site: &Site<'_>, comparison: &Comparison) -> Option<Apart>
     }
 }
 
-// The steps that take HL from a word in memory. For equality, whether A is 0 tells whether they are equal.
+// The steps that subtract HL from a word in memory. For equality, A is 0 if both are equal.
 fn plan_with_place(
     apart: Apart,
     question: Question,
@@ -310,7 +310,7 @@ fn plan_with_place(
     plan_high(IN_HL, question, steps)
 }
 
-// The steps that take the low byte of a word from A.
+// The steps that subtract the low byte of a word from A.
 fn plan_low(word: Word, question: Question, steps: &mut Steps) -> Result<(), AllocError>
     ensures { OnOk result (Adds steps.old steps.new (low_steps word question)) }
 {
@@ -321,7 +321,7 @@ fn plan_low(word: Word, question: Question, steps: &mut Steps) -> Result<(), All
     }
 }
 
-// The steps that take the high byte of a word from A, after those for the low one.
+// The steps that subtract the high byte of a word from A, after those for the low one.
 fn plan_high(word: Word, question: Question, steps: &mut Steps) -> Result<Answer, AllocError>
     ensures adds { OnOk result (Adds steps.old steps.new (high_steps word question)) }
     ensures answer { IfOk result (λ answer. answer ≡ answer_to question) }
@@ -336,7 +336,7 @@ fn plan_high(word: Word, question: Question, steps: &mut Steps) -> Result<Answer
     }
 }
 
-// The registers of the operand from which the other one is taken.
+// The registers of the operand from which the other one is subtracted.
 fn word_taken_from(question: Question, order: PairOrder) -> Word
     ensures { result ≡ word_taken_from question order }
 {
@@ -349,7 +349,7 @@ fn word_taken_from(question: Question, order: PairOrder) -> Word
     }
 }
 
-// The other one of the two words in registers.
+// The registers of the other word.
 fn other_word(word: Word) -> Word
     ensures { result ≡ other_word word }
 {
@@ -359,7 +359,7 @@ fn other_word(word: Word) -> Word
     }
 }
 
-// The steps that compare two operands of which one is in HL and the other in DE.
+// The steps that compare two operands, one in HL and the other in DE.
 fn plan_with_pair(
     site: &Site<'_>,
     comparison: &Comparison,
@@ -386,7 +386,7 @@ fn plan_with_pair(
     plan_high(taken, question, steps)
 }
 
-/// The two ADDRESSes of which a relation asks whether they are equal, where that takes both their bytes.
+/// The two ADDRESSes that a relation tests for equality, if that takes both their bytes.
 #[tactic(auto, unfolding(crate::specs::WordRelations::equality_of_words))]
 pub(crate) fn equality_of_words(site: &Site<'_>, relation: &Relation) -> Option<Comparison>
     ensures { result ≡ equality_of_words site.now relation.now }
@@ -410,7 +410,7 @@ pub(crate) fn equality_of_words(site: &Site<'_>, relation: &Relation) -> Option<
     }
 }
 
-/// The steps that put two ADDRESSes where their bytes can be compared.
+/// The steps that put two ADDRESSes into places where their bytes can be compared.
 pub(crate) fn plan_words(
     site: &Site<'_>,
     comparison: &Comparison,
@@ -440,7 +440,7 @@ pub(crate) fn plan_words(
 }
 
 impl Words {
-    /// The steps that put the difference of the low bytes into A. The words stay where they are.
+    /// The steps that put the difference of the low bytes into A. The words are kept.
     pub(crate) fn plan_low_difference(self, steps: &mut Steps) -> Result<(), AllocError>
         ensures { OnOk result (Adds steps.old steps.new (low_difference_steps self)) }
     {
@@ -451,7 +451,7 @@ impl Words {
         steps.plain(with_register(Operation::Subtract, Register::L))
     }
 
-    /// The steps that put the difference of the high bytes into A. The words stay where they are.
+    /// The steps that put the difference of the high bytes into A. The words are kept.
     pub(crate) fn plan_high_difference(self, steps: &mut Steps) -> Result<(), AllocError>
         ensures { OnOk result (Adds steps.old steps.new (high_difference_steps self)) }
     {
@@ -463,7 +463,7 @@ impl Words {
     }
 }
 
-/// The steps that answer what is asked of two ADDRESSes.
+/// The steps that answer a question about two ADDRESSes.
 pub fn plan_word_relation(
     site: &Site<'_>,
     comparison: &Comparison,

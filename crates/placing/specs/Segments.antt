@@ -4,7 +4,7 @@ use Rattle.typed_trees.specs.TypedTrees.{TypedModule}
 use Rattle.typed_trees.specs.Storable.{IsStorable}
 use Rattle.typed_trees.specs.Weight.{constant_bytes}
 
--- a code segment of so many bytes has room for the constants that it begins with
+-- a code segment of this length has room for the constants that it begins with
 abbrev pub HoldsConstants : TypedModule × ℕ → Type 0
 HoldsConstants segment = constant_bytes segment.0 ≤ segment.1
 

@@ -1,4 +1,4 @@
--- What each byte of memory is to a program.
+-- The kind of each byte of memory to a program.
 use Rattle.std.specs.Prelude.{◌≡◌, ℕ, ◌<◌, List, length, filter, slice_index_or}
 use Rattle.mem80.specs.declared.memory.TheConstants.{MEMORY_SIZE}
 use Rattle.layout.specs.Placement.{PlacedPiece, IsOneOf, is_constant_piece}
@@ -12,7 +12,7 @@ IsKind pieces address Writable =
     IsOneOf pieces address × ¬ IsOneOf (filter is_constant_piece pieces) address
 IsKind pieces address Constant = IsOneOf (filter is_constant_piece pieces) address
 
--- a table says of each byte of memory what it is where these pieces lie
+-- a table has the kind of each byte of memory, by these pieces
 abbrev pub IsTableOf : List PlacedPiece → List ByteKind → Type 0
 IsTableOf pieces kinds =
     (address : ℕ) → address < MEMORY_SIZE → IsKind pieces address (slice_index_or kinds address Undeclared)

@@ -33,7 +33,7 @@ number_of faults.PassesMemory = codes "P2"
 number_of faults.RangesOverlap = codes "P1"
 number_of (faults.ObjectMisplaced name) = codes "J5"
 
--- why a program can't be placed, as a fault tells it
+-- the refusal that a fault stands for
 abbrev pub refusal_of : Fault → PlacingRefusal
 refusal_of faults.SegmentTooLarge = SegmentTooLarge
 refusal_of faults.PassesMemory = PassesMemory

@@ -1,4 +1,4 @@
-//! The addresses of what the modules of a program hold.
+//! The addresses of the objects and the constant lists of a program.
 
 ghost use Rattle.std.specs.Prelude.{◌≡◌, ◌+◌, ◌≤◌, [], map, sum, zip, IfOk};
 ghost use Rattle.failure.specs.Failure.{IfFault};
@@ -35,7 +35,7 @@ fn base_of(bases: Bases, segment: Segment) -> u32
     }
 }
 
-// Where a slot lies.
+// The address of a slot.
 fn address_of_slot(bases: Bases, slot: Slot) -> u16
     ensures { result ≡ address_of_slot (bases_view bases) slot }
 {
@@ -43,7 +43,7 @@ fn address_of_slot(bases: Bases, slot: Slot) -> u16
     (address % MEMORY_SIZE as u64) as u16
 }
 
-// The address that AT says, where the objects before lie there.
+// The address that AT gives, with these addresses of the objects before.
 fn address_at(before: &[u16], at: AtAddress) -> u16
     ensures { result ≡ address_at before.now at }
 {
@@ -56,7 +56,7 @@ fn address_at(before: &[u16], at: AtAddress) -> u16
     }
 }
 
-// The address of an object, where those before it lie there.
+// The address of an object, with these addresses of the objects before it.
 fn address_by_home(bases: Bases, before: &[u16], slot: Option<Slot>, home: &Home) -> u16
     ensures { result ≡ address_by_home (bases_view bases) before.now slot (home_view home.now) }
 {
@@ -143,7 +143,7 @@ fn bases_after(bases: Bases, layout: &Layout, length: u32) -> Bases
     }
 }
 
-/// Where modules lie, the segments of the first of which begin there.
+/// The placements of modules, with the segments of the first at these bases.
 pub(crate) fn module_placements(
     alloc: Global,
     first: Bases,

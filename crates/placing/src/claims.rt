@@ -1,4 +1,4 @@
-//! Claiming the bytes of memory for what lies there, in a table.
+//! Claiming the bytes of memory for the pieces of a program, in a table.
 
 ghost use Rattle.std.specs.Prelude.{◌≡◌, ◌↔◌, ◌+◌, ◌≤◌, length, map, vec_items};
 ghost use Rattle.typed_trees.specs.Views.{module_view, object_view};
@@ -198,8 +198,8 @@ fn claim_module(
     )
 }
 
-/// Claims the bytes of all that has a place of its own in a program. Refuses a byte that is claimed twice, what passes the
-/// end of memory, variables that lie in the code or in the stack, and constants that lie outside the code.
+/// Claims the bytes of each piece with a place of its own in a program. Refuses a byte that is claimed twice, a piece past
+/// the end of memory, variables that lie in the code or in the stack, and constants that lie outside the code.
 pub(crate) fn claim_modules(
     table: &mut [bool; 65536],
     code: Range,

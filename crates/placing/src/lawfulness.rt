@@ -49,8 +49,8 @@ fn is_lawful(joined: &Joined, placement: &Placement) -> bool
         && all_fit(code, stack, modules, placements)
 }
 
-/// Whether a program can run at a placement: each thing that is placed lies in memory; those with a place of their own
-/// have no byte in common; AT objects lie where that says; constants lie in the code; code and stack do not meet; and no
+/// Whether a program can run at a placement. Each piece lies in memory, and those with a place of their own
+/// have no byte in common. AT objects lie where that says, and constants lie in the code. Code and stack do not meet, and no
 /// byte that may be written lies in either. Takes no memory.
 pub fn lawful(joined: &Joined, placement: &Placement) -> bool
     ensures { IsTrue result

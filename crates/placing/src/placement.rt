@@ -19,7 +19,7 @@ pub struct ModulePlacement {
     pub lists: Vec<u16>,
 }
 
-// Written out, so that what it holds is let go here, and each crate that lets one go calls this.
+// Written out, so that it is freed here, and each crate that frees one calls this.
 impl Drop for ModulePlacement {
     fn drop(self) {
         let ModulePlacement {
@@ -29,10 +29,10 @@ impl Drop for ModulePlacement {
     }
 }
 
-/// What a byte of memory is to a program.
+/// The kind of a byte of memory to a program.
 #[derive(Clone, Copy)]
 pub enum ByteKind {
-    /// Nothing that is declared has it.
+    /// Nothing declared has it.
     Undeclared,
     /// A variable has it, and no constant.
     Writable,
@@ -40,8 +40,8 @@ pub enum ByteKind {
     Constant,
 }
 
-/// Where a program lies: each of its modules, and the ranges of its code and of its stack. A table says of each byte of
-/// memory what it is to the program.
+/// Where a program lies: each of its modules, and the ranges of its code and of its stack. A table has the kind of each
+/// byte of memory.
 pub struct Placement {
     modules: Vec<ModulePlacement>,
     code: Range,
@@ -93,7 +93,7 @@ impl Placement {
         self.stack
     }
 
-    /// What the byte at an address is to the program.
+    /// The kind of the byte at an address.
     pub fn kind_at(&self, address: u16) -> ByteKind
         ensures { result ≡ slice_index_or (self.now).kinds.value address ByteKind.Undeclared }
     {
@@ -101,7 +101,7 @@ impl Placement {
     }
 }
 
-// Written out, so that what it holds is let go here, and each crate that lets one go calls this.
+// Written out, so that it is freed here, and each crate that frees one calls this.
 impl Drop for Placement {
     fn drop(self) {
         let Placement {

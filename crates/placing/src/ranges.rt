@@ -18,7 +18,7 @@ pub(crate) struct Ranges {
     pub(crate) stack: Range,
 }
 
-// The bytes of all code segments (4,294,967,295 where they have more).
+// The bytes of all code segments (4,294,967,295 if they have more).
 #[tactic(auto, using(crate::proofs::Sums::code_more, crate::proofs::Sums::code_end))]
 fn code_total(code_lengths: &[u32]) -> u32
     ensures { result ≡ min (sum code_lengths.now) 4294967295 }
@@ -30,7 +30,7 @@ fn code_total(code_lengths: &[u32]) -> u32
     total
 }
 
-// The bytes of all data segments (4,294,967,295 where they have more).
+// The bytes of all data segments (4,294,967,295 if they have more).
 #[tactic(auto, using(crate::proofs::Sums::data_more, crate::proofs::Sums::data_end))]
 fn data_total(layouts: &[Layout]) -> u32
     ensures { result ≡ min (layout_sizes layouts.now) 4294967295 }

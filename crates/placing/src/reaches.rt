@@ -12,7 +12,7 @@ use std::alloc::{AllocError, Global};
 use std::marker::Model;
 use typed_trees::{Home, Typed, TypedObject};
 
-/// For each address the greatest end of the pieces that start there, 0 where none starts: of all pieces, and of the
+/// For each address the greatest end of the pieces that start there, 0 if none starts: of all pieces, and of the
 /// constants. An end past memory counts as the end of memory.
 #[derive(Drop)]
 pub(crate) struct Reaches {
@@ -33,7 +33,7 @@ impl Model for Reaches {
         (length reaches.all.items ≡ MEMORY_SIZE) × (length reaches.constants.items ≡ MEMORY_SIZE) };
 }
 
-// Where so many bytes from an address on end, or the end of memory where they pass that.
+// The end of `len` bytes from an address on, or the end of memory if they pass that.
 fn end_of(start: u16, len: u32) -> u32
     ensures { result ≡ min (start + len) MEMORY_SIZE }
 {
@@ -60,7 +60,7 @@ fn end_of_list(start: u16, bytes: &[u8]) -> u32
     }
 }
 
-// A piece starts at an address.
+// Adds a piece that starts at an address.
 fn raise(ends: &mut [u32], start: u16, end: u32)
     requires { length ends.old ≡ MEMORY_SIZE }
     ensures raised { ends.new ≡ raised ends.old start end }
@@ -70,7 +70,7 @@ fn raise(ends: &mut [u32], start: u16, end: u32)
     ends[index] = ends[index].max(end);
 }
 
-// So many zeros.
+// `count` zeros.
 fn zeros(alloc: Global, count: usize) -> Result<Vec<u32>, AllocError>
     ensures { IfOk result (λ zeros. zeros.items ≡ replicate count 0) }
 {
@@ -103,7 +103,7 @@ impl Reaches {
         Ok(Reaches { all, constants })
     }
 
-    // A piece starts at an address.
+    // Adds a piece that starts at an address.
     fn add(&mut self, start: u16, end: u32, is_constant: bool)
         ensures { self.new ≡ with_end self.old start end is_constant }
     {
@@ -113,7 +113,7 @@ impl Reaches {
         }
     }
 
-    // An object lies at an address.
+    // Adds an object at an address.
     fn add_object(&mut self, object: &TypedObject, address: u16)
         ensures { self.new ≡ with_found self.old (object_piece (object_view object.now, address)) }
     {
@@ -126,7 +126,7 @@ impl Reaches {
         }
     }
 
-    // Objects lie at addresses.
+    // Adds objects at their addresses.
     fn add_objects(&mut self, objects: &[TypedObject], addresses: &[u16])
         ensures { self.new ≡ with_pieces self.old
             (filter_map object_piece (zip (map object_view objects.now) addresses.now)) }
@@ -143,7 +143,7 @@ impl Reaches {
         }
     }
 
-    // Constant lists lie at addresses.
+    // Adds constant lists at their addresses.
     fn add_lists(&mut self, lists: &[Vec<u8>], addresses: &[u16])
         ensures { self.new ≡ with_pieces self.old
             (map list_piece (zip (map vec_items lists.now) addresses.now)) }
@@ -160,7 +160,7 @@ impl Reaches {
         }
     }
 
-    // What a module has lies at addresses.
+    // Adds the pieces of a module at their addresses.
     fn add_module(&mut self, typed: &Typed, placed: &ModulePlacement)
         ensures { self.new ≡ with_pieces self.old
             (pieces_of_module (module_view typed.now, module_placement_view placed.now)) }
@@ -169,7 +169,7 @@ impl Reaches {
         self.add_lists(typed.lists.as_slice(), placed.lists.as_slice());
     }
 
-    /// Modules lie at addresses.
+    /// Adds the pieces of modules at their addresses.
     pub(crate) fn add_modules(&mut self, modules: &[Typed], placed: &[ModulePlacement])
         ensures { self.new ≡ with_pieces self.old (flat_map pieces_of_module
             (zip (map module_view modules.now) (map module_placement_view placed.now))) }

@@ -1,4 +1,4 @@
-//! What each byte of memory is to a program.
+//! The kind of each byte of memory to a program.
 
 ghost use Rattle.std.specs.Prelude.{◌≡◌, ◌<◌, ℕ, flat_map, map, slice_index_or, zip, IfOk};
 ghost use Rattle.mem80.specs.declared.memory.TheConstants.{MEMORY_SIZE};
@@ -14,7 +14,7 @@ use mem80::MEMORY_SIZE;
 use std::alloc::{AllocError, Global};
 use typed_trees::Typed;
 
-// What a byte is that something has, and that a constant has.
+// The kind of a byte, by whether a piece has it and whether a constant has it.
 fn byte_kind(is_declared: bool, is_constant: bool) -> ByteKind
     ensures { result ≡ byte_kind is_declared is_constant }
 {
@@ -27,7 +27,7 @@ fn byte_kind(is_declared: bool, is_constant: bool) -> ByteKind
     }
 }
 
-// Says what each byte is, in one pass over memory: a piece has a byte where one that starts there or below reaches past it.
+// Sets the kind of each byte, in one pass over memory: a piece has a byte if one that starts there or below reaches past it.
 fn fill(kinds: &mut [ByteKind; MEMORY_SIZE], reaches: &Reaches)
     ensures { (address : ℕ) → address < MEMORY_SIZE
         → slice_index_or kinds.new address ByteKind.Undeclared ≡ kind_in reaches.now address }
@@ -41,7 +41,7 @@ fn fill(kinds: &mut [ByteKind; MEMORY_SIZE], reaches: &Reaches)
     }
 }
 
-/// What each byte of memory is where modules lie at addresses.
+/// The kind of each byte of memory, with modules at these addresses.
 pub(crate) fn kinds_of(
     alloc: Global,
     modules: &[Typed],

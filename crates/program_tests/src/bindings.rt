@@ -43,7 +43,7 @@ fn names_are_bound(rt: HostRuntime) -> Result<(), Fail> {
     Ok(())
 }
 
-// A parameter is not declared by its heading. The typing of a module tells that first, with another number.
+// A parameter is not declared by its heading. The typing of a module finds that first, with another number.
 #[test]
 fn a_heading_declares_nothing(rt: HostRuntime) -> Result<(), Fail> {
     let module = parsed(rt.alloc(), b"M: DO; P: PROCEDURE (X);\nX = 1; END; END;")?;

@@ -52,7 +52,7 @@ fn a_name_is_replaced(rt: HostRuntime) -> Result<(), Fail> {
     Ok(())
 }
 
-// Texts that are no names, of which the first has 32 characters.
+// Texts that are not names. The first has 32 characters.
 static NO_NAMES: [&[u8]; 5] = [b"ABCDEFGHIJKLMNOPQRSTUVWXYZ012345", b"1A", b"$", b"", b"A+"];
 
 #[test]

@@ -12,7 +12,7 @@ use trees::{
     StatementKind, Storage, Subject, UnaryOperator, ValueList,
 };
 
-/// The shape of a tree, as far as it is written. Where memory runs out, a part is left out.
+/// The shape of a tree, as far as it is written. If memory runs out, a part is left out.
 #[derive(Drop)]
 pub struct Shape {
     text: Vec<u8>,
@@ -21,7 +21,7 @@ pub struct Shape {
 }
 
 impl Shape {
-    /// A shape of which nothing is written, with or without the places of names.
+    /// A shape without anything written, with or without the places of names.
     pub fn new(alloc: Global, shows_places: bool) -> Shape {
         Shape {
             text: Vec::new(alloc),
@@ -29,7 +29,7 @@ impl Shape {
         }
     }
 
-    /// What is written.
+    /// The text that is written.
     pub fn as_slice(&self) -> &[u8] {
         self.text.as_slice()
     }
@@ -44,7 +44,7 @@ impl Shape {
         let _ = self.text.push(byte);
     }
 
-    // What is printed of a number.
+    // The printed form of a number.
     fn number(&mut self, value: u32) {
         let _ = write!(self.text, "{value}");
     }
@@ -105,7 +105,7 @@ impl Shape {
         }
     }
 
-    // What stands in a statement between its first word and its end.
+    // The parts of a statement between its first word and its end.
     #[cycle(statement)]
     fn parts(&mut self, kind: &StatementKind) {
         match kind {
@@ -256,7 +256,7 @@ impl Shape {
         self.byte(b'\'');
     }
 
-    // Constants in parentheses, of which the last is not written.
+    // Constants after an opening parenthesis. The closing one is not written.
     fn constants(&mut self, values: &Vec<Constant>) {
         let mut before = b'(';
         for value in values {
@@ -268,7 +268,7 @@ impl Shape {
 }
 
 impl Shape {
-    // Names in parentheses, or nothing where there is no name.
+    // Names in parentheses, or nothing if there is no name.
     fn names(&mut self, names: &Vec<Identifier>) {
         let mut before = b'(';
         for name in names {
@@ -440,7 +440,7 @@ fn linkage_word(linkage: Option<Linkage>) -> &'static [u8] {
     }
 }
 
-// What an operator between its operands begins with.
+// The beginning of an operator between its operands.
 fn binary_word(operator: BinaryOperator) -> &'static [u8] {
     match operator {
         BinaryOperator::Or => b"(OR ",
@@ -460,7 +460,7 @@ fn binary_word(operator: BinaryOperator) -> &'static [u8] {
     }
 }
 
-// What a statement begins with, as far as its kind tells it.
+// The beginning of a statement, as far as its kind gives it.
 fn opening_of_statement(kind: &StatementKind) -> &'static [u8] {
     match kind {
         StatementKind::Null(_) => b";",
@@ -477,7 +477,7 @@ fn opening_of_statement(kind: &StatementKind) -> &'static [u8] {
     }
 }
 
-// What an expression begins with, as far as its kind tells it.
+// The beginning of an expression, as far as its kind gives it.
 fn opening_of_expression(expression: &Expression) -> &'static [u8] {
     match expression {
         Expression::Constant(_) | Expression::Reference(_) => b"",
@@ -490,7 +490,7 @@ fn opening_of_expression(expression: &Expression) -> &'static [u8] {
     }
 }
 
-// What an expression ends with, as far as its kind tells it.
+// The end of an expression, as far as its kind gives it.
 fn closing_of_expression(expression: &Expression) -> &'static [u8] {
     match expression {
         Expression::Constant(_) | Expression::Reference(_) | Expression::Location(_) => b"",

@@ -1,4 +1,4 @@
-//! Sources that the grammar has, with the shape of their trees. What it hasn't is answered in the rows of `tables`.
+//! Sources that the grammar has, with the shape of their trees. The rows of `tables` have those that it lacks.
 
 use crate::bytes::beginning;
 use crate::shape::Shape;

@@ -1,4 +1,4 @@
--- What objects are found by.
+-- How objects are found.
 use Rattle.typed_trees.specs.TypedTrees.{Home, BasedOn, InFrame}
 use Rattle.resolving.specs.declared.site.Storage.{Storage}
 use Rattle.resolving.specs.declared.site.Storage.TheVariants.{Frame, Base, Memory}

@@ -1,4 +1,4 @@
--- Programs, and what stands in them, as the meaning of programs speaks of them.
+-- Programs and their parts, in the terms of the meaning of programs.
 use Rattle.std.specs.Prelude.{[], map}
 use Rattle.typed_trees.specs.Views.{module_view}
 use Rattle.layout.specs.Joined.{InProgram}
@@ -13,7 +13,7 @@ use Rattle.resolving.specs.declared.site.Site.{Site}
 abbrev pub found_view : Found → InProgram
 found_view found = record { number_of_module = found.number_of_module; number = found.number }
 
--- a program where it lies; names and numbers mean the same with each script
+-- a program at a placement; names and numbers mean the same with each script
 abbrev pub program_view : CodeProgram → Program
 program_view program = record {
   modules = map module_view program.modules.now;
@@ -21,7 +21,7 @@ program_view program = record {
   script = [];
 }
 
--- what a part of a program stands in; names and numbers mean the same with each room
+-- the surroundings of a part of a program; names and numbers mean the same with each room
 abbrev pub site_view : Site → Surroundings
 site_view site = record {
   program = program_view site.program.now;

@@ -32,7 +32,7 @@ impl<'a> Program<'a> {
     ghost use Rattle.placing.specs.Views.{placement_view};
     ghost use Rattle.resolving.specs.Views.{found_view, program_view};
 
-    /// A joined program at a placement. Fails only where there is no memory for the names of its PUBLICs.
+    /// A joined program at a placement. Fails only if memory runs out for the names of its PUBLICs.
     pub fn new(
         alloc: Global,
         joined: &'a Joined,

@@ -20,7 +20,7 @@ pub struct Found {
     pub number: usize,
 }
 
-/// What the table has for a name.
+/// The entry of the table for a name.
 #[tactic(auto, using(crate::proofs::PublicNames::found_some, crate::proofs::PublicNames::found_none))]
 pub(crate) fn found_in(table: &IndexMap<Name, Found>, name: Name) -> Option<Found>
     ensures { result ≡ lookup (bytes_eq name) table.now.entries }
@@ -42,7 +42,7 @@ fn insert(table: &mut IndexMap<Name, Found>, name: Name, found: Found) -> Result
     }
 }
 
-// Takes in one more PUBLIC, where its name is new.
+// Takes in one more PUBLIC, if its name is new.
 #[tactic(auto, using(crate::proofs::PublicNames::put_new, crate::proofs::PublicNames::put_again))]
 fn put(table: &mut IndexMap<Name, Found>, name: Name, found: Found) -> Result<(), AllocError>
     ensures { OnOk result (table.new.entries ≡ with_found table.old.entries name found) }

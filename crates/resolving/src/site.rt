@@ -16,7 +16,7 @@ pub struct Site<'a> {
     pub number_of_module: usize,
 }
 
-/// What an object is found by.
+/// How an object is found.
 #[derive(Clone, Copy)]
 pub enum Storage {
     /// In the frame of the call that runs.
@@ -27,7 +27,7 @@ pub enum Storage {
     Memory,
 }
 
-// What an object is found by that lives somewhere.
+// How an object is found, by where it lives.
 fn storage_by(home: &Home) -> Storage
     ensures { result ≡ storage_by (home_view home.now) }
 {
@@ -40,7 +40,7 @@ fn storage_by(home: &Home) -> Storage
     }
 }
 
-// What an object of a module is found by.
+// How an object of a module is found.
 fn storage_in(typed: &Typed, object: u32) -> Storage
     ensures { result ≡ storage_by (home_in (module_view typed.now) object) }
 {
@@ -61,7 +61,7 @@ impl<'a> Site<'a> {
     ghost use Rattle.resolving.specs.Views.{found_view, site_view};
     ghost use Rattle.resolving.specs.internal.Sites.{meant_at};
 
-    /// What an object of the module is found by; `Storage::Memory` where it has no object of that number.
+    /// How an object of the module is found; `Storage::Memory` if it has no object of that number.
     pub fn storage_of(&self, object: u32) -> Storage
         ensures { result ≡ storage_by (home_of (site_view self.now) object) }
     {

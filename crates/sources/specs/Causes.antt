@@ -30,8 +30,8 @@ pub record HasExpansionFault (text : List ℕ) (fault : expansion_fault.Fault) :
   pub spelling : IsSpellingOf text words
   pub wrong : IsFault words fault
 
--- Words derive no module. Where they would but for the depth, or but for a name after END, the fault says so, and where
--- the grammar has a tree of them the fault says what is wrong with it.
+-- Words derive no module. If they would but for the depth, or but for a name after END, the fault says so, and if
+-- the grammar has a tree of them, the fault says what is wrong with it.
 pub record IsSyntaxFault (words : List Lexeme) (fault : syntax_fault.Fault) : Type 0 where
   pub wrong : (tree : ModuleTree) → Derives words tree → ⊥
   pub of_tree : (tree : ModuleTree) → DerivesModule (symbols_of words) tree → IsWrongWith fault tree

@@ -1,4 +1,4 @@
--- What a fault of a source is reported as.
+-- How a fault of a source is reported.
 use Rattle.std.specs.Prelude.{ℕ, List, codes}
 use Rattle.words.specs.Fault as of_words
 use Rattle.literally.specs.Fault as of_expansion
@@ -16,7 +16,7 @@ number_of (Syntax fault) = of_syntax.number_of fault
 number_of (Typing fault) = of_typing.number_of fault.cause
 number_of (Storage fault) = codes "C18"
 
--- its line, or 0 where the whole source is refused, or its segments
+-- its line, or 0 if the whole source is refused, or its segments
 abbrev pub line_of : ReadFault → ℕ
 line_of TooLong = 0
 line_of (Words fault) = of_words.line_of fault

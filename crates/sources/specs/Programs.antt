@@ -1,4 +1,4 @@
--- Programs of sources: what they are, where they lie, and why modules make none.
+-- Programs of sources: their modules, their places, and why modules do not make a program.
 use Rattle.std.specs.Prelude.{◌≡◌, ℕ, List, [], ◌∷◌, map, slice_index_or, Some, None}
 use Rattle.typed_trees.specs.TypedTrees.{TypedModule}
 use Rattle.typed_trees.specs.Views.{module_view}
@@ -40,7 +40,7 @@ pub record IsProgramOf (texts : List (List ℕ)) (modules : List TypedModule) : 
 abbrev pub program_modules : Joined → List TypedModule
 program_modules program = map module_view (of_joining.modules_of program)
 
--- A program of these modules, whose code segments are so long, lies as planned: the modules make a program, the plan
+-- A program of these modules, with these lengths of code segments, lies as planned: the modules make a program, the plan
 -- is not refused, the placement is lawful, and its table is of the bytes of the program.
 pub record IsPlacedBy (modules : List TypedModule) (lengths : List ℕ) (plan : Plan) (placed : Placed) : Type 0 where
   pub program : program_modules placed.program ≡ modules
@@ -52,7 +52,7 @@ pub record IsPlacedBy (modules : List TypedModule) (lengths : List ℕ) (plan : 
   pub table : IsTableOf (pieces_of modules (of_placement.placement_view placed.placement))
       placed.placement.kinds.value
 
--- modules make no program, or one that can't lie as planned with code segments that are so long
+-- modules do not make a program, or one that can't lie as planned with code segments of these lengths
 abbrev pub HasProgramCause : ProgramFault → List TypedModule → (lengths : List ℕ) → Plan → Type 0
 HasProgramCause (Join fault) modules lengths plan = join_refusal modules ≡ Some (of_joining.refusal_of fault)
 HasProgramCause (Placement fault) modules lengths plan =

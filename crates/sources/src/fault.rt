@@ -1,12 +1,12 @@
-//! Why modules make no program, or one that can't lie as planned.
+//! Why modules do not make a program, or one that can't lie as planned.
 
 use thiserror::Error;
 use trees::Name;
 
-/// Why modules make no program, or one that can't lie as planned. No fault has a line.
+/// Why modules do not make a program, or one that can't lie as planned. No fault has a line.
 #[derive(Clone, Copy, Debug, PartialEq, Eq, Error)]
 pub enum ProgramFault {
-    /// The modules make no program.
+    /// The modules do not make a program.
     #[error("{0}")]
     Join(join::Fault),
     /// The program can't lie as planned.
@@ -28,7 +28,7 @@ impl ProgramFault {
         }
     }
 
-    /// The name of the first EXTERNAL, PUBLIC or AT object that the fault is about, if it tells of one.
+    /// The name of the first EXTERNAL, PUBLIC or AT object that the fault is about, if it has one.
     pub fn name(&self) -> Option<Name>
         ensures { result ≡ name_of self.now }
     {

@@ -17,15 +17,15 @@ use placing::{Placement, place};
 use std::alloc::Global;
 use typed_trees::Typed;
 
-/// A joined program, and where it lies.
+/// A joined program, and its placement.
 #[derive(Drop)]
 pub struct Placed {
     pub program: Joined,
     pub placement: Placement,
 }
 
-/// Joins modules, whose storages and whose code segments' lengths in bytes are given in the same order, and places the
-/// program as planned.
+/// Joins modules, and places the program as planned. The storages of the modules, and the lengths of their code segments in
+/// bytes, are given in the same order.
 pub fn place_program(
     alloc: Global,
     modules: Vec<Typed>,

@@ -69,7 +69,7 @@ impl ReadFault {
         }
     }
 
-    /// The line of the fault, counted from 1, or 0 where the whole source is refused, or its segments.
+    /// The line of the fault, counted from 1, or 0 if the whole source is refused, or its segments.
     pub fn line(&self) -> u32
         ensures { result ≡ line_of self.now }
     {
@@ -135,7 +135,7 @@ fn type_text(alloc: Global, text: &[u8]) -> Result<Typed, Failure<ReadFault>>
     Ok(typed)
 }
 
-// The module that a text is which is not too long.
+// The module of a text that is not too long.
 #[tactic(auto, using(crate::proofs::ReadLemmas::is_text))]
 fn parse_text(alloc: Global, text: &[u8]) -> Result<Module, Failure<ReadFault>>
     requires { length text.now ≤ LONGEST_SOURCE }

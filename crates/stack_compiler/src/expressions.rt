@@ -192,7 +192,7 @@ pub(crate) fn emit_call(
     }
 }
 
-// So many values are taken from the stack.
+// Code that drops `count` values from the stack.
 #[tactic(auto, using(crate::proofs::Arguments::drop_emitted, crate::proofs::Arguments::drops_emitted))]
 fn emit_drops(code: &mut Vec<Instruction>, count: usize) -> Result<(), AllocError>
     ensures { OnOk result (code.new.items ≡ code.old.items ++ replicate count Drop) }
@@ -257,7 +257,7 @@ fn emit_based(
     emit_after_base(site, code, purpose, base, reference)
 }
 
-// What follows the bytes of a part of an object with a base.
+// The code after the bytes of a part of an object with a base.
 #[tactic(auto, using(std::proofs::lemmas::List::append_assoc))]
 fn emit_after_base(
     site: &Site<'_>,

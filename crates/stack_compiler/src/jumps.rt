@@ -32,7 +32,7 @@ fn count_after(code: &Vec<Instruction>, at: usize) -> usize
     code.len().saturating_sub(at).saturating_sub(1)
 }
 
-/// The instruction at a place is a jump past all that there is.
+/// Makes the instruction at a place a jump past the end of the code so far.
 pub(crate) fn close_jump(code: &mut Vec<Instruction>, at: usize)
     ensures { code.new.items
         ≡ slice_set code.old.items at (Jump (length code.old.items - (at + 1))) }
@@ -41,7 +41,7 @@ pub(crate) fn close_jump(code: &mut Vec<Instruction>, at: usize)
     replace(code, at, Instruction::Jump(count));
 }
 
-/// The instruction at a place is a jump past all that there is, if a condition does not hold.
+/// Makes the instruction at a place a jump past the end of the code so far, if a condition does not hold.
 pub(crate) fn close_jump_unless(code: &mut Vec<Instruction>, at: usize)
     ensures { code.new.items
         ≡ slice_set code.old.items at (JumpUnless (length code.old.items - (at + 1))) }
@@ -58,7 +58,7 @@ pub(crate) fn emit_loop_back(code: &mut Vec<Instruction>, start: usize) -> Resul
     emit(code, Instruction::LoopBack(count))
 }
 
-/// Jumps that are to be filled in: so many, and one more.
+/// Jumps that are filled in later: `count` of them, and one more.
 #[tactic(auto, using(crate::proofs::Cases::holes_made))]
 pub(crate) fn holes(alloc: Global, count: usize) -> Result<Vec<Instruction>, AllocError>
     ensures { IfOk result (λ code. code.items ≡ holes (suc count)) }
@@ -69,7 +69,7 @@ pub(crate) fn holes(alloc: Global, count: usize) -> Result<Vec<Instruction>, All
     Ok(code)
 }
 
-/// The instructions before some places are jumps past all that there is.
+/// Makes the instructions before some places jumps past the end of the code so far.
 #[tactic(auto, using(crate::proofs::Cases::end_closed))]
 pub(crate) fn close_cases(code: &mut Vec<Instruction>, ends: &[usize])
     ensures { code.new.items ≡ closed ends.now code.old.items }

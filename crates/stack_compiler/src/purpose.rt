@@ -18,7 +18,7 @@ pub(crate) enum Purpose {
     Locating,
 }
 
-/// One instruction more.
+/// Adds one instruction.
 pub(crate) fn emit(code: &mut Vec<Instruction>, instruction: Instruction) -> Result<(), AllocError>
     ensures { OnOk result (code.new.items ≡ code.old.items ++ instruction ∷ []) }
 {
@@ -26,7 +26,7 @@ pub(crate) fn emit(code: &mut Vec<Instruction>, instruction: Instruction) -> Res
     Ok(())
 }
 
-/// Several instructions more.
+/// Adds several instructions.
 pub(crate) fn emit_all(
     code: &mut Vec<Instruction>,
     instructions: &[Instruction],
@@ -37,7 +37,7 @@ pub(crate) fn emit_all(
     Ok(())
 }
 
-/// What is done with what lies at an address.
+/// The instruction that does this with the scalar at an address.
 pub(crate) fn instruction_at(purpose: Purpose, address: u16) -> Instruction
     ensures { result ≡ instruction_at (purpose_view purpose) address }
 {
@@ -48,7 +48,7 @@ pub(crate) fn instruction_at(purpose: Purpose, address: u16) -> Instruction
     }
 }
 
-/// What is done with what lies an offset after the address on the stack.
+/// The instruction that does this with the scalar at an offset from the address on the stack.
 pub(crate) fn instruction_after(purpose: Purpose, offset: u16) -> Instruction
     ensures { result ≡ instruction_after (purpose_view purpose) offset }
 {
@@ -59,7 +59,7 @@ pub(crate) fn instruction_after(purpose: Purpose, offset: u16) -> Instruction
     }
 }
 
-/// What is done with a part of the frame.
+/// The instruction that does this with a part of the frame.
 pub(crate) fn instruction_of_frame(purpose: Purpose, part: FramePart) -> Instruction
     ensures { result ≡ instruction_of_frame (purpose_view purpose) part }
 {

@@ -20,7 +20,7 @@ impl<'a> Site<'a> {
     ghost use Rattle.stack_code.specs.Code.{surroundings_at};
     ghost use Rattle.stack_compiler.specs.internal.Sites.{site_view};
 
-    // The module, of which it is known what names and numbers mean.
+    // The module, with the meaning of its names and numbers.
     fn module(&self) -> resolving::Site<'a>
         ensures { surroundings_view result ≡ surroundings_at (site_view self.now) }
     {

@@ -154,7 +154,7 @@ fn emit_test(
     emit_loop_back(code, start)
 }
 
-// The step, which is 1 where none is written.
+// The step, which is 1 if none is written.
 fn emit_step(
     site: &Site<'_>,
     code: &mut Vec<Instruction>,
@@ -370,7 +370,7 @@ fn cases_of(site: &Site<'_>, statements: &[TypedStatement]) -> Result<Vec<Instru
     Ok(cases)
 }
 
-// The statements of DO CASE, each with a jump after it that is to be filled in; each has its jump among the first ones.
+// The statements of DO CASE, each with a jump after it that is filled in later; each has its jump among the first ones.
 #[cycle(statement)]
 fn open_cases(
     site: &Site<'_>,

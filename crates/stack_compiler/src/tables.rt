@@ -24,7 +24,7 @@ fn started_entries(alloc: Global, procedures: &[TypedProcedure]) -> Result<Vec<E
     Ok(entries)
 }
 
-// The table of a module of which nothing is yet found.
+// The table of a module before anything in it is found.
 fn started_table(alloc: Global, typed: &Typed) -> Result<ModuleTable, AllocError>
     ensures { IfOk result (λ table. row_view table ≡ started_row (module_view typed.now)) }
 {
@@ -35,7 +35,7 @@ fn started_table(alloc: Global, typed: &Typed) -> Result<ModuleTable, AllocError
     })
 }
 
-// The tables of modules of which nothing is yet found.
+// The tables of modules before anything in them is found.
 fn started_tables(alloc: Global, modules: &[Typed]) -> Result<Vec<ModuleTable>, AllocError>
     ensures { IfOk result (λ tables.
         map row_view tables.items ≡ map started_row (map module_view modules.now)) }
@@ -48,7 +48,7 @@ fn started_tables(alloc: Global, modules: &[Typed]) -> Result<Vec<ModuleTable>, 
     Ok(tables)
 }
 
-// The first of two places, where 0 is none.
+// The first of two places, where 0 means no place.
 #[tactic(auto, using(crate::proofs::RowLoops::first_is_none, crate::proofs::RowLoops::first_stands))]
 fn first_of(first: usize, second: usize) -> usize
     ensures { result ≡ first_of first second }
@@ -159,7 +159,7 @@ fn note_begin_in(
     }
 }
 
-// Notes what an instruction tells that stands before a place.
+// Notes an instruction that stands before a place.
 fn note(
     alloc: Global,
     tables: &mut Vec<ModuleTable>,
@@ -182,7 +182,7 @@ fn note(
     }
 }
 
-// Notes what the code tells.
+// Notes each instruction of the code.
 #[tactic(auto, using(crate::proofs::RowLoops::instruction_noted))]
 fn note_all(
     alloc: Global,

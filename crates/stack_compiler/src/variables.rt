@@ -31,7 +31,7 @@ pub(crate) fn wrapped(offset: u32) -> u16
     (offset % MEMORY_SIZE as u32) as u16
 }
 
-/// So many bytes after where an object begins.
+/// The address at an offset from the start of an object.
 pub(crate) fn address_after(site: &Site<'_>, object: u32, offset: u32) -> u16
     ensures { result ≡ (address_of (surroundings_at (site_view site.now)) object + offset) % MEMORY_SIZE }
 {

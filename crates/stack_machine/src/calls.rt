@@ -3,7 +3,7 @@
 use std::alloc::{AllocError, Global};
 use std::marker::Model;
 
-/// What a caller goes on with, and how many arguments the call has.
+/// Where and how a caller continues, and how many arguments the call has.
 #[derive(Clone, Copy)]
 pub struct CallRecord {
     pub return_to: usize,

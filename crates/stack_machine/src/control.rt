@@ -1,11 +1,11 @@
-//! Where the machine goes on.
+//! Where the machine continues.
 
 ghost use Rattle.std.specs.Prelude.{◌≡◌, ◌+◌, ◌<◌, ◌≤◌, MatchOption, IfSome};
 ghost use Rattle.stack_code.specs.Program.{entry_in, label_in};
 
 use stack_code::{Entry, ModuleTable};
 
-/// So many instructions after the next one, or `None` where that is past the end of the code.
+/// The place `count` instructions after the next one, or `None` past the end of the code.
 #[inline(always)]
 pub fn ahead(at: usize, count: usize, length: usize) -> Option<usize>
     requires { at < length }

@@ -1,4 +1,4 @@
-//! A machine, and what an instruction leaves to do.
+//! A machine, and the remaining work of an instruction.
 
 use crate::calls::Calls;
 use crate::end::SourceEnd;
@@ -20,10 +20,10 @@ pub struct StackMachine<'a> {
     pub frames: Frames<'a>,
 }
 
-/// What is left to do for an instruction.
+/// The remaining work of an instruction.
 #[derive(Clone, Copy)]
 pub enum Remaining {
-    /// Nothing: the machine goes on.
+    /// Nothing: the machine continues.
     Nothing,
     /// Nothing: the program stops.
     Stop(SourceEnd),

@@ -11,7 +11,7 @@ use meaning::Reason;
 use mem80::Memory;
 use placing::Placement;
 
-/// Copies so many bytes, one after another; the address after 65535 is 0.
+/// Copies `count` bytes, one after another; the address after 65535 is 0.
 #[tactic(auto, using(crate::proofs::Copies::one_copied, crate::proofs::Copies::not_read, crate::proofs::Copies::not_written, crate::proofs::Copies::all_copied))]
 pub fn copy(
     joined: &Joined,

@@ -7,7 +7,7 @@ ghost use Rattle.stack_machine.specs.internal.Parts.{IsDisplacement, IsPart};
 use crate::values::Values;
 use stack_code::{FramePart, FrameSubscript};
 
-// Takes a subscript: how many bytes it leads on, or `None` where it is not below its dimension.
+// Takes a subscript: the displacement by it, or `None` if it is not below its dimension.
 #[inline(always)]
 fn take_subscript(values: &mut Values, subscript: FrameSubscript) -> Option<usize>
     ensures after { values.new ≡ without_index subscript values.old }
@@ -26,7 +26,7 @@ fn take_subscript(values: &mut Values, subscript: FrameSubscript) -> Option<usiz
     }
 }
 
-/// Takes the subscripts of a part: how many bytes after the beginning of its object it lies, or `None` where a subscript is
+/// Takes the subscripts of a part: its offset from the start of its object, or `None` if a subscript is
 /// not below its dimension.
 #[inline(always)]
 pub fn take_part(values: &mut Values, part: FramePart) -> Option<usize>

@@ -24,7 +24,7 @@ use stack_code::StackProgram;
 use std::alloc::Global;
 use typed_trees::{Typed, charge_of};
 
-/// Runs a program from its main module on, which has this number: from a memory, with so much room on the stack and a budget
+/// Runs a program from its main module on, which has this number: from a memory, with room on the stack and a budget
 /// of turns of loops, jumps and calls. The charge of the main module is taken first.
 #[tactic(auto, using(crate::proofs::Starts::refused, crate::proofs::Starts::given_up, crate::proofs::Starts::runs_on, crate::proofs::Starts::stays))]
 pub fn run<'a, P: Ports>(

@@ -79,7 +79,7 @@ impl Values {
         }
     }
 
-    /// Puts a value in place of the one on top, where there is one.
+    /// Puts a value in place of the one on top, if there is one.
     #[inline(always)]
     #[tactic(auto, using(crate::proofs::Reversed::replaced, crate::proofs::Reversed::some_from_reverse))]
     pub fn replace(&mut self, value: u16)
@@ -90,7 +90,7 @@ impl Values {
         self.items[count - 1] = value;
     }
 
-    /// The value below so many others, or 0 where there is none.
+    /// The value below `depth` others, or 0 if the stack has no such value.
     #[inline(always)]
     #[tactic(auto, using(crate::proofs::Reversed::looked, crate::proofs::Reversed::looked_past))]
     pub fn look(&self, depth: usize) -> u16
@@ -104,7 +104,7 @@ impl Values {
         }
     }
 
-    /// Takes so many values.
+    /// Takes `count` values.
     #[inline(always)]
     #[tactic(auto, using(crate::proofs::Reversed::discarded, crate::proofs::Reversed::discarded_all))]
     pub fn discard(&mut self, count: usize)

@@ -8,7 +8,7 @@ use Rattle.layout.specs.Joined.{InProgram, is_main, procedure_meant}
 use Rattle.meaning.specs.Run.{number_of_main}
 use Rattle.stack_need.specs.Calls.{calls_in_list}
 
--- a body in the graph: what a call of it is charged, and the bodies that are called in it
+-- a body in the graph: the charge of a call of it, and the bodies that are called in it
 pub record Body : Type 0 where
   pub charge : ℕ
   pub callees : List ℕ
@@ -22,7 +22,7 @@ first_numbers next (typed ∷ others) = next ∷ first_numbers (next + length ty
 abbrev pub number_of_body : List TypedModule → InProgram → ℕ
 number_of_body modules at = slice_index (first_numbers 1 modules) at.number_of_module + at.number
 
--- what a procedure of a module stands for where it is called
+-- the procedure that a call in a module stands for
 abbrev pub procedure_called : List TypedModule → (number_of_module procedure : ℕ) → Option InProgram
 procedure_called modules number_of_module procedure =
     option_and_then
@@ -58,7 +58,7 @@ main_body modules =
 unfoldable pub call_graph : List TypedModule → List Body
 call_graph modules = main_body modules ∷ bodies_from modules 0 modules
 
--- what is called in the body of a number, and what a call of it is charged
+-- the bodies that are called in a body, by its number, and the charge of a call of it
 abbrev pub callees_of : List Body → (body : ℕ) → List ℕ
 callees_of graph body = option_map_or (λ (found : Body). found.callees) (slice_get graph body) []
 
@@ -75,7 +75,7 @@ abbrev pub end_of_chain : (from : ℕ) → (others : List ℕ) → ℕ
 end_of_chain from [] = from
 end_of_chain from (callee ∷ others) = end_of_chain callee others
 
--- what all calls of a chain are charged together
+-- the charges of all calls of a chain together
 abbrev pub charges_of_chain : List Body → (from : ℕ) → (others : List ℕ) → ℕ
 charges_of_chain graph from [] = charge_in graph from
 charges_of_chain graph from (callee ∷ others) = charge_in graph from + charges_of_chain graph callee others

@@ -26,8 +26,8 @@ pub record IsStackNeed (modules : List TypedModule) (need : ℕ) : Type 0 where
   pub enough : IsEnough modules need
   pub of_a_chain : IsOfAChain modules need
 
--- what is answered of a program: None exactly where its call graph has a cycle, and else its need, or the
--- greatest number of 32 bits where that is less
+-- the answer for a program: None exactly if its call graph has a cycle, and else its need, or the
+-- greatest number of 32 bits if that is less
 unfoldable pub TellsNeed : List TypedModule → Option ℕ → Type 0
 TellsNeed modules None = HasCycle (call_graph modules)
 TellsNeed modules (Some shown) =

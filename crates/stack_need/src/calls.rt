@@ -146,7 +146,7 @@ fn assignment_calls(calls: &mut Vec<u32>, assignment: &TypedAssignment) -> Resul
     targets_calls(calls, assignment.targets.as_slice())
 }
 
-// Adds the calls in what CALL MOVE copies.
+// Adds the calls in the operands of CALL MOVE.
 #[tactic(auto, using(std::proofs::lemmas::List::append_assoc))]
 fn move_calls(calls: &mut Vec<u32>, moved: &TypedMove) -> Result<(), AllocError>
     ensures { OnOk result (calls.new.items

@@ -59,7 +59,7 @@ impl Path {
         }
     }
 
-    /// Whether there is none.
+    /// Whether there are no visits.
     #[tactic(auto, using(crate::proofs::Reversed::ended))]
     pub(crate) fn is_empty(&self) -> bool
         ensures { result ≡ is_ended self.now }

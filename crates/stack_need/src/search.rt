@@ -8,7 +8,7 @@ use crate::body::Body;
 use crate::path::{Path, Visit};
 use std::alloc::{AllocError, Global};
 
-/// What a search knows of a body: nothing; that it is within it; or its need (4,294,967,295 where that is more).
+/// What a search knows of a body: nothing; that it is within it; or its need (4,294,967,295 if it is more).
 #[derive(Clone, Copy)]
 pub(crate) enum Mark {
     New,
@@ -16,7 +16,7 @@ pub(crate) enum Mark {
     Done(u32),
 }
 
-/// How far a search is: it goes on, it has the need of the body that it began with, or it came to a cycle.
+/// The progress of a search: it goes on, it has the need of the body that it began with, or it came to a cycle.
 #[derive(Clone, Copy)]
 pub(crate) enum Progress {
     Going,
@@ -104,7 +104,7 @@ impl<'a> Search<'a> {
         Ok(())
     }
 
-    // Goes on with a visit, which was taken from the path, after a call of a body whose need is known.
+    // Continues a visit, which was taken from the path, after a call of a body whose need is known.
     fn pass(&mut self, visit: Visit, need: u32) -> Result<(), AllocError>
         requires { visit.next < 18446744073709551615 }
         ensures graph { graph_view self.new ≡ graph_view self.old }
@@ -134,7 +134,7 @@ impl<'a> Search<'a> {
         }
     }
 
-    // Goes on with a visit, which was taken from the path, at a call of a body.
+    // Continues a visit, which was taken from the path, at a call of a body.
     fn call(&mut self, visit: Visit, callee: usize) -> Result<Progress, AllocError>
         requires { visit.next < 18446744073709551615 }
         ensures graph { graph_view self.new ≡ graph_view self.old }
@@ -155,7 +155,7 @@ impl<'a> Search<'a> {
         }
     }
 
-    // Goes on with a visit, which was taken from the path.
+    // Continues a visit, which was taken from the path.
     fn step(&mut self, visit: Visit) -> Result<Progress, AllocError>
         ensures graph { graph_view self.new ≡ graph_view self.old }
         ensures state { IfOk result (λ progress. (search_view self.new, progress)
@@ -167,7 +167,7 @@ impl<'a> Search<'a> {
         }
     }
 
-    /// The need of a body, or None where the graph has a cycle that is reached from it.
+    /// The need of a body, or None if the graph has a cycle that is reached from it.
     pub(crate) fn need_of(&mut self, root: usize) -> Result<Option<u32>, AllocError>
         requires known { IsTrueOf (graph_view self.old) (search_view self.old) }
         requires path { (search_view self.old).path ≡ [] }
@@ -189,7 +189,7 @@ impl<'a> Search<'a> {
     }
 }
 
-/// The need of the first body, or None where the graph has a cycle.
+/// The need of the first body, or None if the graph has a cycle.
 pub(crate) fn need_in(alloc: Global, graph: &[Body]) -> Result<Option<u32>, AllocError>
     ensures { IfOk result (λ found. Answers (map body_view graph.now) found) }
 {

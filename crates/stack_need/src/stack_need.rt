@@ -26,13 +26,13 @@ fn need_at(alloc: Global, program: &Program<'_>) -> Result<Option<u32>, AllocErr
     Ok(need)
 }
 
-/// How much of the stack a program needs (4,294,967,295 where that is more): with this room no run of it goes outside for
-/// the stack, wherever it lies. None where its procedures may call each other in a circle, whether the main module comes to
-/// that or not. Fails only where there is no memory.
+/// How much of the stack a program needs (4,294,967,295 if it is more): with this room no run of it goes outside for
+/// the stack, wherever it lies. None if its procedures may call each other in a circle, whether the main module comes to
+/// that or not. Fails only if memory runs out.
 pub fn need(alloc: Global, joined: &Joined) -> Result<Option<u32>, AllocError>
     ensures { IfOk result (TellsNeed (map module_view (modules_of joined.now))) }
 {
-    // What a call stands for does not rest on where the program lies.
+    // The meaning of a call does not depend on where the program lies.
     let placement = Placement::new(alloc, joined, Vec::new(alloc), NOWHERE, NOWHERE)?;
     let program = Program::new(alloc, joined, &placement)?;
     let need = need_at(alloc, &program)?;

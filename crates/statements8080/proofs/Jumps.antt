@@ -1,9 +1,9 @@
--- How many jumps the code of a condition has.
+-- The number of jumps in the code of a condition.
 use Rattle.statements8080.proofs.Prelude.{◌≡◌, ℕ, zero, suc, ◌-◌, ◌<◌, Bool, true, false, not, nat_lt, Option, Some, None, refl, sym, ◌∙◌, ap, arith, lt-ltb, ExpressionNumber}
 use Rattle.steps8080.specs.declared.sites.site.Site.{Site}
 use Rattle.statements8080.specs.Branches.{has_one_jump, has_one_jump_within, inner, may_jump_twice}
 
--- what is said of a condition by what is inside it
+-- the answer for a condition, from the expression inside it
 inside_or_not : (left : ℕ) → Site → ExpressionNumber → Option ExpressionNumber → Bool
 inside_or_not left site condition found = elim found [
   | Some inside ↦ has_one_jump_within left site inside
@@ -19,7 +19,7 @@ one_more left site condition = refl
 counted : (left : ℕ) → 0 < left → left ≡ suc (left - 1)
 counted left below = omega arith
 
--- it is looked into what is inside NOT or a conversion
+-- the expression inside NOT or a conversion is looked into
 pub one_jump_here :
     (left : ℕ) (site : Site) (condition inside : ExpressionNumber)
     → 0 < left → inner site condition ≡ Some inside
@@ -30,7 +30,7 @@ one_jump_here left site condition inside below is =
     ∙ one_more (left - 1) site condition
     ∙ ap (inside_or_not (left - 1) site condition) is
 
--- nothing is inside
+-- the condition has no expression inside
 pub one_jump_last :
     (left : ℕ) (site : Site) (condition : ExpressionNumber)
     → 0 < left → inner site condition ≡ None
@@ -51,7 +51,7 @@ none_left zero none = refl
 none_left (suc left) none =
     let some : nat_lt 0 (suc left) ≡ true = lt-ltb 0 (suc left) (omega arith) in cc
 
--- no more is looked through
+-- no further level is looked through
 pub one_jump_ends :
     (left : ℕ) (site : Site) (condition first : ExpressionNumber)
     → has_one_jump_within left site condition ≡ has_one_jump site first → nat_lt 0 left ≡ false

@@ -26,13 +26,13 @@ use Rattle.statements8080.specs.declared.plan.Planned.TheVariants.{Jumped, JumpO
 use Rattle.statements8080.specs.Plans.{jump, mark, nth_label, part, plain}
 use Rattle.statements8080.specs.Bodies.{body_label}
 
--- an expression inside NOT or a conversion that is an expression of a form
+-- the expression inside NOT or a conversion of this form
 abbrev pub inner_of_form : ExpressionForm → Option ExpressionNumber
 inner_of_form (Conversion inside) = Some inside
 inner_of_form (Unary Not operand) = Some operand
 inner_of_form form = None
 
--- an expression inside NOT or a conversion, whose lowest bit is the same or the other one
+-- the expression inside NOT or a conversion; its lowest bit is the same or the opposite
 abbrev pub inner : Site → ExpressionNumber → Option ExpressionNumber
 inner site value = elim (expression site value) [ Some found ↦ inner_of_form found.form | None ↦ None ]
 
@@ -42,7 +42,7 @@ is_and_or_or And = true
 is_and_or_or Or = true
 is_and_or_or operator = false
 
--- whether the code of a condition of a form may be that of AND or OR
+-- whether the code of a condition of this form may be that of AND or OR
 abbrev pub may_jump_twice_by : ExpressionForm → Bool
 may_jump_twice_by (Binary operands operator left right) = is_and_or_or operator
 may_jump_twice_by (Unary operator operand) = true
@@ -50,15 +50,15 @@ may_jump_twice_by (Conversion inside) = true
 may_jump_twice_by (Function function operand) = true
 may_jump_twice_by form = false
 
--- whether the code of a condition may be that of AND or OR, which may jump at each side
+-- whether the code of a condition may be that of AND or OR, which may jump for each operand
 abbrev pub may_jump_twice : Site → ExpressionNumber → Bool
 may_jump_twice site value = elim (expression site value) [
   | Some found ↦ may_jump_twice_by found.form
   | None ↦ true
 ]
 
--- whether the code of a condition surely has one jump at most to its label, where so many signs of negation
--- and conversions around it are looked through
+-- whether the code of a condition has at most one jump to its label, looking through `left` negations and
+-- conversions around it
 unfoldable pub has_one_jump_within : (left : ℕ) → Site → (condition : ExpressionNumber) → Bool
 has_one_jump_within zero site condition = false
 has_one_jump_within (suc left) site condition = elim (inner site condition) [
@@ -66,7 +66,7 @@ has_one_jump_within (suc left) site condition = elim (inner site condition) [
   | None ↦ not (may_jump_twice site condition)
 ]
 
--- whether the code of a condition surely has one jump at most to its label
+-- whether the code of a condition has at most one jump to its label
 abbrev pub has_one_jump : Site → (condition : ExpressionNumber) → Bool
 has_one_jump site condition = has_one_jump_within LOOKED_THROUGH site condition
 
@@ -75,18 +75,18 @@ abbrev pub goto_label_of : Body → TreeStatement → Option LabelNumber
 goto_label_of body (Goto label) = Some (body_label body label)
 goto_label_of body other = None
 
--- the label that a statement goes to, where it is a GOTO
+-- the label of a statement that is a GOTO
 abbrev pub goto_label : Body → StatementNumber → Option LabelNumber
 goto_label body entry = elim (statement body.tree.now entry) [
   | Some found ↦ goto_label_of body found
   | None ↦ None
 ]
 
--- a jump to a label by a condition
+-- a jump to a label on a condition
 abbrev pub branch : (condition : ExpressionNumber) → LabelNumber → (sense : Bool) → Planned
 branch condition label sense = part (tasks.Branch condition label sense) 0
 
--- a statement that is carried out where a condition holds
+-- a statement that is carried out if a condition holds
 abbrev pub then_steps :
     Site → (condition : ExpressionNumber) → (then_part : StatementNumber) → (first : ℕ) → List Planned
 then_steps site condition then_part first =
@@ -96,7 +96,7 @@ then_steps site condition then_part first =
     ∷ Meet (label_of first)
     ∷ []
 
--- one of two statements, by a condition, of which the second is no GOTO
+-- one of two statements, chosen by a condition; the second is not a GOTO
 abbrev pub both_steps :
     Site → (condition : ExpressionNumber) → (then_part else_part : StatementNumber) → (first : ℕ)
     → List Planned
@@ -109,7 +109,7 @@ both_steps site condition then_part else_part first =
     ∷ Meet (nth_label first 1)
     ∷ []
 
--- one of two statements, by a condition; a second one that is a GOTO is a jump by the condition
+-- one of two statements, chosen by a condition; a second one that is a GOTO is a jump on the condition
 abbrev pub either_steps :
     Body → Site → (condition : ExpressionNumber) → (then_part else_part : StatementNumber) → (first : ℕ)
     → List Planned
@@ -118,7 +118,7 @@ either_steps body site condition then_part else_part first = elim (goto_label bo
   | None ↦ both_steps site condition then_part else_part first
 ]
 
--- how many labels that takes
+-- the number of labels that it takes
 abbrev pub either_labels : Body → (else_part : StatementNumber) → ℕ
 either_labels body else_part = elim (goto_label body else_part) [ Some label ↦ 0 | None ↦ 2 ]
 
@@ -127,7 +127,7 @@ abbrev pub statement_if_any : Option StatementNumber → List Planned
 statement_if_any (Some there) = Statement there ∷ []
 statement_if_any None = []
 
--- IF of a condition that is not known, whose first statement is no GOTO
+-- IF with a condition that is not known and a first statement that is not a GOTO
 abbrev pub computed_if_steps :
     Body → Site → (condition : ExpressionNumber) → (then_part : StatementNumber)
     → (else_part : Option StatementNumber) → (first : ℕ) → List Planned
@@ -135,12 +135,12 @@ computed_if_steps body site condition then_part (Some else_part) first =
     either_steps body site condition then_part else_part first
 computed_if_steps body site condition then_part None first = then_steps site condition then_part first
 
--- how many labels that takes
+-- the number of labels that it takes
 abbrev pub computed_if_labels : Body → (else_part : Option StatementNumber) → ℕ
 computed_if_labels body (Some else_part) = either_labels body else_part
 computed_if_labels body None = 1
 
--- IF of a condition that is not known; a first statement that is a GOTO is a jump by the condition
+-- IF with a condition that is not known; a first statement that is a GOTO is a jump on the condition
 abbrev pub tested_if_steps :
     Body → Site → (condition : ExpressionNumber) → (then_part : StatementNumber)
     → (else_part : Option StatementNumber) → (first : ℕ) → List Planned
@@ -149,7 +149,7 @@ tested_if_steps body site condition then_part else_part first = elim (goto_label
   | None ↦ computed_if_steps body site condition then_part else_part first
 ]
 
--- how many labels that takes
+-- the number of labels that it takes
 abbrev pub tested_if_labels :
     Body → (then_part : StatementNumber) → (else_part : Option StatementNumber) → ℕ
 tested_if_labels body then_part else_part = elim (goto_label body then_part) [
@@ -157,7 +157,7 @@ tested_if_labels body then_part else_part = elim (goto_label body then_part) [
   | None ↦ computed_if_labels body else_part
 ]
 
--- IF; where the condition is known, one of both statements is left out: no code outside it goes to its labels
+-- IF; if the condition is known, one statement is left out: no code outside it jumps to its labels
 abbrev pub if_steps :
     Body → Site → (condition : ExpressionNumber) → (then_part : StatementNumber)
     → (else_part : Option StatementNumber) → (first : ℕ) → List Planned
@@ -166,7 +166,7 @@ if_steps body site condition then_part else_part first = elim (number site condi
   | None ↦ tested_if_steps body site condition then_part else_part first
 ]
 
--- how many labels that takes
+-- the number of labels that it takes
 abbrev pub if_labels :
     Body → Site → (condition : ExpressionNumber) → (then_part : StatementNumber)
     → (else_part : Option StatementNumber) → ℕ
@@ -175,13 +175,13 @@ if_labels body site condition then_part else_part = elim (number site condition)
   | None ↦ tested_if_labels body then_part else_part
 ]
 
--- a list that is carried out again and again, after an instruction that the first turn is counted by
+-- a list that is repeated forever, after an instruction that counts the first turn
 abbrev pub forever_steps : Range → (first : ℕ) → List Planned
 forever_steps list first =
     plain Nop ∷ mark (label_of first) ∷ ListOf list ∷ JumpOn (label_of first) ∷ Reaches false ∷ []
 
--- DO WHILE of a condition that is not known: it is tested at the end, to which the code before the loop jumps
--- unless the list is empty
+-- DO WHILE with a condition that is not known: it is tested at the end; the code before the loop jumps to the
+-- test unless the list is empty
 abbrev pub tested_while_steps : (condition : ExpressionNumber) → Range → (first : ℕ) → List Planned
 tested_while_steps condition list first =
     (if nat_lt 0 list.count then jump Jump (nth_label first 1) ∷ [] else [])
@@ -192,14 +192,14 @@ tested_while_steps condition list first =
     ∷ Reaches true
     ∷ [])
 
--- DO WHILE; nothing where the condition is known not to hold
+-- DO WHILE; nothing if the condition is known to be false
 abbrev pub while_steps : Site → (condition : ExpressionNumber) → Range → (first : ℕ) → List Planned
 while_steps site condition list first = elim (number site condition) [
   | Some known ↦ if nat_eq (known % 2) 1 then forever_steps list first else []
   | None ↦ tested_while_steps condition list first
 ]
 
--- how many labels that takes
+-- the number of labels that it takes
 abbrev pub while_labels : Site → (condition : ExpressionNumber) → ℕ
 while_labels site condition = elim (number site condition) [
   | Some known ↦ if nat_eq (known % 2) 1 then 1 else 0

@@ -27,42 +27,42 @@ use Rattle.statements8080.specs.Plans.{all, jump, label_at, mark, nth_label, par
 use Rattle.statements8080.specs.Bodies.{body_label}
 use Rattle.statements8080.specs.Tests.{less_steps}
 
--- the code goes to the end where no statement has the number that is in A
+-- jumps to the end if no statement has the number in A
 abbrev pub byte_bound_steps : (count : ℕ) → (end : LabelNumber) → List Planned
 byte_bound_steps count end =
     if nat_lt count 256
     then plain (AccumulateImmediate Compare (count % 256)) ∷ jump (JumpWhere NoCarry) end ∷ []
     else []
 
--- and the same of the number that is in HL
+-- the same for the number in HL
 abbrev pub word_bound_steps : (count : ℕ) → (end : LabelNumber) → List Planned
 word_bound_steps count end =
     if nat_lt count 65536 then less_steps count ++ (jump (JumpWhere NoCarry) end ∷ []) else []
 
--- the number of a BYTE comes into DE, and the code goes to the end where no statement has it
+-- puts the number of a BYTE choice into DE, and jumps to the end if no statement has this number
 abbrev pub byte_choice_steps : (choice : ExpressionNumber) → (count : ℕ) → (end : LabelNumber) → List Planned
 byte_choice_steps choice count end =
     part (tasks.Byte choice) 0 ∷ (byte_bound_steps count end ++ all (copy E A ∷ set D 0 ∷ []))
 
--- the number of an ADDRESS comes into DE, and the code goes to the end where no statement has it
+-- puts the number of an ADDRESS choice into DE, and jumps to the end if no statement has this number
 abbrev pub word_choice_steps : (choice : ExpressionNumber) → (count : ℕ) → (end : LabelNumber) → List Planned
 word_choice_steps choice count end =
     part (tasks.Word choice) 0 ∷ (word_bound_steps count end ++ (plain Xchg ∷ []))
 
--- the number comes into DE, by its type
+-- puts the number of the choice into DE, by its type
 unfoldable pub number_in_de_steps :
     ScalarType → (choice : ExpressionNumber) → (count : ℕ) → (end : LabelNumber) → List Planned
 number_in_de_steps Byte choice count end = byte_choice_steps choice count end
 number_in_de_steps Address choice count end = word_choice_steps choice count end
 
--- where a statement is entered: at the label that it goes to, at the end where it does nothing, else at a
--- label of its own
+-- the label at which a statement is entered: that of its GOTO, the end for a null statement, else a label of
+-- its own
 abbrev pub entry_of_statement : Body → TreeStatement → (own end : LabelNumber) → LabelNumber
 entry_of_statement body (Goto label) own end = body_label body label
 entry_of_statement body Null own end = end
 entry_of_statement body other own end = own
 
--- where a statement of the list is entered, if there is one
+-- the label at which a statement of the list is entered, if there is one
 abbrev pub entry_of : Body → Range → (index : ℕ) → (own end : LabelNumber) → LabelNumber
 entry_of body list index own end =
     elim (option_and_then (statement body.tree.now) (item body.tree.now list index)) [
@@ -70,7 +70,7 @@ entry_of body list index own end =
       | None ↦ end
     ]
 
--- the jump to the statement of an index
+-- the jump to the statement at an index
 unfoldable pub table_at : Body → Range → (first end : LabelNumber) → (index : ℕ) → List Planned
 table_at body list first end index =
     jump Jump (entry_of body list index (label_at first index) end) ∷ []
@@ -79,8 +79,8 @@ table_at body list first end index =
 unfoldable pub table_steps : Body → Range → (first end : LabelNumber) → List Planned
 table_steps body list first end = steps_from (table_at body list first end) 0 list.count
 
--- the statement of an index at its label, after which each but the last goes on to the end; one that does
--- nothing or goes to a label has no code here
+-- the statement at an index with its label; each but the last jumps to the end; a null statement or a GOTO
+-- has no code here
 abbrev pub statement_at : Body → Range → (first end : LabelNumber) → (index : ℕ) → List Planned
 statement_at body list first end index = elim (item body.tree.now list index) [
   | Some found ↦
@@ -92,21 +92,21 @@ statement_at body list first end index = elim (item body.tree.now list index) [
   | None ↦ []
 ]
 
--- the statements at their labels, one after another
+-- the statements with their labels, one after another
 unfoldable pub statements_steps : Body → Range → (first end : LabelNumber) → List Planned
 statements_steps body list first end = steps_from (statement_at body list first end) 0 list.count
 
--- the code goes on at the jump in the table whose number is in DE; the table begins here
+-- jumps into the table, to the entry with the number in DE; the table begins here
 unfoldable pub into_table_steps : (table : LabelNumber) → List Planned
 into_table_steps table =
     jump (LoadPair Hl) table ∷ (all (Dad De ∷ Dad De ∷ Dad De ∷ Pchl ∷ []) ++ (mark table ∷ []))
 
--- where all statements go on
+-- the end, which all statements reach
 unfoldable pub cases_end_steps : (end : LabelNumber) → List Planned
 cases_end_steps end = mark end ∷ Reaches true ∷ []
 
--- DO CASE of a choice that is not known, by a table of jumps: the number times 3 is added to the address of
--- the table. The labels are that of the table, that of the end and those of the statements.
+-- DO CASE with a choice that is not known, by a table of jumps: adds 3 times the number to the address of the
+-- table. The labels are that of the table, that of the end and those of the statements.
 unfoldable pub choice_at_steps :
     Body → Site → (choice : ExpressionNumber) → Range → (table end own : LabelNumber) → List Planned
 choice_at_steps body site choice list table end own =
@@ -114,23 +114,23 @@ choice_at_steps body site choice list table end own =
     ++ (into_table_steps table
     ++ (table_steps body list own end ++ (statements_steps body list own end ++ cases_end_steps end)))
 
--- and the same where the labels follow each other from the first one that is not taken
+-- the same with consecutive labels from the first one that is not taken
 abbrev pub choice_steps : Body → Site → (choice : ExpressionNumber) → Range → (first : ℕ) → List Planned
 choice_steps body site choice list first =
     choice_at_steps body site choice list (label_of first) (nth_label first 1) (nth_label first 2)
 
--- how many labels that takes
+-- the number of labels that it takes
 abbrev pub choice_labels : Range → ℕ
 choice_labels list = min (list.count + 2) 4294967295
 
--- the statement of a known number alone, if there is one
+-- only the statement with a known number, if there is one
 abbrev pub known_case_steps : Body → Range → (known : ℕ) → List Planned
 known_case_steps body list known = elim (item body.tree.now list known) [
   | Some found ↦ Statement found ∷ []
   | None ↦ []
 ]
 
--- DO CASE of a choice that is not known; without statements the choice is computed for what that does
+-- DO CASE with a choice that is not known; without statements the choice is evaluated for its effects
 abbrev pub computed_case_steps :
     Body → Site → (choice : ExpressionNumber) → Range → (first : ℕ) → List Planned
 computed_case_steps body site choice list first =
@@ -144,7 +144,7 @@ case_steps body site choice list first = elim (number site choice) [
   | None ↦ computed_case_steps body site choice list first
 ]
 
--- how many labels that takes
+-- the number of labels that it takes
 abbrev pub case_labels : Site → (choice : ExpressionNumber) → Range → ℕ
 case_labels site choice list = elim (number site choice) [
   | Some known ↦ 0

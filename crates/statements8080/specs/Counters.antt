@@ -21,31 +21,31 @@ counter_of site head = record {
   location = location_of site (whole head.variable);
 }
 
--- its place in memory, where it is not in the frame
+-- its place in memory, if it is not in the frame
 abbrev pub counter_place : Counter → Option Place
 counter_place counter = place_in_memory counter.location
 
--- that HL holds its address
+-- the fact that HL holds its address
 abbrev pub address_fact : Counter → Facts
 address_fact counter = record no_facts { address_in_hl = counter.location }
 
--- that HL holds its value
+-- the fact that HL holds its value
 abbrev pub word_fact : Counter → Facts
 word_fact counter = record no_facts { word_in_hl = counter.location }
 
--- a number as it is converted to a type
+-- a number converted to a type
 abbrev pub converted : ScalarType → (known : ℕ) → ℕ
 converted Byte known = low known
 converted Address known = known
 
--- its first value, where that is known
+-- its first value, if known
 abbrev pub first_value : Counter → Site → (first : ExpressionNumber) → Option ℕ
 first_value counter site first = elim (number site first) [
   | Some known ↦ Some (converted counter.scalar known)
   | None ↦ None
 ]
 
--- whether it is known that there is a first turn, or that there is none
+-- whether there is a first turn, if known
 unfoldable pub has_a_turn : Site → Counter → Iteration → Option Bool
 has_a_turn site counter head = elim (first_value counter site head.first) [
   | Some first ↦ elim (number site head.last) [ Some last ↦ Some (nat_le first last) | None ↦ None ]

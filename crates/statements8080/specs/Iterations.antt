@@ -33,7 +33,7 @@ use Rattle.statements8080.specs.Assignments.{single_steps}
 use Rattle.statements8080.specs.Counters.{address_fact, counter_of, counter_place, counts_by_one, has_a_turn, word_fact}
 use Rattle.statements8080.specs.Tests.{facts_of_test, less_steps, test_of, test_steps}
 
--- the labels of a loop in general, by the first one
+-- the labels of the general form of a loop, from the first one
 abbrev pub loop_labels : (first : ℕ) → LoopLabels
 loop_labels first = record {
   turn = label_of first;
@@ -46,24 +46,24 @@ abbrev pub is_byte_type : ScalarType → Bool
 is_byte_type Byte = true
 is_byte_type Address = false
 
--- the variable gets its first value
+-- assigns the first value to the variable
 unfoldable pub first_steps : Body → Site → Counter → (first : ExpressionNumber) → List Planned
 first_steps body site counter first =
     single_steps body site (Stored (scalar site first) counter.scalar counter.reference) first
 
--- whether the variable is less than a number, by its type: the carry shows it
+-- tests whether the variable is less than a number, by its type: the carry shows it
 abbrev pub below_steps : ScalarType → Counter → (bound : ℕ) → List Planned
 below_steps Byte counter bound =
     LoadByte counter.reference ∷ plain (AccumulateImmediate Compare (low bound)) ∷ []
 below_steps Address counter bound = LoadWord counter.reference ∷ less_steps bound
 
--- the test before the first turn of a loop to a known bound, where it is not known that there is one
+-- the test before the first turn of a loop with a known bound, unless a first turn is known
 unfoldable pub first_test_steps : Counter → (last : ℕ) → (end : LabelNumber) → List Planned
 first_test_steps counter last end =
     if nat_le 65535 last then []
     else below_steps counter.scalar counter (last + 1) ++ (jump (JumpWhere NoCarry) end ∷ [])
 
--- the BYTE is counted, and there is another turn if it was less than the bound
+-- counts the BYTE by 1, and begins another turn if it was less than the bound
 abbrev pub next_byte_steps : Counter → (last : ℕ) → (turn : LabelNumber) → List Planned
 next_byte_steps counter last turn =
     part (tasks.Address counter.reference) 0
@@ -71,7 +71,7 @@ next_byte_steps counter last turn =
     else all (load A ∷ AccumulateImmediate Compare (low last) ∷ Inr M ∷ [])
     ++ (jump (JumpWhere Carry) turn ∷ []))
 
--- the ADDRESS at a place is counted, and there is another turn if it was less than the bound
+-- counts the ADDRESS at a place by 1, and begins another turn if it was less than the bound
 abbrev pub next_word_steps : Counter → Place → (last : ℕ) → (turn : LabelNumber) → List Planned
 next_word_steps counter place last turn =
     LoadWord counter.reference
@@ -81,22 +81,22 @@ next_word_steps counter place last turn =
     ∷ Inx Hl ∷ [])
     ++ (word StoreHl place ∷ jump (JumpWhere Carry) turn ∷ []))
 
--- the variable is counted, a BYTE or an ADDRESS at a place
+-- counts the variable, a BYTE or an ADDRESS at a place, by 1
 abbrev pub next_steps :
     (counts_byte : Bool) → (place : Option Place) → Counter → (last : ℕ) → (turn : LabelNumber) → List Planned
 next_steps false (Some place) counter last turn = next_word_steps counter place last turn
 next_steps counts_byte place counter last turn = next_byte_steps counter last turn
 
--- the variable is counted, by its type and its place
+-- counts the variable by 1, by its type and its place
 unfoldable pub next_turn_steps : Counter → (last : ℕ) → (turn : LabelNumber) → List Planned
 next_turn_steps counter last turn =
     next_steps (is_byte_type counter.scalar) (counter_place counter) counter last turn
 
--- what holds where a turn begins: HL is the address of a BYTE or the value of an ADDRESS
+-- the facts at the start of a turn: HL holds the address of a BYTE or the value of an ADDRESS
 unfoldable pub facts_of_turn : Counter → Facts
 facts_of_turn counter = if is_byte_type counter.scalar then address_fact counter else word_fact counter
 
--- the test before the first turn, where it is asked for and not every BYTE passes it
+-- the test before the first turn, if asked for and not every BYTE passes it
 unfoldable pub asked_test_steps :
     Counter → (last : ℕ) → (is_tested : Bool) → (end : LabelNumber) → List Planned
 asked_test_steps counter last is_tested end =
@@ -104,11 +104,11 @@ asked_test_steps counter last is_tested end =
     then first_test_steps counter last end
     else []
 
--- the place of a label, where it is asked for
+-- the place of a label, if asked for
 abbrev pub asked_mark : (is_asked : Bool) → LabelNumber → List Planned
 asked_mark is_asked label = if is_asked then mark label ∷ [] else []
 
--- counting by 1 to a known bound: the test stands at the end, together with the counting
+-- counts by 1 to a known bound: the test is at the end, together with the counting
 unfoldable pub to_known_steps : Counter → (last : ℕ) → (is_tested : Bool) → Range → (first : ℕ) → List Planned
 to_known_steps counter last is_tested list first =
     let turn = label_of first in
@@ -118,7 +118,7 @@ to_known_steps counter last is_tested list first =
     ∷ ListOf list
     ∷ (next_turn_steps counter last turn ++ (asked_mark is_tested end ++ (Reaches true ∷ []))))
 
--- a variable of a type is counted by 1 at the address in HL; where it becomes 0 the loop ends
+-- counts the variable of a type at the address in HL by 1; the loop ends if it becomes 0
 abbrev pub count_at_hl_steps : ScalarType → LoopLabels → List Planned
 count_at_hl_steps Byte labels = plain (Inr M) ∷ jump (JumpWhere Zero) labels.end ∷ []
 count_at_hl_steps Address labels =
@@ -129,12 +129,12 @@ count_at_hl_steps Address labels =
     ∷ jump (JumpWhere Zero) labels.end
     ∷ []
 
--- the variable is counted by 1
+-- counts the variable by 1
 abbrev pub count_steps : Counter → LoopLabels → List Planned
 count_steps counter labels =
     part (tasks.Address counter.reference) 0 ∷ count_at_hl_steps counter.scalar labels
 
--- a BYTE is added to the BYTE; where that overflows the loop ends
+-- adds a BYTE to the BYTE; the loop ends on overflow
 abbrev pub add_byte_steps : Counter → (step : ExpressionNumber) → (end : LabelNumber) → List Planned
 add_byte_steps counter step end =
     part (tasks.Byte step) 0
@@ -144,12 +144,12 @@ add_byte_steps counter step end =
     ∷ jump (JumpWhere Carry) end
     ∷ []
 
--- DE is added to the byte at the address in HL; A and the carry show whether the sum is no BYTE
+-- adds DE to the byte at the address in HL; A and the carry show whether the sum exceeds a BYTE
 unfoldable pub sum_of_byte_steps : List Planned
 sum_of_byte_steps =
     all (copy A E ∷ with_memory Add ∷ MovToMemory A ∷ set A 0 ∷ with_register AddWithCarry D ∷ [])
 
--- an ADDRESS is added to the BYTE; where the whole sum is no BYTE the loop ends
+-- adds an ADDRESS to the BYTE; the loop ends if the whole sum exceeds a BYTE
 abbrev pub add_word_to_byte_steps : Counter → (step : ExpressionNumber) → (end : LabelNumber) → List Planned
 add_word_to_byte_steps counter step end =
     part (tasks.Word step) 0 ∷ plain Xchg ∷ part (tasks.Address counter.reference) 0
@@ -159,26 +159,26 @@ add_word_to_byte_steps counter step end =
     ∷ jump (JumpWhere NotZero) end
     ∷ []))
 
--- the value of the step comes into DE
+-- puts the value of the step into DE
 abbrev pub step_in_de_steps : Site → (step : ExpressionNumber) → List Planned
 step_in_de_steps site step = elim (known site step) [
   | Some place ↦ word (LoadPair De) place ∷ []
   | None ↦ part (tasks.Word step) 0 ∷ plain Xchg ∷ []
 ]
 
--- DE is added to the word at the address in HL; the carry shows whether that overflows
+-- adds DE to the word at the address in HL; the carry shows an overflow
 unfoldable pub sum_of_word_steps : List Planned
 sum_of_word_steps =
     all
     (load A ∷ with_register Add E ∷ MovToMemory A ∷ Inx Hl
     ∷ load A ∷ with_register AddWithCarry D ∷ MovToMemory A ∷ [])
 
--- DE is added to the ADDRESS in the frame
+-- adds DE to the ADDRESS in the frame
 abbrev pub add_de_in_frame_steps : Counter → (end : LabelNumber) → List Planned
 add_de_in_frame_steps counter end =
     part (tasks.Address counter.reference) 0 ∷ (sum_of_word_steps ++ (jump (JumpWhere Carry) end ∷ []))
 
--- DE is added to the ADDRESS, in memory or in the frame; where that overflows the loop ends
+-- adds DE to the ADDRESS, in memory or in the frame; the loop ends on overflow
 abbrev pub add_de_steps : (place : Option Place) → Counter → (end : LabelNumber) → List Planned
 add_de_steps (Some place) counter end =
     LoadWord counter.reference
@@ -188,52 +188,52 @@ add_de_steps (Some place) counter end =
     ∷ []
 add_de_steps None counter end = add_de_in_frame_steps counter end
 
--- the step is added to the ADDRESS
+-- adds the step to the ADDRESS
 abbrev pub add_word_steps : Site → Counter → (step : ExpressionNumber) → (end : LabelNumber) → List Planned
 add_word_steps site counter step end =
     step_in_de_steps site step ++ add_de_steps (counter_place counter) counter end
 
--- whether the value of an expression is surely a BYTE
+-- whether the value of an expression is known to fit a BYTE
 abbrev pub is_byte : Site → ExpressionNumber → Bool
 is_byte site value = elim (number site value) [
   | Some found ↦ nat_lt found 256
   | None ↦ is_byte_type (scalar site value)
 ]
 
--- a step is added to a variable of a type
+-- adds a step to a variable of a type
 abbrev pub add_steps :
     ScalarType → Site → Counter → (step : ExpressionNumber) → (end : LabelNumber) → List Planned
 add_steps Byte site counter step end =
     if is_byte site step then add_byte_steps counter step end else add_word_to_byte_steps counter step end
 add_steps Address site counter step end = add_word_steps site counter step end
 
--- the step is added to the variable; where that overflows the loop ends
+-- adds the step to the variable; the loop ends on overflow
 unfoldable pub step_steps : Site → Counter → (step : Option ExpressionNumber) → LoopLabels → List Planned
 step_steps site counter (Some step) labels =
     if counts_by_one site (Some step) then count_steps counter labels
     else add_steps counter.scalar site counter step labels.end
 step_steps site counter None labels = count_steps counter labels
 
--- the place of the test, to which the code before the loop jumps where it `is_entered` there, and counting by
--- 1 does where the variable is an ADDRESS
+-- the place of the test; if it `is_entered`, the code before the loop jumps to it, and so does counting an
+-- ADDRESS by 1
 unfoldable pub test_label_steps :
     Counter → (step_is_one is_entered : Bool) → (test : LabelNumber) → List Planned
 test_label_steps counter step_is_one is_entered test =
     if step_is_one && not (is_byte_type counter.scalar) then mark test ∷ []
     else if is_entered then Meet test ∷ [] else []
 
--- the jump to the test, where it is asked for
+-- the jump to the test, if asked for
 abbrev pub asked_jump : (is_tested : Bool) → (test : LabelNumber) → List Planned
 asked_jump is_tested test = if is_tested then Jumped true ∷ jump Jump test ∷ [] else []
 
--- counting in general up to the end of a turn
+-- the general form of a loop, up to the end of a turn
 unfoldable pub general_begin_steps :
     Counter → Test → (is_tested : Bool) → Range → LoopLabels → List Planned
 general_begin_steps counter test is_tested list labels =
     asked_jump is_tested labels.test
     ++ (Again labels.turn (facts_of_test counter test) (not is_tested) ∷ ListOf list ∷ [])
 
--- and from there on: the step, and the test
+-- the general form from there on: the step, and the test
 unfoldable pub general_end_steps :
     Site → Counter → Iteration → Test → (is_tested : Bool) → LoopLabels → List Planned
 general_end_steps site counter head test is_tested labels =
@@ -242,7 +242,7 @@ general_end_steps site counter head test is_tested labels =
     ++ (test_steps counter test labels.turn
     ++ (mark labels.end ∷ Reaches true ∷ [])))
 
--- counting in general: the test stands at the end, after the step
+-- the general form of a loop: the test is at the end, after the step
 unfoldable pub general_steps :
     Site → Counter → Iteration → (is_tested : Bool) → Range → (first : ℕ) → List Planned
 general_steps site counter head is_tested list first =
@@ -251,12 +251,12 @@ general_steps site counter head is_tested list first =
     general_begin_steps counter test is_tested list labels
     ++ general_end_steps site counter head test is_tested labels
 
--- whether the variable is counted where it lies, to a known bound: a BYTE, or an ADDRESS in memory, by 1
+-- whether the variable is counted in place, by 1 to a known bound: a BYTE, or an ADDRESS in memory
 abbrev pub counts_in_place : Site → Counter → Iteration → Bool
 counts_in_place site counter head =
     (is_byte_type counter.scalar || is_some (counter_place counter)) && counts_by_one site head.step
 
--- the turns of an iterative DO, if it is not known that there is none
+-- the turns of an iterative DO, unless it is known that it has no turn
 abbrev pub turns_steps : Site → Counter → Iteration → (is_tested : Bool) → Range → (first : ℕ) → List Planned
 turns_steps site counter head is_tested list first = elim (number site head.last) [
   | Some last ↦
@@ -265,34 +265,34 @@ turns_steps site counter head is_tested list first = elim (number site head.last
   | None ↦ general_steps site counter head is_tested list first
 ]
 
--- how many labels that takes
+-- the number of labels that they take
 abbrev pub turns_labels : Site → Counter → Iteration → ℕ
 turns_labels site counter head = elim (number site head.last) [
   | Some last ↦ if counts_in_place site counter head then 2 else 3
   | None ↦ 3
 ]
 
--- the turns, by whether it is known that there is one, or that there is none
+-- the turns, unless it is known that there are none
 abbrev pub turns_if_any :
     (has_a_turn : Option Bool) → Site → Counter → Iteration → Range → (first : ℕ) → List Planned
 turns_if_any (Some false) site counter head list first = []
 turns_if_any (Some true) site counter head list first = turns_steps site counter head false list first
 turns_if_any None site counter head list first = turns_steps site counter head true list first
 
--- how many labels that takes
+-- the number of labels that they take
 abbrev pub labels_if_any : (has_a_turn : Option Bool) → Site → Counter → Iteration → ℕ
 labels_if_any (Some false) site counter head = 0
 labels_if_any (Some true) site counter head = turns_labels site counter head
 labels_if_any None site counter head = turns_labels site counter head
 
--- an iterative DO; the variable gets its first value even where there is no turn
+-- an iterative DO; the variable gets its first value even without a turn
 abbrev pub iteration_steps : Body → Site → Iteration → Range → (first : ℕ) → List Planned
 iteration_steps body site head list first =
     let counter = counter_of site head in
     first_steps body site counter head.first
     ++ turns_if_any (has_a_turn site counter head) site counter head list first
 
--- how many labels that takes
+-- the number of labels that it takes
 abbrev pub iteration_labels : Site → Iteration → ℕ
 iteration_labels site head =
     let counter = counter_of site head in

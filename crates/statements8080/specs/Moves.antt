@@ -15,8 +15,8 @@ use Rattle.statements8080.specs.declared.plan.Planned.{Planned}
 use Rattle.statements8080.specs.declared.plan.Planned.TheVariants.{Code}
 use Rattle.statements8080.specs.Plans.{part, plain, word}
 
--- a source that is not known comes into DE and the destination into HL, where so many bytes are pushed: the
--- source waits in DE, or on the stack where the code of the destination does not keep DE
+-- puts a source that is not known into DE and the destination into HL, when `pushed` bytes are pushed: the
+-- source is in DE meanwhile, or pushed if the code of the destination does not keep DE
 abbrev pub computed_ends_steps : Site → (source destination : ExpressionNumber) → (pushed : ℕ) → List Planned
 computed_ends_steps site source destination pushed =
     if (keeps site destination).de
@@ -27,19 +27,19 @@ computed_ends_steps site source destination pushed =
     ∷ plain (Pop StackDe)
     ∷ []
 
--- the source comes into DE and the destination into HL, where so many bytes are pushed
+-- puts the source into DE and the destination into HL, when `pushed` bytes are pushed
 abbrev pub ends_steps : Site → (source destination : ExpressionNumber) → (pushed : ℕ) → List Planned
 ends_steps site source destination pushed = elim (known site source) [
   | Some place ↦ part (tasks.Word destination) pushed ∷ word (LoadPair De) place ∷ []
   | None ↦ computed_ends_steps site source destination pushed
 ]
 
--- a known number of bytes is copied
+-- copies a known number of bytes
 abbrev pub known_move_steps : Site → (count : Place) → (source destination : ExpressionNumber) → List Planned
 known_move_steps site count source destination =
     ends_steps site source destination 0 ++ (word (LoadPair Bc) count ∷ Code (CallRoutine Move) ∷ [])
 
--- CALL MOVE: the count comes into BC, the source into DE and the destination into HL
+-- CALL MOVE: puts the count into BC, the source into DE and the destination into HL
 abbrev pub move_steps : Site → (count source destination : ExpressionNumber) → List Planned
 move_steps site count source destination = elim (known site count) [
   | Some place ↦ known_move_steps site place source destination

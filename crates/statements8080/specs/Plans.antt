@@ -1,4 +1,4 @@
--- Code of statements as it is planned: steps that are added at the end of others, and labels that are taken.
+-- Planned code of statements: steps that are appended, and labels that are taken.
 use Rattle.std.specs.Prelude.{◌≡◌, ℕ, zero, suc, ◌+◌, min, List, [], ◌++◌, map}
 use Rattle.isa8080.specs.declared.instr.Instr.{Instr}
 use Rattle.asm8080.specs.declared.item.WordForm.{WordForm}
@@ -11,11 +11,12 @@ use Rattle.statements8080.specs.declared.plan.Plan.{Plan}
 use Rattle.statements8080.specs.declared.plan.Planned.{Planned}
 use Rattle.statements8080.specs.declared.plan.Planned.TheVariants.{Code}
 
--- the label of an index among labels in a row, by the number of the first one; there are 2^32 numbers
+-- the label at an index among consecutive labels, from the number of the first one; numbers are at most 2^32
+-- - 1
 abbrev pub nth_label : (first index : ℕ) → LabelNumber
 nth_label first index = record { index = min (first + index) 4294967295 }
 
--- the same, by that label
+-- the same, from the first label
 abbrev pub label_at : (first : LabelNumber) → (index : ℕ) → LabelNumber
 label_at first index = nth_label first.index index
 
@@ -23,19 +24,19 @@ label_at first index = nth_label first.index index
 abbrev pub free_label : Plan → ℕ
 free_label plan = min (plan.first_label + plan.taken) 4294967295
 
--- so many labels are taken
+-- `count` labels are taken
 pub record TakesLabels (before after : Plan) (count : ℕ) : Type 0 where
   pub added : after.list.items ≡ before.list.items
   pub first : after.first_label ≡ before.first_label
   pub taken : min after.taken 4294967295 ≡ min (before.taken + count) 4294967295
 
--- what is added is this, and no label is taken
+-- `list` is appended, and no label is taken
 pub record PlanAdds (before after : Plan) (list : List Planned) : Type 0 where
   pub added : after.list.items ≡ before.list.items ++ list
   pub first : after.first_label ≡ before.first_label
   pub taken : after.taken ≡ before.taken
 
--- so many labels are taken, and what is added is this by the first of them
+-- `count` labels are taken, and `list` of the first of them is appended
 pub record PlanAddsWithLabels
     (before after : Plan) (count : ℕ) (list : (first : ℕ) → List Planned) : Type 0 where
   pub added : after.list.items ≡ before.list.items ++ list (free_label before)
@@ -62,15 +63,15 @@ jump form label = Code (steps.Jump form label)
 abbrev pub mark : LabelNumber → Planned
 mark label = Code (steps.Mark label)
 
--- the code of a task where so many bytes are pushed
+-- the code of a task when `pushed` bytes are pushed
 abbrev pub part : Task → (pushed : ℕ) → Planned
 part task pushed = Code (steps.Part (record { task = task; pushed = pushed }))
 
--- what holds here, beside what is known by the instructions alone
+-- facts that hold here, beside those that the instructions show
 abbrev pub holds : Facts → Planned
 holds facts = Code (steps.Holds facts)
 
--- the steps of so many indexes in a row, from one on
+-- the steps of `left` consecutive indices, from an index on
 abbrev pub steps_from : (steps_at : (index : ℕ) → List Planned) → (index left : ℕ) → List Planned
 steps_from steps_at index zero = []
 steps_from steps_at index (suc left) = steps_at index ++ steps_from steps_at (suc index) left

@@ -1,4 +1,4 @@
--- The test of an iterative DO: whether its variable is not above its bound.
+-- The test of an iterative DO: whether its variable is at most its bound.
 use Rattle.std.specs.Prelude.{ℕ, ◌+◌, ◌%◌, if◌then◌else◌, nat_eq, nat_le, List, [], ◌∷◌, ◌++◌, Option, Some, None}
 use Rattle.isa8080.specs.declared.instr.Condition.TheVariants.{Carry, NoCarry}
 use Rattle.isa8080.specs.declared.instr.Instr.TheVariants.{AccumulateImmediate, Inx, Xchg}
@@ -29,17 +29,17 @@ use Rattle.statements8080.specs.declared.plan.Planned.TheVariants.{LoadByte, Loa
 use Rattle.statements8080.specs.Plans.{all, jump, part, plain, word}
 use Rattle.statements8080.specs.Counters.{address_fact, counter_place, word_fact}
 
--- the test with a bound that is known: none where no value of the type is above it
+-- the test for a known bound: `Always` if no value of the type is above it
 abbrev pub known_test : ScalarType → (last : ℕ) → Test
 known_test Byte last = if nat_le 255 last then tests.Always else tests.ByteBelow (last + 1)
 known_test Address last = if nat_le 65535 last then tests.Always else tests.WordBelow (last + 1)
 
--- the place in memory of an ADDRESS that an expression of a form and a type is the value of
+-- the place in memory of the ADDRESS that an expression of this form and type reads
 abbrev pub word_of_form : Site → ExpressionForm → ScalarType → Option Place
 word_of_form site (Value reference) Address = direct site reference
 word_of_form site form other = None
 
--- the place in memory of an ADDRESS that an expression is the value of, if it is one
+-- the place in memory of the ADDRESS that an expression reads, if it reads one
 abbrev pub word_at : Site → ExpressionNumber → Option Place
 word_at site value = elim (expression site value) [
   | Some found ↦ word_of_form site found.form found.traits.scalar
@@ -56,20 +56,20 @@ word_test_by None last_place last = tests.FrameWord last
 abbrev pub word_test : Site → Counter → (last : ExpressionNumber) → Test
 word_test site counter last = word_test_by (counter_place counter) (word_at site last) last
 
--- the test with a bound that is not known, by the types of the variable and of the bound
+-- the test for a bound that is not known, by the types of the variable and of the bound
 abbrev pub computed_test : (variable bound : ScalarType) → Site → Counter → (last : ExpressionNumber) → Test
 computed_test Byte Byte site counter last = tests.Byte last
 computed_test Byte Address site counter last = tests.ByteWithWord last
 computed_test Address bound site counter last = word_test site counter last
 
--- how it is tested whether the variable is not above the bound
+-- the way to test whether the variable is at most the bound
 unfoldable pub test_of : Site → Counter → (last : ExpressionNumber) → Test
 test_of site counter last = elim (number site last) [
   | Some known ↦ known_test counter.scalar known
   | None ↦ computed_test counter.scalar (scalar site last) site counter last
 ]
 
--- what holds where the test jumps
+-- the facts at the target of the jump of the test
 abbrev pub facts_of_test : Counter → Test → Facts
 facts_of_test counter tests.Always = no_facts
 facts_of_test counter (tests.FrameWord last) = no_facts
@@ -80,7 +80,7 @@ facts_of_test counter (tests.WordBelow bound) = word_fact counter
 facts_of_test counter (tests.WordWithPlace place) = word_fact counter
 facts_of_test counter (tests.Word last) = word_fact counter
 
--- the carry shows whether HL is less than a number
+-- sets the carry if HL is less than a number, and clears it otherwise
 abbrev pub less_steps : (bound : ℕ) → List Planned
 less_steps bound =
     if nat_eq (bound % 256) 0 then all (copy A H ∷ AccumulateImmediate Compare (high bound) ∷ [])
@@ -88,13 +88,13 @@ less_steps bound =
     (copy A L ∷ AccumulateImmediate Subtract (low bound)
     ∷ copy A H ∷ AccumulateImmediate SubtractWithBorrow (high bound) ∷ [])
 
--- the carry shows whether the word at a place is less than HL
+-- sets the carry if the word at a place is less than HL, and clears it otherwise
 abbrev pub place_below_steps : Place → List Planned
 place_below_steps place =
     word LoadA place ∷ plain (with_register Subtract L)
     ∷ word LoadA (place_after place 1) ∷ plain (with_register SubtractWithBorrow H) ∷ []
 
--- the carry shows whether the bound is less than the ADDRESS in memory
+-- sets the carry if the bound is less than the ADDRESS in memory, and clears it otherwise
 abbrev pub word_below_steps : Counter → (last : ExpressionNumber) → List Planned
 word_below_steps counter last =
     part (tasks.Word last) 0 ∷ plain Xchg ∷ LoadWord counter.reference
@@ -102,7 +102,7 @@ word_below_steps counter last =
     (copy A E ∷ with_register Subtract L
     ∷ copy A D ∷ with_register SubtractWithBorrow H ∷ [])
 
--- the carry shows whether the bound is less than the ADDRESS in the frame
+-- sets the carry if the bound is less than the ADDRESS in the frame, and clears it otherwise
 abbrev pub frame_word_below_steps : Counter → (last : ExpressionNumber) → List Planned
 frame_word_below_steps counter last =
     part (tasks.Word last) 0 ∷ plain Xchg ∷ part (tasks.Address counter.reference) 0
@@ -110,7 +110,7 @@ frame_word_below_steps counter last =
     (copy A E ∷ with_memory Subtract ∷ Inx Hl
     ∷ copy A D ∷ with_memory SubtractWithBorrow ∷ [])
 
--- the carry shows whether the bound, an ADDRESS, is less than the BYTE
+-- sets the carry if the bound, an ADDRESS, is less than the BYTE, and clears it otherwise
 abbrev pub byte_below_word_steps : Counter → (last : ExpressionNumber) → List Planned
 byte_below_word_steps counter last =
     part (tasks.Word last) 0 ∷ plain Xchg ∷ part (tasks.Address counter.reference) 0
@@ -118,12 +118,12 @@ byte_below_word_steps counter last =
     (copy A E ∷ with_memory Subtract
     ∷ copy A D ∷ AccumulateImmediate SubtractWithBorrow 0 ∷ [])
 
--- the carry shows whether the bound, a BYTE, is less than the BYTE
+-- sets the carry if the bound, a BYTE, is less than the BYTE, and clears it otherwise
 abbrev pub byte_below_steps : Counter → (last : ExpressionNumber) → List Planned
 byte_below_steps counter last =
     part (tasks.Byte last) 0 ∷ part (tasks.Address counter.reference) 0 ∷ plain (with_memory Compare) ∷ []
 
--- a jump to a label where the variable is not above the bound
+-- a jump to a label if the variable is at most the bound
 unfoldable pub test_steps : Counter → Test → (turn : LabelNumber) → List Planned
 test_steps counter tests.Always turn = jump Jump turn ∷ []
 -- the variable is less than a number

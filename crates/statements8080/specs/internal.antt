@@ -1,3 +1,3 @@
--- What only proofs cite.
+-- Definitions that only proofs cite.
 pub mod Adding
 pub mod Finding

@@ -13,7 +13,7 @@ use std::alloc::AllocError;
 use treecode::{ExpressionForm, ExpressionNumber, Range, Reference, Subscript, Target};
 use trees::{BinaryOperator, ScalarType};
 
-// How the types of several targets go together.
+// The types of several targets.
 #[derive(Clone, Copy)]
 enum TargetTypes {
     // Each takes a byte.
@@ -33,7 +33,7 @@ fn takes_word(target: Target) -> bool
     }
 }
 
-// The target of a value that is there in this type.
+// The target for a value of the type `from`.
 fn from_type(target: Target, from: ScalarType) -> Target
     ensures { result ≡ from_type target from }
 {
@@ -51,7 +51,7 @@ fn from_type(target: Target, from: ScalarType) -> Target
     }
 }
 
-// Whether a subscript is evaluated without changing anything.
+// Whether evaluating a subscript changes nothing.
 fn is_quiet_subscript(site: &Site<'_>, subscript: Option<Subscript>) -> bool
     ensures { result ≡ is_quiet_subscript site.now subscript }
 {
@@ -61,8 +61,8 @@ fn is_quiet_subscript(site: &Site<'_>, subscript: Option<Subscript>) -> bool
     }
 }
 
-// Whether the address of a BYTE target is to come before its value: its code does not keep A, the code of the value uses A
-// alone, and nobody can tell the order.
+// Whether to compute the address of a BYTE target before its value: the code of the address does not keep A, that of
+// the value changes only A, and the order makes no difference.
 fn is_address_first(site: &Site<'_>, reference: &Reference, value: ExpressionNumber) -> bool
     ensures { result ≡ is_address_first site.now reference.now value }
 {
@@ -72,7 +72,7 @@ fn is_address_first(site: &Site<'_>, reference: &Reference, value: ExpressionNum
         && is_quiet_subscript(site, reference.member_subscript)
 }
 
-// INR M or DCR M, where a BYTE is to become itself and 1 or itself less 1.
+// INR M or DCR M, if the value is the BYTE itself plus 1 or minus 1.
 fn count_of(site: &Site<'_>, reference: &Reference, value: ExpressionNumber) -> Option<Instr>
     ensures { result ≡ count_of site.now reference.now value }
 {
@@ -118,7 +118,7 @@ fn is_value_of(site: &Site<'_>, number: ExpressionNumber, reference: &Reference)
     }
 }
 
-// A BYTE gets the low byte of a value.
+// Assigns the low byte of a value to a BYTE.
 fn plan_byte(
     site: &Site<'_>,
     plan: &mut Plan,
@@ -148,7 +148,7 @@ fn plan_byte(
     plan_from_byte(plan, target, value)
 }
 
-// The low byte of a value goes to a target.
+// Stores the low byte of a value in a target.
 fn plan_from_byte(
     plan: &mut Plan,
     target: Target,
@@ -166,7 +166,7 @@ fn plan_from_byte(
     )
 }
 
-// A value goes to a target as a word.
+// Stores a value in a target as a word.
 fn plan_from_word(
     plan: &mut Plan,
     target: Target,
@@ -184,7 +184,7 @@ fn plan_from_word(
     )
 }
 
-// A number goes to an ADDRESS, byte by byte.
+// Stores a number in an ADDRESS, byte by byte.
 fn plan_number(plan: &mut Plan, reference: Reference, number: u16) -> Result<(), AllocError>
     ensures { OnOk result (PlanAdds plan.old plan.new (number_steps reference number)) }
 {
@@ -194,7 +194,7 @@ fn plan_number(plan: &mut Plan, reference: Reference, number: u16) -> Result<(),
     plan.plain(Instr::Mvi(Operand::M, (number / 256) as u8))
 }
 
-// An ADDRESS gets a value of a type.
+// Assigns a value to an ADDRESS.
 fn plan_word(
     body: &Body<'_>,
     site: &Site<'_>,
@@ -217,7 +217,7 @@ fn plan_word(
     }
 }
 
-/// One target gets a value.
+/// Assigns a value to one target.
 pub fn plan_single(
     body: &Body<'_>,
     site: &Site<'_>,
@@ -236,7 +236,7 @@ pub fn plan_single(
     }
 }
 
-// How the types of targets go together.
+// The types of the targets.
 #[tactic(auto, using(crate::proofs::Adding::any_target_here))]
 fn types_of(body: &Body<'_>, targets: Range) -> TargetTypes
     ensures { result ≡ types_of body.now targets }
@@ -257,7 +257,7 @@ fn types_of(body: &Body<'_>, targets: Range) -> TargetTypes
     }
 }
 
-// Each target gets a value, as if it were the only one.
+// Assigns a value to each target, as if it were the only one.
 #[tactic(auto, using(crate::proofs::Adding::adding_begins, crate::proofs::Adding::adding_goes_on, crate::proofs::Adding::adding_ends, crate::proofs::Adding::steps_from_here))]
 fn plan_each(
     body: &Body<'_>,
@@ -276,7 +276,7 @@ fn plan_each(
     Ok(())
 }
 
-// A value that is in A or HL in this type goes to all targets.
+// Stores a value that is in A or HL, by its type, in all targets.
 #[tactic(auto, using(crate::proofs::Adding::adding_begins, crate::proofs::Adding::adding_goes_on, crate::proofs::Adding::adding_ends, crate::proofs::Adding::steps_from_here))]
 fn plan_stores(
     body: &Body<'_>,
@@ -296,7 +296,7 @@ fn plan_stores(
     Ok(())
 }
 
-// Several targets get a value, which is evaluated once.
+// Assigns a value, which is evaluated once, to several targets.
 fn plan_together(
     body: &Body<'_>,
     plan: &mut Plan,
@@ -313,7 +313,7 @@ fn plan_together(
     plan_stores(body, plan, targets, from)
 }
 
-// Several targets get a value.
+// Assigns a value to several targets.
 fn plan_several(
     body: &Body<'_>,
     site: &Site<'_>,

@@ -1,4 +1,4 @@
-//! The bodies that code is made of.
+//! The bodies of procedures and main programs.
 
 ghost use Rattle.std.specs.Prelude.{◌≡◌};
 ghost use Rattle.statements8080.specs.Bodies.{body_label, is_near, whole};
@@ -7,8 +7,7 @@ use exprgen8080::LabelNumber;
 use frames::FramePlan;
 use treecode::{Location, Reference, TreeModule, TreeProcedure};
 
-/// The body of a procedure, or the main program: in which module, with which frame, and the label of the code that its
-/// first label is.
+/// The body of a procedure, or the main program: its module, its frame, and the label of the code for its first label.
 #[derive(Clone, Copy)]
 pub struct Body<'a> {
     pub tree: &'a TreeModule,
@@ -18,7 +17,7 @@ pub struct Body<'a> {
 }
 
 impl<'a> Body<'a> {
-    /// The label of the code that a label of the body is, by its number there.
+    /// The label of the code for a label of the body, by its number there.
     pub fn label(&self, number: u32) -> LabelNumber
         ensures { result ≡ body_label self.now number }
     {
@@ -27,8 +26,8 @@ impl<'a> Body<'a> {
         }
     }
 
-    /// Whether the code loads and stores a word here without its address in HL: in memory, or as one of the two words next
-    /// to the stack pointer, where nothing is pushed.
+    /// Whether the code loads and stores a word at this location without its address in HL: in memory, or as one of the
+    /// two words next to the stack pointer, when nothing is pushed.
     pub fn is_near(&self, location: Option<Location>) -> bool
         ensures { result ≡ is_near self.now location }
     {

@@ -1,4 +1,4 @@
-//! The test of an iterative DO: whether its variable is not above its bound.
+//! The test of an iterative DO: whether its variable is at most its bound.
 
 ghost use Rattle.std.specs.Prelude.{◌≡◌, OnOk};
 ghost use Rattle.statements8080.specs.Plans.{PlanAdds};
@@ -13,28 +13,28 @@ use std::alloc::AllocError;
 use treecode::{ExpressionForm, ExpressionNumber, Place};
 use trees::ScalarType;
 
-/// How it is tested whether the variable is not above the bound.
+/// The ways to test whether the variable is at most the bound.
 #[derive(Clone, Copy)]
 pub enum Test {
-    /// It never is.
+    /// It always is.
     Always,
     /// A BYTE is less than this number.
     ByteBelow(u16),
     /// An ADDRESS is less than this number.
     WordBelow(u16),
-    /// A BYTE, with a BYTE.
+    /// A BYTE and a BYTE bound.
     Byte(ExpressionNumber),
-    /// A BYTE, with an ADDRESS.
+    /// A BYTE and an ADDRESS bound.
     ByteWithWord(ExpressionNumber),
-    /// An ADDRESS in memory, with an ADDRESS at a place.
+    /// An ADDRESS in memory, and an ADDRESS bound at a place.
     WordWithPlace(Place),
-    /// An ADDRESS in memory.
+    /// An ADDRESS in memory, and another bound.
     Word(ExpressionNumber),
     /// An ADDRESS in the frame.
     FrameWord(ExpressionNumber),
 }
 
-// The test with a bound that is known.
+// The test for a known bound.
 fn known_test(counter: &Counter, last: u16) -> Test
     ensures { result ≡ known_test counter.now.scalar last }
 {
@@ -53,7 +53,7 @@ fn known_test(counter: &Counter, last: u16) -> Test
     }
 }
 
-// The place in memory of an ADDRESS that an expression is the value of, if it is one.
+// The place in memory of the ADDRESS that an expression reads, if it reads one.
 fn word_at(site: &Site<'_>, number: ExpressionNumber) -> Option<Place>
     ensures { result ≡ word_at site.now number }
 {
@@ -77,7 +77,7 @@ fn word_test(site: &Site<'_>, counter: &Counter, last: ExpressionNumber) -> Test
     }
 }
 
-/// How it is tested whether the variable is not above the bound.
+/// The way to test whether the variable is at most the bound.
 #[tactic(auto, unfolding(crate::specs::Tests::test_of))]
 pub fn test_of(site: &Site<'_>, counter: &Counter, last: ExpressionNumber) -> Test
     ensures { result ≡ test_of site.now counter.now last }
@@ -92,7 +92,7 @@ pub fn test_of(site: &Site<'_>, counter: &Counter, last: ExpressionNumber) -> Te
     }
 }
 
-/// What holds where the test jumps.
+/// The facts at the target of the jump of the test.
 pub fn facts_of_test(counter: &Counter, test: Test) -> Facts
     ensures { result ≡ facts_of_test counter.now test }
 {
@@ -107,7 +107,7 @@ pub fn facts_of_test(counter: &Counter, test: Test) -> Facts
     }
 }
 
-// The carry shows whether the word at a place is less than HL.
+// Sets the carry if the word at a place is less than HL, and clears it otherwise.
 fn plan_place_below(plan: &mut Plan, place: Place) -> Result<(), AllocError>
     ensures { OnOk result (PlanAdds plan.old plan.new (place_below_steps place)) }
 {
@@ -117,7 +117,7 @@ fn plan_place_below(plan: &mut Plan, place: Place) -> Result<(), AllocError>
     plan.plain(Instr::Accumulate(Operation::SubtractWithBorrow, Operand::Of(Register::H)))
 }
 
-// The carry shows whether the bound is less than the ADDRESS in memory.
+// Sets the carry if the bound is less than the ADDRESS in memory, and clears it otherwise.
 fn plan_word_below(
     plan: &mut Plan,
     counter: &Counter,
@@ -136,7 +136,7 @@ fn plan_word_below(
     ])
 }
 
-// The carry shows whether the bound is less than the ADDRESS in the frame.
+// Sets the carry if the bound is less than the ADDRESS in the frame, and clears it otherwise.
 fn plan_frame_word_below(
     plan: &mut Plan,
     counter: &Counter,
@@ -156,7 +156,7 @@ fn plan_frame_word_below(
     ])
 }
 
-// The carry shows whether the bound, an ADDRESS, is less than the BYTE.
+// Sets the carry if the bound, an ADDRESS, is less than the BYTE, and clears it otherwise.
 fn plan_byte_below_word(
     plan: &mut Plan,
     counter: &Counter,
@@ -175,7 +175,7 @@ fn plan_byte_below_word(
     ])
 }
 
-// The carry shows whether the bound, a BYTE, is less than the BYTE.
+// Sets the carry if the bound, a BYTE, is less than the BYTE, and clears it otherwise.
 fn plan_byte_below(
     plan: &mut Plan,
     counter: &Counter,
@@ -188,7 +188,7 @@ fn plan_byte_below(
     plan.plain(Instr::Accumulate(Operation::Compare, Operand::M))
 }
 
-/// A jump to a label where the variable is not above the bound.
+/// A jump to a label if the variable is at most the bound.
 #[tactic(auto, unfolding(crate::specs::Tests::test_steps))]
 pub fn plan_test(
     plan: &mut Plan,

@@ -14,10 +14,10 @@ use std::alloc::AllocError;
 use treecode::{ExpressionForm, ExpressionNumber, Range, Statement, StatementNumber};
 use trees::{BinaryOperator, UnaryOperator};
 
-// How many signs of negation and conversions around a condition are looked through.
+// The number of negations and conversions around a condition that are looked through.
 const LOOKED_THROUGH: u32 = 8;
 
-// An expression inside NOT or a conversion, whose lowest bit is the same or the other one.
+// The expression inside NOT or a conversion. Its lowest bit is the same or the opposite.
 fn inner(site: &Site<'_>, number: ExpressionNumber) -> Option<ExpressionNumber>
     ensures { result ≡ inner site.now number }
 {
@@ -34,7 +34,7 @@ fn inner(site: &Site<'_>, number: ExpressionNumber) -> Option<ExpressionNumber>
     }
 }
 
-// Whether the code of a condition may be that of AND or OR, which may jump at each side.
+// Whether the code of a condition may be that of AND or OR, which may jump for each operand.
 fn may_jump_twice(site: &Site<'_>, number: ExpressionNumber) -> bool
     ensures { result ≡ may_jump_twice site.now number }
 {
@@ -52,7 +52,7 @@ fn may_jump_twice(site: &Site<'_>, number: ExpressionNumber) -> bool
     }
 }
 
-// Whether the code of a condition surely has one jump at most to its label.
+// Whether the code of a condition has at most one jump to its label.
 #[tactic(auto, using(crate::proofs::Jumps::one_jump_here, crate::proofs::Jumps::one_jump_last, crate::proofs::Jumps::one_jump_ends))]
 fn has_one_jump(site: &Site<'_>, condition: ExpressionNumber) -> bool
     ensures { result ≡ has_one_jump site.now condition }
@@ -69,7 +69,7 @@ fn has_one_jump(site: &Site<'_>, condition: ExpressionNumber) -> bool
     false
 }
 
-// The label that a statement goes to, where it is a GOTO.
+// The label of a statement that is a GOTO.
 fn goto_label(body: &Body<'_>, statement: StatementNumber) -> Option<LabelNumber>
     ensures { result ≡ goto_label body.now statement }
 {
@@ -79,7 +79,7 @@ fn goto_label(body: &Body<'_>, statement: StatementNumber) -> Option<LabelNumber
     }
 }
 
-// A jump to a label by a condition.
+// A jump to a label on a condition.
 fn branch(condition: ExpressionNumber, label: LabelNumber, sense: bool) -> Task
     ensures { result ≡ tasks.Branch condition label sense }
 {
@@ -90,7 +90,7 @@ fn branch(condition: ExpressionNumber, label: LabelNumber, sense: bool) -> Task
     }
 }
 
-// A statement that is carried out where a condition holds.
+// A statement that is carried out if a condition holds.
 fn plan_then(
     site: &Site<'_>,
     plan: &mut Plan,
@@ -109,7 +109,7 @@ fn plan_then(
     plan.push(Planned::Meet(end))
 }
 
-// One of two statements, by a condition.
+// One of two statements, chosen by a condition.
 fn plan_either(
     body: &Body<'_>,
     site: &Site<'_>,
@@ -137,7 +137,7 @@ fn plan_either(
     plan.push(Planned::Meet(end))
 }
 
-// IF of a condition that is not known.
+// IF with a condition that is not known.
 fn plan_test(
     body: &Body<'_>,
     site: &Site<'_>,
@@ -172,7 +172,7 @@ fn plan_statement_if_any(
     }
 }
 
-/// The steps of IF. Where the condition is known, one of both statements is left out: no code outside it goes to its
+/// The steps of IF. If the condition is known, one of its two statements is left out: no code outside it jumps to its
 /// labels.
 pub fn plan_if(
     body: &Body<'_>,
@@ -198,8 +198,7 @@ pub fn plan_if(
     }
 }
 
-// A list that is carried out again and again. Each turn has a step of its own: the first one NOP, any other one the jump
-// back.
+// A list that is repeated forever. Each turn has a step of its own: NOP for the first one, the jump back for any other.
 fn plan_forever(plan: &mut Plan, list: Range) -> Result<(), AllocError>
     ensures { OnOk result (PlanAddsWithLabels plan.old plan.new 1
         (forever_steps list)) }
@@ -212,7 +211,7 @@ fn plan_forever(plan: &mut Plan, list: Range) -> Result<(), AllocError>
     plan.push(Planned::Reaches(false))
 }
 
-// DO WHILE of a condition that is not known: it is tested at the end.
+// DO WHILE with a condition that is not known: it is tested at the end.
 fn plan_while_tested(
     plan: &mut Plan,
     condition: ExpressionNumber,

@@ -14,7 +14,7 @@ use std::alloc::AllocError;
 use treecode::{ExpressionNumber, Range, Statement};
 use trees::ScalarType;
 
-// The number of a BYTE comes into DE, and the code goes to the end where no statement has it.
+// Puts the number of a BYTE choice into DE, and jumps to the end if no statement has this number.
 fn plan_byte_choice(
     plan: &mut Plan,
     choice: ExpressionNumber,
@@ -32,7 +32,7 @@ fn plan_byte_choice(
     plan.plain(Instr::Mvi(Operand::Of(Register::D), 0))
 }
 
-// The number of an ADDRESS comes into DE, and the code goes to the end where no statement has it.
+// Puts the number of an ADDRESS choice into DE, and jumps to the end if no statement has this number.
 fn plan_word_choice(
     plan: &mut Plan,
     choice: ExpressionNumber,
@@ -49,7 +49,7 @@ fn plan_word_choice(
     plan.plain(Instr::Xchg)
 }
 
-// The number comes into DE, by its type.
+// Puts the number of the choice into DE, by its type.
 #[tactic(auto, unfolding(crate::specs::Cases::number_in_de_steps))]
 fn plan_number_in_de(
     plan: &mut Plan,
@@ -66,8 +66,8 @@ fn plan_number_in_de(
     }
 }
 
-// Where a statement of the list is entered: at the label that it goes to, at the end where it does nothing, else at a
-// label of its own.
+// The label at which a statement of the list is entered: that of its GOTO, the end for a null statement, else a label
+// of its own.
 fn entry_of(
     body: &Body<'_>,
     list: Range,
@@ -88,7 +88,7 @@ fn entry_of(
     }
 }
 
-// The jump to the statement of an index.
+// The jump to the statement at an index.
 #[tactic(auto, unfolding(crate::specs::Cases::table_at))]
 fn plan_table_entry(
     body: &Body<'_>,
@@ -121,7 +121,7 @@ fn plan_table(
     Ok(())
 }
 
-// The statement of an index at its label, if it has code here.
+// The statement at an index with its label, if it has code here.
 fn plan_statement_at(
     body: &Body<'_>,
     plan: &mut Plan,
@@ -147,8 +147,7 @@ fn plan_statement_at(
     Ok(())
 }
 
-// The statements at their labels. Each but the last goes on to the end; those that do nothing or go to a label have no
-// code here.
+// The statements with their labels. Each but the last jumps to the end. A null statement or a GOTO has no code here.
 #[tactic(auto, using(crate::proofs::Adding::adding_begins, crate::proofs::Adding::adding_goes_on, crate::proofs::Adding::adding_ends, crate::proofs::Adding::steps_from_here), unfolding(crate::specs::Cases::statements_steps))]
 fn plan_statements(
     body: &Body<'_>,
@@ -165,7 +164,7 @@ fn plan_statements(
     Ok(())
 }
 
-// The code goes on at the jump in the table whose number is in DE. The table begins here.
+// Jumps into the table, to the entry with the number in DE. The table begins here.
 #[tactic(auto, unfolding(crate::specs::Cases::into_table_steps))]
 fn plan_into_table(plan: &mut Plan, table: LabelNumber) -> Result<(), AllocError>
     ensures { OnOk result (PlanAdds plan.old plan.new (into_table_steps table)) }
@@ -180,7 +179,7 @@ fn plan_into_table(plan: &mut Plan, table: LabelNumber) -> Result<(), AllocError
     plan.mark(table)
 }
 
-// Where all statements go on.
+// The end, which all statements reach.
 #[tactic(auto, unfolding(crate::specs::Cases::cases_end_steps))]
 fn plan_cases_end(plan: &mut Plan, end: LabelNumber) -> Result<(), AllocError>
     ensures { OnOk result (PlanAdds plan.old plan.new (cases_end_steps end)) }
@@ -189,7 +188,7 @@ fn plan_cases_end(plan: &mut Plan, end: LabelNumber) -> Result<(), AllocError>
     plan.push(Planned::Reaches(true))
 }
 
-// DO CASE of a choice that is not known, with these labels of the table, the end and the first statement.
+// DO CASE with a choice that is not known, with these labels of the table, the end and the first statement.
 #[tactic(auto, unfolding(crate::specs::Cases::choice_at_steps))]
 fn plan_choice_at(
     body: &Body<'_>,
@@ -211,7 +210,7 @@ fn plan_choice_at(
     plan_cases_end(plan, end)
 }
 
-// DO CASE of a choice that is not known, by a table of jumps.
+// DO CASE with a choice that is not known, by a table of jumps.
 fn plan_choice(
     body: &Body<'_>,
     site: &Site<'_>,
@@ -228,7 +227,7 @@ fn plan_choice(
     plan_choice_at(body, site, plan, choice, list, table, end, own)
 }
 
-/// The steps of DO CASE. Where the choice is known, its statement stands alone.
+/// The steps of DO CASE. If the choice is known, only its statement has code.
 pub fn plan_case(
     body: &Body<'_>,
     site: &Site<'_>,

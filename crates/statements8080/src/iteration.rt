@@ -17,7 +17,7 @@ use std::alloc::AllocError;
 use treecode::{ExpressionNumber, Iteration, Location, Place, Range, Reference, Target};
 use trees::ScalarType;
 
-/// The variable of an iterative DO: a whole scalar, its type and where it lies.
+/// The variable of an iterative DO: a whole scalar, its type and its location.
 #[derive(Clone, Copy)]
 pub struct Counter {
     pub reference: Reference,
@@ -26,7 +26,7 @@ pub struct Counter {
 }
 
 impl Counter {
-    /// Its place in memory, where it is not in the frame.
+    /// Its place in memory, if it is not in the frame.
     pub fn place(&self) -> Option<Place>
         ensures { result ≡ counter_place self.now }
     {
@@ -36,7 +36,7 @@ impl Counter {
         }
     }
 
-    /// That HL holds its address.
+    /// The fact that HL holds its address.
     pub fn address_fact(&self) -> Facts
         ensures { result ≡ address_fact self.now }
     {
@@ -46,7 +46,7 @@ impl Counter {
         }
     }
 
-    /// That HL holds its value.
+    /// The fact that HL holds its value.
     pub fn word_fact(&self) -> Facts
         ensures { result ≡ word_fact self.now }
     {
@@ -56,7 +56,7 @@ impl Counter {
         }
     }
 
-    // Its first value, where that is known: a number as it is converted to its type.
+    // Its first value, if known as a number, converted to its type.
     fn first_value(&self, site: &Site<'_>, first: ExpressionNumber) -> Option<u16>
         ensures { result ≡ first_value self.now site.now first }
     {
@@ -70,19 +70,19 @@ impl Counter {
     }
 }
 
-// What the labels of a loop are.
+// The labels of a loop.
 #[derive(Clone, Copy)]
 struct LoopLabels {
-    // Where a turn begins.
+    // The start of a turn.
     turn: LabelNumber,
-    // Where it is tested whether there is a turn.
+    // The test for another turn.
     test: LabelNumber,
     // Just past the loop.
     end: LabelNumber,
 }
 
 impl LoopLabels {
-    // Three labels that are not taken yet.
+    // Takes three labels.
     fn new(plan: &mut Plan) -> LoopLabels
         ensures labels { result ≡ loop_labels (free_label plan.old) }
         ensures takes { TakesLabels plan.old plan.new 3 }
@@ -103,7 +103,7 @@ fn is_byte_type(scalar: ScalarType) -> bool
     matches!(scalar, ScalarType::Byte)
 }
 
-// Whether it is known that there is a first turn, or that there is none.
+// Whether there is a first turn, if known.
 #[tactic(auto, unfolding(crate::specs::Counters::has_a_turn))]
 fn has_a_turn(site: &Site<'_>, counter: &Counter, head: &Iteration) -> Option<bool>
     ensures { result ≡ has_a_turn site.now counter.now head.now }
@@ -127,7 +127,7 @@ fn counts_by_one(site: &Site<'_>, step: Option<ExpressionNumber>) -> bool
     }
 }
 
-// The variable gets its first value.
+// Assigns the first value to the variable.
 #[tactic(auto, unfolding(crate::specs::Iterations::first_steps))]
 fn plan_first(
     body: &Body<'_>,
@@ -146,7 +146,7 @@ fn plan_first(
     plan_single(body, site, plan, target, first)
 }
 
-// The test before the first turn of a loop to a known bound, where it is not known that there is one.
+// The test before the first turn of a loop with a known bound, unless a first turn is known.
 #[tactic(auto, unfolding(crate::specs::Iterations::first_test_steps))]
 fn plan_first_test(
     plan: &mut Plan,
@@ -172,7 +172,7 @@ fn plan_first_test(
     plan.jump(WordForm::JumpWhere(Condition::NoCarry), end)
 }
 
-/// The carry shows whether HL is less than a number.
+/// Sets the carry if HL is less than a number, and clears it otherwise.
 pub fn plan_less(plan: &mut Plan, number: u16) -> Result<(), AllocError>
     ensures { OnOk result (PlanAdds plan.old plan.new (less_steps number)) }
 {
@@ -190,7 +190,7 @@ pub fn plan_less(plan: &mut Plan, number: u16) -> Result<(), AllocError>
     ])
 }
 
-// The BYTE is counted, and there is another turn if it was less than the bound.
+// Counts the BYTE by 1, and begins another turn if it was less than the bound.
 fn plan_next_byte(
     plan: &mut Plan,
     counter: &Counter,
@@ -213,7 +213,7 @@ fn plan_next_byte(
     }
 }
 
-// The ADDRESS at a place is counted, and there is another turn if it was less than the bound.
+// Counts the ADDRESS at a place by 1, and begins another turn if it was less than the bound.
 fn plan_next_word(
     plan: &mut Plan,
     counter: &Counter,
@@ -235,7 +235,7 @@ fn plan_next_word(
     plan.jump(WordForm::JumpWhere(Condition::Carry), turn)
 }
 
-// The variable is counted, by its type and its place.
+// Counts the variable by 1, by its type and its place.
 #[tactic(auto, unfolding(crate::specs::Iterations::next_turn_steps))]
 fn plan_next(
     plan: &mut Plan,
@@ -252,7 +252,7 @@ fn plan_next(
     }
 }
 
-// What holds where a turn begins.
+// The facts at the start of a turn.
 #[tactic(auto, unfolding(crate::specs::Iterations::facts_of_turn))]
 fn facts_of_turn(counter: &Counter) -> Facts
     ensures { result ≡ facts_of_turn counter.now }
@@ -264,7 +264,7 @@ fn facts_of_turn(counter: &Counter) -> Facts
     }
 }
 
-// The test before the first turn, where it is asked for and not every BYTE passes it.
+// The test before the first turn, if asked for and not every BYTE passes it.
 #[tactic(auto, unfolding(crate::specs::Iterations::asked_test_steps))]
 fn plan_asked_test(
     plan: &mut Plan,
@@ -282,14 +282,14 @@ fn plan_asked_test(
     }
 }
 
-// The place of a label, where it is asked for.
+// The place of a label, if asked for.
 fn plan_asked_mark(plan: &mut Plan, is_asked: bool, label: LabelNumber) -> Result<(), AllocError>
     ensures { OnOk result (PlanAdds plan.old plan.new (asked_mark is_asked label)) }
 {
     if is_asked { plan.mark(label) } else { Ok(()) }
 }
 
-// Counting by 1 to a known bound: the test stands at the end, together with the counting.
+// Counts by 1 to a known bound: the test is at the end, together with the counting.
 #[tactic(auto, unfolding(crate::specs::Iterations::to_known_steps))]
 fn plan_to_known(
     plan: &mut Plan,
@@ -315,7 +315,7 @@ fn plan_to_known(
     plan.push(Planned::Reaches(true))
 }
 
-// The variable is counted by 1. Where it becomes 0 the loop ends.
+// Counts the variable by 1. The loop ends if it becomes 0.
 fn plan_count(plan: &mut Plan, counter: &Counter, labels: &LoopLabels) -> Result<(), AllocError>
     ensures { OnOk result (PlanAdds plan.old plan.new (count_steps counter.now labels.now)) }
 {
@@ -332,7 +332,7 @@ fn plan_count(plan: &mut Plan, counter: &Counter, labels: &LoopLabels) -> Result
     }
 }
 
-// A BYTE is added to the BYTE. Where that overflows the loop ends.
+// Adds a BYTE to the BYTE. The loop ends on overflow.
 fn plan_add_byte(
     plan: &mut Plan,
     counter: &Counter,
@@ -348,7 +348,7 @@ fn plan_add_byte(
     plan.jump(WordForm::JumpWhere(Condition::Carry), end)
 }
 
-// DE is added to the byte at the address in HL. A and the carry show whether the sum is no BYTE.
+// Adds DE to the byte at the address in HL. A and the carry show whether the sum exceeds a BYTE.
 #[tactic(auto, unfolding(crate::specs::Iterations::sum_of_byte_steps))]
 fn plan_sum_of_byte(plan: &mut Plan) -> Result<(), AllocError>
     ensures { OnOk result (PlanAdds plan.old plan.new sum_of_byte_steps) }
@@ -362,7 +362,7 @@ fn plan_sum_of_byte(plan: &mut Plan) -> Result<(), AllocError>
     ])
 }
 
-// An ADDRESS is added to the BYTE. Where the whole sum is no BYTE the loop ends.
+// Adds an ADDRESS to the BYTE. The loop ends if the whole sum exceeds a BYTE.
 fn plan_add_word_to_byte(
     plan: &mut Plan,
     counter: &Counter,
@@ -380,7 +380,7 @@ fn plan_add_word_to_byte(
     plan.jump(WordForm::JumpWhere(Condition::NotZero), end)
 }
 
-// The value of the step comes into DE.
+// Puts the value of the step into DE.
 fn plan_step_in_de(
     site: &Site<'_>,
     plan: &mut Plan,
@@ -397,7 +397,7 @@ fn plan_step_in_de(
     }
 }
 
-// DE is added to the word at the address in HL. The carry shows whether that overflows.
+// Adds DE to the word at the address in HL. The carry shows an overflow.
 #[tactic(auto, unfolding(crate::specs::Iterations::sum_of_word_steps))]
 fn plan_sum_of_word(plan: &mut Plan) -> Result<(), AllocError>
     ensures { OnOk result (PlanAdds plan.old plan.new sum_of_word_steps) }
@@ -413,7 +413,7 @@ fn plan_sum_of_word(plan: &mut Plan) -> Result<(), AllocError>
     ])
 }
 
-// DE is added to the ADDRESS in the frame.
+// Adds DE to the ADDRESS in the frame.
 fn plan_add_de_in_frame(
     plan: &mut Plan,
     counter: &Counter,
@@ -426,7 +426,7 @@ fn plan_add_de_in_frame(
     plan.jump(WordForm::JumpWhere(Condition::Carry), end)
 }
 
-// DE is added to the ADDRESS, in memory or in the frame. Where that overflows the loop ends.
+// Adds DE to the ADDRESS, in memory or in the frame. The loop ends on overflow.
 fn plan_add_de(plan: &mut Plan, counter: &Counter, end: LabelNumber) -> Result<(), AllocError>
     ensures { OnOk result (PlanAdds plan.old plan.new
         (add_de_steps (counter_place counter.now) counter.now end)) }
@@ -440,7 +440,7 @@ fn plan_add_de(plan: &mut Plan, counter: &Counter, end: LabelNumber) -> Result<(
     plan.jump(WordForm::JumpWhere(Condition::Carry), end)
 }
 
-// The step is added to the ADDRESS.
+// Adds the step to the ADDRESS.
 fn plan_add_word(
     site: &Site<'_>,
     plan: &mut Plan,
@@ -454,7 +454,7 @@ fn plan_add_word(
     plan_add_de(plan, counter, end)
 }
 
-// Whether the value of an expression is surely a BYTE.
+// Whether the value of an expression is known to fit a BYTE.
 fn is_byte(site: &Site<'_>, number: ExpressionNumber) -> bool
     ensures { result ≡ is_byte site.now number }
 {
@@ -464,7 +464,7 @@ fn is_byte(site: &Site<'_>, number: ExpressionNumber) -> bool
     }
 }
 
-// The step is added to the variable. Where that overflows the loop ends.
+// Adds the step to the variable. The loop ends on overflow.
 #[tactic(auto, unfolding(crate::specs::Iterations::step_steps))]
 fn plan_step(
     site: &Site<'_>,
@@ -490,7 +490,7 @@ fn plan_step(
     }
 }
 
-// The place of the test, to which the code before the loop jumps where it `is_entered` there.
+// The place of the test. If it `is_entered`, the code before the loop jumps to it.
 #[tactic(auto, unfolding(crate::specs::Iterations::test_label_steps))]
 fn plan_test_label(
     plan: &mut Plan,
@@ -511,7 +511,7 @@ fn plan_test_label(
     Ok(())
 }
 
-// The jump to the test, where it is asked for.
+// The jump to the test, if asked for.
 fn plan_asked_jump(plan: &mut Plan, is_tested: bool, test: LabelNumber) -> Result<(), AllocError>
     ensures { OnOk result (PlanAdds plan.old plan.new (asked_jump is_tested test)) }
 {
@@ -524,7 +524,7 @@ fn plan_asked_jump(plan: &mut Plan, is_tested: bool, test: LabelNumber) -> Resul
     plan.jump(WordForm::Jump, test)
 }
 
-// Counting in general up to the end of a turn.
+// The general form of a loop, up to the end of a turn.
 #[tactic(auto, unfolding(crate::specs::Iterations::general_begin_steps))]
 fn plan_general_begin(
     plan: &mut Plan,
@@ -546,7 +546,7 @@ fn plan_general_begin(
     plan.push(Planned::List(list))
 }
 
-// Counting in general from the end of a turn on: the step, and the test.
+// The general form of a loop, from the end of a turn on: the step, and the test.
 #[tactic(auto, unfolding(crate::specs::Iterations::general_end_steps))]
 fn plan_general_end(
     site: &Site<'_>,
@@ -568,7 +568,7 @@ fn plan_general_end(
     plan.push(Planned::Reaches(true))
 }
 
-// Counting in general: the test stands at the end, after the step.
+// The general form of a loop: the test is at the end, after the step.
 #[tactic(auto, unfolding(crate::specs::Iterations::general_steps))]
 fn plan_general(
     site: &Site<'_>,
@@ -587,7 +587,7 @@ fn plan_general(
     plan_general_end(site, plan, counter, head, test, is_tested, &labels)
 }
 
-// The turns of an iterative DO, if it is not known that there is none.
+// The turns of an iterative DO, unless it is known that it has no turn.
 fn plan_turns(
     site: &Site<'_>,
     plan: &mut Plan,
@@ -608,7 +608,7 @@ fn plan_turns(
     }
 }
 
-/// The steps of an iterative DO. The variable gets its first value even where there is no turn.
+/// The steps of an iterative DO. The variable gets its first value even without a turn.
 pub fn plan_iteration(
     body: &Body<'_>,
     site: &Site<'_>,

@@ -1,4 +1,4 @@
-//! The code of statements as it is planned.
+//! The planned code of statements.
 #![tactic(auto)]
 
 mod assignment;

@@ -12,7 +12,7 @@ use runtime8080::Routine;
 use std::alloc::AllocError;
 use treecode::{ExpressionNumber, Place};
 
-// The source comes into DE and the destination into HL, where so many bytes are pushed.
+// Puts the source into DE and the destination into HL, when `pushed` bytes are pushed.
 fn plan_ends(
     site: &Site<'_>,
     plan: &mut Plan,
@@ -36,7 +36,7 @@ fn plan_ends(
     plan.plain(Instr::Pop(StackPair::StackDe))
 }
 
-// A known number of bytes is copied.
+// Copies a known number of bytes.
 fn plan_known(
     site: &Site<'_>,
     plan: &mut Plan,
@@ -51,7 +51,7 @@ fn plan_known(
     plan.push(Planned::Code(Step::CallRoutine(Routine::Move)))
 }
 
-/// The steps of CALL MOVE: the count comes into BC, the source into DE and the destination into HL.
+/// The steps of CALL MOVE: they put the count into BC, the source into DE and the destination into HL.
 pub fn plan_move(
     site: &Site<'_>,
     plan: &mut Plan,

@@ -1,4 +1,4 @@
-//! Code of statements as it is planned.
+//! Planned code of statements.
 
 ghost use Rattle.std.specs.Prelude.{◌≡◌, ◌∷◌, [], length, replicate, slice_get, take, OnOk};
 ghost use Rattle.steps8080.specs.Step.{label_of};
@@ -19,37 +19,37 @@ pub enum Planned {
     Statement(StatementNumber),
     /// The code of statements, one after another.
     List(Range),
-    /// A BYTE without a base and subscripts comes into A.
+    /// Puts a BYTE without a base and subscripts into A.
     LoadByte(Reference),
-    /// An ADDRESS without a base and subscripts comes into HL.
+    /// Puts an ADDRESS without a base and subscripts into HL.
     LoadWord(Reference),
-    /// The code before this, or a jump just after it, goes to the next label of `Turn` or `Meet`. What is known here holds
+    /// The code before this, or a jump just after it, leads to the next label of `Turn` or `Meet`. The facts here hold
     /// there too if that jump `is_the_only_one`.
     Jumped {
         is_the_only_one: bool,
     },
-    /// A jump to a label, where the code goes on to here.
+    /// A jump to a label, if the end of the code before it can be reached.
     JumpOn(LabelNumber),
-    /// The end of one way and the begin of another: a jump to `end`, where the code goes on to here, and the place of
-    /// `other`, to which the code before `Jumped` jumps.
+    /// The end of one path and the start of another: a jump to `end`, if the end of the code before it can be reached,
+    /// and the place of `other`, to which the code before `Jumped` jumps.
     Turn {
         other: LabelNumber,
         end: LabelNumber,
     },
-    /// The place of a label where two ways meet: the one that ends here, and the other one.
+    /// The place of a label where two paths meet: the one that ends here, and the other one.
     Meet(LabelNumber),
-    /// The place of a label that later code jumps back to where these facts hold. The code before goes on to it where it
-    /// `is_entered`.
+    /// The place of a label that later code jumps back to when these facts hold. The code before it continues here if
+    /// it `is_entered`.
     Again {
         label: LabelNumber,
         facts: Facts,
         is_entered: bool,
     },
-    /// Whether the code goes on after the statement.
+    /// Whether the end of the statement can be reached.
     Reaches(bool),
 }
 
-/// The label of an index among labels in a row.
+/// The label at an index among consecutive labels.
 pub(crate) fn label_at(first: LabelNumber, index: u32) -> LabelNumber
     ensures { result ≡ label_at first index }
 {
@@ -58,12 +58,12 @@ pub(crate) fn label_at(first: LabelNumber, index: u32) -> LabelNumber
     }
 }
 
-/// Steps in a row, and how many labels they take.
+/// Steps in a row, and the number of labels that they take.
 pub struct Plan {
     pub list: Vec<Planned>,
     /// The number of the first label of these steps.
     pub first_label: u32,
-    /// How many labels from that one on are taken.
+    /// The number of labels that are taken, from that one on.
     pub taken: u32,
 }
 
@@ -81,7 +81,7 @@ impl Plan {
         }
     }
 
-    /// From now on labels are taken from this one on.
+    /// Takes labels from this one on.
     pub fn take_labels_from(&mut self, first: LabelNumber)
         ensures list { self.new.list.items ≡ self.old.list.items }
         ensures first { self.new.first_label ≡ first.index }
@@ -91,14 +91,14 @@ impl Plan {
         self.taken = 0;
     }
 
-    /// How many labels are taken.
+    /// The number of labels that are taken.
     pub fn taken(&self) -> u32
         ensures { result ≡ self.now.taken }
     {
         self.taken
     }
 
-    /// A label that is not taken yet.
+    /// Takes a label that is not taken yet.
     pub fn label(&mut self) -> LabelNumber
         ensures label { result ≡ label_of (free_label self.old) }
         ensures takes { TakesLabels self.old self.new 1 }
@@ -106,7 +106,7 @@ impl Plan {
         self.labels(1)
     }
 
-    /// The first of so many labels that are not taken yet.
+    /// Takes `count` labels that are not taken yet, and returns the first.
     pub fn labels(&mut self, count: u32) -> LabelNumber
         ensures label { result ≡ label_of (free_label self.old) }
         ensures takes { TakesLabels self.old self.new count }
@@ -146,7 +146,7 @@ impl Plan {
         Ok(())
     }
 
-    /// Adds an instruction, so many times.
+    /// Adds an instruction `count` times.
     #[tactic(auto, using(crate::proofs::Adding::adding_begins, crate::proofs::Adding::adding_goes_on, crate::proofs::Adding::adding_ends))]
     pub fn repeated(&mut self, instruction: Instr, count: u16) -> Result<(), AllocError>
         ensures { OnOk result (PlanAdds self.old self.new (replicate count (plain instruction))) }
@@ -180,35 +180,35 @@ impl Plan {
         self.push(Planned::Code(Step::Mark(label)))
     }
 
-    /// Adds the code of a task where so many bytes are pushed.
+    /// Adds the code of a task when `pushed` bytes are pushed.
     pub fn part(&mut self, task: Task, pushed: u16) -> Result<(), AllocError>
         ensures { OnOk result (PlanAdds self.old self.new (part task pushed ∷ [])) }
     {
         self.push(Planned::Code(Step::Part(Part { task, pushed })))
     }
 
-    /// What holds here, beside what is known by the instructions alone.
+    /// Notes facts that hold here, beside those that the instructions show.
     pub fn holds(&mut self, facts: Facts) -> Result<(), AllocError>
         ensures { OnOk result (PlanAdds self.old self.new (holds facts ∷ [])) }
     {
         self.push(Planned::Code(Step::Holds(facts)))
     }
 
-    /// How many steps there are.
+    /// The number of steps.
     pub fn count(&self) -> usize
         ensures { result ≡ length self.now.list.items }
     {
         self.list.len()
     }
 
-    /// The step of an index.
+    /// The step at an index.
     pub fn get(&self, index: usize) -> Option<Planned>
         ensures { result ≡ slice_get self.now.list.items index }
     {
         self.list.get(index).copied()
     }
 
-    /// Takes away all steps but the first so many.
+    /// Removes all steps but the first `count`.
     pub fn truncate(&mut self, count: usize)
         ensures list { self.new.list.items ≡ take count self.old.list.items }
         ensures first { self.new.first_label ≡ self.old.first_label }
@@ -218,7 +218,7 @@ impl Plan {
     }
 }
 
-// Written out, so that what it holds is let go here, and each crate that lets one go calls this.
+// Written out so that the fields are dropped in one place, which other crates call.
 impl Drop for Plan {
     fn drop(self) {
         let Plan {

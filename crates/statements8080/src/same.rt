@@ -1,4 +1,4 @@
-//! References that mean the same place, as far as that is seen at once.
+//! References to the same place, found by a simple comparison.
 
 ghost use Rattle.std.specs.Prelude.{◌≡◌};
 ghost use Rattle.statements8080.specs.SamePlaces.{are_same, are_same_leaf, are_same_scalar, are_same_subscript, are_same_subscripts, scalar_at, unconverted};
@@ -7,8 +7,8 @@ use exprgen8080::Site;
 use treecode::{ExpressionForm, ExpressionNumber, Location, Reference, Subscript};
 use trees::ScalarType;
 
-// Where the scalar lies that an expression is the value of, if it is one without a base and computed subscripts; with its
-// type.
+// The location and the type of the scalar that an expression reads, if it reads one without a base and computed
+// subscripts.
 fn scalar_at(site: &Site<'_>, number: ExpressionNumber) -> Option<(Location, ScalarType)>
     ensures { result ≡ scalar_at site.now number }
 {
@@ -24,7 +24,7 @@ fn scalar_at(site: &Site<'_>, number: ExpressionNumber) -> Option<(Location, Sca
     }
 }
 
-// Whether two expressions are the same scalar.
+// Whether two expressions read the same scalar.
 fn are_same_scalar(site: &Site<'_>, left: ExpressionNumber, right: ExpressionNumber) -> bool
     ensures { result ≡ are_same_scalar site.now left right }
 {
@@ -42,7 +42,7 @@ fn are_same_scalar(site: &Site<'_>, left: ExpressionNumber, right: ExpressionNum
     }
 }
 
-// Whether two expressions are the same number or the same scalar.
+// Whether two expressions are the same number or read the same scalar.
 fn are_same_leaf(site: &Site<'_>, left: ExpressionNumber, right: ExpressionNumber) -> bool
     ensures { result ≡ are_same_leaf site.now left right }
 {
@@ -65,7 +65,7 @@ fn unconverted(site: &Site<'_>, number: ExpressionNumber) -> ExpressionNumber
     }
 }
 
-// Whether two subscripts are seen to be the same: numbers or scalars, which a subscript is converted from.
+// Whether two subscripts are the same number, or read the same scalar, which may be converted.
 fn are_same_subscript(site: &Site<'_>, left: Subscript, right: Subscript) -> bool
     ensures { result ≡ are_same_subscript site.now left right }
 {
@@ -78,7 +78,7 @@ fn are_same_subscript(site: &Site<'_>, left: Subscript, right: Subscript) -> boo
             ))
 }
 
-// Whether two subscripts that may be there are the same.
+// Whether two optional subscripts are the same.
 fn are_same_subscripts(site: &Site<'_>, left: Option<Subscript>, right: Option<Subscript>) -> bool
     ensures { result ≡ are_same_subscripts site.now left right }
 {
@@ -89,7 +89,7 @@ fn are_same_subscripts(site: &Site<'_>, left: Option<Subscript>, right: Option<S
     }
 }
 
-/// Whether two references are seen to mean the same place, and to locate it changes nothing: both have the same numbers or
+/// Whether two references have the same place, and computing its address changes nothing: both have the same numbers or
 /// scalars as subscripts.
 pub fn are_same(site: &Site<'_>, left: &Reference, right: &Reference) -> bool
     ensures { result ≡ are_same site.now left.now right.now }

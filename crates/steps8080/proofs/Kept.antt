@@ -1,4 +1,4 @@
--- What is asked of an expression is what is kept with it.
+-- The queries about an expression return its traits.
 use Rattle.steps8080.proofs.Prelude.{◌≡◌, Option, Some, None, ap, option_map_or}
 use Rattle.treecode.specs.{declared.expression.Expression.{Expression}, declared.expression.ExpressionNumber.{ExpressionNumber}, declared.traits.Traits.{Traits}, Nodes.{nodes_of}, Queries.{inside, low_byte_at}, Traits.{no_traits, traits_at}}
 use Rattle.steps8080.specs.declared.sites.site.Site.{Site}

@@ -1,9 +1,9 @@
--- Flags of labels, and code with which they change.
+-- Flags of labels, and the code that changes them.
 use Rattle.steps8080.proofs.Prelude.{◌≡◌, ℕ, zero, suc, ◌<◌, ◌≤◌, Bool, true, false, not, ◌||◌, List, [], ◌∷◌, ◌++◌, length, IsTrue, slice_index_or, refl, sym, subst, ap, ◌∙◌, arith, ⊎_elim, cases_lt, get_or_past, list_any-append, Assembly, IsAssembly, is_bound, marks, unbound_from}
 use Rattle.runtime8080.specs.{declared.routine.Routine.{Routine}, Routines.{AddsRoutine}}
 use Rattle.steps8080.specs.internal.Labels.{Follows}
 
--- a flag more that is not set
+-- one more flag, which is not set
 pub one_more :
     (flags more : List Bool) (code : Assembly)
     → Follows flags code
@@ -20,7 +20,7 @@ one_more flags more code follows added label off =
     same (flag ∷ others) zero = refl
     same (flag ∷ others) (suc label) = same others label
 
--- code that is the same but for how many labels it has
+-- the same code with more labels
 pub more_labels :
     (flags : List Bool) (before after : Assembly) (labels : ℕ)
     → Follows flags before
@@ -45,7 +45,7 @@ off_of : (flag : Bool) → IsTrue (not flag) → flag ≡ false
 off_of false h = refl
 off_of true h = let bad : false ≡ true = h in cc
 
--- flags that are cut or filled up to so many, as they were
+-- flags that are cut or extended to a length keep the others
 pub cut_to :
     (flags short : List Bool) (size count : ℕ)
     → size ≡ length flags
@@ -59,7 +59,7 @@ cut_to flags short size count long kept filled label low off =
     ⊎_elim (λ inside. sym (kept label false low inside) ∙ off)
     (λ past. get_or_past flags label false (omega (arith, long, past))) (cases_lt label size)
 
--- code with a routine more, whose own labels have their places
+-- code with one more routine; the routine's own labels have their places
 pub routine_added :
     (flags short long : List Bool) (size count newsize newcount : ℕ) (before after : Assembly) (routine : Routine)
     → Follows flags before

@@ -1,8 +1,8 @@
--- Items by the numbers that code has for labels and names: numbers that were given stay.
+-- Items with the code's numbers for labels and names: numbers that were given before stay.
 use Rattle.steps8080.proofs.Prelude.{◌≡◌, ℕ, zero, suc, ◌==◌, ◌⊎◌, inl, inr, Bool, true, false, ◌||◌, List, [], ◌∷◌, ◌++◌, set, refl, ap, sym, subst, ◌∙◌, append_assoc, append-nil, Option, Some, None, option_map, unwrap_or, eq-eqb, list_any-append, InSegment, External, Item, Plain, WithWord, Byte, Address, Gap, Mark, Reference, AtLabel, AtTarget, AtNumber, Assembly, NumbersNames, Written, Writes, in_front, numbered, numbered_item, numbered_reference, use_name, uses_name}
 use Rattle.steps8080.specs.Externals.{AddsOnly, Extends, entry}
 
--- what is found stays found
+-- a value that is found stays found
 map_stays :
     {A B : Type 0} (f : A → B) (before after : Option A) (made : B)
     → ((found : A) → before ≡ Some found → after ≡ Some found)
@@ -123,11 +123,11 @@ items_followed written (item ∷ others) later made more given followed =
     given
     (λ found is. items_followed written others later found more is followed)
 
--- no name has got a number
+-- no name gets a number
 pub same_names : (name : ℕ) (table : List (Option ℕ)) → AddsOnly name table table
 same_names name table = λ other found given. inl given
 
--- one name has, which had none
+-- one name gets a number, which had none
 pub one_name_more :
     (name number : ℕ) (before after : List (Option ℕ))
     → after ≡ set before name (Some number)
@@ -151,7 +151,7 @@ either_true false other (inr found) = found
 pub is_itself : (name : ℕ) → ((name == name) || false) ≡ true
 is_itself name = either_true (name == name) false (inl (eq-eqb name name refl))
 
--- items of which one refers to a name do so with others
+-- if one of two lists of items refers to a name, both together do
 pub use_either : (name : ℕ) (items later : List Item)
     → (use_name name items ≡ true) ⊎ (use_name name later ≡ true)
     → use_name name (items ++ later) ≡ true
@@ -172,7 +172,7 @@ names_then before between after items later first second = λ name number given.
       | inr used ↦ inr (use_either name items later (inr used))
     ]
 
--- names whose numbers are the same
+-- names with the same numbers
 names_same : (before after : List (Option ℕ)) (items : List Item) → after ≡ before → NumbersNames before after items
 names_same before after items same = λ name number given. inl (sym (ap (λ table. entry table name) same) ∙ given)
 
@@ -220,7 +220,7 @@ writes_then before between after items later first second = record {
       names_then before.externals between.externals after.externals items later first.names second.names;
 }
 
--- one item is added, where the numbers of labels and names may have changed
+-- one item is added, and the numbers of labels and names may change
 pub writes_one :
     (inside before after : Written) (item made : Item)
     → inside ≡ before
@@ -240,7 +240,7 @@ writes_one inside before after item made same added labels externals names named
       names = names;
     })
 
--- and where they have not
+-- one item is added, and they do not change
 pub writes_known :
     (inside before after : Written) (item made : Item)
     → inside ≡ before
@@ -257,7 +257,7 @@ writes_known inside before after item made same added labels externals named =
     (names_same inside.externals after.externals (item ∷ []) externals)
     named
 
--- and where a name has got a number
+-- one item is added, and a name gets a number
 pub writes_named :
     (inside before after : Written) (item made : Item) (name : ℕ)
     → inside ≡ before

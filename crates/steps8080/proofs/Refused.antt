@@ -1,9 +1,9 @@
--- Why code is not finished.
+-- The reasons for which code cannot be finished.
 use Rattle.steps8080.proofs.Prelude.{◌≡◌, Result, Err, subst, Fault, IsFinished, Written}
 use Rattle.failure.specs.{declared.Failure.{Failure}, Failure.{IfFault}}
 use Rattle.failure.specs.declared.Failure.TheVariants as failures
 
--- a fault of code is one of what was written
+-- a fault of code is a fault of the items that were written
 pub refused_for :
     (inside written : Written) (A : Type 0) (result : Result A (Failure Fault)) (fault : Fault)
     → inside ≡ written

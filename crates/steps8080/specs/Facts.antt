@@ -1,5 +1,5 @@
--- What is known of the registers along code: a fact tells where a byte or a word lies, in memory or in the
--- frame, that a register holds.
+-- Facts about the registers at a point of the code: which byte or word, in memory or in the frame, a register
+-- holds.
 use Rattle.std.specs.Prelude.{◌==◌, Bool, true, false, ◌&&◌, ◌||◌, if◌then◌else◌, Option, Some, None, option_map}
 use Rattle.std.specs.Option.{option_or}
 use Rattle.isa8080.specs.declared.instr.Instr.{Instr}
@@ -37,7 +37,8 @@ same_location (Frame variable one) (Frame other_variable other) =
     (variable == other_variable) && (one == other)
 same_location one other = false
 
--- whether a register that may hold what lies somewhere holds what lies here
+-- whether a register holds what is at a location, where `held` is the location that it is known to hold, if
+-- any
 abbrev pub is_at : (held : Option Location) → Location → Bool
 is_at None location = false
 is_at (Some held) location = same_location held location
@@ -50,7 +51,7 @@ before location = location_after location 65535
 abbrev pub no_facts : Facts
 no_facts = record { byte_in_a = None; word_in_hl = None; address_in_hl = None; zero_shows_a = false }
 
--- what is known where other facts hold too
+-- the facts, with others that hold too
 abbrev pub with_facts : (facts others : Facts) → Facts
 with_facts facts others = record {
   byte_in_a = option_or others.byte_in_a facts.byte_in_a;
@@ -59,7 +60,7 @@ with_facts facts others = record {
   zero_shows_a = others.zero_shows_a || facts.zero_shows_a;
 }
 
--- What is known after something has changed: bytes in memory or in the frame, A, HL, the zero flag,
+-- The facts after a change: of bytes in memory or in the frame, of A, of HL, of the zero flag,
 abbrev pub without_memory : Facts → Facts
 without_memory facts = record facts { byte_in_a = None; word_in_hl = None }
 
@@ -72,7 +73,8 @@ without_hl facts = record facts { word_in_hl = None; address_in_hl = None }
 abbrev pub without_zero : Facts → Facts
 without_zero facts = record facts { zero_shows_a = false }
 
--- a register, a register or the byte at the address in HL, a pair; where the stack is moved, nothing is known
+-- of a register, of a register or the byte at the address in HL, of a pair; none if the stack pointer has
+-- changed
 abbrev pub without_register : Facts → Register → Facts
 without_register facts A = without_a facts
 without_register facts H = without_hl facts
@@ -99,7 +101,7 @@ abbrev pub after_count : Facts → Operand → Facts
 after_count facts (Of A) = record (without_a facts) { zero_shows_a = true }
 after_count facts operand = without_zero (without_operand facts operand)
 
--- where the byte comes from that MOV A puts into A, if that is known
+-- the location of the byte that MOV A copies to A, if known
 abbrev pub origin : Facts → Operand → Option Location
 origin facts M = facts.address_in_hl
 origin facts (Of L) = facts.word_in_hl
@@ -116,18 +118,18 @@ abbrev pub after_move_to_memory : Facts → Register → Facts
 after_move_to_memory facts A = record (without_memory facts) { byte_in_a = facts.address_in_hl }
 after_move_to_memory facts register = without_memory facts
 
--- after an operation with A
+-- after an operation on A
 abbrev pub after_operation : Facts → Operation → Facts
 after_operation facts Compare = without_zero facts
 after_operation facts operation = record facts { byte_in_a = None; zero_shows_a = true }
 
--- after an operation of A with an operand: A AND A, and A OR A, are A
+-- after an operation on A with an operand; A AND A, and A OR A, leave A as it is
 abbrev pub after_operation_with : Facts → Operation → Operand → Facts
 after_operation_with facts And (Of A) = record facts { zero_shows_a = true }
 after_operation_with facts Or (Of A) = record facts { zero_shows_a = true }
 after_operation_with facts operation operand = after_operation facts operation
 
--- where the code goes on after a jump, or after another instruction with the place of a label
+-- at the next instruction after a jump, or after another instruction with the place of a label
 abbrev pub after_form : Facts → WordForm → Facts
 after_form facts (JumpWhere condition) = facts
 after_form facts (LoadPair pair) = without_pair facts pair
@@ -143,7 +145,7 @@ after_word facts StoreHl place = record (without_memory facts) { word_in_hl = So
 after_word facts StoreA place = record (without_memory facts) { byte_in_a = Some (Static place) }
 after_word facts form place = after_form facts form
 
--- after an instruction that changes A alone, the carry alone or nothing; after any other, the code goes on
+-- after an instruction that changes only A, only the carry, or nothing; none after any other, which jumps
 -- elsewhere
 abbrev pub after_other : Facts → Instr → Facts
 after_other facts (instructions.Ldax pair) = without_a facts
@@ -163,7 +165,7 @@ after_other facts (instructions.ReturnIf condition) = facts
 after_other facts (instructions.JumpIf condition address) = facts
 after_other facts instruction = no_facts
 
--- after an instruction at whose start this is known
+-- after an instruction, from the facts before it
 abbrev pub after : Facts → Instr → Facts
 after facts (instructions.Lxi pair number) = after_word facts (LoadPair pair) (Number number)
 after facts (instructions.Shld number) = after_word facts StoreHl (Number number)
@@ -186,14 +188,14 @@ after facts (instructions.AccumulateImmediate operation value) = after_operation
 after facts (instructions.Pop pair) = after_pop facts pair
 after facts instruction = after_other facts instruction
 
--- whether A, H or L holds the byte here
+-- whether A, H or L holds the byte at a location
 abbrev pub holds_byte : Facts → Location → Bool
 holds_byte facts location =
     is_at facts.byte_in_a location
     || is_at facts.word_in_hl location
     || is_at facts.word_in_hl (before location)
 
--- the instruction that puts the byte at a location into A, where the facts give one
+-- the instruction that puts the byte at a location into A, if the facts give one
 abbrev pub byte_from_hl : Facts → Location → Option Instr
 byte_from_hl facts location =
     if is_at facts.word_in_hl location then Some (copy A L)

@@ -1,4 +1,4 @@
--- Instructions by what they do, and the halves of a word.
+-- Instructions named by what they do, and the halves of a word.
 use Rattle.std.specs.Prelude.{ℕ, ◌/◌, ◌%◌}
 use Rattle.isa8080.specs.declared.instr.Instr.{Instr}
 use Rattle.isa8080.specs.declared.instr.Instr.TheVariants.{Accumulate, Mov, Mvi}
@@ -20,11 +20,11 @@ load to = Mov to M
 abbrev pub set : Register → (number : ℕ) → Instr
 set register number = Mvi (Of register) number
 
--- an operation with A and a register
+-- an operation on A with a register
 abbrev pub with_register : Operation → Register → Instr
 with_register operation register = Accumulate operation (Of register)
 
--- an operation with A and the byte at the address in HL
+-- an operation on A with the byte at the address in HL
 abbrev pub with_memory : Operation → Instr
 with_memory operation = Accumulate operation M
 

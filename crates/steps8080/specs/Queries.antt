@@ -1,4 +1,4 @@
--- What code asks of the tree.
+-- Queries of a site about the tree.
 use Rattle.std.specs.Prelude.{ℕ, ◌+◌, ◌-◌, ◌*◌, ◌%◌, Bool, false, ◌&&◌, ◌||◌, Option, Some, None, is_some, option_and_then, unwrap_or}
 use Rattle.trees.specs.declared.declaration.ScalarType.{ScalarType}
 use Rattle.trees.specs.declared.declaration.ScalarType.TheVariants as scalars
@@ -27,7 +27,7 @@ use Rattle.steps8080.specs.declared.sites.queries.Split.{Split}
 use Rattle.steps8080.specs.declared.sites.site.Site.{Site}
 use Rattle.steps8080.specs.Site.{expression}
 
--- a base so many bytes further on, modulo 65536
+-- a base `distance` bytes further on, modulo 65536
 abbrev pub base_after : Base → (distance : ℕ) → Base
 base_after (Static place) distance = Static (place_after place distance)
 base_after (Based pointer offset) distance = Based pointer ((offset + distance) % 65536)
@@ -39,23 +39,23 @@ base_of (homes.Static place) = Static place
 base_of (homes.Based pointer) = Based pointer 0
 base_of (homes.Frame variable) = Frame variable 0
 
--- whether there are two locations, and they are the same
+-- whether both locations are there, and are the same
 abbrev pub are_same : (first second : Option Location) → Bool
 are_same (Some first) (Some second) = same_location first second
 are_same first second = false
 
--- a reference to what lies so many bytes further on
+-- a reference to the place `distance` bytes further on
 abbrev pub reference_after : Reference → (distance : ℕ) → Reference
 reference_after reference distance = record reference { offset = (reference.offset + distance) % 65536 }
 
--- the value of an expression, where it is known but for where things lie; exact in the type of the expression
+-- the value of an expression, if it is known as a number or a relocatable address; exact in its type
 unfoldable pub known : Site → ExpressionNumber → Option Place
 known site number = elim (expression site number) [
   | Some found ↦ found.traits.known
   | None ↦ None
 ]
 
--- the number that an expression is, where it is known and depends on nothing
+-- the value of an expression, if it is known as a number
 unfoldable pub number : Site → ExpressionNumber → Option ℕ
 number site of = elim (known site of) [
   | Some place ↦ place_number place
@@ -76,38 +76,38 @@ stores_nothing site number = elim (expression site number) [
   | None ↦ false
 ]
 
--- whether the code that puts the low byte of an expression into A changes A and the flags alone
+-- whether the code that puts the low byte of an expression into A changes only A and the flags
 unfoldable pub is_free : Site → ExpressionNumber → Bool
 is_free site number = elim (expression site number) [
   | Some found ↦ found.traits.is_free
   | None ↦ false
 ]
 
--- what the code that puts the value of an expression into HL keeps
+-- the registers that the code putting the value of an expression into HL keeps
 unfoldable pub keeps : Site → ExpressionNumber → Keeps
 keeps site number = elim (expression site number) [
   | Some found ↦ found.traits.keeps
   | None ↦ none_kept
 ]
 
--- what the code that puts the address of a part of an object into HL keeps
+-- the registers that the code putting the address of a part of an object into HL keeps
 unfoldable pub keeps_of_address : Site → Reference → Keeps
 keeps_of_address site reference = keeps_of_reference site.tree.now reference
 
--- whether the second of two operands may be evaluated first, since nobody can tell: the first is known, or it
+-- whether the second of two operands may be evaluated first without a difference: the first is known, or it
 -- changes nothing and the second stores nothing
 unfoldable pub may_exchange : Site → (left right : ExpressionNumber) → Bool
 may_exchange site left right =
     is_some (known site left) || (is_quiet site left && stores_nothing site right)
 
--- a computed subscript with so many bytes of it known
+-- a computed subscript that adds `offset` known bytes
 abbrev pub split_into : (index : ExpressionNumber) → (stride offset : ℕ) → Split
 split_into index stride offset = record {
   computed = Some (record { index = index; stride = stride });
   offset = offset;
 }
 
--- a subscript with a sum or difference of a computed ADDRESS and a number, taken apart
+-- the split of a subscript that is the sum or difference of a computed ADDRESS and a number
 abbrev pub split_sum :
     Subscript → BinaryOperator → (right : ℕ) → (left : ExpressionNumber) → Option Split
 split_sum subscript Add right left =
@@ -116,11 +116,11 @@ split_sum subscript Subtract right left =
     Some (split_into left subscript.stride ((65536 - (right * subscript.stride) % 65536) % 65536))
 split_sum subscript operator right left = None
 
--- a computed subscript, of which nothing is known
+-- a computed subscript without a known part
 abbrev pub split_whole : Subscript → Split
 split_whole subscript = record { computed = Some subscript; offset = 0 }
 
--- and what of it is known where it has this form
+-- the split of a computed subscript with this form
 abbrev pub split_form : Site → Subscript → ExpressionForm → Split
 split_form site subscript (Binary scalars.Address operator left right) =
     unwrap_or
@@ -128,15 +128,15 @@ split_form site subscript (Binary scalars.Address operator left right) =
     (split_whole subscript)
 split_form site subscript form = split_whole subscript
 
--- a computed subscript, and what of it is known
+-- the split of a computed subscript
 unfoldable pub split_computed : Site → Subscript → Split
 split_computed site subscript = elim (expression site subscript.index) [
   | Some found ↦ split_form site subscript found.form
   | None ↦ split_whole subscript
 ]
 
--- a subscript, if there is one, and what of it is known: numbers, and a number that is added to an ADDRESS or
--- taken from it, are known
+-- the split of a subscript, if there is one; known are a number, and a number that is added to an ADDRESS or
+-- subtracted from it
 unfoldable pub split : Site → Option Subscript → Split
 split site None = record { computed = None; offset = 0 }
 split site (Some subscript) = elim (number site subscript.index) [
@@ -144,12 +144,12 @@ split site (Some subscript) = elim (number site subscript.index) [
   | None ↦ split_computed site subscript
 ]
 
--- the address of a base with two subscripts, the computed ones in front
+-- the address of a base with two subscripts; the computed one comes first
 abbrev pub located_at : Base → (first second : Option Subscript) → Located
 located_at base (Some first) second = record { base = base; first = Some first; second = second }
 located_at base None second = record { base = base; first = second; second = None }
 
--- what the address of an object or a part of it is made of
+-- the parts of the address of an object or a part of it
 unfoldable pub located : Site → Reference → Located
 located site reference =
     let first : Split = split site reference.subscript in
@@ -163,25 +163,25 @@ located site reference =
     first.computed
     second.computed
 
--- where something lies that no base has a part in
+-- the location of a base, if it needs no pointer
 abbrev pub location_at : Base → Option Location
 location_at (Static place) = Some (locations.Static place)
 location_at (Frame variable offset) = Some (locations.Frame variable offset)
 location_at (Based pointer offset) = None
 
--- where an object or a part of it lies, where neither a base nor a computed subscript has a part in it
+-- the location of an object or a part of it, if its address needs no base and no computed subscript
 unfoldable pub location_of : Site → Reference → Option Location
 location_of site reference = elim (located site reference).first [
   | Some subscript ↦ None
   | None ↦ location_at (located site reference).base
 ]
 
--- the place of what lies in memory
+-- the place of a location in memory
 abbrev pub place_in_memory : Option Location → Option Place
 place_in_memory (Some (locations.Static place)) = Some place
 place_in_memory location = None
 
--- the place in memory of an object or a part of it, where it is known but for where things lie
+-- the place in memory of an object or a part of it, if that place is known
 unfoldable pub direct : Site → Reference → Option Place
 direct site reference = place_in_memory (location_of site reference)
 
@@ -190,7 +190,7 @@ abbrev pub high_of : ExpressionForm → ScalarType → Option Reference
 high_of (Value reference) scalars.Address = Some (reference_after reference 1)
 high_of form scalar = None
 
--- the part of memory that HIGH of an expression is, if it is one
+-- the part of memory that holds HIGH of an expression, if any
 unfoldable pub high_in_memory : Site → ExpressionNumber → Option Reference
 high_in_memory site operand =
     option_and_then (λ (found : Expression). high_of found.form found.traits.scalar) (expression site operand)
@@ -200,8 +200,7 @@ form_in_memory site (Value reference) = Some reference
 form_in_memory site (Function High operand) = high_in_memory site operand
 form_in_memory site form = None
 
--- the part of memory that the low byte of an expression without LOW, DOUBLE and conversions around it is, if
--- it is one
+-- the part of memory that holds the low byte of an expression that is not LOW, DOUBLE or a conversion, if any
 unfoldable pub plain_in_memory : Site → ExpressionNumber → Option Reference
 plain_in_memory site number =
     option_and_then (λ (found : Expression). form_in_memory site found.form) (expression site number)
@@ -213,12 +212,12 @@ same_low_byte site number = elim (expression site number) [
   | None ↦ number
 ]
 
--- the part of memory that holds the low byte of an expression, where the expression is a reference, or LOW,
+-- the part of memory that holds the low byte of an expression, if the expression is a reference, or LOW,
 -- HIGH, DOUBLE or a conversion of one
 unfoldable pub memory : Site → ExpressionNumber → Option Reference
 memory site number = plain_in_memory site (same_low_byte site (same_low_byte site number))
 
--- where the low byte of an expression lies, where it lies in memory at a place without a computed part
+-- the location of the low byte of an expression in memory, if its address needs no base and no computed
 unfoldable pub location_of_byte : Site → ExpressionNumber → Option Location
 location_of_byte site number = option_and_then (location_of site) (memory site number)
 

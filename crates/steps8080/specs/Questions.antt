@@ -1,4 +1,4 @@
--- What relations ask.
+-- The questions that relations ask.
 use Rattle.std.specs.Prelude.{ℕ, ◌+◌, ◌==◌, min, nat_le, Bool, true, false, not, if◌then◌else◌, Option, Some, None, option_map, option_and_then}
 use Rattle.trees.specs.declared.declaration.ScalarType.{ScalarType}
 use Rattle.trees.specs.declared.declaration.ScalarType.TheVariants as scalars
@@ -19,7 +19,7 @@ use Rattle.steps8080.specs.declared.sites.site.Site.{Site}
 use Rattle.steps8080.specs.Site.{expression}
 use Rattle.steps8080.specs.Queries.{number}
 
--- what a relation's operator asks, and whether the relation holds where the answer is yes
+-- the question of a relational operator, and whether the relation holds if the answer is yes
 abbrev pub question_of : BinaryOperator → Option (Question × Bool)
 question_of operators.Less = Some (LeftBelow, true)
 question_of operators.GreaterOrEqual = Some (LeftBelow, false)
@@ -29,7 +29,7 @@ question_of operators.Equal = Some (Equal, true)
 question_of operators.Unequal = Some (Equal, false)
 question_of operator = None
 
--- the question with its sides changed
+-- the question with its operands exchanged
 abbrev pub mirrored : Question → Question
 mirrored LeftBelow = RightBelow
 mirrored RightBelow = LeftBelow
@@ -40,8 +40,8 @@ abbrev pub greatest : ScalarType → ℕ
 greatest scalars.Byte = 255
 greatest scalars.Address = 65535
 
--- what is asked of an operand and a number on its right, and whether the answer is the same: it is above the
--- number where it is not below the next one
+-- the question about an operand and a number on its right, and whether its answer is the same; an operand is
+-- above the number if it is not below the number plus 1
 abbrev pub number_question : Question → (number : ℕ) → ScalarType → NumberQuestion × Bool
 number_question Equal number scalar = (Is number, true)
 number_question LeftBelow number scalar =
@@ -62,7 +62,7 @@ relation_with_number operand number comparison question holds_if = record {
   holds_if = agree holds_if (number_question question number comparison.operands).1;
 }
 
--- the relation of two operands, where `holds_if` tells whether it holds where the answer is yes
+-- the relation of two operands, which holds if the answer is `holds_if`
 unfoldable pub relation_between : Site → Comparison → (holds_if : Bool) → Relation
 relation_between site comparison holds_if = elim (number site comparison.right) [
   | Some value ↦ relation_with_number comparison.left value comparison comparison.question holds_if
@@ -73,7 +73,7 @@ relation_between site comparison holds_if = elim (number site comparison.right) 
   ]
 ]
 
--- the relation of an operator and its operands, if it is one
+-- the relation of an operator and its operands, if any
 abbrev pub relation_by :
     Site → ScalarType → BinaryOperator → (left right : ExpressionNumber) → Option Relation
 relation_by site operands operator left right =
@@ -87,7 +87,7 @@ abbrev pub relation_of_form : Site → ExpressionForm → Option Relation
 relation_of_form site (Binary operands operator left right) = relation_by site operands operator left right
 relation_of_form site form = None
 
--- the relation that an expression is, if it is one
+-- the relation that an expression stands for, if any
 unfoldable pub relation_of : Site → ExpressionNumber → Option Relation
 relation_of site number =
     option_and_then (λ (found : Expression). relation_of_form site found.form) (expression site number)

@@ -1,4 +1,4 @@
--- Where code stands.
+-- Sites of code.
 use Rattle.std.specs.Prelude.{ℕ, ◌+◌, ◌*◌, ◌%◌, Option, Some, None}
 use Rattle.trees.specs.declared.declaration.ScalarType.{ScalarType}
 use Rattle.trees.specs.declared.declaration.ScalarType.TheVariants as scalars
@@ -10,7 +10,7 @@ use Rattle.steps8080.specs.declared.step.Task.{Task}
 use Rattle.steps8080.specs.declared.step.Task.TheVariants.{Byte, Word, Effects, Address, Branch, Store, Call}
 use Rattle.steps8080.specs.declared.sites.site.Site.{Site}
 
--- the expression of a number, if there is one
+-- the expression with this number, if any
 unfoldable pub expression : Site → ExpressionNumber → Option Expression
 expression site number = tree_expression site.tree.now number
 
@@ -21,13 +21,13 @@ scalar site number = elim (expression site number) [
   | None ↦ scalars.Byte
 ]
 
--- how far above the stack pointer a byte of a variable or parameter in the frame lies, where so many bytes
--- are pushed
+-- the distance from the stack pointer up to a byte of a variable or parameter in the frame, when `pushed`
+-- bytes are pushed
 unfoldable pub distance : Site → (variable offset pushed : ℕ) → ℕ
 distance site variable offset pushed =
     ((distance_of site.frame.now variable + offset) % 65536 + pushed) % 65536
 
--- a rank for a bound of numbers of expressions, above all those for lower bounds
+-- a rank for a bound of numbers of expressions, above all ranks for lower bounds
 abbrev pub rank_at : (bound level : ℕ) → ℕ
 rank_at bound level = bound * 16 + level
 
@@ -39,7 +39,7 @@ abbrev pub rank_of_word : (bound : ℕ) → ScalarType → ℕ
 rank_of_word bound scalars.Byte = rank_at bound 2
 rank_of_word bound scalars.Address = rank_at bound 1
 
--- a number for a task that is above that of each part of its code
+-- the rank of a task, above that of each part of its code
 unfoldable pub rank : Site → Task → ℕ
 rank site (Byte number) = rank_of_byte (number_bound number) (scalar site number)
 rank site (Word number) = rank_of_word (number_bound number) (scalar site number)

@@ -1,4 +1,4 @@
--- Which values need one byte, and which are in a register already.
+-- Values that fit a byte, and values that are in a register already.
 use Rattle.std.specs.Prelude.{ℕ, suc, zero, ◌^◌, ◌+◌, ◌==◌, nat_le, nat_lt, Bool, true, false, ◌||◌, if◌then◌else◌, Option, Some, None, option_map, option_and_then}
 use Rattle.trees.specs.declared.declaration.ScalarType.{ScalarType}
 use Rattle.trees.specs.declared.declaration.ScalarType.TheVariants as scalars
@@ -19,24 +19,24 @@ use Rattle.steps8080.specs.declared.sites.site.Site.{Site}
 use Rattle.steps8080.specs.Site.{expression, scalar}
 use Rattle.steps8080.specs.Queries.{direct, keeps_of_address, location_of, memory, number, reference_after}
 
--- the first of so many powers of 2, from one on, that a number is
+-- the exponent of a number that is one of `count` powers of 2, from the exponent `power` on
 abbrev pub power_from : (count power number : ℕ) → Option ℕ
 power_from zero power number = None
 power_from (suc others) power number =
     if number == 2 ^ power then Some power else power_from others (power + 1) number
 
--- how often 2 is to be multiplied with itself to give a number, if that gives it
+-- the exponent of a power of 2, if the number is one
 unfoldable pub power_of_two : (number : ℕ) → Option ℕ
 power_of_two number = power_from 16 0 number
 
--- whether a value is known to be below a number up to 256
+-- whether a value is known to be a number below `bound`
 unfoldable pub is_number_below : Site → ExpressionNumber → (bound : ℕ) → Bool
 is_number_below site of bound = elim (number site of) [
   | Some value ↦ nat_lt value bound
   | None ↦ false
 ]
 
--- whether an operator with ADDRESS operands gives a value below 256, as far as one operand shows
+-- whether one operand shows that an operator on ADDRESS operands gives a value below 256
 unfoldable pub result_fits_byte : Site → BinaryOperator → (left right : ExpressionNumber) → Bool
 result_fits_byte site And left right = is_number_below site left 256 || is_number_below site right 256
 result_fits_byte site Modulo left right = is_number_below site right 257
@@ -47,7 +47,7 @@ abbrev pub shift_by_fits_byte : ShiftFunction → (count : Option ℕ) → Bool
 shift_by_fits_byte ShiftRight (Some count) = nat_le 8 count
 shift_by_fits_byte function count = false
 
--- and by a count, as far as it shows
+-- whether its count shows that a shift of an ADDRESS gives a value below 256
 unfoldable pub shift_fits_byte : Site → ShiftFunction → (count : ExpressionNumber) → Bool
 shift_fits_byte site function count = shift_by_fits_byte function (number site count)
 
@@ -55,7 +55,7 @@ abbrev pub is_byte : ScalarType → Bool
 is_byte scalars.Byte = true
 is_byte scalars.Address = false
 
--- whether an ADDRESS expression of a form has a value below 256, as far as that shows
+-- whether its form shows that an ADDRESS expression has a value below 256
 unfoldable pub form_fits_byte : Site → ExpressionForm → Bool
 form_fits_byte site (Conversion inner) = is_byte (scalar site inner)
 form_fits_byte site (Function Double inner) = is_byte (scalar site inner)
@@ -68,7 +68,7 @@ fits_byte_by site number scalars.Byte form = true
 fits_byte_by site number scalars.Address form =
     is_number_below site number 256 || form_fits_byte site form
 
--- whether the value of an expression is below 256, as far as its form shows: its low byte is all of it
+-- whether its form shows that an expression has a value below 256, so that its low byte is the whole value
 unfoldable pub fits_byte : Site → ExpressionNumber → Bool
 fits_byte site number = elim (expression site number) [
   | Some found ↦ fits_byte_by site number found.traits.scalar found.form
@@ -89,18 +89,18 @@ unfoldable pub high_byte_in_memory : Site → ExpressionNumber → Option Refere
 high_byte_in_memory site number =
     option_map (λ reference. reference_after reference 1) (word_in_memory site number)
 
--- the place in memory of the word that an expression is, where it is known but for where things lie
+-- the place in memory of the word that an expression refers to, if that place is known
 unfoldable pub direct_word : Site → ExpressionNumber → Option Place
 direct_word site number = option_and_then (direct site) (word_in_memory site number)
 
--- the part of memory that holds the low byte of an expression, where its address comes into HL with A kept
+-- the part of memory that holds the low byte of an expression, if the code for its address keeps A
 unfoldable pub operand_in_memory : Site → ExpressionNumber → Option Reference
 operand_in_memory site number =
     option_and_then
     (λ reference. if (keeps_of_address site reference).a then Some reference else None)
     (memory site number)
 
--- whether HL holds the word that an expression is
+-- whether HL holds the word that an expression refers to
 unfoldable pub is_word_in_hl : Site → ExpressionNumber → Bool
 is_word_in_hl site number = elim (option_and_then (location_of site) (word_in_memory site number)) [
   | Some location ↦ is_at site.facts.word_in_hl location
@@ -114,14 +114,14 @@ is_byte_in_register site number = elim (option_and_then (location_of site) (memo
   | None ↦ false
 ]
 
--- the low byte of a number, where an expression is one
+-- the low byte of the value of an expression, if that is known as a number
 unfoldable pub low_number : Site → ExpressionNumber → Option ℕ
 low_number site of = option_map low (number site of)
 
--- how often 2 is to be multiplied with itself to give the number that an expression is, if that gives it
+-- the exponent, if the value of an expression is known as a power of 2
 unfoldable pub power : Site → ExpressionNumber → Option ℕ
 power site of = option_and_then power_of_two (number site of)
 
--- the same place, of whose registers nothing is known
+-- the same site without facts about the registers
 abbrev pub unknown : Site → Site
 unknown site = record site { facts = no_facts }

@@ -1,5 +1,5 @@
--- Code as it is written. Its items speak of labels and of names of other modules by their numbers in the
--- module; the code itself numbers both in the order of their first use.
+-- Code as it is written. Its items name labels and EXTERNAL names by their numbers in the module; the code
+-- numbers both in the order of their first use.
 use Rattle.std.specs.Prelude.{◌≡◌, ◌==◌, ◌⊎◌, ℕ, Bool, true, false, if◌then◌else◌, nat_lt, List, [], ◌∷◌, ◌++◌, map, Option, Some, None, option_map}
 use Rattle.std.specs.List.{list_any}
 use Rattle.object_modules.specs.declared.segment.Segment.TheVariants as segments
@@ -20,14 +20,13 @@ use Rattle.steps8080.specs.declared.step.LabelNumber.{LabelNumber}
 use Rattle.steps8080.specs.Instructions.{high, low}
 use Rattle.steps8080.specs.Externals.{Extends, entry}
 
--- code, and by which numbers it knows the labels of the module and the names of other modules, where it uses
--- them
+-- code, and its numbers of the labels and the EXTERNAL names that it uses
 pub record Written : Type 0 where
   pub code : Assembly
   pub labels : List (Option ℕ)
   pub externals : List (Option ℕ)
 
--- a reference, an item, items by these numbers
+-- a reference, an item, items with these numbers
 abbrev pub numbered_reference : Written → Reference → Option Reference
 numbered_reference written (AtLabel label) = option_map AtLabel (entry written.labels label)
 numbered_reference written (AtTarget (External name) offset) =
@@ -42,7 +41,7 @@ numbered_item written (Address reference) = option_map Address (numbered_referen
 numbered_item written (Mark label) = option_map Mark (entry written.labels label)
 numbered_item written item = Some item
 
--- an item before others, where there are all
+-- an item before others, if all are there
 abbrev pub in_front : Option Item → Option (List Item) → Option (List Item)
 in_front (Some item) (Some others) = Some (item ∷ others)
 in_front item others = None
@@ -51,7 +50,7 @@ abbrev pub numbered : Written → List Item → Option (List Item)
 numbered written [] = Some []
 numbered written (item ∷ others) = in_front (numbered_item written item) (numbered written others)
 
--- whether a reference, an item, one of items refers to the name of another module that has this number
+-- whether a reference, an item, one of items refers to the EXTERNAL name with this number
 abbrev pub is_to_name : (name : ℕ) → Reference → Bool
 is_to_name name (AtTarget (External other) offset) = name == other
 is_to_name name reference = false
@@ -64,14 +63,14 @@ uses_name name item = false
 abbrev pub use_name : (name : ℕ) → List Item → Bool
 use_name name items = list_any (uses_name name) items
 
--- no name gets a number to which items do not refer
+-- a name gets a number only if items refer to it
 abbrev pub NumbersNames : (before after : List (Option ℕ)) → List Item → Type 0
 NumbersNames before after items =
     (name number : ℕ)
     → entry after name ≡ Some number
     → (entry before name ≡ Some number) ⊎ (use_name name items ≡ true)
 
--- Items are added to code. Numbers that were given stay.
+-- Items are appended to code. Numbers that were given before stay.
 pub record Writes (before after : Written) (items : List Item) : Type 0 where
   pub made : List Item
   pub added : after.code.items ≡ before.code.items ++ made
@@ -80,8 +79,8 @@ pub record Writes (before after : Written) (items : List Item) : Type 0 where
   pub externals : Extends before.externals after.externals
   pub names : NumbersNames before.externals after.externals items
 
--- A routine is added to code, with a label of the module at its start. Its own labels are known to nobody
--- else.
+-- A routine is appended to code, with a label of the module at its start. The module has no numbers for the
+-- routine's own labels.
 pub record WritesRoutine
     (routine : Routine) (label : LabelNumber) (before after : Written) : Type 0 where
   pub entered : Written
@@ -90,7 +89,7 @@ pub record WritesRoutine
   pub labels : after.labels ≡ entered.labels
   pub externals : after.externals ≡ entered.externals
 
--- what the word of a place is
+-- the reference of a place
 abbrev pub reference_at : Place → Reference
 reference_at (places.Number number) = AtNumber number
 reference_at (places.Code offset) = AtTarget (InSegment segments.Code) offset
@@ -101,11 +100,11 @@ reference_at (places.External offset name) = AtTarget (External name) offset
 abbrev pub word_item : WordForm → Place → Item
 word_item form place = WithWord form (reference_at place)
 
--- an instruction whose word is the address just past the stack
+-- an instruction with the address just past the stack as its word
 abbrev pub stack_end_item : WordForm → Item
 stack_end_item form = WithWord form (AtTarget (InSegment segments.Stack) 0)
 
--- a call of a procedure of another module
+-- a call of a procedure in another module
 abbrev pub external_call_item : (name : ℕ) → Item
 external_call_item name = WithWord CallTo (AtTarget (External name) 0)
 
@@ -120,17 +119,17 @@ address_items (places.Code offset) = Address (AtTarget (InSegment segments.Code)
 address_items (places.Data offset) = Address (AtTarget (InSegment segments.Data) offset) ∷ []
 address_items (places.External offset name) = Address (AtTarget (External name) offset) ∷ []
 
--- a label by the number that code has for it, where there are so many
+-- the label with this number, if code has that many
 abbrev pub known_label : (count : ℕ) → Option ℕ → Option ℕ
 known_label count None = None
 known_label count (Some label) = if nat_lt label count then Some label else None
 
--- how far a label is from the start of assembled code; 0 where the code has none
+-- the offset of a label from the start of assembled code; 0 if the code does not have it
 abbrev pub place_of_known : Assembled → Option ℕ → ℕ
 place_of_known bytes None = 0
 place_of_known bytes (Some label) = place_of bytes label
 
--- how far a label of the module, by its number, is from the start of its code; 0 where the code does not use it
+-- the offset of a label of the module from the start of its code; 0 if the code does not use it
 abbrev pub place_of_label : Written → Assembled → (number : ℕ) → ℕ
 place_of_label written bytes number =
     place_of_known bytes (known_label written.code.labels (entry written.labels number))

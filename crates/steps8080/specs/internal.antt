@@ -1,2 +1,2 @@
--- What only private functions and proofs cite.
+-- Definitions that only private functions and proofs cite.
 pub mod Labels

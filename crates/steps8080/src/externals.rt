@@ -1,4 +1,4 @@
-//! The names of other modules that code refers to.
+//! The EXTERNAL names that code refers to.
 
 ghost use Rattle.std.specs.Prelude.{◌≡◌, None, Some, replicate, IfOk};
 ghost use Rattle.steps8080.specs.Externals.{AddsOnly, Extends, entry};
@@ -6,9 +6,9 @@ ghost use Rattle.steps8080.specs.Externals.{AddsOnly, Extends, entry};
 use std::alloc::{AllocError, Global};
 use std::marker::Model;
 
-/// The names of other modules that code refers to, numbered in the order of their first use.
+/// The EXTERNAL names that code refers to, numbered in the order of their first use.
 pub struct Externals {
-    /// The number of each name that is used, by its index among the external names of the module.
+    /// The number of each name in use, by its index among the external names of the module.
     numbers: Vec<Option<u16>>,
     used: u16,
 }
@@ -22,7 +22,7 @@ impl Model for Externals {
 }
 
 impl Externals {
-    /// None is used of so many names.
+    /// No name in use, of `count` external names.
     pub fn new(alloc: Global, count: usize) -> Result<Externals, AllocError>
         ensures { IfOk result (λ externals. externals ≡ replicate count None) }
     {
@@ -32,8 +32,8 @@ impl Externals {
         })
     }
 
-    /// The number of a name by its index, which is used from now on. Fails where there is none of that index. There are
-    /// at most as many uses as a segment has places for them, which is less than 65536.
+    /// Returns the number of the name with this index, and numbers it at its first use. Fails if the index is out of
+    /// range. A segment has places for fewer than 65536 uses, so the numbers do not run out.
     #[tactic(auto, using(crate::proofs::Numbered::same_names, crate::proofs::Numbered::one_name_more))]
     pub fn number(&mut self, name: u32) -> Result<u16, AllocError>
         ensures found { IfOk result (λ number. entry self.new name ≡ Some number) }
@@ -53,7 +53,7 @@ impl Externals {
         Ok(number)
     }
 
-    /// The number of each name that is used, by its index among the external names of the module.
+    /// The number of each name in use, by its index among the external names of the module.
     pub fn numbers(&self) -> &[Option<u16>]
         ensures { result.now ≡ self.now }
     {
@@ -61,7 +61,7 @@ impl Externals {
     }
 }
 
-// Written out, so that what it holds is let go here, and each crate that lets one go calls this.
+// Written out so that the fields are dropped in one place, which other crates call.
 impl Drop for Externals {
     fn drop(self) {
         let Externals {

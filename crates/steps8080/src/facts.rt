@@ -1,4 +1,4 @@
-//! What is known of the registers at a place of the code.
+//! Facts about the registers at a point of the code.
 
 ghost use Rattle.std.specs.Prelude.{◌≡◌};
 ghost use Rattle.std.specs.Option.{option_or};
@@ -9,15 +9,15 @@ use asm8080::WordForm;
 use isa8080::{Instr, Operand, Operation, Pair, Register, StackPair};
 use treecode::{Location, Place};
 
-/// What is known of the registers, of the machine alone: each fact is one of the bytes in memory or in the frame as they
-/// are at this place.
+/// Facts about the registers at a point of the code: each relates a register to the bytes that memory or the frame
+/// holds at that point.
 #[derive(Clone, Copy, PartialEq, Eq)]
 pub struct Facts {
-    /// A holds the byte here.
+    /// A holds the byte at this location.
     pub byte_in_a: Option<Location>,
-    /// HL holds the word here.
+    /// HL holds the word at this location.
     pub word_in_hl: Option<Location>,
-    /// HL holds the address of this.
+    /// HL holds the address of this location.
     pub address_in_hl: Option<Location>,
     /// The zero flag shows whether A is 0.
     pub zero_shows_a: bool,
@@ -33,7 +33,7 @@ fn either(first: Option<Location>, second: Option<Location>) -> Option<Location>
     }
 }
 
-/// Whether a register that may hold what lies somewhere holds what lies here.
+/// Whether a register holds what is at a location, where `held` is the location that it is known to hold, if any.
 pub fn is_at(held: Option<Location>, location: Location) -> bool
     ensures { result ≡ is_at held location }
 {
@@ -63,7 +63,7 @@ impl Facts {
         }
     }
 
-    /// What is known where other facts hold too.
+    /// The facts, with others that hold too.
     pub fn with(self, others: Facts) -> Facts
         ensures { result ≡ with_facts self others }
     {
@@ -75,7 +75,7 @@ impl Facts {
         }
     }
 
-    /// What is known after bytes in memory or in the frame may have changed.
+    /// The facts after bytes in memory or in the frame may have changed.
     pub fn without_memory(self) -> Facts
         ensures { result ≡ without_memory self }
     {
@@ -86,7 +86,7 @@ impl Facts {
         }
     }
 
-    // What is known after A has changed.
+    // The facts after A has changed.
     fn without_a(self) -> Facts
         ensures { result ≡ without_a self }
     {
@@ -97,7 +97,7 @@ impl Facts {
         }
     }
 
-    // What is known after HL has changed.
+    // The facts after HL has changed.
     fn without_hl(self) -> Facts
         ensures { result ≡ without_hl self }
     {
@@ -108,7 +108,7 @@ impl Facts {
         }
     }
 
-    // What is known after the zero flag has changed.
+    // The facts after the zero flag has changed.
     fn without_zero(self) -> Facts
         ensures { result ≡ without_zero self }
     {
@@ -118,7 +118,7 @@ impl Facts {
         }
     }
 
-    // What is known after a register has changed.
+    // The facts after a register has changed.
     fn without_register(self, register: Register) -> Facts
         ensures { result ≡ without_register self register }
     {
@@ -129,7 +129,7 @@ impl Facts {
         }
     }
 
-    // What is known after a register, or the byte at the address in HL, has changed.
+    // The facts after a register, or the byte at the address in HL, has changed.
     fn without_operand(self, operand: Operand) -> Facts
         ensures { result ≡ without_operand self operand }
     {
@@ -139,7 +139,7 @@ impl Facts {
         }
     }
 
-    // What is known after a pair has changed. Where the stack is moved, nothing is.
+    // The facts after a pair has changed: none if the stack pointer has.
     fn without_pair(self, pair: Pair) -> Facts
         ensures { result ≡ without_pair self pair }
     {
@@ -150,7 +150,7 @@ impl Facts {
         }
     }
 
-    // What is known after POP.
+    // The facts after POP.
     fn after_pop(self, pair: StackPair) -> Facts
         ensures { result ≡ after_pop self pair }
     {
@@ -161,7 +161,7 @@ impl Facts {
         }
     }
 
-    // What is known after INR or DCR.
+    // The facts after INR or DCR.
     fn after_count(self, operand: Operand) -> Facts
         ensures { result ≡ after_count self operand }
     {
@@ -175,7 +175,7 @@ impl Facts {
         }
     }
 
-    // Where the byte comes from that MOV A puts into A, if that is known.
+    // The location of the byte that MOV A copies to A, if known.
     fn origin(self, operand: Operand) -> Option<Location>
         ensures { result ≡ origin self operand }
     {
@@ -190,7 +190,7 @@ impl Facts {
         }
     }
 
-    // What is known after MOV to a register.
+    // The facts after MOV to a register.
     fn after_move(self, register: Register, operand: Operand) -> Facts
         ensures { result ≡ after_move self register operand }
     {
@@ -203,7 +203,7 @@ impl Facts {
         }
     }
 
-    // What is known after MOV to memory.
+    // The facts after MOV to memory.
     fn after_move_to_memory(self, register: Register) -> Facts
         ensures { result ≡ after_move_to_memory self register }
     {
@@ -217,7 +217,7 @@ impl Facts {
         }
     }
 
-    // What is known after an operation with A.
+    // The facts after an operation on A.
     fn after_operation(self, operation: Operation) -> Facts
         ensures { result ≡ after_operation self operation }
     {
@@ -231,7 +231,7 @@ impl Facts {
         }
     }
 
-    // What is known after an operation of A with an operand: A AND A, and A OR A, are A.
+    // The facts after an operation on A with an operand. A AND A, and A OR A, leave A as it is.
     fn after_operation_with(self, operation: Operation, operand: Operand) -> Facts
         ensures { result ≡ after_operation_with self operation operand }
     {
@@ -246,7 +246,7 @@ impl Facts {
         }
     }
 
-    /// What is known after an instruction at whose start this is known.
+    /// The facts after an instruction, from those before it.
     pub fn after(self, instruction: Instr) -> Facts
         ensures { result ≡ after self instruction }
     {
@@ -274,7 +274,7 @@ impl Facts {
         }
     }
 
-    // What is known after an instruction that changes A alone, the carry alone or nothing, or after which the code goes on
+    // The facts after an instruction that changes only A, only the carry, or nothing; none after any other, which jumps
     // elsewhere.
     fn after_other(self, instruction: Instr) -> Facts
         ensures { result ≡ after_other self instruction }
@@ -299,7 +299,7 @@ impl Facts {
         }
     }
 
-    /// What is known after an instruction with a word at whose start this is known.
+    /// The facts after an instruction with a word, from those before it.
     pub fn after_word(self, form: WordForm, place: Place) -> Facts
         ensures { result ≡ after_word self form place }
     {
@@ -329,7 +329,7 @@ impl Facts {
         }
     }
 
-    /// What is known where the code goes on after a jump, or after another instruction with the place of a label.
+    /// The facts at the next instruction after a jump, or after another instruction with the place of a label.
     pub fn after_form(self, form: WordForm) -> Facts
         ensures { result ≡ after_form self form }
     {
@@ -340,7 +340,7 @@ impl Facts {
         }
     }
 
-    /// Whether A, H or L holds the byte here.
+    /// Whether A, H or L holds the byte at a location.
     pub fn holds_byte(&self, location: Location) -> bool
         ensures { result ≡ holds_byte self.now location }
     {
@@ -349,7 +349,7 @@ impl Facts {
             || is_at(self.word_in_hl, before(location))
     }
 
-    /// The instruction that puts the byte at a location into A, where the facts give one.
+    /// The instruction that puts the byte at a location into A, if the facts give one.
     pub fn byte_from_hl(&self, location: Location) -> Option<Instr>
         ensures { result ≡ byte_from_hl self.now location }
     {
@@ -364,7 +364,7 @@ impl Facts {
         }
     }
 
-    /// The instruction that puts the byte at a location into L, where the facts give one.
+    /// The instruction that puts the byte at a location into L, if the facts give one.
     pub fn byte_for_l(&self, location: Location) -> Option<Instr>
         ensures { result ≡ byte_for_l self.now location }
     {

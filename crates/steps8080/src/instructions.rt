@@ -1,4 +1,4 @@
-//! Instructions by what they do, and the halves of a word.
+//! Instructions named by what they do, and the halves of a word.
 
 ghost use Rattle.std.specs.Prelude.{◌≡◌, OnOk};
 ghost use Rattle.steps8080.specs.Instructions.{clear_a, copy, high, load, low, set, with_memory, with_register};
@@ -29,14 +29,14 @@ pub fn set(register: Register, number: u8) -> Instr
     Instr::Mvi(Operand::Of(register), number)
 }
 
-/// Carries out an operation with A and a register.
+/// An operation on A with a register.
 pub fn with_register(operation: Operation, register: Register) -> Instr
     ensures { result ≡ with_register operation register }
 {
     Instr::Accumulate(operation, Operand::Of(register))
 }
 
-/// Carries out an operation with A and the byte at the address in HL.
+/// An operation on A with the byte at the address in HL.
 pub fn with_memory(operation: Operation) -> Instr
     ensures { result ≡ with_memory operation }
 {
@@ -64,7 +64,7 @@ pub fn high(word: u16) -> u8
     (word / 256) as u8
 }
 
-/// Adds an instruction so many times.
+/// Adds an instruction `count` times.
 pub fn repeat(instruction: Instr, count: u16, steps: &mut Steps) -> Result<(), AllocError>
     ensures { OnOk result (Adds steps.old steps.new (repeat_steps instruction count)) }
 {
@@ -74,7 +74,7 @@ pub fn repeat(instruction: Instr, count: u16, steps: &mut Steps) -> Result<(), A
     Ok(())
 }
 
-/// Puts the byte in A into HL, with zeros added.
+/// Puts the byte in A into HL, zero-extended.
 pub fn plan_extension(steps: &mut Steps) -> Result<(), AllocError>
     ensures { OnOk result (Adds steps.old steps.new extension_steps) }
 {

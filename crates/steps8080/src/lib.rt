@@ -1,5 +1,5 @@
-//! The steps that code is planned in, the writer of their code, what is known of the registers, and what a planner asks
-//! of the tree.
+//! The steps that code is planned in, the writer of their code, facts about the registers, and the queries that a
+//! planner makes of the tree.
 #![tactic(auto)]
 
 mod externals;

@@ -1,4 +1,4 @@
-//! Code as it is planned: instructions, labels, and parts whose code is planned in its turn.
+//! Planned code: instructions, labels, and parts that are planned later.
 
 ghost use Rattle.std.specs.Prelude.{◌≡◌, [], ◌∷◌, OnOk, length, slice_get, take};
 ghost use Rattle.steps8080.specs.declared.step.Step.TheVariants.{Plain, Word, Jump, Mark};
@@ -11,44 +11,44 @@ use runtime8080::Routine;
 use std::alloc::{AllocError, Global};
 use treecode::{ExpressionNumber, Place, Range, Reference, Target};
 
-/// The number of a label of a module's code. The first ones are the entries of its procedures, by their numbers, then
-/// those of the routines.
+/// The number of a label in the code of a module. The first numbers are the entries of its procedures, in their order;
+/// the entries of the routines follow.
 #[derive(Clone, Copy, PartialEq, Eq)]
 pub struct LabelNumber {
     pub index: u32,
 }
 
-/// What code of an expression is to do.
+/// What the code of an expression does.
 #[derive(Clone, Copy)]
 pub enum Task {
-    /// The low byte of the value comes into A, whatever its type.
+    /// Puts the low byte of the value into A, whatever its type.
     Byte(ExpressionNumber),
-    /// The value comes into HL, a BYTE with zeros added.
+    /// Puts the value into HL; a BYTE is zero-extended.
     Word(ExpressionNumber),
-    /// The value is computed for what that does, and is not wanted.
+    /// Evaluates the expression for its effects only.
     Effects(ExpressionNumber),
-    /// The address of an object or a part of it comes into HL.
+    /// Puts the address of an object or a part of it into HL.
     Address(Reference),
-    /// A jump to a label where the lowest bit of the value is 1 (`sense`) or 0 (not `sense`); else the code goes on.
+    /// Jumps to a label if the lowest bit of the value is 1 (`sense`) or 0 (not `sense`); else continues.
     Branch {
         condition: ExpressionNumber,
         label: LabelNumber,
         sense: bool,
     },
-    /// A (where `is_word` is not set) or HL, which holds a value of the target's source type, goes to a target. Where the
-    /// value `is_wanted` after it, it is in the same register then.
+    /// Stores A (or HL if `is_word`), which holds a value of the target's source type, in a target. If the value
+    /// `is_wanted` afterwards, it is still in that register.
     Store {
         target: Target,
         is_wanted: bool,
     },
-    /// A statement's call of a procedure, by its number in the module, with the arguments in the module's table.
+    /// Calls a procedure, by its number in the module, for a statement; the arguments are in the module's table.
     Call {
         procedure: u32,
         arguments: Range,
     },
 }
 
-/// A task at a place where so many bytes have been pushed since the procedure's body or the statement began.
+/// A task at a point where `pushed` bytes have been pushed since the procedure's body or the statement began.
 #[derive(Clone, Copy)]
 pub struct Part {
     pub task: Task,
@@ -70,25 +70,25 @@ pub enum Step {
     CallRoutine(Routine),
     /// The call of a procedure, by its number in the module.
     CallProcedure(u32),
-    /// The zero flag shows whether A is 0. No code where it shows that already.
+    /// Makes the zero flag show whether A is 0; no code if it does already.
     TestA,
-    /// What holds here of the registers, beside what is known already by the instructions alone.
+    /// Facts that hold here, beside those that the instructions alone show.
     Holds(Facts),
-    /// Bytes in the frame may have changed by instructions that change the stack alone, as POP and PUSH of a variable next
-    /// to the stack pointer.
+    /// Bytes in the frame may have changed by instructions that change only the stack, such as POP and PUSH of a
+    /// variable next to the stack pointer.
     MemoryChanged,
     /// The code of a part.
     Part(Part),
 }
 
-/// Steps in a row, and how many labels are taken.
+/// Steps in a row, and the number of labels in use.
 pub struct Steps {
     pub list: Vec<Step>,
     pub labels: u32,
 }
 
 impl Steps {
-    /// No steps, where so many labels are taken.
+    /// No steps, with `labels` labels in use.
     pub fn new(alloc: Global, labels: u32) -> Steps
         ensures list { result.list.items ≡ [] }
         ensures labels { result.labels ≡ labels }
@@ -99,7 +99,7 @@ impl Steps {
         }
     }
 
-    /// A label that is not taken yet.
+    /// Takes a label that is not in use.
     pub fn label(&mut self) -> LabelNumber
         ensures label { result ≡ label_of self.old.labels }
         ensures taken { self.new ≡ record self.old { labels = label_after self.old.labels 1 } }
@@ -109,7 +109,7 @@ impl Steps {
         label
     }
 
-    /// The first of so many labels that are not taken yet.
+    /// Takes `count` labels that are not in use, and returns the first.
     pub fn labels(&mut self, count: u32) -> LabelNumber
         ensures label { result ≡ label_of self.old.labels }
         ensures taken { self.new ≡ record self.old { labels = label_after self.old.labels count } }
@@ -165,28 +165,28 @@ impl Steps {
         self.push(Step::Mark(label))
     }
 
-    /// Adds the code of a task where so many bytes are pushed.
+    /// Adds the code of a task at a point where `pushed` bytes are pushed.
     pub fn part(&mut self, task: Task, pushed: u16) -> Result<(), AllocError>
         ensures { OnOk result (Adds self.old self.new (part task pushed ∷ [])) }
     {
         self.push(Step::Part(Part { task, pushed }))
     }
 
-    /// How many steps there are.
+    /// The number of steps.
     pub fn count(&self) -> usize
         ensures { result ≡ length self.now.list.items }
     {
         self.list.len()
     }
 
-    /// The step of an index.
+    /// The step at an index.
     pub fn get(&self, index: usize) -> Option<Step>
         ensures { result ≡ slice_get self.now.list.items index }
     {
         self.list.get(index).copied()
     }
 
-    /// Takes away all steps but the first so many.
+    /// Removes all steps but the first `count`.
     pub fn truncate(&mut self, count: usize)
         ensures list { self.new.list.items ≡ take count self.old.list.items }
         ensures labels { self.new.labels ≡ self.old.labels }
@@ -195,7 +195,7 @@ impl Steps {
     }
 }
 
-// Written out, so that what it holds is let go here, and each crate that lets one go calls this.
+// Written out so that the fields are dropped in one place, which other crates call.
 impl Drop for Steps {
     fn drop(self) {
         let Steps { list: _, labels: _ } = self;

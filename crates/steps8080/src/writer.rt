@@ -1,4 +1,4 @@
-//! Code with numbered labels and the names of other modules.
+//! Code with numbered labels and EXTERNAL names.
 
 ghost use Rattle.std.specs.Prelude.{◌≡◌, [], ◌∷◌, ◌++◌, None, Some, map, replicate, IfOk, IsTrue, OnErr, OnOk, Err};
 ghost use Rattle.failure.specs.Failure.{IfFault};
@@ -25,13 +25,13 @@ use std::alloc::{AllocError, Global};
 use std::marker::Model;
 use treecode::Place;
 
-/// Code to which more is added at its end, with the labels of a module by their numbers and the names of other modules
-/// that the code refers to.
+/// Code that grows at its end, with the labels of a module by their numbers and the EXTERNAL names that the code refers
+/// to.
 pub struct Writer {
     code: Code,
-    /// Of each label of the code, whether it has its place.
+    /// Whether each label of the code has its place.
     is_bound: Vec<bool>,
-    /// Which label of the code each number is, where it is used.
+    /// The label of the code for each label number in use.
     labels: Vec<Option<usize>>,
     externals: Externals,
 }
@@ -52,7 +52,7 @@ impl Model for Writer {
 }
 
 impl Writer {
-    /// No code, in a module that may refer to so many names of other modules.
+    /// No code, in a module with `external_count` EXTERNAL names.
     pub fn new(alloc: Global, external_count: usize) -> Result<Writer, AllocError>
         ensures { IfOk result (λ writer. writer ≡ record {
           code = record { items = []; labels = 0 };
@@ -64,7 +64,7 @@ impl Writer {
         Ok(Writer::sharing(alloc, externals))
     }
 
-    /// No code, in a module of which other code refers to these names already.
+    /// No code, in a module in which other code refers to these EXTERNAL names already.
     pub fn sharing(alloc: Global, externals: Externals) -> Writer
         ensures { result ≡ record {
           code = record { items = []; labels = 0 };
@@ -88,7 +88,7 @@ impl Writer {
         Ok(())
     }
 
-    // Adds an instruction whose word counts from the start of a segment.
+    // Adds an instruction with a word relative to the start of a segment.
     fn fixed(&mut self, form: WordForm, segment: Segment, offset: u16) -> Result<(), AllocError>
         requires { IsTrue (is_movable segment) }
         ensures { OnOk result (Writes self.old self.new
@@ -99,7 +99,7 @@ impl Writer {
         Ok(())
     }
 
-    // Adds an instruction whose word counts from what a name of another module stands for.
+    // Adds an instruction with a word relative to the address of an EXTERNAL name.
     fn fixed_by_name(&mut self, form: WordForm, name: u32, offset: u16) -> Result<(), AllocError>
         ensures { OnOk result (Writes self.old self.new
             (WithWord form (AtTarget (External name) offset) ∷ [])) }
@@ -110,7 +110,7 @@ impl Writer {
         Ok(())
     }
 
-    // Adds an instruction whose word is a number.
+    // Adds an instruction with a number as its word.
     fn word_of_number(&mut self, form: WordForm, number: u16) -> Result<(), AllocError>
         ensures { OnOk result (Writes self.old self.new (WithWord form (AtNumber number) ∷ [])) }
     {
@@ -130,14 +130,14 @@ impl Writer {
         }
     }
 
-    /// Adds an instruction whose word is the address just past the stack.
+    /// Adds an instruction with the address just past the stack as its word.
     pub fn stack_end(&mut self, form: WordForm) -> Result<(), AllocError>
         ensures { OnOk result (Writes self.old self.new (stack_end_item form ∷ [])) }
     {
         self.fixed(form, Segment::Stack, 0)
     }
 
-    /// Adds a call of a procedure of another module, by the index of its name among the external names.
+    /// Adds a call of a procedure in another module, by the index of its EXTERNAL name.
     pub fn call_external(&mut self, name: u32) -> Result<(), AllocError>
         ensures { OnOk result (Writes self.old self.new (external_call_item name ∷ [])) }
     {
@@ -152,7 +152,7 @@ impl Writer {
         Ok(())
     }
 
-    // Adds a word of data that counts from the start of a segment.
+    // Adds a word of data relative to the start of a segment.
     fn fixed_address(&mut self, segment: Segment, offset: u16) -> Result<(), AllocError>
         requires { IsTrue (is_movable segment) }
         ensures { OnOk result (Writes self.old self.new
@@ -162,7 +162,7 @@ impl Writer {
         Ok(())
     }
 
-    // Adds a word of data that counts from what a name of another module stands for.
+    // Adds a word of data relative to the address of an EXTERNAL name.
     fn address_by_name(&mut self, name: u32, offset: u16) -> Result<(), AllocError>
         ensures { OnOk result (Writes self.old self.new
             (Address (AtTarget (External name) offset) ∷ [])) }
@@ -193,7 +193,7 @@ impl Writer {
         }
     }
 
-    /// Adds so many bytes that stay unset.
+    /// Adds `count` bytes that stay unset.
     pub fn gap(&mut self, count: u16) -> Result<(), AllocError>
         ensures { OnOk result (Writes self.old self.new (Gap count ∷ [])) }
     {
@@ -201,7 +201,7 @@ impl Writer {
         Ok(())
     }
 
-    // A new label of the code.
+    // Makes a new label of the code.
     fn new_label(&mut self) -> Result<usize, AllocError>
         ensures items { OnOk result (self.new.code.items ≡ self.old.code.items) }
         ensures labels { self.new.labels ≡ self.old.labels }
@@ -213,7 +213,7 @@ impl Writer {
         Ok(index)
     }
 
-    // Which label of the code a number is, a new one where it is not used before.
+    // The label of the code for a label number; a new one at its first use.
     fn label_of(&mut self, number: LabelNumber) -> Result<usize, AllocError>
         ensures found { IfOk result (λ index. entry self.new.labels number.index ≡ Some index) }
         ensures items { OnOk result (self.new.code.items ≡ self.old.code.items) }
@@ -246,7 +246,7 @@ impl Writer {
         Ok(())
     }
 
-    // Gives a label of the code its place here. Fails where it has one.
+    // Gives a label of the code its place here. Fails if it has one.
     fn bind(&mut self, index: usize) -> Result<(), AllocError>
         ensures items { OnOk result (self.new.code.items ≡ self.old.code.items ++ Mark index ∷ []) }
         ensures labels { self.new.labels ≡ self.old.labels }
@@ -263,7 +263,7 @@ impl Writer {
         Ok(())
     }
 
-    /// Gives a label its place here. Fails where it has one: no code has a label twice.
+    /// Gives a label its place here. Fails if it has one: no label is placed twice.
     pub fn mark(&mut self, number: LabelNumber) -> Result<(), AllocError>
         ensures { OnOk result (Writes self.old self.new (Mark number.index ∷ [])) }
     {
@@ -272,7 +272,7 @@ impl Writer {
         Ok(())
     }
 
-    /// The code with a routine at its end, which begins at a label. Where there is no memory for it, the code is dropped.
+    /// Appends a routine to the code, with a label at its start. The code is dropped if memory runs out.
     pub fn with_routine(
         mut self,
         routine: Routine,
@@ -296,7 +296,7 @@ impl Writer {
         })
     }
 
-    /// The code as bytes and fixes with its labels, and the names that it refers to.
+    /// The code as bytes and fixes, with its labels, and the EXTERNAL names that it refers to.
     pub fn finish(self) -> Result<(Finished, Externals), Failure<Fault>>
         ensures code { IfOk result (λ both. Finishes self both.0.bytes both.0.labels.items) }
         ensures externals { IfOk result (λ both. both.1 ≡ self.externals) }
@@ -317,7 +317,7 @@ impl Writer {
     }
 }
 
-// A label of code by its number, where there are so many.
+// The label of the code with this number, if the code has that many.
 fn known_label(code: &Code, number: Option<usize>) -> Result<Option<Label>, AllocError>
     ensures { IfOk result (λ label. label ≡ known_label code.now.labels number) }
 {
@@ -333,7 +333,7 @@ fn known_label(code: &Code, number: Option<usize>) -> Result<Option<Label>, Allo
     }
 }
 
-// The labels of code by their numbers, where they are used.
+// The labels of the code for the label numbers in use.
 fn known_labels(code: &Code, numbers: Vec<Option<usize>>) -> Result<Vec<Option<Label>>, AllocError>
     ensures known { IfOk result (λ labels. labels.items ≡ map (known_label code.now.labels) numbers.items) }
     ensures is_assembly { IsAssembly code.now }
@@ -347,7 +347,7 @@ fn known_labels(code: &Code, numbers: Vec<Option<usize>>) -> Result<Vec<Option<L
     Ok(labels)
 }
 
-// Adds a routine to code, and to the flags that tell which labels have their places those of the routine's own labels.
+// Appends a routine to the code, and the flags of the routine's own labels to `is_bound`.
 fn add_routine(
     code: Code,
     is_bound: Vec<bool>,
@@ -364,14 +364,14 @@ fn add_routine(
     Ok((code, is_bound))
 }
 
-/// The bytes of code, with its labels.
+/// The bytes of code, and its labels.
 pub struct Finished {
     pub bytes: CodeBytes,
     pub labels: Vec<Option<Label>>,
 }
 
 impl Finished {
-    /// How far a label is from the start of the code; 0 where the code does not use it.
+    /// The offset of a label from the start of the code; 0 if the code does not use it.
     pub fn place(&self, number: LabelNumber) -> u16
         ensures { result ≡ place_of_known self.now.bytes (entry self.now.labels.items number.index) }
     {
@@ -390,7 +390,7 @@ impl Finished {
     }
 }
 
-// Written out, so that what these hold is let go here, and each crate that lets one go calls this.
+// Written out so that the fields are dropped in one place, which other crates call.
 impl Drop for Writer {
     fn drop(self) {
         let Writer {

@@ -1,4 +1,4 @@
--- Faults: their numbers, their lines, and which of them tells of what.
+-- Faults: their numbers, their lines, and what each of them says.
 use Rattle.std.specs.Prelude.{ℕ, ◌<◌, List, Result, Ok, Err, codes}
 use Rattle.failure.specs.declared.Failure.{Failure}
 use Rattle.failure.specs.declared.Failure.TheVariants as failures
@@ -30,13 +30,13 @@ abbrev pub IsOfEndName : Fault → Type 0
 IsOfEndName (EndName line) = Unit {0}
 IsOfEndName fault = ⊥
 
--- a call failed, with a fault of which this holds or because memory ran out
+-- a call failed: with a fault that this holds of, or because memory ran out
 abbrev pub IsRefused : {A : Type 0} → Result A (Failure Fault) → (Fault → Type 0) → Type 0
 IsRefused (Ok value) P = ⊥
 IsRefused (Err (failures.Fault fault)) P = P fault
 IsRefused (Err failures.Memory) P = Unit {0}
 
--- what a fault says is wrong with the tree that the grammar derives from the words; where it derives one, no word of
+-- what a fault says is wrong with the tree that the grammar derives from the words; if it derives one, no word of
 -- them is out of place
 abbrev pub IsWrongWith : Fault → ModuleTree → Type 0
 IsWrongWith (Word line) tree = ⊥

@@ -244,7 +244,7 @@ impl<'a> Reader<'a> {
         self.take_enclosed_list::<Identifier>()
     }
 
-    // What stands after the subject of an item.
+    // The rest of an item, after its subject.
     fn take_item_after(&mut self, subject: Subject) -> Result<Item, Failure<Fault>>
         ensures { Gives item_tree result self.new (item_after (subject_tree subject) self.old) }
     {
@@ -263,7 +263,7 @@ impl<'a> Reader<'a> {
         })
     }
 
-    // What stands after the name with which an element begins.
+    // The rest of an element, after the name with which it begins.
     fn take_element_after(&mut self, name: Identifier) -> Result<Element, Failure<Fault>>
         ensures { Gives element_tree result self.new (element_after name self.old) }
     {

@@ -35,7 +35,7 @@ impl<'a> Reader<'a> {
         self.operators(level, room - 1, left)
     }
 
-    // Operators that may stand at a level, with what stands after them, after a left operand.
+    // Operators that may stand at a level, with their right operands, after a left operand.
     #[cycle(expression)]
     fn operators(&mut self, level: u8, room: u8, left: Measured) -> Result<Measured, Failure<Fault>>
         requires room { room < NESTING_LIMIT }
@@ -56,7 +56,7 @@ impl<'a> Reader<'a> {
         Ok(left)
     }
 
-    // The next word, if it is an operator that goes on with an expression of level `top`, where the whole
+    // The next word, if it is an operator that continues an expression of level `top`, where the whole
     // must stand at `level`.
     fn operator_on(&self, level: u8, top: u8) -> Option<BinaryOperator>
         ensures { result ≡ operator_on level top (next_operator self.now) }
@@ -151,7 +151,7 @@ impl<'a> Reader<'a> {
         Ok(Measured::reference(self.alloc, found)?)
     }
 
-    // What stands after an opening parenthesis: an expression, or an assignment.
+    // After an opening parenthesis: an expression, or an assignment.
     #[cycle(expression)]
     #[tactic(auto, unfolding(crate::specs::internal::Expressions::parenthesized))]
     fn parenthesized(&mut self, room: u8) -> Result<Measured, Failure<Fault>>
@@ -171,7 +171,7 @@ impl<'a> Reader<'a> {
         }
     }
 
-    // What stands after an opening parenthesis and the reference that is assigned to.
+    // The rest after an opening parenthesis and the reference that is assigned to.
     #[cycle(expression)]
     fn assigned(&mut self, target: MeasuredReference, room: u8) -> Result<Measured, Failure<Fault>>
         requires room { room < NESTING_LIMIT }
@@ -199,7 +199,7 @@ impl<'a> Reader<'a> {
         Ok(value)
     }
 
-    // What stands after a period: a reference, or constants in parentheses.
+    // After a period: a reference, or constants in parentheses.
     #[cycle(expression)]
     #[tactic(auto, unfolding(crate::specs::internal::Expressions::location))]
     fn location(&mut self, room: u8) -> Result<Measured, Failure<Fault>>

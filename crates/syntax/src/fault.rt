@@ -1,8 +1,8 @@
-//! Why words are no module.
+//! Why words are not a module.
 
 use thiserror::Error;
 
-/// Why words are no module. Lines are counted from 1.
+/// Why words are not a module. Lines are counted from 1.
 #[derive(Clone, Copy, Debug, PartialEq, Eq, Error)]
 pub enum Fault {
     /// A word that no module has there, or the end of the words, with the line of the last one, or 1.

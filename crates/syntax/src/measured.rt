@@ -73,7 +73,7 @@ pub(crate) fn level_of(operator: BinaryOperator) -> u8
     }
 }
 
-/// The level of what stands left of an operator of a level.
+/// The level of the left operand of an operator of a level.
 pub(crate) fn left_level(level: u8) -> u8
     ensures { result ≡ left_level level }
 {
@@ -318,7 +318,7 @@ impl MeasuredArguments {
         Ok(())
     }
 
-    /// Without memory for more arguments, where that can be given back.
+    /// Gives back the memory that more arguments would take, if that is possible.
     pub(crate) fn shrink(&mut self)
         ensures view { self.new.items.items ≡ self.old.items.items }
         ensures height { self.new.height ≡ self.old.height }

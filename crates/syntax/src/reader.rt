@@ -102,7 +102,7 @@ impl<'a> Reader<'a> {
         }
     }
 
-    /// The next word is left after.
+    /// Skips the next word.
     pub(crate) fn skip(&mut self)
         requires { self.old ≢ [] }
         ensures { self.new ≡ drop 1 self.old }
@@ -308,7 +308,7 @@ impl<'a> Reader<'a> {
         })
     }
 
-    /// The fault of what is nested too deep.
+    /// The fault of nesting too deep.
     pub(crate) fn too_deep(&self) -> Failure<Fault>
         ensures { cause_of result ≡ Some TooDeep }
     {
@@ -326,7 +326,7 @@ impl<'a> Reader<'a> {
     }
 }
 
-/// What was made, or the failure of memory.
+/// The value that was made, or the failure of memory.
 pub(crate) fn or_memory<T: Drop>(made: Result<T, AllocError>) -> Result<T, Failure<Fault>>
     ensures { OrMemory made result }
 {

@@ -423,7 +423,7 @@ impl<'a> Reader<'a> {
         Ok(Some(statement))
     }
 
-    // What stands after DO.
+    // The rest of a statement, after DO.
     #[cycle(statement)]
     #[tactic(auto, unfolding(crate::specs::internal::Statements::do_statement))]
     fn take_do(&mut self, place: Place, room: u8) -> Result<StatementKind, Failure<Fault>>

@@ -22,7 +22,8 @@ pub branch_does :
     → BranchDoes context facts condition label sense pushed from last to
 branch_does context condition label sense first sound stand = branch_law first (bytes_asked context sound) sound stand
 
--- Where parts do what they mean, so do the steps of each task: of values, effects, addresses, jumps, stores and calls.
+-- If parts do what they mean, so do the steps of each task: of values, effects, addresses, jumps, stores and
+-- calls.
 pub carry_out : (context : Context) → IsSound context → CarryOut context
 unfolding task_steps steps_of
 carry_out context sound before after part label from to stand = by part.task part.pushed stand
@@ -39,7 +40,7 @@ carry_out context sound before after part label from to stand = by part.task par
     by (tasks.Store target is_wanted) pushed stands = store_does context target is_wanted sound stands
     by (tasks.Call procedure arguments) pushed stands = call_does procedure arguments sound stands
 
--- So does all code that was written for a part, wherever it stands.
+-- So does all code that was written for a part, wherever it is placed.
 pub written_does :
     (context : Context) {facts last : Facts} {part : Part} {list : List Item} (from to : ℕ)
     → IsSound context
@@ -49,7 +50,7 @@ pub written_does :
 written_does context from to sound written there =
     part_stands context context.site context.called refl refl (carry_out context sound) from to written there
 
--- And so does all that `emit_expression` adds, in a module whose code calls the routines that it calls.
+-- And so does all code that `emit_expression` adds, in a module with code that calls the same routines.
 pub emitted_does :
     (context : Context) {part : Part} {before after : Emission} (from to : ℕ)
     → IsSound context

@@ -1,4 +1,4 @@
--- Conditions at whose jumps the same is known.
+-- Conditions with the same facts at all their jumps.
 use Rattle.std.specs.Prelude.{Bool, true, false}
 use Rattle.trees.specs.declared.expression.BinaryOperator.{BinaryOperator}
 use Rattle.trees.specs.declared.expression.BinaryOperator.TheVariants.{And, Or}
@@ -11,8 +11,8 @@ is_plain And = false
 is_plain Or = false
 is_plain operator = true
 
--- Whether what is known at the end of the code of a condition is known at each of its jumps to the label: inside NOT
--- and conversions it is no AND or OR, and no other operator that code looks through.
+-- Whether the facts at the end of the code of a condition hold at each of its jumps to the label. Inside NOT
+-- and conversions it is not AND or OR, and no other operator that code looks through.
 abbrev pub jumps_once : TypedExpression → Bool
 jumps_once (ConversionNode scalar inner) = jumps_once inner
 jumps_once (UnaryNode scalar Not operand) = jumps_once operand

@@ -1,6 +1,5 @@
--- What the code of a body stands in: its module as it is typed and as tree code, an activation on the
--- machine, and what
--- is known of the calls that it makes.
+-- The context of the code of a body: its module as a typed module and as tree code, an activation on the
+-- machine, and the laws of the calls that it makes.
 use Rattle.std.specs.Prelude.{◌≡◌, ℕ, ◌+◌, ◌-◌, ◌*◌, ◌/◌, ◌%◌, ◌<◌, ◌≤◌, Bool, true, List, [], ◌∷◌, length, Option, Some, None, slice_get, All}
 use Rattle.mem80.specs.declared.memory.TheConstants.{MEMORY_SIZE}
 use Rattle.mem80.specs.Memory.{byte_at}
@@ -35,11 +34,9 @@ use Rattle.code_meaning.specs.Holding.{Distances, place_at}
 use Rattle.steps8080.specs.declared.sites.site.Site.{Site}
 use Rattle.exprgen8080.specs.Emission.{call_items, has_routine, label_of_routine}
 
--- What a body is carried out in: its module and where that has its storage; which procedure's it is; the
--- site of its
--- code; the routines that the module's code calls; what calls mean, and below which budget they are known
--- to do so;
--- and where the activation lies.
+-- The context of a body: its module and the storage of that module; its procedure; the site of its code; the
+-- routines that the module's code calls; the meaning of calls, and the budget below which they are known to
+-- have it; and the activation.
 pub record Context : Type 0 where
   pub typed : TypedModule
   pub storage : Storage
@@ -53,7 +50,7 @@ pub record Context : Type 0 where
 abbrev pub nodes_in : Context → Nodes
 nodes_in context = nodes_of context.site.tree.now
 
--- how far above the level each variable of the frame begins
+-- the distance from the level up to each variable of the frame
 abbrev pub distances_in : Context → Distances
 distances_in context variable = distance_of context.site.frame.now variable
 
@@ -68,13 +65,12 @@ InWord Byte value memory address = byte_at memory (address + 1) ≡ value
 InWord Address value memory address =
     (byte_at memory address ≡ value % 256) × (byte_at memory (address + 1) ≡ value / 256)
 
--- how many bytes of arguments are pushed: a word for each but the last
+-- the number of bytes of arguments that are pushed: a word for each but the last
 abbrev pub bytes_pushed : List ℕ → ℕ
 bytes_pushed values = 2 * (length values - 1)
 
--- arguments lie as a call has them: the last one in its register, the others in words from the stack
--- pointer upwards,
--- the first one highest
+-- the arguments are passed as a call requires: the last one in its register, the others in words from the
+-- stack pointer upwards, with the first one highest
 abbrev pub ArgumentsLie : List ScalarType → (values : List ℕ) → (top : ℕ) → Registers
     → (memory : List ℕ) → Type 0
 ArgumentsLie [] [] top r memory = Unit {0}
@@ -83,14 +79,13 @@ ArgumentsLie (scalar ∷ next ∷ scalars) (value ∷ values) top r memory =
     InWord scalar value memory (top + 2 * length scalars) × ArgumentsLie (next ∷ scalars) values top r memory
 ArgumentsLie scalars values top r memory = ⊥
 
--- the result of a call lies in its register
+-- the result of a call is in its register
 abbrev pub ResultLies : Option ScalarType → (value : ℕ) → Registers → (memory : List ℕ) → Type 0
 ResultLies None value r memory = Unit {0}
 ResultLies (Some scalar) value r memory = InRegister scalar value r
 
--- Calls from their CALL on: wherever one stands, with arguments as it has them, the machine does what the
--- call means,
--- with the arguments taken from the stack, in runs of less than a budget.
+-- Calls, from their CALL on: wherever a call is placed, with its arguments passed, the machine does what the
+-- call means, and the arguments are popped. This holds for runs that are below a budget.
 abbrev pub CallsDo : Context → Type 0
 CallsDo context =
     (procedure from top pushed : ℕ) (heading : TypedProcedure) (values base : List ℕ) (s : SourceState)
@@ -118,14 +113,13 @@ AreOfTypes [] [] = Unit {0}
 AreOfTypes (scalar ∷ scalars) (value ∷ values) = (value < values_of scalar) × AreOfTypes scalars values
 AreOfTypes scalars values = ⊥
 
--- what a call gives is of the type of its result
+-- the value of a call is of the type of its result
 abbrev pub IsOfResult : Option ScalarType → (value : ℕ) → Type 0
 IsOfResult None value = Unit {0}
 IsOfResult (Some scalar) value = value < values_of scalar
 
 -- Calls with arguments of the types of parameters give values of the types of results, and leave bytes in
--- declared
--- memory and frames.
+-- declared memory and frames.
 abbrev pub CallsFit : Context → Type 0
 CallsFit context =
     (procedure found : ℕ) (heading : TypedProcedure) (values : List ℕ) (s t : SourceState)
@@ -137,7 +131,7 @@ CallsFit context =
     ≡ Gave found t
     → IsOfResult heading.result found × SourceFits context.activation.around t
 
--- a routine stands at a place
+-- a routine is at a place
 pub record RoutineIsAt (activation : Activation) (routine : Routine) (entry : ℕ) : Type 0 where
   pub layout : Layout
   pub items : List Item
@@ -149,7 +143,7 @@ pub record RoutineIsAt (activation : Activation) (routine : Routine) (entry : �
       activation.around.program.placement.code.len
   pub is_routine : IsRoutine routine items
 
--- the objects of a frame lie where the site has them
+-- the objects of a frame are at the distances of the site
 abbrev pub FrameIsPlanned : Context → Type 0
 FrameIsPlanned context =
     (procedure object : ℕ) (result : Option ScalarType) (found : TypedObject)
@@ -160,7 +154,7 @@ FrameIsPlanned context =
     ≡ distances_in context (frame_number context.typed procedure object))
     × (context.activation.size object ≡ size_of_object found)
 
--- What is true of where the code of a body stands.
+-- The properties of the context of a body.
 pub record IsSound (context : Context) : Type 0 where
   pub lowered : IsLowered context.typed context.storage context.site.tree.now
   pub types : IsWellTyped context.typed

@@ -1,4 +1,4 @@
--- Steps whose code stands in memory.
+-- Steps with code in memory.
 use Rattle.std.specs.Prelude.{◌≡◌, ℕ, ◌+◌, true, List, [], ◌∷◌}
 use Rattle.isa8080.specs.declared.instr.Instr.{Instr}
 use Rattle.asm8080.specs.declared.item.Item.TheVariants as items
@@ -18,9 +18,8 @@ use Rattle.steps8080.specs.Writer.{jump_item, word_item}
 use Rattle.exprgen8080.specs.Emission.{after_test, call_items, has_routine, label_of_routine, test_items}
 use Rattle.task_laws.specs.Contexts.{Context}
 
--- Steps stand from a place on, where this is known of the registers, up to another place, where that is
--- known. What is
--- true of their parts is given.
+-- The code of steps is from one place to another, with facts before and after it. `PartIs` holds for each of
+-- their parts.
 pub data StepsStand
     (context : Context)
     (PartIs : (before : Facts) → Part → (from : ℕ) → (after : Facts) → (to : ℕ) → Type 0) :

@@ -1,4 +1,4 @@
--- What it means that code carries out a task.
+-- Code that carries out a task.
 use Rattle.std.specs.Prelude.{◌≡◌, ℕ, ◌+◌, ◌*◌, ◌/◌, ◌%◌, ◌<◌, Bool, true, not, List, Option, IsSomeAnd, slice_get}
 use Rattle.trees.specs.declared.declaration.ScalarType.{ScalarType}
 use Rattle.typed_trees.specs.Charge.{height_of, height_of_reference, height_of_target, count_of_arguments, height_of_arguments}
@@ -32,10 +32,9 @@ use Rattle.task_laws.specs.Contexts.{Context, InRegister, ResultLies, distances_
 abbrev pub Know : Context → Facts → Registers → (memory : List ℕ) → Type 0
 Know context facts r memory = FactsHold context.activation (distances_in context) facts r memory
 
--- Code from one place to another, with so many bytes pushed and room for as many as it needs, does what is
--- meant where
--- this is known and something holds at its start, in so many steps more than it spends. What holds at its
--- end is said beside registers and memory at its start.
+-- Code from one place to another, with `pushed` bytes pushed and room for `need` bytes, does what is meant,
+-- if the facts `before` and `Asked` hold at its start. It takes at least `more` steps beyond what it spends
+-- of the budget. `Holds` is what holds at its end, given the registers and memory at its start.
 abbrev pub Carries :
     {A : Type 0} → Context → (before : Facts) → (pushed need more from to : ℕ)
     → (Asked : Registers → Type 0)
@@ -52,11 +51,11 @@ Carries context before pushed need more from to Asked meant Holds =
     → Does context.activation.around.program.script s.budget more (at_place from r memory s.events) (meant s)
     (Arrives context.activation top base to (Holds r memory))
 
--- nothing is asked
+-- no condition
 abbrev pub Nothing : Registers → Type 0
 Nothing r = Unit {0}
 
--- B, C, D, E, H and L are the same, and the memory is
+-- B, C, D, E, H and L are unchanged, and so is the memory
 pub record ChangesAOnly (r : Registers) (memory : List ℕ) (now : Registers)
     (memory_now : List ℕ) : Type 0 where
   pub b : now.b ≡ r.b
@@ -67,7 +66,7 @@ pub record ChangesAOnly (r : Registers) (memory : List ℕ) (now : Registers)
   pub l : now.l ≡ r.l
   pub same_memory : memory_now ≡ memory
 
--- the low byte of a value is in A; free code changes A alone
+-- the low byte of a value is in A; free code changes only A
 pub record ByteIsGiven
     (context : Context) (after : Facts) (number : ExpressionNumber) (scalar : ScalarType)
     (r : Registers) (memory : List ℕ) (found : ℕ) (now : Registers) (memory_now : List ℕ) : Type 0 where
@@ -76,11 +75,11 @@ pub record ByteIsGiven
   pub known : Know context after now memory_now
   pub free : is_free context.site number ≡ true → ChangesAOnly r memory now memory_now
 
--- a register that the code leaves alone
+-- a register that the code keeps
 abbrev pub Left : (is_kept : Bool) → (before now : ℕ) → Type 0
 Left is_kept before now = is_kept ≡ true → now ≡ before
 
--- a value is in HL, a BYTE with zeros added; A and DE are left alone where the tree says so
+-- a value is in HL, and a BYTE is zero-extended; A and DE are kept if the traits say so
 pub record WordIsGiven
     (context : Context) (after : Facts) (number : ExpressionNumber) (scalar : ScalarType)
     (r : Registers) (memory : List ℕ) (found : ℕ) (now : Registers) (memory_now : List ℕ) : Type 0 where
@@ -92,14 +91,14 @@ pub record WordIsGiven
   pub d : Left (keeps context.site number).de r.d now.d
   pub e : Left (keeps context.site number).de r.e now.e
 
--- nothing is given but what is known
+-- no value, only facts
 pub record NothingIsGiven
     {A : Type 0} (context : Context) (after : Facts)
     (r : Registers) (memory : List ℕ) (found : A) (now : Registers) (memory_now : List ℕ) : Type 0 where
   pub known : Know context after now memory_now
 
--- the effects of an expression are carried out; A and DE are left alone where the tree says so, and where it is free all
--- but A is
+-- the effects of an expression are carried out; A and DE are kept if the traits say so; if the expression is
+-- free, only A changes
 pub record EffectsAreGiven
     (context : Context) (after : Facts) (number : ExpressionNumber)
     (r : Registers) (memory : List ℕ) (found : ℕ) (now : Registers) (memory_now : List ℕ) : Type 0 where
@@ -115,7 +114,7 @@ address_on_machine activation (InMemory address) = address
 address_on_machine activation (InTheFrame object offset is_inside) =
     wrap (activation.level + activation.distance object + offset)
 
--- the address of a place is in HL; A and DE are left alone where the tree says so
+-- the address of a place is in HL; A and DE are kept if the traits say so
 pub record AddressIsGiven
     (context : Context) (after : Facts) (reference : Reference)
     (r : Registers) (memory : List ℕ) (found : Place) (now : Registers) (memory_now : List ℕ) : Type 0 where
@@ -125,7 +124,7 @@ pub record AddressIsGiven
   pub d : Left (keeps_of_address context.site reference).de r.d now.d
   pub e : Left (keeps_of_address context.site reference).de r.e now.e
 
--- a value was stored; where it is wanted it is in its register still
+-- a value was stored; if it is wanted, it is still in its register
 pub record IsStored
     (context : Context) (after : Facts) (from : ScalarType) (is_wanted : Bool) (stored_value : ℕ)
     (r : Registers) (memory : List ℕ) (found : Unit {0}) (now : Registers)
@@ -133,16 +132,16 @@ pub record IsStored
   pub known : Know context after now memory_now
   pub wanted : is_wanted ≡ true → InRegister from stored_value now
 
--- the result of a call lies where calls have it
+-- the result of a call is where a call returns it
 pub record ResultIsGiven
     (context : Context) (after : Facts) (result : Option ScalarType)
     (r : Registers) (memory : List ℕ) (found : ℕ) (now : Registers) (memory_now : List ℕ) : Type 0 where
   pub lies : ResultLies result found now memory_now
   pub known : Know context after now memory_now
 
--- Where code that jumps by a condition comes to: where the lowest bit of the value is 1 (or 0), to an instruction
--- whose step leads to a label, and elsewhere to its end. What is known at its end is known at the label too where that
--- is so at each of its jumps. So that step is one beside those that pay for what the value spends.
+-- The end of code that jumps on a condition. If the lowest bit of the value is 1 (or 0), that is an
+-- instruction with a step to a label; else it is the end of the code. The facts at the end hold at the label
+-- too, if they hold at each of its jumps. This step is one beside those that pay for what the value spends.
 pub data Parts
     (context : Context) (after : Facts) (tree : TypedExpression) (label : LabelNumber) (sense : Bool)
     (top : ℕ) (base : List ℕ) (to : ℕ) (found : ℕ) (t : SourceState) (end : State) : Type 0 where
@@ -166,9 +165,8 @@ IsReferred context (PartOf number first member offset second) =
     IsSomeAnd (slice_get context.typed.objects number)
     (λ (object : TypedObject). IsSeen context.typed context.within object.home)
 
--- The code of each task. Two bytes are needed for each level of height, and for a store two more; a store
--- takes a
--- step more than it spends.
+-- The code of each task. It needs two bytes for each level of height, and two more for a store; a store takes
+-- one step more than it spends.
 abbrev pub ByteDoes : Context → (before : Facts) → (number : ExpressionNumber) → (pushed from : ℕ)
     → (after : Facts) → (to : ℕ) → Type 0
 ByteDoes context before number pushed from after to =
@@ -254,7 +252,7 @@ CallDoes context before procedure arguments pushed from after to =
     (callee_in context.activation.around procedure) given context.activation.around t))
     (ResultIsGiven context after result)
 
--- code from one place to another carries out a task where so many bytes are pushed, with this known before
+-- code from one place to another carries out a task when `pushed` bytes are pushed, with these facts before
 -- and after it
 abbrev pub TaskDoes : Context → (before : Facts) → Task → (pushed from : ℕ) → (after : Facts) → (to : ℕ)
     → Type 0

@@ -1,4 +1,4 @@
--- What lowering adds for an expression is that expression, and the nodes before stay what they are.
+-- Lowering an expression adds nodes that represent it, and keeps the nodes before.
 use Rattle.treecode.proofs.Prelude.{◌≡◌, ℕ, zero, suc, ◌+◌, ◌<◌, ◌≤◌, List, [], ◌∷◌, ◌++◌, length, Option, Some, slice_get, refl, sym, ap, ◌∙◌, subst, arith, type_of, TypedExpression, NumberNode, ValueNode, LocationNode, ListNode, ConversionNode, AssignmentNode, UnaryNode, BinaryNode, CallNode, FunctionNode, ShiftNode, InputNode, TypedReference, PartOf, Subscript, NoSubscript, At, TypedTarget, StoredIn, SentTo, TypedArguments, NoArguments, MoreArguments, Storage, Expression, ExpressionForm, ExpressionNumber, Range, Reference, IndexNode, Target, IsExpression, IsNode, IsForm, IsNumber, IsValue, IsLocation, IsConstantList, IsConversion, IsEmbedded, IsUnary, IsBinary, IsCallOf, IsFunction, IsShift, IsInput, IsReference, IsPart, IsSubscript, IsAbsent, IsIndex, IsTarget, IsStored, IsSent, AreArguments, AreNone, AreMore, Nodes, KeepTraits, expression_of, element_of, expression_in, form_in, numbers_in, part_of, put_arguments, put_expression, reference_in, subscript_in, target_in, with_both, with_item, Grows, Holds, NumbersRise, PartsAreBelow, ReferenceIsBelow, SubscriptIsBelow, TargetIsBelow}
 use Rattle.treecode.specs.declared.expression.ExpressionForm.TheVariants as forms
 use Rattle.treecode.specs.declared.reference.Target.TheVariants as targets
@@ -38,7 +38,7 @@ leads_on {one = one} {two = two} {three = three} first second = record {
   sound = second.sound;
 }
 
--- the arguments of a call stand below a bound also with others after them
+-- the arguments of a call are also below a bound with others after them
 given_below : (before after : Nodes) → Holds before.arguments after.arguments → (bound : ℕ) (form : ExpressionForm)
     → PartsAreBelow before bound form → PartsAreBelow after bound form
 given_below before after holds bound (forms.Number number) below = tt
@@ -59,7 +59,7 @@ given_below before after holds bound (forms.Function function operand) below = b
 given_below before after holds bound (forms.Shift function value count) below = below
 given_below before after holds bound (forms.Input port) below = tt
 
--- nodes are sound also where more stands in the tables other than that of expressions
+-- nodes are also sound with more entries in the tables other than that of expressions
 pub sound_after : (before after : Nodes) → after.homes ≡ before.homes → after.expressions ≡ before.expressions
     → Holds before.arguments after.arguments → AreSound before → AreSound after
 sound_after before after homes expressions holds sound = record { keeps = keeps; rises = rises }
@@ -80,7 +80,7 @@ sound_after before after homes expressions holds sound = record { keeps = keeps;
         expression.traits.scalar expression.form
         (sound.rises number expression (sym (found number) ∙ e)))
 
--- something that was added is what it is to be
+-- a value that was added has the property that it must have
 pub record Added {A : Type 0} (P : Nodes → A → Type 0) (nodes : Nodes) (made : Nodes × A) : Type 0 where
   pub leads : Leads nodes made.0
   pub is : P made.0 made.1
@@ -101,7 +101,7 @@ both_added R of nodes first second one two then = record {
   is = then two.leads one.is two.is;
 }
 
--- the last of a list with one more
+-- the last item of a list with one more
 pub last_found : {A : Type 0} (xs : List A) (last : A) → slice_get (xs ++ last ∷ []) (length xs) ≡ Some last
 last_found [] last = refl
 last_found (first ∷ xs) last = last_found xs last
@@ -110,7 +110,7 @@ pub one_more : {A : Type 0} (xs : List A) (last : A) → length (xs ++ last ∷ 
 one_more [] last = refl
 one_more (first ∷ xs) last = ap suc (one_more xs last)
 
--- what is found in a list is found in it after another one
+-- an item of a list is also in the list after another one
 pub found_after : {A : Type 0} (before xs : List A) (index : ℕ) (x : A) → slice_get xs index ≡ Some x
     → slice_get (before ++ xs) (length before + index) ≡ Some x
 found_after [] xs index x e = subst (λ (at : ℕ). slice_get xs at ≡ Some x) (omega arith) e
@@ -247,7 +247,7 @@ module _ (storage : Storage) where
   AsArguments trees nodes range =
       AreArguments nodes storage (length nodes.expressions) range.first range.count trees
 
-  -- the numbers stand in the table from a place on
+  -- the numbers are in the table from a place on
   numbers_stand : (nodes after : Nodes) (numbers : List ExpressionNumber) (trees : TypedArguments) (first : ℕ)
       → Grows nodes after
       → ((index : ℕ) (number : ExpressionNumber) → slice_get numbers index ≡ Some number
@@ -395,7 +395,7 @@ module _ (storage : Storage) where
         (λ leads is rest. MoreNumbers (expression_stays given (numbers_in storage given others).0
         storage leads.grows _ leads.grows.count is) rest)
 
-  -- an expression that is added is that expression, among nodes that stay what they were
+  -- an expression that is added is that expression, and the nodes before are kept
   pub expression_added : (nodes : Nodes) (tree : TypedExpression) → AreSound nodes
       → Added (AsExpression tree) nodes (expression_in storage nodes tree)
   expression_added nodes tree sound =

@@ -1,4 +1,4 @@
--- What lowering adds for a statement is that statement, and the nodes before stay what they are.
+-- Lowering a statement adds nodes that represent it, and keeps the nodes before.
 use Rattle.treecode.proofs.Prelude.{◌≡◌, ℕ, suc, ◌+◌, ◌<◌, min, max, Bool, true, false, ◌||◌, List, [], ◌∷◌, ◌++◌, length, Option, Some, None, slice_get, unwrap_or, refl, sym, ap, ◌∙◌, subst, arith, Any, append_assoc, append-nil, height_of, height_of_else, height_of_iteration, height_of_list, height_of_optional, height_of_statement, height_of_statements, height_of_targets, IsAmongLabels, JumpsStay, JumpsStayInElse, JumpsStayInList, JumpsStayInStatements, LabelsOf, ListStands, ListsStand, ListsStandInElse, labels_of_list, TypedExpression, TypedTarget, TypedArguments, TypedIteration, TypedStatement, LabelStatement, NullStatement, AssignmentStatement, CallStatement, MoveStatement, ReturnStatement, HaltStatement, GotoStatement, IfStatement, DoStatement, WhileStatement, IterateStatement, CaseStatement, TypedElse, NoElse, ElseStatement, TypedStatements, NoStatements, MoreStatements, TypedList, ListOf, Storage, ExpressionNumber, Home, Place, Iteration, Statement, StatementNumber, AddedList, AddedStatement, known_number, known_value, IsStatement, IsStatementNode, IsStatementForm, IsLabel, IsNull, IsAssignment, IsCall, IsMove, IsReturn, IsHalt, IsGoto, IsIf, IsDo, IsWhile, IsIterate, IsCase, IsElse, IsNoElse, IsSomeElse, AreStatements, AreNoStatements, AreMoreStatements, IsList, IsListOf, ends_by, labels_numbered, labels_numbered_in_else, labels_numbered_in_list, labels_numbered_in_statements, numbers_from, reaches_end, reaches_end_of_else, reaches_end_of_list, reaches_end_of_statements, Nodes, KeepTraits, height_at, known_at, number_at, Holds, Items, Walk, assigned_in, call_in, either_ends, else_in, height_of_move, items_after, items_in, iteration_in, label_in, list_in, moved_in, noted, number_of_added, numbered, optional_in, put_case, put_do, put_if, put_iterate, put_list, put_statement, put_while, returned_in, statement_in, targets_in, value_in}
 use Rattle.treecode.specs.declared.statement.Statement.TheVariants as statements
 use Rattle.treecode.proofs.AddedExpressions.{AreSound, AsExpression, Leads, found_after, last_found, leads_nowhere, leads_on, one_more, sound_after}
@@ -19,7 +19,7 @@ knows_none : {labels : List (Option ℕ)} {count : ℕ} {known : List ℕ} {arou
 knows_none {labels = labels} {count = count} {known = known} {around = around} knows =
     subst (λ (all : List ℕ). Knows labels count all around) (sym (append-nil known)) knows
 
--- what holds a list holds what is at its front
+-- a table with the items of a list has those of its front
 holds_front : (known more total : List ℕ) → Holds (known ++ more) total → Holds known total
 holds_front known more total holds index x e = holds index x (holds_with_more known more index x e)
 
@@ -120,7 +120,7 @@ record ItemsAre (storage : Storage) (walk : Walk) (known : List ℕ) (around : L
   are : (total : List ℕ) → Holds (known ++ labels_numbered_in_statements trees) total
       → AreItems (made.0).nodes storage total (made.1).numbers trees
 
--- a row of statements that stands in the table
+-- a row of statements in the table
 record RowIs (storage : Storage) (walk : Walk) (known : List ℕ) (around : List LabelsOf) (ends : Bool)
     (made : Walk × AddedList) (trees : TypedStatements) : Type 0 where
   leads : Leads walk.nodes (made.0).nodes
@@ -132,7 +132,7 @@ record RowIs (storage : Storage) (walk : Walk) (known : List ℕ) (around : List
       ((made.1).range).count trees
 
 module _ (storage : Storage) where
-  -- a statement whose form is that of a tree is put into the table
+  -- puts a statement with the form of a tree into the table
   put_is : (walk now : Walk) (known : List ℕ) (around : List LabelsOf) (statement : Statement) (ends : Bool)
       (tree : TypedStatement)
       → Leads walk.nodes now.nodes
@@ -444,7 +444,7 @@ module _ (storage : Storage) where
         (more.are total grouped);
   }
 
-  -- statements stand in the table of lists from a place on
+  -- statements are in the table of lists from a place on
   row_stands : (nodes after : Nodes) (total : List ℕ) (numbers : List StatementNumber) (trees : TypedStatements)
       (first : ℕ)
       → Leads nodes after
@@ -493,7 +493,7 @@ module _ (storage : Storage) where
         sound = sound_after (made.0).nodes after refl refl (λ index x e. e) is.leads.sound;
       }
 
-  -- a list, whose labels are numbered before its statements are added
+  -- a list; its labels are numbered before its statements are added
   list_put : (walk : Walk) (known : List ℕ) (around : List LabelsOf) (first : ℕ) (places : List ℕ)
       (trees : TypedStatements) (made : Walk × AddedList)
       → AreSound walk.nodes → Knows walk.labels walk.label_count known around

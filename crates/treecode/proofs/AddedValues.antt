@@ -1,11 +1,11 @@
--- What lowering adds for the expressions, targets and calls of a statement.
+-- Lowering the expressions, targets and calls of a statement.
 use Rattle.treecode.proofs.Prelude.{◌≡◌, ℕ, suc, ◌+◌, min, max, List, [], ◌∷◌, length, Option, Some, None, slice_get, refl, ap, ◌∙◌, subst, arith, Byte, count_of_arguments, height_of, height_of_iteration, height_of_optional, height_of_targets, TypedExpression, TypedTarget, TypedArguments, TypedIteration, Storage, ExpressionNumber, Range, Target, Iteration, IsCallOf, IsOptional, IsNoValue, IsSomeValue, AreTargets, NoTargets, MoreTargets, IsIteration, Nodes, height_of_call, arguments_in, expression_in, target_in, Grows, Walk, goal_with, goals_in, iteration_in, noted, optional_in, put_targets, targets_in, value_in}
 use Rattle.typed_trees.specs.Charge.{height_of_arguments}
 use Rattle.treecode.proofs.AddedExpressions.{Added, AreSound, AsArguments, AsExpression, AsTarget, Leads, arguments_added, expression_added, found_after, leads_nowhere, leads_on, sound_after, target_added}
 use Rattle.treecode.proofs.Grown.{expression_in_stays, holds_with_more, target_stays}
 use Rattle.treecode.proofs.KeptValues.{form_height, height_kept, target_height}
 
--- nodes are added, and something of a height is noted
+-- nodes are added, and a height is noted
 pub record Steps (walk after : Walk) (level : ℕ) : Type 0 where
   pub leads : Leads walk.nodes after.nodes
   pub labels : after.labels ≡ walk.labels
@@ -36,7 +36,7 @@ steps_nowhere walk sound =
 pub same_steps : {walk after : Walk} {one two : ℕ} → one ≡ two → Steps walk after one → Steps walk after two
 same_steps {walk = walk} {after = after} e steps = subst (λ (height : ℕ). Steps walk after height) e steps
 
--- something that was added is what it is to be, and its height is noted
+-- a value that was added has the property that it must have, and its height is noted
 pub record Noted {A : Type 0} (P : Nodes → A → Type 0) (walk : Walk) (made : Walk × A) (height : ℕ) : Type 0 where
   pub steps : Steps walk made.0 height
   pub is : P (made.0).nodes made.1
@@ -72,7 +72,7 @@ module _ (storage : Storage) where
       = value_added walk tree sound in
       record { steps = added.steps; is = IsSomeValue added.is }
 
-  -- targets in a row, before they stand in the table
+  -- targets in a row, before they are put into the table
   data AreGoals (nodes : Nodes) : List Target → List TypedTarget → Type 0 where
     NoGoals : AreGoals nodes [] []
     MoreGoals : {target : Target} {targets : List Target} {tree : TypedTarget} {trees : List TypedTarget}
@@ -104,7 +104,7 @@ module _ (storage : Storage) where
             rest.steps.leads.grows _ rest.steps.leads.grows.count added.is) rest.is;
       }
 
-  -- targets stand in the table from a place on
+  -- targets are in the table from a place on
   targets_stand : (nodes after : Nodes) (targets : List Target) (trees : List TypedTarget) (first : ℕ)
       → Grows nodes after
       → ((index : ℕ) (target : Target) → slice_get targets index ≡ Some target

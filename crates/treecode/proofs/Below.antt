@@ -1,5 +1,5 @@
--- The parts of an expression or a statement have lower numbers than itself, and the items of a list stand in the
--- table: that is what the walk over a body tests at each step.
+-- Each part of an expression or a statement has a lower number than the whole, and the items of a list are in
+-- the table. The walk over a body tests this at each step.
 use Rattle.treecode.proofs.Prelude.{◌≡◌, ℕ, zero, suc, ◌+◌, ◌<◌, ◌≤◌, Bool, List, length, Option, Some, None, slice_get, cond, sym, ap, ◌∙◌, subst, arith, option_and_then, lt-ltb, same_Some, TypedExpression, TypedElse, TypedList, TypedProcedure, TypedStatement, TypedStatements, Storage, Expression, ExpressionNumber, Range, TreeProcedure, Reference, Target, Statement, StatementNumber, HasBody, IsExpression, IsNode, IsStatement, IsStatementNode, IsStatementForm, IsLabel, IsNull, IsAssignment, IsCall, IsMove, IsReturn, IsHalt, IsGoto, IsIf, IsDo, IsWhile, IsIterate, IsCase, IsElse, IsNoElse, IsSomeElse, AreStatements, AreNoStatements, AreMoreStatements, IsList, IsListOf, Nodes, item_of}
 use Rattle.treecode.specs.declared.reference.Subscript.{Subscript}
 use Rattle.treecode.specs.declared.reference.Target.TheVariants as targets
@@ -8,7 +8,7 @@ use Rattle.treecode.specs.Queries.{number_bound, reference_bound, subscript_boun
 pub use Rattle.treecode.specs.internal.Rising.{PartsAreBelow, ReferenceIsBelow, SubscriptIsBelow, TargetIsBelow}
 use Rattle.treecode.proofs.AddedExpressions.{parts_below}
 
--- each of so many statements in a row stands in the table of lists, and has a number below a bound
+-- each of the statements of a range is in the table of lists, and has a number below a bound
 abbrev pub ItemsAreBelow : Nodes → (bound : ℕ) → Range → Type 0
 ItemsAreBelow nodes bound range =
     (index : ℕ) → index < range.count
@@ -95,7 +95,7 @@ module _ {nodes : Nodes} {storage : Storage} {labels : List ℕ} where
   form_below (IsIterate head list) = list_below list
   form_below (IsCase choice are) = items_below are
 
-  -- a statement of a number that is in tree code contains statements of lower numbers alone
+  -- the statement with this number in tree code contains only statements with lower numbers
   pub statements_below : {bound number : ℕ} {tree : TypedStatement} (statement : Statement)
       → IsStatement nodes storage labels bound number tree
       → slice_get nodes.statements number ≡ Some statement
@@ -103,7 +103,7 @@ module _ {nodes : Nodes} {storage : Storage} {labels : List ℕ} where
   statements_below {number = number} statement (IsStatementNode {statement = own} below at form) found =
       subst (StatementsAreBelow nodes number) (same_Some own statement (sym at ∙ found)) (form_below form)
 
--- an expression of a number that is in tree code has parts of lower numbers alone
+-- the expression with this number in tree code has only parts with lower numbers
 pub expressions_below : {nodes : Nodes} {storage : Storage} {bound number : ℕ} {tree : TypedExpression}
     (expression : Expression)
     → IsExpression nodes storage bound number tree
@@ -113,13 +113,13 @@ expressions_below {nodes} {number = number} expression (IsNode {expression = own
     subst (λ (one : Expression). PartsAreBelow nodes number one.form) (same_Some own expression (sym at ∙ found))
     (parts_below form)
 
--- the statements of a body stand in the table
+-- the statements of a body are in the table
 pub body_below : {nodes : Nodes} {storage : Storage} {procedure : TreeProcedure} {tree : TypedProcedure}
     → HasBody nodes storage procedure tree
     → ItemsAreBelow nodes (length nodes.statements) procedure.body
 body_below has_body = list_below has_body.body
 
--- the bounds by which tasks rank: that of a part is no greater than the number of what it is a part of
+-- the bounds for the ranks of tasks: that of a part is at most the number of the whole
 pub number_bound_below : (number : ExpressionNumber) (bound : ℕ) → number.index < bound → number_bound number ≤ bound
 number_bound_below number bound below = omega arith
 
@@ -139,7 +139,7 @@ pub target_bound_below : (target : Target) (bound : ℕ) → TargetIsBelow bound
 target_bound_below (targets.Stored from to reference) bound below = reference_bound_below reference bound below
 target_bound_below (targets.Sent from port) bound below = omega arith
 
--- what is no greater than the number of an expression is below its own bound, unless the table is full
+-- a number that is at most that of an expression is below its own bound, unless the table is full
 pub below_own_bound : (number : ExpressionNumber) (bound : ℕ) → number.index < 4294967295 → bound ≤ number.index
     → bound < number_bound number
 below_own_bound number bound room below = omega arith

@@ -1,4 +1,4 @@
--- What stands in procedures is what their trees say.
+-- The bodies of procedures represent their trees.
 use Rattle.treecode.proofs.Prelude.{◌≡◌, ◌⊎◌, ℕ, zero, suc, ◌+◌, ◌<◌, ◌≤◌, min, max, true, List, [], ◌∷◌, length, map, set, get_or, Option, Some, None, option_map, slice_get, inl, inr, refl, sym, ap, ◌∙◌, subst, arith, slice_set, option_map_or, get_or_from_slice_get, slice_get-get_or, slice_get-map, slice_get_within, Procedure, procedure_view, height_of_list, BodyIsSound, TypedProcedure, Storage, Home, TreeProcedure, AddedList, parameters_of, HasBody, labels_numbered_in_list, reaches_end_of_list, Nodes, Outside, AreComplete, BodiesAreSound, HasHeading, IsBody, MainIsComplete, SameHeading, completed, with_body, AreSound, Leads, Walk, begun, list_in}
 use Rattle.treecode.specs.declared.procedures.Body.{Body}
 use Rattle.treecode.proofs.AddedExpressions.{leads_nowhere, leads_on}
@@ -18,7 +18,7 @@ from_none : (count height : ℕ) → count ≡ max 0 (min height 65535) → coun
 from_none count height e = omega arith
 
 module _ (storage : Storage) where
-  -- where a body begins no label is known
+  -- at the start of a body no label has a number
   begins : (walk : Walk) → Knows (begun walk).labels (begun walk).label_count [] []
   begins walk = record { counted = refl; found = λ label any. absurd (none any.0 any.2) }
     where
@@ -82,7 +82,7 @@ module _ (storage : Storage) where
         has_body = body_is walk after body before.main tree sound jumps is;
       })
 
--- what is found in a list with another item in the place of one
+-- the items of a list with one item replaced
 set_found : {A : Type 0} (xs : List A) (index other : ℕ) (y z : A) → slice_get (set xs index y) other ≡ Some z
     → ((other ≡ index) × (y ≡ z)) ⊎ (slice_get xs other ≡ Some z)
 set_found [] index other y z e = inr e
@@ -124,7 +124,7 @@ module _ (storage : Storage) (first now after : Walk) (before middle : Outside) 
   leads : Leads now.nodes after.nodes
   leads = body_leads storage now after body tree done.leads.sound jumps is
 
-  -- one procedure more is complete
+  -- one more procedure is complete
   pub one_more_complete : (procedure : TreeProcedure) (last : Outside)
       → slice_get middle.procedures count ≡ Some procedure
       → last ≡ record middle { procedures = set middle.procedures count (completed procedure body) }
@@ -180,7 +180,7 @@ module _ (storage : Storage) (first now after : Walk) (before middle : Outside) 
           ∙ given))
           (some_same (sym at ∙ ap (λ (index : ℕ). slice_get headings index) (sym same) ∙ heading))
 
-  -- where there is no such procedure
+  -- without such a procedure
   pub none_more_complete : slice_get middle.procedures count ≡ None
       → AreComplete storage first after before middle headings (count + 1)
   none_more_complete none = record {
@@ -197,7 +197,7 @@ module _ (storage : Storage) (first now after : Walk) (before middle : Outside) 
         ];
   }
 
--- at first none is complete
+-- at first no procedure is complete
 pub none_complete : (storage : Storage) (first : Walk) (before : Outside) (headings : List TypedProcedure)
     → AreSound first.nodes → AreComplete storage first first before before headings 0
 none_complete storage first before headings sound = record {
@@ -212,14 +212,14 @@ none_complete storage first before headings sound = record {
   complete = λ number procedure tree below at heading. absurd (omega arith);
 }
 
--- what holds of all holds of the one of a number
+-- a property of all holds for the one with this number
 sound_body : (trees : List TypedProcedure) (number : ℕ) (tree : TypedProcedure) → BodiesAreSound trees
     → slice_get trees number ≡ Some tree → BodyIsSound tree.body
 sound_body trees number tree all at =
     subst (λ (one : TypedProcedure). BodyIsSound one.body) (get_or_from_slice_get trees number tree tree at)
     (all number tree (slice_get_within trees number tree at))
 
--- one procedure more, if there is one of that number
+-- one more procedure, if there is one with this number
 pub next_complete : (storage : Storage) (first now after : Walk) (before middle last : Outside)
     (headings : List TypedProcedure) (count : ℕ) (body : Body) (tree : TypedProcedure)
     → AreComplete storage first now before middle headings count
@@ -249,7 +249,7 @@ next_complete storage first now after before middle last headings count body tre
               middle.procedures;
         }) found)
 
--- the tree of a number, seen from the procedures of the code
+-- the tree with this number, seen from the procedures of the code
 pub tree_at : (procedures : List Procedure) (number : ℕ) (procedure : Procedure) → number < length procedures
     → procedure ≡ get_or procedures number procedure
     → slice_get (map procedure_view procedures) number ≡ Some (procedure_view procedure)
@@ -258,7 +258,7 @@ tree_at procedures number procedure below is =
     ∙ ap (option_map procedure_view)
     (slice_get-get_or procedures number procedure below ∙ ap Some (sym is))
 
--- a procedure in its place
+-- a procedure put into its place
 pub body_put : (procedures : List TreeProcedure) (number : ℕ) (procedure now : TreeProcedure) (body : Body)
     → slice_get procedures number ≡ Some procedure → now ≡ completed procedure body
     → set procedures number now

@@ -1,4 +1,4 @@
--- What is added to the contents of a segment, piece by piece.
+-- The contents of a segment, added piece by piece.
 use Rattle.treecode.proofs.Prelude.{◌≡◌, ℕ, List, [], ◌∷◌, ◌++◌, map, option_map, slice_get, Global, refl, ap, ◌∙◌, Vec, vec_items, slice_get-map, with_gap}
 use Rattle.treecode.specs.declared.module.Content.{Content}
 use Rattle.treecode.specs.declared.module.Content.TheVariants as contents
@@ -9,7 +9,7 @@ gap_after (contents.Byte byte) second others count = refl
 gap_after (contents.Word place) second others count = refl
 gap_after (contents.Gap before) second others count = refl
 
--- bytes that are not set, after contents of which the last piece is known
+-- unset bytes, after contents with a known last piece
 pub gap_added : (front : List Content) (last : Content) (count : ℕ)
     → with_gap (front ++ last ∷ []) count ≡ front ++ with_gap (last ∷ []) count
 gap_added [] last count = refl
@@ -18,7 +18,7 @@ gap_added (first ∷ second ∷ front) last count =
     gap_after first second (front ++ last ∷ []) count
     ∙ ap (λ more. first ∷ more) (gap_added (second ∷ front) last count)
 
--- a constant list of a number, seen from that of the code
+-- the constant list with this number, seen from that of the code
 pub list_at : (lists : List (Vec ℕ Global)) (number : ℕ)
     → slice_get (map vec_items lists) number ≡ option_map vec_items (slice_get lists number)
 list_at lists number = slice_get-map vec_items lists number

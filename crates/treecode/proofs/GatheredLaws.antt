@@ -3,7 +3,7 @@ use Rattle.treecode.proofs.Prelude.{◌≡◌, ◌⊎◌, ℕ, ◌+◌, ◌<◌,
 use Rattle.treecode.proofs.Items.{at_item, at_end}
 use Rattle.treecode.proofs.LabelNumbers.{same_number, same_or_other}
 
--- one item more, or none
+-- one more item, or none
 pub item_gathered : (typed : TypedModule) (now next total : Gathered) (items : List GlobalItem) (i : ℕ)
     (item : GlobalItem)
     → all_gathered typed now (drop i items) ≡ total
@@ -66,7 +66,7 @@ pub latest_group : (one two three : Option ℕ) → latest (latest one two) thre
 latest_group one two None = refl
 latest_group one two (Some three) = refl
 
--- what is found with one number more
+-- the entries with one more number
 pub found_with : (entries : List (Option ℕ)) (index number other : ℕ)
     → number_in (with_number entries index number) other
     ≡ latest (number_in entries other) (cond (index == other) (Some number) None)

@@ -1,4 +1,4 @@
--- Nodes stay what they are when others are added after them.
+-- Nodes are kept when others are added after them.
 use Rattle.treecode.proofs.Prelude.{◌≡◌, ℕ, zero, suc, ◌≤◌, List, [], ◌∷◌, ◌++◌, length, Option, Some, None, subst, arith, TypedExpression, TypedReference, Subscript, TypedTarget, TypedArguments, TypedStatement, TypedElse, TypedStatements, TypedList, TypedIteration, Storage, ExpressionForm, ExpressionNumber, Range, Reference, IndexNode, Target, Iteration, Statement, StatementNumber, IsExpression, IsNode, IsForm, IsNumber, IsValue, IsLocation, IsConstantList, IsConversion, IsEmbedded, IsUnary, IsBinary, IsCallOf, IsFunction, IsShift, IsInput, IsReference, IsPart, IsSubscript, IsAbsent, IsIndex, IsTarget, IsStored, IsSent, AreArguments, AreNone, AreMore, IsExpressionIn, IsOptional, IsNoValue, IsSomeValue, AreTargets, NoTargets, MoreTargets, IsIteration, IsStatement, IsStatementNode, IsStatementForm, IsLabel, IsNull, IsAssignment, IsCall, IsMove, IsReturn, IsHalt, IsGoto, IsIf, IsDo, IsWhile, IsIterate, IsCase, IsElse, IsNoElse, IsSomeElse, AreStatements, AreNoStatements, AreMoreStatements, IsList, IsListOf, Nodes, Grows, Holds}
 
 abbrev IsNothing : {A : Type 0} → Option A → Type 0
@@ -8,7 +8,7 @@ IsNothing (Some x) = ⊥
 pub nothing_found : {A : Type 0} {x : A} → None ≡ Some x → ⊥
 nothing_found e = subst IsNothing e tt
 
--- what a list holds, it holds with others after it
+-- a list with others after it has the items that it had
 pub holds_with_more : {A : Type 0} (xs ys : List A) → Holds xs (xs ++ ys)
 holds_with_more [] ys index x e = absurd (nothing_found e)
 holds_with_more (first ∷ xs) ys zero x e = e
@@ -16,7 +16,7 @@ holds_with_more (first ∷ xs) ys (suc index) x e = holds_with_more xs ys index 
 
 module _ (before after : Nodes) (storage : Storage) (grows : Grows before after) where
   mutual
-    -- an expression stays the tree that it is, also where the bound is a greater one
+    -- an expression remains the same tree, also with a greater bound
     pub expression_stays : {bound number : ℕ} {tree : TypedExpression} (greater : ℕ) → bound ≤ greater
         → IsExpression before storage bound number tree → IsExpression after storage greater number tree
     expression_stays greater up (IsNode {number = number} {expression = expression} below at scalar form) =
@@ -95,7 +95,7 @@ module _ (before after : Nodes) (storage : Storage) (grows : Grows before after)
 
   module _ (labels : List ℕ) where
     mutual
-      -- a statement stays the tree that it is
+      -- a statement remains the same tree
       pub statement_stays : {bound number : ℕ} {tree : TypedStatement} (greater : ℕ) → bound ≤ greater
           → IsStatement before storage labels bound number tree
           → IsStatement after storage labels greater number tree

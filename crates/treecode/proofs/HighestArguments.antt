@@ -1,4 +1,4 @@
--- The highest of arguments, one after another.
+-- The greatest height of arguments, one after another.
 use Rattle.treecode.proofs.Prelude.{◌≡◌, ℕ, suc, ◌+◌, ◌-◌, ◌<◌, max, Option, slice_get, sym, ap, ◌∙◌, arith, ExpressionNumber, Range, Nodes, item_of, height_of_argument, height_of_arguments}
 
 -- an item of a range is found in its table
@@ -6,7 +6,7 @@ item_found : (nodes : Nodes) (range : Range) (index : ℕ) → index < range.cou
     → item_of nodes.arguments range index ≡ slice_get nodes.arguments (range.first + index)
 item_found nodes range index below = grind (arith)
 
--- the first of those that are left, and the others
+-- the first of the remaining ones, and the others
 first_left : (nodes : Nodes) (range : Range) (index : ℕ) → index < range.count
     → height_of_arguments nodes (range.first + index) (range.count - index)
     ≡ max (height_of_argument nodes (item_of nodes.arguments range index))
@@ -25,7 +25,7 @@ first_left nodes range index below =
     (height_of_arguments nodes (range.first + (index + 1)) (range.count - (index + 1))))
     (sym (item_found nodes range index below))
 
--- one more is looked at
+-- one more argument is visited
 pub highest_next : (nodes : Nodes) (range : Range) (index highest next height all : ℕ)
     (argument : Option ExpressionNumber) → index < range.count
     → argument ≡ item_of nodes.arguments range index

@@ -1,4 +1,4 @@
--- The number where an object lies is one of those of all objects.
+-- The number at which an object is placed is one of those of all objects.
 use Rattle.treecode.proofs.Prelude.{◌≡◌, ℕ, zero, suc, ◌<◌, List, [], ◌∷◌, length, subst, arith, Home, Number, home_at, EachIsWord, HomeIsWord}
 use Rattle.treecode.specs.declared.place.Home.TheVariants.{Static}
 

@@ -1,4 +1,4 @@
--- What is left of a list, item by item.
+-- The rest of a list, item by item.
 use Rattle.treecode.proofs.Prelude.{◌≡◌, ℕ, suc, ◌+◌, ◌<◌, ◌≤◌, List, [], ◌∷◌, drop, get_or, length, ap, sym, ◌∙◌, add-one, drop_of_length-le, drop-cons}
 
 module _ {A Y : Type 0} (of : List A → Y) (items : List A) (i : ℕ) where

@@ -1,8 +1,8 @@
--- What nodes keep is what the trees that they stand for say.
+-- The traits of nodes follow from the trees that they represent.
 use Rattle.treecode.proofs.Prelude.{◌≡◌, ℕ, suc, ◌+◌, ◌%◌, min, max, Option, Some, option_map, slice_get, refl, ap, ◌∙◌, arith, option_map_or, option_and_then, ScalarType, count_of_arguments, height_of, height_of_trees, height_of_part, height_of_index, height_of_goal, type_of, TypedExpression, TypedReference, Subscript, TypedTarget, TypedArguments, Storage, result_of_one, shifted, Expression, ExpressionForm, ExpressionNumber, Place, Number, Reference, IndexNode, Target, Traits, converted_place, function_of_place, known_distance, known_number, known_place, known_subscript, known_value, place_of_part, result_of_known, shift_of_known, IsExpression, IsNode, IsForm, IsNumber, IsValue, IsLocation, IsConstantList, IsConversion, IsEmbedded, IsUnary, IsBinary, IsCallOf, IsFunction, IsShift, IsInput, IsReference, IsPart, IsSubscript, IsAbsent, IsIndex, IsTarget, IsStored, IsSent, AreArguments, AreNone, AreMore, Nodes, home_at, KeepTraits, distance_of, height_at, height_of_arguments, height_of_form, height_of_reference, height_of_subscript, height_of_target, known_at, known_of, no_traits, place_of_reference, traits_at, traits_of}
 use Rattle.treecode.proofs.SameTraits.{both}
 
--- what is kept with the expression of a number
+-- the traits of the expression with this number
 pub node_traits : (nodes : Nodes) (number : ℕ) (expression : Expression) → KeepTraits nodes
     → slice_get nodes.expressions number ≡ Some expression
     → traits_at nodes (record { index = number }) ≡ traits_of nodes expression.traits.scalar expression.form
@@ -24,7 +24,7 @@ unfolding traits_of
 height_of_node nodes number expression keeps at =
     ap (λ (traits : Traits). traits.height) (node_traits nodes number expression keeps at)
 
--- numbers that stop at 65535
+-- numbers that saturate at 65535
 more : (added kept height : ℕ) → kept ≡ min height 65535 → min (added + kept) 65535
     ≡ min (added + height) 65535
 more added kept height e = omega arith
@@ -41,7 +41,7 @@ call_height : (count trees kept height : ℕ) → count ≡ trees → kept ≡ m
     → min (1 + count + kept) 65535 ≡ min (1 + trees + height) 65535
 call_height count trees kept height e f = omega arith
 
--- how many arguments there are
+-- the number of arguments
 pub arguments_count : {nodes : Nodes} {storage : Storage} {bound first count : ℕ} {trees : TypedArguments}
     → AreArguments nodes storage bound first count trees → count ≡ count_of_arguments trees
 arguments_count AreNone = refl
@@ -49,7 +49,7 @@ arguments_count (AreMore at argument others) = let e : _ = arguments_count other
 
 module _ (nodes : Nodes) (storage : Storage) (keeps : KeepTraits nodes) where
   mutual
-    -- a known value that is kept is that of the tree
+    -- a known value among the traits is that of the tree
     pub known_kept : {bound number : ℕ} {tree : TypedExpression}
         → IsExpression nodes storage bound number tree
         → known_at nodes (record { index = number }) ≡ known_value nodes.homes storage tree
@@ -100,7 +100,7 @@ module _ (nodes : Nodes) (storage : Storage) (keeps : KeepTraits nodes) where
         ap (λ (known : Option Place). known_distance (stride % 65536) (known_number known)) (known_kept index)
 
   mutual
-    -- a height that is kept is that of the tree, or 65535 where that is more
+    -- a height among the traits is that of the tree, saturated at 65535
     pub height_kept : {bound number : ℕ} {tree : TypedExpression}
         → IsExpression nodes storage bound number tree
         → height_at nodes (record { index = number }) ≡ min (height_of tree) 65535

@@ -1,17 +1,17 @@
--- What an expression with a known value means: that value, and no change of the state.
+-- The meaning of an expression with a known value: that value, without a change of the state.
 use Rattle.treecode.proofs.Prelude.{◌≡◌, ℕ, ◌+◌, ◌-◌, ◌*◌, ◌%◌, ◌<◌, ◌&&◌, List, Option, Some, None, option_map, refl, sym, ap, ◌∙◌, arith, length, option_and_then, mul-mod_second, ScalarType, Byte, Address, BinaryOperator, UnaryOperator, ShiftFunction, UnaryFunction, Low, High, Double, type_of, type_of_function, type_of_result, TypedExpression, NumberNode, ValueNode, LocationNode, ListNode, ConversionNode, AssignmentNode, UnaryNode, BinaryNode, CallNode, FunctionNode, ShiftNode, InputNode, TypedReference, PartOf, Subscript, NoSubscript, At, Storage, Surroundings, home_of, Displacement, Later, address_in_memory, based_place, computed, displaced, displacement, located, no_displacement, value, State, Outcome, Gave, then_do, as_type, function_of, result_of, result_of_one, shifted, Home, Place, Number, Code, Data, External, place_after, converted_place, function_of_place, known_distance, known_number, known_place, known_subscript, known_value, place_of_part, result_of_known, shift_of_known, home_at}
 use Rattle.trees.specs.declared.expression.BinaryOperator.TheVariants as operators
 use Rattle.treecode.specs.declared.place.Home.TheVariants as homes
 use Rattle.treecode.specs.Resolved.{Resolves, HaveOperands, SubscriptHasOperands, PartHasOperands}
 
--- where something lies is an ADDRESS
+-- a relocatable address is an ADDRESS
 abbrev IsAddress : Place → ScalarType → Type 0
 IsAddress (Number number) scalar = Unit {0}
 IsAddress place scalar = scalar ≡ Address
 
 module _ (around : Surroundings) (starts : List Home) (storage : Storage) (address : Place → ℕ)
     (resolves : Resolves around starts storage address) where
-  -- what gives a number gives the known one, and leaves the state
+  -- if a value is known, the evaluation gives that value and keeps the state
   abbrev Tells : Option Place → ScalarType → (State → Outcome ℕ) → Type 0
   Tells None scalar outcome = Unit {0}
   Tells (Some place) scalar outcome =
@@ -131,7 +131,7 @@ module _ (around : Surroundings) (starts : List Home) (storage : Storage) (addre
     tt,
   )
 
-  -- what an operator gives of two values
+  -- the result of an operator on two values
   result : (operands : ScalarType) (operator : BinaryOperator) (place other : Place) (first second : State
       → Outcome ℕ)
       (found : ℕ)
@@ -340,7 +340,7 @@ module _ (around : Surroundings) (starts : List Home) (storage : Storage) (addre
 
   module _ (later : Later) where
     mutual
-      -- an expression with a known value gives it, and leaves the state
+      -- an expression with a known value gives it, and keeps the state
       pub tells : (tree : TypedExpression) → HaveOperands (length storage.lists) tree
           → Tells (known_value starts storage tree) (type_of tree) (λ s. value later around tree s)
       tells (NumberNode scalar number origin) fit =

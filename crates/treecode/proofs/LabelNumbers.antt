@@ -1,9 +1,9 @@
--- The numbers that the labels of a body get, and that each label in the body has one.
+-- The numbers that the labels of a body get; each label in the body has one.
 use Rattle.treecode.proofs.Prelude.{◌≡◌, ◌⊎◌, ℕ, zero, suc, ◌+◌, ◌<◌, ◌≤◌, List, [], ◌∷◌, ◌++◌, length, Option, Some, slice_get, slice_index_or, inl, inr, refl, sym, ap, ◌∙◌, subst, arith, Any, append_assoc, append-nil, LabelsOf, IsAmongLabels, LabelsStand, IsNoLabel, ListsStand, ListsStandInStatements, ListsStandInCases, labels_of_list, TypedStatement, LabelStatement, TypedStatements, NoStatements, MoreStatements, numbers_from, number_in, with_number, Walk, numbered, with_label}
 use Rattle.treecode.proofs.AddedExpressions.{last_found, one_more}
 use Rattle.treecode.proofs.Grown.{holds_with_more}
 
--- what is known of a number in a table with one more
+-- the number for an index in a table with one more
 pub same_number : (entries : List (Option ℕ)) (index number : ℕ)
     → number_in (with_number entries index number) index ≡ Some number
 same_number [] zero number = refl
@@ -30,7 +30,7 @@ pub record HasNumber (labels : List (Option ℕ)) (known : List ℕ) (label : �
   pub is : number_in labels label ≡ Some number
   pub at : slice_get known number ≡ Some label
 
--- the label that gets a number
+-- the label with the new number
 own_label : (labels : List (Option ℕ)) (known : List ℕ) (first count label : ℕ) → count ≡ length known
     → first ≡ label → HasNumber (with_number labels first count) (known ++ first ∷ []) label
 own_label labels known first count label counted e = record {
@@ -39,7 +39,7 @@ own_label labels known first count label counted e = record {
   at = ap (λ (one : ℕ). slice_get (known ++ first ∷ []) one) counted ∙ last_found known first ∙ ap Some e;
 }
 
--- one label more
+-- one more label
 one_label : (labels : List (Option ℕ)) (known : List ℕ) (first count label : ℕ) → count ≡ length known
     → (first ≡ label) ⊎ HasNumber labels known label
     → HasNumber (with_number labels first count) (known ++ first ∷ []) label
@@ -128,7 +128,7 @@ pub record Knows (labels : List (Option ℕ)) (count : ℕ) (known : List ℕ) (
   pub counted : count ≡ length known
   pub found : (label : ℕ) → Any (IsAmongLabels label) around → HasNumber labels known label
 
--- where a list begins, its own labels have numbers too
+-- at the start of a list, its own labels have numbers too
 pub knows_list : (walk : Walk) (known : List ℕ) (around : List LabelsOf) (first : ℕ) (places : List ℕ)
     → Knows walk.labels walk.label_count known around
     → Knows (numbered walk first (length places)).labels (numbered walk first (length places)).label_count
@@ -154,7 +154,7 @@ knows_after labels count known first around knows = record {
   found = λ label any. knows.found label (later first around any);
 }
 
--- a label that stands there is one of the lists around
+-- a label statement has a label of one of the lists around
 abbrev pub LabelIsAround : List LabelsOf → TypedStatement → Type 0
 LabelIsAround around (LabelStatement label) = Any (IsAmongLabels label) around
 LabelIsAround around statement = Unit {0}
@@ -163,7 +163,7 @@ pub no_label_around : (around : List LabelsOf) (tree : TypedStatement) → IsNoL
 no_label_around around (LabelStatement label) none = absurd none
 no_label_around around tree none = tt
 
--- so is each of statements in a row, and the lists in them stand
+-- the same for each of statements in a row, and for the lists in them
 abbrev pub StandAround : List LabelsOf → TypedStatements → Type 0
 StandAround around NoStatements = Unit {0}
 StandAround around (MoreStatements first others) =

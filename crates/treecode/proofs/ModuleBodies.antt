@@ -50,7 +50,7 @@ bodies_added typed storage first second third procedures same done main = record
         subst (λ (count : ℕ). number < count) (ap length same ∙ length-map procedures procedure_view)
         (slice_get_within typed.procedures number tree heading)
 
--- lists of which each has something where the other one has are as long
+-- lists have the same length if each has an item at each index of the other
 as_long : {A B : Type 0} (f : ℕ → B → A) (xs : List A) (ys : List B)
     → ((number : ℕ) → slice_get xs number ≡ option_map (f number) (slice_get ys number))
     → length xs ≡ length ys

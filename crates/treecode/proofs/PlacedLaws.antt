@@ -1,4 +1,4 @@
--- Objects that are placed lie where those of the module do, and the procedures have its headings and frames.
+-- Objects are placed where those of the module are, and the procedures have its headings and frames.
 use Rattle.treecode.proofs.Prelude.{◌≡◌, ◌⊎◌, ℕ, zero, suc, ◌+◌, Bool, true, false, List, [], ◌∷◌, ◌++◌, length, map, take, filter, Option, Some, None, option_map, slice_get, slice_set, nat_lt, min, ◌==◌, ◌≢◌, ◌≤◌, cond, is_some, inl, inr, refl, sym, ap, ap₂, subst, ◌∙◌, add-one, arith, enumerate_from, option_map_or, append_assoc, append-nil, length-append, le-ltb, lt-ltb, eqb_tells, filter-append, none-some, slice_get_within, take-append_seam, TypedHome, InData, InConstants, Placed, BasedOn, Elsewhere, Nowhere, InFrame, TypedObject, TypedProcedure, TypedModule, AtNumber, AtObject, Storage, Home, FrameVariable, external_place, frame_number, frame_variable, home_of_object, homes_from, homes_of, kind_with, lives_in_frame, numbered_in_frame, Gathered, all_gathered, none_gathered, number_in, Heading, HeadingsAre, PlacedSoFar, all_placed, heading_at, heading_in, headings_after, headings_in, home_in, variable_number, variable_of, with_all_parameters, with_placed, with_variable, with_variable_in}
 use Rattle.treecode.specs.declared.place.Home.TheVariants as homes
 use Rattle.treecode.proofs.AddedExpressions.{one_more}
@@ -97,7 +97,7 @@ abbrev numbered_variable : (parameters : List (Option ℕ)) → ℕ × TypedObje
 numbered_variable parameters numbered = variable_of numbered.1 (number_in parameters numbered.0)
 
 module _ (externals parameters : List (Option ℕ)) (storage : Storage) where
-  -- what objects add to the frame of a procedure, where the first one has a number
+  -- the variables that objects add to the frame of a procedure, from the number of the first object
   abbrev added_in : (procedure first : ℕ) → List TypedObject → List FrameVariable
   added_in procedure first objects =
       map (numbered_variable parameters) (filter (numbered_in_frame procedure) (enumerate_from first objects))
@@ -145,7 +145,7 @@ headings_found externals first (suc number) (procedure ∷ others) =
     headings_found externals (suc first) number others
     ∙ ap (λ (one : ℕ). option_map (heading_in externals one) (slice_get others number)) same
 
--- the frame of a procedure, by what the module says of parameters
+-- the frame of a procedure, from the parameters of the module
 same_variables : (typed : TypedModule) (numbered : List (ℕ × TypedObject))
     → map (numbered_variable (with_all_parameters [] typed.procedures)) numbered
     ≡ map (frame_variable typed) numbered
@@ -160,7 +160,7 @@ objects_table typed = (all_gathered typed none_gathered typed.globals).objects
 abbrev procedures_table : TypedModule → List (Option ℕ)
 procedures_table typed = (all_gathered typed none_gathered typed.globals).procedures
 
--- what is placed before any object
+-- the start, before any object is placed
 abbrev nothing_placed : TypedModule → PlacedSoFar
 nothing_placed typed = record { homes = []; headings = headings_in (procedures_table typed) 0 typed.procedures }
 
@@ -198,14 +198,14 @@ headings_placed typed storage number =
         (ap (number_in (procedures_table typed)) same ∙ procedures_known typed number)
         (same_variables typed (filter (numbered_in_frame number) (enumerate_from 0 typed.objects)))
 
--- the objects of a list that live in the frame of a procedure
+-- the objects of a list that are in the frame of a procedure
 abbrev in_frame : (procedure : ℕ) → List TypedObject → List TypedObject
 in_frame procedure objects = filter (λ (object : TypedObject). lives_in_frame procedure object.home) objects
 
 abbrev frame_length : Heading → ℕ
 frame_length heading = length heading.frame
 
--- what is known after so many objects
+-- the invariant after the objects of `front`
 record StandsSoFar (typed : TypedModule) (front : List TypedObject) (before : PlacedSoFar) : Type 0 where
   counted : length before.homes ≡ length front
   framed : (procedure : ℕ)
@@ -361,7 +361,7 @@ unfolding homes_of
 homes_placed typed storage =
     homes_after typed storage [] typed.objects (nothing_placed typed) 0 refl refl (first_stands typed)
 
--- what is placed after nothing, by the EXTERNAL names that were gathered
+-- the objects placed from the start, with the EXTERNAL names that were gathered
 module _ (typed : TypedModule) (storage : Storage) (gathered : Gathered) (before after : PlacedSoFar)
     (named : gathered ≡ all_gathered typed none_gathered typed.globals)
     (none : before.homes ≡ [])

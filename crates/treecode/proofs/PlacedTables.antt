@@ -1,5 +1,5 @@
--- What the tables tell that are kept while objects and procedures are placed: which parameter an object is, and which
--- EXTERNAL name it has.
+-- The tables that are kept while objects and procedures are placed: the parameter index of each object, and
+-- its index among the EXTERNAL names.
 use Rattle.treecode.proofs.Prelude.{◌≡◌, ℕ, suc, List, [], ◌∷◌, length, Option, Some, None, ◌==◌, cond, is_some, refl, sym, ap, ◌∙◌, GlobalItem, GlobalObject, GlobalProcedure, TypedModule, TypedProcedure, ExternalName, external_from, external_name, external_number, is_global_object, is_global_procedure, latest, parameter_from, parameter_number, Gathered, all_gathered, none_gathered, with_external_object, with_external_procedure, number_in, with_number, with_all_parameters, with_parameters}
 use Rattle.treecode.proofs.AddedExpressions.{one_more}
 use Rattle.treecode.proofs.GatheredLaws.{found_with, latest_group}
@@ -8,7 +8,7 @@ nothing_before : (later : Option ℕ) → latest None later ≡ later
 nothing_before None = refl
 nothing_before (Some later) = refl
 
--- what is found with more numbers after a number that was put
+-- the entries with more numbers after a number that was put
 found_later : (entries : List (Option ℕ)) (index number other : ℕ) (later : Option ℕ)
     → latest (number_in (with_number entries index number) other) later
     ≡ latest (number_in entries other) (latest (cond (index == other) (Some number) None) later)
@@ -35,7 +35,7 @@ all_parameters_found entries object (procedure ∷ others) =
     ∙ latest_group (number_in entries object) (parameter_from object 0 procedure.parameters)
     (parameter_number others object)
 
--- which parameter an object is
+-- the parameter index of an object
 pub parameters_known : (procedures : List TypedProcedure) (object : ℕ)
     → number_in (with_all_parameters [] procedures) object ≡ parameter_number procedures object
 parameters_known procedures object =

@@ -27,7 +27,7 @@ module _ {A B : Type 0} (of : A → Option B) (made total : List B) (items : Lis
   all_found past =
       sym (append-nil made) ∙ sym (at_end (λ all. made ++ filter_map of all) items i past) ∙ rest
 
--- objects and procedures of a number, seen from those of the code
+-- the object and the procedure with this number, seen from those of the code
 pub object_at : (objects : List Object) (number : ℕ)
     → slice_get (map object_view objects) number ≡ option_map object_view (slice_get objects number)
 object_at objects number = slice_get-map object_view objects number

@@ -1,8 +1,8 @@
--- A node that is added to its table, seen among all tables.
+-- A node that is added to its table, and the other tables.
 use Rattle.treecode.proofs.Prelude.{◌≡◌, ℕ, Bool, Result, Ok, Err, OnOk, List, [], ◌∷◌, ◌++◌, length, sym, ap, ◌∙◌, ScalarType, Expression, ExpressionForm, ExpressionNumber, Range, Lowering, TreeModule, Nodes, nodes_of, expression_of, put_arguments, put_expression, Target, Statement, StatementNumber, Beside, beside, outside, walk_of, walk_with, Items, Walk, put_list, put_statement, put_targets}
 use Rattle.treecode.proofs.SameTraits.{both}
 
--- what holds, holds where there is a value
+-- a property that holds anyway holds if there is a value
 pub on_ok : {T E P : Type 0} (result : Result T E) → P → OnOk result P
 on_ok (Ok x) holds = holds
 on_ok (Err e) holds = tt
@@ -36,7 +36,7 @@ module _ (tree after : TreeModule) where
       ∙ sym (ap nodes_of kept))
       (both (λ (first count : ℕ). record { first = first; count = count }) (sym first) (sym count))
 
--- what stands beside the nodes stays
+-- the parts beside the nodes are kept
 pub beside_expressions : (lowering : Lowering) (after : TreeModule)
     → after ≡ record (lowering.tree) { expressions = after.expressions }
     → beside (record lowering { tree = after }) ≡ beside lowering
@@ -119,7 +119,7 @@ module _ (old : Lowering) (after : TreeModule) where
       (sym (beside_lists old after kept)))
       (range_is range _ _ first count)
 
--- what stands outside stays
+-- the parts that no statement changes are kept
 pub outside_statements : (lowering : Lowering) (after : TreeModule)
     → after ≡ record (lowering.tree) { statements = after.statements }
     → outside (record lowering { tree = after }) ≡ outside lowering

@@ -1,4 +1,4 @@
--- What a form has in memory, and which registers its code keeps, is the same when nodes are added.
+-- The memory of a form, and the registers that its code keeps, are the same when nodes are added.
 use Rattle.treecode.proofs.Prelude.{◌≡◌, ℕ, ◌<◌, ◌≤◌, ◌&&◌, Bool, false, List, Option, Some, None, is_some, slice_get, refl, sym, ap, ◌∙◌, arith, cond, nat_lt, option_map_or, option_and_then, ScalarType, BinaryOperator, ShiftFunction, ShiftLeft, ShiftRight, RotateLeft, RotateRight, Low, High, Double, Expression, ExpressionForm, ExpressionNumber, Home, Place, Reference, Target, Traits, known_number, Nodes, home_at, byte_after, form_at, has_immediate, high_in_memory, is_direct, is_free_form, is_free_of, is_free_with, is_of_low_byte, keeps_none, keeps_of, keeps_of_address, keeps_of_binary, keeps_of_byte, keeps_of_extended, keeps_of_form, keeps_of_index, keeps_of_part, keeps_of_shift, keeps_of_subscript, keeps_of_value, height_of_form, is_quiet_form, stores_nothing_in_form, known_of, memory_of_form, memory_of_inner, number_at, place_of_reference, same_low_byte, traits_at, traits_of, SubscriptIsBelow, ReferenceIsBelow, TargetIsBelow, PartsAreBelow, NumbersRise}
 use Rattle.trees.specs.declared.declaration.ScalarType.TheVariants as scalars
 use Rattle.trees.specs.declared.expression.BinaryOperator.TheVariants as operators
@@ -8,7 +8,7 @@ use Rattle.treecode.specs.declared.reference.Target.TheVariants as targets
 use Rattle.treecode.specs.declared.traits.Keeps.{Keeps}
 use Rattle.treecode.proofs.SameTraits.{both, same_height, same_known, same_place, same_quiet, same_storing, same_traits}
 
--- what is below a bound is below a greater one
+-- a number below a bound is below a greater one
 subscript_up : (bound greater : ℕ) → bound ≤ greater → (index : Option Subscript)
     → SubscriptIsBelow bound index
     → SubscriptIsBelow greater index
@@ -70,7 +70,7 @@ module _ (before after : Nodes) (bound : ℕ)
     (given : (index : ℕ) (number : ExpressionNumber) → slice_get before.arguments index ≡ Some number
     → slice_get after.arguments index ≡ Some number)
     (rises : NumbersRise before) where
-  -- the form of a part, and that its parts are below
+  -- the form of a part; its parts are below the bound
   form_below : (number : ExpressionNumber) (form : ExpressionForm) → number.index < bound
       → PartsAreBelow before bound form → PartsAreBelow before bound (form_at before number form)
   form_below number form less below = found (slice_get before.expressions number.index) refl
@@ -335,7 +335,7 @@ module _ (before after : Nodes) (bound : ℕ)
   keeps_same scalar (Some place) form below = refl
   keeps_same scalar None form below = keeps_form_same scalar form below
 
-  -- all that is kept with a form is the same
+  -- all traits of a form are the same
   pub all_same : (scalar : ScalarType) (form : ExpressionForm) → PartsAreBelow before bound form
       → traits_of after scalar form ≡ traits_of before scalar form
   unfolding traits_of

@@ -1,10 +1,10 @@
--- What a form of nodes that there are keeps is the same when others are added after them.
+-- The traits of a form of nodes are the same when others are added after them.
 use Rattle.treecode.proofs.Prelude.{◌≡◌, ℕ, zero, suc, ◌+◌, ◌<◌, ◌&&◌, Bool, List, Option, Some, None, option_map, max, min, slice_get, refl, sym, ap, ◌∙◌, subst, arith, option_map_or, option_and_then, ScalarType, result_of_one, shifted, Expression, ExpressionForm, ExpressionNumber, Home, Number, Reference, Target, Traits, converted_place, function_of_place, known_distance, known_number, place_of_part, result_of_known, shift_of_known, Nodes, home_at, distance_of, height_of_argument, height_of_arguments, height_of_form, height_of_reference, height_of_subscript, height_of_target, is_quiet_form, known_of, no_traits, place_of_reference, reference_is_quiet, reference_stores_nothing, stores_nothing_in_form, subscript_is_quiet, subscript_stores_nothing, traits_at, SubscriptIsBelow, ReferenceIsBelow, TargetIsBelow, ArgumentsAreBelow, PartsAreBelow}
 use Rattle.treecode.specs.declared.expression.ExpressionForm.TheVariants as forms
 use Rattle.treecode.specs.declared.reference.Subscript.{Subscript}
 use Rattle.treecode.specs.declared.reference.Target.TheVariants as targets
 
--- two paths under a function of two
+-- two paths through a function of two arguments
 pub both : {A B C : Type 0} (f : A → B → C) {a b : A} {c d : B} → a ≡ b → c ≡ d → f a c ≡ f b d
 both f {b = b} {c = c} e g = ap (λ x. f x c) e ∙ ap (f b) g
 
@@ -93,7 +93,7 @@ module _ (before after : Nodes) (bound : ℕ)
       (same_arguments_height (suc first) count
       (λ (index : ℕ) less. next_below first count index (below (suc index) (omega arith))))
     where
-      -- an argument of those after the first
+      -- an argument after the first
       next_below : (first count index : ℕ)
           → ((number : ExpressionNumber) × (slice_get before.arguments (first + suc index) ≡ Some number)
           × (number.index < bound))

@@ -1,4 +1,4 @@
--- The views of statements that hold lists, and what is added for them, step by step.
+-- The views of statements with lists, and the nodes added for them, step by step.
 use Rattle.treecode.proofs.Prelude.{◌≡◌, Bool, true, Result, IfOk, sym, ap, ◌∙◌, subst, arith, the_lemmas, TypedExpression, TypedIteration, TypedStatement, TypedStatements, TypedList, DoStatement, WhileStatement, IterateStatement, CaseStatement, expression_view, iteration_view, list_view, statement_view, statements_view, Storage, ExpressionNumber, Iteration, AddedList, AddedStatement, ends_by, number_at, Walk, iteration_in, list_in, put_case, put_do, put_iterate, put_statement, put_while, statement_in, statements_in, value_in}
 use Rattle.typed_trees.specs.declared.statement.TypedStatement.{TypedStatement as Statement}
 use Rattle.typed_trees.specs.declared.statement.TypedStatement.TheVariants as variants

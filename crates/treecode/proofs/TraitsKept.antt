@@ -1,10 +1,11 @@
--- Nodes keep their traits, and their numbers rise, when an expression is added with its own traits.
+-- The traits of nodes follow from their parts, and their numbers rise, when an expression is added with its
+-- own traits.
 use Rattle.treecode.proofs.Prelude.{◌≡◌, ◌⊎◌, ℕ, zero, suc, ◌<◌, ◌≤◌, List, [], ◌∷◌, ◌++◌, length, Option, Some, None, slice_get, inl, inr, refl, sym, ap, ◌∙◌, subst, arith, slice_get_within, ScalarType, Expression, ExpressionForm, ExpressionNumber, Nodes, KeepTraits, expression_of, traits_of, PartsAreBelow, NumbersRise}
 use Rattle.treecode.specs.declared.expression.ExpressionForm.TheVariants as forms
 use Rattle.treecode.proofs.Grown.{nothing_found}
 use Rattle.treecode.proofs.SameMemory.{all_same, parts_up}
 
--- below its length a list with more after it is as before
+-- below its length, a list with more after it is the same
 pub same_before : {A : Type 0} (xs ys : List A) (index : ℕ) → index < length xs
     → slice_get (xs ++ ys) index ≡ slice_get xs index
 same_before [] ys index below = absurd (omega arith)
@@ -19,7 +20,7 @@ same_found : {A : Type 0} {a b : A} → Some a ≡ Some b → a ≡ b
 unfolding or_else
 same_found {a = a} e = ap (λ one. or_else a one) e
 
--- what is found in a list with one more is in the list, or is the one
+-- an item of a list with one more is in the list, or is the last one
 pub found_or_last : {A : Type 0} (xs : List A) (last x : A) (index : ℕ)
     → slice_get (xs ++ last ∷ []) index ≡ Some x
     → (slice_get xs index ≡ Some x) ⊎ ((index ≡ length xs) × (last ≡ x))
@@ -29,11 +30,11 @@ found_or_last (first ∷ xs) last x zero e = inl e
 found_or_last (first ∷ xs) last x (suc index) e =
     elim (found_or_last xs last x index e) [ inl found ↦ inl found | inr is ↦ inr (ap suc is.0, is.1) ]
 
--- nodes with an expression more
+-- nodes with one more expression
 abbrev pub with_expression : Nodes → Expression → Nodes
 with_expression nodes expression = record nodes { expressions = nodes.expressions ++ expression ∷ [] }
 
--- the parts of a form are below where an expression is added
+-- the parts of a form are below the number of the added expression
 parts_stay : (nodes : Nodes) (added : Expression) (bound : ℕ) (form : ExpressionForm)
     → PartsAreBelow nodes bound form → PartsAreBelow (with_expression nodes added) bound form
 parts_stay nodes added bound (forms.Number number) parts = parts
@@ -46,7 +47,7 @@ own_scalar nodes scalar form = refl
 
 module _ (nodes : Nodes) (scalar : ScalarType) (form : ExpressionForm) (rises : NumbersRise nodes)
     (below : PartsAreBelow nodes (length nodes.expressions) form) where
-  -- what a form with parts among the nodes keeps is the same afterwards
+  -- the traits of a form with parts among the nodes are the same afterwards
   same_after : (of : ScalarType) (one : ExpressionForm) → PartsAreBelow nodes (length nodes.expressions) one
       → traits_of (with_expression nodes (expression_of nodes scalar form)) of one ≡ traits_of nodes of one
   same_after of one parts =

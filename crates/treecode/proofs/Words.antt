@@ -1,4 +1,4 @@
--- Numbers in tree code have the width of a word.
+-- Numbers in tree code have 16 bits.
 use Rattle.treecode.proofs.Prelude.{◌≡◌, ℕ, zero, suc, ◌<◌, List, [], ◌∷◌, length, Some, slice_get, subst, arith, none-some, same_Some, Expression, FormIsWord, FormsAreWords}
 use Rattle.treecode.specs.declared.expression.ExpressionForm.TheVariants as forms
 

@@ -1,4 +1,4 @@
--- What stands in the segments of a module, and what its PUBLIC names stand for.
+-- The contents of the segments of a module, and its PUBLIC names.
 use Rattle.std.specs.Prelude.{ℕ, ◌+◌, ◌-◌, ◌==◌, min, ◌&&◌, nat_le, nat_lt, List, [], ◌∷◌, ◌++◌, map, filter_map, Option, Some, None, slice_get, sum_by, if◌then◌else◌}
 use Rattle.std.specs.Option.{option_map_or, option_and_then}
 use Rattle.typed_trees.specs.declared.parts.ConstantItem.{ConstantItem}
@@ -20,7 +20,7 @@ use Rattle.treecode.specs.declared.place.Place.TheVariants.{Number}
 use Rattle.treecode.specs.Homes.{external_object, external_procedure, place_after}
 use Rattle.treecode.specs.Nodes.{home_at}
 
--- so many bytes after where an object begins, in memory
+-- the place `distance` bytes after the start of an object in memory
 abbrev pub place_from : Home → (distance : ℕ) → Place
 place_from (homes.Static place) distance = place_after place distance
 place_from home distance = Number distance
@@ -36,7 +36,8 @@ size_of_value (ByteValue byte) = 1
 size_of_value (WordValue word) = 2
 size_of_value (LocationValue object offset) = 2
 
--- after contents so many bytes that are not set, as one gap with those just before where it has 65535 at most
+-- contents followed by `count` unset bytes, joined with a gap just before if one gap holds both (65535 at
+-- most)
 abbrev pub with_gap : List Content → (count : ℕ) → List Content
 with_gap [] count = contents.Gap count ∷ []
 with_gap (contents.Gap before ∷ []) count =
@@ -47,7 +48,7 @@ with_gap (first ∷ others) count = first ∷ with_gap others count
 abbrev pub with_gap_if_any : List Content → (count : ℕ) → List Content
 with_gap_if_any before count = if count == 0 then before else with_gap before count
 
--- the bytes of an object after contents, filled by values from its start on
+-- contents followed by the bytes of an object, with values from its start on
 abbrev pub with_object : List Home → TypedObject → List InitialValue → List Content → List Content
 with_object starts object values before =
     with_gap_if_any (before ++ map (content_of starts) values)
@@ -61,7 +62,7 @@ abbrev pub static_object : List Home → TypedObject → TypedHome → List Cont
 static_object starts object (InData values) before = with_object starts object values before
 static_object starts object home before = before
 
--- an object with DATA or a constant list, after contents
+-- contents followed by an object with DATA or a constant list
 abbrev pub with_constant : TypedModule → List Home → ConstantItem → List Content → List Content
 with_constant typed starts (ConstantObject number) before =
     option_map_or (λ (object : TypedObject). constant_object starts object object.home before)
@@ -75,7 +76,7 @@ constants_from typed starts before [] = before
 constants_from typed starts before (item ∷ others) =
     constants_from typed starts (with_constant typed starts item before) others
 
--- what the code segment begins with: the objects with DATA and the constant lists, in the order of the text
+-- the start of the code segment: the objects with DATA and the constant lists, in the order of the text
 unfoldable pub constants_of : TypedModule → List Home → List Content
 constants_of typed starts = constants_from typed starts [] typed.constants.items
 
@@ -88,12 +89,12 @@ variables_from starts before (object ∷ others) =
 unfoldable pub variables_of : TypedModule → List Home → List Content
 variables_of typed starts = variables_from starts [] typed.objects
 
--- where an object begins in memory
+-- the place in memory where an object begins
 abbrev pub static_place : Home → Place
 static_place (homes.Static place) = place
 static_place home = Number 0
 
--- what the name of an object stands for in other modules, unless it is EXTERNAL
+-- the PUBLIC name of an object and its place, if it is PUBLIC
 abbrev pub public_object : List Home → (number : ℕ) → TypedObject → Option PublicName
 public_object starts number object = unless (external_object object.home object.name)
   where
@@ -104,7 +105,7 @@ public_object starts number object = unless (external_object object.home object.
       place = public_places.Object (static_place (home_at starts number));
     })
 
--- what the name of a procedure stands for in other modules, unless it is EXTERNAL
+-- the PUBLIC name of a procedure and its place, if it is PUBLIC
 abbrev pub public_procedure : (number : ℕ) → TypedProcedure → Option PublicName
 public_procedure number procedure = unless (external_procedure procedure.visibility procedure.name)
   where

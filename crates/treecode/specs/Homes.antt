@@ -1,4 +1,4 @@
--- Where the objects of a module begin, and what its EXTERNAL names are.
+-- The places where the objects of a module begin, and its EXTERNAL names.
 use Rattle.std.specs.Prelude.{ℕ, suc, ◌+◌, ◌%◌, ◌==◌, min, Bool, false, nat_lt, List, [], ◌∷◌, ◌++◌, length, map, zip, filter, filter_map, take, Option, Some, None, option_map, slice_get, slice_index_or, unwrap_or, is_some, if◌then◌else◌}
 use Rattle.std.specs.List.{enumerate_from}
 use Rattle.std.specs.Option.{option_and_then}
@@ -27,14 +27,14 @@ use Rattle.treecode.specs.declared.procedure.ProcedureKind.{ProcedureKind}
 use Rattle.treecode.specs.declared.procedure.ProcedureKind.TheVariants as kinds
 use Rattle.treecode.specs.Nodes.{home_at}
 
--- the place so many bytes further on, modulo the size of memory
+-- the place `distance` bytes further on, modulo the size of memory
 abbrev pub place_after : Place → (distance : ℕ) → Place
 place_after (Number number) distance = Number ((number + distance) % 65536)
 place_after (Code offset) distance = Code ((offset + distance) % 65536)
 place_after (Data offset) distance = Data ((offset + distance) % 65536)
 place_after (External offset name) distance = External ((offset + distance) % 65536) name
 
--- the number that a place is, if it depends on nothing
+-- the number, if the place is one
 abbrev pub number_of_place : Place → Option ℕ
 number_of_place (Number number) = Some number
 number_of_place place = None
@@ -44,7 +44,7 @@ location_after (locations.Static place) distance = locations.Static (place_after
 location_after (locations.Frame variable offset) distance =
     locations.Frame variable ((offset + distance) % 65536)
 
--- where a scalar lies, by where it begins
+-- the location of a scalar, by its home
 abbrev pub location_of : Home → Location
 location_of (homes.Static place) = locations.Static place
 location_of (homes.Based base) = base
@@ -79,12 +79,12 @@ abbrev pub is_global_procedure : (number : ℕ) → GlobalItem → Bool
 is_global_procedure number (GlobalObject other) = false
 is_global_procedure number (GlobalProcedure other) = other == number
 
--- the later one of two that may be found
+-- the later one of two, if it is there; else the earlier one
 abbrev pub latest : (earlier later : Option ℕ) → Option ℕ
 latest earlier None = earlier
 latest earlier (Some later) = Some later
 
--- the index among the EXTERNAL names of an object or a procedure, where those before have so many names
+-- the index of an object or a procedure among the EXTERNAL names, if `count` names come before
 abbrev pub external_from : TypedModule → (GlobalItem → Bool) → (count : ℕ) → List GlobalItem → Option ℕ
 external_from typed wanted count [] = None
 external_from typed wanted count (item ∷ others) =
@@ -95,7 +95,7 @@ external_from typed wanted count (item ∷ others) =
 abbrev pub external_number : TypedModule → (GlobalItem → Bool) → Option ℕ
 external_number typed wanted = external_from typed wanted 0 typed.globals
 
--- which parameter of its procedure an object is, counted from 0
+-- the index of an object among the parameters of its procedure, counted from 0
 abbrev pub parameter_from : (object index : ℕ) → List ℕ → Option ℕ
 parameter_from object index [] = None
 parameter_from object index (parameter ∷ others) =
@@ -106,7 +106,7 @@ parameter_number [] object = None
 parameter_number (procedure ∷ others) object =
     latest (parameter_from object 0 procedure.parameters) (parameter_number others object)
 
--- whether an object lives in the frame of a procedure
+-- whether an object is in the frame of a procedure
 abbrev pub lives_in_frame : (procedure : ℕ) → TypedHome → Bool
 lives_in_frame procedure (InFrame other) = procedure == other
 lives_in_frame procedure home = false
@@ -126,7 +126,7 @@ abbrev pub frame_variables : TypedModule → (procedure : ℕ) → List FrameVar
 frame_variables typed procedure =
     map (frame_variable typed) (filter (numbered_in_frame procedure) (enumerate_from 0 typed.objects))
 
--- how many objects before one live in the frame of a procedure
+-- the number of objects in the frame of a procedure before the one with this number
 abbrev pub frame_position : TypedModule → (procedure number : ℕ) → ℕ
 frame_position typed procedure number =
     length
@@ -147,17 +147,17 @@ abbrev pub place_of_slot : Option Slot → Place
 place_of_slot None = Number 0
 place_of_slot (Some slot) = place_in_segment slot.segment slot.offset
 
--- so many bytes after where an object begins; a BASED one has no place of its own
+-- the home `distance` bytes further on; a BASED one has no place of its own
 abbrev pub home_after : Home → (distance : ℕ) → Home
 home_after (homes.Static place) distance = homes.Static (place_after place distance)
 home_after home distance = homes.Static (Number distance)
 
--- what an EXTERNAL object stands for
+-- the place of an EXTERNAL object
 abbrev pub external_place : Option ℕ → Place
 external_place None = Number 0
 external_place (Some name) = External 0 name
 
--- Where an object begins, by where it lives. Those that AT and BASED name stand before it.
+-- The start of an object. The objects that AT and BASED name come before it.
 abbrev pub home_of_object : TypedModule → Storage → (before : List Home) → (number : ℕ) → TypedHome → Home
 home_of_object typed storage before number (InData values) =
     homes.Static (place_of_slot (slice_index_or storage.objects number None))
@@ -173,28 +173,28 @@ home_of_object typed storage before number Nowhere = homes.Static (Number 0)
 home_of_object typed storage before number (InFrame procedure) =
     homes.Frame (frame_number typed procedure number)
 
--- where objects begin, after those before
+-- the homes of objects, after those before
 abbrev pub homes_from : TypedModule → Storage → (before : List Home) → List TypedObject → List Home
 homes_from typed storage before [] = before
 homes_from typed storage before (object ∷ others) =
     homes_from typed storage
     (before ++ home_of_object typed storage before (length before) object.home ∷ []) others
 
--- where each object of a module begins, by its number
+-- the home of each object of a module, by its number
 unfoldable pub homes_of : TypedModule → Storage → List Home
 homes_of typed storage = homes_from typed storage [] typed.objects
 
--- how a procedure comes to its code, by its index among the EXTERNAL names, if it has one there
+-- the kind of a procedure, from its index among the EXTERNAL names, if it has one
 abbrev pub kind_with : (external : Option ℕ) → Visibility → (is_reentrant : Bool) → ProcedureKind
 kind_with external visibilities.External is_reentrant = kinds.External (unwrap_or external 0)
 kind_with external visibility is_reentrant = if is_reentrant then kinds.Reentrant else kinds.Static
 
--- how the procedure of a number comes to its code
+-- the kind of the procedure with this number
 abbrev pub kind_of : TypedModule → (number : ℕ) → TypedProcedure → ProcedureKind
 kind_of typed number procedure =
     kind_with (external_number typed (is_global_procedure number)) procedure.visibility procedure.is_reentrant
 
--- the parameters of a procedure, each where its object begins
+-- the parameters of a procedure, each at the home of its object
 abbrev pub parameter_at : List Home → ScalarType × ℕ → Parameter
 parameter_at starts typed_object = record {
   scalar = typed_object.0;

@@ -1,4 +1,4 @@
--- Values that are known but for where the segments of the module and the names of other modules will lie.
+-- Values that are known as numbers or relocatable addresses.
 use Rattle.std.specs.Prelude.{ℕ, ◌-◌, ◌*◌, ◌%◌, List, Option, Some, None, option_map, slice_get}
 use Rattle.std.specs.Option.{option_map_or, option_and_then}
 use Rattle.trees.specs.declared.declaration.ScalarType.{ScalarType}
@@ -18,30 +18,30 @@ use Rattle.treecode.specs.declared.place.Place.TheVariants.{Number, Code}
 use Rattle.treecode.specs.Homes.{number_of_place, place_after}
 use Rattle.treecode.specs.Nodes.{home_at}
 
--- the number that is known
+-- the value, if it is a number
 abbrev pub known_number : Option Place → Option ℕ
 known_number known = option_and_then number_of_place known
 
--- a known value as one of a type: where something lies has no low byte that is known
+-- a known value converted to a type; the low byte of a relocatable address is not known
 abbrev pub converted_place : ScalarType → Place → Option Place
 converted_place scalar (Number number) = Some (Number (as_type scalar number))
 converted_place Address place = Some place
 converted_place Byte place = None
 
--- what LOW, HIGH or DOUBLE gives of a known value
+-- the result of LOW, HIGH or DOUBLE on a known value
 abbrev pub function_of_place : UnaryFunction → Place → Option Place
 function_of_place function (Number number) = Some (Number (function_of function number))
 function_of_place Double place = Some place
 function_of_place function place = None
 
--- what an operator gives of two ADDRESS values of which one is no number
+-- the result of an operator on two known ADDRESS values that are not both numbers
 abbrev pub result_of_place : BinaryOperator → (left right : Place) → Option Place
 result_of_place Add left (Number distance) = Some (place_after left distance)
 result_of_place Add (Number distance) right = Some (place_after right distance)
 result_of_place Subtract left (Number distance) = Some (place_after left ((65536 - distance) % 65536))
 result_of_place operator left right = None
 
--- what an operator gives of two known values
+-- the result of an operator on two known values
 abbrev pub result_of_places : ScalarType → BinaryOperator → (left right : Place) → Option Place
 result_of_places operands operator (Number left) (Number right) =
     option_map Number (result_of operands operator left right)
@@ -51,16 +51,16 @@ abbrev pub result_of_known : ScalarType → BinaryOperator → (left right : Opt
 result_of_known operands operator left right =
     option_and_then (λ first. option_and_then (result_of_places operands operator first) right) left
 
--- what a shift gives of two known numbers
+-- the result of a shift on two known numbers
 abbrev pub shift_of_known : (ℕ → ℕ → ℕ) → (number count : Option ℕ) → Option Place
 shift_of_known shift number count =
     option_and_then (λ value. option_map (λ by. Number (shift value by)) count) number
 
--- how many bytes a subscript with a known value adds to an address
+-- the number of bytes that a subscript with a known value adds to an address
 abbrev pub known_distance : (stride : ℕ) → (index : Option ℕ) → Option ℕ
 known_distance stride index = option_map (λ number. (number * stride) % 65536) index
 
--- the place of a part of an object, whose subscripts add so many bytes
+-- the place of a part of an object, from the number of bytes that each subscript adds
 abbrev pub place_of_part : Home → (offset : ℕ) → (first second : Option ℕ) → Option Place
 place_of_part (homes.Static place) offset first second =
     option_and_then
@@ -68,13 +68,13 @@ place_of_part (homes.Static place) offset first second =
     first
 place_of_part home offset first second = None
 
--- where a constant list lies, from the start of the code segment
+-- the address of a constant list, as an offset from the start of the code segment
 abbrev pub offset_of_list : Storage → (list : ℕ) → ℕ
 offset_of_list storage list =
     option_map_or (λ (slot : Slot). slot.offset % 65536) (slice_get storage.lists list) 0
 
 abbrev mutual
-  -- The value of an expression, exact in its type, where it is known but for where things lie.
+  -- The value of an expression, exact in its type, if it is known as a number or a relocatable address.
   pub known_value : List Home → Storage → TypedExpression → Option Place
   known_value starts storage (NumberNode scalar number origin) = Some (Number number)
   known_value starts storage (ValueNode scalar reference) = None
@@ -96,13 +96,13 @@ abbrev mutual
       (known_number (known_value starts storage count))
   known_value starts storage (InputNode port) = None
 
-  -- the place of an object or a part of it, where that is known but for where things lie
+  -- the place of an object or a part of it, if known
   pub known_place : List Home → Storage → TypedReference → Option Place
   known_place starts storage (PartOf object subscript member offset member_subscript) =
       place_of_part (home_at starts object) (offset % 65536) (known_subscript starts storage subscript)
       (known_subscript starts storage member_subscript)
 
-  -- how many bytes a subscript, if there is one, adds to an address
+  -- the number of bytes that a subscript, if there is one, adds to an address, if known
   pub known_subscript : List Home → Storage → Subscript → Option ℕ
   known_subscript starts storage NoSubscript = Some 0
   known_subscript starts storage (At stride count index) =

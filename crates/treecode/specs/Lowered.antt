@@ -1,5 +1,5 @@
--- Tree code as a typed module in another form: which numbered nodes are which typed tree, and where its
--- objects, its constants and its names lie.
+-- The relation between tree code and a typed module: which numbered nodes represent which typed tree, and
+-- where its objects, constants and names are placed.
 use Rattle.std.specs.Prelude.{◌≡◌, ℕ, suc, ◌%◌, ◌<◌, min, Bool, true, false, not, ◌||◌, List, [], ◌∷◌, ◌++◌, length, Option, Some, None, slice_get}
 use Rattle.trees.specs.declared.declaration.ScalarType.{ScalarType}
 use Rattle.trees.specs.declared.expression.BinaryOperator.{BinaryOperator}
@@ -36,7 +36,7 @@ use Rattle.treecode.specs.Nodes.{Nodes, nodes_of}
 use Rattle.treecode.specs.Traits.{KeepTraits}
 
 mutual
-  -- the expression of a number, which is below a bound, is a tree
+  -- the expression with this number, which is below a bound, represents a tree
   pub data IsExpression (nodes : Nodes) (storage : Storage) :
       (bound number : ℕ) → TypedExpression → Type 0 where
     IsNode : {bound number : ℕ} {tree : TypedExpression} {expression : Expression}
@@ -46,7 +46,7 @@ mutual
         → IsForm nodes storage number expression.form tree
         → IsExpression nodes storage bound number tree
 
-  -- a form is that of a tree, whose parts have numbers below a bound
+  -- a form represents a tree; its parts have numbers below a bound
   pub data IsForm (nodes : Nodes) (storage : Storage) :
       (bound : ℕ) → ExpressionForm → TypedExpression → Type 0 where
     IsNumber : {bound number : ℕ} {scalar : ScalarType} {origin : NumberOrigin}
@@ -90,7 +90,7 @@ mutual
         → IsForm nodes storage bound (forms.Shift function value count) (ShiftNode scalar function shifted by)
     IsInput : {bound port : ℕ} → IsForm nodes storage bound (forms.Input port) (InputNode port)
 
-  -- a part of an object: numbers of bytes are taken modulo the size of memory
+  -- a part of an object; its offsets are taken modulo the size of memory
   pub data IsReference (nodes : Nodes) (storage : Storage) :
       (bound : ℕ) → Reference → TypedReference → Type 0 where
     IsPart : {bound object offset : ℕ} {member : Option ℕ} {first second : Option IndexNode}
@@ -120,7 +120,7 @@ mutual
     IsSent : {bound port : ℕ} {from : ScalarType}
         → IsTarget nodes storage bound (targets.Sent from port) (SentTo from port)
 
-  -- so many arguments stand in the table of arguments in a row, from a first one on
+  -- `count` arguments in a row, from an index in the table of arguments on
   pub data AreArguments (nodes : Nodes) (storage : Storage) :
       (bound first count : ℕ) → TypedArguments → Type 0 where
     AreNone : {bound first : ℕ} → AreArguments nodes storage bound first 0 NoArguments
@@ -131,12 +131,12 @@ mutual
         → AreArguments nodes storage bound (suc first) count others
         → AreArguments nodes storage bound first (suc count) (MoreArguments tree others)
 
--- the expression of a number, of any in the table, is a tree
+-- the expression with this number, anywhere in the table, represents a tree
 abbrev pub IsExpressionIn : Nodes → Storage → ExpressionNumber → TypedExpression → Type 0
 IsExpressionIn nodes storage number tree =
     IsExpression nodes storage (length nodes.expressions) number.index tree
 
--- an expression that need not be there
+-- an expression that may be absent
 pub data IsOptional (nodes : Nodes) (storage : Storage) :
     Option ExpressionNumber → Option TypedExpression → Type 0 where
   IsNoValue : IsOptional nodes storage None None
@@ -144,7 +144,7 @@ pub data IsOptional (nodes : Nodes) (storage : Storage) :
       → IsExpressionIn nodes storage number tree
       → IsOptional nodes storage (Some number) (Some tree)
 
--- so many targets stand in the table of targets in a row, from a first one on
+-- `count` targets in a row, from an index in the table of targets on
 pub data AreTargets (nodes : Nodes) (storage : Storage) : (first count : ℕ) → List TypedTarget → Type 0 where
   NoTargets : {first : ℕ} → AreTargets nodes storage first 0 []
   MoreTargets : {first count : ℕ} {target : Target} {tree : TypedTarget} {others : List TypedTarget}
@@ -163,8 +163,8 @@ pub record IsIteration
   pub step : IsOptional nodes storage head.step tree.step
 
 mutual
-  -- The statement of a number, which is below a bound, is a tree in a body with these labels. The number of a
-  -- label in its body is its position among them.
+  -- The statement with this number, which is below a bound, represents a tree in a body with these labels.
+  -- The number of a label in its body is its position among them.
   pub data IsStatement (nodes : Nodes) (storage : Storage) (labels : List ℕ) :
       (bound number : ℕ) → TypedStatement → Type 0 where
     IsStatementNode : {bound number : ℕ} {tree : TypedStatement} {statement : Statement}
@@ -238,7 +238,7 @@ mutual
         → IsStatement nodes storage labels bound number.index tree
         → IsElse nodes storage labels bound (Some number) (ElseStatement tree)
 
-  -- so many statements stand in the table of lists in a row, from a first one on
+  -- `count` statements in a row, from an index in the table of lists on
   pub data AreStatements (nodes : Nodes) (storage : Storage) (labels : List ℕ) :
       (bound first count : ℕ) → TypedStatements → Type 0 where
     AreNoStatements : {bound first : ℕ} → AreStatements nodes storage labels bound first 0 NoStatements
@@ -249,14 +249,14 @@ mutual
         → AreStatements nodes storage labels bound (suc first) count others
         → AreStatements nodes storage labels bound first (suc count) (MoreStatements tree others)
 
-  -- a list of statements, whose labels have numbers in the body
+  -- a list of statements; its labels have numbers in the body
   pub data IsList (nodes : Nodes) (storage : Storage) (labels : List ℕ) :
       (bound : ℕ) → Range → TypedList → Type 0 where
     IsListOf : {bound first_label : ℕ} {places : List ℕ} {range : Range} {trees : TypedStatements}
         → AreStatements nodes storage labels bound range.first range.count trees
         → IsList nodes storage labels bound range (ListOf first_label places trees)
 
--- as many numbers as there are places, from a first one on
+-- as many consecutive numbers as there are places, from a first one on
 abbrev pub numbers_from : (first : ℕ) → (places : List ℕ) → List ℕ
 numbers_from first [] = []
 numbers_from first (place ∷ places) = first ∷ numbers_from (suc first) places
@@ -292,13 +292,13 @@ abbrev mutual
   labels_numbered_in_list (ListOf first_label places statements) =
       numbers_from first_label places ++ labels_numbered_in_statements statements
 
--- whether a condition that is known to be true keeps a loop going
+-- whether a loop with this condition can end: it cannot if the condition is known to be true
 abbrev pub ends_by : Option ℕ → Bool
 ends_by None = true
 ends_by (Some number) = not (is_true number)
 
 abbrev mutual
-  -- Whether the end of a statement can be reached, as far as its form and known conditions tell.
+  -- Whether the end of a statement can be reached, judged by its form and by known conditions.
   pub reaches_end : List Home → Storage → TypedStatement → Bool
   reaches_end starts storage (ReturnStatement value) = false
   reaches_end starts storage HaltStatement = false
@@ -314,7 +314,7 @@ abbrev mutual
   reaches_end_of_else starts storage NoElse = true
   reaches_end_of_else starts storage (ElseStatement statement) = reaches_end starts storage statement
 
-  -- that of the last statement; where there is none, what is given
+  -- that of the last statement; without statements, the given answer
   pub reaches_end_of_statements : List Home → Storage → Bool → TypedStatements → Bool
   reaches_end_of_statements starts storage before NoStatements = before
   reaches_end_of_statements starts storage before (MoreStatements first others) =
@@ -335,7 +335,7 @@ pub record HasBody (nodes : Nodes) (storage : Storage) (procedure : TreeProcedur
   pub reaches_its_end : procedure.reaches_its_end ≡ reaches_end_of_list nodes.homes storage true tree.body
   pub height : procedure.height ≡ min (height_of_list tree.body) 65535
 
--- a procedure of a number
+-- the procedure with this number
 pub record IsProcedure
     (typed : TypedModule) (nodes : Nodes) (storage : Storage) (number : ℕ)
     (procedure : TreeProcedure) (tree : TypedProcedure) : Type 0 where
@@ -345,7 +345,7 @@ pub record IsProcedure
   pub frame_bytes : procedure.frame_bytes ≡ tree.frame_bytes
   pub has_body : HasBody nodes storage procedure tree
 
--- Tree code is a typed module with its storage.
+-- Tree code represents a typed module with its storage.
 pub record IsLowered (typed : TypedModule) (storage : Storage) (tree : TreeModule) : Type 0 where
   pub name : tree.name ≡ typed.name
   pub homes : tree.homes.items ≡ homes_of typed storage

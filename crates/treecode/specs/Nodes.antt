@@ -1,4 +1,4 @@
--- The tables of nodes of a module, and what an object or an expression of a number is.
+-- The tables of nodes of a module, and the objects and expressions by their numbers.
 use Rattle.std.specs.Prelude.{◌≡◌, ◌+◌, ◌<◌, nat_lt, Option, Some, None, slice_get, if◌then◌else◌, ℕ, List, slice_index_or}
 use Rattle.std.specs.Option.{option_and_then}
 use Rattle.treecode.specs.declared.expression.Expression.{Expression}
@@ -13,7 +13,7 @@ use Rattle.treecode.specs.declared.reference.Target.{Target}
 use Rattle.treecode.specs.declared.statement.Statement.{Statement}
 use Rattle.treecode.specs.declared.statement.StatementNumber.{StatementNumber}
 
--- where each object begins, and the tables of nodes
+-- the homes of the objects, and the tables of nodes
 pub record Nodes : Type 0 where
   pub homes : List Home
   pub expressions : List Expression
@@ -32,11 +32,11 @@ nodes_of tree = record {
   lists = tree.lists.items;
 }
 
--- where an object begins; the address 0 where there is none of that number
+-- the home of an object; the address 0 if there is no object with this number
 abbrev pub home_at : List Home → (object : ℕ) → Home
 home_at homes object = slice_index_or homes object (Static (Number 0))
 
--- which entry of its table an item of a range is, counted from 0
+-- the index in its table of an item of a range, counted from 0
 abbrev pub entry_of : Range → (index : ℕ) → Option ℕ
 entry_of range index = if nat_lt index range.count then Some (range.first + index) else None
 
@@ -44,7 +44,7 @@ entry_of range index = if nat_lt index range.count then Some (range.first + inde
 abbrev pub item_of : {A : Type 0} → List A → Range → (index : ℕ) → Option A
 item_of table range index = option_and_then (slice_get table) (entry_of range index)
 
--- numbers in tree code have the width of a word
+-- numbers in tree code have 16 bits
 abbrev pub NumbersAreWords : Nodes → Type 0
 NumbersAreWords nodes =
     (index number : ℕ) (found : Expression)

@@ -1,4 +1,4 @@
--- What code asks of places, and of the nodes of a module.
+-- Queries about places, and about the nodes of a module.
 use Rattle.std.specs.Prelude.{ℕ, ◌+◌, min, max, Option, Some, None, slice_get}
 use Rattle.std.specs.Option.{option_map_or}
 use Rattle.trees.specs.declared.declaration.ScalarType.{ScalarType}
@@ -23,15 +23,15 @@ use Rattle.treecode.specs.Homes as places
 use Rattle.treecode.specs.Nodes.{home_at, item_of, nodes_of}
 use Rattle.treecode.specs.Traits as kept
 
--- the number that a place is, if it depends on nothing
+-- the number, if the place is one
 abbrev pub place_number : Place → Option ℕ
 place_number place = places.number_of_place place
 
--- where an object begins; the address 0 where there is none of that number
+-- the home of an object; the address 0 if there is no object with this number
 abbrev pub home : TreeModule → (object : ℕ) → Home
 home tree object = home_at tree.homes.items object
 
--- the expression of a number
+-- the expression with this number
 abbrev pub tree_expression : TreeModule → ExpressionNumber → Option Expression
 tree_expression tree number = slice_get tree.expressions.items number.index
 
@@ -46,7 +46,7 @@ abbrev pub low_byte_at : TreeModule → ExpressionNumber → ExpressionNumber
 low_byte_at tree number =
     option_map_or (λ (found : Expression). inside number found.form) (tree_expression tree number) number
 
--- the statement of a number
+-- the statement with this number
 abbrev pub statement : TreeModule → StatementNumber → Option Statement
 statement tree number = slice_get tree.statements.items number.index
 
@@ -62,49 +62,49 @@ target tree targets index = item_of tree.targets.items targets index
 abbrev pub item : TreeModule → Range → (index : ℕ) → Option StatementNumber
 item tree list index = item_of tree.lists.items list index
 
--- no register is kept, and both are
+-- no register is kept; both are
 abbrev pub none_kept : Keeps
 none_kept = kept.keeps_none
 
 abbrev pub all_kept : Keeps
 all_kept = kept.keeps_both
 
--- nothing is known of an expression
+-- the traits of an unknown expression
 abbrev pub no_traits : Traits
 no_traits = kept.no_traits
 
--- what is known of an expression; nothing where there is none of that number
+-- the traits of an expression; those of an unknown one if there is none with this number
 abbrev pub traits : TreeModule → ExpressionNumber → Traits
 traits tree number = kept.traits_at (nodes_of tree) number
 
--- the number that an expression is, where it is known and depends on nothing
+-- the value of an expression, if it is known as a number
 abbrev pub tree_number : TreeModule → ExpressionNumber → Option ℕ
 tree_number tree number = kept.number_at (nodes_of tree) number
 
--- one more than the number of an expression
+-- the number of an expression plus 1
 abbrev pub number_bound : ExpressionNumber → ℕ
 number_bound number = min (number.index + 1) 4294967295
 
--- one more than the number of the index of a subscript, 0 where there is none
+-- the number of the index of a subscript plus 1; 0 if absent
 abbrev pub subscript_bound : Option Subscript → ℕ
 subscript_bound None = 0
 subscript_bound (Some subscript) = number_bound subscript.index
 
--- one more than the greatest number of an expression in a reference, 0 where there is none
+-- the greatest number of an expression in a reference plus 1; 0 if it has no expression
 abbrev pub reference_bound : Reference → ℕ
 reference_bound reference =
     max (subscript_bound reference.subscript) (subscript_bound reference.member_subscript)
 
--- one more than the greatest number of an expression in a target, 0 where there is none
+-- the greatest number of an expression in a target plus 1; 0 if it has no expression
 abbrev pub target_bound : Target → ℕ
 target_bound (Stored from to reference) = reference_bound reference
 target_bound (Sent from port) = 0
 
--- the type of the value that goes to a target
+-- the type of the value that is assigned to a target
 abbrev pub source : Target → ScalarType
 source (Stored from to reference) = from
 source (Sent from port) = from
 
--- what the code that puts the address of an object or a part of it into HL keeps
+-- the registers that the code putting the address of an object or a part of it into HL keeps
 abbrev pub keeps_of_reference : TreeModule → Reference → Keeps
 keeps_of_reference tree reference = kept.keeps_of_address (nodes_of tree) reference

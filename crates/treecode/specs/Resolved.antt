@@ -1,4 +1,4 @@
--- What is asked of a placement and of typed trees so that known values are what expressions mean.
+-- Conditions on a placement and on typed trees under which known values are the values of expressions.
 use Rattle.std.specs.Prelude.{◌≡◌, ℕ, ◌+◌, ◌%◌, ◌<◌, Bool, List, length, None}
 use Rattle.mem80.specs.declared.memory.TheConstants.{MEMORY_SIZE}
 use Rattle.typed_trees.specs.ExpressionTypes.{type_of}
@@ -15,7 +15,7 @@ use Rattle.treecode.specs.Homes.{number_of_place, place_after}
 use Rattle.treecode.specs.Known.{offset_of_list}
 use Rattle.treecode.specs.Nodes.{home_at}
 
--- The places of a module have addresses where its program lies: those at which its objects and lists begin.
+-- The places of a module have addresses in the program: those of the objects and lists that begin there.
 pub record Resolves
     (around : Surroundings) (starts : List Home) (storage : Storage) (address : Place → ℕ) : Type 0 where
   pub number : (number : ℕ) → address (Number number) ≡ number
@@ -30,7 +30,8 @@ pub record Resolves
       ≡ Gave (InMemory ((address place + bytes) % MEMORY_SIZE)) s
 
 abbrev mutual
-  -- The operands of each operator in an expression are of its type, and its constant lists are among so many.
+  -- The operands of each operator in an expression have its type, and its constant lists are among the first
+  -- `lists`.
   pub HaveOperands : (lists : ℕ) → TypedExpression → Type 0
   HaveOperands lists (NumberNode scalar number origin) = Unit {0}
   HaveOperands lists (ValueNode scalar reference) = PartHasOperands lists reference

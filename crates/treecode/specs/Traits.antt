@@ -1,4 +1,4 @@
--- What is kept with each expression, as functions of its form and of what is kept with its parts.
+-- The traits of each expression, as functions of its form and of the traits of its parts.
 use Rattle.std.specs.Prelude.{◌≡◌, ℕ, zero, suc, ◌+◌, ◌%◌, min, max, Bool, true, false, not, ◌&&◌, ◌||◌, nat_lt, Option, Some, None, is_some, option_map, slice_get, if◌then◌else◌}
 use Rattle.std.specs.Option.{option_map_or, option_and_then}
 use Rattle.trees.specs.declared.declaration.ScalarType.{ScalarType}
@@ -36,7 +36,7 @@ keeps_both = record { a = true; de = true }
 abbrev pub keeps_none : Keeps
 keeps_none = record { a = false; de = false }
 
--- what is known of an expression of which nothing is known
+-- the traits of an unknown expression
 abbrev pub no_traits : Traits
 no_traits = record {
   known = None;
@@ -48,7 +48,7 @@ no_traits = record {
   keeps = keeps_none;
 }
 
--- what is kept with the expression of a number
+-- the traits of the expression with this number
 abbrev pub traits_at : Nodes → ExpressionNumber → Traits
 traits_at nodes number =
     option_map_or (λ (expression : Expression). expression.traits) (slice_get nodes.expressions number.index)
@@ -60,19 +60,19 @@ known_at nodes number = (traits_at nodes number).known
 abbrev pub number_at : Nodes → ExpressionNumber → Option ℕ
 number_at nodes number = known_number (known_at nodes number)
 
--- how many bytes a subscript, if there is one, adds to an address, where that is known
+-- the number of bytes that a subscript, if there is one, adds to an address, if known
 abbrev pub distance_of : Nodes → Option Subscript → Option ℕ
 distance_of nodes None = Some 0
 distance_of nodes (Some subscript) = known_distance subscript.stride (number_at nodes subscript.index)
 
--- the place in memory of an object or a part of it, where it is known but for where things lie
+-- the place in memory of an object or a part of it, if that place is known
 abbrev pub place_of_reference : Nodes → Reference → Option Place
 place_of_reference nodes reference =
     place_of_part (home_at nodes.homes reference.object) reference.offset
     (distance_of nodes reference.subscript)
     (distance_of nodes reference.member_subscript)
 
--- the value of an expression, where it is known but for where things lie
+-- the value of an expression, if it is known as a number or a relocatable address
 abbrev pub known_of : Nodes → ScalarType → ExpressionForm → Option Place
 known_of nodes scalar (forms.Number number) = Some (Number number)
 known_of nodes scalar (forms.Location reference) = place_of_reference nodes reference
@@ -109,11 +109,11 @@ abbrev pub height_of_target : Nodes → Target → ℕ
 height_of_target nodes (targets.Stored from to reference) = height_of_reference nodes reference
 height_of_target nodes (targets.Sent from port) = 1
 
--- the height of an argument, 0 where there is none
+-- the height of an argument; 0 if absent
 abbrev pub height_of_argument : Nodes → Option ExpressionNumber → ℕ
 height_of_argument nodes argument = option_map_or (height_at nodes) argument 0
 
--- the highest of so many arguments in a row, from a first one on
+-- the greatest height of `count` arguments in a row, from a first one on
 abbrev pub height_of_arguments : Nodes → (first count : ℕ) → ℕ
 height_of_arguments nodes first zero = 0
 height_of_arguments nodes first (suc count) =
@@ -196,7 +196,7 @@ stores_nothing_in_form nodes (forms.Shift function value count) =
     storing_nothing_at nodes value && storing_nothing_at nodes count
 stores_nothing_in_form nodes (forms.Input port) = true
 
--- the form of the expression of a number, or another one where there is none
+-- the form of the expression with this number; the given one if there is no such expression
 abbrev pub form_at : Nodes → ExpressionNumber → ExpressionForm → ExpressionForm
 form_at nodes number form =
     option_map_or (λ (expression : Expression). expression.form) (slice_get nodes.expressions number.index)
@@ -215,7 +215,7 @@ byte_after scalars.Address (forms.Value reference) =
     Some (record reference { offset = (reference.offset + 1) % 65536 })
 byte_after scalar form = None
 
--- the part of memory that holds the high byte of an expression, if it lies there
+-- the part of memory that holds the high byte of an expression, if any
 abbrev pub high_in_memory : Nodes → ExpressionNumber → Option Reference
 high_in_memory nodes operand =
     option_and_then (λ (expression : Expression). byte_after expression.traits.scalar expression.form)
@@ -226,17 +226,17 @@ memory_of_inner nodes (forms.Value reference) = Some reference
 memory_of_inner nodes (forms.Function High operand) = high_in_memory nodes operand
 memory_of_inner nodes form = None
 
--- the part of memory that holds the low byte of an expression, if it lies there
+-- the part of memory that holds the low byte of an expression, if any
 abbrev pub memory_of_form : Nodes → ExpressionForm → Option Reference
 memory_of_form nodes form = memory_of_inner nodes (same_low_byte nodes (same_low_byte nodes form))
 
--- whether the low byte of an expression lies in memory at a known place
+-- whether the low byte of an expression is in memory at a known place
 abbrev pub is_direct : Nodes → ExpressionForm → Bool
 is_direct nodes form =
     option_map_or (λ (reference : Reference). is_some (place_of_reference nodes reference))
     (memory_of_form nodes form) false
 
--- whether an operator has an instruction with a byte that is part of it
+-- whether an operator has an instruction with an immediate operand
 abbrev pub has_immediate : BinaryOperator → Bool
 has_immediate operators.Or = true
 has_immediate operators.Xor = true
@@ -245,7 +245,7 @@ has_immediate operators.Add = true
 has_immediate operators.Subtract = true
 has_immediate operator = false
 
--- whether a shift of a value of a type by a number needs the low byte of that alone
+-- whether a shift by a number needs only the low byte of a value of this type
 abbrev pub is_of_low_byte : ScalarType → ShiftFunction → Bool
 is_of_low_byte scalars.Address ShiftRight = false
 is_of_low_byte scalar function = true
@@ -256,7 +256,7 @@ free_at nodes number = (traits_at nodes number).is_free
 abbrev pub is_free_with : Nodes → (left right : ExpressionNumber) → Bool
 is_free_with nodes left right = free_at nodes left && is_some (number_at nodes right)
 
--- the same where no value is known
+-- the same, if no value is known
 abbrev pub is_free_form : Nodes → ScalarType → ExpressionForm → Bool
 is_free_form nodes scalar (forms.Value reference) = is_direct nodes (forms.Value reference)
 is_free_form nodes scalar (forms.Conversion inner) = free_at nodes inner
@@ -270,12 +270,12 @@ is_free_form nodes scalar (forms.Shift function value count) =
 is_free_form nodes scalar (forms.Input port) = true
 is_free_form nodes scalar form = false
 
--- Whether the low byte of an expression can be put into A by code that changes A and the flags alone.
+-- Whether code that changes only A and the flags can put the low byte of an expression into A.
 abbrev pub is_free_of : Nodes → ScalarType → Option Place → ExpressionForm → Bool
 is_free_of nodes scalar (Some place) form = is_some (number_of_place place)
 is_free_of nodes scalar None form = is_free_form nodes scalar form
 
--- What the code of a computed subscript keeps. A known one goes into the offset.
+-- The registers that the code of a computed subscript keeps. A known one goes into the offset.
 abbrev pub keeps_at : Nodes → ExpressionNumber → Keeps
 keeps_at nodes number = (traits_at nodes number).keeps
 
@@ -288,7 +288,7 @@ keeps_of_subscript nodes None = None
 keeps_of_subscript nodes (Some subscript) =
     keeps_of_index nodes subscript.index (number_at nodes subscript.index)
 
--- what the code of the sum of two computed subscripts, of which there may be less, keeps
+-- the registers that the code for the sum of up to two computed subscripts keeps
 abbrev pub keeps_of_sum : (first second : Option Keeps) → Keeps
 keeps_of_sum (Some first) (Some second) = record { a = first.a && second.a; de = false }
 keeps_of_sum (Some first) None = first
@@ -299,7 +299,7 @@ abbrev pub is_static_location : Location → Bool
 is_static_location (locations.Static place) = true
 is_static_location (locations.Frame variable offset) = false
 
--- what the code keeps that adds the address that a base holds
+-- the registers that the code keeps which adds the address in a base
 abbrev pub keeps_with_base : Location → (is_computed : Bool) → Keeps → Keeps
 keeps_with_base base is_computed keeps =
     record { a = keeps.a && is_static_location base; de = keeps.de && not is_computed }
@@ -309,23 +309,23 @@ keeps_of_part (homes.Based base) first second =
     keeps_with_base base (is_some first || is_some second) (keeps_of_sum first second)
 keeps_of_part home first second = keeps_of_sum first second
 
--- what the code keeps that puts the address of an object or a part of it into HL
+-- the registers that the code putting the address of an object or a part of it into HL keeps
 abbrev pub keeps_of_address : Nodes → Reference → Keeps
 keeps_of_address nodes reference =
     keeps_of_part (home_at nodes.homes reference.object) (keeps_of_subscript nodes reference.subscript)
     (keeps_of_subscript nodes reference.member_subscript)
 
--- what the code of the value of a scalar keeps
+-- the registers that the code for the value of a scalar keeps
 abbrev pub keeps_of_value : Nodes → ScalarType → Reference → Keeps
 keeps_of_value nodes scalars.Byte reference = keeps_of_address nodes reference
 keeps_of_value nodes scalars.Address reference =
     record { a = is_some (place_of_reference nodes reference); de = (keeps_of_address nodes reference).de }
 
--- what the code of the low byte of an expression with zeros added keeps
+-- the registers that the code for the low byte of an expression, zero-extended, keeps
 abbrev pub keeps_of_byte : Nodes → ExpressionForm → Keeps
 keeps_of_byte nodes form = option_map_or (keeps_of_address nodes) (memory_of_form nodes form) keeps_none
 
--- what the code of an operand as an ADDRESS keeps
+-- the registers that the code of an operand as an ADDRESS keeps
 abbrev pub keeps_of_extended : Nodes → ExpressionForm → Traits → Keeps
 keeps_of_extended nodes form traits = by_type traits.scalar
   where
@@ -333,7 +333,7 @@ keeps_of_extended nodes form traits = by_type traits.scalar
     by_type scalars.Byte = keeps_of_byte nodes form
     by_type scalars.Address = traits.keeps
 
--- what the code of an operator on two ADDRESS values keeps
+-- the registers that the code of an operator on two ADDRESS values keeps
 abbrev pub keeps_of_binary : Nodes → BinaryOperator → (left right : ExpressionNumber) → Keeps
 keeps_of_binary nodes operators.Add left right =
     if is_some (known_at nodes right) then keeps_at nodes left
@@ -347,14 +347,14 @@ keeps_of_binary nodes operators.Subtract left right =
     if is_some (number_at nodes right) then keeps_at nodes left else keeps_none
 keeps_of_binary nodes operator left right = keeps_none
 
--- what the code of a shift of an ADDRESS keeps: where it is one to the left within a byte, what that of the
--- value keeps
+-- the registers that the code of a shift of an ADDRESS keeps; for a shift left by less than 8, those that the
+-- code of the value keeps
 abbrev pub keeps_of_shift : Nodes → ShiftFunction → (value : ExpressionNumber) → (count : Option ℕ) → Keeps
 keeps_of_shift nodes ShiftLeft value (Some count) =
     if nat_lt count 8 then keeps_at nodes value else keeps_none
 keeps_of_shift nodes function value count = keeps_none
 
--- the same of an expression of which no value is known
+-- the same, if no value is known
 abbrev pub keeps_of_form : Nodes → ScalarType → ExpressionForm → Keeps
 keeps_of_form nodes scalar (forms.Value reference) = keeps_of_value nodes scalar reference
 keeps_of_form nodes scalar (forms.Location reference) = keeps_of_address nodes reference
@@ -371,12 +371,12 @@ keeps_of_form nodes scalars.Address (forms.Shift function value count) =
     keeps_of_shift nodes function value (number_at nodes count)
 keeps_of_form nodes scalar form = keeps_none
 
--- Which registers the code that puts the value of an expression into HL leaves as they were.
+-- The registers that the code putting the value of an expression into HL keeps.
 abbrev pub keeps_of : Nodes → ScalarType → Option Place → ExpressionForm → Keeps
 keeps_of nodes scalar (Some place) form = keeps_both
 keeps_of nodes scalar None form = keeps_of_form nodes scalar form
 
--- what is kept with an expression of a type and a form
+-- the traits of an expression of a type and a form
 unfoldable pub traits_of : Nodes → ScalarType → ExpressionForm → Traits
 traits_of nodes scalar form = record {
   known = known_of nodes scalar form;
@@ -388,11 +388,11 @@ traits_of nodes scalar form = record {
   keeps = keeps_of nodes scalar (known_of nodes scalar form) form;
 }
 
--- the expression of a type and a form, whose parts stand already
+-- the expression of a type and a form; its parts have been added before
 abbrev pub expression_of : Nodes → ScalarType → ExpressionForm → Expression
 expression_of nodes scalar form = record { form = form; traits = traits_of nodes scalar form }
 
--- each expression keeps what is said of its type, its form and its parts
+-- the traits of each expression follow from its type, its form and its parts
 abbrev pub KeepTraits : Nodes → Type 0
 KeepTraits nodes =
     (number : ℕ) (expression : Expression) → slice_get nodes.expressions number ≡ Some expression

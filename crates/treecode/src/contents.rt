@@ -1,4 +1,4 @@
-//! What stands in the segments of a module.
+//! The contents of the segments of a module.
 
 ghost use Rattle.std.specs.Prelude.{◌≡◌, ◌-◌, [], ◌∷◌, ◌++◌, map, sum_by, IfOk, OnOk};
 ghost use Rattle.typed_trees.specs.Views.{module_view, object_view};
@@ -12,7 +12,7 @@ use crate::place::{Home, Place};
 use std::alloc::{AllocError, Global};
 use typed_trees::{ConstantItem, Home as TypedHome, InitialValue, Typed, TypedObject};
 
-// Adds a last piece, and after it so many bytes that are not set: both as one gap where the piece is one and they fit.
+// Adds `last` and then `count` unset bytes, as one gap if `last` is a gap and one gap holds both.
 fn add_with_gap(contents: &mut Vec<Content>, last: Content, count: u16) -> Result<(), AllocError>
     ensures { OnOk result (contents.new.items ≡ contents.old.items ++ with_gap (last ∷ []) count) }
 {
@@ -29,7 +29,7 @@ fn add_with_gap(contents: &mut Vec<Content>, last: Content, count: u16) -> Resul
     Ok(())
 }
 
-// Adds so many bytes that are not set, as one gap with those just before.
+// Adds `count` unset bytes, joined with a gap just before.
 #[tactic(auto, using(crate::proofs::ContentLoops::gap_added))]
 fn add_gap(contents: &mut Vec<Content>, count: u16) -> Result<(), AllocError>
     ensures { OnOk result (contents.new.items ≡ with_gap_if_any contents.old.items count) }
@@ -60,7 +60,7 @@ fn content_of(tree: &TreeModule, value: InitialValue) -> Content
     }
 }
 
-// How many bytes a value of INITIAL or DATA takes.
+// The size of a value of INITIAL or DATA in bytes.
 fn size_of_value(value: InitialValue) -> u32
     ensures { result ≡ size_of_value value }
 {
@@ -70,7 +70,7 @@ fn size_of_value(value: InitialValue) -> u32
     }
 }
 
-// Adds values of INITIAL or DATA, and gives how many of so many bytes they leave.
+// Adds values of INITIAL or DATA, and returns how many of `size` bytes remain.
 fn add_values(
     tree: &TreeModule,
     contents: &mut Vec<Content>,
@@ -91,7 +91,7 @@ fn add_values(
     Ok(left)
 }
 
-// Adds the bytes of an object, filled by values from its start on.
+// Adds the bytes of an object, with values from its start on.
 fn add_object(
     tree: &TreeModule,
     contents: &mut Vec<Content>,
@@ -180,7 +180,8 @@ fn add_constant(
     }
 }
 
-/// What the code segment begins with: the objects with DATA and the constant lists, in the order of the text.
+/// The contents at the start of the code segment: the objects with DATA and the constant lists, in the order of the
+/// text.
 #[tactic(auto, unfolding(crate::specs::Contents::constants_of))]
 pub(crate) fn constants_of(
     alloc: Global,
@@ -199,7 +200,7 @@ pub(crate) fn constants_of(
     Ok(contents)
 }
 
-/// What stands in the data segment: the objects without AT and DATA, in the order of their declarations.
+/// The contents of the data segment: the objects without AT and DATA, in the order of their declarations.
 #[tactic(auto, unfolding(crate::specs::Contents::variables_of))]
 pub(crate) fn variables_of(
     alloc: Global,

@@ -1,4 +1,4 @@
-//! What evaluating an expression changes.
+//! The effects of evaluating an expression.
 
 ghost use Rattle.std.specs.Prelude.{◌≡◌, ◌&&◌};
 ghost use Rattle.treecode.specs.Nodes.{nodes_of};
@@ -28,7 +28,7 @@ fn subscript_stores_nothing(tree: &TreeModule, subscript: Option<Subscript>) -> 
     }
 }
 
-// Whether locating an object or a part of it changes nothing.
+// Whether computing the address of an object or a part of it changes nothing.
 fn reference_is_quiet(tree: &TreeModule, reference: &Reference) -> bool
     ensures { result ≡ reference_is_quiet (nodes_of tree.now) reference.now }
 {
@@ -36,7 +36,7 @@ fn reference_is_quiet(tree: &TreeModule, reference: &Reference) -> bool
         && subscript_is_quiet(tree, reference.member_subscript)
 }
 
-// Whether locating an object or a part of it calls nothing and stores nothing.
+// Whether computing the address of an object or a part of it calls nothing and stores nothing.
 fn reference_stores_nothing(tree: &TreeModule, reference: &Reference) -> bool
     ensures { result ≡ reference_stores_nothing (nodes_of tree.now) reference.now }
 {
@@ -59,7 +59,7 @@ fn store_nothing(tree: &TreeModule, first: ExpressionNumber, second: ExpressionN
     tree.traits(first).stores_nothing && tree.traits(second).stores_nothing
 }
 
-/// Whether evaluating an expression of a form changes nothing: it calls nothing, stores nothing and reads no port.
+/// Whether evaluating an expression of this form changes nothing: it calls nothing, stores nothing and reads no port.
 pub(crate) fn is_quiet(tree: &TreeModule, form: &ExpressionForm) -> bool
     ensures { result ≡ is_quiet_form (nodes_of tree.now) form.now }
 {
@@ -79,7 +79,7 @@ pub(crate) fn is_quiet(tree: &TreeModule, form: &ExpressionForm) -> bool
     }
 }
 
-/// Whether an expression of a form calls nothing and stores nothing.
+/// Whether an expression of this form calls nothing and stores nothing.
 pub(crate) fn stores_nothing(tree: &TreeModule, form: &ExpressionForm) -> bool
     ensures { result ≡ stores_nothing_in_form (nodes_of tree.now) form.now }
 {

@@ -9,43 +9,43 @@ use crate::traits::Traits;
 use trees::{BinaryOperator, ScalarType, UnaryOperator};
 use typed_trees::{ShiftFunction, UnaryFunction};
 
-/// The number of an expression in its module: each part of an expression has a number below that of the whole.
+/// The number of an expression in its module. Each part of an expression has a lower number than the whole.
 #[derive(Clone, Copy, PartialEq, Eq)]
 pub struct ExpressionNumber {
     pub index: u32,
 }
 
-/// What an expression is. Its type stands among its traits.
+/// The form of an expression. Its type is one of its traits.
 #[derive(Clone, Copy)]
 pub enum ExpressionForm {
     /// A number.
     Number(u16),
     /// The value of a scalar.
     Value(Reference),
-    /// Where something lies.
+    /// The address of an object or a part of it.
     Location(Reference),
-    /// Where a constant list lies, from the start of the code segment.
+    /// The address of a constant list, as an offset from the start of the code segment.
     List(u16),
-    /// To BYTE the low byte, to ADDRESS with zeros added.
+    /// A conversion: to BYTE it takes the low byte, to ADDRESS it zero-extends.
     Conversion(ExpressionNumber),
     /// `(target := value)`
     Assignment {
         target: Target,
         value: ExpressionNumber,
     },
-    /// An operator with one operand, whose type is that of the result.
+    /// An operator with one operand, which has the type of the result.
     Unary {
         operator: UnaryOperator,
         operand: ExpressionNumber,
     },
-    /// An operator with two operands of one type.
+    /// An operator with two operands of the same type.
     Binary {
         operands: ScalarType,
         operator: BinaryOperator,
         left: ExpressionNumber,
         right: ExpressionNumber,
     },
-    /// A call of a procedure with a result, by its number in the module. The arguments stand in the module's table of
+    /// A call of a procedure with a result, by its number in the module. The arguments are in the module's table of
     /// arguments, each of the type of its parameter.
     Call {
         procedure: u32,
@@ -56,7 +56,7 @@ pub enum ExpressionForm {
         function: UnaryFunction,
         operand: ExpressionNumber,
     },
-    /// A shift or a rotation of a value, whose type is that of the result, by a BYTE.
+    /// A shift or rotation by a BYTE. The value has the type of the result.
     Shift {
         function: ShiftFunction,
         value: ExpressionNumber,
@@ -66,7 +66,7 @@ pub enum ExpressionForm {
     Input(u8),
 }
 
-/// An expression: what it is, and what is known of it.
+/// An expression: its form and its traits.
 #[derive(Clone, Copy)]
 pub struct Expression {
     pub form: ExpressionForm,
@@ -74,7 +74,7 @@ pub struct Expression {
 }
 
 impl ExpressionNumber {
-    /// One more than the number.
+    /// The number plus 1.
     pub fn bound(self) -> u32
         ensures { result ≡ number_bound self }
     {

@@ -1,4 +1,4 @@
-//! Typed expressions as tree code.
+//! Lowering of typed expressions to tree code.
 
 ghost use Rattle.std.specs.Prelude.{◌≡◌, IfOk, OnOk};
 ghost use Rattle.typed_trees.specs.Views.{arguments_view, expression_view, reference_view, subscript_view, target_view};
@@ -32,7 +32,7 @@ impl Lowering {
         self.tree.add_expression(expression.scalar(), form)
     }
 
-    // Adds the parts of an expression, and gives its form.
+    // Adds the parts of an expression, and returns its form.
     #[cycle(expression)]
     #[tactic(auto, using(typed_trees::specs::declared::expression::TypedExpression::the_lemmas, typed_trees::proofs::Views::argument_rows_are))]
     fn form(

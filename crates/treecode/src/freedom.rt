@@ -1,4 +1,4 @@
-//! Expressions whose low byte is computed in A alone.
+//! Expressions with a low byte that is computed in A alone.
 
 ghost use Rattle.std.specs.Prelude.{◌≡◌};
 ghost use Rattle.treecode.specs.Nodes.{nodes_of};
@@ -12,7 +12,7 @@ use crate::place::Place;
 use trees::{BinaryOperator, ScalarType};
 use typed_trees::{ShiftFunction, UnaryFunction};
 
-// Whether the low byte of an expression of a form lies in memory at a place that is known but for where things lie.
+// Whether the low byte of an expression of this form is in memory at a known place.
 fn is_direct(tree: &TreeModule, form: &ExpressionForm) -> bool
     ensures { result ≡ is_direct (nodes_of tree.now) form.now }
 {
@@ -22,7 +22,7 @@ fn is_direct(tree: &TreeModule, form: &ExpressionForm) -> bool
     }
 }
 
-// Whether an operator has an instruction with a byte that is part of it.
+// Whether an operator has an instruction with an immediate operand.
 fn has_immediate(operator: BinaryOperator) -> bool
     ensures { result ≡ has_immediate operator }
 {
@@ -44,7 +44,7 @@ fn has_immediate(operator: BinaryOperator) -> bool
     }
 }
 
-// Whether a shift of a value of a type by a number needs the low byte of that alone.
+// Whether a shift by a number needs only the low byte of a value of this type.
 fn is_of_low_byte(scalar: ScalarType, function: ShiftFunction) -> bool
     ensures { result ≡ is_of_low_byte scalar function }
 {
@@ -54,16 +54,17 @@ fn is_of_low_byte(scalar: ScalarType, function: ShiftFunction) -> bool
     }
 }
 
-// Whether the low byte of an expression with a number as its right part is computed in A alone.
+// Whether the low byte of an operation is computed in A alone: that of its left operand is, and its right operand is a
+// number.
 fn is_free_with(tree: &TreeModule, left: ExpressionNumber, right: ExpressionNumber) -> bool
     ensures { result ≡ is_free_with (nodes_of tree.now) left right }
 {
     tree.traits(left).is_free && tree.number(right).is_some()
 }
 
-/// Whether the low byte of an expression of a type and a form can be put into A by code that changes A and the flags
-/// alone: a number, a byte at a known place, INPUT, and NOT, `-`, the operators + - AND OR XOR with a number on the right,
-/// and shifts of the low byte by a number, over these.
+/// Whether code that changes only A and the flags can put the low byte of an expression into A. Such expressions are a
+/// number, a byte at a known place and INPUT. Over these, so are NOT, `-`, the operators + - AND OR XOR with a number
+/// on the right, and shifts of the low byte by a number.
 pub(crate) fn is_free(
     tree: &TreeModule,
     scalar: ScalarType,

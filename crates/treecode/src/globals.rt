@@ -1,4 +1,4 @@
-//! What is PUBLIC and what is EXTERNAL in a module.
+//! The PUBLIC and EXTERNAL names of a module.
 
 ghost use Rattle.std.specs.Prelude.{◌≡◌, IfOk};
 ghost use Rattle.typed_trees.specs.Views.{module_view, object_view, procedure_view};
@@ -123,7 +123,7 @@ pub(crate) fn externals_of(alloc: Global, typed: &Typed) -> Result<Externals, Al
     Ok(externals)
 }
 
-// Where an object begins in memory.
+// The place in memory where an object begins.
 fn static_place(home: Home) -> Place
     ensures { result ≡ static_place home }
 {
@@ -133,7 +133,7 @@ fn static_place(home: Home) -> Place
     }
 }
 
-// What the name of an object stands for in other modules, if it is PUBLIC.
+// The PUBLIC name of an object and its place, if it is PUBLIC.
 fn public_object(tree: &TreeModule, number: u32, object: &TypedObject) -> Option<PublicName>
     ensures { result ≡ public_object (nodes_of tree.now).homes number (object_view object.now) }
 {
@@ -151,7 +151,7 @@ fn public_object(tree: &TreeModule, number: u32, object: &TypedObject) -> Option
     }
 }
 
-// What the name of a procedure stands for in other modules, if it is PUBLIC.
+// The PUBLIC name of a procedure and its place, if it is PUBLIC.
 fn public_procedure(number: u32, procedure: &TypedProcedure) -> Option<PublicName>
     ensures { result ≡ public_procedure number (procedure_view procedure.now) }
 {
@@ -164,7 +164,7 @@ fn public_procedure(number: u32, procedure: &TypedProcedure) -> Option<PublicNam
     }
 }
 
-// What the name of an object or a procedure stands for in other modules, if it is PUBLIC.
+// The PUBLIC name of an object or a procedure and its place, if it is PUBLIC.
 #[tactic(auto, using(crate::proofs::PublicLoop::object_at, crate::proofs::PublicLoop::procedure_at))]
 fn public_item(tree: &TreeModule, typed: &Typed, item: GlobalItem) -> Option<PublicName>
     ensures { result ≡ public_item (module_view typed.now) (nodes_of tree.now).homes item }

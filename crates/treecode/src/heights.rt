@@ -1,4 +1,4 @@
-//! Heights of expressions, as the stack charge counts them, in numbers that stop at 65,535.
+//! Heights of expressions, as the stack charge counts them; they saturate at 65,535.
 
 ghost use Rattle.std.specs.Prelude.{◌≡◌};
 ghost use Rattle.treecode.specs.Nodes.{nodes_of};
@@ -16,7 +16,7 @@ fn height(tree: &TreeModule, number: ExpressionNumber) -> u16
     tree.traits(number).height
 }
 
-// The height of a subscript, 0 where there is none.
+// The height of a subscript; 0 if absent.
 fn height_of_subscript(tree: &TreeModule, subscript: Option<Subscript>) -> u16
     ensures { result ≡ height_of_subscript (nodes_of tree.now) subscript }
 {
@@ -45,7 +45,7 @@ pub(crate) fn height_of_target(tree: &TreeModule, target: &Target) -> u16
     }
 }
 
-// The height of an argument, 0 where there is none.
+// The height of an argument; 0 if absent.
 fn height_of_argument(tree: &TreeModule, argument: Option<ExpressionNumber>) -> u16
     ensures { result ≡ height_of_argument (nodes_of tree.now) argument }
 {
@@ -70,7 +70,7 @@ pub(crate) fn height_of_call(tree: &TreeModule, arguments: Range) -> u16
         .saturating_add(1)
 }
 
-/// The height of an expression of a form.
+/// The height of an expression of this form.
 pub(crate) fn height_of(tree: &TreeModule, form: &ExpressionForm) -> u16
     ensures { result ≡ height_of_form (nodes_of tree.now) form.now }
 {

@@ -1,4 +1,4 @@
-//! Tells that tree code puts objects at numbers that have the width of a word.
+//! Shows that tree code places objects at 16-bit numbers.
 #![tactic(auto)]
 
 ghost use Rattle.std.specs.Prelude.{◌<◌};
@@ -6,7 +6,7 @@ ghost use Rattle.treecode.specs.HomeWords.{HomeIsWord, HomesAreWords};
 
 use crate::{Home, Place, TreeModule};
 
-/// Tells that the numbers where a module's objects lie have the width of a word, and does nothing.
+/// Shows that the numbers at which a module's objects are placed have 16 bits. It does nothing.
 pub fn hold_homes(tree: &TreeModule)
     ensures { HomesAreWords tree.now.homes.items }
 {
@@ -17,7 +17,7 @@ pub fn hold_homes(tree: &TreeModule)
     }
 }
 
-// Tells that the number where an object lies, if that is one, has the width of a word.
+// Shows that the number at which an object is placed, if any, has 16 bits.
 fn hold_home(home: Home)
     ensures { HomeIsWord home }
 {
@@ -26,7 +26,7 @@ fn hold_home(home: Home)
     }
 }
 
-// Tells that a number of 16 bits has the width of a word.
+// Shows that a `u16` has 16 bits.
 fn hold_word(number: u16)
     ensures { number < 65536 }
 {

@@ -1,4 +1,4 @@
-//! Where the objects of a module begin.
+//! The places where the objects of a module begin.
 
 ghost use Rattle.std.specs.Prelude.{◌≡◌, [], map, Some, None, slice_index_or, IfOk, OnOk};
 ghost use Rattle.typed_trees.specs.Views.{module_view, object_view, procedure_view};
@@ -27,7 +27,7 @@ fn place_of_slot(slot: Slot) -> Place
     }
 }
 
-// The home of an object so many bytes further on. A BASED object has no place of its own.
+// The home of an object `distance` bytes further on. A BASED object has no place of its own.
 fn home_after(home: Home, distance: u16) -> Home
     ensures { result ≡ home_after home distance }
 {
@@ -37,7 +37,7 @@ fn home_after(home: Home, distance: u16) -> Home
     }
 }
 
-/// Where a scalar lies that is not BASED, by its home.
+/// The location of a scalar that is not BASED, by its home.
 pub(crate) fn location_of(home: Home) -> Location
     ensures { result ≡ location_of home }
 {
@@ -51,7 +51,7 @@ pub(crate) fn location_of(home: Home) -> Location
     }
 }
 
-// Adds which parameters of their procedure objects are, counted from 0.
+// Adds the index of each object that is a parameter in the heading of its procedure, counted from 0.
 fn add_parameters(parameters: &mut Numbers, objects: &[u32]) -> Result<(), AllocError>
     ensures { OnOk result (parameters.new.entries.items
         ≡ with_parameters parameters.old.entries.items 0 objects.now) }
@@ -66,7 +66,7 @@ fn add_parameters(parameters: &mut Numbers, objects: &[u32]) -> Result<(), Alloc
     Ok(())
 }
 
-// Which parameter of its procedure each object is that is one, counted from 0.
+// The index of each object that is a parameter in the heading of its procedure, counted from 0.
 fn parameters_of(alloc: Global, procedures: &[TypedProcedure]) -> Result<Numbers, AllocError>
     ensures { IfOk result (λ parameters. parameters.entries.items
         ≡ with_all_parameters [] (map procedure_view procedures.now)) }
@@ -97,7 +97,7 @@ impl TreeProcedure {
     ghost use Rattle.std.specs.Prelude.{◌≡◌, length, min, IfOk, OnOk};
     ghost use Rattle.treecode.specs.internal.Placed.{heading_of, with_variable};
 
-    // Adds a variable to its frame, and gives its number there.
+    // Adds a variable to its frame, and returns its number there.
     fn add_variable(&mut self, variable: FrameVariable) -> Result<u16, AllocError>
         ensures heading { OnOk result (heading_of self.new ≡ with_variable variable (heading_of self.old)) }
         ensures number { IfOk result (λ number. number ≡ min (length (heading_of self.old).frame) 65535) }
@@ -113,7 +113,7 @@ impl TreeModule {
     ghost use Rattle.treecode.specs.internal.Placed.{headings_of, home_at_address, variable_number, with_variable_in};
     ghost use Rattle.treecode.specs.Nodes.{nodes_of};
 
-    // Adds a variable to the frame of a procedure, and gives its number there.
+    // Adds a variable to the frame of a procedure, and returns its number there.
     fn add_frame_variable(
         &mut self,
         procedure: u32,
@@ -130,7 +130,7 @@ impl TreeModule {
         }
     }
 
-    // Where an object begins that AT puts there. Objects that AT names come before.
+    // The home of an object with AT. Objects that AT names come before.
     fn home_at(&self, at: AtAddress) -> Home
         ensures { result ≡ home_at_address (nodes_of self.now).homes at }
     {
@@ -141,7 +141,7 @@ impl TreeModule {
     }
 }
 
-// The place of an object of another module.
+// The place of an object in another module.
 fn external_place(externals: &Externals, number: u32) -> Place
     ensures { result ≡ external_place (number_in externals.now.objects.entries.items number) }
 {
@@ -151,7 +151,7 @@ fn external_place(externals: &Externals, number: u32) -> Place
     }
 }
 
-// The place of an object of a number in its segment.
+// The place of an object in its segment, by its number.
 fn place_in_segment(storage: &Layout, number: u32) -> Place
     ensures { result ≡ place_of_slot (slice_index_or (layout_view storage.now).objects number None) }
 {
@@ -161,7 +161,7 @@ fn place_in_segment(storage: &Layout, number: u32) -> Place
     }
 }
 
-// The home of an object of a number, where those before it have theirs. One in a frame is added to that.
+// The home of an object, by its number, if those before it have theirs. An object in a frame is added to that frame.
 fn home_of(
     tree: &mut TreeModule,
     externals: &Externals,
@@ -191,7 +191,7 @@ fn home_of(
     }
 }
 
-// Adds where an object of a number begins.
+// Adds the home of an object, by its number.
 fn add_home(
     tree: &mut TreeModule,
     externals: &Externals,
@@ -218,7 +218,7 @@ fn add_home(
     Ok(())
 }
 
-/// Adds where the objects of a module begin, and to each frame its variables. The procedures stand already.
+/// Adds the homes of the objects of a module, and to each frame its variables. The procedures have been added before.
 pub(crate) fn add_homes(
     alloc: Global,
     tree: &mut TreeModule,

@@ -1,4 +1,4 @@
-//! Which registers code keeps that puts something into HL.
+//! The registers that code keeps while it puts something into HL.
 
 ghost use Rattle.std.specs.Prelude.{◌≡◌};
 ghost use Rattle.treecode.specs.Nodes.{nodes_of};
@@ -14,8 +14,8 @@ use crate::traits::Keeps;
 use trees::{BinaryOperator, ScalarType};
 use typed_trees::ShiftFunction;
 
-// What the code of a computed subscript keeps. None where there is no subscript, or it is a number, which goes into the
-// offset.
+// The registers that the code of a computed subscript keeps. None if there is no subscript, or if it is a number, which
+// goes into the offset.
 fn keeps_of_subscript(tree: &TreeModule, subscript: Option<Subscript>) -> Option<Keeps>
     ensures { result ≡ keeps_of_subscript (nodes_of tree.now) subscript }
 {
@@ -26,8 +26,8 @@ fn keeps_of_subscript(tree: &TreeModule, subscript: Option<Subscript>) -> Option
     }
 }
 
-// What the code of the sum of two computed subscripts, of which there may be less, keeps. For a sum of two one of them
-// stands in DE.
+// The registers that the code for the sum of up to two computed subscripts keeps. A sum of two needs DE for one of
+// them.
 fn keeps_of_sum(first: Option<Keeps>, second: Option<Keeps>) -> Keeps
     ensures { result ≡ keeps_of_sum first second }
 {
@@ -41,8 +41,8 @@ fn keeps_of_sum(first: Option<Keeps>, second: Option<Keeps>) -> Keeps
     }
 }
 
-// What the code keeps that adds the address that a base holds to what the code of computed subscripts gives, if there are
-// any. They stand in DE meanwhile. A base in a frame comes through A.
+// The registers that the code keeps which adds the address in a base to the computed subscripts, if there are any.
+// These are in DE meanwhile. A base in a frame is loaded through A.
 fn keeps_with_base(base: Location, is_computed: bool, keeps: Keeps) -> Keeps
     ensures { result ≡ keeps_with_base base is_computed keeps }
 {
@@ -56,7 +56,7 @@ fn keeps_with_base(base: Location, is_computed: bool, keeps: Keeps) -> Keeps
     }
 }
 
-/// What the code that puts the address of an object or a part of it into HL keeps.
+/// The registers that the code putting the address of an object or a part of it into HL keeps.
 pub fn keeps_of_address(tree: &TreeModule, reference: &Reference) -> Keeps
     ensures { result ≡ keeps_of_address (nodes_of tree.now) reference.now }
 {
@@ -72,7 +72,7 @@ pub fn keeps_of_address(tree: &TreeModule, reference: &Reference) -> Keeps
     }
 }
 
-// What the code of the value of a scalar keeps. A word that does not lie at a known place comes through A.
+// The registers that the code for the value of a scalar keeps. A word at a place that is not known is loaded through A.
 fn keeps_of_value(tree: &TreeModule, scalar: ScalarType, reference: &Reference) -> Keeps
     ensures { result ≡ keeps_of_value (nodes_of tree.now) scalar reference.now }
 {
@@ -86,8 +86,8 @@ fn keeps_of_value(tree: &TreeModule, scalar: ScalarType, reference: &Reference) 
     }
 }
 
-// What the code keeps that puts the low byte of an expression of a form into HL, with zeros added. What does not lie in
-// memory comes through A.
+// The registers that the code putting the low byte of an expression into HL, zero-extended, keeps. A byte that is not
+// in memory is loaded through A.
 fn keeps_of_byte(tree: &TreeModule, form: &ExpressionForm) -> Keeps
     ensures { result ≡ keeps_of_byte (nodes_of tree.now) form.now }
 {
@@ -97,7 +97,7 @@ fn keeps_of_byte(tree: &TreeModule, form: &ExpressionForm) -> Keeps
     }
 }
 
-// What the code of an operand as an ADDRESS keeps, which is that of a whole expression of this form.
+// The registers that the code of an operand as an ADDRESS keeps. `form` is the form of the whole expression.
 fn keeps_of_extended(tree: &TreeModule, form: &ExpressionForm, operand: ExpressionNumber) -> Keeps
     ensures { result
         ≡ keeps_of_extended (nodes_of tree.now) form.now (traits_at (nodes_of tree.now) operand) }
@@ -109,8 +109,8 @@ fn keeps_of_extended(tree: &TreeModule, form: &ExpressionForm, operand: Expressi
     }
 }
 
-// What the code of an operator on two ADDRESS values keeps: where one is a number, or is known and is added, what the code
-// of the other keeps.
+// The registers that the code of an operator on two ADDRESS values keeps. If one operand is a number, or is known and
+// added, they are those that the code of the other one keeps.
 fn keeps_of_binary(
     tree: &TreeModule,
     operator: BinaryOperator,
@@ -131,8 +131,8 @@ fn keeps_of_binary(
     }
 }
 
-// What the code of a shift of an ADDRESS keeps: where it is one to the left within a byte, what the code of the value
-// keeps.
+// The registers that the code of a shift of an ADDRESS keeps. For a shift left by less than 8, they are those that the
+// code of the value keeps.
 fn keeps_of_shift(
     tree: &TreeModule,
     function: ShiftFunction,
@@ -148,7 +148,7 @@ fn keeps_of_shift(
     }
 }
 
-/// What the code keeps that puts the value of an expression of a type and a form into HL.
+/// The registers that the code putting the value of an expression into HL keeps, by its type and form.
 pub(crate) fn keeps_of(
     tree: &TreeModule,
     scalar: ScalarType,

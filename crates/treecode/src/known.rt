@@ -1,4 +1,4 @@
-//! Values that are known but for where things lie.
+//! Values that are known as numbers or relocatable addresses.
 
 ghost use Rattle.std.specs.Prelude.{◌≡◌, option_map};
 ghost use Rattle.std.specs.Option.{option_and_then};
@@ -16,7 +16,7 @@ use meaning::{binary, convert, shift, unary, unary_function};
 use trees::{BinaryOperator, ScalarType};
 use typed_trees::UnaryFunction;
 
-/// How many bytes a subscript, if there is one, adds to an address, modulo 65536, where that is known.
+/// The number of bytes that a subscript, if there is one, adds to an address, modulo 65536, if known.
 pub(crate) fn known_distance(tree: &TreeModule, subscript: Option<Subscript>) -> Option<u16>
     ensures { result ≡ distance_of (nodes_of tree.now) subscript }
 {
@@ -29,7 +29,7 @@ pub(crate) fn known_distance(tree: &TreeModule, subscript: Option<Subscript>) ->
     }
 }
 
-/// The place in memory of an object or a part of it, where it is known but for where things lie.
+/// The place in memory of an object or a part of it, if that place is known.
 pub(crate) fn place_of(tree: &TreeModule, reference: &Reference) -> Option<Place>
     ensures { result ≡ place_of_reference (nodes_of tree.now) reference.now }
 {
@@ -41,7 +41,7 @@ pub(crate) fn place_of(tree: &TreeModule, reference: &Reference) -> Option<Place
     }
 }
 
-// A known value as one of a type. Where something lies has no low byte that is known.
+// A known value converted to a type. The low byte of a relocatable address is not known.
 fn converted(scalar: ScalarType, known: Option<Place>) -> Option<Place>
     ensures { result ≡ option_and_then (converted_place scalar) known }
 {
@@ -52,7 +52,7 @@ fn converted(scalar: ScalarType, known: Option<Place>) -> Option<Place>
     }
 }
 
-// What LOW, HIGH or DOUBLE gives of a known value.
+// The result of LOW, HIGH or DOUBLE on a known value.
 fn function_value(function: UnaryFunction, known: Option<Place>) -> Option<Place>
     ensures { result ≡ option_and_then (function_of_place function) known }
 {
@@ -63,7 +63,7 @@ fn function_value(function: UnaryFunction, known: Option<Place>) -> Option<Place
     }
 }
 
-// What an operator gives of two numbers.
+// The result of an operator on two numbers.
 fn number_value(
     operands: ScalarType,
     operator: BinaryOperator,
@@ -76,7 +76,7 @@ fn number_value(
     Some(Place::Number(number))
 }
 
-// What an operator gives of two ADDRESS values that are known but for where things lie.
+// The result of an operator on two known ADDRESS values.
 fn place_value(operator: BinaryOperator, left: Place, right: Place) -> Option<Place>
     ensures { result ≡ result_of_place operator left right }
 {
@@ -90,7 +90,7 @@ fn place_value(operator: BinaryOperator, left: Place, right: Place) -> Option<Pl
     }
 }
 
-// What an operator gives of two known values.
+// The result of an operator on two known values.
 fn binary_value(
     operands: ScalarType,
     operator: BinaryOperator,
@@ -114,7 +114,8 @@ fn known(tree: &TreeModule, number: ExpressionNumber) -> Option<Place>
     tree.traits(number).known
 }
 
-/// The value of an expression of a type and a form, exact in that type, where it is known but for where things lie.
+/// The value of an expression of this type and form, if it is known as a number or a relocatable address. It is exact
+/// in that type.
 pub(crate) fn known_value(
     tree: &TreeModule,
     scalar: ScalarType,

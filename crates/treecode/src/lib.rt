@@ -1,4 +1,4 @@
-//! Tree code: the trees of a typed module as numbered nodes, in which each object has its place.
+//! Tree code: the trees of a typed module as numbered nodes, with a place for each object.
 #![tactic(auto)]
 
 mod contents;

@@ -1,9 +1,9 @@
-//! Lists of numbers, of which each stands in a table of its module.
+//! Lists of numbers, each in a table of its module.
 
-/// Some entries of a table that follow each other.
+/// Consecutive entries of a table.
 #[derive(Clone, Copy, PartialEq, Eq)]
 pub struct Range {
-    /// The index of the first one.
+    /// The index of the first entry.
     pub first: u32,
     pub count: u32,
 }

@@ -1,4 +1,4 @@
-//! Typed modules as tree code.
+//! Lowering of typed modules to tree code.
 
 ghost use Rattle.std.specs.Prelude.{None, ◌≡◌, suc, ◌+◌, ◌%◌, min, [], IfOk, OnOk};
 ghost use Rattle.typed_trees.specs.Jumps.{JumpsAreSound};
@@ -24,20 +24,20 @@ use layout::Layout;
 use std::alloc::{AllocError, Global};
 use typed_trees::Typed;
 
-/// A module that is being lowered: its tree code so far, and what is known beside it.
+/// A module that is being lowered: its tree code so far, and what lowering needs beside it.
 #[derive(Drop)]
 pub(crate) struct Lowering {
     pub(crate) alloc: Global,
     pub(crate) tree: TreeModule,
     /// The number of each label in its procedure, by its number in the module.
     labels: Numbers,
-    /// How many labels the body has so far.
+    /// The number of labels in the body so far.
     label_count: u32,
     /// The greatest height of an expression, a target or a call in the body so far.
     height: u32,
 }
 
-// A module of which nothing is lowered yet.
+// A module before anything is lowered.
 fn empty_module(alloc: Global, typed: &Typed) -> TreeModule
     ensures expressions { result.expressions.items ≡ [] }
     ensures name { result.name ≡ typed.now.name }
@@ -72,14 +72,14 @@ pub(crate) fn wrapped(offset: u32) -> u16
     (offset % 65536) as u16
 }
 
-/// A size, or the greatest number of 16 bits where it is more.
+/// A size, saturated at 65535.
 pub(crate) fn capped(size: u32) -> u16
     ensures { result ≡ min size 65535 }
 {
     u16::try_from(size).unwrap_or(u16::MAX)
 }
 
-/// The number after another one. One past the greatest number of 32 bits is out of memory.
+/// The next number, or out of memory past the greatest number of 32 bits.
 pub(crate) fn next_number(number: u32) -> Result<u32, AllocError>
     ensures { IfOk result (λ next. next ≡ suc number) }
 {
@@ -89,7 +89,7 @@ pub(crate) fn next_number(number: u32) -> Result<u32, AllocError>
     }
 }
 
-/// Where a constant list lies, from the start of the code segment.
+/// The address of a constant list, as an offset from the start of the code segment.
 pub(crate) fn list_offset(storage: &Layout, list: u32) -> u16
     ensures { result ≡ offset_of_list (layout_view storage.now) list }
 {
@@ -100,7 +100,7 @@ pub(crate) fn list_offset(storage: &Layout, list: u32) -> u16
 }
 
 impl Lowering {
-    // A module of which no body is lowered yet.
+    // Begins to lower the bodies of a module.
     fn new(alloc: Global, tree: TreeModule) -> Lowering
         ensures { result.tree ≡ tree }
     {
@@ -113,7 +113,7 @@ impl Lowering {
         }
     }
 
-    // The tree code.
+    // Returns the tree code.
     fn finish(self) -> TreeModule
         ensures { result ≡ self.tree }
     {
@@ -127,7 +127,7 @@ impl Lowering {
         tree
     }
 
-    /// The number in its procedure of a label of the module, whose list has begun.
+    /// The number in its procedure of a label of the module, after its list has begun.
     #[tactic(auto, unfolding(crate::specs::internal::Beside::beside))]
     pub(crate) fn label(&self, label: u32) -> u32
         ensures { result ≡ label_in (walk_of self.now) label }
@@ -151,7 +151,7 @@ impl Lowering {
         }
     }
 
-    /// Gives the next numbers of the procedure to so many labels of the module, from a first one on.
+    /// Gives the next numbers of the procedure to `count` labels of the module, from the label `first` on.
     pub(crate) fn number_labels(&mut self, first: u32, count: usize) -> Result<(), AllocError>
         ensures kept { OnOk result (outside self.new ≡ outside self.old) }
         ensures ok { OnOk result (walk_of self.new ≡ numbered (walk_of self.old) first count) }
@@ -163,7 +163,7 @@ impl Lowering {
         Ok(())
     }
 
-    /// Something in the body has this height.
+    /// Notes the height of an expression, a target or a call in the body.
     #[tactic(auto, unfolding(crate::specs::internal::Beside::beside))]
     pub(crate) fn note_height(&mut self, height: u16)
         ensures kept { outside self.new ≡ outside self.old }
@@ -172,7 +172,7 @@ impl Lowering {
         self.height = self.height.max(height as u32);
     }
 
-    /// A body begins, in which there is nothing yet.
+    /// Begins a body, with no labels and the height 0.
     #[tactic(auto, unfolding(crate::specs::internal::Beside::beside))]
     pub(crate) fn begin_body(&mut self)
         ensures kept { outside self.new ≡ outside self.old }
@@ -182,7 +182,7 @@ impl Lowering {
         self.height = 0;
     }
 
-    /// How many labels the body has so far.
+    /// The number of labels in the body so far.
     #[tactic(auto, unfolding(crate::specs::internal::Beside::beside))]
     pub(crate) fn label_count(&self) -> u32
         ensures { result ≡ (walk_of self.now).label_count }
@@ -199,7 +199,7 @@ impl Lowering {
     }
 }
 
-// A label so many after a first one. One past the greatest number of 32 bits is out of memory.
+// The label `index` after the first one, or out of memory past the greatest number of 32 bits.
 fn label_after(first: u32, index: usize) -> Result<u32, AllocError>
     ensures { IfOk result (λ label. label ≡ first + index) }
 {
@@ -212,8 +212,8 @@ fn label_after(first: u32, index: usize) -> Result<u32, AllocError>
     }
 }
 
-// The tables of a module that stand before its bodies: its EXTERNAL names, the headings of its procedures, and where its
-// objects begin.
+// A module with the tables that come before its bodies: its EXTERNAL names, the headings of its procedures, and the
+// homes of its objects.
 fn with_declarations(
     alloc: Global,
     typed: &Typed,
@@ -243,7 +243,7 @@ fn with_declarations(
     Ok(tree)
 }
 
-// Adds to a module what its procedures and its outer level hold.
+// Adds the bodies of the procedures and the statements at the outer level to a module.
 fn with_bodies(
     alloc: Global,
     tree: TreeModule,
@@ -260,7 +260,7 @@ fn with_bodies(
     Ok(lowering.finish())
 }
 
-/// A typed module as tree code, with its objects where its storage has them.
+/// Lowers a typed module to tree code, with the storage of its objects.
 pub fn lower(alloc: Global, typed: &Typed, storage: &Layout) -> Result<TreeModule, AllocError>
     requires jumps { JumpsAreSound (module_view typed.now) }
     ensures lowered { IfOk result (IsLowered (module_view typed.now) (layout_view storage.now)) }

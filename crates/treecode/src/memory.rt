@@ -1,4 +1,4 @@
-//! Expressions whose low byte lies in memory.
+//! Expressions with a low byte that is in memory.
 
 ghost use Rattle.std.specs.Prelude.{◌≡◌};
 ghost use Rattle.treecode.specs.Nodes.{nodes_of};
@@ -28,7 +28,7 @@ fn same_low_byte(tree: &TreeModule, form: ExpressionForm) -> ExpressionForm
     }
 }
 
-// The part of memory that HIGH of an expression is, if it is one.
+// The part of memory that holds HIGH of an expression, if any.
 fn high_in_memory(tree: &TreeModule, operand: ExpressionNumber) -> Option<Reference>
     ensures { result ≡ high_in_memory (nodes_of tree.now) operand }
 {
@@ -42,8 +42,8 @@ fn high_in_memory(tree: &TreeModule, operand: ExpressionNumber) -> Option<Refere
     }
 }
 
-/// The part of memory that holds the low byte of an expression of a form, where the expression is a scalar, or LOW, HIGH,
-/// DOUBLE or a conversion of one.
+/// The part of memory that holds the low byte of an expression of this form, if it is a scalar, or LOW, HIGH, DOUBLE or
+/// a conversion of one.
 pub(crate) fn memory_of(tree: &TreeModule, form: ExpressionForm) -> Option<Reference>
     ensures { result ≡ memory_of_form (nodes_of tree.now) form }
 {

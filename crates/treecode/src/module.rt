@@ -14,24 +14,24 @@ use crate::traits::{Traits, traits_of};
 use std::alloc::AllocError;
 use trees::{Name, ScalarType};
 
-/// What stands in a segment, from its start on.
+/// A piece of a segment. The pieces follow each other from its start on.
 #[derive(Clone, Copy)]
 pub enum Content {
     /// A byte.
     Byte(u8),
     /// Two bytes, the low one first.
     Word(Place),
-    /// So many bytes that are not set.
+    /// This number of unset bytes.
     Gap(u16),
 }
 
-/// A name of another module that this one declares EXTERNAL.
+/// A name that this module declares EXTERNAL.
 #[derive(Clone, Copy)]
 pub struct ExternalName {
     pub name: Name,
 }
 
-/// What a PUBLIC name stands for.
+/// The item that a PUBLIC name refers to.
 #[derive(Clone, Copy)]
 pub enum PublicPlace {
     Object(Place),
@@ -46,7 +46,7 @@ pub struct PublicName {
     pub place: PublicPlace,
 }
 
-/// A module of tree code. What its numbers stand for is in its tables.
+/// A module of tree code. Its tables hold what its numbers refer to.
 pub struct TreeModule {
     pub name: Name,
     /// Where each object begins, by its number.
@@ -60,7 +60,8 @@ pub struct TreeModule {
     pub procedures: Vec<TreeProcedure>,
     /// The statements at the outer level.
     pub main: TreeProcedure,
-    /// What the code segment begins with: the objects with DATA and the constant lists, in the order of the text.
+    /// The contents at the start of the code segment: the objects with DATA and the constant lists, in the order of the
+    /// text.
     pub constants: Vec<Content>,
     /// The data segment: the objects without AT and DATA, in the order of their declarations.
     pub variables: Vec<Content>,
@@ -76,7 +77,7 @@ impl TreeModule {
     ghost use Rattle.treecode.specs.Queries.{low_byte_at};
     ghost use Rattle.treecode.specs.Traits.{expression_of, number_at, traits_at};
 
-    /// Where an object begins; the address 0 where there is none of that number.
+    /// The home of an object; the address 0 if there is no object with this number.
     pub fn home(&self, object: u32) -> Home
         ensures { result ≡ home_at (nodes_of self.now).homes object }
     {
@@ -86,7 +87,7 @@ impl TreeModule {
         }
     }
 
-    /// The expression of a number, if there is one.
+    /// The expression with this number, if any.
     pub fn expression(&self, number: ExpressionNumber) -> Option<Expression>
         ensures { result ≡ slice_get (nodes_of self.now).expressions number.index }
     {
@@ -106,7 +107,7 @@ impl TreeModule {
         }
     }
 
-    /// The statement of a number, if there is one.
+    /// The statement with this number, if any.
     pub fn statement(&self, number: StatementNumber) -> Option<Statement>
         ensures { result ≡ slice_get (nodes_of self.now).statements number.index }
     {
@@ -143,8 +144,8 @@ impl TreeModule {
         }
     }
 
-    /// What is known of an expression; nothing where there is none of that number. It is found sooner than the
-    /// expression.
+    /// The traits of an expression; those of an unknown one if there is none with this number. Reading them is faster
+    /// than reading the expression.
     pub fn traits(&self, number: ExpressionNumber) -> Traits
         ensures { result ≡ traits_at (nodes_of self.now) number }
     {
@@ -154,7 +155,7 @@ impl TreeModule {
         }
     }
 
-    /// The number that an expression is, where it is known and depends on nothing.
+    /// The value of an expression, if it is known as a number.
     pub(crate) fn number(&self, number: ExpressionNumber) -> Option<u16>
         ensures { result ≡ number_at (nodes_of self.now) number }
     {
@@ -164,7 +165,7 @@ impl TreeModule {
         }
     }
 
-    /// Tells that its numbers have the width of a word, and does nothing.
+    /// Shows that its numbers have 16 bits. It does nothing.
     pub fn hold_words(&self)
         ensures { NumbersAreWords (nodes_of self.now) }
     {
@@ -175,7 +176,7 @@ impl TreeModule {
         }
     }
 
-    /// Adds an expression of a type, whose parts stand already.
+    /// Adds an expression of a type, after its parts.
     pub(crate) fn add_expression(
         &mut self,
         scalar: ScalarType,
@@ -193,7 +194,7 @@ impl TreeModule {
         Ok(ExpressionNumber { index })
     }
 
-    /// Adds a statement, whose parts stand already.
+    /// Adds a statement, after its parts.
     pub(crate) fn add_statement(
         &mut self,
         statement: Statement,
@@ -250,7 +251,7 @@ impl TreeModule {
     }
 }
 
-/// The index that follows so many entries. A table of more than 4,294,967,295 entries is out of memory.
+/// The index after `count` entries. A table of more than 4,294,967,295 entries is out of memory.
 pub(crate) fn next_index(count: usize) -> Result<u32, AllocError>
     ensures { IfOk result (λ index. index ≡ count) }
 {
@@ -260,7 +261,7 @@ pub(crate) fn next_index(count: usize) -> Result<u32, AllocError>
     }
 }
 
-// Which entry of its table an item of a range is, counted from 0.
+// The index in its table of an item of a range, counted from 0.
 fn entry(range: Range, index: u32) -> Option<usize>
     ensures { result ≡ entry_of range index }
 {
@@ -271,7 +272,7 @@ fn entry(range: Range, index: u32) -> Option<usize>
     }
 }
 
-// Written out, so that what it holds is let go here, and each crate that lets one go calls this.
+// Written out so that the fields are dropped in one place, which other crates call.
 impl Drop for TreeModule {
     fn drop(self) {
         let TreeModule {

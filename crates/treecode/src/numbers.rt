@@ -2,7 +2,7 @@
 
 use std::alloc::{AllocError, Global};
 
-/// Numbers by other numbers, where they are known.
+/// Optional numbers, indexed by other numbers.
 #[derive(Drop)]
 pub(crate) struct Numbers {
     entries: Vec<Option<u32>>,
@@ -12,7 +12,7 @@ impl Numbers {
     ghost use Rattle.std.specs.Prelude.{◌≡◌, [], Some, OnOk, slice_set};
     ghost use Rattle.treecode.specs.internal.Numbers.{number_in, reaching, with_number};
 
-    /// None is known.
+    /// An empty table.
     pub(crate) fn new(alloc: Global) -> Numbers
         ensures { result.entries.items ≡ [] }
     {
@@ -21,7 +21,7 @@ impl Numbers {
         }
     }
 
-    /// The number by another one, if it is known.
+    /// The number for an index, if known.
     pub(crate) fn get(&self, index: u32) -> Option<u32>
         ensures { result ≡ number_in self.now.entries.items index }
     {
@@ -31,7 +31,7 @@ impl Numbers {
         }
     }
 
-    // Adds entries of which no number is known, so that there is one by a number.
+    // Adds entries without a number up to this index.
     #[tactic(auto, using(crate::proofs::NumberTables::reached, crate::proofs::NumberTables::reached_before))]
     fn reach(&mut self, index: u32) -> Result<(), AllocError>
         ensures { OnOk result (self.new.entries.items ≡ reaching self.old.entries.items index) }
@@ -52,7 +52,7 @@ impl Numbers {
         }
     }
 
-    /// The number by another one is known from now on.
+    /// Sets the number for an index.
     #[tactic(auto, using(crate::proofs::NumberTables::number_put))]
     pub(crate) fn insert(&mut self, index: u32, number: u32) -> Result<(), AllocError>
         ensures { OnOk result (self.new.entries.items

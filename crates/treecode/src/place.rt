@@ -1,36 +1,36 @@
-//! Where things lie, before a module has its place in memory.
+//! Places and locations, before the segments of a module have their addresses.
 
-/// A word that is known but for where the segments of the module and the names of other modules will lie.
+/// A known word: a number, or an address relative to a segment of the module or to an EXTERNAL name.
 #[derive(Clone, Copy, PartialEq, Eq)]
 pub enum Place {
     /// A number.
     Number(u16),
-    /// So many bytes after the start of the code segment, which begins with the constants.
+    /// This offset from the start of the code segment, which begins with the constants.
     Code(u16),
-    /// So many bytes after the start of the data segment.
+    /// This offset from the start of the data segment.
     Data(u16),
-    /// So many bytes, modulo 65536, after what an EXTERNAL name stands for, by its index among the external names.
+    /// This offset, modulo 65536, from the address of an EXTERNAL name, by its index among the external names.
     External { offset: u16, name: u32 },
 }
 
-/// Where a scalar lies that no subscript and no base has a part in.
+/// The location of a scalar without a subscript and without a base.
 #[derive(Clone, Copy, PartialEq, Eq)]
 pub enum Location {
     /// In memory.
     Static(Place),
-    /// So many bytes after the start of a variable or parameter in the frame of a REENTRANT procedure, by its number
+    /// This offset from the start of a variable or parameter in the frame of a REENTRANT procedure, by its number
     /// there.
     Frame { variable: u16, offset: u16 },
 }
 
-/// Where an object begins.
+/// The start of an object.
 #[derive(Clone, Copy, PartialEq, Eq)]
 pub enum Home {
     /// In memory.
     Static(Place),
     /// At the address that a scalar holds, its base.
     Based(Location),
-    /// Where a variable or parameter in the frame of a REENTRANT procedure begins, by its number there.
+    /// At the start of a variable or parameter in the frame of a REENTRANT procedure, by its number there.
     Frame(u16),
 }
 
@@ -38,7 +38,7 @@ impl Place {
     ghost use Rattle.std.specs.Prelude.{◌≡◌};
     ghost use Rattle.treecode.specs.Homes.{number_of_place, place_after};
 
-    /// The place so many bytes further on, modulo 65536.
+    /// The place `distance` bytes further on, modulo 65536.
     pub fn after(self, distance: u16) -> Place
         ensures { result ≡ place_after self distance }
     {
@@ -53,7 +53,7 @@ impl Place {
         }
     }
 
-    /// The number that it is, if it depends on nothing.
+    /// The number, if the place is one.
     pub fn number(self) -> Option<u16>
         ensures { result ≡ number_of_place self }
     {
@@ -68,7 +68,7 @@ impl Location {
     ghost use Rattle.std.specs.Prelude.{◌≡◌};
     ghost use Rattle.treecode.specs.Homes.{location_after};
 
-    /// The location so many bytes further on, modulo 65536.
+    /// The location `distance` bytes further on, modulo 65536.
     pub fn after(self, distance: u16) -> Location
         ensures { result ≡ location_after self distance }
     {

@@ -5,29 +5,29 @@ use crate::place::Location;
 use std::alloc::Global;
 use trees::ScalarType;
 
-/// A parameter: its type and where it lies.
+/// A parameter: its type and its location.
 #[derive(Clone, Copy)]
 pub struct Parameter {
     pub scalar: ScalarType,
     pub location: Location,
 }
 
-/// A variable or a parameter in the frame of a REENTRANT procedure, and how many bytes it takes.
+/// A variable or a parameter in the frame of a REENTRANT procedure, and its size in bytes.
 #[derive(Clone, Copy)]
 pub struct FrameVariable {
     pub size: u16,
-    /// Which parameter it is, from 0.
+    /// Its index as a parameter, counted from 0.
     pub parameter: Option<u16>,
 }
 
-/// How a procedure comes to its code.
+/// The kind of a procedure.
 #[derive(Clone, Copy, PartialEq, Eq)]
 pub enum ProcedureKind {
     /// Its parameters and variables are static.
     Static,
     /// Each call has a frame of its own.
     Reentrant,
-    /// It is in another module: its index among the external names.
+    /// In another module: the index of its name among the external names.
     External(u32),
 }
 
@@ -35,16 +35,16 @@ pub enum ProcedureKind {
 pub struct TreeProcedure {
     pub kind: ProcedureKind,
     pub result: Option<ScalarType>,
-    /// In the order of the heading.
+    /// The parameters in the order of the heading.
     pub parameters: Vec<Parameter>,
-    /// The variables and parameters in the frame of a REENTRANT procedure, by their numbers there: in the order of their
-    /// declarations.
+    /// The variables and parameters in the frame of a REENTRANT procedure, by their numbers there, in the order of
+    /// their declarations.
     pub frame: Vec<FrameVariable>,
-    /// The bytes of the variables of a REENTRANT procedure, without its parameters; else 0.
+    /// The size in bytes of the variables of a REENTRANT procedure, without its parameters; else 0.
     pub frame_bytes: u32,
-    /// How many labels its body has.
+    /// The number of labels in its body.
     pub label_count: u32,
-    /// The statements of its body, in the module's table of lists. None where it is EXTERNAL.
+    /// The statements of its body, in the module's table of lists. Empty if it is EXTERNAL.
     pub body: Range,
     /// Whether its end can be reached.
     pub reaches_its_end: bool,
@@ -76,7 +76,7 @@ impl TreeProcedure {
     }
 }
 
-// Written out, so that what it holds is let go here, and each crate that lets one go calls this.
+// Written out so that the fields are dropped in one place, which other crates call.
 impl Drop for TreeProcedure {
     fn drop(self) {
         let TreeProcedure {

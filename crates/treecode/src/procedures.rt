@@ -1,4 +1,4 @@
-//! Typed procedures as tree code.
+//! Lowering of typed procedures to tree code.
 
 ghost use Rattle.std.specs.Prelude.{◌≡◌, ◌++◌, map, zip, length, IfOk, OnOk};
 ghost use Rattle.typed_trees.specs.Jumps.{BodyIsSound};
@@ -22,7 +22,7 @@ use std::alloc::{AllocError, Global};
 use trees::ScalarType;
 use typed_trees::{TypedProcedure, Visibility};
 
-// How a procedure comes to its code, by its index among the EXTERNAL names.
+// The kind of a procedure, from its index among the EXTERNAL names, if it has one.
 fn kind_of(external: Option<u32>, typed: &TypedProcedure) -> ProcedureKind
     ensures { result ≡ kind_with external typed.now.visibility typed.now.is_reentrant }
 {
@@ -33,7 +33,7 @@ fn kind_of(external: Option<u32>, typed: &TypedProcedure) -> ProcedureKind
     }
 }
 
-// A procedure of a number, of which only the heading is known.
+// A procedure with this number, with only its heading.
 fn heading_of(
     alloc: Global,
     externals: &Externals,
@@ -49,7 +49,7 @@ fn heading_of(
     procedure
 }
 
-/// Adds the procedures of a module, of which only the headings are known.
+/// Adds the procedures of a module, with only their headings.
 pub(crate) fn add_headings(
     alloc: Global,
     tree: &mut TreeModule,
@@ -71,7 +71,7 @@ pub(crate) fn add_headings(
     Ok(())
 }
 
-// A parameter, whose object has a number.
+// A parameter, from the number of its object.
 fn parameter_at(tree: &TreeModule, scalar: ScalarType, object: u32) -> Parameter
     ensures { result ≡ parameter_at (nodes_of tree.now).homes (scalar, object) }
 {
@@ -106,7 +106,7 @@ fn parameters_of(
     Ok(parameters)
 }
 
-// What stands in a procedure.
+// The body of a procedure.
 #[derive(Drop)]
 struct Body {
     parameters: Vec<Parameter>,
@@ -117,7 +117,7 @@ struct Body {
 }
 
 impl TreeProcedure {
-    // Puts what stands in it under its heading.
+    // Completes a procedure, which has its heading, with its body.
     fn complete(&mut self, body: Body)
         ensures { self.new ≡ completed self.old body }
     {
@@ -144,7 +144,7 @@ impl Lowering {
         )
     }
 
-    // Adds what stands in a procedure.
+    // Adds the body of a procedure.
     fn body(&mut self, storage: &Layout, typed: &TypedProcedure) -> Result<Body, AllocError>
         ensures kept { OnOk result (outside self.new ≡ outside self.old) }
         ensures ok { IfOk result (λ body. IsBody (layout_view storage.now) (walk_of self.old)
@@ -162,7 +162,7 @@ impl Lowering {
         })
     }
 
-    // Puts what stands in a procedure under its heading.
+    // Completes the procedure with this number, which has its heading, with its body.
     #[tactic(auto, unfolding(crate::specs::internal::Beside::beside))]
     fn put_body(&mut self, number: usize, body: Body)
         ensures walk { walk_of self.new ≡ walk_of self.old }
@@ -173,7 +173,7 @@ impl Lowering {
         }
     }
 
-    /// Adds what stands in the procedures of a module, whose headings stand already.
+    /// Adds the bodies of the procedures of a module, which have their headings.
     pub(crate) fn add_bodies(
         &mut self,
         storage: &Layout,
@@ -192,7 +192,7 @@ impl Lowering {
         Ok(())
     }
 
-    // Puts what stands at the outer level into the main program.
+    // Completes the main program with its body.
     #[tactic(auto, unfolding(crate::specs::internal::Beside::beside))]
     fn put_main(&mut self, body: Body)
         ensures walk { walk_of self.new ≡ walk_of self.old }

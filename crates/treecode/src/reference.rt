@@ -1,4 +1,4 @@
-//! Objects and parts of objects, and what values are stored in.
+//! References to objects and parts of objects, and targets of assignments.
 
 ghost use Rattle.std.specs.Prelude.{◌≡◌};
 ghost use Rattle.treecode.specs.Queries.{number_bound, reference_bound, source, subscript_bound, target_bound};
@@ -6,26 +6,26 @@ ghost use Rattle.treecode.specs.Queries.{number_bound, reference_bound, source, 
 use crate::expression::ExpressionNumber;
 use trees::ScalarType;
 
-/// An element that is meant: the value of an ADDRESS expression, and how many bytes each element takes (0 to 65535).
+/// A subscript: the value of an ADDRESS expression, and the stride in bytes (0 to 65535).
 #[derive(Clone, Copy)]
 pub struct Subscript {
     pub index: ExpressionNumber,
     pub stride: u16,
 }
 
-/// An object, or a part of it: an element, so many bytes further on in the element (a member), and an element of the
-/// member.
+/// A reference to an object or a part of it: an element of the object, a member at an offset in that element, and an
+/// element of that member.
 #[derive(Clone, Copy)]
 pub struct Reference {
     /// The object, by its number in the module.
     pub object: u32,
     pub subscript: Option<Subscript>,
-    /// Where the member begins in the element, 0 where none is meant.
+    /// The offset of the member in the element; 0 without a member.
     pub offset: u16,
     pub member_subscript: Option<Subscript>,
 }
 
-/// What a value of the type `from` goes to.
+/// The target that a value of the type `from` is assigned to.
 #[derive(Clone, Copy)]
 pub enum Target {
     /// A scalar of the type `to`, which the value is converted to.
@@ -42,7 +42,7 @@ pub enum Target {
 }
 
 impl Subscript {
-    // One more than the number of its index.
+    // The number of its index plus 1.
     fn bound(self) -> u32
         ensures { result ≡ number_bound self.index }
     {
@@ -50,7 +50,7 @@ impl Subscript {
     }
 }
 
-// One more than the number of the index of a subscript, 0 where there is none.
+// The number of the index of a subscript plus 1; 0 if absent.
 fn subscript_bound(subscript: Option<Subscript>) -> u32
     ensures { result ≡ subscript_bound subscript }
 {
@@ -61,7 +61,7 @@ fn subscript_bound(subscript: Option<Subscript>) -> u32
 }
 
 impl Reference {
-    /// One more than the greatest number of an expression in it, 0 where there is none.
+    /// The greatest number of an expression in it plus 1; 0 if it has no expression.
     pub fn bound(&self) -> u32
         ensures { result ≡ reference_bound self.now }
     {
@@ -70,7 +70,7 @@ impl Reference {
 }
 
 impl Target {
-    /// One more than the greatest number of an expression in it, 0 where there is none.
+    /// The greatest number of an expression in it plus 1; 0 if it has no expression.
     pub fn bound(&self) -> u32
         ensures { result ≡ target_bound self.now }
     {
@@ -80,7 +80,7 @@ impl Target {
         }
     }
 
-    /// The type of the value that goes to it.
+    /// The type of the value that is assigned to it.
     pub fn source(&self) -> ScalarType
         ensures { result ≡ source self.now }
     {

@@ -4,14 +4,14 @@ use crate::expression::ExpressionNumber;
 use crate::lists::Range;
 use trees::ScalarType;
 
-/// The number of a statement in its module: each part of a statement has a number below that of the whole.
+/// The number of a statement in its module. Each part of a statement has a lower number than the whole.
 #[derive(Clone, Copy, PartialEq, Eq)]
 pub struct StatementNumber {
     pub index: u32,
 }
 
-/// The head of an iterative DO: the variable, a whole scalar of the type `scalar` by its object's number, which the first
-/// value is converted to as it is stored.
+/// The head of an iterative DO. The variable is a whole scalar of the type `scalar`, by its object's number; storing
+/// the first value converts it to that type.
 #[derive(Clone, Copy)]
 pub struct Iteration {
     pub variable: u32,
@@ -21,15 +21,15 @@ pub struct Iteration {
     pub step: Option<ExpressionNumber>,
 }
 
-/// A statement. Lists of statements stand in the module's table of lists, targets in its table of targets, arguments in
+/// A statement. Lists of statements are in the module's table of lists, targets in its table of targets, arguments in
 /// its table of arguments.
 #[derive(Clone, Copy)]
 pub enum Statement {
-    /// A label of the procedure, by its number there. It stands before the statement that it names.
+    /// A label of the procedure, by its number there. It comes before the statement that it labels.
     Label(u32),
     /// `;`
     Null,
-    /// All targets get the one value.
+    /// Assigns one value to all targets.
     Assignment {
         targets: Range,
         value: ExpressionNumber,
@@ -39,7 +39,7 @@ pub enum Statement {
         procedure: u32,
         arguments: Range,
     },
-    /// CALL MOVE: so many bytes, from where, to where. Each is an ADDRESS.
+    /// CALL MOVE: the number of bytes, the source and the destination. Each is an ADDRESS.
     Move {
         count: ExpressionNumber,
         source: ExpressionNumber,
@@ -72,5 +72,5 @@ pub enum Statement {
     },
 }
 
-// A module has many statements, so each is small.
+// A module has many statements, so each must be small.
 const _: () = prove!(size_of::<Statement>() <= 40);

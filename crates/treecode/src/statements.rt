@@ -1,4 +1,4 @@
-//! Typed statements as tree code.
+//! Lowering of typed statements to tree code.
 
 ghost use Rattle.std.specs.Prelude.{◌≡◌, map, option_map, IfOk, OnOk};
 ghost use Rattle.typed_trees.specs.TypedTrees.{CaseStatement, IfStatement, IterateStatement, MoveStatement, WhileStatement};
@@ -25,14 +25,14 @@ use typed_trees::{
     TypedMove, TypedStatement, TypedTarget, TypedWhile,
 };
 
-/// A statement that is added, and whether its end can be reached.
+/// A statement that was added, and whether its end can be reached.
 #[derive(Clone, Copy)]
 pub(crate) struct AddedStatement {
     number: StatementNumber,
     reaches_its_end: bool,
 }
 
-/// A list of statements that is added, and whether its end can be reached.
+/// A list of statements that was added, and whether its end can be reached.
 #[derive(Clone, Copy)]
 pub(crate) struct AddedList {
     pub(crate) range: Range,
@@ -92,14 +92,14 @@ impl Lowering {
         })
     }
 
-    // The height of a target that is added.
+    // The height of a target that was added.
     fn target_height(&self, target: &Target) -> u16
         ensures { result ≡ height_of_target (nodes_of self.now.tree) target.now }
     {
         height_of_target(&self.tree, target)
     }
 
-    // The height of a call with arguments that are added.
+    // The height of a call with arguments that were added.
     fn call_height(&self, arguments: Range) -> u16
         ensures { result ≡ height_of_call (nodes_of self.now.tree) arguments }
     {
@@ -302,7 +302,7 @@ impl Lowering {
         }
     }
 
-    // Adds IF. Its end can't be reached where no end of its two statements can.
+    // Adds IF. Its end can be reached if the end of one of its two statements can.
     #[cycle(statement)]
     fn choose(&mut self, storage: &Layout, branch: &TypedIf) -> Result<AddedStatement, AllocError>
         ensures kept { OnOk result (outside self.new ≡ outside self.old) }
@@ -347,7 +347,7 @@ impl Lowering {
         }
     }
 
-    // Whether a loop with a condition can end: not where the condition is known and true.
+    // Whether a loop with this condition can end: it can unless the condition is known to be true.
     fn ends(&self, condition: ExpressionNumber) -> bool
         ensures { result ≡ ends_by (number_at (nodes_of self.now.tree) condition) }
     {
@@ -357,7 +357,7 @@ impl Lowering {
         }
     }
 
-    // Adds DO WHILE. Its end can't be reached where the condition is known and true.
+    // Adds DO WHILE. Its end can be reached unless the condition is known to be true.
     #[cycle(statement)]
     fn repeat(&mut self, storage: &Layout, turns: &TypedWhile) -> Result<AddedStatement, AllocError>
         ensures kept { OnOk result (outside self.new ≡ outside self.old) }
@@ -433,7 +433,7 @@ impl Lowering {
         self.statements(storage, list.statements.as_slice())
     }
 
-    // Adds statements in a row. Their end can be reached where that of the last one can.
+    // Adds statements in a row. Their end can be reached if that of the last one can.
     #[cycle(statement)]
     fn statements(
         &mut self,

@@ -1,4 +1,4 @@
-//! Expressions as a module keeps them.
+//! The compact form in which a module stores expressions.
 
 ghost use Rattle.std.specs.Prelude.{◌≡◌, ◌<◌};
 ghost use Rattle.treecode.specs.declared.expression.ExpressionForm.TheVariants.{Assignment};
@@ -15,7 +15,7 @@ use std::marker::Model;
 use trees::{BinaryOperator, ScalarType, UnaryOperator};
 use typed_trees::{ShiftFunction, UnaryFunction};
 
-/// An element that is meant, if one is.
+/// A subscript, if any.
 #[derive(Clone, Copy)]
 pub(crate) enum StoredSubscript {
     Whole,
@@ -34,7 +34,7 @@ pub(crate) struct StoredReference {
     member_subscript: StoredSubscript,
 }
 
-/// What an expression is, with the target of an assignment laid flat.
+/// The form of an expression, with the fields of the target of an assignment in line.
 #[derive(Clone, Copy)]
 pub(crate) enum StoredForm {
     Number(u16),
@@ -81,7 +81,7 @@ pub(crate) enum StoredForm {
     Input(u8),
 }
 
-/// Which registers are kept.
+/// The registers that are kept.
 #[derive(Clone, Copy)]
 pub(crate) enum StoredKeeps {
     Neither,
@@ -90,7 +90,7 @@ pub(crate) enum StoredKeeps {
     Both,
 }
 
-/// What is known of an expression. Its value is `known` where it `is_known`.
+/// The traits of an expression. Its value is `known` if `is_known`.
 #[derive(Clone, Copy)]
 pub(crate) struct StoredTraits {
     known: Place,
@@ -110,7 +110,7 @@ pub(crate) struct StoredExpression {
     traits: StoredTraits,
 }
 
-// A module has many expressions, so each is small.
+// A module has many expressions, so each must be small.
 const _: () = prove!(size_of::<StoredExpression>() <= 48);
 
 impl Model for StoredExpression {
@@ -232,7 +232,7 @@ impl StoredReference {
     }
 }
 
-// An assignment as it is kept.
+// The stored form of an assignment.
 fn stored_assignment(target: Target, value: ExpressionNumber) -> StoredForm
     ensures { form_of result ≡ Assignment target value }
 {
@@ -251,7 +251,7 @@ fn stored_assignment(target: Target, value: ExpressionNumber) -> StoredForm
     }
 }
 
-// Tells that a number of 16 bits has the width of a word.
+// Shows that a `u16` has 16 bits.
 fn hold_word(number: u16)
     ensures { number < 65536 }
 {
@@ -369,7 +369,7 @@ impl StoredForm {
 }
 
 impl StoredExpression {
-    /// An expression as it is kept.
+    /// Stores an expression.
     pub(crate) fn of(expression: Expression) -> StoredExpression
         ensures { result ≡ expression }
     {
@@ -379,7 +379,7 @@ impl StoredExpression {
         }
     }
 
-    /// The expression.
+    /// Restores the expression.
     pub(crate) fn expression(&self) -> Expression
         ensures { result ≡ self.now }
     {
@@ -389,7 +389,7 @@ impl StoredExpression {
         }
     }
 
-    /// The expression inside LOW, DOUBLE or a conversion; else the number that it has itself.
+    /// The expression inside LOW, DOUBLE or a conversion; else the number of the expression itself.
     pub(crate) fn same_low_byte(&self, number: ExpressionNumber) -> ExpressionNumber
         ensures { result ≡ inside number self.now.form }
     {
@@ -403,7 +403,7 @@ impl StoredExpression {
         }
     }
 
-    /// Tells that the number that it is, if it is one, has the width of a word, and does nothing.
+    /// Shows that its number, if it is one, has 16 bits. It does nothing.
     pub(crate) fn hold_word(&self)
         ensures { FormIsWord self.now.form }
     {
@@ -412,7 +412,7 @@ impl StoredExpression {
         }
     }
 
-    /// What is known of it.
+    /// The traits of the expression.
     pub(crate) fn traits(&self) -> Traits
         ensures { result ≡ self.now.traits }
     {

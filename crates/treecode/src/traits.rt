@@ -1,4 +1,4 @@
-//! What is known of an expression without looking at its parts again.
+//! Traits of an expression, stored so that its parts need not be visited again.
 
 ghost use Rattle.std.specs.Prelude.{◌≡◌};
 ghost use Rattle.treecode.specs.Nodes.{nodes_of};
@@ -14,20 +14,20 @@ use crate::module::TreeModule;
 use crate::place::Place;
 use trees::ScalarType;
 
-/// Which registers the code that puts a value, or the address of an object, into HL leaves as they were. A register that
-/// is not kept may hold anything afterwards.
+/// The registers that code keeps while it puts a value, or the address of an object, into HL. A register that is not
+/// kept may hold anything afterwards.
 #[derive(Clone, Copy, PartialEq, Eq)]
 pub struct Keeps {
     pub a: bool,
     pub de: bool,
 }
 
-/// What is known of an expression.
+/// The traits of an expression.
 #[derive(Clone, Copy)]
 pub struct Traits {
-    /// Its value, exact in its type, where that is known but for where things lie.
+    /// Its value, exact in its type, if it is known as a number or a relocatable address.
     pub known: Option<Place>,
-    /// Its height, as the stack charge counts it (65,535 where it is more).
+    /// Its height, as the stack charge counts it; 65,535 if that is more.
     pub height: u16,
     /// The type of its value.
     pub scalar: ScalarType,
@@ -35,9 +35,9 @@ pub struct Traits {
     pub is_quiet: bool,
     /// It calls nothing and stores nothing.
     pub stores_nothing: bool,
-    /// Its low byte can be put into A by code that changes A and the flags alone.
+    /// Code that changes only A and the flags can put its low byte into A.
     pub is_free: bool,
-    /// What the code that puts its value into HL keeps.
+    /// The registers that the code putting its value into HL keeps.
     pub keeps: Keeps,
 }
 
@@ -83,7 +83,7 @@ impl Traits {
     }
 }
 
-/// What is known of an expression of a type and a form, whose parts stand in the module.
+/// The traits of an expression of this type and form. Its parts have been added to the module.
 #[tactic(auto, unfolding(crate::specs::Traits::traits_of))]
 pub(crate) fn traits_of(tree: &TreeModule, scalar: ScalarType, form: &ExpressionForm) -> Traits
     ensures { result ≡ traits_of (nodes_of tree.now) scalar form.now }

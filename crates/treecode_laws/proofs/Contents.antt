@@ -1,15 +1,15 @@
--- The contents of tree code are the bytes that the segments of the module have before it has its place.
+-- The contents of tree code are the bytes of the module's segments before it is placed.
 use Rattle.treecode_laws.proofs.Prelude.{◌≡◌, ℕ, zero, suc, ◌+◌, ◌-◌, ◌<◌, ◌≤◌, Bool, true, false, List, [], ◌∷◌, ◌++◌, map, replicate, flat_map, Option, Some, None, refl, ap, sym, subst, ◌∙◌, append-nil, append_assoc, arith, nat_le, nat_lt, ◌&&◌, ◌==◌, min, All, filter_map, slice_get, sum_by, unwrap_or, if◌then◌else◌, AllByRecursion, cons_option, enumerate_from, option_map_or, eqb-true, flat_map-append, replicate-append-replicate, recursion_from_All, sum_by-cons, ConstantItem, ConstantObject, ConstantList, InitialValue, ByteValue, WordValue, LocationValue, size_of_object, object_in, numbered_constant, constant_number, size_of_value, bytes_filled, TypedHome, InData, InConstants, Placed, BasedOn, Elsewhere, Nowhere, InFrame, TypedObject, TypedModule, values_in, Location, Absolute, further_on, location_of, SegmentByte, Places, places_of_bytes, places_of_location, places_of_value, places_of_object, places_of_constant, constant_places, places_by_home, data_places, Storage, bytes_in_data, data_bytes, of_all, Content, Word, Gap, External, Home, place_from, content_of, bytes_of_value, with_gap, with_gap_if_any, with_object, constant_object, static_object, with_constant, constants_from, constants_of, variables_from, variables_of, static_place, externals_of, homes_of, home_at, location_of_place, places_of_content, places_of_contents, KeepsWord, KeepWords, IsLaidOut}
 use Rattle.treecode.specs.declared.module.Content.TheVariants.{Byte}
 use Rattle.treecode.specs.declared.place.Home.TheVariants as homes
 use Rattle.treecode_laws.proofs.Homes.{place_further, any_lies}
 use Rattle.treecode_laws.proofs.Slots.{constant_small}
 
--- bytes that are not set
+-- unset bytes
 abbrev unset : (count : ℕ) → Places
 unset count = replicate count None
 
--- what follows the first of contents
+-- the offset after the first of contents
 past :
     (names : List External) (first : Content) (before after : List Content) (count : ℕ)
     → places_of_contents names after ≡ places_of_contents names before ++ unset count
@@ -71,7 +71,7 @@ place_from_further names (homes.Static place) offset below = place_further names
 place_from_further names (homes.Based base) offset below = ap Absolute (omega (arith, below))
 place_from_further names (homes.Frame variable) offset below = ap Absolute (omega (arith, below))
 
--- where tree code has objects, they lie as told
+-- the locations of objects are those that tree code has
 abbrev LieAs : List External → List Home → (locations : ℕ → Location) → Type 0
 LieAs names starts locations =
     (number : ℕ) → location_of_place names (static_place (home_at starts number)) ≡ locations number
@@ -102,7 +102,7 @@ values_places names starts locations lie (value ∷ values) keep =
     ∙ ap (λ (rest : Places). places_of_value locations value ++ rest)
     (values_places names starts locations lie values keep.1)
 
--- What holds of the numbers of all contents holds of those of each part.
+-- A property of the numbers of all contents holds for those of each part.
 first_keep : (one other : List Content) → KeepWords (one ++ other) → KeepWords one
 first_keep [] other keep = tt
 first_keep (content ∷ one) other keep = (keep.0, first_keep one other keep.1)
@@ -197,7 +197,7 @@ constants_keep typed starts (item ∷ others) before keep =
     item_keeps typed starts item before
     (constants_keep typed starts others (with_constant typed starts item before) keep)
 
--- values take as many bytes in both forms
+-- values have the same size in both forms
 same_size : (value : InitialValue) → bytes_of_value value ≡ size_of_value value
 same_size (ByteValue byte) = refl
 same_size (WordValue word) = refl
@@ -211,7 +211,7 @@ same_sizes (value ∷ values) =
     ∙ ap (λ (rest : ℕ). size_of_value value + rest) (same_sizes values)
     ∙ sym (sum_by-cons size_of_value value values)
 
--- an object no larger than a segment, which values fill from its start on, after contents
+-- an object no larger than a segment, with values from its start on, after contents
 object_places :
     (names : List External) (starts : List Home) (locations : ℕ → Location) (object : TypedObject)
     (values : List InitialValue) (before : List Content)
@@ -305,7 +305,7 @@ variables_places names starts locations (object ∷ others) before lie keep smal
     ∙ append_assoc (places_of_contents names before) (places_by_home locations object object.home)
     (flat_map (λ (object : TypedObject). places_by_home locations object object.home) others)
 
--- The data segment of tree code has the bytes that the module has there.
+-- The data segment of tree code has the bytes of the module's data segment.
 pub data_agrees :
     (typed : TypedModule) (storage : Storage)
     → IsLaidOut typed storage
@@ -318,12 +318,12 @@ data_agrees typed storage laid keep =
     (λ number. any_lies typed storage number laid) keep
     laid.stored.data_fits
 
--- what stands among the constants has DATA
+-- an object among the constants has DATA
 abbrev HasData : TypedHome → Type 0
 HasData (InConstants values) = Unit {0}
 HasData home = ⊥
 
--- a number, from a first one on, of an object that has DATA, if there is one
+-- the object with this number, counted from a first one on, has DATA, if there is one
 abbrev NumbersData : (first : ℕ) → List TypedObject → (number : ℕ) → Type 0
 NumbersData first objects number =
     (first ≤ number)
@@ -494,7 +494,7 @@ items_places typed storage (item ∷ others) before laid keep are =
     ∙ append_assoc (places_of_contents (externals_of typed) before) (places_of_constant typed item)
     (flat_map (places_of_constant typed) others)
 
--- The constants of tree code have the bytes that the code segment of the module begins with.
+-- The constants of tree code have the bytes at the start of the module's code segment.
 pub constants_agree :
     (typed : TypedModule) (storage : Storage)
     → IsLaidOut typed storage

@@ -1,10 +1,10 @@
--- What changes nothing, and what adds events at most, one part after another.
+-- Evaluations that change nothing, and evaluations that at most add events, one part after another.
 use Rattle.treecode_laws.proofs.Prelude.{◌≡◌, ℕ, ◌*◌, ◌+◌, ◌%◌, Bool, true, false, [], ◌∷◌, ◌++◌, Option, Some, None, cond, slice_index, refl, sym, ap, ◌∙◌, subst, append-nil, append_assoc, MEMORY_SIZE, byte_at, ScalarType, Byte, Address, InData, InConstants, Placed, BasedOn, Elsewhere, Nowhere, InFrame, UndeclaredByte, Divide, InMemory, InTheFrame, Surroundings, frame_bytes, is_declared, next_place, place_in, place_of, read_byte, read_scalar, based_place, computed, taken_in, Program, State, Ended, More, Outside, Outcome, Gave, Stopped, then_do, Answer, Found, Fails, outcome_of, IsQuiet, OnlyAdds, AddsAtMost, StoresNothing}
 use Rattle.ports.specs.{Events.{read_event}, Input.{input_value}}
 use Rattle.typed_trees.specs.TypedTrees.{Home}
 use Rattle.meaning.specs.Access.{Place}
 
--- goes on with what an answer found
+-- continues with the value of an answer
 abbrev and_then : {A B : Type 0} → Answer A → (A → Answer B) → Answer B
 and_then (Found found) go = go found
 and_then (Fails reason) go = Fails reason
@@ -85,7 +85,7 @@ pub quiet_computed : (found : Option ℕ) → IsQuiet (λ (s : State). computed 
 quiet_computed (Some found) = quiet_gave found
 quiet_computed None = record { answer = λ memory frame. Fails Divide; gives = λ s. refl }
 
--- in a state with the same memory and frame the answer is the same, whatever its events and its budget are
+-- in a state with the same memory and frame the answer is the same, whatever the events and the budget
 pub quiet_same : {A : Type 0} (go : State → Outcome A) (quiet : IsQuiet go) (s t : State)
     → t.memory ≡ s.memory → t.frame ≡ s.frame
     → go t ≡ outcome_of (quiet.answer s.memory s.frame) t
@@ -123,7 +123,7 @@ adds_after s t (Stopped (Outside reason) u) first second = only_adds_then s t u 
 adds_after s t (Stopped Ended u) first second = second
 adds_after s t (Stopped More u) first second = second
 
--- one part after another adds events at most
+-- one part after another at most adds events
 pub storing_nothing_then : {A B : Type 0} (first : State → Outcome A) (go : A → State → Outcome B)
     → StoresNothing first → ((found : A) → StoresNothing (go found))
     → StoresNothing (λ (s : State). then_do (first s) go)
@@ -135,7 +135,7 @@ storing_nothing_then {A = A} first go adds rest s = gone_on (first s) (adds s)
     gone_on (Stopped Ended t) added = added
     gone_on (Stopped More t) added = added
 
--- what changes nothing stores nothing
+-- an evaluation that changes nothing stores nothing
 pub quiet_adds_nothing : {A : Type 0} (go : State → Outcome A) → IsQuiet go → StoresNothing go
 quiet_adds_nothing {A = A} go quiet s =
     subst (λ (outcome : Outcome A). AddsAtMost s outcome) (sym (quiet.gives s))

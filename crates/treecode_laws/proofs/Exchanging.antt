@@ -1,8 +1,8 @@
--- Two parts of a run of which the second may be had first.
+-- Two parts of a run that may be exchanged.
 use Rattle.treecode_laws.proofs.Prelude.{◌≡◌, inl, inr, refl, sym, ap, ◌∙◌, subst, State, Ended, More, Outside, Outcome, Gave, Stopped, then_do, Answer, Found, Fails, outcome_of, IsQuiet, OnlyAdds, AddsAtMost, StoresNothing, GoesOutside, AreAlike, AreSame, BothOutside, MayStandFor}
 use Rattle.treecode_laws.proofs.Evaluating.{quiet_same}
 
--- each of two outcomes that are alike may stand for the other
+-- each of two outcomes that are alike may replace the other
 pub alike_stands : {A : Type 0} (one other : Outcome A) → AreAlike one other → MayStandFor other one
 alike_stands one other (AreSame same) = inr same
 alike_stands one other (BothOutside first second) = inl first
@@ -31,7 +31,7 @@ module _ {A B C : Type 0} (first : State → Outcome A) (second : State → Outc
   exchanged_by s outcome is =
       ap (λ (of : Outcome B). then_do of (λ two t. then_do (first t) (λ one u. go one two u))) is
 
-  -- where the first changes nothing and the second stores nothing, nobody can tell their order
+  -- if the first changes nothing and the second stores nothing, their order makes no observable difference
   pub quiet_exchanged : IsQuiet first → StoresNothing second
       → (s : State) → AreAlike (in_order s) (exchanged s)
   quiet_exchanged quiet adds s =
@@ -73,7 +73,7 @@ module _ {A B C : Type 0} (first : State → Outcome A) (second : State → Outc
       by answer (Stopped Ended t) is then added at = absurd added
       by answer (Stopped More t) is then added at = absurd added
 
-  -- where the first gives one thing in every state, both orders are the same, whatever the second does
+  -- if the first gives the same value in every state, both orders are the same, whatever the second does
   pub known_exchanged : (found : A) → ((s : State) → first s ≡ Gave found s)
       → (s : State) → in_order s ≡ exchanged s
   known_exchanged found is s = in_order_found found s (is s) ∙ by (second s) refl
@@ -89,14 +89,14 @@ module _ {A B C : Type 0} (first : State → Outcome A) (second : State → Outc
           ap (λ (outcome : Outcome B). then_do outcome (λ b u. go found b u)) then
           ∙ sym (exchanged_by s (Stopped why t) then)
 
--- the same where the second gives one thing in every state
+-- the same, if the second gives the same value in every state
 pub known_second : {A B C : Type 0} (first : State → Outcome A) (second : State → Outcome B)
     (go : A → B → State → Outcome C) (found : B)
     → ((s : State) → second s ≡ Gave found s)
     → (s : State) → in_order first second go s ≡ exchanged first second go s
 known_second first second go found is s = sym (known_exchanged second first (λ b a u. go a b u) found is s)
 
--- what changes nothing, and of which nothing is used, may be left out
+-- an evaluation that changes nothing, with a value that is not used, may be left out
 pub left_out : {A B : Type 0} (go : State → Outcome A) (rest : A → State → Outcome B)
     (done : State → Outcome B)
     → IsQuiet go → ((found : A) (s : State) → rest found s ≡ done s)

@@ -2,13 +2,13 @@
 use Rattle.treecode_laws.proofs.Prelude.{◌≡◌, ℕ, zero, suc, ◌+◌, Bool, true, false, List, [], ◌∷◌, Option, Some, None, refl, ap, sym, ◌∙◌, arith, ◌||◌, ◌==◌, filter_map, is_some, slice_get, unwrap_or, if◌then◌else◌, cons_option, enumerate_from, list_any, false≢true, eq-eqb, eqb-true, none-some, GlobalItem, GlobalObject, GlobalProcedure, shared_object, is_shared, global_object, ListsGlobals, Elsewhere, TypedObject, TypedModule, ExternalName, external_object, external_name, externals_of, is_global_object, latest, external_from, external_number}
 use Rattle.typed_trees.specs.TypedTrees.{Home}
 
--- an index at which a name stands, counted on from some before
+-- the index of a name, counted on from a first number
 pub record StandsAt (names : List ExternalName) (external : ExternalName) (count number : ℕ) : Type 0 where
   pub index : ℕ
   pub number_is : number ≡ count + index
   pub name_is : slice_get names index ≡ Some external
 
--- what is found is the index of the name; nothing is found where nothing is wanted
+-- the result of a search is the index of the name, if the name is wanted
 abbrev pub Finds : (any : Bool) → List ExternalName → ExternalName → (count : ℕ) → Option ℕ → Type 0
 Finds any names external count None = any ≡ false
 Finds any names external count (Some number) = StandsAt names external count number
@@ -23,7 +23,7 @@ later_stands first names external count number stands = record {
   name_is = stands.name_is;
 }
 
--- one item more in front
+-- one more item in front
 finds_more :
     (any : Bool) (names : List ExternalName) (external : ExternalName) (count : ℕ) (is : Bool)
     (here : Option ExternalName) (next same : Option ℕ)
@@ -109,7 +109,7 @@ among_objects (here ∷ others) first (suc index) number object found is at =
     (filter_map global_object (enumerate_from (first + 1) others))
     (among_objects others (first + 1) index number object found is (omega (arith, at)))
 
--- the name of an object that is wanted
+-- the wanted name of an object
 wanted_name :
     (typed : TypedModule) (number : ℕ) (object : TypedObject)
     → slice_get typed.objects number ≡ Some object

@@ -4,7 +4,7 @@ use Rattle.treecode.specs.declared.expression.ExpressionForm.TheVariants as form
 use Rattle.treecode.specs.declared.place.Home.TheVariants as homes
 use Rattle.treecode_laws.proofs.QuietTrees.{false_is_true}
 
--- what follows from a value is there only where the value is
+-- a result that depends on a value is there only if the value is
 from_value : {A B : Type 0} (go : A → Option B) (value : Option A)
     → is_some (option_and_then go value) ≡ true → is_some value ≡ true
 from_value go (Some value) is = refl
@@ -28,7 +28,7 @@ from_numbers : {A B C : Type 0} (go : A → B → C) (one : Option A) (other : O
 from_numbers go (Some one) other is = (refl, from_number (go one) other is)
 from_numbers go None other is = false_is_true is
 
--- a part of an object has a known place only where its subscripts are known
+-- the place of a part of an object is known only if its subscripts are known
 from_part : (home : Home) (offset : ℕ) (one other : Option ℕ)
     → is_some (place_of_part home offset one other) ≡ true
     → (is_some one ≡ true) × (is_some other ≡ true)
@@ -97,7 +97,7 @@ module _ (nodes : Nodes) (storage : Storage) (keeps : KeepTraits nodes) where
         (known_stores_nothing second (from_value _ (known_at nodes count) parts.1))
     known_form IsInput scalar known = false_is_true known
 
-    -- subscripts that are known store nothing
+    -- known subscripts store nothing
     parts_store : {bound : ℕ} {reference : Reference} {part : TypedReference}
         → IsReference nodes storage bound reference part
         → (is_some (distance_of nodes reference.subscript) ≡ true)
@@ -115,7 +115,7 @@ module _ (nodes : Nodes) (storage : Storage) (keeps : KeepTraits nodes) where
         known_stores_nothing tree
         (from_value _ (known_at nodes number) (from_number _ (number_at nodes number) known))
 
-  -- the high byte of what lies in memory at a known place
+  -- the high byte of a part of memory at a known place
   high_in_place : {bound : ℕ} {form : ExpressionForm} {tree : TypedExpression} (scalar : ScalarType)
       → IsForm nodes storage bound form tree
       → option_map_or (λ (reference : Reference). is_some (place_of_reference nodes reference))
@@ -151,7 +151,7 @@ module _ (nodes : Nodes) (storage : Storage) (keeps : KeepTraits nodes) where
       (sym at)
       ∙ direct)
 
-  -- what is free is known, or its form is free
+  -- a free node is known, or its form is free
   known_or_free : (scalar : ScalarType) (form : ExpressionForm) (known : Option Place)
       → known_of nodes scalar form ≡ known
       → is_free_of nodes scalar known form ≡ true
@@ -160,7 +160,7 @@ module _ (nodes : Nodes) (storage : Storage) (keeps : KeepTraits nodes) where
   known_or_free scalar form None is free = inr free
 
   mutual
-    -- a node whose low byte code puts into A by changing A and the flags alone stores nothing
+    -- a node with a low byte that code puts into A by changing only A and the flags stores nothing
     pub free_stores_nothing : {bound number : ℕ} {tree : TypedExpression}
         → IsExpression nodes storage bound number tree
         → free_at nodes (record { index = number }) ≡ true

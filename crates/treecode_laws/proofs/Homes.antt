@@ -1,4 +1,4 @@
--- Where tree code has an object is where the object lies before its module has its place.
+-- The home of an object in tree code is its location before the module is placed.
 use Rattle.treecode_laws.proofs.Prelude.{◌≡◌, ℕ, zero, suc, ◌<◌, ◌≤◌, ◌⊎◌, inl, inr, List, [], ◌∷◌, ◌++◌, length, take, Option, Some, None, Ok, refl, ap, sym, subst, ◌∙◌, append-nil, arith, IsSomeAnd, slice_get, unwrap_or, AllByRecursion, enumerate_from, option_map_or, append_assoc, length-append, get_or_past, recursion_from_All, none-some, slice_get_past, unwrap_or-slice_get, AtNumber, AtObject, ListsGlobals, size_of_object, HasPlace, LooksBack, LooksAtPlace, IsStorable, TypedHome, InData, InConstants, Placed, BasedOn, Elsewhere, Nowhere, InFrame, TypedObject, TypedModule, Slot, Location, SegmentStart, Absolute, After, further_on, location_in, location_by_home, locations_after, location_of, Storage, data_bytes, is_object, constants_before, slot_of_object, storage_of, External, Home, Place, static_place, external_number, external_place, externals_of, home_after, home_of_object, homes_from, homes_of, is_global_object, place_after, place_of_slot, home_at, IsLaidOut, location_of_place, IsStatic}
 use Rattle.layout.specs.declared.slot.Segment.TheVariants as segments
 use Rattle.layout.specs.Segments.{ExternalName}
@@ -7,14 +7,14 @@ use Rattle.treecode.specs.declared.place.Place.TheVariants as places
 use Rattle.treecode_laws.proofs.Externals.{IsNamed, external_is_named}
 use Rattle.treecode_laws.proofs.Slots.{stored, slot_is, data_offset, constant_offset}
 
--- Where an object lies, in two forms that agree: tree code has it there, and in memory if it is static. Of
--- one that is BASED or in a frame both say 0.
+-- The location of an object, in two forms that agree: tree code has its home, and the location is in memory
+-- if the object is static. If it is BASED or in a frame, both forms have 0.
 pub record LiesAt (names : List External) (kind : TypedHome) (home : Home) (location : Location) :
     Type 0 where
   pub is_static : IsStatic kind → home ≡ homes.Static (static_place home)
   pub lies : location_of_place names (static_place home) ≡ location
 
--- so many bytes further on
+-- the place `distance` bytes further on
 pub place_further :
     (names : List External) (place : Place) (distance : ℕ)
     → location_of_place names (place_after place distance)
@@ -41,7 +41,7 @@ in_code :
     ≡ After (SegmentStart segments.Code) offset
 in_code names offset size fits = ap (After (SegmentStart segments.Code)) (omega (arith, fits))
 
--- the objects up to one, of which each lies where tree code has it
+-- the objects up to one are at the locations that tree code has
 record LieAt (typed : TypedModule) (before : List TypedObject) (starts : List Home)
     (locations : List Location) : Type 0 where
   homes_length : length starts ≡ length before
@@ -72,7 +72,7 @@ has_place_is_static Elsewhere has = tt
 has_place_is_static Nowhere has = tt
 has_place_is_static (InFrame procedure) has = absurd has
 
--- what stands in front of others
+-- an item in front of others
 front :
     {A : Type 0} (part after : List A) (number : ℕ)
     → number < length part
@@ -99,7 +99,7 @@ elsewhere typed number name named =
     ∙ ap (λ (found : Option External).
     After (ExternalName (option_map_or (λ (external : External). external.name) found [])) 0) named.named
 
--- the object that follows those before it
+-- the next object
 next :
     (typed : TypedModule) (storage : Storage) (before others : List TypedObject) (starts : List Home)
     (locations : List Location) (object : TypedObject) (kind : TypedHome)
@@ -200,7 +200,7 @@ home_last starts home =
     sym (unwrap_or-slice_get (starts ++ (home ∷ [])) (length starts) (homes.Static (places.Number 0)))
     ∙ ap (λ (found : Option Home). unwrap_or found (homes.Static (places.Number 0))) (last starts home)
 
--- one more object that lies where it does
+-- one more object at its location
 lie_more :
     (typed : TypedModule) (before : List TypedObject) (object : TypedObject) (starts : List Home)
     (home : Home) (locations : List Location) (location : Location)
@@ -311,7 +311,7 @@ all_lie typed storage laid =
       each = λ number object found. absurd (none-some object found);
     })
 
--- a module that is all this is laid out
+-- a module with these properties is laid out
 pub laid_out :
     (typed : TypedModule) (storage : Storage)
     → IsStorable typed
@@ -321,7 +321,7 @@ pub laid_out :
 laid_out typed storage storable globals is =
     record { storable = storable; globals = globals; stored = stored typed storage is }
 
--- Each object lies where tree code has it.
+-- Each object is at the location that tree code has.
 pub object_lies :
     (typed : TypedModule) (storage : Storage) (number : ℕ) (object : TypedObject)
     → IsLaidOut typed storage
@@ -337,8 +337,8 @@ outside [] number none = omega arith
 outside (first ∷ items) zero none = absurd (none-some first (sym none))
 outside (first ∷ items) (suc number) none = omega (arith, outside items number none)
 
--- The place of any number is the location of that number: an object that is not static has 0 in both forms,
--- and so has what is no object.
+-- The place of any number is the location of that number. An object that is not static has 0 in both forms,
+-- and so has a number without an object.
 pub any_lies :
     (typed : TypedModule) (storage : Storage) (number : ℕ)
     → IsLaidOut typed storage

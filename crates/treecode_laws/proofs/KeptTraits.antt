@@ -1,4 +1,4 @@
--- That a node is quiet, or stores nothing, is what is said of its tree.
+-- The traits of a node, that it is quiet or stores nothing, are those of its tree.
 use Rattle.treecode_laws.proofs.Prelude.{◌≡◌, ◌&&◌, Bool, Option, Some, refl, ap, ◌∙◌, slice_get, ℕ, TypedExpression, TypedReference, Subscript, Storage, Expression, ExpressionForm, Reference, IndexNode, Traits, IsExpression, IsNode, IsForm, IsNumber, IsValue, IsLocation, IsConstantList, IsConversion, IsEmbedded, IsUnary, IsBinary, IsCallOf, IsFunction, IsShift, IsInput, IsReference, IsPart, IsSubscript, IsAbsent, IsIndex, Nodes, KeepTraits, is_quiet_form, quiet_at, reference_is_quiet, reference_stores_nothing, stores_nothing_in_form, storing_nothing_at, subscript_is_quiet, subscript_stores_nothing, traits_of, node_traits, both, is_quiet, part_is_quiet, index_is_quiet, stores_nothing, part_stores_nothing, index_stores_nothing}
 
 quiet_of_node : (nodes : Nodes) (number : ℕ) (expression : Expression) → KeepTraits nodes
@@ -17,7 +17,7 @@ storing_of_node nodes number expression keeps at =
 
 module _ (nodes : Nodes) (storage : Storage) (keeps : KeepTraits nodes) where
   mutual
-    -- a node is quiet where its tree is
+    -- a node is quiet if its tree is
     pub quiet_kept : {bound number : ℕ} {tree : TypedExpression}
         → IsExpression nodes storage bound number tree
         → quiet_at nodes (record { index = number }) ≡ is_quiet tree
@@ -41,7 +41,7 @@ module _ (nodes : Nodes) (storage : Storage) (keeps : KeepTraits nodes) where
     form_quiet (IsShift moved by) = both (λ (one two : Bool). one && two) (quiet_kept moved) (quiet_kept by)
     form_quiet IsInput = refl
 
-    -- the subscripts of a part of an object are quiet where those of its tree are
+    -- the subscripts of a part of an object are quiet if those of its tree are
     pub part_quiet : {bound : ℕ} {reference : Reference} {part : TypedReference}
         → IsReference nodes storage bound reference part
         → reference_is_quiet nodes reference ≡ part_is_quiet part
@@ -55,7 +55,7 @@ module _ (nodes : Nodes) (storage : Storage) (keeps : KeepTraits nodes) where
     index_quiet (IsIndex index) = quiet_kept index
 
   mutual
-    -- a node stores nothing where its tree stores nothing
+    -- a node stores nothing if its tree stores nothing
     pub storing_kept : {bound number : ℕ} {tree : TypedExpression}
         → IsExpression nodes storage bound number tree
         → storing_nothing_at nodes (record { index = number }) ≡ stores_nothing tree
@@ -80,7 +80,7 @@ module _ (nodes : Nodes) (storage : Storage) (keeps : KeepTraits nodes) where
         both (λ (one two : Bool). one && two) (storing_kept moved) (storing_kept by)
     form_storing IsInput = refl
 
-    -- the subscripts of a part of an object store nothing where those of its tree store nothing
+    -- the subscripts of a part of an object store nothing if those of its tree store nothing
     pub part_storing : {bound : ℕ} {reference : Reference} {part : TypedReference}
         → IsReference nodes storage bound reference part
         → reference_stores_nothing nodes reference ≡ part_stores_nothing part

@@ -1,4 +1,4 @@
--- The segments of tree code are those of its module before that has its place.
+-- The segments of tree code are those of its module before it is placed.
 use Rattle.treecode_laws.proofs.Prelude.{◌≡◌, ℕ, ◌+◌, ◌%◌, ◌<◌, length, Some, None, ap, sym, subst, List, ◌∙◌, arith, slice_get, none-some, MEMORY_SIZE, TypedObject, TypedModule, constant_bytes, Code, Data, Places, Target, address_of_location, location_of, places_in, Storage, data_bytes, further, constants_length, data_length, ExternalName, TreeModule, Home, Place, constants_of, variables_of, externals_of, homes_of, number_of_place, place_after, IsLowered, home_at, nodes_of, location_of_place, places_of_contents, KeepWords, IsLaidOut}
 use Rattle.treecode.specs.declared.place.Place.TheVariants as places
 use Rattle.treecode_laws.proofs.Contents.{constants_agree, data_agrees}
@@ -14,7 +14,7 @@ as_module typed storage tree f lowered =
     ap (λ (names : List ExternalName). f names tree.homes.items) lowered.externals
     ∙ ap (f (externals_of typed)) lowered.homes
 
--- The code segment begins with the bytes that the module's begins with.
+-- The code segment begins with the same bytes as the module's.
 pub code_is :
     (typed : TypedModule) (storage : Storage) (tree : TreeModule)
     → IsLaidOut typed storage
@@ -28,7 +28,7 @@ code_is typed storage tree laid keep lowered =
     ∙ constants_agree typed storage laid
     (subst KeepWords (lowered.constants ∙ ap (constants_of typed) lowered.homes) keep)
 
--- The data segment has the bytes that the module's has.
+-- The data segment has the same bytes as the module's.
 pub data_is :
     (typed : TypedModule) (storage : Storage) (tree : TreeModule)
     → IsLaidOut typed storage
@@ -42,7 +42,7 @@ data_is typed storage tree laid keep lowered =
     ∙ data_agrees typed storage laid
     (subst KeepWords (lowered.variables ∙ ap (variables_of typed) lowered.homes) keep)
 
--- So both are as long as what they hold takes.
+-- So both segments have the sizes of their contents.
 pub code_length :
     (typed : TypedModule) (storage : Storage) (tree : TreeModule)
     → IsLaidOut typed storage
@@ -63,7 +63,7 @@ data_length_is typed storage tree laid keep lowered =
     ap (λ (bytes : Places). length bytes) (data_is typed storage tree laid keep lowered)
     ∙ data_length typed laid.storable
 
--- Each object lies where tree code has it.
+-- Each object is at the location that tree code has.
 pub home_is :
     (typed : TypedModule) (storage : Storage) (tree : TreeModule) (number : ℕ) (object : TypedObject)
     → IsLaidOut typed storage
@@ -79,8 +79,8 @@ home_is typed storage tree number object laid lowered found =
     LiesAt (externals_of typed) object.home (home_at starts number) (location_of typed number))
     (sym lowered.homes) (object_lies typed storage number object laid found))
 
--- Where targets have their addresses, a place so many bytes further on has the address so many further on,
--- modulo the size of memory, and what is no number has an address in memory.
+-- If targets have their addresses, a place `distance` bytes further on has the address `distance` further on,
+-- modulo the size of memory, and a place that is not a number has an address in memory.
 pub address_after :
     (address_of : Target → ℕ) (names : List ExternalName) (place : Place) (distance : ℕ)
     → address_of_location address_of (location_of_place names (place_after place distance))

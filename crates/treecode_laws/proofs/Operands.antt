@@ -1,4 +1,4 @@
--- Operands of which the second may be evaluated first.
+-- Operands that may be exchanged.
 use Rattle.treecode_laws.proofs.Prelude.{◌≡◌, ◌||◌, ◌&&◌, ℕ, true, Option, Some, None, is_some, subst, refl, sym, ap, ◌∙◌, length, and_parts, ScalarType, Address, type_of, TypedExpression, TypedReference, Storage, Surroundings, Later, located, value, State, Outcome, Gave, Place, Number, Reference, known_value, IsExpression, IsReference, Nodes, Resolves, HaveOperands, KeepTraits, known_at, quiet_at, reference_is_quiet, storing_nothing_at, known_kept, tells, AreAlike, AreSame, may_exchange, stores_nothing}
 use Rattle.meaning.specs.Access.{Place as Location}
 use Rattle.treecode_laws.proofs.Exchanging.{alike_turned, in_order, exchanged, known_exchanged, known_second, quiet_exchanged}
@@ -6,7 +6,7 @@ use Rattle.treecode_laws.proofs.KeptTraits.{part_quiet, quiet_kept, storing_kept
 use Rattle.treecode_laws.proofs.QuietTrees.{quiet_location, quiet_value}
 use Rattle.treecode_laws.proofs.StoringNothing.{value_adds}
 
--- where something lies is an ADDRESS
+-- a relocatable address is an ADDRESS
 abbrev IsAddress : Place → ScalarType → Type 0
 IsAddress (Number number) scalar = Unit {0}
 IsAddress place scalar = scalar ≡ Address
@@ -32,7 +32,7 @@ module _ (nodes : Nodes) (storage : Storage) (keeps : KeepTraits nodes) (around 
   abbrev of : TypedExpression → State → Outcome ℕ
   of tree s = value later around tree s
 
-  -- where the second of two operands may be evaluated first, nobody can tell their order
+  -- if two operands may be exchanged, their order makes no observable difference
   pub operands_exchanged : {A : Type 0} {left_bound right_bound left right : ℕ}
       {first second : TypedExpression}
       → IsExpression nodes storage left_bound left first
@@ -66,7 +66,7 @@ module _ (nodes : Nodes) (storage : Storage) (keeps : KeepTraits nodes) (around 
           (quiet_value later around first (sym (quiet_kept nodes storage keeps one) ∙ parts.0))
           (value_adds later around second (sym (storing_kept nodes storage keeps two) ∙ parts.1)) s
 
-  -- the same where the second is known, whatever the first does
+  -- the same if the second is known, whatever the first does
   pub known_second_exchanged : {A : Type 0} {bound right : ℕ} {second : TypedExpression}
       (first : TypedExpression) (place : Place)
       → IsExpression nodes storage bound right second
@@ -79,12 +79,12 @@ module _ (nodes : Nodes) (storage : Storage) (keeps : KeepTraits nodes) (around 
       (known_gives around nodes storage address resolves later second place fit
       (sym (known_kept nodes storage keeps two) ∙ is)) s
 
-  -- where a part of an object lies
+  -- the location of a part of an object
   abbrev place_of_part : TypedReference → State → Outcome Location
   place_of_part part s = located later around part s
 
-  -- a part of an object with quiet subscripts may be located before a value that goes there and stores nothing is
-  -- evaluated
+  -- the location of a part of an object with quiet subscripts may be computed before a value that is stored
+  -- there, if the evaluation of that value stores nothing
   pub location_exchanged : {A : Type 0} {bound : ℕ} {reference : Reference} {part : TypedReference}
       (tree : TypedExpression)
       → IsReference nodes storage bound reference part

@@ -1,9 +1,9 @@
--- What the PUBLIC names of tree code stand for is where their objects lie.
+-- The PUBLIC names of tree code have the locations of their objects.
 use Rattle.treecode_laws.proofs.Prelude.{◌≡◌, ℕ, List, Option, Some, refl, ap, ◌∙◌, slice_get, option_and_then, GlobalObject, TypedHome, InData, InConstants, Placed, BasedOn, Elsewhere, Nowhere, InFrame, TypedObject, TypedModule, location_of, Storage, PublicName, Home, Place, public_object, public_item, static_place, externals_of, homes_of, home_at, location_of_place, IsHere, IsLaidOut}
 use Rattle.treecode.specs.declared.module.PublicPlace.TheVariants as public_places
 use Rattle.treecode_laws.proofs.Homes.{any_lies}
 
--- a PUBLIC object by its name and by where it lies
+-- a PUBLIC object, by its name and its location
 pub record IsPublicObject (typed : TypedModule) (number : ℕ) (name : List ℕ) (public : Option PublicName) :
     Type 0 where
   pub place : Place
@@ -25,7 +25,8 @@ by_home starts number object Elsewhere is here = absurd here
 by_home starts number object Nowhere is here = rw is refl
 by_home starts number object (InFrame procedure) is here = rw is refl
 
--- Each object among the globals that is not EXTERNAL is PUBLIC, by its name, and lies where its name says.
+-- Each object among the globals that is not EXTERNAL is PUBLIC by its name, and is at the location of that
+-- name.
 pub public_lies :
     (typed : TypedModule) (storage : Storage) (number : ℕ) (object : TypedObject)
     → IsLaidOut typed storage

@@ -1,4 +1,4 @@
--- Quiet expressions change nothing, and their values depend on memory and frame alone.
+-- Quiet expressions change nothing, and their values depend only on memory and frame.
 use Rattle.treecode_laws.proofs.Prelude.{◌≡◌, ◌+◌, ◌&&◌, true, false, and_parts, false≢true, TypedExpression, NumberNode, ValueNode, LocationNode, ListNode, ConversionNode, AssignmentNode, UnaryNode, BinaryNode, CallNode, FunctionNode, ShiftNode, InputNode, TypedReference, PartOf, Subscript, NoSubscript, At, Surroundings, home_of, read_scalar, Later, address_in_memory, address_of_list, based_place, computed, displaced, displacement, located, no_displacement, value, State, Gave, then_do, as_type, function_of, result_of, result_of_one, shifted, IsQuiet, is_quiet, part_is_quiet, index_is_quiet}
 use Rattle.treecode_laws.proofs.Evaluating.{quiet_base, quiet_computed, quiet_gave, quiet_scalar, quiet_then}
 
@@ -52,7 +52,7 @@ module _ (later : Later) (around : Surroundings) where
         (quiet_value count both.1) (λ by. quiet_gave (shifted scalar function number by)))
     quiet_value (InputNode port) quiet = false_is_true quiet
 
-    -- where a part of an object lies whose subscripts are quiet
+    -- the location of a part of an object with quiet subscripts
     pub quiet_location : (reference : TypedReference) → part_is_quiet reference ≡ true
         → IsQuiet (λ (s : State). located later around reference s)
     quiet_location (PartOf object subscript member offset member_subscript) quiet =

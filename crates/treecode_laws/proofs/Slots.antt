@@ -1,4 +1,4 @@
--- What the storage of a module says of the slots of its objects.
+-- The slots of the objects of a module in its storage.
 use Rattle.treecode_laws.proofs.Prelude.{◌≡◌, ℕ, zero, suc, ◌+◌, ◌%◌, ◌≤◌, Bool, true, false, cond, List, [], ◌∷◌, map, take, Option, Some, None, Ok, Err, refl, ap, sym, subst, ◌∙◌, arith, nat_le, ◌&&◌, not, slice_get, slice_index_or, sum_by, take_while, unwrap_or, if◌then◌else◌, enumerate_from, list_all, option_map_or, leb-true, sum_by-cons, sum_by-take-le, take_while-cons, none-some, get_or_from_slice_get, ConstantItem, InitialValue, size_of_object, InConstants, TypedObject, TypedModule, size_of_constant, constant_bytes, DataTooLarge, ConstantsTooLarge, Slot, SEGMENT_LIMIT, Storage, bytes_in_data, data_bytes, bytes_in_constants, fits_as_object, fits_as_list, constants_before, is_list, slot_of_object, slot_of_list, storage_of, storage_with, offset_of_list, IsStored}
 
 pub stored :
@@ -30,7 +30,7 @@ stored typed storage is =
     by true data_is false constants_is objects objects_is lists e = absurd (cc)
     by false data_is constants constants_is objects objects_is lists e = absurd (cc)
 
--- what a function gives of a numbered item
+-- the value of a function at a numbered item
 got_numbered :
     {A B : Type 0} (f : ℕ × A → B) (items : List A) (first index number : ℕ) (item : A)
     → slice_get items index ≡ Some item
@@ -105,7 +105,7 @@ constant_offset typed storage wanted is =
       is.constants_fit,
     )
 
--- a constant list is where its slot is
+-- a constant list is at its slot
 pub list_offset :
     (typed : TypedModule) (storage : Storage) (list : ℕ) (bytes : List ℕ)
     → IsStored typed storage

@@ -1,4 +1,4 @@
--- Expressions that store nothing add events at most.
+-- Expressions that store nothing at most add events.
 use Rattle.treecode_laws.proofs.Prelude.{◌≡◌, ◌+◌, ◌&&◌, true, and_parts, TypedExpression, NumberNode, ValueNode, LocationNode, ListNode, ConversionNode, AssignmentNode, UnaryNode, BinaryNode, CallNode, FunctionNode, ShiftNode, InputNode, TypedReference, PartOf, Subscript, NoSubscript, At, Surroundings, home_of, read_scalar, Later, address_in_memory, based_place, computed, displaced, displacement, located, value, State, Gave, then_do, as_type, function_of, result_of, result_of_one, shifted, StoresNothing, stores_nothing, part_stores_nothing, index_stores_nothing}
 use Rattle.treecode_laws.proofs.Evaluating.{adds_nothing, quiet_adds_nothing, quiet_base, quiet_computed, quiet_scalar, storing_nothing_then, takes_in}
 use Rattle.treecode_laws.proofs.QuietTrees.{false_is_true}
@@ -52,7 +52,7 @@ module _ (later : Later) (around : Surroundings) where
         (λ by u. Gave (shifted scalar function number by) u) (value_adds count both.1) (λ by. adds_nothing))
     value_adds (InputNode port) nothing = takes_in around port
 
-    -- where a part of an object lies whose subscripts store nothing
+    -- the location of a part of an object with subscripts that store nothing
     pub location_adds : (reference : TypedReference) → part_stores_nothing reference ≡ true
         → StoresNothing (λ (s : State). located later around reference s)
     location_adds (PartOf object subscript member offset member_subscript) nothing =

@@ -7,7 +7,7 @@ use Rattle.typed_trees.specs.TypedTrees.{TypedModule}
 use Rattle.typed_trees.specs.Weight.{constant_bytes}
 use Rattle.layout.specs.Storage.{Storage, data_bytes, fits_as_object, storage_with}
 
--- what a module with this storage has
+-- the properties of a module with this storage
 pub record IsStored (typed : TypedModule) (storage : Storage) : Type 0 where
   pub storage_is : storage ≡ storage_with typed
   pub data_fits : data_bytes typed.objects ≤ 65535

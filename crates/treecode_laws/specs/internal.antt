@@ -1,4 +1,4 @@
 pub mod Places
--- Expressions that change nothing, and outcomes of which one may be had in place of the other.
+-- Expressions that change nothing, and outcomes that may replace each other.
 pub mod Trees
 pub mod Evaluations

@@ -34,7 +34,7 @@ mutual
     UnaryNode : UnaryOperator → ExpressionTree → ExpressionTree
     BinaryNode : BinaryOperator → ExpressionTree → ExpressionTree → ExpressionTree
 
-  -- a name with its arguments, and perhaps a member of it
+  -- a name with its arguments, and a member of it, if one is named
   pub data ReferenceTree : Type 0 where
     ReferenceTo : Identifier → ArgumentTrees → MemberTree → ReferenceTree
 
@@ -48,7 +48,7 @@ mutual
     NoArguments : ArgumentTrees
     MoreArguments : ExpressionTree → ArgumentTrees → ArgumentTrees
 
--- what a restricted expression begins with
+-- the beginning of a restricted expression
 pub data OriginTree : Type 0 where
   ConstantOrigin : ConstantTree → OriginTree
   LocationOrigin : Identifier → OriginTree
@@ -74,7 +74,7 @@ pub record ValueListTree : Type 0 where
   pub storage : Storage
   pub values : List RestrictedTree
 
--- one name, perhaps with the name of its base, or several
+-- one name, with the name of its base, if there is one, or several names
 pub data SubjectTree : Type 0 where
   SingleSubject : Identifier → Option Identifier → SubjectTree
   GroupSubject : List Identifier → SubjectTree
@@ -98,7 +98,7 @@ pub record HeadingTree : Type 0 where
   pub linkage : Option Linkage
   pub reentrant : Option Place
 
--- what stands between DO and the first statement of an iterative DO
+-- the head of an iterative DO, between DO and the first statement
 pub record IterationTree : Type 0 where
   pub variable : Identifier
   pub first : ExpressionTree
@@ -110,7 +110,7 @@ mutual
   pub data StatementTree : Type 0 where
     LabelledStatement : List Identifier → StatementKindTree → StatementTree
 
-  -- what a statement does, with the place of its first word if that is a reserved one or a semicolon
+  -- a statement without its labels, with the place of its first word if that is a reserved one or a semicolon
   pub data StatementKindTree : Type 0 where
     NullStatement : Place → StatementKindTree
     AssignmentStatement : List ReferenceTree → ExpressionTree → StatementKindTree
@@ -135,14 +135,14 @@ mutual
 
   pub data DeclarationTree : Type 0 where
     DeclareTree : List ElementTree → DeclarationTree
-    -- a heading, what the procedure declares and does, and the name after its END
+    -- a heading, the declarations and the statements of the procedure, and the name after its END
     ProcedureTree : HeadingTree → DeclarationTrees → StatementTrees → Option Identifier → DeclarationTree
 
   pub data DeclarationTrees : Type 0 where
     NoDeclarations : DeclarationTrees
     MoreDeclarations : DeclarationTree → DeclarationTrees → DeclarationTrees
 
--- a module, with where its DO stands
+-- a module, with the place of its DO
 pub record ModuleTree : Type 0 where
   pub name : Identifier
   pub place : Place

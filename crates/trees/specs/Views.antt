@@ -71,7 +71,7 @@ abbrev mutual
   row_trees end_of-Expression = NoArguments
   row_trees (more_of-Expression first rest) = MoreArguments (expression_tree first) (row_trees rest)
 
--- where there was memory, an expression with this tree was made
+-- if memory did not run out, an expression with this tree was made
 abbrev pub MakesExpression : {E : Type 0} → Result Expression E → ExpressionTree → Type 0
 MakesExpression result tree = IfOk result (λ made. expression_tree made ≡ tree)
 
@@ -85,7 +85,7 @@ abbrev pub member_tree : Option Selector → MemberTree
 member_tree None = NoMember
 member_tree (Some member) = MemberOf member.name (argument_trees member.arguments.items)
 
--- the reference to what a name with its arguments names, or to a member of it
+-- the reference to the object of a name with its arguments, or to a member of it
 abbrev pub reference_of : Selector → MemberTree → ReferenceTree
 reference_of base member = ReferenceTo base.name (argument_trees base.arguments.items) member
 
@@ -206,7 +206,7 @@ abbrev mutual
 abbrev pub statement_tree : Statement → StatementTree
 statement_tree statement = LabelledStatement statement.labels.items (kind_tree statement.kind)
 
--- where there was memory, such a statement was made
+-- if memory did not run out, such a statement was made
 abbrev pub MakesKind : {E : Type 0} → Result StatementKind E → StatementKindTree → Type 0
 MakesKind result tree = IfOk result (λ made. kind_tree made ≡ tree)
 
@@ -225,7 +225,7 @@ abbrev pub declaration_trees : List Declaration → DeclarationTrees
 declaration_trees [] = NoDeclarations
 declaration_trees (first ∷ rest) = MoreDeclarations (declaration_tree first) (declaration_trees rest)
 
--- what a block declares and does
+-- the declarations and the statements of a block
 abbrev pub block_declarations : Block → DeclarationTrees
 block_declarations block = declaration_trees (out-Block block).declarations.items
 

@@ -44,11 +44,11 @@ pub struct Member {
 /// The type of a variable or of an element of an array.
 pub enum ItemType {
     Scalar(ScalarType),
-    /// STRUCTURE and its members, of which there is one at least.
+    /// STRUCTURE and its members, at least one.
     Structure(Vec<Member>),
 }
 
-/// What a restricted expression begins with.
+/// The beginning of a restricted expression.
 pub enum Origin {
     Constant(Constant),
     /// `.name`
@@ -80,20 +80,20 @@ pub enum Storage {
     Data(Place),
 }
 
-/// `INITIAL (..)` or `DATA (..)`, with one value at least.
+/// `INITIAL (..)` or `DATA (..)`, with at least one value.
 pub struct ValueList {
     pub storage: Storage,
     pub values: Vec<Restricted>,
 }
 
-/// What an item declares.
+/// The names that an item declares.
 pub enum Subject {
     /// A name, and the name after BASED, if there is one.
     Single {
         name: Identifier,
         base: Option<Identifier>,
     },
-    /// Names in parentheses, of which there is one at least.
+    /// Names in parentheses, at least one.
     Group(Vec<Identifier>),
 }
 
@@ -144,7 +144,7 @@ impl Element {
     }
 }
 
-// Written out, so that what these hold is let go here, and each crate that lets one go calls this.
+// Written out, so that these are freed here, and each crate that frees one calls this.
 impl Drop for ItemType {
     fn drop(self) {
         match self {

@@ -1,4 +1,4 @@
-//! Expressions. Where there is no memory for one, its parts are dropped.
+//! Expressions. If memory runs out for one, its parts are dropped.
 
 use crate::identifier::{Constant, Identifier};
 use std::alloc::{AllocError, Global};
@@ -52,7 +52,7 @@ pub enum Expression {
     Constant(Constant),
     /// A variable, an element or a member of one, or a call: these look alike until names are known.
     Reference(Box<Reference>),
-    /// `.` and what it locates.
+    /// `.` and the located reference.
     Location(Box<Reference>),
     /// `.(..)`, a list of constants.
     List(Vec<Constant>),
@@ -69,7 +69,7 @@ pub enum Expression {
     Binary(BinaryOperator, Box<Expression>, Box<Expression>),
 }
 
-// A module has many expressions, so what is large is boxed.
+// A module has many expressions, so large parts are boxed.
 const _: () = prove!(size_of::<Expression>() <= 32);
 
 const _: () = prove!(size_of::<Reference>() <= 80);
@@ -147,7 +147,7 @@ impl Expression {
         Ok(Expression::Reference(Box::new(alloc, reference)?))
     }
 
-    /// `.` and what it locates.
+    /// `.` and the located reference.
     pub fn location(alloc: Global, reference: Reference) -> Result<Expression, AllocError>
         ensures view { MakesExpression result (LocationLeaf (reference_tree reference)) }
     {
@@ -207,7 +207,7 @@ impl Expression {
         Ok(Expression::Binary(operator, left, Box::new(alloc, right)?))
     }
 
-    /// The reference that an expression is, or the expression itself, where it is none.
+    /// The reference that an expression is, or the expression itself, if it is not a reference.
     pub fn into_reference(self) -> Result<Reference, Expression>
         ensures found { IfOk result
             (λ reference. expression_tree self ≡ ReferenceLeaf (reference_tree reference)) }
@@ -221,7 +221,7 @@ impl Expression {
     }
 }
 
-// Written out, so that what these hold is let go here, and each crate that lets one go calls this.
+// Written out, so that these are freed here, and each crate that frees one calls this.
 impl Drop for Expression {
     #[cycle(let_go_expression)]
     fn drop(self) {

@@ -56,7 +56,7 @@ impl Constant {
     }
 }
 
-// Written out, so that what these hold is let go here, and each crate that lets one go calls this.
+// Written out, so that these are freed here, and each crate that frees one calls this.
 impl Drop for StringLiteral {
     fn drop(self) {
         let StringLiteral {

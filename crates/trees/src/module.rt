@@ -12,7 +12,7 @@ pub struct Module {
     pub end_name: Option<Identifier>,
 }
 
-// Written out, so that what a module holds is let go here, and each crate that lets a module go calls this.
+// Written out, so that a module is freed here, and each crate that frees one calls this.
 impl Drop for Module {
     fn drop(self) {
         let Module {

@@ -1,4 +1,4 @@
-//! Statements, declarations and procedures. Where there is no memory for one, its parts are dropped.
+//! Statements, declarations and procedures. If memory runs out for one, its parts are dropped.
 
 use crate::declaration::{Element, Linkage, ScalarType};
 use crate::expression::{Expression, Reference, Selector};
@@ -28,7 +28,7 @@ pub struct Statement {
     pub kind: StatementKind,
 }
 
-/// What a statement does.
+/// A statement without its labels.
 #[cycle(statement)]
 pub enum StatementKind {
     /// `;`, with where it stands.
@@ -67,7 +67,7 @@ pub enum StatementKind {
     Case(Box<DoCase>),
 }
 
-// A module has many statements, so what is large is boxed.
+// A module has many statements, so large parts are boxed.
 const _: () = prove!(size_of::<StatementKind>() <= 32);
 
 const _: () = prove!(size_of::<Statement>() <= 56);
@@ -294,7 +294,7 @@ pub struct Block {
 /// A declaration.
 #[cycle(statement)]
 pub enum Declaration {
-    /// DECLARE, with one element at least.
+    /// DECLARE, with at least one element.
     Declare(Vec<Element>),
     Procedure(Box<Procedure>),
 }
@@ -348,7 +348,7 @@ pub struct Procedure {
     pub end_name: Option<Identifier>,
 }
 
-// Written out, so that what these hold is let go here, and each crate that lets one go calls this.
+// Written out, so that these are freed here, and each crate that frees one calls this.
 impl Drop for Iteration {
     fn drop(self) {
         let Iteration {

@@ -1,4 +1,4 @@
--- What the parts of the checker of expressions stand for.
+-- The views of the parts of the checker of expressions.
 use Rattle.std.specs.Prelude.{map, vec_items}
 use Rattle.typed_trees.specs.TypedTrees.{Constants}
 use Rattle.typed_trees.specs.Views.{reference_view, object_view, procedure_view}

@@ -14,7 +14,7 @@ pub fn refuse(cause: Cause, line: u32) -> Failure<Fault>
     Failure::Fault(Fault { cause, line })
 }
 
-/// Checks a condition. Where it does not hold it is refused, by the cause on the line.
+/// Checks a condition. One that does not hold is refused, by the cause on the line.
 pub fn require(holds: bool, cause: Cause, line: u32) -> Result<(), Failure<Fault>>
     ensures { Answers (λ _. tt) result (require holds cause line) }
 {

@@ -23,7 +23,7 @@ pub(crate) fn number_of_characters(characters: &[u8]) -> Option<u16>
     }
 }
 
-/// The number that a constant is. A string of none or of more than two characters is none.
+/// The number that a constant is. A string that is empty or has more than two characters is not a number.
 pub(crate) fn number_of_constant(constant: &Constant) -> Result<u16, Failure<Fault>>
     ensures { Answers (λ number. number) result (constant_number (constant_tree constant.now)) }
 {

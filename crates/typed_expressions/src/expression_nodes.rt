@@ -28,7 +28,7 @@ pub(crate) fn type_of_number(value: u16) -> ScalarType
     }
 }
 
-// What two types are extended to.
+// The type to which two types are extended.
 fn common_type(left: ScalarType, right: ScalarType) -> ScalarType
     ensures { result ≡ common left right }
 {
@@ -38,7 +38,7 @@ fn common_type(left: ScalarType, right: ScalarType) -> ScalarType
     }
 }
 
-// What the operands of an operator are extended to.
+// The type to which the operands of an operator are extended.
 fn type_of_operands(operator: BinaryOperator, left: ScalarType, right: ScalarType) -> ScalarType
     ensures { result ≡ operand_type operator left right }
 {
@@ -83,7 +83,7 @@ pub(crate) fn value(
     Ok(TypedExpression::Value { scalar, reference })
 }
 
-/// Where something lies.
+/// The location of an object or of a part of it.
 pub(crate) fn location(
     alloc: Global,
     reference: TypedReference,
@@ -93,14 +93,14 @@ pub(crate) fn location(
     Ok(TypedExpression::Location(Box::new(alloc, reference)?))
 }
 
-/// Where a constant list lies.
+/// The location of a constant list.
 pub(crate) fn list(number: u32) -> TypedExpression
     ensures view { expression_view result ≡ ListNode number }
 {
     TypedExpression::List(number)
 }
 
-/// The same value as one of a type: with a conversion where it has the other.
+/// The same value as one of a type: with a conversion if it has the other.
 pub fn as_type(
     alloc: Global,
     expression: TypedExpression,
@@ -227,7 +227,7 @@ pub(crate) fn input(port: u8) -> TypedExpression
     TypedExpression::Input(port)
 }
 
-/// Where a value of a type goes: to a scalar, as a value of its type, or to a port.
+/// The target of a value of a type: a scalar, which gets a value of its own type, or a port.
 pub fn target_of(destination: Destination, from: ScalarType) -> TypedTarget
     ensures view { target_view result ≡ target_for (destination_view destination) from }
 {

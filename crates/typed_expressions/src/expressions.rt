@@ -43,7 +43,7 @@ fn number_node(constant: &Constant) -> Result<TypedExpression, Failure<Fault>>
 }
 
 impl Known {
-    // A constant list, which gets the next number and stands after the constants so far.
+    // A constant list, which gets the next number and is added after the constants so far.
     fn list_node(
         &self,
         list: &[Constant],
@@ -181,7 +181,7 @@ impl Known {
         )
     }
 
-    // A reference to a scalar: an array without a subscript and a structure are none.
+    // A reference to a scalar: an array without a subscript and a structure are not scalars.
     #[cycle(expression)]
     fn scalar_part(
         &self,
@@ -208,7 +208,7 @@ impl Known {
         }
     }
 
-    // Where an object lies, or a part of it, and of an array or a structure its beginning.
+    // The location of an object or of a part of it; of an array or a structure the start.
     #[cycle(expression)]
     fn location_of(
         &self,
@@ -237,7 +237,7 @@ impl Known {
         }
     }
 
-    // What a value can be assigned to: a scalar, or OUTPUT.
+    // The destination of an assigned value: a scalar, or OUTPUT.
     #[cycle(expression)]
     fn destination(
         &self,

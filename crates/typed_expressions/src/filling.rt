@@ -25,15 +25,15 @@ use typing::{Cause, Fault};
 /// How many elements an object is declared with.
 #[derive(Clone, Copy)]
 pub enum Extents {
-    /// It is no array.
+    /// It is not an array.
     NoArray,
-    /// So many.
+    /// A given number.
     Elements(u16),
     /// As many as the values of its list need: `(*)`.
     AsListed,
 }
 
-/// An object's dimension, and what it is filled with.
+/// The contents of an object: its dimension and its values.
 #[derive(Drop)]
 pub struct Contents {
     /// The number of elements of an array. One that a list gives may be too great for an object.
@@ -76,7 +76,7 @@ fn with_address(reach: Reach, home: &Home, number: u32, line: u32) -> Result<u32
     }
 }
 
-// The line of what a restricted expression begins with.
+// The line of the beginning of a restricted expression.
 fn line_of_origin(origin: &Origin) -> u32
     ensures { result ≡ origin_line (origin_tree origin.now) }
 {
@@ -96,7 +96,7 @@ fn scalars_at_most(origin: &Origin) -> usize
     }
 }
 
-// So many elements that their scalars are enough for a list, if the number is no greater than numbers can be.
+// A number of elements with enough scalars for a list, if the number is no greater than numbers can be.
 fn enough_elements(values: &[Restricted]) -> Option<usize>
     ensures { IfSome result (λ count. count ≡ elements_enough (map restricted_tree values.now)) }
 {
@@ -107,7 +107,7 @@ fn enough_elements(values: &[Restricted]) -> Option<usize>
     Some(count)
 }
 
-// The least number of elements of so many scalars each that holds so many scalars. There is one scalar at least.
+// The least number of elements of `each` scalars that hold `used` scalars. `each` is at least 1.
 fn elements_for(line: u32, used: usize, each: usize) -> Result<u32, Failure<Fault>>
     requires { 0 < used → 0 < each }
     ensures { Answers (λ elements. elements) result (elements_listed line used each) }
@@ -189,8 +189,8 @@ impl Known {
         }
     }
 
-    /// Where AT puts an object: at a number, or so far from where an object of this module begins. Refused is what has no
-    /// address before the program runs.
+    /// Where AT puts an object: at a number, or at a distance from the start of an object of this module. Refuses an object
+    /// without an address before the program runs.
     pub fn at_address(&self, restricted: &Restricted) -> Result<AtAddress, Failure<Fault>>
         ensures { Answers (λ address. address) result
             (at_address (known_view self.now) (restricted_tree restricted.now)) }
@@ -231,7 +231,7 @@ impl Known {
         }
     }
 
-    // The values that fill the scalars of so many elements from the first on.
+    // The values that fill the scalars of `elements` elements from the first on.
     fn fill(
         &self,
         object_type: &ObjectType,
@@ -272,7 +272,7 @@ impl Known {
         })
     }
 
-    /// The dimension of an object, and its values, which fill its scalars from the first on. Refused are values that do
+    /// The dimension of an object, and its values, which fill its scalars from the first on. Refuses values that do
     /// not go with their scalars, more values than scalars, and `(*)` without values, the last on the line of the item.
     pub fn contents(
         &self,
@@ -299,7 +299,7 @@ impl Known {
 }
 
 impl Filling {
-    // Nothing yet of so many elements.
+    // A filling of `elements` elements without values so far.
     fn new(alloc: Global, object_type: &ObjectType, elements: usize) -> Filling
         ensures { filled_view (type_view object_type.now) result
             ≡ record { values = []; left = scalars_of_elements elements (type_view object_type.now) } }

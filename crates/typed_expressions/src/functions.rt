@@ -1,4 +1,4 @@
-//! What the built-in functions give.
+//! The results of the built-in functions.
 
 ghost use Rattle.std.specs.Prelude.{◌≡◌, false, Ok, IfSome, IfNone};
 ghost use Rattle.trees.specs.Views.{argument_trees};

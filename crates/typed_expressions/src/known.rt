@@ -17,7 +17,7 @@ use typing::{Cause, Fault};
 /// What names stand for at a place, and the objects and procedures so far.
 #[derive(Drop)]
 pub struct Known {
-    /// Where what is typed is made.
+    /// The allocator of typed trees.
     pub alloc: Global,
     /// What the names stand for that are visible at the place.
     pub scopes: Scopes,

@@ -13,7 +13,7 @@ use trees::Identifier;
 use typed_trees::{ObjectType, TypedMember, TypedObject};
 use typing::{Cause, Fault};
 
-/// A member that a structure has: its position, and where it begins in an element.
+/// A member of a structure: its position, and its offset in an element.
 #[derive(Clone, Copy)]
 pub(crate) struct MemberPlace {
     pub(crate) position: u32,

@@ -20,14 +20,14 @@ use trees::{Constant, Expression, Identifier, ScalarType, Selector};
 use typed_trees::{Home, ObjectType, TypedExpression, TypedObject, TypedReference, TypedSubscript};
 use typing::{Cause, Fault};
 
-/// How much of an array a reference means: an element alone, or also the whole, where it has no subscript.
+/// How much of an array a reference means: an element alone, or also the whole, if it has no subscript.
 #[derive(Clone, Copy)]
 pub(crate) enum Extent {
     AnElement,
     AlsoTheWhole,
 }
 
-/// A part of an object, with its type where it is a scalar or an array of scalars.
+/// A part of an object, with its type if it is a scalar or an array of scalars.
 #[derive(Drop)]
 pub(crate) struct FoundPart {
     pub(crate) reference: TypedReference,
@@ -41,7 +41,7 @@ pub(crate) struct FoundScalar {
     pub(crate) scalar: ScalarType,
 }
 
-/// Whether so many subscripts go with a dimension.
+/// Whether `count` subscripts go with a dimension.
 pub(crate) fn takes_subscripts(extent: Extent, dimension: Option<u16>, count: usize) -> bool
     ensures { result ≡ do_take (extent_view extent) dimension count }
 {
@@ -52,7 +52,7 @@ pub(crate) fn takes_subscripts(extent: Extent, dimension: Option<u16>, count: us
     }
 }
 
-/// The subscript of an array, as an ADDRESS; what has none has no subscript.
+/// The subscript of an array, as an ADDRESS; an object that is not an array has no subscript.
 #[tactic(auto, using(crate::proofs::Subscripts::several_indices))]
 pub(crate) fn subscript_of(
     alloc: Global,
@@ -165,7 +165,7 @@ pub fn require_writable(object: &TypedObject, name: Identifier) -> Result<(), Fa
 }
 
 impl Known {
-    /// What a procedure gives has no members.
+    /// The result of a procedure has no members.
     pub(crate) fn no_member(&self, member: &Option<Box<Selector>>) -> Result<(), Failure<Fault>>
         ensures { Answers (λ _. tt) result (without_member (given_selector self.now member.now)) }
     {
@@ -184,7 +184,7 @@ fn port_from(line: u32, number: u16) -> Result<u8, Failure<Fault>>
     Ok(number as u8)
 }
 
-// The port that a string of one character tells.
+// The port that a string of one character gives.
 fn port_of_character(line: u32, characters: &[u8]) -> Result<u8, Failure<Fault>>
     ensures { Answers (λ port. port) result (character_port line characters.now) }
 {
@@ -216,7 +216,7 @@ pub(crate) fn only(arguments: &[Expression]) -> Option<&Expression>
     }
 }
 
-/// The port that arguments tell: a number up to 255, or a string of one character.
+/// The port that arguments give: a number up to 255, or a string of one character.
 #[tactic(auto, using(crate::proofs::Subscripts::no_port))]
 pub(crate) fn port_of(line: u32, arguments: &[Expression]) -> Result<u8, Failure<Fault>>
     ensures { Answers (λ port. port) result (port_of line (argument_trees arguments.now)) }

@@ -8,7 +8,7 @@ ghost use Rattle.typed_expressions.specs.internal.Fillings.{Takes, first_of, lef
 use trees::ScalarType;
 use typed_trees::{ObjectType, TypedMember};
 
-// So many scalars of a type.
+// A number of scalars of a type.
 #[derive(Clone, Copy)]
 struct Run {
     scalar: ScalarType,
@@ -16,7 +16,7 @@ struct Run {
 }
 
 /// The scalars that are left of an object, in the order of their addresses: those of a run, those of the members of the
-/// element from a position on, and those of so many elements.
+/// element from a position on, and those of the elements after it.
 #[derive(Clone, Copy)]
 pub(crate) struct Scalars {
     run: Run,
@@ -73,7 +73,7 @@ pub(crate) fn scalars_in_element(object_type: &ObjectType) -> Option<usize>
 }
 
 impl Scalars {
-    /// The scalars of so many elements.
+    /// The scalars of `elements` elements.
     pub(crate) fn new(object_type: &ObjectType, elements: usize) -> Scalars
         ensures { left_of (type_view object_type.now) result
             ≡ scalars_of_elements elements (type_view object_type.now) }
@@ -88,7 +88,7 @@ impl Scalars {
         }
     }
 
-    // Goes on to the next member of the element that has scalars. `false`: it has none.
+    // Moves to the next member of the element that has scalars. `false`: it has none.
     fn goes_on(&mut self, object_type: &ObjectType) -> bool
         requires { self.old.run.count ≡ 0 }
         ensures left { left_of (type_view object_type.now) self.new
@@ -109,7 +109,7 @@ impl Scalars {
         false
     }
 
-    // Goes on to the next run that has scalars. `false`: none has.
+    // Moves to the next run that has scalars. `false`: none has.
     #[tactic(auto, using(crate::proofs::LeftScalars::left_none, crate::proofs::LeftScalars::left_next, crate::proofs::LeftScalars::left_empty))]
     fn has_more(&mut self, object_type: &ObjectType) -> bool
         ensures left { left_of (type_view object_type.now) self.new

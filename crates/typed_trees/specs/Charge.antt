@@ -5,7 +5,7 @@ use Rattle.std.specs.Prelude.{ℕ, ◌+◌, ◌*◌, max, List, [], ◌∷◌, l
 use Rattle.typed_trees.specs.TypedTrees.{TypedExpression, NumberNode, ValueNode, LocationNode, ListNode, ConversionNode, AssignmentNode, UnaryNode, BinaryNode, CallNode, FunctionNode, ShiftNode, InputNode, TypedReference, PartOf, Subscript, NoSubscript, At, TypedTarget, StoredIn, SentTo, TypedArguments, NoArguments, MoreArguments, TypedIteration, TypedStatement, LabelStatement, NullStatement, AssignmentStatement, CallStatement, MoveStatement, ReturnStatement, HaltStatement, GotoStatement, IfStatement, DoStatement, WhileStatement, IterateStatement, CaseStatement, TypedElse, NoElse, ElseStatement, TypedStatements, NoStatements, MoreStatements, TypedList, ListOf, TypedProcedure}
 
 abbrev mutual
-  -- The height of an expression: 1 for what has no parts, else one more than the highest part; of a call also
+  -- The height of an expression: 1 if it has no parts, else one more than the highest part; of a call also
   -- one more for each argument. Conversions add nothing.
   pub height_of : TypedExpression → ℕ
   height_of (NumberNode scalar value origin) = 1
@@ -34,7 +34,7 @@ abbrev mutual
   height_of_target (StoredIn from to reference) = height_of_reference reference
   height_of_target (SentTo from port) = 1
 
-  -- the highest of arguments, 0 where there are none
+  -- the greatest height of an argument, 0 if there are no arguments
   pub height_of_arguments : TypedArguments → ℕ
   height_of_arguments NoArguments = 0
   height_of_arguments (MoreArguments first others) = max (height_of first) (height_of_arguments others)
@@ -57,7 +57,7 @@ height_of_iteration head =
     max 1 (max (height_of head.first) (max (height_of head.last) (height_of_optional head.step)))
 
 abbrev mutual
-  -- the height of a statement: that of its highest expression, call or target, 0 where it has none
+  -- the height of a statement: that of its highest expression, call or target, 0 if it has none
   pub height_of_statement : TypedStatement → ℕ
   height_of_statement (LabelStatement label) = 0
   height_of_statement NullStatement = 0

@@ -28,7 +28,7 @@ type_of_function Low = Byte
 type_of_function High = Byte
 type_of_function Double = Address
 
--- the type of an expression, which its first node tells
+-- the type of an expression, which its first node gives
 abbrev pub type_of : TypedExpression → ScalarType
 type_of (NumberNode scalar value origin) = scalar
 type_of (ValueNode scalar reference) = scalar

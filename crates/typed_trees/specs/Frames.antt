@@ -10,7 +10,7 @@ use Rattle.typed_trees.specs.TypedTrees.{Home, InData, Nowhere, InFrame, TypedOb
 use Rattle.typed_trees.specs.Sizes.{size_of_object}
 use Rattle.typed_trees.specs.ObjectParts.{IsScalar}
 
--- where the parameters of a procedure live, and its variables that say nothing else
+-- where the parameters of a procedure live, and its variables unless an attribute says otherwise
 abbrev pub home_of_parameters : (number : ℕ) → (is_reentrant : Bool) → Visibility → Home
 home_of_parameters number is_reentrant External = Nowhere
 home_of_parameters number true visibility = InFrame number
@@ -34,7 +34,7 @@ abbrev pub is_in_frame : (procedure : ℕ) → Home → Bool
 is_in_frame procedure (InFrame other) = procedure == other
 is_in_frame procedure home = false
 
--- the bytes of a variable in the frames of a procedure; a parameter is none
+-- the bytes of a variable in the frames of a procedure; 0 for a parameter
 abbrev pub variable_bytes : (procedure : ℕ) → TypedObject → ℕ
 variable_bytes procedure object =
     if is_in_frame procedure object.home && not object.is_parameter then size_of_object object else 0
@@ -44,7 +44,7 @@ pub record FrameFits (objects : List TypedObject) (number : ℕ) (procedure : Ty
   pub variables : procedure.frame_bytes ≡ sum_by (variable_bytes number) objects
   pub bytes : procedure.frame_bytes ≤ FRAME_LIMIT
 
--- so it is of each procedure of a module; its main program has no frame
+-- the same for each procedure of a module; its main program has no frame
 pub record FramesFit (typed : TypedModule) : Type 0 where
   pub procedures : All (λ (numbered : ℕ × TypedProcedure). FrameFits typed.objects numbered.0 numbered.1)
       (enumerate_from 0 typed.procedures)
@@ -61,7 +61,7 @@ pub record HasParameters (typed : TypedModule) (number : ℕ) (procedure : Typed
       → Any (λ (one : ℕ). one ≡ parameter) procedure.parameters
   pub count : length procedure.parameters ≤ PARAMETER_LIMIT
 
--- so it is of each procedure of a module; its main program has no parameters
+-- the same for each procedure of a module; its main program has no parameters
 pub record ParametersFit (typed : TypedModule) : Type 0 where
   pub procedures : All (λ (numbered : ℕ × TypedProcedure). HasParameters typed numbered.0 numbered.1)
       (enumerate_from 0 typed.procedures)

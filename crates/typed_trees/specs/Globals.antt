@@ -1,4 +1,4 @@
--- The list of globals of a module has what it shares with other modules (PL/M-80 Programming Manual,
+-- The list of globals of a module holds what it shares with other modules (PL/M-80 Programming Manual,
 -- "Extended scope: the PUBLIC and EXTERNAL attributes").
 use Rattle.std.specs.Prelude.{◌≡◌, ℕ, Bool, true, false, filter_map, All, Option, Some, None, if◌then◌else◌}
 use Rattle.std.specs.List.{enumerate_from}
@@ -26,7 +26,7 @@ abbrev pub is_global : Visibility → Bool
 is_global Private = false
 is_global visibility = true
 
--- the number of an object, or of a procedure, that is
+-- the number of an object, or of a procedure, that is a global
 abbrev pub global_object : ℕ × TypedObject → Option ℕ
 global_object numbered =
     if is_shared (numbered.1).home (numbered.1).is_public then Some numbered.0 else None

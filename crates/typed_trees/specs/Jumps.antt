@@ -1,8 +1,8 @@
--- Where the labels of lists stand, and where GOTOs go.
+-- Where the labels of lists stand, and the labels to which GOTOs go.
 use Rattle.std.specs.Prelude.{◌≡◌, ◌≢◌, ℕ, ◌+◌, ◌<◌, ◌≤◌, List, [], ◌∷◌, ◌++◌, length, flat_map, All, AllPairs, Any}
 use Rattle.typed_trees.specs.TypedTrees.{TypedStatement, LabelStatement, NullStatement, AssignmentStatement, CallStatement, MoveStatement, ReturnStatement, HaltStatement, GotoStatement, IfStatement, DoStatement, WhileStatement, IterateStatement, CaseStatement, TypedElse, NoElse, ElseStatement, TypedStatements, NoStatements, MoreStatements, TypedList, ListOf, TypedProcedure, TypedModule}
 
--- the labels of a list: so many numbers from the first on
+-- the labels of a list: `count` numbers from the first on
 pub record LabelsOf : Type 0 where
   pub first : ℕ
   pub count : ℕ
@@ -56,7 +56,7 @@ LabelsStand label place (first ∷ places) (MoreStatements (LabelStatement numbe
     (number ≡ label) × (first ≡ place) × LabelsStand (label + 1) (place + 1) places others
 LabelsStand label place places (MoreStatements statement others) = LabelsStand label (place + 1) places others
 
--- a statement, which is no label before one
+-- a statement that is not a label before another
 abbrev pub IsNoLabel : TypedStatement → Type 0
 IsNoLabel (LabelStatement label) = ⊥
 IsNoLabel statement = Unit {0}
@@ -98,7 +98,7 @@ abbrev mutual
   ListStands (ListOf first places statements) =
       LabelsStand first 0 places statements × ListsStandInStatements statements
 
--- what a procedure does: no jump leaves it, and in each list the labels stand where its places say
+-- the body of a procedure is sound: no jump leaves it, and in each list the labels stand where its places say
 pub record BodyIsSound (body : TypedList) : Type 0 where
   pub closed : IsClosed body
   pub stands : ListStands body

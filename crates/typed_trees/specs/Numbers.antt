@@ -39,7 +39,7 @@ abbrev pub NumbersFitInTargets : List TypedTarget → Type 0
 NumbersFitInTargets [] = Unit {0}
 NumbersFitInTargets (first ∷ others) = NumbersFitInTarget first × NumbersFitInTargets others
 
--- an expression that need not be there
+-- an expression, if there is one
 abbrev pub NumbersFitIfSome : Option TypedExpression → Type 0
 NumbersFitIfSome None = Unit {0}
 NumbersFitIfSome (Some expression) = NumbersFit expression

@@ -30,7 +30,7 @@ IsPartOf object (PartOf number subscript member offset member_subscript) =
     IsSubscriptOf (size_of_element object.object_type) object.dimension subscript
     × IsInElement object.object_type member offset member_subscript
 
--- one element of an array, or what is no array
+-- one element of an array, or an object that is not an array
 abbrev pub IsOneOf : (dimension : Option ℕ) → Subscript → Type 0
 IsOneOf dimension NoSubscript = dimension ≡ None
 IsOneOf dimension (At stride count index) = Unit {0}

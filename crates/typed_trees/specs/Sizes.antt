@@ -14,7 +14,7 @@ abbrev pub size_of_scalar : ScalarType → ℕ
 size_of_scalar Byte = 1
 size_of_scalar Address = 2
 
--- how many elements there are; what is no array counts as one
+-- how many elements there are; an object that is not an array counts as one
 abbrev pub count_of : Option ℕ → ℕ
 count_of dimension = unwrap_or dimension 1
 
@@ -51,7 +51,7 @@ member_named (member ∷ others) name =
 abbrev pub capped : FoundMember → FoundMember
 capped place = record place { offset = min place.offset 4294967295 }
 
--- the scalars of a member, of an element, and of so many elements, in the order of their addresses
+-- the scalars of a member, of an element, and of a number of elements, in the order of their addresses
 abbrev pub scalars_of_member : TypedMember → List ScalarType
 scalars_of_member member = replicate (count_of member.dimension) member.scalar
 

@@ -1,4 +1,4 @@
--- What holds of the tables of a module so that its objects and its constants have a place each.
+-- The rules for the tables of a module by which each of its objects and constants has a place.
 use Rattle.std.specs.Prelude.{◌≡◌, ℕ, zero, suc, ◌+◌, ◌<◌, ◌≤◌, List, [], ◌∷◌, length, filter_map, sum_by, All, Option, Some, None, IsSomeAnd, slice_get}
 use Rattle.std.specs.List.{enumerate_from}
 use Rattle.typed_trees.specs.declared.parts.AtAddress.TheVariants.{AtObject}
@@ -26,12 +26,12 @@ constant_number number home = None
 abbrev pub numbered_constant : ℕ × TypedObject → Option ℕ
 numbered_constant numbered = constant_number numbered.0 (numbered.1).home
 
--- so many numbers from one on
+-- `count` numbers from one on
 abbrev pub numbers_from : (first count : ℕ) → List ℕ
 numbers_from first zero = []
 numbers_from first (suc count) = first ∷ numbers_from (first + 1) count
 
--- an object that AT puts after another stands after that in the table
+-- an object that AT puts after another is after that one in the table
 abbrev pub LooksBack : (number : ℕ) → Home → Type 0
 LooksBack number (Placed (AtObject other offset)) = other < number
 LooksBack number home = Unit {0}
@@ -44,7 +44,7 @@ HasPlace (InConstants values) = Unit {0}
 HasPlace (Placed address) = Unit {0}
 HasPlace home = ⊥
 
--- where AT puts an object after another, that one has a place
+-- if AT puts an object after another, that one has a place
 abbrev pub LooksAtPlace : List TypedObject → Home → Type 0
 LooksAtPlace objects (Placed (AtObject other offset)) =
     IsSomeAnd (slice_get objects other) (λ (object : TypedObject). HasPlace object.home)
@@ -62,8 +62,8 @@ bytes_filled (InData values) = sum_by size_of_value values
 bytes_filled (InConstants values) = sum_by size_of_value values
 bytes_filled home = 0
 
--- The objects with DATA stand among the constants in the order of their numbers, each once, and so do the
--- constant lists; nothing else does. AT looks back, at objects that have a place. INITIAL and DATA fill no
+-- The objects with DATA are among the constants in the order of their numbers, each once, and so are the
+-- constant lists; nothing else is. AT looks back, at objects that have a place. INITIAL and DATA fill no
 -- more bytes than the object has.
 pub record IsStorable (typed : TypedModule) : Type 0 where
   pub objects : filter_map object_in typed.constants.items

@@ -18,13 +18,13 @@ use Rattle.typed_trees.specs.declared.parts.TypedMember.{TypedMember}
 
 mutual
   pub data TypedExpression : Type 0 where
-    -- a number of a type; how it was written does not matter to what it is
+    -- a number of a type; its origin does not change its value
     NumberNode : ScalarType → (value : ℕ) → NumberOrigin → TypedExpression
     -- the value of a scalar
     ValueNode : ScalarType → TypedReference → TypedExpression
-    -- where something lies
+    -- the location of an object or of a part of it
     LocationNode : TypedReference → TypedExpression
-    -- where a constant list lies
+    -- the location of a constant list
     ListNode : (list : ℕ) → TypedExpression
     -- to BYTE the low byte, to ADDRESS with zeros added
     ConversionNode : ScalarType → TypedExpression → TypedExpression
@@ -44,9 +44,9 @@ mutual
     -- INPUT(port)
     InputNode : (port : ℕ) → TypedExpression
 
-  -- An object or a part of it: an element by its subscript; a member, by its position in the structure and by
-  -- where it begins in the element (at 0 where no member is meant); and an element of the member by its
-  -- subscript.
+  -- An object or a part of it: an element by its subscript, and a member by its position in the structure and by
+  -- its offset in the element (0 if no member is meant). A subscript of the member gives an element of the
+  -- member.
   pub data TypedReference : Type 0 where
     PartOf : (object : ℕ) → Subscript → (member : Option ℕ) → (offset : ℕ) → Subscript → TypedReference
 
@@ -55,7 +55,7 @@ mutual
     NoSubscript : Subscript
     At : (stride count : ℕ) → TypedExpression → Subscript
 
-  -- What a value goes to: a scalar, which the value is converted to where their types differ; or a port,
+  -- The destination of a value: a scalar, to whose type the value is converted if the types differ; or a port,
   -- which takes the low byte. The type `from` is that of the value.
   pub data TypedTarget : Type 0 where
     StoredIn : (from to : ScalarType) → TypedReference → TypedTarget
@@ -66,7 +66,7 @@ mutual
     NoArguments : TypedArguments
     MoreArguments : TypedExpression → TypedArguments → TypedArguments
 
--- The head of an iterative DO: the variable with its type, which the first value is converted to as it is
+-- The head of an iterative DO: the variable with its type, to which the first value is converted as it is
 -- stored, and the values, of types of their own.
 pub record TypedIteration : Type 0 where
   pub variable : ℕ
@@ -150,7 +150,7 @@ pub record TypedProcedure : Type 0 where
   pub parameters : List ℕ
   -- the bytes of the variables of a REENTRANT procedure, without its parameters and BASED ones; else 0
   pub frame_bytes : ℕ
-  -- what it does; nothing where it is EXTERNAL
+  -- its statements; none if it is EXTERNAL
   pub body : TypedList
 
 -- the constants of a module: the bytes of each constant list, and the objects with DATA and the constant

@@ -63,7 +63,7 @@ reference_view reference =
     PartOf reference.object (subscript_view reference.subscript) reference.member reference.offset
     (subscript_view reference.member_subscript)
 
--- where there was memory, an expression with this view was made
+-- if memory did not run out, an expression with this view was made
 abbrev pub Makes : {E : Type 0} → Result Expression E → TypedExpression → Type 0
 Makes result node = IfOk result (λ made. expression_view made ≡ node)
 
@@ -116,7 +116,7 @@ abbrev mutual
   statement_rows (more_of-TypedStatement first rest) =
       MoreStatements (statement_view first) (statement_rows rest)
 
--- where there was memory, a statement with this view was built
+-- if memory did not run out, a statement with this view was built
 abbrev pub Builds : {E : Type 0} → Result Statement E → TypedStatement → Type 0
 Builds result statement = IfOk result (λ made. statement_view made ≡ statement)
 

@@ -1,5 +1,5 @@
--- How much there is to generate code for: statements, expression nodes, conversions, targets, procedures and
--- parameters; and how many bytes the code segment of a module has at most. This is the profile's own measure.
+-- The amount of code to generate for a module: statements, expression nodes, conversions, targets, procedures and
+-- parameters; and the most bytes that its code segment may have. This is the profile's own measure.
 use Rattle.std.specs.Prelude.{ℕ, ◌+◌, ◌*◌, length, Option, Some, None, sum_by, slice_get}
 use Rattle.std.specs.Option.{option_map_or}
 use Rattle.trees.specs.declared.declaration.ScalarType.{ScalarType}
@@ -11,7 +11,7 @@ use Rattle.typed_trees.specs.TypedTrees.{TypedExpression, NumberNode, ValueNode,
 use Rattle.typed_trees.specs.Sizes.{size_of_object}
 use Rattle.typed_trees.specs.ExpressionTypes.{type_of}
 
--- 1 where a value is converted as it is stored
+-- 1 if a value is converted as it is stored
 abbrev pub weight_of_storing : (from to : ScalarType) → ℕ
 weight_of_storing Byte Byte = 0
 weight_of_storing Address Address = 0
@@ -45,7 +45,7 @@ abbrev mutual
   weight_of_subscript NoSubscript = 0
   weight_of_subscript (At stride count index) = weight_of_expression index
 
-  -- a target weighs 1, its subscripts, and 1 more where it converts; a port takes a BYTE
+  -- a target weighs 1, its subscripts, and 1 more if it converts; a port takes a BYTE
   pub weight_of_target : TypedTarget → ℕ
   weight_of_target (StoredIn from to reference) =
       1 + weight_of_storing from to + weight_of_reference reference
@@ -102,7 +102,7 @@ abbrev mutual
 abbrev pub weight_of_procedure : TypedProcedure → ℕ
 weight_of_procedure procedure = 1 + length procedure.parameters + weight_of_list procedure.body
 
--- the main module is no procedure
+-- the main program does not count as a procedure
 unfoldable pub weight_of : TypedModule → ℕ
 weight_of typed = sum_by weight_of_procedure typed.procedures + weight_of_list typed.main.body
 

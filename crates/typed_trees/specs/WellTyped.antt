@@ -1,5 +1,5 @@
--- Well-typed trees: operands, arguments, targets and heads of loops have the types that are asked of them,
--- and what is referred to is there (PL/M-80 Programming Manual, "Expressions and assignments").
+-- Well-typed trees: operands, arguments, targets and heads of loops have the types that their places require,
+-- and each object and procedure that they refer to exists (PL/M-80 Programming Manual, "Expressions and assignments").
 use Rattle.std.specs.Prelude.{◌≡◌, ℕ, ◌<◌, List, [], ◌∷◌, length, Option, Some, None, IfSome, IsSomeAnd, slice_get, All}
 use Rattle.std.specs.List.{enumerate_from}
 use Rattle.trees.specs.declared.declaration.ScalarType.{ScalarType}
@@ -12,12 +12,12 @@ use Rattle.typed_trees.specs.TypedTrees.{TypedExpression, NumberNode, ValueNode,
 use Rattle.typed_trees.specs.ObjectParts.{IsPartOf, IsScalarOf, IsScalar}
 use Rattle.typed_trees.specs.ExpressionTypes.{type_of}
 
--- what a part of a module stands in: a procedure, with its number and its result, or the main program
+-- the place of a part of a module: in a procedure, with its number and its result, or in the main program
 pub data Within : Type 0 where
   WithinProcedure : (number : ℕ) → (result : Option ScalarType) → Within
   WithinMain : Within
 
--- an object that has an address of its own, or stands in the frame of the procedure that the part stands in
+-- an object that has an address of its own, or is in the frame of the procedure that the part is in
 abbrev pub LiesFor : Within → Home → Type 0
 LiesFor within (BasedOn base) = ⊥
 LiesFor within Nowhere = ⊥
@@ -39,7 +39,7 @@ RefersToScalar typed within scalar (PartOf number subscript member offset member
     (λ (object : TypedObject). IsSeen typed within object.home
     × IsScalarOf object scalar (PartOf number subscript member offset member_subscript))
 
--- what has a location: it does not stand in a frame
+-- an object with a location: it is not in a frame
 abbrev pub HasLocation : Home → Type 0
 HasLocation (InFrame procedure) = ⊥
 HasLocation home = Unit {0}
@@ -51,7 +51,7 @@ RefersToLocation typed within (PartOf number subscript member offset member_subs
     (λ (object : TypedObject). IsSeen typed within object.home × HasLocation object.home
     × IsPartOf object (PartOf number subscript member offset member_subscript))
 
--- A number of a type. That no number is above 65535 is so by the widths of the code's own numbers.
+-- A number of a type. By the widths of the code's own numbers, no number is above 65535.
 abbrev pub IsNumberOf : ScalarType → ℕ → Type 0
 IsNumberOf Byte value = value < 256
 IsNumberOf Address value = Unit {0}
@@ -81,7 +81,7 @@ Takes typed procedure result values =
     (λ (found : TypedProcedure). (found.result ≡ result) × (found.parameter_types ≡ types_of values))
 
 abbrev mutual
-  -- an expression whose parts have the types that are asked of them
+  -- an expression whose parts have the types that their places require
   pub TypesHold : TypedModule → Within → TypedExpression → Type 0
   TypesHold typed within (NumberNode scalar value origin) = IsNumberOf scalar value
   TypesHold typed within (ValueNode scalar reference) =
@@ -135,7 +135,7 @@ TypesHoldInTargets typed within value [] = Unit {0}
 TypesHoldInTargets typed within value (first ∷ others) =
     TypesHoldInTarget typed within value first × TypesHoldInTargets typed within value others
 
--- RETURN stands in procedures, with a value of the type of the result exactly where there is one
+-- RETURN is in a procedure, with a value of the type of the result exactly if it has a result
 abbrev pub IsReturned : TypedModule → Within → Option TypedExpression → Type 0
 IsReturned typed (WithinProcedure number None) None = Unit {0}
 IsReturned typed (WithinProcedure number (Some scalar)) (Some value) =
@@ -154,7 +154,7 @@ TypesHoldInHead typed within head =
     × IfSome head.step (TypesHold typed within)
 
 abbrev mutual
-  -- a statement whose parts have the types that are asked of them
+  -- a statement whose parts have the types that their places require
   pub TypesHoldIn : TypedModule → Within → TypedStatement → Type 0
   TypesHoldIn typed within (LabelStatement label) = Unit {0}
   TypesHoldIn typed within NullStatement = Unit {0}
@@ -192,12 +192,12 @@ abbrev mutual
   TypesHoldInList typed within (ListOf first places statements) =
       TypesHoldInStatements typed within statements
 
--- what a procedure of a number does
+-- the statements of a procedure, by its number
 abbrev pub TypesHoldInProcedure : TypedModule → ℕ × TypedProcedure → Type 0
 TypesHoldInProcedure typed numbered =
     TypesHoldInList typed (WithinProcedure numbered.0 (numbered.1).result) (numbered.1).body
 
--- a module all of whose statements have parts of the types that are asked of them
+-- a module all of whose statements have parts of the types that their places require
 pub record IsWellTyped (typed : TypedModule) : Type 0 where
   pub procedures : All (TypesHoldInProcedure typed) (enumerate_from 0 typed.procedures)
   pub main : TypesHoldInList typed WithinMain typed.main.body

@@ -11,7 +11,7 @@ use crate::statement::{
     TypedAssignment, TypedIf, TypedIteration, TypedList, TypedMove, TypedStatement,
 };
 
-/// What a call of a procedure is charged (4,294,967,295 where that is more).
+/// The charge of a call of a procedure (4,294,967,295 if it is more).
 #[tactic(auto, unfolding(crate::specs::Charge::charge_of))]
 pub fn charge_of(procedure: &TypedProcedure) -> u32
     ensures { result ≡ min (charge (procedure_view procedure.now)) 4294967295 }
@@ -75,7 +75,7 @@ fn reference_height(reference: &TypedReference) -> u32
         .saturating_add(1)
 }
 
-// The height of a subscript, 0 where there is none.
+// The height of a subscript, 0 without one.
 #[cycle(expression)]
 fn subscript_height(subscript: &TypedSubscript) -> u32
     ensures { result ≡ min (height_of_subscript (subscript_view subscript.now)) 4294967295 }
@@ -109,7 +109,7 @@ fn call_height(arguments: &[TypedExpression]) -> u32
         .saturating_add(1)
 }
 
-// The height of the highest argument, 0 where there are none.
+// The height of the highest argument, 0 if there are none.
 #[cycle(expression)]
 #[tactic(auto, using(crate::proofs::Heights::arguments_more, crate::proofs::Heights::arguments_none))]
 fn arguments_height(arguments: &[TypedExpression]) -> u32
@@ -154,7 +154,7 @@ fn move_height(moved: &TypedMove) -> u32
         .saturating_add(4)
 }
 
-// The height of the value that RETURN gives, 0 where there is none.
+// The height of the value that RETURN gives, 0 without a value.
 fn result_height(value: &Option<Box<TypedExpression>>) -> u32
     ensures { result ≡ min (height_of_optional
         (option_map (λ held. expression_view held.value) value.now)) 4294967295 }
@@ -165,7 +165,7 @@ fn result_height(value: &Option<Box<TypedExpression>>) -> u32
     }
 }
 
-// The height of a step, 0 where there is none.
+// The height of a step, 0 without one.
 fn step_height(step: &Option<TypedExpression>) -> u32
     ensures { result ≡ min (height_of_optional (option_map expression_view step.now)) 4294967295 }
 {
@@ -226,7 +226,7 @@ fn if_height(branch: &TypedIf) -> u32
         .max(else_height(&branch.otherwise))
 }
 
-// The height of the statement after ELSE, 0 where there is none.
+// The height of the statement after ELSE, 0 without one.
 #[cycle(statement)]
 fn else_height(otherwise: &Option<TypedStatement>) -> u32
     ensures { result ≡ min (height_of_else (else_view otherwise.now)) 4294967295 }
@@ -245,7 +245,7 @@ fn list_height(list: &TypedList) -> u32
     statements_height(list.statements.as_slice())
 }
 
-// The height of the highest statement, 0 where there are none.
+// The height of the highest statement, 0 if there are none.
 #[cycle(statement)]
 #[tactic(auto, using(crate::proofs::Heights::statements_more, crate::proofs::Heights::statements_none))]
 fn statements_height(statements: &[TypedStatement]) -> u32

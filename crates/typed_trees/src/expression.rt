@@ -18,9 +18,9 @@ pub enum TypedExpression {
         scalar: ScalarType,
         reference: Box<TypedReference>,
     },
-    /// Where something lies.
+    /// The location of an object or of a part of it.
     Location(Box<TypedReference>),
-    /// Where a constant list lies.
+    /// The location of a constant list.
     List(u32),
     /// To BYTE the low byte, to ADDRESS with zeros added.
     Conversion {
@@ -67,8 +67,8 @@ pub enum TypedExpression {
     Input(u8),
 }
 
-/// An object or a part of it: an element, a member of the element, by its position in the structure and where it begins
-/// there (0 where no member is meant), and an element of the member.
+/// An object or a part of it: an element, a member of the element, by its position in the structure and its offset
+/// there (0 if no member is meant), and an element of the member.
 #[cycle(expression)]
 pub struct TypedReference {
     pub object: u32,
@@ -89,10 +89,10 @@ pub enum TypedSubscript {
     },
 }
 
-/// What a value of the type `from` goes to.
+/// The destination of a value of the type `from`.
 #[cycle(expression)]
 pub enum TypedTarget {
-    /// A scalar of the type `to`, which the value is converted to.
+    /// A scalar of the type `to`, to which the value is converted.
     Stored {
         from: ScalarType,
         to: ScalarType,
@@ -139,7 +139,7 @@ impl TypedTarget {
     ghost use Rattle.typed_trees.specs.ExpressionTypes.{type_of_target};
     ghost use Rattle.typed_trees.specs.Views.{target_view};
 
-    /// The type of the value that goes to it.
+    /// The type of the value that is stored or sent.
     pub fn source(&self) -> ScalarType
         ensures { result ≡ type_of_target (target_view self.now) }
     {
@@ -152,7 +152,7 @@ impl TypedTarget {
 ghost use Rattle.std.specs.Prelude.{◌≡◌};
 ghost use Rattle.typed_trees.specs.ExpressionTypes.{type_of_result as result_type};
 
-/// The type of what an operator gives for operands of a type.
+/// The type of the result of an operator for operands of a type.
 fn type_of_result(operator: BinaryOperator, operands: ScalarType) -> ScalarType
     ensures { result ≡ result_type operator operands }
 {
@@ -167,7 +167,7 @@ fn type_of_result(operator: BinaryOperator, operands: ScalarType) -> ScalarType
     }
 }
 
-// Written out, so that what these hold is let go here, and each crate that lets one go calls this.
+// Written out, so that these are freed here, and each crate that frees one calls this.
 impl Drop for TypedExpression {
     #[cycle(let_go_expression)]
     fn drop(self) {

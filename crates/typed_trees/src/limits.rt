@@ -1,4 +1,4 @@
-//! The limits of what a module declares.
+//! The limits of the declarations of a module.
 
 /// The greatest number of bytes of an object.
 pub const OBJECT_LIMIT: u32 = 65_535;
@@ -9,7 +9,7 @@ pub const FRAME_LIMIT: u32 = 1024;
 /// The greatest number of parameters of a procedure.
 pub const PARAMETER_LIMIT: usize = 16;
 
-/// The code of a module has at most so many bytes beside its constants, and so many more for each unit of its weight.
+/// The most bytes of code of a module beside its constants: a fixed number, and a number for each unit of its weight.
 pub const CODE_BYTES: u32 = 2048;
 
 pub const CODE_BYTES_FOR_WEIGHT: u32 = 128;

@@ -10,8 +10,8 @@ use std::alloc::{AllocError, Global};
 use std::marker::Model;
 use trees::{Name, ScalarType};
 
-/// A member that a structure has: its position, counted from 0, where it begins in an element (4,294,967,295 where it
-/// begins further on), and the member.
+/// A member of a structure: its position, counted from 0, its offset in an element (4,294,967,295 if it is
+/// greater), and the member.
 #[derive(Clone, Copy)]
 pub struct FoundMember {
     pub position: usize,
@@ -19,7 +19,7 @@ pub struct FoundMember {
     pub member: TypedMember,
 }
 
-/// What the table holds of a member beside its name: where it begins is after the members before it.
+/// The entry of a member in the table, beside its name: its offset is after the members before it.
 #[derive(Clone, Copy)]
 pub(crate) struct Entry {
     dimension: Option<u16>,
@@ -60,7 +60,7 @@ impl Members {
         }
     }
 
-    /// Adds a member after the others. `false`: there is one of that name already, and nothing changes.
+    /// Adds a member after the others. `false`: a member has that name already, and nothing changes.
     #[tactic(auto, using(crate::proofs::MemberTable::has_name, crate::proofs::MemberTable::pushed_laid_out, crate::proofs::MemberTable::pushed_members, crate::proofs::MemberTable::pushed_whole))]
     pub fn push(&mut self, member: TypedMember) -> Result<bool, AllocError>
         ensures added { IfOk result (λ added. added ≡ not (has_member self.old member.name)) }
@@ -113,7 +113,7 @@ impl Members {
         self.entries.len()
     }
 
-    /// How many bytes the members take together (4,294,967,295 where they take more).
+    /// How many bytes the members take together (4,294,967,295 if they take more).
     pub fn size(&self) -> u32
         ensures { result ≡ min (sum_by size_of_member self.now) 4294967295 }
     {
@@ -134,7 +134,7 @@ fn member_at(name: &Name, entry: &Entry) -> TypedMember
     }
 }
 
-// Written out, so that what they hold is let go here, and each crate that lets members go calls this.
+// Written out, so that these are freed here, and each crate that frees members calls this.
 impl Drop for Members {
     fn drop(self) {
         let Members {

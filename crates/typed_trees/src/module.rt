@@ -54,7 +54,7 @@ pub struct TypedProcedure {
     pub parameters: Vec<u32>,
     /// The bytes of the variables of a REENTRANT procedure, without parameters and BASED ones; else 0.
     pub frame_bytes: u32,
-    /// Nothing where it is EXTERNAL.
+    /// No statements if it is EXTERNAL.
     pub body: TypedList,
 }
 
@@ -78,7 +78,7 @@ impl ObjectType {
     ghost use Rattle.typed_trees.specs.Sizes.{size_of_element};
     ghost use Rattle.typed_trees.specs.Views.{type_view};
 
-    /// How many bytes an element takes (4,294,967,295 where it takes more).
+    /// How many bytes an element takes (4,294,967,295 if it takes more).
     pub fn element_size(&self) -> u32
         ensures { result ≡ min (size_of_element (type_view self.now)) 4294967295 }
     {
@@ -94,14 +94,14 @@ impl TypedObject {
     ghost use Rattle.typed_trees.specs.Sizes.{size_of_element, size_of_object};
     ghost use Rattle.typed_trees.specs.Views.{object_view};
 
-    /// How many bytes an element takes (4,294,967,295 where it takes more).
+    /// How many bytes an element takes (4,294,967,295 if it takes more).
     pub fn element_size(&self) -> u32
         ensures { result ≡ min (size_of_element (object_view self.now).object_type) 4294967295 }
     {
         self.object_type.element_size()
     }
 
-    /// How many bytes it takes (4,294,967,295 where it takes more).
+    /// How many bytes it takes (4,294,967,295 if it takes more).
     #[tactic(auto, using(crate::proofs::Capped::capped_product))]
     pub fn size(&self) -> u32
         ensures { result ≡ min (size_of_object (object_view self.now)) 4294967295 }
@@ -114,7 +114,7 @@ impl TypedObject {
     }
 }
 
-// Written out, so that what these hold is let go here, and each crate that lets one go calls this.
+// Written out, so that these are freed here, and each crate that frees one calls this.
 impl Drop for ObjectType {
     fn drop(self) {
         match self {

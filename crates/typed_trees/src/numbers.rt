@@ -1,4 +1,4 @@
-//! Tells that the numbers in typed trees have the width of a word.
+//! The numbers in typed trees have the width of a word: the functions here state it, and do nothing.
 #![tactic(auto)]
 
 ghost use Rattle.std.specs.Prelude.{◌<◌, map};
@@ -12,7 +12,7 @@ use crate::{
     TypedStatement, TypedSubscript, TypedTarget,
 };
 
-/// Tells that the numbers in the procedures and in the main program of a module have the width of a word, and does nothing.
+/// States that the numbers in the procedures and in the main program of a module have the width of a word. Does nothing.
 pub fn hold_numbers(typed: &Typed)
     ensures { NumbersFitInModule (module_view typed.now) }
 {

@@ -72,7 +72,7 @@ pub enum InitialValue {
     ByteValue(u8),
     /// Two bytes, the low one first.
     WordValue(u16),
-    /// Two bytes: where an object lies, and a number added to that.
+    /// Two bytes: the address of an object, with a number added to it.
     LocationValue { object: u32, offset: u16 },
 }
 
@@ -85,7 +85,7 @@ pub enum AtAddress {
     AtObject { object: u32, offset: u16 },
 }
 
-/// What stands among the constants of a module, by its number.
+/// An object or a list among the constants of a module, by its number.
 #[derive(Clone, Copy)]
 pub enum ConstantItem {
     /// An object with DATA.
@@ -94,7 +94,7 @@ pub enum ConstantItem {
     ConstantList(u32),
 }
 
-/// What is PUBLIC or EXTERNAL in a module, by its number.
+/// An object or a procedure that is PUBLIC or EXTERNAL in a module, by its number.
 #[derive(Clone, Copy, PartialEq, Eq)]
 pub enum GlobalItem {
     GlobalObject(u32),
@@ -105,7 +105,7 @@ impl UnaryFunction {
     ghost use Rattle.std.specs.Prelude.{◌≡◌};
     ghost use Rattle.typed_trees.specs.ExpressionTypes.{type_of_function};
 
-    /// The type of what it gives.
+    /// The type of its result.
     pub fn scalar(&self) -> ScalarType
         ensures { result ≡ type_of_function self.now }
     {

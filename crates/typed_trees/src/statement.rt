@@ -3,7 +3,7 @@
 use crate::expression::{TypedExpression, TypedTarget};
 use trees::ScalarType;
 
-/// The head of an iterative DO: the variable with its type, which the first value is converted to as it is stored.
+/// The head of an iterative DO: the variable with its type, to which the first value is converted as it is stored.
 pub struct TypedIteration {
     pub variable: u32,
     pub scalar: ScalarType,
@@ -18,7 +18,7 @@ pub struct TypedAssignment {
     pub value: TypedExpression,
 }
 
-/// What CALL MOVE copies: so many bytes, from where, to where. Each is an ADDRESS.
+/// The operands of CALL MOVE: the count of bytes, the source and the destination. Each is an ADDRESS.
 pub struct TypedMove {
     pub count: TypedExpression,
     pub source: TypedExpression,
@@ -52,7 +52,7 @@ pub enum TypedStatement {
     Case(Box<TypedCase>),
 }
 
-// A module has many statements, so what is large is boxed.
+// A module has many statements, so large parts are boxed.
 const _: () = prove!(size_of::<TypedStatement>() <= 40);
 
 /// IF a condition THEN a statement ELSE another, if there is one.
@@ -92,7 +92,7 @@ pub struct TypedList {
     pub statements: Vec<TypedStatement>,
 }
 
-// Written out, so that what these hold is let go here, and each crate that lets one go calls this.
+// Written out, so that these are freed here, and each crate that frees one calls this.
 impl Drop for TypedIteration {
     fn drop(self) {
         let TypedIteration {

@@ -3,7 +3,7 @@
 use crate::linkages::is_external_linkage;
 use trees::Heading;
 
-/// What a block belongs to: the module, or a procedure, by its number and its heading.
+/// The owner of a block: the module, or a procedure, by its number and its heading.
 #[derive(Clone, Copy)]
 pub(crate) enum Owner<'a> {
     Module,

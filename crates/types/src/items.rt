@@ -54,7 +54,7 @@ struct PlacedItem {
     home: Home,
 }
 
-// What an item is based on. Parameters are not BASED.
+// The base of an item. Parameters are not BASED.
 fn typed_base(
     known: &Known,
     block: Block<'_>,
@@ -124,7 +124,7 @@ fn typed_at(
     }
 }
 
-// What an item is filled with. INITIAL and DATA do not go with AT.
+// The values of an item. INITIAL and DATA do not go with AT.
 fn typed_contents(
     known: &Known,
     block: Block<'_>,
@@ -252,7 +252,7 @@ impl TypedItem {
         })
     }
 
-    // How many bytes each of its objects takes (4,294,967,295 where it takes more).
+    // How many bytes each of its objects takes (4,294,967,295 if it takes more).
     #[tactic(auto, using(typed_trees::proofs::Capped::capped_product))]
     fn size(&self) -> u32
         ensures { result ≡ min (items.size_of_item (typed_item_view self.now)) 4294967295 }
@@ -345,7 +345,7 @@ fn fitting(dimension: Option<u32>) -> Result<Option<u16>, Failure<Fault>>
     }
 }
 
-// How many bytes an object takes in the frame of a call (4,294,967,295 where it takes more).
+// How many bytes an object takes in the frame of a call (4,294,967,295 if it takes more).
 fn bytes_in_frame(object: &TypedObject) -> u32
     ensures { result
         ≡ min (items.bytes_in_frame (object_view object.now).home (object_view object.now)) 4294967295 }
@@ -489,7 +489,7 @@ fn check_linkage(block: Block<'_>, item: &Item) -> Result<(), Failure<Fault>>
     }
 }
 
-// Whether an item may have a place or values of its own: one name, not BASED, not EXTERNAL, no parameter, and no
+// Whether an item may have a place or values of its own: one name, not BASED, not EXTERNAL, not a parameter, and not a
 // variable of a REENTRANT procedure.
 fn is_plain(block: Block<'_>, item: &Item) -> bool
     ensures { result ≡ items.is_plain (block_view block.entry) (item_tree item.now) }
@@ -520,7 +520,7 @@ fn is_data(values: &Option<ValueList>) -> bool
     }
 }
 
-// Where the variables and parameters of an owner live that say nothing else.
+// Where the variables and parameters of an owner live, unless an attribute says otherwise.
 fn home_in(owner: Owner<'_>, values: Vec<InitialValue>) -> Home
     ensures { home_view result ≡ items.home_in (owner_view owner.entry) values.items }
 {
@@ -538,7 +538,7 @@ fn home_in(owner: Owner<'_>, values: Vec<InitialValue>) -> Home
     }
 }
 
-// Where an item lives: by BASED, by EXTERNAL, by AT, by DATA, or by what declares it.
+// Where an item lives: by BASED, by EXTERNAL, by AT, by DATA, or by the owner of the declaration.
 fn home_of(
     owner: Owner<'_>,
     item: &Item,
@@ -707,7 +707,7 @@ impl Checker {
         push_object(&mut self.known, object)
     }
 
-    // Takes in the next object where it belongs beside the table.
+    // Adds the next object to the constants, the globals and the frame bytes, if it belongs there.
     fn list_object(
         &mut self,
         object: &TypedObject,
@@ -772,7 +772,7 @@ impl Checker {
         self.add_object(block, copy, name)
     }
 
-    // Declares an item. What it is comes from the names before it, and that one of its own is declared twice comes first.
+    // Declares an item. It is typed by the names before it, but a name of its own that is declared twice is refused first.
     fn declare_item(&mut self, block: Block<'_>, item: &Item) -> Result<(), Failure<Fault>>
         ensures { Leaves result (progress_view self.new)
             (items.declare_item (block_view block.entry) (item_tree item.now) (progress_view self.old)) }

@@ -30,7 +30,7 @@ pub(crate) fn line_of_linkage(linkage: Linkage) -> u32
     }
 }
 
-/// One more global, where there is a linkage.
+/// Adds a global, if there is a linkage.
 pub(crate) fn add_global(
     globals: &mut Vec<GlobalItem>,
     linkage: Option<Linkage>,

@@ -45,7 +45,7 @@ pub(crate) fn without_label(labels: &[Identifier]) -> Result<(), Failure<Fault>>
     }
 }
 
-// The number after this one. There is no source with so many labels, but the numbers end.
+// The next number. No source reaches the greatest one, after which this fails.
 fn next_number(number: u32) -> Result<u32, Failure<Fault>>
     ensures ok { IfOk result (λ next. next ≡ number + 1) }
     ensures err { IfFault result (λ _. ⊥) }

@@ -30,7 +30,7 @@ use typed_expressions::{refuse, require};
 use typed_trees::{GlobalItem, PARAMETER_LIMIT, TypedList, TypedProcedure, Visibility};
 use typing::{Cause, Fault};
 
-/// The objects of a procedure's parameters, and what it does.
+/// The objects of a procedure's parameters, and its statements.
 #[derive(Drop)]
 pub(crate) struct Inside {
     pub(crate) parameters: Vec<u32>,
@@ -47,7 +47,7 @@ fn parameter_object(parameter: Identifier, declared: Option<Entity>) -> Result<u
     }
 }
 
-/// The objects of the parameters, each of which the procedure's own block declares.
+/// The objects of the parameters, each declared by the procedure's own block.
 pub(crate) fn parameter_objects(
     alloc: Global,
     scopes: &Scopes,
@@ -71,7 +71,7 @@ fn line_of_reference(reference: &Reference) -> u32
     reference.name.place.line
 }
 
-// Where what a statement does begins.
+// The line at which a statement begins, its labels aside.
 #[tactic(auto, using(names::proofs::Parts::do_is))]
 fn line_of_kind(kind: &StatementKind) -> u32
     ensures { result ≡ line_of_kind (kind_tree kind.now) }
@@ -101,7 +101,7 @@ fn line_of_statement(statement: &Statement) -> u32
     }
 }
 
-/// An EXTERNAL procedure does nothing here.
+/// An EXTERNAL procedure has no statements here.
 pub(crate) fn check_body(heading: &Heading, body: &[Statement]) -> Result<(), Failure<Fault>>
     ensures { Answers (λ _. tt) result
         (check_body (heading_tree heading.now) (statement_trees body.now)) }
@@ -264,7 +264,7 @@ fn within_limit(parameters: &[Identifier]) -> (&[Identifier], &[Identifier])
     }
 }
 
-// There are not too many parameters.
+// Checks that there are not too many parameters.
 fn no_more_parameters(parameters: &[Identifier]) -> Result<(), Failure<Fault>>
     ensures { Answers (λ _. tt) result (no_more_parameters parameters.now) }
 {
@@ -302,7 +302,7 @@ fn check_reentrant(linkage: Option<Linkage>, reentrant: Option<Place>) -> Result
     }
 }
 
-// The names of a heading, and its body around what comes next.
+// Declares the name of a procedure, opens its body, and declares its parameters.
 fn open_heading(
     scopes: &mut Scopes,
     block: Block<'_>,
@@ -320,7 +320,7 @@ fn open_heading(
     open_parameters(scopes, block, heading)
 }
 
-// The parameters of a heading, whose body they begin.
+// Opens the body of a procedure, and declares its parameters.
 fn open_parameters(
     scopes: &mut Scopes,
     block: Block<'_>,
@@ -348,7 +348,7 @@ fn visibility_of(linkage: Option<Linkage>) -> Visibility
     }
 }
 
-// What a procedure is as its heading says, and what is known of it beside that.
+// A procedure by its heading, and by the parts that become known later.
 fn procedure_with(
     heading: &Heading,
     parameter_types: Vec<ScalarType>,
@@ -371,7 +371,7 @@ fn procedure_with(
     }
 }
 
-// A procedure of which only the heading is known.
+// A procedure by its heading alone.
 fn headed(alloc: Global, heading: &Heading, parameter_types: Vec<ScalarType>) -> TypedProcedure
     ensures { procedure_view result ≡ procedure_with (heading_tree heading.now)
         parameter_types.items [] 0 empty_list }
@@ -419,7 +419,7 @@ impl Checker {
         Ok(number)
     }
 
-    /// Goes out of a procedure, which is now known whole.
+    /// Closes a procedure, which is now complete.
     #[tactic(auto, using(crate::proofs::Headings::procedure_replaced))]
     pub(crate) fn close_procedure(
         &mut self,

@@ -88,7 +88,7 @@ impl Checker {
     }
 }
 
-// What MOVE is handed: how many bytes, from where and to where.
+// The arguments of MOVE: the count of bytes, the source and the destination.
 #[derive(Drop)]
 struct Moving {
     count: TypedExpression,
@@ -96,7 +96,7 @@ struct Moving {
     destination: TypedExpression,
 }
 
-// Three values as what MOVE is handed.
+// Three values as the arguments of MOVE.
 fn moving_of(values: Vec<TypedExpression>) -> Option<Moving>
     ensures three { IfSome result (λ moving.
         values.items ≡ moving.count ∷ moving.source ∷ moving.destination ∷ []) }
@@ -116,7 +116,7 @@ fn moving_of(values: Vec<TypedExpression>) -> Option<Moving>
     })
 }
 
-// What MOVE is handed, as ADDRESSes.
+// The arguments of MOVE, as ADDRESSes.
 fn as_addresses(alloc: Global, moving: Moving) -> Result<TypedMove, AllocError>
     ensures count { IfOk result (λ made.
         expression_view made.count ≡ converted Address (expression_view moving.count)) }
@@ -158,7 +158,7 @@ fn are_three(trees: &[Expression]) -> bool
     trees.len() == 3
 }
 
-// A call of a procedure of a number that the name stands for, which is to be untyped.
+// A call of a procedure of a number that the name stands for, which must be untyped.
 fn untyped_call(
     known: &Known,
     number: u32,
@@ -194,7 +194,7 @@ fn call_of_move(
     moved(known.alloc, line, values)
 }
 
-// CALL of what a name is bound to: an untyped procedure, or MOVE.
+// CALL by the binding of a name: an untyped procedure, or MOVE.
 fn call_bound(
     known: &Known,
     binding: Binding,

@@ -64,7 +64,7 @@ impl Checker {
         self.known.scopes.close_list();
     }
 
-    // What a statement does, its labels aside.
+    // The typing of a statement, its labels aside.
     #[cycle(walk)]
     fn kind(
         &mut self,
@@ -225,7 +225,7 @@ impl Checker {
         Ok(made)
     }
 
-    // A list of statements, in the whole of which its labels are known.
+    // A list of statements, with its labels known in the whole of it.
     #[cycle(walk)]
     fn list(&mut self, block: Block<'_>, trees: &[Statement]) -> Result<TypedList, Failure<Fault>>
         ensures { Gives list_view result (progress_view self.new)
@@ -330,7 +330,7 @@ impl Checker {
         self.close_procedure(heading, declared, number, inside)
     }
 
-    // What stands in a procedure of a number.
+    // The inside of a procedure, by its number.
     #[cycle(walk)]
     fn procedure_inside(
         &mut self,
@@ -375,7 +375,7 @@ fn main_procedure(alloc: Global, name: Name, body: TypedList) -> TypedProcedure
 }
 
 impl Checker {
-    // What a module declares and does.
+    // The declarations and the statements of a module.
     fn module(&mut self, body: &BlockTree) -> Result<TypedList, Failure<Fault>>
         ensures { Gives list_view result (progress_view self.new)
             (module_body (block_declarations body.now) (block_statements body.now)

@@ -10,7 +10,7 @@ use Rattle.typed_trees.specs.declared.parts.GlobalItem.{GlobalItem}
 use Rattle.typed_trees.specs.TypedTrees.{Constants}
 use Rattle.typing.specs.References.{Known}
 
--- what a block belongs to: the module, or a procedure, by its number and its heading
+-- the owner of a block: the module, or a procedure, by its number and its heading
 pub data Owner : Type 0 where
   TheModule : Owner
   OfProcedure : (number : ℕ) → HeadingTree → Owner
@@ -36,7 +36,7 @@ abbrev pub is_external_linkage : Option Linkage → Bool
 is_external_linkage (Some (External place)) = true
 is_external_linkage linkage = false
 
--- one more global, where there is a linkage
+-- one more global, if there is a linkage
 abbrev pub with_global : Option Linkage → GlobalItem → List GlobalItem → List GlobalItem
 with_global None item globals = globals
 with_global (Some linkage) item globals = globals ++ item ∷ []
@@ -45,7 +45,7 @@ abbrev pub line_of_linkage : Linkage → ℕ
 line_of_linkage (Public place) = place.line
 line_of_linkage (External place) = place.line
 
--- whether what declares something is a REENTRANT procedure, or an EXTERNAL one
+-- whether the owner of a declaration is a REENTRANT procedure, or an EXTERNAL one
 abbrev pub is_reentrant : Owner → Bool
 is_reentrant TheModule = false
 is_reentrant (OfProcedure number heading) = is_some heading.reentrant

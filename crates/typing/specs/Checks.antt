@@ -3,11 +3,11 @@ use Rattle.std.specs.Prelude.{ℕ, Bool, true, false, Option, Some, None, Result
 use Rattle.typing.specs.declared.fault.Cause.{Cause}
 use Rattle.typing.specs.declared.fault.Fault.{Fault}
 
--- what a check gives, or the first fault
+-- the result of a check, or the first fault
 abbrev pub Checked : Type 0 → Type 0
 Checked A = Result A Fault
 
--- goes on where there is no fault
+-- continues if there is no fault
 infixl 10 ◌>>=◌
 abbrev pub ◌>>=◌ : {A B : Type 0} → Result A Fault → (A → Result B Fault) → Result B Fault
 (Ok a) >>= next = next a

@@ -23,7 +23,7 @@ abbrev pub line_of_constant : ConstantTree → ℕ
 line_of_constant (NumberConstant number) = number.place.line
 line_of_constant (StringConstant string) = string.place.line
 
--- the number that a constant is; a string of none or of more than two characters is none
+-- the number that a constant is; a string that is empty or has more than two characters is not a number
 abbrev pub number_of_constant : ConstantTree → Checked ℕ
 number_of_constant (NumberConstant number) = Ok number.value
 number_of_constant (StringConstant string) =

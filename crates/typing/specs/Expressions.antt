@@ -21,7 +21,7 @@ number_node constant = do
   number ← number_of_constant constant
   Ok (NumberNode (type_of_number number) number (origin_of constant))
 
--- a constant list gets the next number and stands after the constants so far
+-- a constant list gets the next number and is added after the constants so far
 abbrev pub with_list : List ConstantTree → Constants → Constants
 with_list list constants = record {
   lists = constants.lists ++ bytes_of_constants list ∷ [];

@@ -24,8 +24,8 @@ pub data Reach : Type 0 where
   ThisModule : Reach
   OtherModulesToo : Reach
 
--- An object whose address is known before the program runs: one with a place of its own, and where it is
--- allowed one of another module. The variables of a REENTRANT procedure have no location.
+-- An object whose address is known before the program runs: one with a place of its own, or, if that is
+-- allowed, one of another module. The variables of a REENTRANT procedure have no location.
 abbrev pub with_address : Reach → Home → (number line : ℕ) → Checked ℕ
 with_address reach (InFrame procedure) number line = refuse NoLocation line
 with_address reach (BasedOn base) number line = refuse WrongConstant line
@@ -100,8 +100,8 @@ fill_characters line (character ∷ others) (Byte ∷ left) = do
   Ok (and_before (ByteValue character) filled)
 fill_characters line characters scalars = refuse WrongConstant line
 
--- A string that stands alone and begins at a BYTE fills one BYTE a character; at an ADDRESS it is one number. Where
--- nothing is left to fill, only the empty string has a place.
+-- A string that stands alone and begins at a BYTE fills one BYTE a character; at an ADDRESS it is one number. If
+-- nothing is left to fill, only the empty string is allowed.
 abbrev pub fill_string : StringTree → List ScalarType → Checked Filled
 fill_string string [] = fill_characters string.place.line string.characters []
 fill_string string (Byte ∷ left) = fill_characters string.place.line string.characters (Byte ∷ left)
@@ -127,14 +127,14 @@ fill known (restricted ∷ others) scalars = do
   rest ← fill known others first.left
   Ok (record { values = first.values ++ rest.values; left = rest.left })
 
--- how many elements an object is declared with: it is no array, there are so many, or as many as its list
--- needs
+-- how many elements an object is declared with: none for one that is not an array, a given number, or as many as
+-- its list needs
 pub data Extents : Type 0 where
   NoArray : Extents
   Elements : ℕ → Extents
   AsListed : Extents
 
--- an object with its dimension and what it is filled with
+-- the contents of an object: its dimension and its values
 pub record Contents : Type 0 where
   pub dimension : Option ℕ
   pub values : List InitialValue
@@ -144,11 +144,11 @@ abbrev pub scalars_at_most : OriginTree → ℕ
 scalars_at_most (ConstantOrigin (StringConstant string)) = max 1 (length string.characters)
 scalars_at_most origin = 1
 
--- so many elements that their scalars are enough for a list
+-- a number of elements with enough scalars for a list
 abbrev pub enough_elements : List RestrictedTree → ℕ
 enough_elements values = sum_by (λ (restricted : RestrictedTree). scalars_at_most restricted.origin) values
 
--- the least number of elements of so many scalars each that holds so many scalars
+-- the least number of elements of `each` scalars that hold `used` scalars
 abbrev pub elements_for : (used each : ℕ) → ℕ
 elements_for used each = (used + each - 1) / each
 
@@ -158,7 +158,7 @@ contents_as_listed line used each values = do
   _ ← require (nat_lt 0 used) WrongConstant line
   Ok (record { dimension = Some (elements_for used each); values = values })
 
--- an object of so many elements, filled by a list
+-- an object with these extents, filled by a list
 abbrev pub contents : Known → (line : ℕ) → ObjectType → Extents → List RestrictedTree → Checked Contents
 contents known line object_type NoArray values = do
   filled ← fill known values (scalars_of_element object_type)

@@ -146,7 +146,7 @@ built_in_value known built_ins.RotateLeft given constants = shift_function shift
 built_in_value known built_ins.RotateRight given constants = shift_function shifts.RotateRight given constants
 built_in_value known built_ins.Move given constants = refuse WrongUse (line_of given.name)
 
--- The value of what a name is bound to: of a scalar, a typed procedure or a built-in function. A label, a
+-- The value of a name by its binding: of a scalar, a typed procedure or a built-in function. A label, a
 -- name that LITERALLY defines and an untyped procedure have none.
 abbrev pub value_of_bound :
     Known → Binding → GivenReference → Constants → Checked (TypedExpression × Constants)

@@ -80,7 +80,7 @@ abbrev pub object_bound : Binding → (line : ℕ) → Checked ℕ
 object_bound (Declared (Object number)) line = Ok number
 object_bound binding line = refuse WrongUse line
 
--- what an item is based on; parameters are not BASED
+-- the base of an item; parameters are not BASED
 abbrev pub typed_base : Known → Block → SubjectTree → Option Identifier → Checked (Option ℕ)
 typed_base known block subject None = Ok None
 typed_base known block subject (Some name) = do
@@ -134,8 +134,8 @@ check_linkage block item (Some linkage) =
     require (is_module_level block && is_none (base_of item.subject)) MisplacedAttribute
     (line_of_linkage linkage)
 
--- Whether an item may have a place or values of its own: one name, not BASED, not EXTERNAL, no parameter, and
--- no variable of a REENTRANT procedure.
+-- Whether an item may have a place or values of its own: one name, not BASED, not EXTERNAL, not a parameter, and
+-- not a variable of a REENTRANT procedure.
 abbrev pub is_plain : Block → ItemTree → Bool
 is_plain block item =
     not (is_group item.subject) && is_none (base_of item.subject) && not (is_external_linkage item.linkage)
@@ -171,7 +171,7 @@ abbrev pub is_data : Option ValueListTree → Bool
 is_data None = false
 is_data (Some list) = is_data_storage list.storage
 
--- where the variables and parameters of an owner live that say nothing else
+-- where the variables and parameters of an owner live, unless an attribute says otherwise
 abbrev pub home_in : Owner → List InitialValue → Home
 home_in TheModule values = InData values
 home_in (OfProcedure number heading) values =
@@ -182,7 +182,7 @@ abbrev pub home_with_values : Owner → Bool → List InitialValue → Home
 home_with_values owner false values = home_in owner values
 home_with_values owner true values = InConstants values
 
--- where an item lives: by BASED, by EXTERNAL, by AT, by DATA, or by what declares it
+-- where an item lives: by BASED, by EXTERNAL, by AT, by DATA, or by the owner of the declaration
 abbrev pub home_of : Owner → ItemTree → (base : Option ℕ) → Option AtAddress → List InitialValue → Home
 home_of owner item base at values =
     option_map_or BasedOn base
@@ -211,7 +211,7 @@ abbrev pub bytes_in_frame : Home → TypedObject → ℕ
 bytes_in_frame (InFrame procedure) object = if object.is_parameter then 0 else size_of_object object
 bytes_in_frame home object = 0
 
--- an object is one of the constants where it has DATA
+-- an object is one of the constants if it has DATA
 abbrev pub with_constant : Home → (object : ℕ) → Constants → Constants
 with_constant (InConstants values) object constants =
     record constants { items = constants.items ++ ConstantObject object ∷ [] }
@@ -262,7 +262,7 @@ declare_item block item progress = do
   declared ← with_objects block typed (declared_by item.subject) progress
   Ok (record declared { known = record declared.known { here = here } })
 
--- A definition by LITERALLY declares its name. There is none in an EXTERNAL procedure.
+-- A definition by LITERALLY declares its name. An EXTERNAL procedure has no definition.
 abbrev pub declare_definition : Block → Identifier → Progress → Checked Progress
 declare_definition block name progress = do
   _ ← require (not (is_declared_again progress.known.here name.name)) DeclaredTwice (line_of name)

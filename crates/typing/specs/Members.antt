@@ -1,5 +1,5 @@
--- The faults that the names of members in a module may have, where it uses and declares them. These are no names of
--- its scopes: what they stand for is known once their object is typed.
+-- The faults that the names of members in a module may have, where it uses and declares them. These are not names of
+-- its scopes: their meaning is known once their object is typed.
 use Rattle.std.specs.Prelude.{List, [], ◌∷◌, ◌++◌, map}
 use Rattle.std.specs.List.{flat_map}
 use Rattle.std.specs.Option.{option_map_or}

@@ -11,7 +11,7 @@ use Rattle.typed_trees.specs.declared.parts.ShiftFunction.TheVariants.{RotateLef
 use Rattle.typed_trees.specs.TypedTrees.{TypedExpression, ConversionNode, AssignmentNode, UnaryNode, BinaryNode, ShiftNode, TypedReference, TypedTarget, StoredIn, SentTo, TypedArguments, MoreArguments}
 use Rattle.typed_trees.specs.ExpressionTypes.{type_of}
 
--- an expression of one type as one of another: itself where they are the same
+-- an expression of one type as one of another: itself if they are the same
 abbrev pub converted : (to from : ScalarType) → TypedExpression → TypedExpression
 converted Byte Byte expression = expression
 converted Address Address expression = expression
@@ -20,12 +20,12 @@ converted to from expression = ConversionNode to expression
 abbrev pub as_type : ScalarType → TypedExpression → TypedExpression
 as_type to expression = converted to (type_of expression) expression
 
--- what two types are extended to: to BYTE only where both are
+-- the type to which two types are extended: BYTE only if both are BYTE
 abbrev pub common_type : ScalarType → ScalarType → ScalarType
 common_type Byte Byte = Byte
 common_type left right = Address
 
--- what operands are extended to: * / and MOD work on ADDRESS, and the others on the common type
+-- the type to which operands are extended: * / and MOD work on ADDRESS, and the others on the common type
 abbrev pub type_of_operands : BinaryOperator → ScalarType → ScalarType → ScalarType
 type_of_operands Multiply left right = Address
 type_of_operands Divide left right = Address
@@ -40,11 +40,11 @@ abbrev pub binary_node : BinaryOperator → TypedExpression → TypedExpression 
 binary_node operator left right =
     on_operands (type_of_operands operator (type_of left) (type_of right)) operator left right
 
--- NOT and the minus sign keep the type
+-- NOT and the minus sign preserve the type
 abbrev pub unary_node : UnaryOperator → TypedExpression → TypedExpression
 unary_node operator operand = UnaryNode (type_of operand) operator operand
 
--- a shift keeps the type of the value, and a rotation works on its low byte; the count is its low byte
+-- a shift preserves the type of the value, and a rotation works on its low byte; the count is its low byte
 abbrev pub type_of_shift : ShiftFunction → ScalarType → ScalarType
 type_of_shift RotateLeft value = Byte
 type_of_shift RotateRight value = Byte

@@ -84,7 +84,7 @@ abbrev pub parameter_types : DeclarationTrees → List Identifier → List Scala
 parameter_types declared parameters =
     map (λ (parameter : Identifier). unwrap_or (scalar_in_block declared parameter.name) Byte) parameters
 
--- what a procedure is as its heading says, and what becomes known of it later
+-- a procedure by its heading, and by the parts that become known later
 abbrev pub procedure_with :
     HeadingTree → List ScalarType → (parameters : List ℕ) → (frame_bytes : ℕ) → TypedList → TypedProcedure
 procedure_with heading types parameters frame_bytes body = record {
@@ -126,14 +126,14 @@ open_procedure block heading declared progress = do
   _ ← check_reentrant heading.linkage heading.reentrant
   Ok (with_heading heading (parameter_types declared heading.parameters) here progress)
 
--- the block of the procedure whose heading comes next
+-- the block of the procedure of a heading, which gets the next number
 abbrev pub own_block : HeadingTree → Progress → Block
 own_block heading progress = record {
   owner = OfProcedure (length progress.known.procedures) heading;
   is_own = true;
 }
 
--- the objects of the parameters, each of which the procedure's own block declares
+-- the objects of the parameters, each declared by the procedure's own block
 abbrev pub parameter_object : Identifier → Option Entity → Checked ℕ
 parameter_object parameter (Some (Object number)) = Ok number
 parameter_object parameter entity = refuse WrongUse (line_of parameter)
@@ -145,13 +145,13 @@ parameter_objects here (parameter ∷ others) = do
   rest ← parameter_objects here others
   Ok (object ∷ rest)
 
--- an EXTERNAL procedure does nothing here
+-- an EXTERNAL procedure has no statements here
 abbrev pub check_body : HeadingTree → StatementTrees → Checked (Unit {0})
 check_body heading NoStatements = Ok tt
 check_body heading (MoreStatements first others) =
     require (not (is_external_linkage heading.linkage)) MisplacedAttribute (line_of_statement first)
 
--- out of a procedure: it is now known whole
+-- the end of a procedure, which is now complete
 abbrev pub close_procedure :
     HeadingTree → DeclarationTrees → (number : ℕ) → (parameters : List ℕ) → TypedList → Progress → Progress
 close_procedure heading declared number parameters body progress = record progress {

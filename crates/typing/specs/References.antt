@@ -19,7 +19,7 @@ use Rattle.typed_trees.specs.Sizes.{size_of_scalar, size_of_element, member_name
 use Rattle.typing.specs.Checks.{Checked, ◌>>=◌, refuse, require, found}
 use Rattle.typing.specs.Nodes.{as_type, Destination, Variable, Port}
 
--- what is known where an expression stands: what names stand for, and the objects and procedures so far
+-- what is known at the place of an expression: what names stand for, and the objects and procedures so far
 pub record Known : Type 0 where
   pub here : Here
   pub objects : List TypedObject
@@ -51,7 +51,7 @@ number_of_arguments (MoreArguments first others) = suc (number_of_arguments othe
 abbrev pub count_of_given : Given → ℕ
 count_of_given given = number_of_arguments given.trees
 
--- what a name is bound to
+-- the binding of a name
 abbrev pub bound : Known → Identifier → Checked Binding
 bound known name = found (binding_of known.here name.name) UnknownName (line_of name)
 
@@ -62,19 +62,19 @@ object_of known name number = found (slice_get known.objects number) WrongUse (l
 abbrev pub procedure_of : Known → Identifier → (number : ℕ) → Checked TypedProcedure
 procedure_of known name number = found (slice_get known.procedures number) WrongUse (line_of name)
 
--- How much of an array a reference means: an element alone, or also the whole, where it has no subscript.
+-- How much of an array a reference means: an element alone, or also the whole, if it has no subscript.
 pub data Extent : Type 0 where
   AnElement : Extent
   AlsoTheWhole : Extent
 
--- Whether so many subscripts go with a dimension: one with an array, none with anything else, and none with
+-- Whether a number of subscripts goes with a dimension: one with an array, none with anything else, and none with
 -- an array that may be meant as a whole.
 abbrev pub takes_subscripts : Extent → Option ℕ → (count : ℕ) → Bool
 takes_subscripts extent None count = count == 0
 takes_subscripts AnElement (Some dimension) count = count == 1
 takes_subscripts AlsoTheWhole (Some dimension) count = nat_le count 1
 
--- the subscript of an array, as an ADDRESS; what has none has no subscript
+-- the subscript of an array, as an ADDRESS; an object that is not an array has no subscript
 abbrev pub subscript_of : (stride : ℕ) → Option ℕ → TypedArguments → Subscript
 subscript_of stride (Some count) (MoreTyped index NoTyped) = At stride count (as_type Address index)
 subscript_of stride dimension indices = NoSubscript
@@ -89,7 +89,7 @@ abbrev pub scalar_of : ObjectType → Option ScalarType
 scalar_of (ScalarObject scalar) = Some scalar
 scalar_of (StructureObject members) = None
 
--- a part of an object that is found, with its type where it is a scalar or an array of scalars
+-- a part of an object that is found, with its type if it is a scalar or an array of scalars
 pub record FoundPart : Type 0 where
   pub reference : TypedReference
   pub scalar : Option ScalarType
@@ -99,7 +99,7 @@ abbrev pub whole_part : (object : ℕ) → Subscript → ObjectType → FoundPar
 whole_part object subscript object_type =
     record { reference = PartOf object subscript None 0 NoSubscript; scalar = scalar_of object_type }
 
--- what a reference means once the subscript of its object is known: the element, or a member of it
+-- the meaning of a reference once the subscript of its object is known: the element, or a member of it
 abbrev pub part_with_member :
     (object : ℕ) → ObjectType → Subscript → Extent → GivenMember → Constants → Checked (FoundPart × Constants)
 part_with_member object object_type subscript extent WithoutMember constants =
@@ -118,7 +118,7 @@ part_with_member object object_type subscript extent (WithMember name given) con
       scalar = Some place.member.scalar;
     }
 
--- what a reference to an object means
+-- the meaning of a reference to an object
 abbrev pub part_of :
     (number : ℕ) → TypedObject → Extent → GivenReference → Constants → Checked (FoundPart × Constants)
 part_of number object extent given constants = do
@@ -129,7 +129,7 @@ part_of number object extent given constants = do
       (subscript_of (size_of_element object.object_type) object.dimension typed.0)
       extent given.member typed.1
 
--- a reference to a scalar: an array without a subscript and a structure are none
+-- a reference to a scalar: an array without a subscript and a structure are not scalars
 abbrev pub scalar_part :
     (number : ℕ) → TypedObject → GivenReference → Constants
     → Checked (TypedReference × ScalarType × Constants)
@@ -138,12 +138,12 @@ scalar_part number object given constants = do
   scalar ← found part.0.scalar WrongUse (line_of given.name)
   Ok (part.0.reference, scalar, part.1)
 
--- Where an object lies. What is in the frame of a call has no location.
+-- Whether an object has a location. One in the frame of a call has none.
 abbrev pub has_location : Home → Bool
 has_location (InFrame procedure) = false
 has_location home = true
 
--- where what a name is bound to lies: an object or a part of it, and of an array or a structure its beginning
+-- the location of an object or of a part of it, by the binding of a name; of an array or a structure the start
 abbrev pub location_of_bound :
     Known → Binding → GivenReference → Constants → Checked (TypedExpression × Constants)
 location_of_bound known (Declared (Object number)) given constants = do
@@ -176,7 +176,7 @@ port_of line (MoreArguments (ConstantLeaf (StringConstant string)) NoArguments) 
     port_of_character line string.characters
 port_of line trees = refuse WrongUse line
 
--- what a procedure gives has no members
+-- the result of a procedure has no members
 abbrev pub without_member : GivenMember → Checked (Unit {0})
 without_member WithoutMember = Ok tt
 without_member (WithMember name given) = refuse WrongUse (line_of name)
@@ -189,7 +189,7 @@ is_constant home = false
 abbrev pub is_writable : TypedObject → Identifier → Checked (Unit {0})
 is_writable object name = require (not (is_constant object.home)) ConstantWritten (line_of name)
 
--- what a value can be assigned to: a scalar, or OUTPUT
+-- the destination of an assigned value: a scalar, or OUTPUT
 abbrev pub destination_of_bound :
     Known → Binding → GivenReference → Constants → Checked (Destination × Constants)
 destination_of_bound known (Declared (Object number)) given constants = do

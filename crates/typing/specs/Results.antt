@@ -1,4 +1,4 @@
--- What a function of the checker returned is what the definitions give, unless memory ran out.
+-- A function of the checker returned the result of the definitions, unless memory ran out.
 use Rattle.std.specs.Prelude.{◌≡◌, Option, None, Some, Result, Ok, Err}
 use Rattle.failure.specs.declared.Failure.{Failure}
 use Rattle.failure.specs.declared.Failure.TheVariants as failures
@@ -8,39 +8,39 @@ use Rattle.typing.specs.declared.fault.Cause.TheVariants.{DeclaredTwice}
 use Rattle.typing.specs.declared.fault.Fault.{Fault}
 use Rattle.typing.specs.Checks.{Checked, ◌>>=◌}
 
--- the fault that a failure tells of; out of memory tells of none
+-- the fault that a failure gives; out of memory gives none
 abbrev pub fault_in : Failure Fault → Option Fault
 fault_in (failures.Fault fault) = Some fault
 fault_in failures.Memory = None
 
--- a fault is that for which a check gives nothing
+-- a fault is the fault of a failed check; without one nothing is said
 abbrev pub FailsBy : {Y : Type 0} → Option Fault → Checked Y → Type 0
 FailsBy None checked = Unit {0}
 FailsBy (Some fault) checked = checked ≡ Err fault
 
--- what was returned is what a check gives
+-- a returned value is the result of a check
 abbrev pub Answers : {X Y : Type 0} → (X → Y) → Result X (Failure Fault) → Checked Y → Type 0
 Answers view (Ok x) checked = checked ≡ Ok (view x)
 Answers view (Err failure) checked = FailsBy (fault_in failure) checked
 
--- what was returned, with what is known after it, is what a check gives
+-- a returned value, with the state after it, is the result of a check
 abbrev pub Gives :
     {X Y S : Type 0} → (X → Y) → Result X (Failure Fault) → (after : S) → Checked (Y × S) → Type 0
 Gives view (Ok x) after checked = checked ≡ Ok (view x, after)
 Gives view (Err failure) after checked = FailsBy (fault_in failure) checked
 
--- the same where nothing but what is known after it is told
+-- the same for a result that is only the state after it
 abbrev pub Leaves : {X S : Type 0} → Result X (Failure Fault) → (after : S) → Checked S → Type 0
 Leaves (Ok x) after checked = checked ≡ Ok after
 Leaves (Err failure) after checked = FailsBy (fault_in failure) checked
 
--- what the scopes answer to a declaration, as the checker answers it
+-- a result of the scopes, as one of the checker
 abbrev pub as_fault : {A : Type 0} → Result A (Failure NameFault) → Result A (Failure Fault)
 as_fault (Ok done) = Ok done
 as_fault (Err failures.Memory) = Err failures.Memory
 as_fault (Err (failures.Fault fault)) =
     Err (failures.Fault (record { cause = DeclaredTwice; line = line_of fault }))
 
--- what is given, with what was made in front of it
+-- the result of a check, with another part in front of it
 abbrev pub in_front : {Q : Type 0} → (Q → Q) → Checked Q → Checked Q
 in_front front given = given >>= (λ rest. Ok (front rest))

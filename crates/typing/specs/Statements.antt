@@ -22,7 +22,7 @@ use Rattle.typing.specs.Expressions.{expression, given_reference}
 use Rattle.typing.specs.Blocks.{Owner, TheModule, OfProcedure, Progress}
 use Rattle.typing.specs.Items.{is_not_based}
 
--- a text that is typed as far as before, but for what names stand for, or but for the constants
+-- progress with other meanings of names, or with other constants
 abbrev pub with_here : Here → Progress → Progress
 with_here here progress = record progress { known = record progress.known { here = here } }
 
@@ -170,7 +170,7 @@ after_labels label [] statements = statements
 after_labels label (first ∷ others) statements =
     MoreTypedStatements (LabelStatement label) (after_labels (label + 1) others statements)
 
--- A list of statements, in the whole of which its labels are known. They are numbered when the list is
+-- A list of statements, with its labels known in the whole of it. They are numbered when the list is
 -- entered.
 abbrev pub list_of :
     StatementTrees

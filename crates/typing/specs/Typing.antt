@@ -1,4 +1,4 @@
--- The typing of a module (PL/M-80 Programming Manual). Where it has none, the answer is the first cause in
+-- The typing of a module (PL/M-80 Programming Manual). If it has none, the answer is the first cause in
 -- the text.
 use Rattle.std.specs.Prelude.{ℕ, ◌+◌, false, true, List, [], length, None, Ok}
 use Rattle.trees.specs.Trees.{StatementTree, LabelledStatement, StatementKindTree, NullStatement, AssignmentStatement, CallStatement, ReturnStatement, HaltStatement, GotoStatement, IfStatement, DoStatement, WhileStatement, IterateStatement, CaseStatement, ElseTree, NoElse, ElseStatement, StatementTrees, NoStatements, MoreStatements, DeclarationTree, DeclareTree, ProcedureTree, DeclarationTrees, NoDeclarations, MoreDeclarations, ModuleTree}
@@ -23,7 +23,7 @@ abbrev pub left : Progress → Progress
 left progress = with_here (out_of_block progress.known.here) progress
 
 abbrev mutual
-  -- what a statement does, its labels aside
+  -- the typing of a statement, its labels aside
   pub kind : Block → StatementKindTree → Progress → Checked (TypedStatement × Progress)
   kind block (NullStatement place) progress = Ok (TypedNull, progress)
   kind block (AssignmentStatement targets source) progress = assignment targets source progress

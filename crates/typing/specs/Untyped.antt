@@ -1,4 +1,4 @@
--- Typed trees with their conversions taken away, and trees without what typed trees do not keep, so that they
+-- Typed trees with their conversions taken away, and trees without the parts that typed trees do not keep, so that they
 -- can be compared. Both are trees without places, parentheses and declarations, in which labels have no
 -- names, strings that stand for numbers are these numbers, and constant lists are their bytes.
 use Rattle.std.specs.Prelude.{◌≡◌, ℕ, List, [], ◌∷◌, ◌++◌, map, Option, None, Some, option_map, unwrap_or, codes, slice_get}
@@ -150,7 +150,7 @@ abbrev mutual
   bodies_in NoDeclarations = []
   bodies_in (MoreDeclarations first others) = bodies_in_declaration first ++ bodies_in others
 
--- what the main program and the procedures do, without what typed trees do not keep
+-- the statements of the main program and of the procedures, without the parts that typed trees do not keep
 abbrev pub plain_bodies : ModuleTree → List StatementTrees
 plain_bodies tree =
     map plain_statements (tree.statements ∷ bodies_in tree.declarations ++ bodies_in_statements
@@ -313,7 +313,7 @@ abbrev mutual
   pub untyped_list : TypedModule → TypedList → StatementTrees
   untyped_list tables (ListOf first places statements) = untyped_statements tables statements []
 
--- what the main program and the procedures do, in the order of their headings
+-- the statements of the main program and of the procedures, in the order of their headings
 abbrev pub untyped_bodies : TypedModule → List StatementTrees
 untyped_bodies tables =
     untyped_list tables tables.main.body

@@ -2,7 +2,7 @@
 
 use thiserror::Error;
 
-/// What is wrong. The documentation and the command line know each cause by a number.
+/// The cause of a fault. The documentation and the command line know each cause by a number.
 #[derive(Clone, Copy, Debug, PartialEq, Eq, Error)]
 pub enum Cause {
     /// C11: no declaration makes the name known there.
@@ -11,19 +11,19 @@ pub enum Cause {
     /// C12: a name is declared where it has been declared before.
     #[error("a name that is declared twice")]
     DeclaredTwice,
-    /// C13: a use that does not go with what is named, or arguments that do not.
+    /// C13: a use that does not go with the meaning of the name, or arguments that do not.
     #[error("a use that does not go with what is named")]
     WrongUse,
     /// C14: an attribute or a declaration where it can't stand.
     #[error("an attribute or a declaration that cannot stand here")]
     MisplacedAttribute,
-    /// C15: a constant, a dimension or a list that can't be what it is.
+    /// C15: a constant, a dimension or a list that is not allowed there.
     #[error("a constant or a list of constants that is not allowed here")]
     WrongConstant,
     /// C16: a write to an object with DATA.
     #[error("a write to an object with DATA")]
     ConstantWritten,
-    /// C17: the location of what has no address of its own.
+    /// C17: the location of something without an address of its own.
     #[error("the location of a procedure, or of a variable of a REENTRANT procedure")]
     NoLocation,
     /// C18: an object of over 65535 bytes, or a REENTRANT procedure's variables of over 1024.
@@ -32,7 +32,7 @@ pub enum Cause {
     /// C19: a label after THEN or ELSE, or in a DO CASE.
     #[error("a label that cannot stand here")]
     MisplacedLabel,
-    /// C20: a GOTO to what is no label that is known there.
+    /// C20: a GOTO to a name that is not a label known there.
     #[error("a GOTO to a label that is not known here")]
     UnknownLabel,
 }

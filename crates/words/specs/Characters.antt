@@ -11,10 +11,10 @@ is_word_byte b = is_ascii_alphabetic b || is_ascii_digit b || (b == 36)
 abbrev pub is_blank : ℕ → Bool
 is_blank b = (b == 32) || (b == 9) || (b == 13) || (b == 10)
 
--- space and the printed characters, 20H to 7EH: what a string may hold
+-- space and the printed characters, 20H to 7EH, which a string may hold
 abbrev pub is_printable : ℕ → Bool
 is_printable b = nat_le 32 b && nat_le b 126
 
--- what a comment may hold
+-- the characters that a comment may hold
 abbrev pub is_comment_byte : ℕ → Bool
 is_comment_byte b = is_printable b || is_blank b

@@ -1,4 +1,4 @@
--- What a fault of a text is reported as.
+-- How a fault of a text is reported.
 use Rattle.std.specs.Prelude.{ℕ, List, codes}
 use Rattle.words.specs.declared.fault.Fault.{Fault}
 use Rattle.words.specs.declared.fault.Fault.TheVariants.{Character, Unclosed, Number, Name}

@@ -1,4 +1,4 @@
--- What stands at one place of a text (PL/M-80 Programming Manual, on tokens, separators and blanks).
+-- The item at one place of a text (PL/M-80 Programming Manual, on tokens, separators and blanks).
 use Rattle.std.specs.Prelude.{ℕ, false, ◌==◌, ◌&&◌, if◌then◌else◌}
 use Rattle.std.specs.Prelude.{List, [], ◌∷◌, length, drop, slice_index, take_while}
 use Rattle.std.specs.Char.{is_ascii_alphabetic, is_ascii_digit}
@@ -10,7 +10,7 @@ use Rattle.words.specs.Names.{name_item}
 use Rattle.words.specs.Numbers.{number_item}
 use Rattle.words.specs.Strings.{string_end, string_item, comment_end, comment_item}
 
--- what begins with a byte that is no blank, letter, digit or quote: a comment, a mark, or a fault
+-- the item that begins with a byte other than a blank, letter, digit or quote: a comment, a mark, or a fault
 abbrev pub comment_or_mark : ℕ → List ℕ → Item
 comment_or_mark first text =
     if (first == 47) && (slice_index text 0 == 42) then comment_item (comment_end false (drop 1 text))

@@ -26,7 +26,7 @@ word_in (entry ∷ table) name = if bytes_eq entry.0 name then Some (entry.1) el
 unfoldable pub reserved_of : List ℕ → Option ReservedWord
 reserved_of name = word_in reserved_words name
 
--- what a name with these characters is: a reserved word, or a name like any other
+-- the kind of a name with these characters: a reserved word, or a name like any other
 abbrev pub kind_of_name : List ℕ → Kind
 kind_of_name name = option_map_or Reserved (reserved_of name) Name
 

@@ -36,7 +36,7 @@ number_in base digits =
     then Some (value_of base digits)
     else None
 
--- with a letter of a base at the end the digits are those before it, else all are decimal
+-- with a letter of a base at the end the digits are those before it, otherwise all are decimal
 abbrev pub number_with : Option ℕ → List ℕ → Option ℕ
 number_with None characters = number_in 10 characters
 number_with (Some base) characters = number_in base (take (length characters - 1) characters)

@@ -30,7 +30,7 @@ lexemes_of words = map lexeme_of words
 abbrev pub line_at : List ℕ → ℕ → ℕ
 line_at source place = 1 + count_by (λ b. b == 10) (take place source)
 
--- the word of a kind that stands at a place and takes so many bytes
+-- the word of a kind at a place, with its size
 abbrev pub lexeme_at : List ℕ → ℕ → Kind → ℕ → Lexeme
 lexeme_at source place kind length =
     record { kind = kind; text = take length (drop place source); start = place; line = line_at source place }

@@ -8,7 +8,7 @@ use Rattle.words.specs.declared.items.Item.TheVariants.{Blank, Spelled, Wrong}
 use Rattle.words.specs.declared.vocabulary.Kind.TheVariants.{String}
 use Rattle.words.specs.Characters.{is_printable, is_comment_byte}
 
--- an end, counted from so many bytes before
+-- an end, counted from a number of bytes before
 abbrev pub further : ℕ → Result ℕ Cause → Result ℕ Cause
 further count (Ok length) = Ok (count + length)
 further count (Err cause) = Err cause

@@ -1,4 +1,4 @@
-//! What stands at one place of a text.
+//! The items of a text.
 
 ghost use Rattle.std.specs.Prelude.{◌≡◌, false, length};
 ghost use Rattle.words.specs.Items.{item_at, comment_or_mark};
@@ -21,7 +21,7 @@ pub enum Cause {
     LongName,
 }
 
-/// What stands at one place of a text, with how many bytes it takes.
+/// The item at one place of a text, with the number of bytes that it takes.
 #[derive(Clone, Copy)]
 pub enum Item {
     /// The text ends there.
@@ -72,7 +72,7 @@ fn string_item(text: &[u8]) -> Item
     }
 }
 
-// The item of a text that begins with this byte, which is no blank, letter, digit or quote: a comment, its longest
+// The item of a text that begins with this byte, which is not a blank, letter, digit or quote: a comment, its longest
 // mark, or a fault.
 fn comment_or_mark(first: u8, rest: &[u8]) -> Item
     ensures { result ≡ comment_or_mark first rest.now }

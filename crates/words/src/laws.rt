@@ -11,7 +11,7 @@ pub fn one_reading()
     ensures { (source : List ℕ) → HasOneReading source }
 {}
 
-/// The mark that is read at the beginning of a text is the longest that stands there.
+/// The mark that is read at the beginning of a text is the longest mark there.
 pub fn longest_mark()
     ensures { (text : List ℕ) → All (λ mark. IsTrue (starts_with nat_eq text mark.0)
         → IsSomeAnd (mark_at text) (λ taken. length mark.0 ≤ length taken.0)) marks }

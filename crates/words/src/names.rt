@@ -30,7 +30,7 @@ fn count_of_characters(text: &[u8]) -> usize
     text.iter().filter(|b| **b != b'$').count()
 }
 
-// The reserved word with the characters of this text, of which there are so many, if there is one.
+// The reserved word with the characters of this text, if there is one. Their number is `count`.
 #[tactic(auto, unfolding(crate::specs::Names::reserved_of, crate::specs::Names::reserved_words))]
 fn reserved_word(text: &[u8], count: usize) -> Option<ReservedWord>
     requires { count ≡ length (name_of text.now) }
@@ -39,7 +39,7 @@ fn reserved_word(text: &[u8], count: usize) -> Option<ReservedWord>
     find_word(&RESERVED_WORDS, text, count)
 }
 
-// The entry of a table with the characters of this text, of which there are so many, if there is one.
+// The entry of a table with the characters of this text, if there is one. Their number is `count`.
 fn find_word(table: &[(&[u8], ReservedWord)], text: &[u8], count: usize) -> Option<ReservedWord>
     requires { count ≡ length (name_of text.now) }
     ensures { result ≡ word_in (map (λ entry. (entry.0.now, entry.1)) table.now) (name_of text.now) }
@@ -52,7 +52,7 @@ fn find_word(table: &[(&[u8], ReservedWord)], text: &[u8], count: usize) -> Opti
     None
 }
 
-// Whether the characters of a text, of which there are so many, are these.
+// Whether the characters of a text are these. Their number is `count`.
 #[tactic(auto, using(crate::proofs::NamesLemmas::other_length))]
 fn has_characters(text: &[u8], count: usize, characters: &[u8]) -> bool
     requires { count ≡ length (name_of text.now) }

@@ -1,6 +1,6 @@
 //! The kinds of words, the reserved words and the marks.
 
-/// A reserved word, which is no name.
+/// A reserved word, which is not a name.
 #[derive(Clone, Copy, PartialEq, Eq)]
 pub enum ReservedWord {
     Address,

@@ -11,7 +11,7 @@ use Rattle.asm8080.specs.Assembled.{Assembled, fixes_of_items, target_of, with_f
 abbrev pub layout_from : (place_of : (label : ℕ) → ℕ) → Layout
 layout_from place_of = record { place_of = place_of; address_of = λ target. 0 }
 
--- where a label of items is, from their start
+-- the offset of a label of items, from their start
 abbrev pub offset_in : List Item → (label : ℕ) → ℕ
 offset_in items label = unwrap_or (offset_of label items) 0
 
@@ -29,7 +29,7 @@ code_of places items = record {
   places = places;
 }
 
--- A table of places, by the numbers of labels: none where a label is not bound.
+-- A table of places, by the numbers of labels: none if a label is not bound.
 abbrev pub with_mark : Item → (offset : ℕ) → List (Option ℕ) → List (Option ℕ)
 with_mark (Mark label) offset places = slice_set places label (Some offset)
 with_mark item offset places = places
@@ -55,7 +55,7 @@ fixes_of_item offset (Address reference) = with_fix offset (target_of reference)
 fixes_of_item offset (Gap count) = []
 fixes_of_item offset (Mark label) = []
 
--- code with an item more
+-- code with one more item
 abbrev pub with_item : Layout → Assembled → Item → Assembled
 with_item layout code item = record code {
   bytes = code.bytes ++ bytes_of_item layout item;
@@ -63,7 +63,7 @@ with_item layout code item = record code {
   fixes = code.fixes ++ fixes_of_item (length code.bytes) item;
 }
 
--- code with items more, one after another
+-- code with more items, one after another
 abbrev pub with_items : Layout → Assembled → List Item → Assembled
 with_items layout code [] = code
 with_items layout code (item ∷ others) = with_items layout (with_item layout code item) others

@@ -8,7 +8,7 @@ use Rattle.asm8080.specs.declared.item.Item.TheVariants.{Plain, WithWord, Byte, 
 use Rattle.asm8080.specs.declared.stored.StoredForm.{StoredForm}
 use Rattle.asm8080.specs.declared.stored.StoredForm.TheVariants as stored
 
--- what an item is, by its form
+-- the item of a stored form
 abbrev pub item_of : StoredForm → Item
 item_of (stored.Plain instruction) = Plain instruction
 item_of (stored.LabelWord form label) = WithWord form (AtLabel label)
@@ -23,17 +23,17 @@ item_of (stored.NumberAddress number) = Address (AtNumber number)
 item_of (stored.Gap count) = Gap count
 item_of (stored.Mark label) = Mark label
 
--- the number of a label that stands in 32 bits
+-- whether the number of a label fits 32 bits
 abbrev pub is_short_label : (label : ℕ) → Bool
 is_short_label label = nat_lt label (2 ^ 32)
 
--- what counts from no label, or from one with such a number
+-- whether a reference counts from no label, or from one with such a number
 abbrev pub has_short_label : Reference → Bool
 has_short_label (AtLabel label) = is_short_label label
 has_short_label (AtTarget target offset) = true
 has_short_label (AtNumber number) = true
 
--- an item with no label, or with one that has such a number
+-- whether an item has no label, or one with such a number
 abbrev pub is_short : Item → Bool
 is_short (WithWord form reference) = has_short_label reference
 is_short (Address reference) = has_short_label reference

@@ -1,10 +1,10 @@
--- What is known after an instruction is true after it.
+-- The facts after an instruction are true after it.
 use Rattle.code_meaning.proofs.Prelude.{◌≡◌, ℕ, ◌==◌, Bool, true, false, if◌then◌else◌, List, bit_and, bit_or, Option, refl, IsMemory, Instr, Nop, Lxi, Stax, Ldax, Shld, Lhld, Sta, Lda, Inx, Dcx, Dad, Inr, Dcr, Mvi, Rlc, Rrc, Ral, Rar, Daa, Cma, Stc, Cmc, Mov, MovToMemory, Hlt, Accumulate, AccumulateImmediate, ReturnIf, JumpIf, CallIf, Ret, Jmp, Call, Rst, Pop, Push, Out, In, Xthl, Xchg, Pchl, Sphl, Di, Ei, Operand, Of, M, Operation, Add, AddWithCarry, Subtract, SubtractWithBorrow, And, ExclusiveOr, Or, Compare, Bc, De, Hl, Sp, B, C, D, E, H, L, A, StackBc, StackDe, StackHl, Psw, HoldBytes, Registers, State, high_byte, holds, low_byte, pushed_of, act, jump, push, return, WordForm, LoadPair, StoreHl, LoadHl, StoreA, LoadA, Jump, JumpWhere, CallTo, CallWhere, instruction_with, Location, Place, Number, Facts, after, after_operation_with, after_word, without_hl, without_memory, Activation, Asks, WordAsks, AllHold, ByteHolds, Distances, FactsHold, place_at}
 use lib.Bits.{and_self, or_self}
 use Rattle.code_meaning.proofs.Facts.Changes.{facts_stay, no_facts_hold, with_result_holds, without_a_holds, without_hl_holds, without_memory_holds, without_register_holds, without_zero_holds}
 use Rattle.code_meaning.proofs.Facts.Stores.{halves, high_holds, loaded_byte, loaded_word, low_holds, pushed_stays, put_byte, stored_byte, stored_word}
 
--- whichever of two states a test picks
+-- the state that a test chooses
 either_holds :
     (activation : Activation) (distance : Distances) (facts : Facts) (test : Bool) (one other : State)
     → FactsHold activation distance facts one.registers one.memory
@@ -13,7 +13,7 @@ either_holds :
 either_holds activation distance facts true one other first second = first
 either_holds activation distance facts false one other first second = second
 
--- after an instruction whose word is a place
+-- after an instruction with the word of a place
 pub facts_after_word :
     (script : List (List ℕ)) (activation : Activation) (distance : Distances) (facts : Facts)
     (form : WordForm) (place : Place) (s : State)
@@ -73,7 +73,7 @@ byte_of :
     → ByteHolds activation distance held one memory
 byte_of activation distance held one other memory same holds = rw same holds
 
--- A is what it was, and the zero flag shows whether it is 0
+-- A is unchanged, and the zero flag shows whether it is 0
 same_a_holds :
     (activation : Activation) (distance : Distances) (facts : Facts) (r : Registers) (memory : List ℕ)
     (other : ℕ)
@@ -120,7 +120,7 @@ facts_after_operation script activation distance facts SubtractWithBorrow operan
 facts_after_operation script activation distance facts ExclusiveOr operand s hold = with_result_holds facts refl hold
 facts_after_operation script activation distance facts Compare operand s hold = without_zero_holds facts hold
 
--- A has a byte of which this is known
+-- A holds the byte at a known location
 with_byte_holds :
     {activation : Activation} {distance : Distances} {a h l other : ℕ} {zero_flag flag : Bool}
     {memory : List ℕ} {held : Option Location} (facts : Facts)

@@ -1,8 +1,8 @@
--- What holds still where less is known, and where something has changed that no fact speaks of.
+-- Facts that still hold after a change that they do not refer to, and with fewer facts.
 use Rattle.code_meaning.proofs.Prelude.{◌≡◌, ℕ, ◌+◌, ◌==◌, Bool, true, false, ◌||◌, List, Option, Some, None, ◌∙◌, byte_at, Register, B, C, D, E, H, L, A, Registers, with_register, wrap, Location, Facts, no_facts, with_facts, without_memory, without_a, without_hl, without_register, without_zero, Activation, AddressHolds, AllHold, ByteHolds, Distances, FactsHold, IsSteady, WordHolds, ZeroHolds, location_at}
 use Rattle.std.specs.Option.{option_or}
 
--- nothing is known of anything
+-- no facts
 pub no_facts_hold :
     {activation : Activation} {distance : Distances} {a h l : ℕ} {zero_flag : Bool} {memory : List ℕ}
     → AllHold activation distance no_facts a h l zero_flag memory

@@ -1,4 +1,4 @@
--- Addresses of places and locations that lie some bytes further on, and of those that are the same.
+-- Addresses of places and locations at a distance from others, and of equal ones.
 use Rattle.code_meaning.proofs.Prelude.{◌≡◌, ℕ, ◌+◌, ◌%◌, ◌<◌, ◌==◌, true, false, true≢false, sym, ap, ◌∙◌, arith, eqb-true, MEMORY_SIZE, wrap, Layout, left_true, right_true, Place, Number, Code, Data, External, Location, Static, Frame, place_after, location_after, before, same_place, same_location, Activation, Distances, location_at, place_at}
 use Rattle.object_modules.specs.declared.segment.Segment.TheVariants as segments
 use Rattle.object_modules.specs.declared.segment.Target.TheVariants as targets
@@ -17,7 +17,7 @@ place_after_is layout (Code offset) more = moved offset more (layout.address_of 
 place_after_is layout (Data offset) more = moved offset more (layout.address_of (targets.InSegment segments.Data))
 place_after_is layout (External offset name) more = moved offset more (layout.address_of (targets.External name))
 
--- the address of what lies some bytes further on
+-- the address of a location `more` bytes further on
 pub location_after_is :
     (activation : Activation) (distance : Distances) (location : Location) (more : ℕ)
     → location_at activation distance (location_after location more)
@@ -29,7 +29,7 @@ location_after_is activation distance (Frame variable offset) more =
 back_and_on : (address : ℕ) → address < MEMORY_SIZE → wrap (wrap (address + 65535) + 1) ≡ address
 back_and_on address small = omega (arith, small)
 
--- one byte after what lies one byte before
+-- one byte after the location one byte before
 pub after_before :
     (activation : Activation) (distance : Distances) (location : Location)
     → location_at activation distance location < MEMORY_SIZE
@@ -65,7 +65,7 @@ same_places layout (External one name) (External other other_name) same =
     ∙ ap (λ n. place_at layout (External other n))
     (eqb-true name other_name (right_true (one == other) (name == other_name) same))
 
--- locations that are the same have the same address
+-- equal locations have the same address
 pub same_locations :
     (activation : Activation) (distance : Distances) (one other : Location)
     → same_location one other ≡ true

@@ -1,4 +1,5 @@
--- Which bytes are steady in an activation that lies well, and what instructions ask of them there.
+-- The bytes that are steady in an activation with a sound placement, and the requirements of instructions
+-- there.
 use Rattle.code_meaning.proofs.Prelude.{◌≡◌, ℕ, ◌+◌, ◌<◌, ◌≤◌, true, Option, Some, None, sym, arith, MEMORY_SIZE, is_declared, word, wrap, one_below, two_below, Location, Frame, Activation, LiesWell, AddressAsks, IsSteadyByte, PushAsks, AddressHolds, Distances, IsSteady, location_at}
 
 -- a byte that is declared
@@ -20,7 +21,8 @@ pub frame_byte_is_steady :
     → IsSteady activation (activation.level + activation.distance object + offset)
 frame_byte_is_steady activation object offset = record { apart = λ low below. omega (arith, below) }
 
--- and where a variable of tree code begins where the object does, the address of the byte in the frame
+-- if a variable of tree code begins at the start of the object, the address of the byte in the frame is
+-- steady
 pub frame_location_is_steady :
     (activation : Activation) (distance : Distances) (variable object offset : ℕ)
     → LiesWell activation
@@ -50,7 +52,7 @@ pub pushed_is_not_steady :
     → ⊥
 pushed_is_not_steady activation top address low high below steady = steady.apart low (omega (arith, high, below))
 
--- so a PUSH may be carried out where there is room for it
+-- so a PUSH may be carried out if there is room for it
 pub push_asks :
     (activation : Activation) (sp top : ℕ)
     → LiesWell activation
@@ -70,7 +72,7 @@ push_asks activation sp top lies pointer room below address steady =
           (omega (arith, same, two, room)) below steady,
     )
 
--- what HL is known to be the address of is steady where the byte at the address in HL is
+-- the byte at the address that HL is known to hold is steady if the byte at the address in HL is
 pub address_asks :
     (activation : Activation) (distance : Distances) (held : Option Location) (h l : ℕ)
     → AddressHolds activation distance held h l

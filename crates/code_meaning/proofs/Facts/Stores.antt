@@ -1,9 +1,9 @@
--- What registers hold once bytes and words were loaded and stored.
+-- The contents of registers after bytes and words were loaded and stored.
 use Rattle.code_meaning.proofs.Prelude.{◌≡◌, ◌≢◌, ℕ, ◌+◌, ◌*◌, ◌/◌, ◌%◌, ◌<◌, List, length, slice_set, Option, Some, None, option_map, sym, ap, ◌∙◌, arith, length-set, MEMORY_SIZE, IsMemory, byte_at, word_at, high_byte, low_byte, one_less, two_less, word, wrap, byte_kept, byte_put, Location, location_after, Activation, AddressAsks, IsSteadyByte, PushAsks, AddressHolds, ByteHolds, Distances, IsByteAt, IsSteady, IsWordAt, WordHolds, location_at}
 use Rattle.mem80.proofs.MemoryLemmas.{byte_small}
 use Rattle.code_meaning.proofs.Facts.Places.{location_after_is}
 
--- a word that is put together of its halves
+-- a word from its halves
 pub halves : (number : ℕ) → word (number / 256) (number % 256) ≡ number
 halves number = omega arith
 
@@ -74,7 +74,7 @@ stored_word activation memory address high low is small steady =
       high_is = (sym next_is, steady.1.0);
     }
 
--- a byte that was loaded from where HL is known to be the address
+-- a byte that was loaded from the address that HL is known to hold
 pub loaded_byte :
     (activation : Activation) (distance : Distances) (held : Option Location) (h l : ℕ) (memory : List ℕ)
     → AddressAsks activation distance held
@@ -86,7 +86,7 @@ loaded_byte activation distance (Some location) h l memory asks holds = (ap (byt
 word_inside : (high low : ℕ) → high < 256 → low < 256 → word high low < MEMORY_SIZE
 word_inside high low one two = omega (arith, one, two)
 
--- and one that was stored there
+-- a byte that was stored there
 pub put_byte :
     (activation : Activation) (distance : Distances) (held : Option Location) (a h l : ℕ) (memory : List ℕ)
     → IsMemory memory
@@ -129,7 +129,7 @@ high_holds activation distance (Some location) h l memory holds =
     (wrap (location_at activation distance location + 1)) h (location_after_is activation distance location 1)
     holds.high_is
 
--- steady bytes stay while others are pushed
+-- steady bytes do not change when others are pushed
 pub pushed_stays :
     (activation : Activation) (sp one other : ℕ) (memory : List ℕ)
     → PushAsks activation sp

@@ -1,4 +1,4 @@
--- What is known of the registers is used: an instruction puts a byte that one of them holds where it is wanted.
+-- Uses of facts: an instruction copies a byte from a register that is known to hold it.
 use Rattle.code_meaning.proofs.Prelude.{◌≡◌, ℕ, ◌<◌, ◌⊎◌, inl, inr, Bool, true, false, ◌||◌, if◌then◌else◌, List, Option, Some, None, refl, ap, subst, ◌∙◌, MEMORY_SIZE, byte_at, Instr, A, H, L, State, word, act, with_registers, Location, Facts, before, byte_for_l, byte_from_hl, holds_byte, is_at, copy, load, Activation, AddressHolds, ByteHolds, Distances, FactsHold, IsByteAt, IsWordAt, WordHolds, location_at}
 use Rattle.code_meaning.proofs.Facts.Places.{after_before, never, same_locations}
 
@@ -36,7 +36,7 @@ address_in_hl_is activation distance None location h l here holds = never here
 address_in_hl_is activation distance (Some other) location h l here holds =
     holds ∙ same_locations activation distance other location here
 
--- H holds the byte at a location, where HL holds the word one byte before
+-- H holds the byte at a location, if HL holds the word one byte before
 pub byte_in_h_is :
     (activation : Activation) (distance : Distances) (held : Option Location) (location : Location)
     (h l : ℕ) (memory : List ℕ)
@@ -49,7 +49,7 @@ byte_in_h_is activation distance held location h l memory small here holds =
     subst (λ (address : ℕ). IsByteAt activation memory address h) (after_before activation distance location small)
     is.high_is
 
--- an instruction, if there is one, that does no more than to put a byte into A, or into L
+-- an instruction, if there is one, that only puts a byte into A, or into L
 abbrev pub PutsInA : (script : List (List ℕ)) → State → (byte : ℕ) → Option Instr → Type 0
 PutsInA script s byte None = Unit {0}
 PutsInA script s byte (Some i) = act script i s ≡ with_registers (record s.registers { a = byte }) s
@@ -96,7 +96,7 @@ byte_from_hl_puts script activation distance facts location s small hold =
         (address_in_hl_is activation distance facts.address_in_hl location s.registers.h s.registers.l here_is hold.address_holds))
     by_test false false false low_is high_is here_is = tt
 
--- and for one in L
+-- the instruction that the facts give for a byte in L
 pub byte_for_l_puts :
     (script : List (List ℕ)) (activation : Activation) (distance : Distances) (facts : Facts)
     (location : Location) (s : State)
@@ -126,7 +126,7 @@ byte_for_l_puts script activation distance facts location s small hold =
         (address_in_hl_is activation distance facts.address_in_hl location s.registers.h s.registers.l here_is hold.address_holds))
     by_test false false false a_is high_is here_is = tt
 
--- a byte that A, L or H is told to hold
+-- a byte that A, L or H is known to hold
 pub held_byte_is :
     (activation : Activation) (distance : Distances) (facts : Facts) (location : Location)
     (a h l : ℕ) (zero_flag : Bool) (memory : List ℕ)

@@ -1,4 +1,4 @@
--- What is added for the parts of a module's code.
+-- Relations for the parts of a module's code that are added.
 use Rattle.std.specs.Prelude.{◌≡◌, ℕ, Bool, true, false, List, [], ◌∷◌, ◌++◌, None, slice_index_or}
 use Rattle.asm8080.specs.declared.item.Item.{Item}
 use Rattle.runtime8080.specs.declared.routine.Routine.{Routine}
@@ -18,14 +18,14 @@ use Rattle.codegen8080.specs.Labelled.{LabelledSteps}
 use Rattle.codegen8080.specs.Modules.{AreCodeOf, AreProceduresLabelled, AreRoutines, IsCodeLabelled, IsCodeOf, IsCodeOfMain, IsCodeOfMainLabelled, IsEndCode, IsEndLabelled, IsMainCode, IsMainLabelled, IsOwnCode, IsOwnLabelled, IsProcedureCode, IsProcedureLabelled, has_main}
 use Rattle.codegen8080.specs.Procedures.{entry_labels, entry_steps}
 
--- the code of the end of a procedure, where it is reached, with these labels
+-- the code of the end of a procedure, if it can be reached, with these labels
 abbrev pub LabelledEnd :
     (body : Body) (called : List Bool) (here : Here) (is_reached : Bool) (items : List Item) (label next : ℕ) → Type 0
 LabelledEnd body called here is_reached items label next =
     (code : IsEndCode body called here is_reached items)
     × IsEndLabelled body called here is_reached items code label next
 
--- that of a main program, and where there is one
+-- the same for a main program, and if there is one
 abbrev pub LabelledMain :
     (tree : TreeModule) (called : List Bool) (start : ℕ) (items : List Item) (label next : ℕ) → Type 0
 LabelledMain tree called start items label next =
@@ -37,7 +37,7 @@ LabelledCodeOfMain tree called start is_there items label next =
     (code : IsCodeOfMain tree called start is_there items)
     × IsCodeOfMainLabelled tree called start is_there items code label next
 
--- that of a procedure which is not EXTERNAL, of any, and of procedures one after another
+-- the same for a procedure that is not EXTERNAL, for any, and for procedures one after another
 abbrev pub LabelledProcedure :
     (tree : TreeModule) (called : List Bool) (number : ℕ) (procedure : TreeProcedure) (items : List Item)
     (label next : ℕ)
@@ -61,7 +61,7 @@ LabelledProcedures tree called number procedures items label next =
     (code : AreCodeOf tree called number procedures items)
     × AreProceduresLabelled tree called number procedures items code label next
 
--- code of the beginning of a procedure, with the next labels
+-- the entry of a procedure is added, with the next labels
 abbrev pub AddsEntry : Body → (before after : Generator) → Type 0
 AddsEntry body before after =
     AddsCode body.tree.now
@@ -70,7 +70,7 @@ AddsEntry body before after =
     (label_after label (entry_labels body)) next)
     before after
 
--- and of its end, where that is reached
+-- its end is added, if it can be reached
 abbrev pub AddsEnd : Body → (before after : Generator) → Type 0
 AddsEnd body before after =
     AddsCode body.tree.now
@@ -78,7 +78,7 @@ AddsEnd body before after =
     LabelledEnd body called (here_of before) body.procedure.now.reaches_its_end list label next)
     before after
 
--- of a whole procedure, which is not EXTERNAL, or of any
+-- a whole procedure is added: one that is not EXTERNAL, or any
 abbrev pub AddsOwn : TreeModule → (number : ℕ) → TreeProcedure → (before after : Generator) → Type 0
 AddsOwn tree number procedure before after =
     AddsCode tree (λ called list label next. LabelledProcedure tree called number procedure list label next) before after
@@ -89,24 +89,25 @@ AddsProcedure tree number procedure before after =
     (λ called list label next. LabelledCode tree called number procedure procedure.kind list label next)
     before after
 
--- of procedures one after another
+-- procedures are added one after another
 abbrev pub AddsProcedures : TreeModule → (number : ℕ) → List TreeProcedure → (before after : Generator) → Type 0
 AddsProcedures tree number procedures before after =
     AddsCode tree (λ called list label next. LabelledProcedures tree called number procedures list label next) before after
 
--- and of a main program
+-- a main program is added
 abbrev pub AddsMain : TreeModule → (start : ℕ) → (before after : Generator) → Type 0
 AddsMain tree start before after =
     AddsCode tree (λ called list label next. LabelledMain tree called start list label next) before after
 
--- where there is one
+-- the same, if there is one
 abbrev pub AddsCodeOfMain : TreeModule → (start : ℕ) → (before after : Generator) → Type 0
 AddsCodeOfMain tree start before after =
     AddsCode tree
     (λ called list label next. LabelledCodeOfMain tree called start (has_main tree) list label next)
     before after
 
--- of all of a module but the routines, where the labels of its procedures and of the routines are taken
+-- all code of a module but the routines is added; the labels of its procedures and of the routines are taken
+-- before
 abbrev pub AddsOwnCode : TreeModule → (start : ℕ) → (before after : Generator) → Type 0
 AddsOwnCode tree start before after =
     AddsCode tree
@@ -115,7 +116,7 @@ AddsOwnCode tree start before after =
     × (label ≡ first_label tree → IsOwnLabelled code next))
     before after
 
--- a routine is added where the table says so
+-- a routine is added if the table marks it
 abbrev pub AddsRoutineIf :
     TreeModule → (index : ℕ) → Routine → (before after : Written) → (is_called : Bool) → Type 0
 AddsRoutineIf tree index routine before after true =
@@ -127,7 +128,7 @@ abbrev pub AddsCalled :
 AddsCalled tree called index routine before after =
     AddsRoutineIf tree index routine before after (slice_index_or called index false)
 
--- routines are added that are called, of these
+-- those of these routines that are called are added
 pub record AddsRoutines
     (tree : TreeModule) (called : List Bool) (routines : List Routine) (before after : Written) : Type 0 where
   pub list : List Item

@@ -1,4 +1,4 @@
--- Code of planned steps that others follow.
+-- The code of planned steps, with the steps after them.
 use Rattle.std.specs.Prelude.{◌≡◌, ℕ, Bool, List, ◌∷◌, ◌++◌, Option}
 use Rattle.asm8080.specs.declared.item.Item.{Item}
 use Rattle.steps8080.specs.declared.facts.Facts.{Facts}
@@ -11,7 +11,7 @@ use Rattle.codegen8080.specs.declared.meeting.Here.{Here}
 use Rattle.codegen8080.specs.Driven.{here_of}
 use Rattle.codegen8080.specs.Labelled.{LabelledSteps}
 
--- the code of a step is added: with that of others after it, it is that of all
+-- the code of a step is added: with the code of the steps after it, it is that of all steps
 pub record CarriesOut
     (body : Body) (step : Planned) (waiting : Option Facts) (before after : Generator)
     (waits : Option Facts) : Type 0 where

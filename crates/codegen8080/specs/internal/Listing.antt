@@ -1,4 +1,4 @@
--- The names of a module as its object module lists them.
+-- The names of a module, as its object module lists them.
 use Rattle.std.specs.Prelude.{◌≡◌, ℕ, ◌+◌, ◌<◌, List, [], ◌∷◌, length, Option, Some, None, slice_get, if◌then◌else◌}
 use Rattle.object_modules.specs.declared.segment.Segment.TheVariants.{Code, Data}
 use Rattle.object_modules.specs.Module.{ObjectModule, Public}
@@ -21,7 +21,7 @@ abbrev pub used_name : (number : Option ℕ) → ExternalName → List (List ℕ
 used_name None external = []
 used_name (Some number) external = external.name ∷ []
 
--- the place after that of a name, if code has a number for it: there the table has its place
+-- the place after that of a name, if code has a number for it: the table has its place for that number
 abbrev pub FollowsPlace : (places : List ℕ) → (number : Option ℕ) → (place next : ℕ) → Type 0
 FollowsPlace places None place next = next ≡ place
 FollowsPlace places (Some number) place next =
@@ -30,7 +30,7 @@ FollowsPlace places (Some number) place next =
 pub record IsPlaceAfter (places : List ℕ) (number : Option ℕ) (place next : ℕ) : Type 0 where
   pub follows : FollowsPlace places number place next
 
--- a table has the place of each name that code has a number for, from this place on
+-- a table has the place of each name for which code has a number, from this place on
 abbrev pub HavePlaces :
     (places : List ℕ) → (place : ℕ) → (numbers : List (Option ℕ)) → List ExternalName → Type 0
 HavePlaces places place [] externals = Unit {0}
@@ -38,7 +38,7 @@ HavePlaces places place (number ∷ numbers) [] = ⊥
 HavePlaces places place (number ∷ numbers) (external ∷ externals) =
     (next : ℕ) × IsPlaceAfter places number place next × HavePlaces places next numbers externals
 
--- the names that code has numbers for are listed, at the places that a table has
+-- the names for which code has numbers are listed, at their places in a table
 pub record AreListed
     (externals : List ExternalName) (numbers : List (Option ℕ)) (places : List ℕ) (names : Linkage) : Type 0
   where
@@ -46,7 +46,7 @@ pub record AreListed
     pub places_are : HavePlaces places 0 numbers externals
     pub publics : names.publics ≡ []
 
--- a public is a PUBLIC name, in code whose labels have these numbers
+-- a public is a PUBLIC name, in code with these numbers of labels
 abbrev pub IsPublicIn :
     (labels : List (Option ℕ)) → Assembled → (name : List ℕ) → PublicPlace → Public → Type 0
 IsPublicIn labels bytes name (Object place) public = IsAtPlace name place public
@@ -70,13 +70,13 @@ pub record AreNamesOf
   pub same : names.externals ≡ listed.externals
   pub publics : ArePublicsIn labels bytes tree.publics.items names.publics
 
--- where code with these labels starts, if it is that of a main program
+-- the start of code with these labels, if it is that of a main program
 abbrev pub start_in :
     TreeModule → (bytes : Assembled) → (labels : List (Option ℕ)) → (label : ℕ) → Option ℕ
 start_in tree bytes labels label =
     if has_main tree then Some (place_of_known bytes (entry labels label)) else None
 
--- An object module is made of code and variables, with the names that are listed and the places that fixes have among
+-- An object module consists of code and variables, with the listed names and the places that fixes have among
 -- them.
 pub record IsMadeOf
     (own_name : List ℕ) (code_bytes variable_bytes : Assembled) (names : Linkage) (places : List ℕ) (offset : Option ℕ)

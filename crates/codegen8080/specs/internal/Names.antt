@@ -1,4 +1,4 @@
--- The names by which modules know each other.
+-- The EXTERNAL and PUBLIC names of a module.
 use Rattle.std.specs.Prelude.{ℕ, IsTrue, List, [], ◌++◌, map}
 use Rattle.std.specs.List.{list_all}
 use Rattle.symbols.specs.Names.{is_name}
@@ -13,7 +13,7 @@ pub record Linkage : Type 0 where
 abbrev pub names_of : Linkage → List (List ℕ)
 names_of linkage = linkage.externals ++ map (λ (public : Public). public.name) linkage.publics
 
--- those that a module may have
+-- the names that a module may have
 pub record IsLinkage (linkage : Linkage) : Type 0 where
   pub names : IsTrue (list_all is_name (names_of linkage))
   pub different : IsTrue (are_new (names_of linkage) [])

@@ -1,7 +1,7 @@
 -- Bytes that lie one after another, cut into pieces.
 use Rattle.std.specs.Prelude.{ℕ, ◌+◌, List, [], ◌∷◌, take, drop}
 
--- so many bytes for each size
+-- a piece for each size
 abbrev pub cut : (sizes bytes : List ℕ) → List (List ℕ)
 cut [] bytes = []
 cut (size ∷ sizes) bytes = take size bytes ∷ cut sizes (drop size bytes)

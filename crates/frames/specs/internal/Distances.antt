@@ -1,15 +1,15 @@
--- The distances of a frame as one pass over it finds them, in 16 bits.
+-- The distances of a frame as one pass over it computes them, in 16 bits.
 use Rattle.std.specs.Prelude.{◌≡◌, ℕ, zero, suc, ◌+◌, ◌-◌, ◌*◌, min, List, [], ◌∷◌, length, Option, Some, None}
 use Rattle.treecode.specs.declared.procedure.FrameVariable.{FrameVariable}
 use Rattle.treecode.specs.declared.procedure.TreeProcedure.{TreeProcedure}
 use Rattle.frames.specs.declared.frame_plan.FramePlan.{FramePlan}
 use Rattle.frames.specs.Frames.{variable_bytes}
 
--- a sum of 16 bits, the greatest number where it is more
+-- a sum saturated at 16 bits
 abbrev pub capped : ℕ → ℕ
 capped n = min n 65535
 
--- the words between the variables and the word of a parameter that so many others follow
+-- the words between the variables and the word of a parameter with `followers` parameters after it
 abbrev pub capped_words : (followers : ℕ) → ℕ
 capped_words zero = 0
 capped_words (suc others) = capped (suc others + 1)
@@ -27,7 +27,7 @@ abbrev pub capped_distance : (bytes parameters next size : ℕ) → (parameter :
 capped_distance bytes parameters next size None = next
 capped_distance bytes parameters next size (Some index) = capped_parameter bytes (parameters - index - 1) size
 
--- where the next variable begins
+-- the distance of the next variable
 abbrev pub next_after : (next size : ℕ) → (parameter : Option ℕ) → ℕ
 next_after next size None = capped (next + size)
 next_after next size (Some index) = next
@@ -38,7 +38,7 @@ distances_from bytes parameters next (first ∷ others) =
     capped_distance bytes parameters next first.size first.parameter
     ∷ distances_from bytes parameters (next_after next first.size first.parameter) others
 
--- what one pass over the frame of a procedure finds
+-- the results of one pass over the frame of a procedure
 pub record IsFound (procedure : TreeProcedure) (plan : FramePlan) : Type 0 where
   pub variable_bytes : plan.variable_bytes ≡ capped (variable_bytes procedure.frame.items)
   pub parameter_count : plan.parameter_count ≡ capped (length procedure.parameters.items)

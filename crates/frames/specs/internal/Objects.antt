@@ -1,5 +1,5 @@
--- What a procedure of a typed module takes of the stack, and where the objects in its frame lie there, in the
--- words of the typed module. Distances are bytes upwards from the stack pointer, where nothing is pushed.
+-- The stack that a procedure of a typed module takes, and the places of the objects in its frame, in terms of
+-- the typed module. Distances are in bytes, upwards from the stack pointer, when nothing is pushed.
 use Rattle.std.specs.Prelude.{◌≡◌, ℕ, ◌+◌, ◌<◌, ◌≤◌, min, IsSomeAnd, slice_get}
 use Rattle.mem80.specs.declared.memory.TheConstants.{MEMORY_SIZE}
 use Rattle.mem80.specs.Range.{IsIn}
@@ -19,13 +19,13 @@ HasByte typed procedure object offset =
     IsSomeAnd (slice_get typed.objects object)
     (λ (found : TypedObject). (found.home ≡ InFrame procedure) × (offset < size_of_object found))
 
--- where that byte lies, by the number that the object has in the frame
+-- the distance of that byte, by the number of the object in the frame
 abbrev pub place_of_byte : TypedModule → FramePlan → (procedure object offset : ℕ) → ℕ
 place_of_byte typed plan procedure object offset =
     distance_of plan (frame_number typed procedure object) + offset
 
--- Each byte of an object in the frame lies among the bytes of the call, none is one of the return address, and
--- no two share a place.
+-- Each byte of an object in the frame is among the bytes of the call, outside the return address, and no two
+-- bytes share a place.
 pub record ObjectsLie (typed : TypedModule) (number : ℕ) (heading : TypedProcedure) (plan : FramePlan) :
     Type 0 where
   pub within :
@@ -44,7 +44,7 @@ pub record ObjectsLie (typed : TypedModule) (number : ℕ) (heading : TypedProce
       → place_of_byte typed plan number object offset ≡ place_of_byte typed plan number other other_offset
       → (object ≡ other) × (offset ≡ other_offset)
 
--- a procedure of tree code takes of the stack what the typed one does, and its objects lie apart
+-- a procedure of tree code takes the same stack as the typed one, and its objects do not overlap
 pub record IsFramedAs
     (typed : TypedModule) (number : ℕ) (procedure : TreeProcedure) (heading : TypedProcedure) : Type 0 where
   pub charged : IsChargedAs procedure heading

@@ -5,8 +5,8 @@ use Rattle.trees.specs.declared.expression.UnaryOperator.TheVariants.{Not, Negat
 use Rattle.grammar.specs.Forms.{expression_level, negation_level, relation_level, sum_level, sign_level, primary_level, level_of, IsNotEmpty}
 use Rattle.trees.specs.Trees.{ExpressionTree, ConstantLeaf, ReferenceLeaf, LocationLeaf, ListLeaf, ParenthesizedNode, AssignmentNode, UnaryNode, BinaryNode, ReferenceTree, ReferenceTo, MemberTree, NoMember, MemberOf, ArgumentTrees, NoArguments, MoreArguments}
 
--- The level of what stands left of an operator of a level: the same level, since chains group from the left.
--- A comparison is no chain.
+-- The level of the left operand of an operator of a level: the same level, since chains group from the left.
+-- A comparison is not a chain.
 abbrev pub left_level : ℕ → ℕ
 left_level level = if level == relation_level then sum_level else level
 
@@ -15,7 +15,7 @@ abbrev pub unary_level_of : UnaryOperator → ℕ
 unary_level_of Not = negation_level
 unary_level_of Negate = sign_level
 
--- the level of what stands after an operator before its operand
+-- the level of the operand of an operator before it
 abbrev pub operand_level_of : UnaryOperator → ℕ
 operand_level_of Not = negation_level
 operand_level_of Negate = primary_level

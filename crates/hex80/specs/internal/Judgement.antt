@@ -6,7 +6,7 @@ use Rattle.hex80.specs.declared.fault.Fault.{Fault}
 use Rattle.hex80.specs.declared.fault.Fault.TheVariants.{NoEnd}
 use Rattle.hex80.specs.Spelling.{read_line, fault_at}
 
--- the fault that there is, or the line in front and what is judged after it; nothing is left after the end
+-- the fault, if there is one, or else the judgement after the line in front; nothing is left after the end
 -- line
 abbrev pub judged_by :
     (judged_next : List Piece → Result (List Piece) Fault) → (before : List Piece)

@@ -1,4 +1,4 @@
--- What the parts of the reader do.
+-- The parts of the reader.
 use Rattle.std.specs.Prelude.{◌≡◌, ℕ, ◌+◌, ◌*◌, ◌<◌, Bool, true, false, List, [], ◌∷◌, ◌++◌, length, take, drop, replicate, slice_index_or, Option, Some, None, option_map, option_and_then}
 use Rattle.std.specs.List.{list_any}
 use Rattle.mem80.specs.declared.memory.TheConstants.{MEMORY_SIZE}
@@ -31,7 +31,7 @@ pub record Marks (used : List Bool) (pieces : List Piece) : Type 0 where
 unfoldable pub unmarked : List Bool
 unmarked = replicate MEMORY_SIZE false
 
--- marks for some addresses more
+-- marks for some more addresses
 abbrev pub marked_from : (start count : ℕ) → List Bool → List Bool
 marked_from start count used = take start used ++ (replicate count true ++ drop (start + count) used)
 

@@ -99,7 +99,7 @@ LengthsRefused =
     → link_refusal objects ≡ Some SegmentTooLong
     → placing_refusal plan modules (code_lengths_of objects) ≡ Some SegmentTooLarge
 
--- and the other way round where no names are wrong, which is judged first
+-- and the other way round if no names are wrong, which is judged first
 abbrev pub LengthsAgree : Type 0
 LengthsAgree =
     (plan : PlacingPlan) (modules : List TypedModule) (objects : List ObjectModule)
@@ -109,7 +109,7 @@ LengthsAgree =
     → placing_refusal plan modules (code_lengths_of objects) ≡ Some SegmentTooLarge
     → link_refusal objects ≡ Some SegmentTooLong
 
--- so modules with one main module, of which no names are wrong, have a merge if none of their segments is too
+-- so modules with one main module and without wrong names have a merge if none of their segments is too
 -- large
 abbrev pub MergeMade : Type 0
 MergeMade =
@@ -121,7 +121,7 @@ MergeMade =
     → (placing_refusal plan modules (code_lengths_of objects) ≡ Some SegmentTooLarge → ⊥)
     → (merged : ObjectModule) × (merge_of objects ≡ Ok merged)
 
--- The refusal of the merge that a refusal of the program is: where an object lies by AT is judged of the
+-- The refusal of the merge for a refusal of the program: where an object lies by AT is judged of the
 -- program alone, and a merge has no segment that is too long.
 abbrev pub refusal_of_merge : PlacingRefusal → Option PlacementRefusal
 refusal_of_merge SegmentTooLarge = None

@@ -27,7 +27,7 @@ with_targets to code = record code { fixes = map (retargeted to) code.fixes }
 abbrev pub HasSegment : Linked → Segment → (to : Target → Target) → Assembled → Type 0
 HasSegment linked segment to code = places_of linked.object segment ≡ code_places (with_targets to code)
 
--- the addresses of what the code refers to
+-- the addresses of the targets of the code
 abbrev pub addresses_of : Plan → (merged : ObjectModule) → Linked → (to : Target → Target) → Target → ℕ
 addresses_of plan merged linked to target = address_of_target plan merged linked (to target)
 
@@ -40,7 +40,7 @@ pub record CodeStands
       SetBytesStand memory (piece_base plan linked.start segment)
       (resolved (addresses_of plan merged linked to) code)
 
--- so does the code of each module of a merge
+-- the same for the code of each module of a merge
 abbrev pub AssembledStands : Type 0
 AssembledStands =
     (objects : List ObjectModule) (merged : ObjectModule) (plan : Plan) (image : Image)

@@ -22,7 +22,7 @@ use Rattle.asm8080.specs.Standing.{SetBytesStand}
 abbrev pub piece_base : Plan → Start → Segment → ℕ
 piece_base plan start segment = base_of plan segment + start_of start segment
 
--- the address of a public of a merge, 0 where there is none
+-- the address of a public of a merge, 0 without one
 abbrev pub address_of_public : Plan → Option Public → ℕ
 address_of_public plan public = option_map_or (λ (given : Public). (symbol_at plan given).address) public 0
 
@@ -33,12 +33,12 @@ address_of_target plan merged linked (InSegment segment) = piece_base plan linke
 address_of_target plan merged linked (External number) =
     address_of_public plan (public_meant merged.publics linked.object number)
 
--- the bytes of a segment of a module where it is placed, with all fixes done
+-- the bytes of a segment of a module where it is placed, with all fixes applied
 abbrev pub segment_bytes : Plan → (merged : ObjectModule) → Linked → Segment → List (Option ℕ)
 segment_bytes plan merged linked segment =
     bytes_resolved (address_of_target plan merged linked) (places_of linked.object segment)
 
--- a memory has bytes from an address on where they are set, and is as before where they are not
+-- a memory has the bytes from an address on that are set, and the others there are as before
 abbrev pub BytesAreLoaded : (before after : List ℕ) → (address : ℕ) → List (Option ℕ) → Type 0
 BytesAreLoaded before after address [] = Unit {0}
 BytesAreLoaded before after address (byte ∷ others) =
@@ -58,7 +58,7 @@ pub record SegmentStands
       BytesAreLoaded before after (piece_base plan linked.start segment)
       (segment_bytes plan merged linked segment)
 
--- so do both segments of a module that have bytes
+-- the same for both segments of a module that have bytes
 pub record ModuleStands
     (plan : Plan) (merged : ObjectModule) (before after : List ℕ) (linked : Linked) : Type 0 where
   pub code : SegmentStands plan merged linked Code before after
@@ -89,7 +89,7 @@ ObjectsStand =
     → ArePlaced objects merged plan image before after
     → All (ModuleStands plan merged before after) (linked_modules objects)
 
--- what lies in neither segment of the merge is as it was
+-- the bytes outside both segments of the merge are as they were
 abbrev pub OthersStay : Type 0
 OthersStay =
     (objects : List ObjectModule) (merged : ObjectModule) (plan : Plan) (image : Image)
@@ -121,7 +121,7 @@ pub record PublicLies (plan : Plan) (merged : ObjectModule) (linked : Linked) (p
       address_of_public plan (public_named merged.publics public.name)
       ≡ (piece_base plan linked.start public.segment + public.offset) % MEMORY_SIZE
 
--- so does each public of each module of a merge
+-- the same for each public of each module of a merge
 abbrev pub PublicsLie : Type 0
 PublicsLie =
     (objects : List ObjectModule) (merged : ObjectModule) (plan : Plan)

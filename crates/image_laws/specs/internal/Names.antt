@@ -1,4 +1,4 @@
--- Object modules with the names of the modules of a program: linking and placing them is refused only where the
+-- Object modules with the names of the modules of a program: linking and placing them is refused only if the
 -- placement of the program is.
 use Rattle.std.specs.Prelude.{◌≡◌, List, [], ◌∷◌, None, Ok}
 use Rattle.typed_trees.specs.TypedTrees.{TypedModule}

@@ -1,4 +1,4 @@
--- Programs whose object modules were linked, placed and loaded: on what is declared the memory is the one that a run of
+-- Programs whose object modules were linked, placed and loaded: in declared bytes the memory is the one that a run of
 -- the source starts with.
 use Rattle.std.specs.Prelude.{◌≡◌, ℕ, List, [], ◌∷◌, All, length}
 use Rattle.mem80.specs.declared.memory.TheConstants.{MEMORY_SIZE}
@@ -40,7 +40,7 @@ pub record IsInMemory
   pub placed : ArePlaced objects merged (plan_of plan) image before after
   pub size : length before ≡ MEMORY_SIZE
 
--- where it is declared, the memory is the one that a run of the source starts with
+-- in declared bytes, the memory is the one that a run of the source starts with
 abbrev pub StartsAsItsSource : Type 0
 StartsAsItsSource =
     (plan : PlacingPlan) (modules : List TypedModule) (objects : List ObjectModule) (merged : ObjectModule)

@@ -1,4 +1,4 @@
--- A word for the parts of a decoder.
+-- A name for the parts of a decoder.
 use Rattle.std.specs.Prelude.{◌≡◌, ℕ, Option}
 use Rattle.isa8080.specs.declared.instr.Instr.{Instr}
 use Rattle.isa8080.specs.Code.{form_of, instruction_of}

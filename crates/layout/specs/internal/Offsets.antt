@@ -30,7 +30,7 @@ put tables (ConstantObject number) offset =
     record tables { objects = put_first tables.objects number offset }
 put tables (ConstantList number) offset = record tables { lists = put_first tables.lists number offset }
 
--- constants are met one after another, so many bytes after the first
+-- constants are met one after another, from the offset `before` on
 abbrev pub put_all : TypedModule → (before : ℕ) → List ConstantItem → OffsetTables → OffsetTables
 put_all typed before [] tables = tables
 put_all typed before (item ∷ others) tables =
@@ -52,7 +52,7 @@ slot_at in_data in_constants object (InConstants values) =
     Some (record { segment = Code; offset = in_constants; size = size_of_object object })
 slot_at in_data in_constants object home = None
 
--- the slots of objects that are numbered from one on, so many bytes after the beginning of the data segment
+-- the slots of objects that are numbered from one on, from an offset in the data segment on
 abbrev pub slots_from :
     (offsets : List (Option ℕ)) → (otherwise number in_data : ℕ) → List TypedObject → List (Option Slot)
 slots_from offsets otherwise number in_data [] = []

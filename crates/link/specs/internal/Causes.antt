@@ -14,7 +14,7 @@ IsFaultyAt number bytes (stream.Object file fault) =
 IsFaultyAt number bytes (stream.Link fault) = ⊥
 IsFaultyAt number bytes stream.Write = ⊥
 
--- the fault tells why the files have no merge
+-- the fault gives the reason for which the files have no merge
 abbrev pub HasNoMerge : List (List ℕ) → StreamFault → Type 0
 HasNoMerge files (stream.Object file fault) = IsFirstFaulty files file fault
 HasNoMerge files (stream.Link fault) = IsRefused files (refusal_of fault)

@@ -1,4 +1,4 @@
--- What the types of the code are.
+-- The views of the types of the code.
 use Rattle.std.specs.Prelude.{ℕ, List}
 use Rattle.object_modules.specs.Displacements.{Start}
 use Rattle.link.specs.declared.mains.MainModule.{MainModule}

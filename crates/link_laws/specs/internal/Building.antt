@@ -26,7 +26,7 @@ pub record Fits (one : Linked) : Type 0 where
 abbrev pub starts_in : List Linked → List Start
 starts_in linked = map (λ (one : Linked). one.start) linked
 
--- fixes whose bytes are among so many from a place on
+-- fixes whose bytes are among the `size` bytes from a place on
 abbrev pub AreWithin : (offset size : ℕ) → List Fix → Type 0
 AreWithin offset size fixes =
     AllByRecursion (λ (fix : Fix). (offset ≤ fix.offset) × (fix_end fix ≤ offset + size)) fixes

@@ -35,7 +35,7 @@ resolved_in publics one =
 abbrev pub meant_at : Resolved → (number : ℕ) → Option Public
 meant_at resolved number = option_flatten (slice_get resolved.meant number)
 
--- what a place that is fixed to a target gains, and what it stays fixed to
+-- the gain of a place that is fixed to a target, and the target to which it stays fixed
 abbrev pub gain_by : Resolved → Target → ℕ
 gain_by resolved (InSegment segment) = start_of resolved.start segment
 gain_by resolved (External number) =
@@ -45,7 +45,7 @@ abbrev pub kept_by : Resolved → Target → Option Target
 kept_by resolved (InSegment segment) = Some (InSegment segment)
 kept_by resolved (External number) = option_and_then target_of_public (meant_at resolved number)
 
--- a high byte is fixed to what gains no multiple of 256
+-- a high byte is fixed to a target that gains a number that is not a multiple of 256
 abbrev pub part_moves : Resolved → FixKind → Target → Bool
 part_moves resolved Low target = false
 part_moves resolved High target = not (gain_by resolved target % 256 == 0)
@@ -54,7 +54,7 @@ part_moves resolved Both target = false
 abbrev pub moves_by : Resolved → Fix → Bool
 moves_by resolved fix = part_moves resolved fix.kind fix.target
 
--- what is made of a segment so far: its runs, its fixes, and whether a high byte moves
+-- a segment so far: its runs, its fixes, and whether a high byte moves
 pub record Grown : Type 0 where
   pub runs : List (Run ℕ)
   pub fixes : List Fix
@@ -82,7 +82,7 @@ abbrev pub with_content : Resolved → Segment → Grown → FixedContent → Gr
 with_content resolved segment grown fixed =
     grown_with resolved segment grown (fixed.content).offset (fixed.content).bytes (fixes_by_place fixed)
 
--- a segment after contents, of which those in it are added
+-- a segment after those contents that are in it
 abbrev pub grown_in : Resolved → Segment → Grown → List FixedContent → Grown
 grown_in resolved segment grown [] = grown
 grown_in resolved segment grown (fixed ∷ others) =

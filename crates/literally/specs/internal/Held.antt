@@ -25,7 +25,7 @@ Agree None (Some words) = ⊥
 Agree (Some text) None = ⊥
 Agree (Some text) (Some words) = IsTextOf text (lexemes_of words.items)
 
--- for each name that is in force after an output a map holds the words of its text, and nothing for any other
+-- for each name that is in force after an output a map holds the words of its text, and none for any other
 abbrev pub AreHeld : {S : Type 0} → List Lexeme → IndexMap Name (Vec Word Global) S → Type 0
 AreHeld output map = (name : List ℕ) → Agree (text_in name (reverse output)) (words_for map name)
 

@@ -7,7 +7,7 @@ use Rattle.std.proofs.Common.{ap}
 use Rattle.std.proofs.lemmas.Slice.Eq.{bytes_eq-Decides}
 use Rattle.symbols.specs.Names.{name_of}
 
--- what a name writes to a hasher: its characters
+-- the bytes that a name writes to a hasher: its characters
 abbrev pub writes_of : List ℕ → HashWrites
 writes_of text = flat_map u8 (name_of text)
 

@@ -1,4 +1,4 @@
--- What one word of the list does to the output.
+-- The effect of one word of the list on the output.
 use Rattle.std.specs.Prelude.{◌≡◌, ℕ, ◌+◌, ◌≤◌, List, [], ◌∷◌, ◌++◌}
 use Rattle.words.specs.Spelling.{Lexeme}
 use Rattle.literally.specs.declared.fault.Fault.{Fault}

@@ -1,4 +1,4 @@
--- The bytes of a run with the fixes among them done, place by place: the fixes stand by their places and are
+-- The bytes of a run with the fixes among them applied, place by place: the fixes are by their places and are
 -- taken from the front.
 use Rattle.std.specs.Prelude.{ℕ, ◌+◌, ◌==◌, if◌then◌else◌, List, [], ◌∷◌, Option, Some, None}
 use Rattle.object_modules.specs.declared.segment.Fix.{Fix}
@@ -7,7 +7,7 @@ use Rattle.object_modules.specs.declared.segment.FixKind.TheVariants.{Low, High,
 use Rattle.object_modules.specs.declared.segment.Target.{Target}
 use Rattle.object_modules.specs.Moving.{first_byte_moved, second_byte_moved}
 
--- the first byte of a word as it was, and what the word gains
+-- the first byte of a word as it was, and the gain of the word
 pub record Carry : Type 0 where
   pub first : ℕ
   pub gain : ℕ
@@ -40,7 +40,7 @@ abbrev pub second_by : (value : ℕ) → Option Carry → ℕ
 second_by value None = value
 second_by value (Some word) = second_byte_moved word.first value word.gain
 
--- what a byte becomes, by the fix that begins there and the word before
+-- the new value of a byte, by the fix that begins there and the word before
 abbrev pub value_by : (gain_of : Target → ℕ) → (value : ℕ) → Option Carry → Option Fix → ℕ
 value_by gain_of value word None = second_by value word
 value_by gain_of value word (Some fix) = first_byte_moved fix.kind value (gain_of fix.target)
@@ -59,7 +59,7 @@ walk_after gain_of walk value = record {
   word = word_by gain_of value (first_at walk.offset walk.fixes);
 }
 
--- what the bytes from a place on become
+-- the new values of the bytes from a place on
 abbrev pub values_from : (gain_of : Target → ℕ) → Walk → List ℕ → List ℕ
 values_from gain_of walk [] = []
 values_from gain_of walk (value ∷ others) =

@@ -30,6 +30,6 @@ is_high Low = false
 is_high High = true
 is_high Both = false
 
--- a high byte is fixed to what would begin within a page
+-- a high byte is fixed to a segment that would begin within a page
 abbrev pub breaks_high : (gain_of : Target → ℕ) → Fix → Bool
 breaks_high gain_of fix = is_high fix.kind && not (gain_of fix.target % 256 == 0)

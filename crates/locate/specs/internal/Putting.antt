@@ -12,21 +12,21 @@ use Rattle.locate.specs.internal.Fixing.{walk_at, values_from, fixes_after}
 abbrev pub piece_at : (base : ℕ) → Run ℕ → Piece
 piece_at base run = record { start = base + run.offset; bytes = run.items }
 
--- a run as a piece, with the first of these fixes done
+-- a run as a piece, with the first of these fixes applied
 abbrev pub piece_of : (gain_of : Target → ℕ) → (base : ℕ) → Run ℕ → List Fix → Piece
 piece_of gain_of base run fixes = record {
   start = base + run.offset;
   bytes = values_from gain_of (walk_at run.offset fixes) run.items;
 }
 
--- the runs of a segment as pieces, with the fixes done
+-- the runs of a segment as pieces, with the fixes applied
 abbrev pub pieces_from : (gain_of : Target → ℕ) → (base : ℕ) → List (Run ℕ) → List Fix → List Piece
 pieces_from gain_of base [] fixes = []
 pieces_from gain_of base (run ∷ others) fixes =
     piece_of gain_of base run fixes
     ∷ pieces_from gain_of base others (fixes_after gain_of (walk_at run.offset fixes) run.items)
 
--- two pieces in a row, as one where they touch
+-- two pieces in a row, as one if they touch
 abbrev pub joined : Piece → Piece → List Piece
 joined piece next =
     if piece.start + length piece.bytes == next.start

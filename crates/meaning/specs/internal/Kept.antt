@@ -24,7 +24,7 @@ pub record Continues (program : Program) (s t : State) : Type 0 where
   pub follows : Follows program s t
   pub frame : map length t.frame ≡ map length s.frame
 
--- a run wants more budget only where none is left
+-- a run wants more budget only if none is left
 abbrev pub IsSpent : Stop → State → Type 0
 IsSpent More t = t.budget ≡ 0
 IsSpent Ended t = Unit {0}
@@ -47,12 +47,12 @@ abbrev pub Keeps : {A : Type 0} → Program → Extra A → State → Outcome A 
 Keeps program extra s (Gave found t) = Continues program s t × extra s.budget found t.budget
 Keeps program extra s (Stopped why t) = Follows program s t × IsSpent why t
 
--- what a loop repeats
+-- the body that a loop repeats
 abbrev pub body_of_turn : Turn → TypedList
 body_of_turn (WhileTurn condition body) = body
 body_of_turn (IterateTurn head body) = body
 
--- what is given from outside keeps this where the budget is below a number; a turn and what follows a jump come
+-- a meaning given from outside keeps this if the budget is below a number; a turn and the rest after a jump come
 -- after one was taken
 pub record LaterKeeps (number : ℕ) (later : Later) : Type 0 where
   pub call : (at : InProgram) (arguments : List ℕ) (around : Surroundings) (s : State) → s.budget < number
@@ -62,7 +62,7 @@ pub record LaterKeeps (number : ℕ) (later : Later) : Type 0 where
   pub onto : (list : TypedList) (rest : TypedStatements) (around : Surroundings) (s : State)
       → suc s.budget < number → Keeps around.program jump_took s (later.onto list rest around s)
 
--- two of what is given from outside agree where the budget is below a number
+-- two meanings given from outside agree if the budget is below a number
 pub record Agrees (number : ℕ) (one other : Later) : Type 0 where
   pub call : (at : InProgram) (arguments : List ℕ) (around : Surroundings) (s : State) → s.budget < number
       → one.call at arguments around s ≡ other.call at arguments around s
@@ -76,7 +76,7 @@ abbrev pub ComesAfter : {A : Type 0} → State → Outcome A → Type 0
 ComesAfter s (Gave found t) = IsBeginning s.events t.events
 ComesAfter s (Stopped why t) = IsBeginning s.events t.events
 
--- what is given from outside only adds events
+-- a meaning given from outside only adds events
 pub record LaterAdds (later : Later) : Type 0 where
   pub call : (at : InProgram) (arguments : List ℕ) (around : Surroundings) (s : State)
       → ComesAfter s (later.call at arguments around s)
@@ -84,11 +84,11 @@ pub record LaterAdds (later : Later) : Type 0 where
   pub onto : (list : TypedList) (rest : TypedStatements) (around : Surroundings) (s : State)
       → ComesAfter s (later.onto list rest around s)
 
--- the same state with so much more budget
+-- the same state with more budget
 abbrev pub with_more : ℕ → State → State
 with_more more s = record s { budget = s.budget + more }
 
--- A second outcome, with so much more budget at its beginning: where the first run wants more, the second goes on
+-- A second outcome, with more budget at its beginning: where the first run wants more, the second continues
 -- from there, and else both come to the same.
 abbrev pub Lasts : {A : Type 0} → ℕ → Outcome A → Outcome A → Type 0
 Lasts more (Gave found t) other = other ≡ Gave found (with_more more t)
@@ -96,7 +96,7 @@ Lasts more (Stopped Ended t) other = other ≡ Stopped Ended (with_more more t)
 Lasts more (Stopped (Outside reason) t) other = other ≡ Stopped (Outside reason) (with_more more t)
 Lasts more (Stopped More t) other = ComesAfter t other
 
--- what is given from outside, for a run and one with so much more budget
+-- meanings given from outside, for a run and one with more budget
 pub record LaterLasts (number more : ℕ) (one other : Later) : Type 0 where
   pub call : (at : InProgram) (arguments : List ℕ) (around : Surroundings) (s : State) → s.budget < number
       → Lasts more (one.call at arguments around s) (other.call at arguments around (with_more more s))

@@ -9,7 +9,7 @@ use Rattle.measure_laws.proofs.Bounds.Singles.{ValueFits, single_fits}
 use Rattle.measure_laws.proofs.Bounds.Targets.{EachFits, none_passes, targets_fit}
 use Rattle.measure_laws.proofs.Bounds.Ranges.{item_there}
 
--- a number is known wherever the code stands
+-- a number is known at every site
 pub number_anywhere :
     (site : Site) (facts : Facts) (value : ExpressionNumber) → number (knowing site facts) value ≡ number site value
 unfolding number known expression
@@ -24,7 +24,7 @@ known_value_fits value given is = record {
   as_word = known_word_fits value given 0 is;
 }
 
--- the target of a value that is there in a type
+-- the target for a value of this type
 abbrev pub retyped : TypedTarget → ScalarType → TypedTarget
 retyped (StoredIn from to reference) there = StoredIn there to reference
 retyped (SentTo from port) there = SentTo there port
@@ -36,8 +36,8 @@ retyped_is :
 retyped_is body storage bound _ _ there (IsStored is) = IsStored is
 retyped_is body storage bound _ _ there IsSent = IsSent
 
--- none of the targets weighs more by a type that is there: a BYTE where all take bytes, an ADDRESS where all take words,
--- and the type of the value
+-- no target weighs more with the type of the stored value: a BYTE if all take bytes, an ADDRESS if all take
+-- words, or the type of the value
 byte_lighter :
     (body : Body) (storage : Storage) (bound : ℕ) (target : Target) (tree : TypedTarget)
     → IsTarget (nodes_of body.tree.now) storage bound target tree
@@ -95,7 +95,7 @@ module _
           ]) (bytes_for (weight_of_target tree))) (sym found)
           (less_fits (single_fits body called storage parts value 3 fit site is) (omega (arith, weighs)))
 
-      -- a value in a register goes to each target, which weighs no more by the type that is there
+      -- a value in a register is stored in each target, which weighs no more with its type
       store_each_fits :
           (targets : Range) (from : ScalarType)
           → ((bound index : ℕ) (target : Target) (tree : TypedTarget)

@@ -1,12 +1,12 @@
--- The code of a module takes at most its code bound, and its data as many bytes as its storage says. So it is refused for a
--- length only where that bound passes what a segment may have.
+-- The code of a module takes at most its code bound, and its data take as many bytes as its storage has. So a
+-- module is refused for its size only if that bound exceeds the limit of a segment.
 use Rattle.measure_laws.proofs.Prelude.{◌≡◌, ℕ, ◌+◌, ◌≤◌, Some, ap, sym, subst, arith, Code, SEGMENT_LIMIT, ObjectModule, length_of, TypedModule, code_bound, Storage, data_bytes, size_of_items, TreeModule, IsLowered, Written, numbered, TooLong, IsCodeWritten, IsGenerated, contents_items, CodeIsNone, DataAreNone, MayRefuse, IsSound}
 use Rattle.measure_laws.proofs.Sizes.PartSizes.{part_size}
 use Rattle.measure_laws.proofs.Bounds.Constants.{variables_fit}
 use Rattle.measure_laws.proofs.Bounds.Modules.{code_segment_fits, module_fits}
 use Rattle.measure_laws.proofs.Bounds.Numbering.{numbered_size}
 
--- as it was written
+-- the code as it was written
 pub code_is_within_its_bound :
     (typed : TypedModule) (storage : Storage) (tree : TreeModule) (start : ℕ) (written : Written)
     → IsSound typed
@@ -17,7 +17,7 @@ code_is_within_its_bound typed storage tree start written sound lowered is =
     module_fits typed storage tree start written sound lowered
     (λ site called same. part_size site storage called) is
 
--- and as the code segment of an object module
+-- the code segment of an object module
 pub segment_is_within_its_bound :
     (typed : TypedModule) (storage : Storage) (tree : TreeModule) (object : ObjectModule)
     → IsSound typed
@@ -44,7 +44,7 @@ data_are_within_their_bytes typed storage tree variables sound lowered is =
       variables_fit typed tree.homes.items sound.storable,
     )
 
--- a module is refused for a length only where its code bound passes what a segment may have
+-- a module is refused for its size only if its code bound exceeds the limit of a segment
 pub too_long_is_past_its_bound :
     (typed : TypedModule) (storage : Storage) (tree : TreeModule)
     → IsSound typed

@@ -3,7 +3,7 @@ use Rattle.measure_laws.proofs.Prelude.{ℕ, ◌+◌, ◌%◌, Bool, true, false
 use Rattle.measure_laws.proofs.Bounds.Fitting.{both_fit, less_fits, none_fit, then_fit}
 use Rattle.measure_laws.proofs.Bounds.Pieces.{plain_fits, plains_fit}
 
--- a statement that need not be there
+-- a statement that may be absent
 abbrev pub AnyFits : (body : Body) (called : List Bool) → Option StatementNumber → (most : ℕ) → Type 0
 AnyFits body called None most = Unit {0}
 AnyFits body called (Some number) most = StepsFit body called (Statement number ∷ []) most

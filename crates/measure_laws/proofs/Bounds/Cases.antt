@@ -72,7 +72,7 @@ statement_at_fits {body = body} {called = called} list first end index found mos
     (statement_if_own_fits list first end index found most
     (nat_eq (entry_of body list index (label_at first index) end).index (label_at first index).index) fit)
 
--- so many statements of a DO CASE leave five bytes free each
+-- as many statements of a DO CASE as `count` leave five bytes free each
 record CasesFit (body : Body) (called : List Bool) (steps : List Planned) (count : ℕ) (trees : TypedStatements) : Type 0 where
   pub most : ℕ
   pub fit : StepsFit body called steps most
@@ -158,7 +158,7 @@ known_case_fits :
 known_case_fits {body = body} list known all =
     known_by_fits list known all (nat_lt known list.count) (item body.tree.now list known) refl refl
 
--- the number comes into DE
+-- puts the number into DE
 byte_bound_fits :
     {body : Body} {called : List Bool} (count : ℕ) (end : LabelNumber) (few : Bool)
     → StepsFit body called

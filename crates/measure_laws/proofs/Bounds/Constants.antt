@@ -4,7 +4,7 @@ use Rattle.measure_laws.proofs.Prelude.{◌≡◌, ℕ, zero, suc, ◌+◌, ◌-
 use Rattle.treecode.specs.declared.module.Content.TheVariants.{Byte}
 use Rattle.treecode.specs.declared.place.Place.TheVariants as places
 
--- what holds of all items holds of one
+-- a property of all items holds for one
 pub holds_at :
     {A : Type 0} (P : A → Type 0) (list : List A) (index : ℕ) (one : A)
     → All P list → slice_get list index ≡ Some one → P one
@@ -15,7 +15,7 @@ holds_at P (first ∷ others) zero one all there =
 holds_at P (first ∷ others) (suc index) one all there =
     holds_at P others index one (λ i d below. all (suc i) d (omega (arith, below))) there
 
--- how many bytes contents take
+-- the size of contents in bytes
 abbrev bytes_of_content : Content → ℕ
 bytes_of_content (Byte value) = 1
 bytes_of_content (Word place) = 2
@@ -93,7 +93,7 @@ same_sizes (value ∷ values) =
       sum_by-cons size_of_value value values,
     )
 
--- an object with DATA, whose values fill no more bytes than it has
+-- an object with DATA; its values fill no more bytes than it has
 object_takes :
     (starts : List Home) (object : TypedObject) (values : List InitialValue) (before : List Content)
     → sum_by size_of_value values ≤ size_of_object object

@@ -1,7 +1,7 @@
--- Planned steps fit where each of them does.
+-- Planned steps fit if each of them does.
 use Rattle.measure_laws.proofs.Prelude.{◌≡◌, ℕ, ◌+◌, ◌≤◌, Bool, List, [], ◌∷◌, ◌++◌, Option, arith, Instr, Nop, Lxi, Stax, Ldax, Shld, Lhld, Sta, Lda, Inx, Dcx, Dad, Inr, Dcr, Mvi, Rlc, Rrc, Ral, Rar, Daa, Cma, Stc, Cmc, Mov, MovToMemory, Hlt, Accumulate, AccumulateImmediate, ReturnIf, JumpIf, CallIf, Ret, Jmp, Call, Rst, Pop, Push, Out, In, Xthl, Xchg, Pchl, Sphl, Di, Ei, Item, size_of_items, size_of_instruction, size_in_parts, Facts, Body, Planned, Here, AreCarriedOut, ListCarriedOut, NoneCarriedOut, StatementCarriedOut, StepCarriedOut, StepsFit}
 
--- the code of steps that others follow
+-- the code of steps with others after them
 record Parted
     (body : Body) (called : List Bool) (here : Here) (waiting : Option Facts) (one other : List Planned)
     (list : List Item) (last : Here) : Type 0 where
@@ -91,7 +91,7 @@ pub then_fit :
     → StepsFit body called (step ∷ others) (least + most)
 then_fit first second = both_fit first second
 
--- within more bytes too
+-- they also fit within more bytes
 pub less_fits :
     {body : Body} {called : List Bool} {steps : List Planned} {least most : ℕ}
     → StepsFit body called steps least

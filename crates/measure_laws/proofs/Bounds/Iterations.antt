@@ -8,7 +8,7 @@ use Rattle.measure_laws.proofs.Bounds.Assignments.{value_fits}
 use Rattle.measure_laws.proofs.Bounds.Singles.{single_fits}
 use Rattle.measure_laws.proofs.Bounds.Pieces.{plain_fits, plains_fit}
 
--- the carry shows whether HL is less than a number
+-- sets the carry if HL is less than a number, and clears it otherwise
 pub less_by_fit :
     {body : Body} {called : List Bool} (bound : ℕ) (even : Bool)
     → StepsFit body called
@@ -29,7 +29,7 @@ less_by_fit bound false =
 pub less_steps_fit : {body : Body} {called : List Bool} (bound : ℕ) → StepsFit body called (less_steps bound) 12
 less_steps_fit bound = less_by_fit bound (nat_eq (bound % 256) 0)
 
--- the place of a label, where it is asked for
+-- the place of a label, if asked for
 asked_mark_fits :
     {body : Body} {called : List Bool} (is_asked : Bool) (label : LabelNumber)
     → StepsFit body called (asked_mark is_asked label) 0
@@ -53,7 +53,7 @@ module _
     address_first : StepsFit body called (part (tasks.Address (whole object)) 0 ∷ []) 32
     address_first = whole_address_fits body called storage parts object
 
-    -- whether it is less than a number
+    -- tests whether it is less than a number
     below_fits :
         (scalar : ScalarType) (bound : ℕ)
         → StepsFit body called (below_steps scalar counter bound) 56
@@ -91,7 +91,7 @@ module _
     asked_test_fits last is_tested end =
         asked_by_fits last end (is_tested && not (is_byte_type counter.scalar && nat_le 255 last))
 
-    -- it is counted, and there is another turn
+    -- counts it by 1, and begins another turn
     next_byte_by_fits :
         (last : ℕ) (turn : LabelNumber) (all_bytes : Bool)
         → StepsFit body called
@@ -288,7 +288,7 @@ module _
     test_label_fits step_is_one is_entered test =
         test_label_by_fits (step_is_one && not (is_byte_type counter.scalar)) is_entered test
 
-    -- the test with a bound that is known
+    -- the test with a known bound
     always_fits : (turn : LabelNumber) → StepsFit body called (test_steps counter tests.Always turn) 3
     unfolding test_steps
     always_fits turn = plains_fit (jump Jump turn ∷ []) refl
@@ -331,7 +331,7 @@ module _
     known_test_fits Byte last turn = byte_known_by_fits last turn (nat_le 255 last)
     known_test_fits Address last turn = word_known_by_fits last turn (nat_le 65535 last)
 
-    -- and with one that is not
+    -- the test with a bound that is not known
     module _
         {tree : TypedExpression} (last : ExpressionNumber)
         (is : IsExpressionIn (nodes_of body.tree.now) storage last tree) (turn : LabelNumber)
@@ -445,7 +445,7 @@ module _
         unfolding test_of
         test_fits site = test_by_fits site (number site last)
 
--- what an expression of the table is: its type is that of the tree
+-- the type of an expression in the table is that of the tree
 pub type_there :
     (body : Body) (storage : Storage) (facts : Facts) {tree : TypedExpression} (value : ExpressionNumber)
     → IsExpressionIn (nodes_of body.tree.now) storage value tree

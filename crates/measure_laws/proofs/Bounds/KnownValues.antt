@@ -1,11 +1,11 @@
--- Values that are known take few bytes, whatever they weigh.
+-- Known values take few bytes, whatever their weight.
 use Rattle.measure_laws.proofs.Prelude.{◌≡◌, ℕ, ◌≤◌, ◌==◌, Bool, true, false, List, [], ◌∷◌, Option, Some, None, if◌then◌else◌, refl, ◌∙◌, arith, Item, LoadPair, size_of_items, Hl, A, clear_a, low, set, Dcx, Inx, ExpressionNumber, Static, Place, location_after, place_number, Facts, before, is_at, Site, known, number, expression, hold_address_steps, byte_steps, known_byte_steps, AreWritten, IsWritten, PartPlanned, knowing, steps_of, task_steps, byte_number_steps, word_steps, Body, part, site_of, StepsFit}
 use Rattle.steps8080.specs.declared.step.Step.TheVariants as steps
 use Rattle.steps8080.specs.declared.step.Task.TheVariants as tasks
 use Rattle.measure_laws.proofs.Bounds.Parts.{task_fits}
 use Rattle.measure_laws.proofs.Bounds.Pieces.{steps_within}
 
--- where the number of an expression is known, so is its value
+-- if an expression is known as a number, its value is that number
 pub record IsKnown (site : Site) (value : ExpressionNumber) (number : ℕ) : Type 0 where
   pub place : Place
   pub known_is : known site value ≡ Some place
@@ -81,7 +81,7 @@ known_byte_within at value place number pushed is number_is written =
     number_within (low number) (low number == 0)
     (rw (number_is, known_byte_steps) at (rw (is, byte_steps) at written))
 
--- where the facts are others, a value is known by the same number
+-- with other facts, a value is known by the same number
 known_anywhere :
     (site : Site) (facts : Facts) (value : ExpressionNumber) → known (knowing site facts) value ≡ known site value
 unfolding known expression

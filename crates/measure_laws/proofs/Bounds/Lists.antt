@@ -5,7 +5,7 @@ use Rattle.statements8080.specs.declared.plan.Planned.TheVariants as planned
 use Rattle.codegen8080.specs.Generated as generated
 use Rattle.measure_laws.proofs.Bounds.Fitting.{no_size}
 
--- so many statements of the table of lists, from an entry on, are not too long for their trees
+-- as many statements of the table of lists as `count`, from an entry on, are not too long for their trees
 pub data AllFit (body : Body) (called : List Bool) : (first count : ℕ) → TypedStatements → Type 0 where
   NoneFit : {first : ℕ} → AllFit body called first 0 NoStatements
   MoreFit : {first count : ℕ} {number : StatementNumber} {tree : TypedStatement} {others : TypedStatements}
@@ -14,7 +14,7 @@ pub data AllFit (body : Body) (called : List Bool) : (first count : ℕ) → Typ
       → AllFit body called (suc first) count others
       → AllFit body called first (suc count) (MoreStatements tree others)
 
--- then their code is not too long
+-- their code is not too long
 all_within :
     {body : Body} {called : List Bool} {first count : ℕ} {trees : TypedStatements}
     → AllFit body called first count trees
@@ -56,7 +56,7 @@ pub list_step_fits :
     → StepsFit body called (planned.List range ∷ []) (bytes_for (weight_of_list tree))
 list_step_fits fit = record { fits = λ done. list_within fit done }
 
--- and a statement
+-- a statement as a planned step
 statement_within :
     {body : Body} {called : List Bool} {number : StatementNumber} {tree : TypedStatement}
     → StatementFits body called number tree
@@ -73,7 +73,7 @@ pub statement_step_fits :
     → StepsFit body called (planned.Statement number ∷ []) (bytes_for (weight_of_statement tree))
 statement_step_fits fit = record { fits = λ done. let small = statement_within fit done in omega (arith, small) }
 
--- a statement of a DO CASE is no label, and leaves some bytes free
+-- a statement of a DO CASE is not a label, and leaves some bytes free
 pub no_label_spares : (tree : TypedStatement) → IsNoLabel tree → spared_by tree ≡ 8
 no_label_spares (LabelStatement label) none = absurd none
 no_label_spares NullStatement none = refl

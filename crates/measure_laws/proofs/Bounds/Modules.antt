@@ -1,4 +1,4 @@
--- The code of a module takes no more bytes than its bound.
+-- The code of a module takes at most as many bytes as its bound.
 use Rattle.measure_laws.proofs.Prelude.{◌≡◌, ℕ, suc, ◌+◌, ◌*◌, ◌≤◌, Bool, true, false, List, [], ◌∷◌, ◌++◌, length, slice_get, sum_by, Some, refl, sym, ap, subst, ◌∙◌, arith, sum_by-cons, HasParameters, BodyIsSound, TypedModule, TypedProcedure, TypesHoldInList, TypesHoldInProcedure, Within, WithinMain, WithinProcedure, code_bound, constant_bytes, weight_of, weight_of_list, Storage, Code, ObjectModule, length_of, Hlt, Item, set_bytes, size_of_items, size_in_parts, places_length, set_length, Routine, size_of_routine, TreeModule, ProcedureKind, TreeProcedure, HasBody, IsList, IsLowered, IsProcedure, labels_numbered_in_list, nodes_of, has_frame, parameter_count, has_parameters, numbered_at, Written, has_routine, Body, Here, site_of, AreCodeOf, AreRoutines, IsCodeOf, IsCodeOfMain, IsCodeOfRoutine, IsCodeWritten, IsEndCode, IsGenerated, IsOwnCode, IsProcedureCode, all_routines, contents_items, has_main, with_targets, bytes_for, IsSound, AllPartsFit, ListFits}
 use Rattle.typed_trees.specs.Weight.{weight_of_procedure}
 use Rattle.asm8080.specs.declared.item.Item.TheVariants as items
@@ -236,7 +236,7 @@ module_fits typed storage tree start written sound lowered fit is =
       few_routines,
     )
 
--- and as a segment of its object module
+-- the code as a segment of its object module
 pub code_segment_fits :
     (typed : TypedModule) (storage : Storage) (tree : TreeModule) (object : ObjectModule)
     → IsSound typed

@@ -1,4 +1,4 @@
--- Items take as many bytes by the numbers that code has for their labels and names.
+-- Items have the same size with the code's numbers for their labels and names.
 use Rattle.measure_laws.proofs.Prelude.{◌≡◌, ℕ, ◌+◌, List, [], ◌∷◌, Option, Some, None, refl, sym, ap, arith, option_map, same_Some, Item, WordForm, size_of, size_of_items, entry, Written, in_front, numbered, numbered_item, numbered_reference}
 use Rattle.asm8080.specs.declared.item.Item.TheVariants as items
 use Rattle.asm8080.specs.declared.item.Reference.{Reference}

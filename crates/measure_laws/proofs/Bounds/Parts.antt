@@ -30,7 +30,7 @@ task_fits task pushed most within =
     let small = part_within most (λ middle first one. within here.facts middle first one) tt written in
     omega (arith, small))
 
--- what a target weighs beside 1
+-- the weight of a target beside 1
 abbrev pub weight_beside : TypedTarget → ℕ
 weight_beside (StoredIn from to reference) = weight_of_storing from to + weight_of_reference reference
 weight_beside (SentTo from port) = weight_of_storing from Byte
@@ -42,7 +42,7 @@ target_weighs (SentTo from port) = omega arith
 module _
     (body : Body) (called : List Bool) (storage : Storage) (parts : PartsFit (site_of body) storage called)
   where
-    -- a task that is of a tree
+    -- a task for a tree
     of_tree_fits :
         (task : Task) (pushed most : ℕ)
         → ((size : ℕ) → TaskFits (nodes_of body.tree.now) storage task size → size ≤ most)
@@ -131,7 +131,7 @@ module _
     whole_address_fits object =
         task_fits (tasks.Address (whole object)) 0 32 (λ facts known list written. whole_within object written)
 
-    -- a BYTE that is a whole object comes into A
+    -- puts a BYTE that is a whole object into A
     static_byte_within :
         {facts known : Facts} {list : List Item} (object : ℕ) (place : Place) (there : Bool)
         → AreWritten (site_of body) called facts
@@ -186,7 +186,7 @@ module _
         (λ here known list written.
         byte_of_within here.facts object (location_of (knowing (site_of body) here.facts) (whole object)) written)
 
-    -- an ADDRESS that is a whole object comes into HL
+    -- puts an ADDRESS that is a whole object into HL
     word_at_within :
         {facts known : Facts} {list : List Item} (object : ℕ) (location : Location)
         → AreWritten (site_of body) called facts

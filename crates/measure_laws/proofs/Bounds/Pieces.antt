@@ -5,7 +5,7 @@ use Rattle.steps8080.specs.declared.step.Step.TheVariants as steps
 use Rattle.statements8080.specs.declared.plan.Planned.TheVariants as planned
 use Rattle.measure_laws.proofs.Bounds.Fitting.{at_most_three, less_fits, no_size, none_fit, then_fit}
 
--- how many bytes steps take at most of which none is a part
+-- the greatest size of steps without parts in bytes
 abbrev pub bytes_of_step : Step → ℕ
 bytes_of_step (steps.Mark label) = 0
 bytes_of_step (steps.Holds held) = 0
@@ -16,7 +16,7 @@ abbrev pub bytes_of_steps : List Step → ℕ
 bytes_of_steps [] = 0
 bytes_of_steps (step ∷ others) = bytes_of_step step + bytes_of_steps others
 
--- a step that is no part
+-- a step that is not a part
 abbrev pub IsNoPart : Step → Type 0
 IsNoPart (steps.Part part) = ⊥
 IsNoPart step = Unit {0}
@@ -77,7 +77,7 @@ steps_within (steps.Holds held ∷ others) none (HoldsWritten rest) = omega (ari
 steps_within (steps.MemoryChanged ∷ others) none (ChangeWritten rest) = omega (arith, steps_within others none.1 rest)
 steps_within (steps.Part part ∷ others) none done = absurd none.0
 
--- a planned step that is no statement and no list, by the steps of expressions that it is
+-- a planned step that is neither a statement nor a list, by its expression steps
 pub step_fits :
     {body : Body} {called : List Bool} (step : Planned) (most : ℕ)
     → HoldsNoStatement step
@@ -100,7 +100,7 @@ step_fits {body = body} {called = called} step most ok within = record { fits = 
     by one ok within (StatementCarriedOut done rest) = absurd ok
     by one ok within (ListCarriedOut done rest) = absurd ok
 
--- planned steps that are instructions, labels and jumps, and how many bytes they take at most
+-- planned steps that are instructions, labels and jumps, and their greatest size in bytes
 abbrev pub is_plain : Planned → Bool
 is_plain (planned.Code (steps.Part part)) = false
 is_plain (planned.Statement number) = false
@@ -194,7 +194,7 @@ plain_fits (planned.List list) is = let never : ⊥ = cc in absurd never
 plain_fits (planned.LoadByte reference) is = let never : ⊥ = cc in absurd never
 plain_fits (planned.LoadWord reference) is = let never : ⊥ = cc in absurd never
 
--- and such steps
+-- several such steps
 pub plains_fit :
     {body : Body} {called : List Bool} (list : List Planned)
     → are_plain list ≡ true
@@ -210,7 +210,7 @@ plains_fit {body = body} {called = called} (step ∷ others) is =
     by true this rest = then_fit (plain_fits step this) (rest (rw this at is))
     by false this rest = let never : (false ≡ true) = rw this at is in absurd (let no : ⊥ = cc in no)
 
--- an instruction so many times
+-- an instruction `count` times
 pub repeated_fit :
     {body : Body} {called : List Bool} (i : Instr) (count : ℕ)
     → StepsFit body called (replicate count (plain i)) (3 * count)

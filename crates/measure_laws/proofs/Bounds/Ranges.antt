@@ -1,7 +1,7 @@
 -- Items of ranges of tables.
 use Rattle.measure_laws.proofs.Prelude.{◌≡◌, ℕ, ◌+◌, ◌<◌, Bool, if◌then◌else◌, List, slice_get, Some, None, sym, ap, ◌∙◌, option_and_then, lt-ltb, Range, item_of}
 
--- the item of an index is what stands there
+-- the item at an index is the entry of the table there
 pub item_there :
     {A : Type 0} (table : List A) (range : Range) (index place : ℕ) (found : A)
     → place ≡ range.first + index

@@ -1,15 +1,15 @@
--- How procedures begin and how they return.
+-- The returns of procedures.
 use Rattle.measure_laws.proofs.Prelude.{◌≡◌, ℕ, ◌+◌, ◌-◌, ◌*◌, ◌/◌, ◌%◌, Bool, true, false, min, if◌then◌else◌, nat_eq, nat_le, List, [], ◌∷◌, ◌++◌, replicate, Option, Some, None, refl, arith, leb-true, Instr, Dad, Inx, Lxi, Pchl, Pop, Push, Ret, Sphl, Xchg, Hl, Sp, StackBc, StackDe, StackHl, ScalarType, Byte, Address, ProcedureKind, clear_a, Body, plain, drop_steps, end_steps, kept_steps, pops_steps, return_of_frame_steps, return_over_any_steps, return_over_steps, return_steps, return_steps_by, zero_result_steps, StepsFit}
 use Rattle.treecode.specs.declared.procedure.ProcedureKind.TheVariants as kinds
 use Rattle.measure_laws.proofs.Bounds.Fitting.{both_fit, less_fits, none_fit, then_fit}
 use Rattle.measure_laws.proofs.Bounds.Pieces.{plain_fits, plains_fit, repeated_fit}
 
--- words are dropped from the stack
+-- drops words from the stack
 pops_fit : {body : Body} {called : List Bool} (words : ℕ) → StepsFit body called (pops_steps words) (3 * words)
 unfolding pops_steps
 pops_fit words = repeated_fit (Pop StackBc) words
 
--- HL is kept in DE along three instructions
+-- keeps HL in DE during three instructions
 kept_fit :
     {body : Body} {called : List Bool} (result : Option ScalarType) (one next last : Instr)
     → StepsFit body called (kept_steps result (one ∷ next ∷ last ∷ [])) 15
@@ -21,7 +21,7 @@ kept_fit (Some Address) one next last =
 kept_fit (Some Byte) one next last = less_fits (plains_fit (plain one ∷ plain next ∷ plain last ∷ []) refl) (omega arith)
 kept_fit None one next last = less_fits (plains_fit (plain one ∷ plain next ∷ plain last ∷ []) refl) (omega arith)
 
--- bytes are dropped
+-- drops bytes from the stack
 drop_by_fits :
     {body : Body} {called : List Bool} (bytes : ℕ) (result : Option ScalarType) (few : Bool)
     → nat_le bytes 12 ≡ few
@@ -70,7 +70,7 @@ return_over_any_fits :
 unfolding return_over_any_steps
 return_over_any_fits words result = return_by_words_fits words result (nat_eq words 0)
 
--- a return, where the frame has so many parameters
+-- a return, from the number of parameters in the frame
 return_by_fits :
     {called : List Bool} (kind : ProcedureKind) (body : Body)
     → StepsFit body called (return_steps_by kind body) (30 + 3 * body.frame.now.parameter_count)

@@ -6,7 +6,7 @@ use Rattle.measure_laws.proofs.Bounds.Fitting.{less_fits, then_fit}
 use Rattle.measure_laws.proofs.Bounds.Parts.{address_fits, store_fits, weight_beside}
 use Rattle.measure_laws.proofs.Bounds.Pieces.{plains_fit}
 
--- the value comes into its register in so many bytes at most
+-- the code that puts the value into its register takes at most `bytes` bytes
 pub record ValueFits (body : Body) (called : List Bool) (value : ExpressionNumber) (bytes : ℕ) : Type 0 where
   pub as_byte : StepsFit body called (part (tasks.Byte value) 0 ∷ []) bytes
   pub as_word : StepsFit body called (part (tasks.Word value) 0 ∷ []) bytes
@@ -15,7 +15,7 @@ module _
     (body : Body) (called : List Bool) (storage : Storage) (parts : PartsFit (site_of body) storage called)
     (value : ExpressionNumber) (bytes : ℕ) (fit : ValueFits body called value bytes)
   where
-    -- the value goes to a target as a byte, and as a word
+    -- stores the value in a target as a byte, and as a word
     from_byte_fits :
         {bound : ℕ} {tree : TypedTarget} (target : Target)
         → IsTarget (nodes_of body.tree.now) storage bound (from_type target Byte) tree
@@ -30,7 +30,7 @@ module _
     from_word_fits target is =
         then_fit fit.as_word (store_fits body called storage parts (from_type target Address) false 0 is)
 
-    -- a part of an object gets the value
+    -- stores the value in a part of an object
     module _
         {bound : ℕ} {tree : TypedReference} (site : Site) (reference : Reference)
         (is : IsReference (nodes_of body.tree.now) storage bound reference tree)
@@ -146,7 +146,7 @@ module _
         stored_fits from Byte = less_fits to_byte_fits (omega arith)
         stored_fits from Address = to_word_fits from
 
-    -- a target gets the value
+    -- stores the value in a target
     pub single_fits :
         {bound : ℕ} {target : Target} {tree : TypedTarget} (site : Site)
         → IsTarget (nodes_of body.tree.now) storage bound target tree

@@ -12,13 +12,13 @@ use Rattle.measure_laws.proofs.Bounds.Parts.{branch_fits, byte_fits, call_fits, 
 use Rattle.measure_laws.proofs.Bounds.Pieces.{plains_fit}
 use Rattle.measure_laws.proofs.Bounds.Returns.{return_fits}
 
--- the steps of a statement take so many bytes, which leave free what the statement is to leave
+-- the steps of a statement leave as many bytes free as the statement must leave
 record FormFits (body : Body) (called : List Bool) (steps : List Planned) (tree : TypedStatement) : Type 0 where
   pub most : ℕ
   pub fit : StepsFit body called steps most
   pub enough : most + spared_by tree ≤ bytes_for (weight_of_statement tree)
 
--- a statement whose steps do so
+-- a statement with such steps
 form_is_statement :
     (body : Body) (called : List Bool) (number : StatementNumber) (found : Statement) (tree : TypedStatement)
     → slice_get body.tree.now.statements.items number.index ≡ Some found
@@ -39,7 +39,7 @@ form_is_statement body called number found tree there form = record { fits = λ 
         (same_Some statement found (sym is ∙ there)) planned) in
         omega (arith, small, formed.enough)
 
--- the statements of a DO CASE stand as others do
+-- the statements of a DO CASE are as others are
 cases_stand : (trees : TypedStatements) → ListsStandInCases trees → ListsStandInStatements trees
 cases_stand NoStatements stand = tt
 cases_stand (MoreStatements first others) stand = (stand.1, cases_stand others stand.2)

@@ -3,7 +3,7 @@ use Rattle.measure_laws.proofs.Prelude.{◌≡◌, ℕ, zero, suc, ◌+◌, ◌<
 use Rattle.measure_laws.proofs.Bounds.Ranges.{item_there}
 use Rattle.measure_laws.proofs.Bounds.Fitting.{both_fit, less_fits, none_fit}
 
--- what is asked of the steps of each target of an index
+-- the condition on the steps of the target at each index
 abbrev pub EachFits :
     (body : Body) (called : List Bool) → Storage → TypedModule → Within → ScalarType → Range
     → (each : ℕ → List Planned) → Type 0
@@ -15,7 +15,7 @@ EachFits body called storage typed within scalar targets each =
     → TypesHoldInTarget typed within scalar tree
     → StepsFit body called (each index) (bytes_for (weight_of_target tree))
 
--- targets from an index on, as many as are left
+-- the remaining targets, from an index on
 pub targets_fit :
     {body : Body} {called : List Bool} {storage : Storage} {first left : ℕ} {trees : List TypedTarget}
     (typed : TypedModule) (within : Within) (scalar : ScalarType) (targets : Range) (each : ℕ → List Planned)

@@ -11,7 +11,7 @@ use Rattle.measure_laws.proofs.Heights.Chains.{product_runs}
 use Rattle.measure_laws.proofs.Heights.Joining.{after_plain, by_finding, by_test, joined, lowered, repeated, restored, runs, two_free, weak}
 use Rattle.measure_laws.proofs.Heights.Trees.{IndexIs, has_parts, subscripts_are}
 
--- a byte that the facts give comes by an instruction that leaves the stack alone
+-- an instruction that copies a byte that the facts give keeps the stack pointer
 copied_keeps :
     (one two three : Bool) (first second third : Instr)
     → keeps_stack first ≡ true → keeps_stack second ≡ true → keeps_stack third ≡ true
@@ -86,7 +86,7 @@ location_fits_by site (locations.Static place) pushed = runs refl
 location_fits_by site (locations.Frame variable offset) pushed =
     frame_word_runs site (locations.Frame variable offset) (distance site variable offset pushed) pushed
 
--- code planned at one site fits at another one of the same tree
+-- code that is planned at one site fits at another site of the same tree
 pub location_word_runs :
     {now : Site} {source : Source now.tree.now} {level free : ℕ} (site : Site) (location : Location)
     (pushed : ℕ)
@@ -251,7 +251,7 @@ location_byte_runs {site = site} location pushed =
     (of_found (λ (i : Instr). keeps_stack i ≡ true) (from_hl_keeps site.facts location) is) (runs refl))
     (λ none. location_byte_by location pushed))
 
--- the byte of a part of memory into A
+-- puts the byte of a part of memory into A
 pub byte_in_memory_runs :
     {site : Site} {source : Source site.tree.now} {level free : ℕ} (reference : Reference) (pushed : ℕ)
     → IsPlaced site.tree.now source free reference
@@ -290,7 +290,7 @@ byte_to_l_runs {site = site} location pushed =
     (of_found (λ (i : Instr). keeps_stack i ≡ true) (for_l_keeps site.facts location) is) (runs refl))
     (λ none. byte_to_l_by location pushed))
 
--- into HL, with zeros added
+-- puts it into HL, zero-extended
 pub extended_byte_in_memory_runs :
     {site : Site} {source : Source site.tree.now} {level free : ℕ} (reference : Reference) (pushed : ℕ)
     → IsPlaced site.tree.now source free reference
@@ -300,7 +300,7 @@ extended_byte_in_memory_runs {site = site} reference pushed is =
     (λ location there. joined (byte_to_l_runs location pushed) (runs refl))
     (λ none. runs (is, refl))
 
--- the word of a part of memory into HL
+-- puts the word of a part of memory into HL
 pub word_in_memory_runs :
     {site : Site} {source : Source site.tree.now} {level free : ℕ} (reference : Reference) (pushed : ℕ)
     → IsPlaced site.tree.now source free reference

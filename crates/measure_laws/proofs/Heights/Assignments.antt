@@ -9,7 +9,7 @@ use Rattle.measure_laws.proofs.Heights.Singles.{aimed_from, single_runs}
 use Rattle.measure_laws.proofs.Heights.Trees.{aim_holds}
 
 module _ (body : Body) (called : List Bool) (source : Source body.tree.now) (level : ℕ) where
-  -- what is asked of the steps of each target of an index
+  -- the condition on the steps of the target at each index
   abbrev EachRuns : Range → (each : ℕ → List Planned) → Type 0
   EachRuns targets each =
       (index : ℕ) (target : Target)
@@ -17,7 +17,7 @@ module _ (body : Body) (called : List Bool) (source : Source body.tree.now) (lev
       → IsAimed body.tree.now source level target
       → StepsRun body called level level (each index) level
 
-  -- targets from an index on, as many as are left
+  -- the remaining targets, from an index on
   targets_run :
       {first left : ℕ} {trees : List TypedTarget} (scalar : ScalarType) (targets : Range)
       (each : ℕ → List Planned)
@@ -46,7 +46,7 @@ module _ (body : Body) (called : List Bool) (source : Source body.tree.now) (lev
       (types : TypesHoldInTargets source.typed source.within of trees)
       (room : 2 + 2 * height_of_targets trees ≤ level)
     where
-      -- each target gets a value as if it were the only one
+      -- assigns a value to each target, as if it were the only one
       each_runs : StepsRun body called level level (each_steps body site targets value) level
       each_runs =
           targets_run of targets (each_at body site targets value)
@@ -58,7 +58,7 @@ module _ (body : Body) (called : List Bool) (source : Source body.tree.now) (lev
           ]) level) (sym found) (single_runs body called source level value given target site is))
           0 (omega arith) (omega arith) are types room
 
-      -- a value in a register goes to each target
+      -- stores a value in a register in each target
       stores_run : (from : ScalarType) → StepsRun body called level level (stores_steps body targets from) level
       stores_run from =
           targets_run of targets (store_at body targets from)

@@ -2,7 +2,7 @@
 use Rattle.measure_laws.proofs.Prelude.{ℕ, ◌%◌, Bool, true, false, if◌then◌else◌, nat_eq, nat_lt, List, [], ◌∷◌, Option, Some, None, refl, Nop, Jump, ExpressionNumber, Range, StatementNumber, LabelNumber, label_of, Site, number, Body, Planned, Jumped, JumpOn, ListOf, Meet, Reaches, Statement, Turn, both_steps, branch, computed_if_steps, forever_steps, goto_label, has_one_jump, if_steps, statement_if_any, tested_if_steps, tested_while_steps, then_steps, while_steps, jump, mark, nth_label, plain, StepsRun, Source}
 use Rattle.measure_laws.proofs.Heights.Planning.{both_run, none_run, plain_runs, plains_run, then_run}
 
--- a statement that need not be there
+-- a statement that may be absent
 abbrev pub AnyRuns : (body : Body) (called : List Bool) → (level : ℕ) → Option StatementNumber → Type 0
 AnyRuns body called level None = Unit {0}
 AnyRuns body called level (Some number) = StepsRun body called level level (Statement number ∷ []) level

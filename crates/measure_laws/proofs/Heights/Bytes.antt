@@ -1,4 +1,4 @@
--- Values in A, but for calls and assignments.
+-- Values in A, except for calls and assignments.
 use Rattle.measure_laws.proofs.Prelude.{ℕ, ◌+◌, ◌-◌, ◌%◌, ◌==◌, nat_le, Bool, true, false, ◌&&◌, ◌||◌, IfSome, [], ◌∷◌, ◌++◌, Option, Some, None, is_some, option_map, if◌then◌else◌, refl, Dad, Pop, Push, Rlc, Rrc, Operation, Add, Subtract, And, ExclusiveOr, Or, Hl, A, B, Psw, StackBc, ScalarType, BinaryOperator, ShiftFunction, ShiftLeft, ShiftRight, RotateLeft, RotateRight, ExpressionNumber, Reference, copy, high, low, with_register, Site, scalar, is_free, known, may_exchange, number_of, fits_byte, high_byte_in_memory, is_byte_in_register, low_number, operand_in_memory, power, byte_in_memory_steps, ByteForm, RightInMemory, LeftInMemory, LeftFree, RightFree, Pushed, Operands, Shifted, byte_number_steps, high_byte_steps, low_of_word_steps, by_number_steps, byte_routine, byte_shift_steps, byte_shifted_right_steps, count_in_memory_steps, low_byte_shifted_right_steps, middle_byte_steps, operands_steps, right_shift_steps, rotation_steps, shifted_left_steps, turned_right_steps, zero_steps, added_steps, byte_binary_steps, byte_operation_steps, commutes, form_after_right, form_from_register, form_of, form_with_left, form_without_memory, from_number_steps, immediate_steps, in_form_steps, number_of_two, product_byte_steps, quotient_byte_steps, remainder_byte_steps, with_e_steps, with_memory_steps, with_number_steps, with_stack_steps, IsBelow, IsOperand, IsPlaced, Runs, Source}
 use Rattle.trees.specs.declared.declaration.ScalarType.TheVariants as scalars
 use Rattle.trees.specs.declared.expression.BinaryOperator.TheVariants as operators
@@ -19,7 +19,7 @@ pub byte_number_runs :
 unfolding byte_number_steps
 byte_number_runs number = by_test (number == 0) (runs refl) (runs refl)
 
--- the low byte of a value by way of HL
+-- the low byte of a value, through HL
 pub low_of_word_runs :
     {site : Site} {source : Source site.tree.now} {level free : ℕ} (number : ExpressionNumber) (pushed : ℕ)
     → IsOperand site.tree.now source free number
@@ -222,7 +222,7 @@ from_number_runs operation number value pushed is =
     (with_number_runs operation value number pushed is)
     (after_part (weak is) (after_plain refl (added_runs ((number + 1) % 256))))
 
--- an operand of a form that stays in memory is one of the two
+-- an operand that stays in memory is one of the two
 abbrev IsByteForm : (site : Site) → Source site.tree.now → (free : ℕ) → ByteForm → Type 0
 IsByteForm site source free (RightInMemory reference) = IsPlaced site.tree.now source free reference
 IsByteForm site source free (LeftInMemory reference) = IsPlaced site.tree.now source free reference

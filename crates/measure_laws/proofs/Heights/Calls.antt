@@ -1,4 +1,4 @@
--- Calls, assignments, and what expressions do beside their values.
+-- Calls, assignments, and the effects of expressions.
 use Rattle.measure_laws.proofs.Prelude.{◌≡◌, ℕ, zero, suc, ◌+◌, ◌-◌, ◌*◌, ◌%◌, ◌≤◌, Bool, false, List, [], ◌∷◌, ◌++◌, Option, Some, None, refl, sym, subst, arith, ScalarType, Byte, Address, height_of_arguments, TypedArguments, TypesHoldInArguments, ExpressionForm, ExpressionNumber, Range, Reference, Subscript, Target, AreArguments, AreMore, AreNone, nodes_of, source_of, Step, Site, expression, scalar, embedded_steps, argument_steps, arguments_steps, call_steps, last_argument_steps, push_of, pushed_argument_steps, value_task, both_effects_steps, effects_steps, form_effects_steps, reference_effects_steps, subscript_effects_steps, TreeModule, AreGiven, HasParts, IsAimed, IsBelow, IsOfTree, IsOperand, IsPlaced, Runs, Source}
 use Rattle.treecode.specs.declared.expression.ExpressionForm.TheVariants as forms
 use Rattle.steps8080.specs.declared.step.Step.TheVariants as steps
@@ -38,7 +38,7 @@ ending :
 ending {site = site} {source = source} {level = level} {free = free} {planned = planned} same is =
     subst (λ after. Runs site source level free planned after) same is
 
--- so many arguments, the last ones of a call: each but the last one leaves a word on the stack
+-- the last `count` arguments of a call: each but the last one leaves a word on the stack
 given_run :
     (site : Site) (source : Source site.tree.now) (level free : ℕ) (arguments : Range) {bound : ℕ}
     {trees : TypedArguments} (first count pushed : ℕ)
@@ -151,7 +151,7 @@ form_effects_run {site = site} (forms.Call procedure arguments) pushed has =
     call_runs procedure arguments pushed has
 form_effects_run (forms.Input port) pushed has = runs refl
 
--- what an expression does beside its value
+-- the effects of an expression
 pub effects_run :
     {site : Site} {source : Source site.tree.now} {level free : ℕ} (number : ExpressionNumber) (pushed : ℕ)
     → IsOperand site.tree.now source free number

@@ -136,7 +136,7 @@ known_case_runs :
 known_case_runs {body = body} list known all =
     known_by_runs list known all (nat_lt known list.count) (item body.tree.now list known) refl refl
 
--- the number comes into DE
+-- puts the number into DE
 byte_bound_runs :
     {body : Body} {called : List Bool} {level : ℕ} (source : Source body.tree.now) (count : ℕ)
     (end : LabelNumber) (few : Bool)

@@ -1,12 +1,12 @@
--- A word that is added to the stack pointer and is above the bytes of a frame and of a parameter, as 65,534 to push two
--- bytes, is counted as no drop.
+-- A word that is added to the stack pointer and exceeds the bytes of a frame and of a parameter, such as
+-- 65,534 to push two bytes, does not count as a drop.
 use Rattle.measure_laws.proofs.Prelude.{◌≡◌, ℕ, ◌+◌, ◌<◌, ◌≤◌, ◌⊎◌, inl, inr, Bool, true, false, List, [], ◌∷◌, ◌++◌, Option, Some, None, slice_get, refl, sym, ap, subst, ◌∙◌, true≢false, arith, false≢true, FRAME_LIMIT, Instr, Hl, Sp, Item, Plain, WithWord, TreeModule, ProcedureKind, TreeProcedure, items_of_call, module_call_items, BranchThere, ByteDropped, BytesDropped, CallThere, FindsRoom, HaltThere, InstructionThere, JumpThere, LabelThere, NothingThere, PopThere, PushThere, ReturnThere, RoutineThere, TableJumpThere, WordThere, keeps_stack}
 use Rattle.isa8080.specs.declared.instr.Instr.TheVariants as instructions
 use Rattle.asm8080.specs.declared.item.Reference.{Reference}
 use Rattle.asm8080.specs.declared.item.WordForm.TheVariants as forms
 use Rattle.treecode.specs.declared.procedure.ProcedureKind.TheVariants as kinds
 
--- an instruction that is counted by itself, and does not keep the stack
+-- an instruction that is counted separately, and does not keep the stack pointer
 abbrev is_counted : Instr → Bool
 is_counted (instructions.Push pair) = true
 is_counted (instructions.Pop pair) = true
@@ -24,7 +24,7 @@ same_first :
     → is_counted one ≡ false
 same_first {one = one} {other = other} same plain = let first : one ≡ other = cc in ap is_counted first ∙ plain
 
--- the items of a call are none, or a CALL
+-- the items of a call are empty, or a CALL
 abbrev AreOfCall : List Item → Type 0
 AreOfCall list = (list ≡ []) ⊎ ((reference : Reference) × (list ≡ WithWord forms.CallTo reference ∷ []))
 
@@ -44,7 +44,7 @@ of_call tree procedure = by (slice_get tree.procedures.items procedure)
     by (Some one) = of_kind procedure one.kind
     by None = inl refl
 
--- what finds room after an instruction that is counted as one that keeps the stack
+-- items that find room after an instruction that is counted as one that keeps the stack pointer
 record IsKept (tree : TreeModule) (level : ℕ) (i : Instr) (others : List Item) (after : ℕ) : Type 0 where
   kept : keeps_stack i ≡ true
   free : ℕ
@@ -93,7 +93,7 @@ module _
     first_kept (HaltThere rest) same = absurd (true≢false (same_first same plain))
     first_kept (LabelThere enough rest) same = absurd cc
 
--- what begins with such a sum finds no room, however much is free
+-- items that begin with such a sum find no room, however much is free
 pub sum_finds_no_room :
     {tree : TreeModule} {level free after : ℕ} {others : List Item} (word : ℕ)
     → FRAME_LIMIT + 2 < word
@@ -111,7 +111,7 @@ sum_finds_no_room word great room =
     let third = first_kept refl (λ bytes small same. cc) second.room refl in
     false≢true third.kept
 
--- what finds room after HL was loaded
+-- items that find room after HL was loaded
 record IsLoaded (tree : TreeModule) (level : ℕ) (others : List Item) (after : ℕ) : Type 0 where
   free : ℕ
   room : FindsRoom tree level free others after
@@ -153,7 +153,7 @@ module _ {tree : TreeModule} {level after : ℕ} {reference : Reference} {others
   load_kept (HaltThere rest) same = absurd cc
   load_kept (LabelThere enough rest) same = absurd cc
 
--- no word that an item has beside its form is counted as a drop, be it a number or where something lies
+-- no word of an item is counted as a drop, whether it is a number or an address
 pub placed_sum_finds_no_room :
     {tree : TreeModule} {level free after : ℕ} {others : List Item} (reference : Reference)
     → FindsRoom tree level free

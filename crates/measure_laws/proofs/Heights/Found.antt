@@ -1,4 +1,4 @@
--- What code finds of trees: operands inside others, and parts of memory.
+-- Operands inside others, and parts of memory, that code finds in trees.
 use Rattle.measure_laws.proofs.Prelude.{◌≡◌, ℕ, ◌+◌, ◌*◌, ◌%◌, ◌≤◌, Bool, true, false, IfSome, Option, Some, None, option_and_then, option_map, if◌then◌else◌, refl, ScalarType, height_of_reference, Low, High, Double, PartOf, TypedReference, TypesHoldInReference, Expression, ExpressionForm, ExpressionNumber, TreeModule, Reference, IsPart, IsReference, nodes_of, inside, Site, expression, form_in_memory, high_in_memory, high_of, keeps_of_address, memory, plain_in_memory, reference_after, same_low_byte, high_byte_in_memory, operand_in_memory, word_in_memory, word_of, HasParts, IsOperand, IsPlaced, Source}
 use Rattle.trees.specs.declared.declaration.ScalarType.TheVariants as scalars
 use Rattle.treecode.specs.declared.expression.ExpressionForm.TheVariants as forms
@@ -27,7 +27,7 @@ same_low site source free number is = by (expression site number) refl
     by (Some one) there = inside_form site source free number one.form is (has_parts site is there)
     by None there = is
 
--- what lies after a part of memory has the same subscripts
+-- a part of memory further on has the same subscripts
 placed_after :
     {tree : TreeModule} {source : Source tree} {free : ℕ} {reference : Reference} (distance : ℕ)
     → IsPlaced tree source free reference
@@ -69,7 +69,7 @@ word_is_in_memory site source free number is = by (expression site number) refl
     by (Some one) there = word_form site.tree.now source free one.form one.traits.scalar (has_parts site is there)
     by None there = tt
 
--- and its high byte
+-- its high byte
 pub high_is_in_memory :
     (site : Site) (source : Source site.tree.now) (free : ℕ) (number : ExpressionNumber)
     → IsOperand site.tree.now source free number

@@ -6,7 +6,7 @@ use Rattle.measure_laws.proofs.Heights.Parts.{byte_runs, load_byte_runs, load_wo
 use Rattle.measure_laws.proofs.Heights.Planning.{both_run, none_run, plain_runs, plains_run, then_run}
 use Rattle.measure_laws.proofs.Heights.Singles.{single_runs}
 
--- the carry shows whether HL is less than a number
+-- sets the carry if HL is less than a number, and clears it otherwise
 pub less_by_run :
     {body : Body} {called : List Bool} {level : ℕ} (source : Source body.tree.now) (bound : ℕ) (even : Bool)
     → StepsRun body called level level (if even then all (copy A H ∷ AccumulateImmediate Compare (high bound) ∷ [])
@@ -26,7 +26,7 @@ pub less_steps_run :
     → StepsRun body called level level (less_steps bound) level
 less_steps_run source bound = less_by_run source bound (nat_eq (bound % 256) 0)
 
--- the place of a label, where it is asked for
+-- the place of a label, if asked for
 asked_mark_runs :
     {body : Body} {called : List Bool} {level : ℕ} (source : Source body.tree.now) (is_asked : Bool)
     (label : LabelNumber)
@@ -52,7 +52,7 @@ module _
     address_first : StepsRun body called level level (part (tasks.Address (whole object)) 0 ∷ []) level
     address_first = whole_address_runs body called source level object two
 
-    -- whether it is less than a number
+    -- tests whether it is less than a number
     below_runs :
         (scalar : ScalarType) (bound : ℕ)
         → StepsRun body called level level (below_steps scalar counter bound) level
@@ -87,7 +87,7 @@ module _
     asked_test_runs last is_tested end =
         asked_by_runs last end (is_tested && not (is_byte_type counter.scalar && nat_le 255 last))
 
-    -- it is counted, and there is another turn
+    -- counts it by 1, and begins another turn
     next_byte_by_runs :
         (last : ℕ) (turn : LabelNumber) (all_bytes : Bool)
         → StepsRun body called level level (if all_bytes then plain (Inr M) ∷ jump (JumpWhere NotZero) turn ∷ []
@@ -257,7 +257,7 @@ module _
     test_label_runs step_is_one is_entered test =
         test_label_by_runs (step_is_one && not (is_byte_type counter.scalar)) is_entered test
 
-    -- the test with a bound that is known
+    -- the test with a known bound
     always_runs : (turn : LabelNumber) → StepsRun body called level level (test_steps counter tests.Always turn) level
     unfolding test_steps
     always_runs turn = plains_run source (jump Jump turn ∷ []) refl
@@ -296,7 +296,7 @@ module _
     known_test_runs Byte last turn = byte_known_by_runs last turn (nat_le 255 last)
     known_test_runs Address last turn = word_known_by_runs last turn (nat_le 65535 last)
 
-    -- and with one that is not
+    -- the test with a bound that is not known
     module _
         (last : ExpressionNumber)
         (is : IsOperand body.tree.now source level last) (turn : LabelNumber)

@@ -1,4 +1,4 @@
--- Steps one after another, steps that are repeated, and steps that depend on what is found.
+-- Steps one after another, repeated steps, and steps that depend on an optional value.
 use Rattle.measure_laws.proofs.Prelude.{◌≡◌, ℕ, zero, suc, ◌+◌, ◌-◌, ◌≤◌, Bool, true, false, if◌then◌else◌, List, [], ◌∷◌, ◌++◌, Option, Some, None, refl, sym, subst, arith, false≢true, Instr, Sp, WordForm, ExpressionNumber, TreeModule, Part, Step, repeat_steps, Site, keeps_stack, taken_by, Go, GoesOn, GoesOnWithLabel, GoesOnWithWord, IsBelow, IsOfTree, IsOperand, Runs, Source}
 use Rattle.isa8080.specs.declared.instr.Instr.TheVariants as instructions
 use Rattle.asm8080.specs.declared.item.WordForm.TheVariants as word_forms
@@ -10,7 +10,7 @@ pub runs :
     → Runs site source level free planned after
 runs go = record { go = go }
 
--- an operand before which a word may be pushed, without one
+-- an operand that allows a pushed word before it, without one
 pub weak :
     {tree : TreeModule} {source : Source tree} {free : ℕ} {number : ExpressionNumber}
     → IsBelow tree source free number
@@ -23,7 +23,7 @@ weak is = record {
   room = omega (arith, is.room);
 }
 
--- with one
+-- the same with one
 pub lowered :
     {tree : TreeModule} {source : Source tree} {free : ℕ} {number : ExpressionNumber}
     → IsBelow tree source free number
@@ -36,21 +36,21 @@ lowered is = record {
   room = omega (arith, is.room);
 }
 
--- where a word may be pushed, two bytes are free
+-- if a word may be pushed, two bytes are free
 pub two_free :
     {tree : TreeModule} {source : Source tree} {free : ℕ} {number : ExpressionNumber}
     → IsBelow tree source free number
     → 2 ≤ free
 two_free is = omega (arith, is.room)
 
--- and are free again after its POP
+-- they are free again after its POP
 pub restored :
     {tree : TreeModule} {source : Source tree} {free : ℕ} {number : ExpressionNumber}
     → IsBelow tree source free number
     → free - 2 + 2 ≡ free
 restored is = omega (arith, is.room)
 
--- what follows an instruction
+-- the items after an instruction
 on_plain :
     (level free : ℕ) (i : Instr) {One Other : ℕ → Type 0}
     → GoesOn level free i One → ((left : ℕ) → One left → Other left)
@@ -144,7 +144,7 @@ pub after_part :
     → Runs site source level free (steps.Part part ∷ others) after
 after_part is two = runs (is, two.go)
 
--- an instruction that leaves the stack alone
+-- an instruction that keeps the stack pointer
 pub kept_plain :
     (level free : ℕ) (i : Instr) (Rest : ℕ → Type 0)
     → keeps_stack i ≡ true → Rest free
@@ -176,7 +176,7 @@ pub after_plain :
     → Runs site source level free (steps.Plain i ∷ others) after
 after_plain {level = level} {free = free} {i = i} kept two = runs (kept_plain level free i _ kept two.go)
 
--- so many times
+-- an instruction `count` times
 pub repeated :
     {site : Site} {source : Source site.tree.now} {level free : ℕ} (i : Instr) (count : ℕ)
     → keeps_stack i ≡ true
@@ -184,7 +184,7 @@ pub repeated :
 repeated i zero kept = runs refl
 repeated i (suc count) kept = after_plain kept (repeated i count kept)
 
--- either way of a test
+-- both branches of a test
 pub by_test :
     {site : Site} {source : Source site.tree.now} {level free after : ℕ} {first second : List Step} (b : Bool)
     → Runs site source level free first after
@@ -193,7 +193,7 @@ pub by_test :
 by_test true one two = one
 by_test false one two = two
 
--- whatever is found
+-- whether a value is found or not
 pub by_finding :
     {A : Type 0} {site : Site} {source : Source site.tree.now} {level free after : ℕ} {some : A → List Step}
     {none : List Step} (found : Option A)

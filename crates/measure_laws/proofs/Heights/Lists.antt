@@ -5,7 +5,7 @@ use Rattle.codegen8080.specs.Generated.{MoreStatements, NoStatements}
 use Rattle.measure_laws.proofs.Heights.Planning.{none_room}
 use Rattle.measure_laws.proofs.Heights.Rooms.{room_joined}
 
--- so many statements of the table of lists find room, from an entry on
+-- as many statements of the table of lists as `count` find room, from an entry on
 pub data AllRun (body : Body) (called : List Bool) (level : ℕ) : (first count : ℕ) → Type 0 where
   NoneRun : {first : ℕ} → AllRun body called level first 0
   MoreRun : {first count : ℕ} {number : StatementNumber}
@@ -55,7 +55,7 @@ pub list_step_run :
     → StepsRun body called level level (planned.List range ∷ []) level
 list_step_run runs = record { room = λ done. list_room runs done }
 
--- and a statement
+-- a statement as a planned step
 statement_room :
     {body : Body} {called : List Bool} {level : ℕ} {number : StatementNumber}
     → StatementRuns body called level number

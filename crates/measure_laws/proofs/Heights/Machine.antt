@@ -1,10 +1,10 @@
--- What the count says of instructions, the machine does.
+-- The machine does with the stack pointer what the count of instructions says.
 use Rattle.measure_laws.proofs.Prelude.{◌≡◌, ℕ, ◌+◌, true, List, refl, false≢true, Instr, Operand, M, Of, Bc, De, Hl, Sp, Register, A, B, C, D, E, H, L, StackPair, Psw, StackBc, StackDe, StackHl, act, with_operand, decrement_of, increment_of, Registers, State, register_of, two_less, wrap, WordForm, instruction_with, keeps_stack, keeps_stack_with}
 use Rattle.isa8080.specs.declared.instr.Instr.TheVariants as instructions
 use Rattle.isa8080.specs.State.{with_register}
 use Rattle.asm8080.specs.declared.item.WordForm.TheVariants as forms
 
--- the stack pointer and the program counter are as they were
+-- the stack pointer and the program counter are unchanged
 abbrev pub Stays : Registers → Registers → Type 0
 Stays r now = (now.sp ≡ r.sp) × (now.pc ≡ r.pc)
 
@@ -23,7 +23,7 @@ operand_stays :
 operand_stays (Of register) value s = register_stays register value s.registers
 operand_stays M value s = (refl, refl)
 
--- an instruction that keeps the stack leaves the stack pointer as it is, and the next one comes
+-- an instruction that keeps the stack pointer does so on the machine, and continues with the next one
 pub kept_stack_stays :
     (script : List (List ℕ)) (i : Instr) (s : State)
     → keeps_stack i ≡ true
@@ -107,13 +107,13 @@ pop_gives_two script StackDe s = refl
 pop_gives_two script StackHl s = refl
 pop_gives_two script Psw s = refl
 
--- and INX SP one
+-- INX SP gives one back
 pub inx_gives_one :
     (script : List (List ℕ)) (s : State)
     → (act script (instructions.Inx Sp) s).registers.sp ≡ wrap (s.registers.sp + 1)
 inx_gives_one script s = refl
 
--- so does each instruction of a form that keeps the stack with any word
+-- the same for each instruction of a form that keeps the stack pointer with any word
 pub word_keeps_stack :
     (form : WordForm) (word : ℕ) → keeps_stack_with form ≡ true → keeps_stack (instruction_with form word) ≡ true
 word_keeps_stack (forms.LoadPair Bc) word kept = refl

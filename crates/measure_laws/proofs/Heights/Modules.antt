@@ -1,4 +1,4 @@
--- The code of a module pushes at most what heights and charges say.
+-- The code of a module pushes at most what heights and charges allow.
 use Rattle.measure_laws.proofs.Prelude.{◌≡◌, ℕ, suc, ◌+◌, ◌-◌, ◌*◌, ◌<◌, ◌≤◌, ◌⊎◌, inl, inr, get_or, Bool, true, false, List, [], ◌∷◌, ◌++◌, length, Option, Some, None, slice_get, refl, sym, ap, subst, ◌∙◌, arith, slice_get_cases, slice_get_within, option_map_or, ScalarType, FRAME_LIMIT, charge_of, count_of_arguments, height_of, height_of_arguments, height_of_list, height_of_reference, height_of_statement, height_of_target, AreParameters, FramesFit, ParametersFit, home_of_parameters, TypedModule, TypedProcedure, IsWellTyped, TypesHoldInList, TypesHoldInProcedure, Within, WithinMain, WithinProcedure, Storage, Item, Range, TreeModule, ProcedureKind, TreeProcedure, StatementNumber, HasBody, IsLowered, IsProcedure, labels_numbered_in_list, nodes_of, has_frame, parameter_count, frame_fits, has_parameters, numbered_at, Facts, Part, Task, Site, IsWritten, Body, Here, IsCarriedOut, IsListCarriedOut, IsEndCode, IsFrameOf, FindsRoom, NothingThere, PushesAtMost, taken_by, IsOfTree, Source}
 use Rattle.typed_trees.specs.TypedTrees.{Home}
 use Rattle.treecode.specs.declared.procedure.ProcedureKind.TheVariants as kinds
@@ -11,7 +11,7 @@ use Rattle.measure_laws.proofs.Heights.Statements.{statement_run, whole_list_run
 use Rattle.measure_laws.proofs.Heights.Trees.{aim_holds, given}
 use Rattle.measure_laws.proofs.Heights.Written.{part_room}
 
--- as many types of parameters as there are parameters
+-- there are as many parameter types as parameters
 types_many :
     (typed : TypedModule) (home : Home) (scalars : List ScalarType) (parameters : List ℕ)
     → AreParameters typed home scalars parameters
@@ -174,7 +174,7 @@ body_room typed storage within body called bytes procedure heading is_reached en
     written)
     (end_room body source called bytes last is_reached ending small ends)
 
--- a body has a frame of no more bytes than a typed procedure may have
+-- the frame of a body has at most as many bytes as a typed procedure may have
 frame_is_small :
     (typed : TypedModule) (storage : Storage) (tree : TreeModule) (number : ℕ) (procedure : TreeProcedure)
     (heading : TypedProcedure) (body : Body)

@@ -6,7 +6,7 @@ use Rattle.statements8080.specs.declared.plan.Planned.TheVariants.{Code}
 use Rattle.measure_laws.proofs.Heights.Parts.{word_runs}
 use Rattle.measure_laws.proofs.Heights.Planning.{both_run, code_run, then_run}
 
--- the operands leave four bytes free beside what they need themselves
+-- the operands leave four bytes free beside those that they need
 module _
     (body : Body) (called : List Bool) (source : Source body.tree.now) (level : ℕ) (site : Site)
     (count from destination : ExpressionNumber)

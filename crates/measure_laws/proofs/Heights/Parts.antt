@@ -64,7 +64,7 @@ module _ (body : Body) (called : List Bool) (source : Source body.tree.now) (lev
       (whole object)) 0 ∷ []) level
   whole_address_runs object two = address_runs (whole object) 0 (whole_is object two)
 
-  -- a BYTE that is a whole object comes into A
+  -- puts a BYTE that is a whole object into A
   module _ (object : ℕ) (two : 2 ≤ level) where
     static_byte_goes :
         (place : Place) (there : Bool)
@@ -107,7 +107,7 @@ module _ (body : Body) (called : List Bool) (source : Source body.tree.now) (lev
         step_run source (planned.LoadByte (whole object)) tt
         (λ here. byte_of_goes here.facts (location_of (knowing (site_of body) here.facts) (whole object)))
 
-    -- an ADDRESS that is a whole object comes into HL
+    -- puts an ADDRESS that is a whole object into HL
     word_at_goes :
         (location : Location)
         → Go body.tree.now source level level

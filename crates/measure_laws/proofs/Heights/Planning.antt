@@ -1,4 +1,4 @@
--- Planned steps find room where each of them does.
+-- Planned steps find room if each of them does.
 use Rattle.measure_laws.proofs.Prelude.{◌≡◌, ℕ, Bool, true, false, List, [], ◌∷◌, ◌++◌, Option, if◌then◌else◌, refl, sym, ap, subst, ◌∙◌, arith, append_assoc, false≢true, Sp, Item, WordForm, TreeModule, Facts, LabelNumber, Step, Task, Body, Planned, part, Here, AreCarriedOut, HoldsNoStatement, ListCarriedOut, NoneCarriedOut, StatementCarriedOut, StepCarriedOut, carried_steps, jump_on_steps, site_of, FindsRoom, NothingThere, keeps_stack, keeps_stack_with, StepsRun, Go, GoesOnWithLabel, GoesOnWithWord, IsOfTree, Source}
 use Rattle.asm8080.specs.declared.item.WordForm.TheVariants as word_forms
 use Rattle.steps8080.specs.declared.step.Step.TheVariants as steps
@@ -7,7 +7,7 @@ use Rattle.measure_laws.proofs.Heights.Joining.{kept_plain}
 use Rattle.measure_laws.proofs.Heights.Rooms.{room_joined}
 use Rattle.measure_laws.proofs.Heights.Written.{steps_room}
 
--- the code of steps that others follow
+-- the code of steps with others after them
 record Parted
     (body : Body) (called : List Bool) (here : Here) (waiting : Option Facts) (one other : List Planned)
     (list : List Item) (last : Here) : Type 0 where
@@ -103,7 +103,7 @@ pub then_run :
     → StepsRun body called level free (step ∷ others) after
 then_run first second = both_run first second
 
--- a planned step that is no statement and no list, by the steps of expressions that it is
+-- a planned step that is neither a statement nor a list, by its expression steps
 pub step_run :
     {body : Body} {called : List Bool} {level free after : ℕ} (source : Source body.tree.now) (step : Planned)
     → HoldsNoStatement step
@@ -132,7 +132,7 @@ pub task_run :
 unfolding carried_steps
 task_run source task pushed is = step_run source (part task pushed) tt (λ here. (is, refl))
 
--- a step of expressions
+-- an expression step
 pub code_run :
     {body : Body} {called : List Bool} {level free after : ℕ} (source : Source body.tree.now) (step : Step)
     → Go body.tree.now source level free (step ∷ []) after
@@ -140,7 +140,7 @@ pub code_run :
 unfolding carried_steps
 code_run source step go = step_run source (planned.Code step) tt (λ here. go)
 
--- steps that leave the stack as it is: instructions, labels and jumps where nothing is pushed
+-- steps that keep the stack pointer: instructions, labels, and jumps when nothing is pushed
 abbrev pub jumps_plainly : WordForm → Bool
 jumps_plainly word_forms.Jump = true
 jumps_plainly (word_forms.JumpWhere condition) = true

@@ -1,4 +1,4 @@
--- Relations as values and as jumps, and jumps by conditions.
+-- Relations as values and as jumps, and jumps on conditions.
 use Rattle.measure_laws.proofs.Prelude.{◌≡◌, ℕ, Bool, true, false, ◌&&◌, IfSome, ◌∷◌, ◌++◌, Option, Some, None, option_map, option_and_then, if◌then◌else◌, refl, arith, Condition, ScalarType, BinaryOperator, Not, Negate, Low, Double, Expression, ExpressionForm, ExpressionNumber, LabelNumber, label_of, Comparison, Inquiry, Between, WithNumber, Question, LeftBelow, RightBelow, Equal, Relation, Site, expression, is_quiet, agree, mirrored, question_of, relation_between, relation_by, relation_of, relation_of_form, relation_with_number, fits_byte, Setting, Junction, Shape, Known, SameAs, Opposite, Whatever, Joined, Other, Outcome, Words, PlaceAndHl, DeAndHl, branch_setting, branch_steps, equality_steps, is_odd, joined_steps, known_branch_steps, other_steps, outcome_branch_steps, relation_branch_steps, shape_of, shape_of_binary, shape_of_form, shape_of_junction, shape_steps, shape_with_number, carry_steps, inquiry_steps, outcome_value_steps, relation_outcome, relation_steps, relation_value_steps, value_setting, byte_relation_steps, word_relation_steps, equality_of_words, high_difference_steps, low_difference_steps, words_asked, words_compared, words_of, TreeModule, HasParts, IsBelow, IsOperand, Runs, Source}
 use Rattle.trees.specs.declared.declaration.ScalarType.TheVariants as scalars
 use Rattle.trees.specs.declared.expression.BinaryOperator.TheVariants as operators
@@ -15,7 +15,7 @@ use Rattle.measure_laws.proofs.Heights.Joining.{after_part, by_finding, by_test,
 use Rattle.measure_laws.proofs.Heights.Trees.{has_parts}
 use Rattle.measure_laws.proofs.Heights.WordRelations.{word_number_runs, word_relation_runs, words_run}
 
--- what is asked is asked of operands before which a word may be pushed
+-- a question about operands that allow a pushed word before them
 abbrev pub IsAsked : (tree : TreeModule) → Source tree → (free : ℕ) → Inquiry → Type 0
 IsAsked tree source free (Between comparison) =
     IsBelow tree source free comparison.left × IsBelow tree source free comparison.right
@@ -265,7 +265,7 @@ equality_runs {site = site} {source = source} {free = free} comparison is_equal 
     jump_runs label (PlaceAndHl place) = runs (omega arith, refl)
     jump_runs label DeAndHl = runs (omega arith, refl)
 
--- two ADDRESSes that are asked to be equal are those that are compared
+-- two ADDRESSes that are tested for equality are those that are compared
 equality_is :
     (site : Site) (source : Source site.tree.now) (free : ℕ) (inquiry : Inquiry)
     → IsAsked site.tree.now source free inquiry
@@ -354,7 +354,7 @@ shape_runs {site = site} (Joined junction) condition branch first is has =
     joined_runs junction branch first has.0 has.1
 shape_runs Other condition branch first is has = other_runs condition branch first is
 
--- a jump by a condition
+-- a jump on a condition
 pub branch_runs :
     {site : Site} {source : Source site.tree.now} {free : ℕ} (condition : ExpressionNumber)
     (label : LabelNumber) (sense : Bool)

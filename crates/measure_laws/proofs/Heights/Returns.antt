@@ -1,11 +1,11 @@
--- How procedures return.
+-- The returns of procedures.
 use Rattle.measure_laws.proofs.Prelude.{◌≡◌, ℕ, zero, suc, ◌+◌, ◌-◌, ◌/◌, ◌%◌, ◌≤◌, nat_eq, nat_le, min, Bool, true, false, if◌then◌else◌, List, [], ◌∷◌, ◌++◌, replicate, Option, Some, None, refl, sym, ap, subst, ◌∙◌, arith, Instr, Dad, Inx, Lxi, Pchl, Pop, Push, Ret, Sphl, Xchg, Hl, Sp, StackBc, StackDe, StackHl, Item, ScalarType, Byte, Address, FRAME_LIMIT, ProcedureKind, Facts, clear_a, Site, AreWritten, NoneWritten, PlainWritten, Body, Planned, plain, Here, AreCarriedOut, StepCarriedOut, carried_steps, drop_steps, end_steps, kept_steps, pops_steps, return_of_frame_steps, return_over_any_steps, return_over_steps, return_steps, return_steps_by, zero_result_steps, BytesDropped, FindsRoom, StepsRun, Source}
 use Rattle.asm8080.specs.declared.item.Item.TheVariants as items
 use Rattle.treecode.specs.declared.procedure.ProcedureKind.TheVariants as kinds
 use Rattle.steps8080.specs.declared.step.Step.TheVariants as steps
 use Rattle.measure_laws.proofs.Heights.Planning.{both_run, code_run, none_room, none_run, plains_run, then_run}
 
--- an instruction that others follow
+-- an instruction with others after it
 record Followed
     (body : Body) (called : List Bool) (i : Instr) (others : List Planned) (list : List Item) (last : Here) :
     Type 0 where
@@ -42,7 +42,7 @@ plain_first i others (StepCarriedOut {more = more} ok written rest) = record {
   same = ap (λ (list : List Item). list ++ more) (plain_written i written);
 }
 
--- steps that take bytes away
+-- steps that drop bytes
 record Drops (body : Body) (called : List Bool) (level free : ℕ) (planned : List Planned) : Type 0 where
   pub after : ℕ
   pub more : free ≤ after
@@ -59,13 +59,13 @@ repeated_drops i bytes one (suc count) free =
     record { after = rest.after; more = omega (arith, rest.more); run = then_run (one free) rest.run }
 
 module _ (body : Body) (called : List Bool) (source : Source body.tree.now) (level : ℕ) where
-  -- words are dropped from the stack
+  -- drops words from the stack
   pops_drop : (words free : ℕ) → Drops body called level free (pops_steps words)
   unfolding pops_steps
   pops_drop words free =
       repeated_drops (Pop StackBc) 2 (λ free. code_run source (steps.Plain (Pop StackBc)) refl) words free
 
-  -- or by setting the stack pointer
+  -- by setting the stack pointer
   sphl_room :
       {here last : Here} {waiting : Option Facts} {list : List Item} (free bytes : ℕ)
       → bytes ≤ FRAME_LIMIT + 2
@@ -98,7 +98,7 @@ module _ (body : Body) (called : List Bool) (source : Source body.tree.now) (lev
   kept_run free bytes (Some Byte) small = sphl_run free bytes small
   kept_run free bytes None small = sphl_run free bytes small
 
-  -- bytes are dropped
+  -- drops bytes from the stack
   drop_by_drops :
       (free bytes : ℕ) (result : Option ScalarType) (few : Bool) → bytes ≤ FRAME_LIMIT + 2
       → Drops body called level free
@@ -118,7 +118,7 @@ module _ (body : Body) (called : List Bool) (source : Source body.tree.now) (lev
   unfolding drop_steps
   drop_drops free bytes result small = drop_by_drops free bytes result (nat_le bytes 12) small
 
-  -- a return over words, where as many bytes as at the level are free, or more
+  -- a return over words, if at least as many bytes are free as at the level
   elsewhere_run :
       (words free : ℕ) → level ≤ free
       → StepsRun body called level free (plain (Pop StackHl) ∷ (pops_steps words ++ (plain Pchl ∷ []))) level

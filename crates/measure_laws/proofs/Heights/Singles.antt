@@ -7,7 +7,7 @@ use Rattle.measure_laws.proofs.Heights.Parts.{address_runs, byte_runs, store_run
 use Rattle.measure_laws.proofs.Heights.Planning.{plain_runs, plains_run, then_run}
 use Rattle.measure_laws.proofs.Heights.Stores.{placed_target}
 
--- INR M and DCR M leave the stack alone
+-- INR M and DCR M keep the stack pointer
 counted_keeps :
     (site : Site) (reference : Reference) (value : ExpressionNumber)
     → IfSome (count_of site reference value) (λ (i : Instr). keeps_stack i ≡ true)
@@ -34,7 +34,7 @@ counted_keeps site reference value = by (expression site value)
     by (Some one) = by_form one.form
     by None = tt
 
--- a target that gets a value of another type
+-- a target for a value of another type
 stored_at :
     (tree : TreeModule) (source : Source tree) (level : ℕ) {bound : ℕ} {one other : ScalarType}
     {reference : Reference}
@@ -69,7 +69,7 @@ module _
     (body : Body) (called : List Bool) (source : Source body.tree.now) (level : ℕ) (value : ExpressionNumber)
     (given : IsOperand body.tree.now source level value)
   where
-    -- the value goes to a target as a byte, and as a word
+    -- stores the value in a target as a byte, and as a word
     from_byte_runs :
         (target : Target)
         → IsAimed body.tree.now source level (from_type target Byte)
@@ -84,7 +84,7 @@ module _
     from_word_runs target is =
         then_run (word_runs body called source level value 0 given) (store_runs body called source level (from_type target Address) false 0 is)
 
-    -- a part of an object gets the value
+    -- stores the value in a part of an object
     module _
         (site : Site) (reference : Reference) (is : IsPlaced body.tree.now source level reference)
         (aimed : (from to : ScalarType) → IsAimed body.tree.now source level (Stored from to reference))
@@ -180,7 +180,7 @@ module _
         stored_runs from Byte = to_byte_runs
         stored_runs from Address = to_word_runs from
 
-    -- a target gets the value
+    -- stores the value in a target
     pub single_runs :
         (target : Target) (site : Site)
         → IsAimed body.tree.now source level target

@@ -13,7 +13,7 @@ use Rattle.measure_laws.proofs.Heights.Planning.{both_run, code_run, none_run, p
 use Rattle.measure_laws.proofs.Heights.Returns.{return_run}
 use Rattle.measure_laws.proofs.Heights.Trees.{given}
 
--- a statement finds room where its steps do
+-- a statement finds room if its steps do
 form_is_statement :
     (body : Body) (called : List Bool) (level : ℕ) (number : StatementNumber) (found : Statement)
     → slice_get body.tree.now.statements.items number.index ≡ Some found

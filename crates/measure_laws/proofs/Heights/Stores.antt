@@ -1,10 +1,10 @@
--- Stores of a value that is in A or HL.
+-- Stores of a value in A or HL.
 use Rattle.measure_laws.proofs.Prelude.{ℕ, ◌+◌, ◌-◌, ◌*◌, ◌≤◌, Bool, true, false, ◌&&◌, not, [], ◌∷◌, ◌++◌, Option, Some, None, refl, arith, ScalarType, Byte, Address, Inx, MovToMemory, Mvi, M, Hl, A, D, L, StoreA, StoreHl, Location, Static, Frame, Reference, Target, Sent, Stored, IsStored, IsTarget, nodes_of, height_of_target, TypedTarget, copy, extension_steps, Site, Goal, Near, First, Second, address_beside_a_steps, address_beside_de_steps, byte_is_here_steps, goal_of, goal_steps, store_a_at_steps, store_a_steps, store_extended_steps, store_hl_at_steps, store_low_byte_at_steps, store_low_byte_steps, store_near_steps, store_steps, store_word_steps, value_back_steps, word_is_here_steps, word_near, TreeModule, AimHolds, IsAimed, IsPlaced, Runs, Source}
 use Rattle.steps8080.specs.declared.step.Step.TheVariants as steps
 use Rattle.steps8080.specs.Step.{plain}
 use Rattle.measure_laws.proofs.Heights.Joining.{after_plain, by_test, joined, runs}
 
--- where a value goes, before whose address a word may be pushed
+-- a scalar to store in, with a word that may be pushed before its address is computed
 pub record IsGoal (tree : TreeModule) (source : Source tree) (free : ℕ) (reference : Reference) : Type 0 where
   pub near : IsPlaced tree source free reference
   pub far : IsPlaced tree source (free - 2) reference
@@ -223,7 +223,7 @@ placed_target tree source free from to reference {bound = bound} (IsStored {part
   room = omega (arith, room);
 }
 
--- a value goes to a target
+-- stores a value in a target
 pub store_runs :
     {site : Site} {source : Source site.tree.now} {level free : ℕ} (target : Target) (is_wanted : Bool)
     (pushed : ℕ)

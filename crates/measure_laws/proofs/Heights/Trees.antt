@@ -1,4 +1,4 @@
--- The parts of the tree of a number need no more bytes than it does.
+-- The parts of the tree with this number need no more bytes than the tree.
 use Rattle.measure_laws.proofs.Prelude.{◌≡◌, ℕ, ◌+◌, ◌-◌, ◌*◌, ◌≤◌, List, length, Option, Some, None, IsSomeAnd, slice_get, refl, sym, ap, subst, ◌∙◌, arith, same_Some, ScalarType, count_of_arguments, height_of, height_of_arguments, height_of_reference, height_of_subscript, type_of, MoreArguments, NoArguments, SentTo, StoredIn, TypedArguments, TypedExpression, TypedModule, TypedProcedure, TypedReference, TypedTarget, Takes, TypesHold, TypesHoldInArguments, TypesHoldInReference, TypesHoldInSubscript, TypesHoldInTarget, Within, types_of, Storage, Expression, ExpressionForm, ExpressionNumber, Range, TreeModule, Reference, IndexNode, AreArguments, AreMore, AreNone, IsAbsent, IsBinary, IsCallOf, IsConstantList, IsConversion, IsEmbedded, IsExpression, IsForm, IsFunction, IsIndex, IsInput, IsLocation, IsNode, IsNumber, IsPart, IsReference, IsShift, IsSubscript, IsUnary, IsValue, Nodes, nodes_of, Site, expression, taken_by, AimHolds, AreGiven, HasParts, IsBelow, IsOperand, Source}
 use Rattle.typed_trees.specs.TypedTrees.{Subscript}
 
@@ -16,7 +16,7 @@ types_count NoArguments = refl
 types_count (MoreArguments first others) =
     let rest : length (types_of others) ≡ count_of_arguments others = types_count others in omega (arith, rest)
 
--- a call takes what was pushed for it
+-- a call pops the arguments that were pushed for it
 pub call_takes :
     {tree : TreeModule} (source : Source tree) (procedure : ℕ) (result : Option ScalarType)
     {bound first count : ℕ}
@@ -114,7 +114,7 @@ parts_of_node site source free number found (IsNode {expression = entry} below t
     subst (λ (one : Expression). HasParts site.tree.now source free one.form) (same_Some entry found (sym there ∙ is))
     (parts_of_form site.tree.now source free form types room)
 
--- by the form that is found there
+-- the parts by the form that is found
 pub has_parts :
     (site : Site) {source : Source site.tree.now} {free : ℕ} {number : ExpressionNumber} {found : Expression}
     → IsOperand site.tree.now source free number

@@ -260,7 +260,7 @@ word_relation_runs {site = site} {source = source} {level = level} {free = free}
     beside_place apart is =
         with_place_runs apart comparison.question setting.pushed is
 
--- two ADDRESSes that come to where they can be compared
+-- two ADDRESSes that are put into places where they can be compared
 pub words_run :
     {site : Site} {source : Source site.tree.now} {level free : ℕ} (comparison : Comparison) (pushed : ℕ)
     → IsBelow site.tree.now source free comparison.left → IsBelow site.tree.now source free comparison.right

@@ -1,4 +1,4 @@
--- Shifts of words, and operators whose value comes into HL.
+-- Shifts of words, and operators with the result in HL.
 use Rattle.measure_laws.proofs.Prelude.{ℕ, ◌+◌, ◌-◌, ◌%◌, ◌==◌, nat_le, nat_lt, Bool, true, false, ◌&&◌, IfSome, [], ◌∷◌, Option, Some, None, if◌then◌else◌, refl, Dad, Operation, Subtract, SubtractWithBorrow, And, ExclusiveOr, Or, Hl, Register, A, H, L, BinaryOperator, UnaryOperator, Not, Negate, ShiftFunction, ShiftLeft, ShiftRight, RotateLeft, RotateRight, ExpressionNumber, Place, Number, Site, is_free, known, may_exchange, number_of, direct_word, fits_byte, is_word_in_hl, power, PairOrder, LeftInHl, RightInHl, pair_order, Operands, Shifted, Simple, number_of_two, computed_count_steps, count_beside_word_steps, shifted_half_steps, quarter_steps, shifted_right_little_steps, word_by_number_steps, word_shift_steps, word_shifted_right_steps, and_with_number_steps, both_halves_steps, computed_logic_steps, difference_steps, division_steps, exchanged_operand, first_and_simple, half_steps, half_through_a_steps, high_half_steps, is_of_bytes, left_word, logic_steps, logic_with_byte_steps, logic_with_number_steps, logic_with_simple_steps, paired_steps, product_order, product_word_steps, quotient_steps, remainder_steps, simple_operand, sum_steps, taken_from_number_steps, with_pair_steps, with_simple, with_word_steps, word_binary_steps, word_unary_steps, clear_a, copy, high, low, set, with_register, TreeModule, IsBelow, Runs, Source}
 use Rattle.trees.specs.declared.expression.BinaryOperator.TheVariants as operators
 use Rattle.exprgen8080.specs.declared.word_operators.Simple.TheVariants as simple
@@ -227,7 +227,7 @@ unfolding logic_with_number_steps
 logic_with_number_runs And value number pushed is = and_with_number_runs value number pushed is
 logic_with_number_runs operation value number pushed is = both_halves_run operation value number pushed is
 
--- a byte that comes second
+-- a byte that is evaluated second
 abbrev IsSimple : (tree : TreeModule) → Source tree → (free : ℕ) → Simple → Type 0
 IsSimple tree source free (simple.Byte byte) = IsBelow tree source free byte
 IsSimple tree source free (simple.Word place) = Unit {0}
@@ -260,7 +260,7 @@ exchanged_is site source free operands one = by (may_exchange site operands.left
     by true = simple_is site source free operands.left one
     by false = tt
 
--- what comes first, and what comes second
+-- the operand that is evaluated first, and the simple one
 abbrev IsChosen : (tree : TreeModule) → Source tree → (free : ℕ) → ExpressionNumber × Simple → Type 0
 IsChosen tree source free chosen = IsBelow tree source free chosen.0 × IsSimple tree source free chosen.1
 
@@ -396,7 +396,7 @@ word_binary_runs operators.Divide operands pushed one two = quotient_runs operan
 word_binary_runs operators.Modulo operands pushed one two = remainder_runs operands pushed one two
 word_binary_runs operator operands pushed one two = runs refl
 
--- an operator with one
+-- an operator with one operand
 pub word_unary_runs :
     {site : Site} {source : Source site.tree.now} {level free : ℕ}
     (operator : UnaryOperator) → Runs site source level free (word_unary_steps operator) free

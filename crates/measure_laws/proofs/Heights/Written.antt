@@ -1,4 +1,4 @@
--- What is written for steps that find room finds room, and so does what is written for a part.
+-- The items of steps that find room find room, and so do the items of a part.
 use Rattle.measure_laws.proofs.Prelude.{ℕ, ◌+◌, ◌-◌, Bool, true, false, List, [], ◌∷◌, ◌++◌, if◌then◌else◌, refl, sym, subst, Instr, Sp, Item, WordForm, TreeModule, Place, Facts, LabelNumber, Part, Step, Task, jump_item, word_item, Site, AreWritten, CallWritten, ChangeWritten, HoldsWritten, IsWritten, JumpWritten, MarkWritten, NoneWritten, PartWritten, PlainWritten, RoutineWritten, TestWritten, WordWritten, knowing, test_of_a, steps_of, task_steps, BranchThere, ByteDropped, CallThere, FindsRoom, HaltThere, InstructionThere, JumpThere, LabelThere, NothingThere, PopThere, PushThere, ReturnThere, RoutineThere, TableJumpThere, WordThere, Go, GoesOn, GoesOnWithLabel, GoesOnWithWord, IsOfTree, Runs, Source}
 use Rattle.isa8080.specs.declared.instr.Instr.TheVariants as instructions
 use Rattle.asm8080.specs.declared.item.Item.TheVariants as items
@@ -52,7 +52,7 @@ word_room tree level free after word_forms.CallTo place more is go = absurd is
 word_room tree level free after (word_forms.CallWhere condition) place more is go = absurd is
 word_room tree level free after form place more is go = WordThere refl (go free is)
 
--- one with a label
+-- an instruction with a label
 label_room :
     (tree : TreeModule) (level free after : ℕ) (form : WordForm) (label : LabelNumber) (more : List Item)
     {Rest : ℕ → Type 0}

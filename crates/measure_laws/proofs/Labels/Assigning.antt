@@ -1,4 +1,4 @@
--- Assignments, CALL MOVE, returns and the tests of loops: which labels they go to.
+-- The labels that assignments, CALL MOVE, returns and the tests of loops refer to.
 use Rattle.measure_laws.proofs.Prelude.{ℕ, ◌+◌, ◌-◌, ◌%◌, ◌/◌, min, nat_eq, nat_le, Bool, true, false, if◌then◌else◌, [], ◌∷◌, Option, Some, None, is_some, Instr, Dad, Inx, Lxi, Pop, Sphl, Hl, Sp, StackBc, ScalarType, Byte, Address, ExpressionNumber, Range, ProcedureKind, Reference, Target, Stored, Sent, StatementNumber, source, target_at, LabelNumber, Site, scalar, keeps, known, location_of, number, Body, Test, Counter, assignment_steps, count_of, each_at, each_steps, is_address_first, other_byte_steps, other_word_steps, several_by, single_steps, store_at, takes_byte, takes_word, any_target, types_by, together_steps, value_steps, is_near, ends_steps, move_steps, less_steps, test_steps, drop_steps, end_steps, kept_steps, pops_steps, return_of_frame_steps, return_over_any_steps, return_over_steps, return_steps, return_steps_by, zero_result_steps, return_of_steps, returned_value_steps}
 use Rattle.treecode.specs.declared.procedure.ProcedureKind.TheVariants as kinds
 use Rattle.statements8080.specs.declared.bound.Test.TheVariants as tests
@@ -173,7 +173,7 @@ module _ {ok : ℕ → Type 0} {statement : StatementNumber → Type 0} {list : 
   unfolding end_steps
   end_go body = plans_then (zero_result_go body.procedure.now.result) (return_go body)
 
-  -- the test of a loop goes to its turn
+  -- the test of a loop refers to the label of its turn
   pub less_go : (bound : ℕ) → PlanGo ok statement list (less_steps bound)
   less_go bound = either_go (nat_eq (bound % 256) 0) (planned_go tt) (planned_go tt)
 

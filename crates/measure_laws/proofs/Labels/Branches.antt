@@ -1,4 +1,4 @@
--- Jumps by conditions go to their label, or to labels that they bind.
+-- Jumps on conditions refer to their label, or to labels that they bind.
 use Rattle.measure_laws.proofs.Prelude.{inl, refl, ℕ, Bool, true, false, if◌then◌else◌, [], ◌∷◌, ◌++◌, Option, Some, None, NotZero, Zero, ExpressionNumber, LabelNumber, label_of, Comparison, Relation, Site, agree, relation_of, Junction, Shape, Known, SameAs, Opposite, Whatever, Joined, Other, Outcome, Words, branch_part, branch_setting, branch_steps, by_bit_steps, equality_steps, known_branch_steps, outcome_branch_steps, relation_branch_steps, shape_of, shape_steps, relation_outcome, relation_steps, equality_of_words, high_difference_steps, low_difference_steps, words_of, words_steps, StepsBind}
 use Rattle.asm8080.specs.declared.item.WordForm.TheVariants as forms
 use Rattle.steps8080.specs.declared.step.Step.TheVariants as steps
@@ -18,7 +18,7 @@ outcome_go :
 outcome_go ok branch (outcomes.Known answer) to = known_go ok branch answer to
 outcome_go ok branch (outcomes.Where condition) to = go (to, tt)
 
--- by two operands: the right one may be passed over
+-- by two operands: the right one may be skipped
 joined_by :
     (ok : ℕ → Type 0) (junction : Junction) (branch : Branch) (first : ℕ) (same : Bool)
     → ok branch.label.index
@@ -41,7 +41,7 @@ joined_by :
 joined_by ok junction branch first true to own = go (to, (to, tt))
 joined_by ok junction branch first false to own = go (own first (inl refl), (to, tt))
 
--- where two ADDRESSes are equal, or where they are not: the high bytes may be passed over
+-- if two ADDRESSes are equal, or if they are not: the high bytes may be skipped
 jump_go :
     (ok : ℕ → Type 0) (label : LabelNumber) (words : Words)
     → ok label.index
@@ -133,7 +133,7 @@ other_by ok site condition branch first (Some relation) to own =
     relation_by ok site relation branch first (equality_of_words site relation) to own
 other_by ok site condition branch first None to own = go (tt, (to, tt))
 
--- by a condition of a shape
+-- by a condition with this source of its lowest bit
 shape_go :
     (ok : ℕ → Type 0) (site : Site) (shape : Shape) (condition : ExpressionNumber) (branch : Branch) (first : ℕ)
     → ok branch.label.index

@@ -1,4 +1,4 @@
--- What is written for planned steps goes to labels of some kind alone, where the steps do.
+-- The items of planned steps refer only to labels with a property, if the steps do.
 use Rattle.measure_laws.proofs.Prelude.{◌≡◌, inl, inr, ℕ, Bool, true, false, List, [], ◌∷◌, ◌++◌, Option, Item, Location, Static, Frame, Reference, Facts, LabelNumber, Task, is_at, Site, location_of, knowing, Body, Planned, Here, AreCarriedOut, HoldsNoStatement, ListCarriedOut, NoneCarriedOut, StatementCarriedOut, StepCarriedOut, byte_at_steps, carried_steps, jump_on_steps, load_byte_steps, load_word_steps, site_of, word_at_steps, ItemsBind, ItemsGo, ListGoes, PlanBinds, PlanGoes, PlannedBinds, StatementGoes, TaskThen, StepsBind, StepsGo, TaskGoes}
 use Rattle.steps8080.specs.declared.step.Step.TheVariants as steps
 use Rattle.steps8080.specs.declared.step.Task.TheVariants as tasks
@@ -7,7 +7,7 @@ use Rattle.measure_laws.proofs.Labels.Joining.{AreFree, by_finding, by_test, fre
 use Rattle.measure_laws.proofs.Labels.Going.{free_go}
 use Rattle.measure_laws.proofs.Labels.Written.{Knows, bound_after, bound_first, items_both, steps_bound, steps_written}
 
--- a value that comes to its register
+-- a value that is put into its register
 byte_at_free :
     (facts : Facts) (reference : Reference) (location : Location) → AreFree (byte_at_steps facts reference location)
 byte_at_free facts reference (Static place) = by_test (is_at facts.address_in_hl (Static place)) (free tt) (free tt)
@@ -118,7 +118,7 @@ module _ (ok : ℕ → Type 0) (body : Body) (called : List Bool) where
   step_binds label site here (planned.Again other facts is_entered) is = inl is
   step_binds label site here (planned.Reaches goes_on) is = absurd is
 
-  -- what is written for planned steps
+  -- the items of planned steps
   pub plan_carried :
       {here last : Here} {waiting : Option Facts} {plan : List Planned} {list : List Item}
       → Knows ok (site_of body) called
@@ -141,7 +141,7 @@ module _ (ok : ℕ → Type 0) (body : Body) (called : List Bool) where
       (goes.0.goes done (λ label is. own label (bound_first label first more is)))
       (plan_carried knows goes.1 (λ label is. own label (bound_after label first more is)) rest)
 
-  -- labels that planned steps bind are bound by what is written for them
+  -- labels that planned steps bind are bound by their items
   pub plan_bound :
       (label : ℕ) {here last : Here} {waiting : Option Facts} {plan : List Planned} {list : List Item}
       → AreCarriedOut body called here waiting plan list last

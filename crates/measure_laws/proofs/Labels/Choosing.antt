@@ -1,15 +1,15 @@
--- IF, DO WHILE and DO CASE: they go to labels that they bind, or that a GOTO in them goes to.
+-- IF, DO WHILE and DO CASE refer to labels that they bind, or to those of a GOTO in them.
 use Rattle.measure_laws.proofs.Prelude.{◌≡◌, inl, inr, refl, sym, ap, ◌∙◌, subst, ℕ, ◌-◌, ◌%◌, ◌<◌, nat_eq, nat_lt, Bool, true, false, if◌then◌else◌, List, [], ◌∷◌, Option, Some, None, arith, option_and_then, eq-eqb, ltb-true, none-some, Jump, ScalarType, Byte, Address, ExpressionNumber, Range, TreeStatement, StatementNumber, item, statement, LabelNumber, label_of, Site, scalar, number, Body, Planned, JumpOn, Statement, body_label, both_steps, branch, computed_if_steps, forever_steps, goto_label, goto_label_of, if_steps, statement_if_any, tested_if_steps, tested_while_steps, then_steps, while_steps, byte_bound_steps, case_steps, cases_end_steps, choice_at_steps, choice_steps, computed_case_steps, entry_of, entry_of_statement, into_table_steps, known_case_steps, number_in_de_steps, statement_at, statements_steps, table_at, table_steps, word_bound_steps, jump, label_at, mark, nth_label, part, ListGoes, PlanBinds, StatementGoes}
 use Rattle.treecode.specs.declared.statement.Statement.TheVariants as statements
 use Rattle.steps8080.specs.declared.step.Task.TheVariants as tasks
 use Rattle.measure_laws.proofs.Labels.Planning.{PlanGo, after_byte, after_word, each_go, either_go, plan_at, plan_first, plan_later, planned_go, plans_then}
 use Rattle.measure_laws.proofs.Labels.Assigning.{less_go}
 
--- planned steps of a body whose statements and lists go to labels of some kind
+-- planned steps of a body with statements and lists that refer to labels with a property
 abbrev pub BodyGo : (ok : ℕ → Type 0) → Body → (called : List Bool) → List Planned → Type 0
 BodyGo ok body called plan = PlanGo ok (StatementGoes ok body called) (ListGoes ok body called) plan
 
--- a statement that need not be there
+-- a statement that may be absent
 abbrev pub AnyGoes : (ok : ℕ → Type 0) → Body → (called : List Bool) → Option StatementNumber → Type 0
 AnyGoes ok body called None = Unit {0}
 AnyGoes ok body called (Some one) = StatementGoes ok body called one
@@ -232,7 +232,7 @@ module _
             (plan_at (label_at first index).index (statement_at body list first end) 0 list.count index (omega arith)
             (omega (arith, within index one there)) (own_bound index one there entry))
 
-        -- where a statement is entered
+        -- the label at which a statement is entered
         goto_ok :
             (index : ℕ) (one : StatementNumber) (label : ℕ)
             → item body.tree.now list index ≡ Some one
@@ -343,7 +343,7 @@ module _
             each_go (statement_at body list first end) 0 list.count
             (λ index. statement_by index (item body.tree.now list index) refl)
 
-    -- the number comes into DE
+    -- puts the number into DE
     byte_bound_go :
         (count : ℕ) (end : LabelNumber) → ok end.index → BodyGo ok body called (byte_bound_steps count end)
     byte_bound_go count end to = either_go (nat_lt count 256) (planned_go (to, tt)) (planned_go tt)

@@ -1,4 +1,4 @@
--- How procedures begin: they go to labels that they bind.
+-- The entries of procedures refer to labels that they bind.
 use Rattle.measure_laws.proofs.Prelude.{inl, inr, refl, ℕ, zero, suc, ◌-◌, ◌%◌, ◌/◌, nat_eq, nat_le, Bool, true, false, if◌then◌else◌, List, [], ◌∷◌, ◌++◌, length, replicate, take, slice_get, Lxi, Push, De, StackDe, ScalarType, Byte, Address, Range, Location, Parameter, ProcedureKind, StatementNumber, LabelNumber, label_of, Body, holds, plain, argument_step, below_return_steps, entry_steps, entry_steps_by, exchanged_steps, frame_entry_steps, is_address, last_argument_facts, odd_byte_steps, popped_at, popped_from, push_loop_steps, pushed_arguments_steps, pushes_steps, static_entry_steps, store_argument, stores_steps, zeros_steps, PlanBinds}
 use Rattle.treecode.specs.declared.procedure.ProcedureKind.TheVariants as kinds
 use Rattle.codegen8080.specs.Procedures.{last_argument_steps}
@@ -10,7 +10,7 @@ unfolding push_loop_steps
 loop_bound turns again = inr (inl refl)
 
 module _ {ok : ℕ → Type 0} {statement : StatementNumber → Type 0} {list : Range → Type 0} where
-  -- arguments go to their parameters
+  -- arguments are stored in their parameters
   store_go : (scalar : ScalarType) (location : Location) → PlanGo ok statement list (store_argument scalar location ∷ [])
   store_go Byte location = planned_go tt
   store_go Address location = planned_go tt

@@ -1,4 +1,4 @@
--- Steps that go to labels of some kind alone, one after another.
+-- Steps that refer only to labels with a property, one after another.
 use Rattle.measure_laws.proofs.Prelude.{inr, ℕ, Bool, true, false, if◌then◌else◌, List, [], ◌∷◌, ◌++◌, Step, Task, NoLabels, StepsBind, StepsGo, TaskGoes, with_no_branch}
 use Rattle.steps8080.specs.declared.step.Step.TheVariants as steps
 use Rattle.steps8080.specs.declared.step.Task.TheVariants as tasks
@@ -10,7 +10,7 @@ pub record Go (ok : ℕ → Type 0) (planned : List Step) : Type 0 where
 pub go : {ok : ℕ → Type 0} {planned : List Step} → StepsGo ok planned → Go ok planned
 go goes = record { goes = goes }
 
--- what has no labels goes nowhere
+-- steps without labels refer to none
 no_branch_goes :
     (ok : ℕ → Type 0) (task : Task) (one other : Type 0)
     → (one → other) → with_no_branch task one → TaskGoes ok task × other
@@ -59,7 +59,7 @@ pub then_go : {ok : ℕ → Type 0} {first others : List Step} → Go ok first �
 then_go {ok = ok} {first = first} {others = others} one two =
     record { goes = both_go ok first others one.goes two.goes }
 
--- what the later ones bind is bound
+-- a label that the later steps bind is bound
 pub bound_later : (label : ℕ) (first others : List Step) → StepsBind label others → StepsBind label (first ++ others)
 bound_later label [] others is = is
 bound_later label (steps.Mark other ∷ first) others is = inr (bound_later label first others is)
@@ -73,7 +73,7 @@ bound_later label (steps.TestA ∷ first) others is = bound_later label first ot
 bound_later label (steps.Holds held ∷ first) others is = bound_later label first others is
 bound_later label (steps.MemoryChanged ∷ first) others is = bound_later label first others is
 
--- either way of a test
+-- both branches of a test
 pub either_go :
     {ok : ℕ → Type 0} {first second : List Step} (b : Bool)
     → Go ok first → Go ok second → Go ok (if b then first else second)

@@ -1,4 +1,4 @@
--- Steps without labels, one after another, and steps that depend on what is found.
+-- Steps without labels, one after another, and steps that depend on an optional value.
 use Rattle.measure_laws.proofs.Prelude.{ℕ, zero, suc, Bool, true, false, if◌then◌else◌, List, [], ◌∷◌, ◌++◌, Option, Some, None, Instr, ExpressionNumber, Step, Task, repeat_steps, NoLabels, with_no_branch}
 use Rattle.steps8080.specs.declared.step.Step.TheVariants as steps
 use Rattle.steps8080.specs.declared.step.Task.TheVariants as tasks
@@ -58,18 +58,18 @@ pub after_effects :
     → AreFree others → AreFree (part (tasks.Effects number) pushed ∷ others)
 after_effects after = record { none = after.none }
 
--- an instruction so many times
+-- an instruction `count` times
 pub repeated : (i : Instr) (count : ℕ) → AreFree (repeat_steps i count)
 repeated i zero = record { none = tt }
 repeated i (suc count) = after_plain (repeated i count)
 
--- either way of a test
+-- both branches of a test
 pub by_test :
     {first second : List Step} (b : Bool) → AreFree first → AreFree second → AreFree (if b then first else second)
 by_test true one two = one
 by_test false one two = two
 
--- whatever is found
+-- whether a value is found or not
 pub by_finding :
     {A : Type 0} {some : A → List Step} {none : List Step} (found : Option A)
     → ((x : A) → AreFree (some x))

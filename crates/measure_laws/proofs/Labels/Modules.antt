@@ -1,4 +1,4 @@
--- The code of a module goes to labels that it binds, and to those of routines that are called.
+-- The code of a module refers to labels that it binds, and to those of routines that are called.
 use Rattle.measure_laws.proofs.Prelude.{◌≡◌, inl, inr, refl, sym, ap, subst, ℕ, zero, suc, ◌+◌, Bool, true, false, List, [], ◌∷◌, ◌++◌, length, Option, Some, None, arith, All, slice_get, none-some, same_Some, BodyIsSound, JumpsAreSound, TypedModule, TypedProcedure, Storage, Hlt, Item, Content, TreeModule, Place, ProcedureKind, TreeProcedure, HasBody, IsList, IsLowered, labels_numbered_in_list, nodes_of, address_items, items_of_call, module_call_items, module_label_of_routine, Body, Here, site_of, AreCodeOf, IsCodeOf, IsCodeOfMain, IsEndCode, IsOwnCode, IsProcedureCode, content_items, contents_items, has_main, ItemsBind, ItemsGo, HasItsPlace, LabelsHavePlaces, ListGoes}
 use Rattle.asm8080.specs.declared.item.Item.TheVariants as items
 use Rattle.treecode.specs.declared.module.Content.TheVariants as contents
@@ -10,7 +10,7 @@ use Rattle.measure_laws.proofs.Labels.Entering.{entry_go}
 use Rattle.measure_laws.proofs.Labels.Statements.{AroundGo, LabelsDiffer, list_goes}
 use Rattle.measure_laws.proofs.Labels.Written.{Knows, bound_after, bound_first, items_both}
 
--- what holds of all holds of one
+-- a property of all holds for one
 holds_at :
     {A : Type 0} (P : A → Type 0) (list : List A) (index : ℕ) (one : A)
     → All P list → slice_get list index ≡ Some one → P one
@@ -19,7 +19,7 @@ holds_at P (first ∷ others) zero one all there = subst P (same_Some first one 
 holds_at P (first ∷ others) (suc index) one all there =
     holds_at P others index one (λ i d below. all (suc i) d (omega (arith, below))) there
 
--- what stands among constants
+-- a constant refers to no label
 address_goes : (ok : ℕ → Type 0) (place : Place) → ItemsGo ok (address_items place)
 address_goes ok (places.Number number) = (tt, (tt, tt))
 address_goes ok (places.Code offset) = (tt, tt)
@@ -36,7 +36,7 @@ contents_go ok [] = tt
 contents_go ok (content ∷ others) =
     items_both ok (content_items content) (contents_items others) (content_goes ok content) (contents_go ok others)
 
--- the procedures that are not EXTERNAL are bound by their code
+-- the labels of procedures that are not EXTERNAL are bound by their code
 IsNotExternal : ProcedureKind → Type 0
 IsNotExternal (kinds.External name) = ⊥
 IsNotExternal kinds.Static = Unit {0}
@@ -87,7 +87,7 @@ procedures_bind tree called number (procedure ∷ others) list (suc index) found
     subst (λ given. ItemsBind (number + suc index) given) (sym are.4)
     (bound_after (number + suc index) are.0 are.1 (subst (λ n. ItemsBind n are.1) (sym further) rest))
 
--- no list is around a body
+-- there is no list around a body
 none_around : (ok : ℕ → Type 0) (body : Body) (labels : List ℕ) → AroundGo ok body labels []
 none_around ok body labels number label named any = absurd (omega (arith, any.2))
 
@@ -127,7 +127,7 @@ module _
         (procedures_bind tree called 0 tree.procedures.items is.procedures procedure found is.procedures_are there
         not_external)
 
-    -- what calls go to
+    -- the labels that calls refer to
     kind_goes :
         (procedure : ℕ) (found : TreeProcedure) (kind : ProcedureKind)
         → found.kind ≡ kind

@@ -1,4 +1,4 @@
--- The labels that the code of a soundly typed module goes to have their places.
+-- The labels that the code of a soundly typed module refers to have their places.
 use Rattle.measure_laws.proofs.Prelude.{◌≡◌, ℕ, Bool, List, Some, slice_get, BodyIsSound, TypedModule, TypedProcedure, Storage, Item, TreeModule, IsLowered, labels_numbered_in_list, IsOwnCode, IsSound, LabelsHavePlaces}
 use Rattle.procedure_laws.proofs.Labels.{main_label_has_one_number, procedure_label_has_one_number}
 use Rattle.measure_laws.proofs.Bounds.Constants.{holds_at}
@@ -19,7 +19,7 @@ body_differs typed procedure index sound there =
 main_differs : (typed : TypedModule) → IsSound typed → LabelsDiffer (labels_numbered_in_list typed.main.body)
 main_differs typed sound = main_label_has_one_number typed sound.jumps
 
--- each label that its own code goes to is bound there, or is that of a routine that it calls
+-- each label that its own code refers to is bound there, or is that of a routine that it calls
 pub labels_have_places :
     (typed : TypedModule) (storage : Storage) (tree : TreeModule) (called : List Bool) (start : ℕ) (own : List Item)
     → IsSound typed

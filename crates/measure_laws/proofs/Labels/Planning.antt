@@ -1,4 +1,4 @@
--- Planned steps one after another, and planned steps that depend on what is found.
+-- Planned steps one after another, and planned steps that depend on an optional value.
 use Rattle.measure_laws.proofs.Prelude.{◌≡◌, inl, inr, refl, ℕ, zero, suc, ◌+◌, ◌<◌, ◌≤◌, Bool, true, false, if◌then◌else◌, List, [], ◌∷◌, ◌++◌, Option, Some, None, replicate, arith, subst, cases_lt, Instr, ExpressionNumber, Range, Reference, StatementNumber, LabelNumber, Task, Planned, mark, part, plain, steps_from, PlanBinds, PlanGoes, TaskThen}
 use Rattle.steps8080.specs.declared.step.Step.TheVariants as steps
 use Rattle.steps8080.specs.declared.step.Task.TheVariants as tasks
@@ -86,12 +86,12 @@ module _ {ok : ℕ → Type 0} {statement : StatementNumber → Type 0} {list : 
       → PlanGo ok statement list others → PlanGo ok statement list (planned.LoadWord reference ∷ others)
   after_load after = record { goes = after.goes }
 
-  -- an instruction so many times
+  -- an instruction `count` times
   pub repeated_go : (i : Instr) (count : ℕ) → PlanGo ok statement list (replicate count (plain i))
   repeated_go i zero = record { goes = tt }
   repeated_go i (suc count) = after_plain (repeated_go i count)
 
-  -- either way of a test
+  -- both branches of a test
   pub either_go :
       {first second : List Planned} (b : Bool)
       → PlanGo ok statement list first → PlanGo ok statement list second
@@ -106,7 +106,7 @@ module _ {ok : ℕ → Type 0} {statement : StatementNumber → Type 0} {list : 
   asking_go true one two = one refl
   asking_go false one two = two refl
 
-  -- whatever is found
+  -- whether a value is found or not
   pub finding_go :
       {A : Type 0} {some : A → List Planned} {none : List Planned} (found : Option A)
       → ((x : A) → PlanGo ok statement list (some x))
@@ -115,7 +115,7 @@ module _ {ok : ℕ → Type 0} {statement : StatementNumber → Type 0} {list : 
   finding_go (Some x) one two = one x
   finding_go None one two = two
 
-  -- so many in a row
+  -- the steps of `left` consecutive indices
   pub each_go :
       (steps_at : ℕ → List Planned) (index left : ℕ)
       → ((place : ℕ) → PlanGo ok statement list (steps_at place))

@@ -182,7 +182,7 @@ pub high_difference_free : (words : Words) → AreFree (high_difference_steps wo
 high_difference_free (PlaceAndHl place) = free tt
 high_difference_free DeAndHl = free tt
 
--- what a relation asks
+-- the question of a relation
 comparison_by :
     (site : Site) (comparison : Comparison) (setting : Setting) (operands : ScalarType)
     → AreFree (elim operands [

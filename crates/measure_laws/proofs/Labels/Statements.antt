@@ -1,4 +1,4 @@
--- The code of statements goes to labels that it binds, and to those of the lists around it.
+-- The code of statements refers to labels that it binds, and to those of the lists around it.
 use Rattle.measure_laws.proofs.Prelude.{◌≡◌, ◌⊎◌, inl, inr, refl, sym, ap, ◌∙◌, subst, ℕ, zero, suc, ◌+◌, ◌<◌, ◌≤◌, Bool, true, false, List, [], ◌∷◌, ◌++◌, length, Option, Some, None, Any, arith, slice_get, nat_lt, if◌then◌else◌, option_and_then, ltb-true, none-some, same_Some, IsAmongLabels, JumpsStay, JumpsStayInElse, JumpsStayInList, JumpsStayInStatements, LabelsOf, LabelsStand, ListStands, ListsStand, ListsStandInCases, ListsStandInElse, ListsStandInStatements, labels_of_list, LabelStatement, MoreStatements, NoStatements, TypedElse, TypedList, TypedStatement, TypedStatements, Storage, Item, Range, StatementNumber, AreMoreStatements, AreNoStatements, AreStatements, IsAssignment, IsCall, IsCase, IsDo, IsElse, IsGoto, IsHalt, IsIf, IsIterate, IsLabel, IsList, IsListOf, IsMove, IsNoElse, IsNull, IsReturn, IsSomeElse, IsStatement, IsStatementForm, IsStatementNode, IsWhile, item_of, nodes_of, statement, Facts, LabelNumber, knowing, Body, body_label, goto_label, goto_label_of, Here, AreAllCarriedOut, AreCarriedOut, IsCarriedOut, IsListCarriedOut, ListPlanned, StatementPlanned, site_of, statement_steps, ItemsBind, ItemsGo, ListGoes, PlanBinds, StatementGoes}
 use Rattle.treecode.specs.declared.statement.Statement.{Statement}
 use Rattle.treecode.specs.declared.statement.Statement.TheVariants as statements
@@ -29,7 +29,7 @@ cases_stand : (trees : TypedStatements) → ListsStandInCases trees → ListsSta
 cases_stand NoStatements stand = tt
 cases_stand (MoreStatements first others) stand = (stand.1, cases_stand others stand.2)
 
--- what a GOTO goes to
+-- the label that a GOTO refers to
 goto_is :
     (body : Body) (number : StatementNumber) (found : Statement) (label : LabelNumber)
     → statement body.tree.now number ≡ Some found
@@ -41,7 +41,7 @@ goto_is body number found label there is =
       | None ↦ None
     ]) there) ∙ is
 
--- the item of an index stands in the table, below the count
+-- the item at an index is in the table, below the count
 record StandsAt {A : Type 0} (table : List A) (range : Range) (index : ℕ) (one : A) : Type 0 where
   pub below : index < range.count
   pub there : slice_get table (range.first + index) ≡ Some one
@@ -73,7 +73,7 @@ module _
     (ok : ℕ → Type 0) (body : Body) (called : List Bool) (storage : Storage) (labels : List ℕ)
     (knows : Knows ok (site_of body) called) (differ : LabelsDiffer labels)
   where
-    -- the label that a statement binds where it stands
+    -- the label that a label statement binds
     label_binds :
         {bound label : ℕ} (number : StatementNumber) {facts : Facts} {last : Here} {list : List Item}
         → IsStatement (nodes_of body.tree.now) storage labels bound number.index (LabelStatement label)
@@ -130,7 +130,7 @@ module _
     list_binds label place (first ∷ places) wanted (AreMoreStatements {tree = tree} named is are) stand (generated.MoreStatements {list = list} {more = more} found done rest) low high =
         bound_further wanted list more (list_binds label (place + 1) (first ∷ places) wanted are stand rest low high)
 
-    -- so the labels of a list are among those that may be gone to, where what its code binds is
+    -- so the labels of a list have the property, if those that its code binds have it
     around_list :
         {bound first count : ℕ} {trees : TypedStatements} {here last : Here} {list : List Item}
         (around : List LabelsOf) (label : ℕ) (places : List ℕ)
@@ -173,7 +173,7 @@ module _
     goto_ok (statements.Iterate head range) around label form stay outer is = absurd (none-some label is)
     goto_ok (statements.Case choice range) around label form stay outer is = absurd (none-some label is)
 
-    -- the code of a statement whose planned steps do so
+    -- the code of a statement with planned steps that refer only to such labels
     carried :
         (number : StatementNumber) (found : Statement) {facts : Facts} {last : Here} {list : List Item}
         → statement body.tree.now number ≡ Some found
@@ -193,7 +193,7 @@ module _
         (planned_go facts first (λ label bound. own label (plan_bound ok body called label now bound))).goes
         own now
 
-    -- and that of a list whose statements do so where its labels are among those that may be gone to
+    -- the code of a list with statements that refer only to such labels, if its own labels have the property
     list_carried :
         {bound : ℕ} {trees : TypedStatements} {facts : Facts} {last : Here} {list : List Item} (range : Range)
         (around : List LabelsOf) (label : ℕ) (places : List ℕ)

@@ -1,4 +1,4 @@
--- No task but a jump by a condition has labels.
+-- No task but a jump on a condition has labels.
 use Rattle.measure_laws.proofs.Prelude.{ℕ, zero, suc, ◌+◌, ◌-◌, ◌%◌, Bool, true, false, [], ◌∷◌, Option, Some, None, ScalarType, Not, Negate, Low, High, Double, Expression, ExpressionForm, ExpressionNumber, Range, Static, Place, Reference, Subscript, Target, argument, place_number, source, low, Site, expression, scalar, known, memory, byte_form_steps, byte_function_steps, byte_of_two_steps, byte_steps, byte_unary_steps, called_byte_steps, embedded_steps, known_byte_steps, low_of_value_steps, argument_steps, arguments_steps, call_steps, last_argument_steps, pushed_argument_steps, value_task, both_effects_steps, effects_steps, form_effects_steps, reference_effects_steps, subscript_effects_steps, computed_word_steps, extended_byte_steps, word_form_steps, word_function_steps, word_of_two_steps, word_steps}
 use Rattle.trees.specs.declared.declaration.ScalarType.TheVariants as scalars
 use Rattle.treecode.specs.declared.expression.ExpressionForm.TheVariants as forms
@@ -49,7 +49,7 @@ embedded_free :
 unfolding embedded_steps
 embedded_free target value is_wanted pushed = joined (value_free (source target) value pushed) (free tt)
 
--- what is done beside a value
+-- the effects of expressions
 subscript_free : (index : Option Subscript) (pushed : ℕ) → AreFree (subscript_effects_steps index pushed)
 unfolding subscript_effects_steps
 subscript_free (Some subscript) pushed = free tt

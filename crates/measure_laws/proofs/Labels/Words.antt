@@ -1,4 +1,4 @@
--- Shifts of words, and operators whose value comes into HL, have no labels.
+-- Shifts of words, and operators with the result in HL, have no labels.
 use Rattle.measure_laws.proofs.Prelude.{ℕ, ◌+◌, ◌-◌, ◌%◌, ◌==◌, nat_le, nat_lt, Bool, true, false, [], ◌∷◌, if◌then◌else◌, Dad, Operation, Subtract, SubtractWithBorrow, And, ExclusiveOr, Or, Hl, Register, A, H, L, BinaryOperator, UnaryOperator, Not, Negate, ShiftFunction, ShiftLeft, ShiftRight, RotateLeft, RotateRight, ExpressionNumber, Place, Number, clear_a, copy, high, low, set, with_register, Site, is_free, known, number_of, fits_byte, power, PairOrder, LeftInHl, RightInHl, pair_order, Operands, Shifted, Simple, number_of_two, computed_count_steps, count_beside_word_steps, shifted_half_steps, quarter_steps, shifted_right_little_steps, word_by_number_steps, word_shift_steps, word_shifted_right_steps, and_with_number_steps, both_halves_steps, computed_logic_steps, difference_steps, division_steps, half_steps, half_through_a_steps, high_half_steps, is_of_bytes, left_word, logic_steps, logic_with_byte_steps, logic_with_number_steps, logic_with_simple_steps, paired_steps, product_order, product_word_steps, quotient_steps, remainder_steps, sum_steps, taken_from_number_steps, with_pair_steps, with_simple, with_word_steps, word_binary_steps, word_unary_steps}
 use Rattle.trees.specs.declared.expression.BinaryOperator.TheVariants as operators
 use Rattle.steps8080.specs.declared.step.Step.TheVariants as steps

@@ -1,4 +1,4 @@
--- What is written for steps goes to labels of some kind alone, where the steps do.
+-- The items of steps refer only to labels with a property, if the steps do.
 use Rattle.measure_laws.proofs.Prelude.{◌≡◌, inl, inr, ℕ, Bool, true, false, if◌then◌else◌, List, [], ◌∷◌, ◌++◌, Item, WordForm, Routine, Place, Number, Data, External, Facts, Part, Step, Task, word_item, Site, AreWritten, CallWritten, ChangeWritten, HoldsWritten, IsWritten, JumpWritten, MarkWritten, NoneWritten, PartWritten, PlainWritten, RoutineWritten, TestWritten, WordWritten, call_items, has_routine, knowing, label_of_routine, test_items, test_of_a, steps_of, task_steps, ItemGoes, ItemsBind, ItemsGo, StepsBind, StepsGo, TaskGoes}
 use Rattle.asm8080.specs.declared.item.Item.TheVariants as items
 use Rattle.treecode.specs.declared.place.Place.TheVariants.{Code}
@@ -70,7 +70,7 @@ part_go :
 unfolding task_steps
 part_go ok site part first to own = task_go ok site part.task part.pushed first to own
 
--- labels that steps bind are bound by what is written for them
+-- labels that steps bind are bound by their items
 pub steps_bound :
     (label : ℕ) {site : Site} {called : List Bool} {facts last : Facts} {planned : List Step} {list : List Item}
     → AreWritten site called facts planned list last

@@ -63,7 +63,7 @@ location_fits_by site (locations.Static place) pushed = fits tt (omega arith)
 location_fits_by site (locations.Frame variable offset) pushed =
     frame_word_fits site (locations.Frame variable offset) (distance site variable offset pushed) pushed
 
--- code planned at one site fits at another one of the same tree
+-- code that is planned at one site fits at another site of the same tree
 pub location_word_fits :
     {now : Site} {storage : Storage} (site : Site) (location : Location) (pushed : ℕ)
     → Fit now storage (location_word_steps site location pushed) 8
@@ -103,7 +103,7 @@ second_fits {site = site} second pushed is =
     (joined (113 + 128 * beside site second.index) 2 (product_fits second.index second.stride _ is)
     (fits tt (omega arith)) (omega arith)) (omega arith))
 
--- a subscript that weighs so much at most
+-- a subscript with at most this weight
 pub record IsIndexOf (site : Site) (storage : Storage) (limit : ℕ) (subscript : Subscript) : Type 0 where
   pub one : IsOperand site storage subscript.index
   pub small : 1 + beside site subscript.index ≤ limit
@@ -258,7 +258,7 @@ location_byte_fits {site = site} location pushed =
     (λ instruction is. fits tt (omega (arith, instruction_small instruction)))
     (λ none. location_byte_by location pushed))
 
--- the byte of a part of memory into A
+-- puts the byte of a part of memory into A
 pub byte_in_memory_fits :
     {site : Site} {storage : Storage} (reference : Reference) (pushed : ℕ)
     → IsPlaced site storage reference
@@ -296,7 +296,7 @@ byte_to_l_fits {site = site} location pushed =
     (λ instruction is. fits tt (omega (arith, instruction_small instruction)))
     (λ none. byte_to_l_by location pushed))
 
--- into HL, with zeros added
+-- puts it into HL, zero-extended
 pub extended_byte_in_memory_fits :
     {site : Site} {storage : Storage} (reference : Reference) (pushed : ℕ)
     → IsPlaced site storage reference
@@ -306,7 +306,7 @@ extended_byte_in_memory_fits {site = site} reference pushed is =
     (λ location there. joined 5 2 (byte_to_l_fits location pushed) (fits tt (omega arith)) (omega arith))
     (λ none. fits (is, tt) (omega arith))
 
--- the word of a part of memory into HL
+-- puts the word of a part of memory into HL
 pub word_in_memory_fits :
     {site : Site} {storage : Storage} (reference : Reference) (pushed : ℕ)
     → IsPlaced site storage reference

@@ -1,4 +1,4 @@
--- Values in A, but for calls and assignments.
+-- Values in A, except for calls and assignments.
 use Rattle.measure_laws.proofs.Prelude.{◌≡◌, ℕ, ◌+◌, ◌-◌, ◌*◌, ◌%◌, ◌/◌, ◌==◌, ◌≤◌, nat_le, Bool, true, false, ◌&&◌, ◌||◌, IfSome, List, [], ◌∷◌, ◌++◌, Option, Some, None, is_some, option_map, option_and_then, if◌then◌else◌, refl, ap, ◌∙◌, arith, false≢true, leb-true, leb-false, Storage, AccumulateImmediate, Cma, Dad, Dcr, Inr, Pop, Push, Rlc, Rrc, Of, Operation, Add, Subtract, And, ExclusiveOr, Or, Hl, A, L, Psw, StackBc, ScalarType, BinaryOperator, ShiftFunction, ShiftLeft, ShiftRight, RotateLeft, RotateRight, ExpressionNumber, Reference, Step, copy, high, low, with_register, Site, scalar, is_free, known, may_exchange, number_of, fits_byte, high_byte_in_memory, is_byte_in_register, low_number, operand_in_memory, power, power_of_two, byte_in_memory_steps, ByteForm, RightInMemory, LeftInMemory, LeftFree, RightFree, Pushed, Operands, Shifted, byte_number_steps, high_byte_steps, low_of_word_steps, by_number_steps, byte_routine, byte_shift_steps, byte_shifted_right_steps, count_in_memory_steps, low_byte_shifted_right_steps, middle_byte_steps, operands_steps, right_shift_steps, rotation_steps, shifted_left_steps, turned_right_steps, zero_steps, added_steps, byte_binary_steps, byte_operation_steps, commutes, form_after_right, form_from_register, form_of, form_with_left, form_without_memory, from_number_steps, immediate_steps, in_form_steps, number_of_two, product_byte_steps, quotient_byte_steps, remainder_byte_steps, with_e_steps, with_memory_steps, with_number_steps, with_stack_steps, Fit, HasTwo, beside, indices, more_for_byte, more_for_word, type_at}
 use Rattle.runtime8080.specs.declared.routine.Routine.TheVariants as routines
 use Rattle.trees.specs.declared.declaration.ScalarType.TheVariants as scalars
@@ -19,7 +19,7 @@ pub byte_number_fits : {site : Site} {storage : Storage} (number : ℕ) → Fit 
 unfolding byte_number_steps
 byte_number_fits number = by_test (number == 0) (fits tt (omega arith)) (fits tt (omega arith))
 
--- the low byte of an ADDRESS by way of HL; a BYTE never goes that way
+-- the low byte of an ADDRESS, through HL, which is never done for a BYTE
 pub low_of_word_fits :
     {site : Site} {storage : Storage} (number : ExpressionNumber) (pushed : ℕ)
     → IsOperand site storage number
@@ -238,7 +238,7 @@ from_number_fits {site = site} operation number value pushed is =
     (within (78 + 128 * beside site value) (with_number_fits operation value number pushed is) (omega arith))
     (after_part 3 is (after_plain 2 (added_fits ((number + 1) % 256)) (omega arith)) (omega arith))
 
--- an operand of a form that stays in memory is one of the two
+-- an operand that stays in memory is one of the two
 abbrev IsByteForm : Site → Storage → Operands → ByteForm → Type 0
 IsByteForm site storage operands (RightInMemory reference) = IsInMemory site storage operands.right reference
 IsByteForm site storage operands (LeftInMemory reference) = IsInMemory site storage operands.left reference
@@ -436,7 +436,7 @@ remainder_byte_fits {site = site} operands pushed one two =
     (λ none. joined (156 + 128 * beside site operands.left + 128 * beside site operands.right) 4
     (pair_fits operands.left operands.right true pushed one two) (fits tt (omega arith)) (omega arith))
 
--- what is not to be: a BYTE whose low byte would come by way of HL
+-- the case to exclude: a BYTE with a low byte that would be computed through HL
 pub record NeverTurns (site : Site) (number : ExpressionNumber) (operator : BinaryOperator) (operands : Operands) :
     Type 0 where
   pub product :

@@ -1,4 +1,4 @@
--- Calls, assignments, and what expressions do beside their values.
+-- Calls, assignments, and the effects of expressions.
 use Rattle.measure_laws.proofs.Prelude.{◌≡◌, ℕ, zero, suc, ◌+◌, ◌-◌, ◌*◌, ◌%◌, ◌<◌, ◌≤◌, nat_lt, Bool, true, false, List, [], ◌∷◌, ◌++◌, Option, Some, None, IfSome, slice_get, if◌then◌else◌, refl, sym, ap, subst, ◌∙◌, arith, lt-ltb, option_map_or, Storage, ScalarType, Byte, Address, TypedArguments, Expression, ExpressionForm, ExpressionNumber, Range, Reference, Subscript, Target, AreArguments, AreMore, AreNone, nodes_of, argument, source, Task, Site, expression, scalar, embedded_steps, argument_steps, arguments_steps, call_steps, last_argument_steps, push_of, pushed_argument_steps, value_task, both_effects_steps, effects_steps, form_effects_steps, reference_effects_steps, subscript_effects_steps, beside_at, weight_in_target, weight_of_given, weight_of_index, Fit, beside, given, indices, size_of_task}
 use Rattle.treecode.specs.declared.expression.ExpressionForm.TheVariants as forms
 use Rattle.steps8080.specs.declared.step.Step.TheVariants as steps
@@ -48,7 +48,7 @@ argument_fits {site = site} expression (suc others) pushed is =
     joined (76 + 128 * beside site expression) 1 (last_fits expression pushed is) (push_small (scalar site expression))
     (omega arith)
 
--- an argument of an index that stands in the table
+-- the argument at an index is in the table
 argument_is :
     (site : Site) (arguments : Range) (first others : ℕ) (number : ExpressionNumber)
     → first ≡ arguments.first + (arguments.count - suc others)
@@ -60,7 +60,7 @@ argument_is site arguments first others number place enough there =
     lt-ltb (arguments.count - suc others) arguments.count (omega (arith, enough)) in
     rw less (rw (sym place) there)
 
--- so many arguments, the last ones of a call
+-- the last `count` arguments of a call
 given_fit :
     (site : Site) (storage : Storage) (arguments : Range) {bound : ℕ} {trees : TypedArguments} (first count pushed : ℕ)
     → first + count ≡ arguments.first + arguments.count
@@ -161,7 +161,7 @@ form_effects_fit {site = site} number (forms.Call procedure arguments) pushed ha
     within (3 + 128 * given site arguments) (call_fits procedure arguments pushed has.are) (omega (arith, has.same))
 form_effects_fit number (forms.Input port) pushed has = fits tt (omega arith)
 
--- what an expression does beside its value
+-- the effects of an expression
 pub effects_fit :
     {site : Site} {storage : Storage} (number : ExpressionNumber) (pushed : ℕ)
     → IsOperand site storage number

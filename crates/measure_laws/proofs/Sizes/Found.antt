@@ -1,11 +1,11 @@
--- What code finds of trees: operands inside others, parts of memory, and addresses taken apart.
+-- Operands inside others, parts of memory, and split addresses, that code finds in trees.
 use Rattle.measure_laws.proofs.Prelude.{◌≡◌, ℕ, ◌+◌, ◌%◌, ◌≤◌, Bool, true, false, IfSome, Option, Some, None, option_and_then, option_map, if◌then◌else◌, refl, subst, arith, ScalarType, Low, High, Double, Storage, Expression, ExpressionForm, ExpressionNumber, Reference, IsPart, IsReference, nodes_of, inside, PartOf, TypedReference, Site, expression, form_in_memory, high_in_memory, high_of, keeps_of_address, memory, plain_in_memory, reference_after, same_low_byte, high_byte_in_memory, operand_in_memory, word_in_memory, word_of, beside, indices}
 use Rattle.trees.specs.declared.declaration.ScalarType.TheVariants as scalars
 use Rattle.treecode.specs.declared.expression.ExpressionForm.TheVariants as forms
 use Rattle.measure_laws.specs.internal.Parts.{HasParts, IsOperand, IsPlaced}
 use Rattle.measure_laws.proofs.Sizes.Trees.{has_parts}
 
--- what holds of whatever is found holds of this
+-- a property of every value that is found holds for this one
 pub of_found :
     {A : Type 0} {found : Option A} {x : A} (P : A → Type 0) → IfSome found P → found ≡ Some x → P x
 of_found P holds same = subst (λ entry. IfSome entry P) same holds
@@ -15,7 +15,7 @@ pub record IsInside (site : Site) (storage : Storage) (number other : Expression
   pub one : IsOperand site storage other
   pub small : beside site other ≤ beside site number
 
--- a part of memory whose subscripts weigh no more than an expression does beside 1
+-- a part of memory with subscripts that weigh at most as much as an expression beside 1
 pub record IsInMemory (site : Site) (storage : Storage) (number : ExpressionNumber) (reference : Reference) :
     Type 0 where
   pub place : IsPlaced site storage reference
@@ -52,7 +52,7 @@ same_low site storage number is = by (expression site number) refl
     by (Some one) there = inside_form site storage number one.form is (has_parts is there)
     by None there = record { one = is; small = omega arith }
 
--- what lies after a part of memory has the same subscripts
+-- a part of memory further on has the same subscripts
 pub placed_after :
     {site : Site} {storage : Storage} {reference : Reference} (distance : ℕ)
     → IsPlaced site storage reference
@@ -96,7 +96,7 @@ word_is_in_memory site storage number is = by (expression site number) refl
     by (Some one) there = word_form site storage number one.form one.traits.scalar (has_parts is there)
     by None there = tt
 
--- and its high byte
+-- its high byte
 pub high_is_in_memory :
     (site : Site) (storage : Storage) (number : ExpressionNumber)
     → IsOperand site storage number

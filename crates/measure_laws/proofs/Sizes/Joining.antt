@@ -1,4 +1,4 @@
--- Steps one after another, steps that are repeated, and steps that depend on what is found.
+-- Steps one after another, repeated steps, and steps that depend on an optional value.
 use Rattle.measure_laws.proofs.Prelude.{◌≡◌, ℕ, zero, suc, ◌+◌, ◌≤◌, Bool, true, false, if◌then◌else◌, List, [], ◌∷◌, ◌++◌, Option, Some, None, refl, arith, Storage, Instr, size_of_instruction, Part, Step, Task, repeat_steps, Site, size_of_steps, AreOfTrees, Fit, size_of_task}
 use Rattle.steps8080.specs.declared.step.Step.TheVariants as steps
 use Rattle.steps8080.specs.Step.{part}
@@ -10,7 +10,7 @@ pub fits :
     → Fit site storage planned size
 fits parts small = record { parts = parts; small = small }
 
--- more bytes do as well
+-- a greater bound holds too
 pub within :
     {site : Site} {storage : Storage} {planned : List Step} {size : ℕ} (less : ℕ)
     → Fit site storage planned less → less ≤ size → Fit site storage planned size
@@ -74,7 +74,7 @@ after_plain two after small = record {
   small = omega (arith, after.small, small);
 }
 
--- an instruction of one byte, so many times
+-- an instruction of one byte, `count` times
 pub repeated :
     {site : Site} {storage : Storage} (i : Instr) (count : ℕ)
     → size_of_instruction i ≡ 1
@@ -82,7 +82,7 @@ pub repeated :
 repeated i zero one = record { parts = tt; small = omega arith }
 repeated i (suc count) one = after_plain count (repeated i count one) (omega (arith, one))
 
--- either way of a test
+-- both branches of a test
 pub by_test :
     {site : Site} {storage : Storage} {first second : List Step} {size : ℕ} (b : Bool)
     → Fit site storage first size → Fit site storage second size
@@ -97,7 +97,7 @@ pub by_asking :
 by_asking true one two = one refl
 by_asking false one two = two refl
 
--- whatever is found
+-- whether a value is found or not
 pub by_finding :
     {A : Type 0} {site : Site} {storage : Storage} {some : A → List Step} {none : List Step} {size : ℕ}
     (found : Option A)

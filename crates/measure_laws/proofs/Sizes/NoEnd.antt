@@ -1,4 +1,5 @@
--- A BYTE whose low byte would come by way of HL, and so by way of itself again, is never written: what is written ends.
+-- A BYTE with a low byte that would be computed through HL, and so through itself again, is never written:
+-- written code is finite.
 use Rattle.measure_laws.proofs.Prelude.{◌≡◌, ℕ, Bool, List, [], ◌∷◌, ◌++◌, Option, Some, None, is_some, option_and_then, slice_get, refl, sym, ap, subst, ◌∙◌, false≢true, option_map_or, Item, ScalarType, Low, High, Double, Expression, ExpressionForm, ExpressionNumber, Reference, Facts, Part, Step, Task, extension_steps, Static, Place, location_address_steps, byte_in_memory_steps, extended_byte_in_memory_steps, byte_product_steps, low_byte_shifted_right_steps, Site, expression, form_in_memory, high_in_memory, known, memory, number, plain_in_memory, same_low_byte, low_number, power, byte_form_steps, byte_of_two_steps, byte_steps, known_byte_steps, byte_binary_steps, product_byte_steps, quotient_byte_steps, AreWritten, IsWritten, PartWritten, knowing, steps_of, task_steps, low_of_word_steps, computed_word_steps, extended_byte_steps, word_form_steps, word_steps, type_at}
 use Rattle.trees.specs.declared.declaration.ScalarType.TheVariants as scalars
 use Rattle.treecode.specs.declared.expression.ExpressionForm.TheVariants as forms
@@ -9,7 +10,7 @@ use Rattle.exprgen8080.specs.Emission.{Planned}
 use Rattle.measure_laws.proofs.Sizes.Trees.{type_found}
 use Rattle.measure_laws.proofs.Sizes.Values.{HasNoEnd, ListTurns, LocationTurns, NumberTurns, ProductTurns, QuotientTurns, Turns, ValueTurns}
 
--- what is asked of the tree does not depend on what is known of registers
+-- the queries about the tree do not depend on the facts about the registers
 known_same : (site : Site) (facts other : Facts) (of : ExpressionNumber)
     → known (knowing site facts) of ≡ known (knowing site other) of
 unfolding known expression
@@ -124,7 +125,7 @@ byte_turns site facts other number pushed is =
     ]) (expression_same site facts other number ∙ is.there)
     ∙ form_turns site facts other number is.found.form pushed is.turns
 
--- the task of the part that steps begin with, if they do with one
+-- the task of the part that steps begin with, if any
 abbrev first_task : List Step → Option Task
 first_task (steps.Part part ∷ others) = Some part.task
 first_task planned = None
@@ -228,7 +229,7 @@ mutual
   byte_is_written site called other number {facts = facts} {part = part} is (Planned label written) same =
       begins_with_word site called other number is written (byte_begins site facts other number part label is same)
 
--- where the code of its low byte is written, a BYTE has an end
+-- if the code of its low byte is written, the code of a BYTE is finite
 pub ends_if_written :
     (site : Site) (called : List Bool) {facts last : Facts} {list : List Item} (part : Part)
     (number : ExpressionNumber) (label : ℕ)

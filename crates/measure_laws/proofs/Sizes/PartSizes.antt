@@ -1,4 +1,4 @@
--- The code of a part of an expression is not too long for what it is of.
+-- The code of a part of an expression is not too long for its tree.
 use Rattle.measure_laws.proofs.Prelude.{◌≡◌, ℕ, ◌+◌, ◌*◌, ◌≤◌, Bool, List, [], ◌∷◌, refl, sym, arith, Storage, Item, size_of_items, TypedArguments, TypedExpression, TypedReference, TypedTarget, weight_of_arguments, weight_of_expression, weight_of_reference, weight_of_target, ExpressionNumber, Range, Reference, Target, AreArguments, IsExpression, IsReference, IsTarget, nodes_of, Facts, Part, Step, Task, Site, AreWritten, IsWritten, knowing, steps_of, task_steps, PartsFit, TaskFits, size_of_step, size_of_steps, beside_at, weight_in_target, weight_of_given, weight_of_indices, AreOfTrees, Fit, beside, given, indices, size_of_task}
 use Rattle.steps8080.specs.declared.step.Step.TheVariants as steps
 use Rattle.steps8080.specs.declared.step.Task.TheVariants as tasks
@@ -12,7 +12,7 @@ use Rattle.measure_laws.proofs.Sizes.Trees.{arguments_weigh, operand, reference_
 use Rattle.measure_laws.proofs.Sizes.Values.{byte_fits, word_fits}
 use Rattle.measure_laws.proofs.Sizes.Written.{TasksFit, part_written}
 
--- What is known of registers is no matter of trees.
+-- The facts about the registers do not matter for trees.
 tree_known : (site : Site) (storage : Storage) (facts : Facts) (task : Task)
     → IsOfTree site storage task → IsOfTree (knowing site facts) storage task
 tree_known site storage facts (tasks.Byte number) is = operand is.node
@@ -154,7 +154,7 @@ task_size site storage (tasks.Call procedure arguments) size small = λ bound tr
           (weighs_at (nodes_of site.tree.now) storage bound) (omega arith) node,
     )
 
--- the law that is handed over
+-- the law that is passed on
 pub part_size : (site : Site) (storage : Storage) (called : List Bool) → PartsFit site storage called
 part_size site storage called facts last part list written =
     task_size site storage part.task (size_of_items list)

@@ -1,4 +1,4 @@
--- Relations as values and as jumps, and jumps by conditions.
+-- Relations as values and as jumps, and jumps on conditions.
 use Rattle.measure_laws.proofs.Prelude.{◌≡◌, ℕ, ◌+◌, ◌*◌, ◌%◌, ◌/◌, ◌==◌, ◌≤◌, Bool, true, false, ◌&&◌, IfSome, List, [], ◌∷◌, ◌++◌, Option, Some, None, option_map, option_and_then, if◌then◌else◌, refl, arith, Storage, Condition, ScalarType, BinaryOperator, Not, Negate, Low, Double, Expression, ExpressionForm, ExpressionNumber, LabelNumber, label_of, Comparison, Inquiry, Between, WithNumber, NumberQuestion, Question, LeftBelow, RightBelow, Equal, Relation, Site, expression, is_quiet, agree, mirrored, question_of, relation_between, relation_by, relation_of, relation_of_form, relation_with_number, fits_byte, Answer, Setting, Junction, Shape, Known, SameAs, Opposite, Whatever, Joined, Other, Outcome, Words, PlaceAndHl, DeAndHl, branch_setting, branch_steps, equality_steps, is_odd, joined_steps, known_branch_steps, other_steps, outcome_branch_steps, relation_branch_steps, shape_of, shape_of_binary, shape_of_form, shape_of_junction, shape_steps, shape_with_number, carry_steps, inquiry_steps, outcome_value_steps, relation_outcome, relation_steps, relation_value_steps, value_setting, byte_relation_steps, word_relation_steps, equality_of_words, high_difference_steps, low_difference_steps, words_asked, words_compared, words_of, words_steps, Fit, HasTwo, beside}
 use Rattle.trees.specs.declared.declaration.ScalarType.TheVariants as scalars
 use Rattle.trees.specs.declared.expression.BinaryOperator.TheVariants as operators
@@ -16,7 +16,7 @@ use Rattle.measure_laws.proofs.Sizes.Joining.{after_part, after_plain, by_findin
 use Rattle.measure_laws.proofs.Sizes.Trees.{has_parts}
 use Rattle.measure_laws.proofs.Sizes.WordRelations.{word_number_fits, word_relation_fits, words_fit}
 
--- what is asked is asked of operands that weigh so much at most
+-- a question about operands with at most this weight
 abbrev pub IsAsked : Site → Storage → (limit : ℕ) → Inquiry → Type 0
 IsAsked site storage limit (Between comparison) =
     IsOperand site storage comparison.left × IsOperand site storage comparison.right
@@ -289,7 +289,7 @@ equality_fits {site = site} {storage = storage} comparison is_equal branch first
     jump_fits label (PlaceAndHl place) = fits tt (omega arith)
     jump_fits label DeAndHl = fits tt (omega arith)
 
--- two ADDRESSes that are asked to be equal are those that are compared
+-- two ADDRESSes that are tested for equality are those that are compared
 equality_is :
     (site : Site) (storage : Storage) (limit : ℕ) (inquiry : Inquiry)
     → IsAsked site storage limit inquiry
@@ -381,7 +381,7 @@ shape_fits {site = site} (Joined junction) condition branch first is has =
     (joined_fits junction branch first has.one has.two) (omega (arith, has.same))
 shape_fits Other condition branch first is has = other_fits condition branch first is
 
--- a jump by a condition
+-- a jump on a condition
 pub branch_fits :
     {site : Site} {storage : Storage} (condition : ExpressionNumber) (label : LabelNumber) (sense : Bool)
     (pushed first : ℕ)

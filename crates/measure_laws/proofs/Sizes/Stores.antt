@@ -1,4 +1,4 @@
--- Stores of a value that is in A or HL.
+-- Stores of a value in A or HL.
 use Rattle.measure_laws.proofs.Prelude.{◌≡◌, ℕ, ◌+◌, ◌*◌, ◌%◌, ◌≤◌, Bool, true, false, ◌&&◌, not, List, [], ◌∷◌, ◌++◌, Option, Some, None, if◌then◌else◌, arith, ScalarType, Byte, Address, Storage, Inx, MovToMemory, Mvi, M, Hl, A, D, L, StoreA, StoreHl, Location, Static, Frame, Reference, Target, Sent, Stored, IsSent, IsStored, IsTarget, nodes_of, TypedTarget, Step, copy, extension_steps, Site, Goal, Near, First, Second, address_beside_a_steps, address_beside_de_steps, byte_is_here_steps, goal_of, goal_steps, high_zero_steps, send_steps, store_a_at_steps, store_a_steps, store_extended_steps, store_hl_at_steps, store_low_byte_at_steps, store_low_byte_steps, store_near_steps, store_steps, store_word_steps, value_back_steps, word_is_here_steps, word_near, beside_at, weight_in_target, Fit, indices}
 use Rattle.steps8080.specs.declared.step.Step.TheVariants as steps
 use Rattle.steps8080.specs.Step.{plain}
@@ -212,7 +212,7 @@ placed_target :
 placed_target site storage from to reference {bound = bound} (IsStored {part = part} one) =
     record { bound = bound; part = part; node = one }
 
--- a value goes to a target
+-- stores a value in a target
 pub store_fits :
     {site : Site} {storage : Storage} (target : Target) (is_wanted : Bool) (pushed : ℕ)
     → IsAimed site storage target

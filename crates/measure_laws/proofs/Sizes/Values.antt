@@ -12,7 +12,7 @@ use Rattle.measure_laws.proofs.Sizes.Joining.{after_part, by_finding, fits, join
 use Rattle.measure_laws.proofs.Sizes.Trees.{has_parts, type_found}
 use Rattle.measure_laws.proofs.Sizes.Words.{word_binary_fits, word_shift_fits, word_unary_fits}
 
--- forms of a BYTE whose low byte would come by way of HL, and so by way of itself again
+-- forms of a BYTE with a low byte that would be computed through HL, and so through itself again
 pub data Turns (site : Site) : ExpressionForm → Type 0 where
   NumberTurns : {value : ℕ} → Turns site (forms.Number value)
   ListTurns : {offset : ℕ} → Turns site (forms.List offset)
@@ -25,7 +25,7 @@ pub data Turns (site : Site) : ExpressionForm → Type 0 where
       → power site right ≡ None
       → Turns site (forms.Binary operands operators.Divide left right)
 
--- a BYTE whose code has no end
+-- a BYTE with code that would be infinite
 pub record HasNoEnd (site : Site) (number : ExpressionNumber) : Type 0 where
   pub unknown : known site number ≡ None
   pub elsewhere : memory site number ≡ None

@@ -271,7 +271,7 @@ word_relation_fits {site = site} {storage = storage} comparison setting one two 
         within (86 + 128 * beside site apart.other) (with_place_fits apart comparison.question setting.pushed is.one)
         (omega (arith, is.small))
 
--- two ADDRESSes that come to where they can be compared
+-- two ADDRESSes that are put into places where they can be compared
 pub words_fit :
     {site : Site} {storage : Storage} (comparison : Comparison) (pushed : ℕ)
     → IsOperand site storage comparison.left → IsOperand site storage comparison.right

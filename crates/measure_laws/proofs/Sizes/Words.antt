@@ -1,4 +1,4 @@
--- Shifts of words, and operators whose value comes into HL.
+-- Shifts of words, and operators with the result in HL.
 use Rattle.measure_laws.proofs.Prelude.{◌≡◌, ℕ, ◌+◌, ◌-◌, ◌*◌, ◌%◌, ◌/◌, ◌==◌, ◌≤◌, nat_le, nat_lt, Bool, true, false, ◌&&◌, ◌||◌, IfSome, List, [], ◌∷◌, ◌++◌, Option, Some, None, if◌then◌else◌, refl, arith, leb-true, leb-false, Storage, Dad, Operation, Add, Subtract, SubtractWithBorrow, And, ExclusiveOr, Or, Compare, Hl, Register, A, H, L, BinaryOperator, UnaryOperator, Not, Negate, ShiftFunction, ShiftLeft, ShiftRight, RotateLeft, RotateRight, ExpressionNumber, Place, Number, Site, is_free, known, may_exchange, number_of, direct_word, fits_byte, is_word_in_hl, power, PairOrder, LeftInHl, RightInHl, addition_steps, pair_order, Operands, Shifted, Simple, number_of_two, computed_count_steps, count_beside_word_steps, shifted_half_steps, quarter_steps, shifted_right_little_steps, word_by_number_steps, word_shift_steps, word_shifted_right_steps, and_with_number_steps, both_halves_steps, computed_logic_steps, difference_steps, division_steps, exchanged_operand, first_and_simple, half_steps, half_through_a_steps, high_half_steps, is_of_bytes, left_word, logic_steps, logic_with_byte_steps, logic_with_number_steps, logic_with_simple_steps, paired_steps, product_order, product_word_steps, quotient_steps, remainder_steps, simple_operand, sum_steps, taken_from_number_steps, with_pair_steps, with_simple, with_word_steps, word_binary_steps, word_unary_steps, high_byte_steps, clear_a, copy, high, low, set, with_register, Fit, beside}
 use Rattle.trees.specs.declared.expression.BinaryOperator.TheVariants as operators
 use Rattle.exprgen8080.specs.declared.word_operators.Simple.TheVariants as simple
@@ -244,7 +244,7 @@ unfolding logic_with_number_steps
 logic_with_number_fits And value number pushed is = and_with_number_fits value number pushed is
 logic_with_number_fits operation value number pushed is = both_halves_fit operation value number pushed is
 
--- a byte that comes second
+-- a byte that is evaluated second
 abbrev IsSimple : Site → Storage → (limit : ℕ) → Simple → Type 0
 IsSimple site storage limit (simple.Byte byte) = IsOperand site storage byte × (beside site byte ≤ limit)
 IsSimple site storage limit (simple.Word place) = Unit {0}
@@ -277,7 +277,7 @@ exchanged_is site storage operands one = by (may_exchange site operands.left ope
     by true = simple_is site storage operands.left one
     by false = tt
 
--- what comes first, and what comes second
+-- the operand that is evaluated first, and the simple one
 record IsChosen (site : Site) (storage : Storage) (limit : ℕ) (chosen : ExpressionNumber × Simple) : Type 0 where
   pub one : IsOperand site storage chosen.0
   pub most : ℕ
@@ -437,7 +437,7 @@ word_binary_fits operators.Divide operands pushed one two = quotient_fits operan
 word_binary_fits operators.Modulo operands pushed one two = remainder_fits operands pushed one two
 word_binary_fits operator operands pushed one two = fits tt (omega arith)
 
--- an operator with one
+-- an operator with one operand
 pub word_unary_fits :
     {site : Site} {storage : Storage} (operator : UnaryOperator) → Fit site storage (word_unary_steps operator) 7
 unfolding word_unary_steps

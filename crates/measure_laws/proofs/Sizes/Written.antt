@@ -1,4 +1,4 @@
--- What is written for steps takes no more bytes than the steps do, where the code of each task does not.
+-- The items of steps take at most as many bytes as the steps, if the same holds for the code of each task.
 use Rattle.measure_laws.proofs.Prelude.{◌≡◌, ℕ, ◌+◌, ◌≤◌, Bool, true, false, List, [], ◌∷◌, ◌++◌, Option, Some, None, slice_get, if◌then◌else◌, arith, Storage, Item, size_of_items, ProcedureKind, TreeProcedure, Facts, Part, Step, Site, AreWritten, CallWritten, ChangeWritten, HoldsWritten, IsWritten, JumpWritten, MarkWritten, NoneWritten, PartWritten, PlainWritten, RoutineWritten, TestWritten, WordWritten, call_items, items_of_call, knowing, test_items, test_of_a, task_steps, size_of_steps, AreOfTrees, Fit, size_of_task}
 use Rattle.asm8080.specs.declared.item.Item.TheVariants as items
 use Rattle.treecode.specs.declared.procedure.ProcedureKind.TheVariants as kinds
@@ -33,7 +33,7 @@ items_joined (item ∷ first) others =
     items_joined first others in
     omega (arith, more)
 
--- the code of each task that is of a tree fits, if it is written at all
+-- the code of each task for a tree fits, if it is written at all
 abbrev pub TasksFit : Site → Storage → (called : List Bool) → Type 0
 TasksFit site storage called =
     (facts last : Facts) (part : Part) (list : List Item) (label : ℕ)

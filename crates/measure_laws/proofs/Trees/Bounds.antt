@@ -45,7 +45,7 @@ module _
           sum_by-cons typed_weight.weight_of_procedure heading headings,
         )
 
--- tree code weighs what its module weighs
+-- the weight of tree code is that of its module
 pub weight_is :
     (typed : TypedModule) (storage : Storage) (tree : TreeModule)
     → ParametersFit typed
@@ -61,7 +61,7 @@ weight_is typed storage tree parameters lowered =
           lowered.main.body,
     )
 
--- and its code bound is that of its module
+-- its code bound is that of its module
 pub bound_is :
     (typed : TypedModule) (storage : Storage) (tree : TreeModule)
     → ParametersFit typed

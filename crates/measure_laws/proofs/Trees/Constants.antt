@@ -108,7 +108,7 @@ object_takes starts object values before filled small =
       rest_size (size_of_object object) (sum_by bytes_of_value values) (omega (arith, same, filled)) small,
     )
 
--- the bytes that an object of the module has among the constants
+-- the bytes of an object of the module among the constants
 constant_object_takes :
     (starts : List Home) (object : TypedObject) (home : TypedHome) (before : List Content)
     → bytes_filled home ≤ size_of_object object
@@ -124,7 +124,7 @@ constant_object_takes starts object Elsewhere before filled small = omega arith
 constant_object_takes starts object Nowhere before filled small = omega arith
 constant_object_takes starts object (InFrame procedure) before filled small = omega arith
 
--- what stands among the constants has all its bytes there
+-- an object among the constants has all its bytes there
 abbrev IsWhole : (at : ℕ → Option TypedObject) → (number : ℕ) → Type 0
 IsWhole at number =
     (object : TypedObject) → at number ≡ Some object → bytes_in_constants object.home object ≡ size_of_object object

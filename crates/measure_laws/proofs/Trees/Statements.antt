@@ -1,11 +1,11 @@
--- What a body of tree code weighs is what its typed tree weighs.
+-- The weight of a body of tree code is that of its typed tree.
 use Rattle.measure_laws.proofs.Prelude.{◌≡◌, ℕ, zero, suc, ◌+◌, ◌≤◌, List, ◌∷◌, drop, length, take, Option, Some, slice_get, drop-cons, refl, ap, ◌∙◌, arith, sum_by, option_map_or, sum_by-cons, get_or_from_slice_get, slice_get_within, type_of, TypedArguments, TypedElse, TypedExpression, TypedIteration, TypedList, TypedStatement, TypedStatements, TypedTarget, Storage, Expression, ExpressionNumber, Range, Iteration, StatementNumber, AreArguments, AreMoreStatements, AreNoStatements, AreStatements, AreTargets, IsAssignment, IsCall, IsCase, IsDo, IsElse, IsExpressionIn, IsGoto, IsHalt, IsIf, IsIterate, IsIteration, IsLabel, IsList, IsListOf, IsMove, IsNoElse, IsNode, IsNoValue, IsNull, IsOptional, IsReturn, IsSomeElse, IsSomeValue, IsStatement, IsStatementForm, IsStatementNode, IsWhile, MoreTargets, NoTargets, Nodes, no_traits, traits_at, beside_at, weight_of_body, weight_of_range, weight_within}
 use Rattle.typed_trees.specs.Weight as typed
 use Rattle.treecode.specs.declared.statement.Statement.{Statement}
 use Rattle.measure_laws.proofs.Sizes.Trees.{arguments_weigh, target_weighs, weighs_at}
 use Rattle.measure_laws.specs.Bounds.{weight_of_arguments, weight_of_expression, weight_of_iteration, weight_of_statement, weight_of_target}
 
--- the entries of a range of a table weigh what its first one does, and those after it
+-- the weight of the entries of a range of a table is that of the first one plus that of the others
 entries_weigh :
     {A : Type 0} (weight : A → ℕ) (table : List A) (first others : ℕ) (entry : A)
     → slice_get table first ≡ Some entry
@@ -80,7 +80,7 @@ module _ (nodes : Nodes) (storage : Storage) where
       )
 
   module _ (labels : List ℕ) where
-    -- this is what the statements of numbers below a limit weigh
+    -- this is the weight of the statements with numbers below a limit
     abbrev Weighs : (limit : ℕ) → (weight : ℕ → ℕ) → Type 0
     Weighs limit weight =
         (bound number : ℕ) (tree : TypedStatement) → bound ≤ limit

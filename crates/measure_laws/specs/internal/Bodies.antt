@@ -1,4 +1,4 @@
--- Code of statements that finds room on the stack, wherever it stands.
+-- Code of statements that finds room on the stack, wherever it is placed.
 use Rattle.std.specs.Prelude.{ℕ, Bool, List, Option}
 use Rattle.asm8080.specs.declared.item.Item.{Item}
 use Rattle.treecode.specs.declared.lists.Range.{Range}
@@ -10,7 +10,7 @@ use Rattle.codegen8080.specs.declared.meeting.Here.{Here}
 use Rattle.codegen8080.specs.Generated.{AreCarriedOut, IsCarriedOut, IsListCarriedOut}
 use Rattle.measure_laws.specs.Heights.{FindsRoom, PushesAtMost}
 
--- planned steps: so many bytes are free before their code, and so many after it
+-- planned steps, with `free` bytes free before their code, and `after` bytes after it
 pub record StepsRun
     (body : Body) (called : List Bool) (level free : ℕ) (planned : List Planned) (after : ℕ) : Type 0 where
   pub room :
@@ -18,7 +18,7 @@ pub record StepsRun
       → AreCarriedOut body called here waiting planned list last
       → FindsRoom body.tree.now level free list after
 
--- a statement, and a list of such
+-- a statement, and a list of statements
 pub record StatementRuns (body : Body) (called : List Bool) (level : ℕ) (number : StatementNumber) :
     Type 0 where
   pub room :

@@ -1,4 +1,4 @@
--- What the code of expressions, statements and bodies pushes at most, by their heights and charges.
+-- The bytes that the code of expressions, statements and bodies pushes at most, by their heights and charges.
 use Rattle.std.specs.Prelude.{◌≡◌, ℕ, ◌+◌, ◌-◌, ◌*◌, Bool, List, ◌++◌, Option, Some, slice_get}
 use Rattle.trees.specs.declared.declaration.ScalarType.{ScalarType}
 use Rattle.typed_trees.specs.Charge.{charge_of, count_of_arguments, height_of, height_of_arguments, height_of_list, height_of_reference, height_of_statement, height_of_target}
@@ -19,13 +19,13 @@ use Rattle.statements8080.specs.declared.body.Body.{Body}
 use Rattle.codegen8080.specs.Modules.{IsMainCode, IsProcedureCode}
 use Rattle.measure_laws.specs.Heights.{PushesAtMost}
 
--- what a part of a body stands in: its typed module, where that has its storage, and its procedure
+-- the setting of a part of a body: its typed module, the storage of that module, and the procedure
 pub record Setting : Type 0 where
   pub typed : TypedModule
   pub storage : Storage
   pub within : Within
 
--- the code of the expression of a number: two bytes for each level of its height
+-- the code of the expression with this number: two bytes for each level of its height
 abbrev pub ExpressionPushes : TreeModule → Setting → (number : ℕ) → List Item → Type 0
 ExpressionPushes tree setting number list =
     (bound : ℕ) (expression : TypedExpression)
@@ -33,7 +33,7 @@ ExpressionPushes tree setting number list =
     → TypesHold setting.typed setting.within expression
     → PushesAtMost tree (2 * height_of expression) list
 
--- that of a task, whichever tree it is of; a store may push its value beside
+-- the code of a task, whichever tree it is for; a store may push its value too
 abbrev pub TaskPushes : TreeModule → Setting → Task → List Item → Type 0
 TaskPushes tree setting (tasks.Byte number) list = ExpressionPushes tree setting number.index list
 TaskPushes tree setting (tasks.Word number) list = ExpressionPushes tree setting number.index list
@@ -57,7 +57,7 @@ TaskPushes tree setting (tasks.Call procedure arguments) list =
     → TypesHoldInArguments setting.typed setting.within trees
     → PushesAtMost tree (2 * (1 + count_of_arguments trees + height_of_arguments trees)) list
 
--- the code of a statement, and of a list of such: two bytes for each level of its height, and two more
+-- the code of a statement, and of a list of statements: two bytes for each level of its height, and two more
 abbrev pub StatementPushes : Body → Setting → StatementNumber → List Item → Type 0
 StatementPushes body setting number list =
     (labels : List ℕ) (bound : ℕ) (statement : TypedStatement)
@@ -72,9 +72,9 @@ ListPushes body setting range list =
     → TypesHoldInList setting.typed setting.within statements
     → PushesAtMost body.tree.now (2 + 2 * height_of_list statements) list
 
--- The code of each body of a module pushes at most what the charge of its procedure leaves beside what the call has on
--- the stack then, which is at most the return address, a word for each parameter, and the variables of a frame. The
--- main program has none of these. How a procedure begins is not counted.
+-- The code of each body of a module pushes at most the charge of its procedure minus what the call has on the
+-- stack then. That is at most the return address, a word for each parameter, and the variables of a frame.
+-- The main program has none of these. The entry of a procedure is not counted.
 pub record PushesWithinCharges (typed : TypedModule) (tree : TreeModule) : Type 0 where
   pub procedures :
       (called : List Bool) (number : ℕ) (procedure : TreeProcedure) (heading : TypedProcedure)

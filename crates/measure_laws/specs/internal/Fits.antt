@@ -16,19 +16,19 @@ use Rattle.codegen8080.specs.declared.meeting.Here.{Here}
 use Rattle.codegen8080.specs.Generated.{AreCarriedOut, IsCarriedOut, IsListCarriedOut}
 use Rattle.measure_laws.specs.internal.Sizes.{PartsFit, bytes_for}
 
--- the code of planned steps takes at most so many bytes, wherever it stands
+-- the code of planned steps takes at most `most` bytes, wherever it is placed
 pub record StepsFit (body : Body) (called : List Bool) (steps : List Planned) (most : ℕ) : Type 0 where
   pub fits :
       {here last : Here} {waiting : Option Facts} {list : List Item}
       → AreCarriedOut body called here waiting steps list last
       → size_of_items list ≤ most
 
--- how many bytes of those for its weight the code of a statement leaves free: for an entry in the table of a DO
--- CASE, and for the jump after it
+-- the number of bytes that the code of a statement leaves free, of those for its weight: for an entry in the
+-- table of a DO CASE, and for the jump after it
 abbrev pub SPARED_BY_STATEMENT : ℕ
 SPARED_BY_STATEMENT = 8
 
--- a label weighs nothing, and leaves none
+-- a label weighs nothing, and leaves no byte free
 abbrev pub spared_by : TypedStatement → ℕ
 spared_by (LabelStatement label) = 0
 spared_by statement = SPARED_BY_STATEMENT
@@ -41,14 +41,14 @@ pub record StatementFits
       → IsCarriedOut body called before number list after
       → size_of_items list + spared_by tree ≤ bytes_for (weight_of_statement tree)
 
--- and that of a list
+-- the code of a list is not too long for its tree
 pub record ListFits (body : Body) (called : List Bool) (range : Range) (tree : TypedList) : Type 0 where
   pub fits :
       {before : Facts} {after : Here} {list : List Item}
       → IsListCarriedOut body called before range list after
       → size_of_items list ≤ bytes_for (weight_of_list tree)
 
--- the code of the parts of expressions of a module is not too long for what it is of, wherever it stands
+-- the code of the parts of expressions of a module is not too long for its tree, wherever it is placed
 abbrev pub AllPartsFit : TreeModule → Storage → Type 0
 AllPartsFit tree storage =
     (site : Site) (called : List Bool) → site.tree.now ≡ tree → PartsFit site storage called

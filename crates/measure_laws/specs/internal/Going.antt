@@ -1,4 +1,4 @@
--- Planned steps that find room on the stack: so many bytes are free before them, and so many after them.
+-- Planned steps that find room on the stack, with `free` bytes free before them and `after` bytes after them.
 use Rattle.std.specs.Prelude.{◌≡◌, ℕ, ◌+◌, ◌-◌, ◌*◌, ◌≤◌, List, [], ◌∷◌, length, slice_get, Some}
 use Rattle.isa8080.specs.declared.instr.Instr.{Instr}
 use Rattle.isa8080.specs.declared.instr.Instr.TheVariants as instructions
@@ -25,8 +25,8 @@ use Rattle.steps8080.specs.declared.step.Task.TheVariants as tasks
 use Rattle.steps8080.specs.declared.sites.site.Site.{Site}
 use Rattle.measure_laws.specs.Heights.{taken_by}
 
--- what the tree code of a body is made of: its typed module, where its storage lies, and where the body stands; each
--- procedure takes as many arguments as it has types of parameters
+-- the source of the tree code of a body: its typed module, the storage of that module, and the place of the
+-- body in it; each procedure takes as many arguments as it has parameter types
 pub record Source (tree : TreeModule) : Type 0 where
   pub typed : TypedModule
   pub storage : Storage
@@ -36,7 +36,7 @@ pub record Source (tree : TreeModule) : Type 0 where
       → slice_get typed.procedures procedure ≡ Some heading
       → taken_by tree procedure ≡ 2 * (length heading.parameter_types - 1)
 
--- the expression of a number is a tree that needs no more bytes than are free
+-- the expression with this number is a tree that needs no more bytes than are free
 pub record IsOperand (tree : TreeModule) (source : Source tree) (free : ℕ) (number : ExpressionNumber) :
     Type 0 where
   pub bound : ℕ
@@ -45,7 +45,7 @@ pub record IsOperand (tree : TreeModule) (source : Source tree) (free : ℕ) (nu
   pub types : TypesHold source.typed source.within expression
   pub room : 2 * height_of expression ≤ free
 
--- and one that a word may be pushed before
+-- the same, with a word pushed before
 pub record IsBelow (tree : TreeModule) (source : Source tree) (free : ℕ) (number : ExpressionNumber) :
     Type 0 where
   pub bound : ℕ
@@ -68,7 +68,7 @@ abbrev pub AimHolds : TypedModule → Within → TypedTarget → Type 0
 AimHolds typed within (StoredIn from to reference) = TypesHoldInReference typed within reference
 AimHolds typed within (SentTo from port) = Unit {0}
 
--- a target, before whose address a word may be pushed
+-- a target, with a word that may be pushed before its address is computed
 pub record IsAimed (tree : TreeModule) (source : Source tree) (free : ℕ) (target : Target) : Type 0 where
   pub bound : ℕ
   pub to : TypedTarget
@@ -76,7 +76,7 @@ pub record IsAimed (tree : TreeModule) (source : Source tree) (free : ℕ) (targ
   pub types : AimHolds source.typed source.within to
   pub room : 2 + 2 * height_of_target to ≤ free
 
--- the arguments of a call, of which the procedure takes as many as there are
+-- the arguments of a call, as many as the procedure takes
 pub record AreGiven
     (tree : TreeModule) (source : Source tree) (free procedure : ℕ) (arguments : Range) : Type 0 where
   pub bound : ℕ
@@ -86,7 +86,7 @@ pub record AreGiven
   pub takes : taken_by tree procedure ≡ 2 * (arguments.count - 1)
   pub room : 2 * (1 + arguments.count + height_of_arguments trees) ≤ free
 
--- a task is of a tree that needs no more bytes than are free; only a branch jumps, and stands at the level
+-- a task is for a tree that needs no more bytes than are free; only a branch jumps, and it is at the level
 abbrev pub IsOfTree : (tree : TreeModule) → Source tree → (level free : ℕ) → Task → Type 0
 IsOfTree tree source level free (tasks.Byte number) = IsOperand tree source free number
 IsOfTree tree source level free (tasks.Word number) = IsOperand tree source free number
@@ -98,7 +98,7 @@ IsOfTree tree source level free (tasks.Store target is_wanted) = IsAimed tree so
 IsOfTree tree source level free (tasks.Call procedure arguments) =
     AreGiven tree source free procedure arguments
 
--- the parts of the tree of a number, by its form
+-- the parts of the tree with this number, by its form
 abbrev pub HasParts : (tree : TreeModule) → Source tree → (free : ℕ) → ExpressionForm → Type 0
 HasParts tree source free (forms.Number value) = Unit {0}
 HasParts tree source free (forms.Value reference) = IsPlaced tree source free reference
@@ -116,7 +116,7 @@ HasParts tree source free (forms.Shift function value count) =
     IsBelow tree source free value × IsBelow tree source free count
 HasParts tree source free (forms.Input port) = Unit {0}
 
--- what an instruction leaves free of so many bytes is enough for what follows
+-- the bytes that an instruction leaves of `free` are enough for the rest
 abbrev pub GoesOn : (level free : ℕ) → Instr → (Rest : ℕ → Type 0) → Type 0
 GoesOn level free (instructions.Push pair) Rest = (2 ≤ free) × Rest (free - 2)
 GoesOn level free (instructions.Pop pair) Rest = Rest (free + 2)
@@ -135,7 +135,7 @@ GoesOn level free (instructions.Rst number) Rest = ⊥
 GoesOn level free instructions.Sphl Rest = ⊥
 GoesOn level free instruction Rest = Rest free
 
--- so does one with a word, and one with a label
+-- the same for an instruction with a word, and for one with a label
 abbrev pub GoesOnWithWord : (free : ℕ) → WordForm → (Rest : ℕ → Type 0) → Type 0
 GoesOnWithWord free (word_forms.LoadPair Sp) Rest = ⊥
 GoesOnWithWord free word_forms.Jump Rest = ⊥
@@ -152,7 +152,7 @@ GoesOnWithLabel level free word_forms.CallTo Rest = ⊥
 GoesOnWithLabel level free (word_forms.CallWhere condition) Rest = ⊥
 GoesOnWithLabel level free form Rest = Rest free
 
--- steps find room, each part as its tree says
+-- steps find room, each part according to its tree
 abbrev pub Go : (tree : TreeModule) → Source tree → (level free : ℕ) → List Step → (after : ℕ) → Type 0
 Go tree source level free [] after = free ≡ after
 Go tree source level free (steps.Plain i ∷ others) after =

@@ -1,11 +1,11 @@
--- The labels of items: those that they go to, and those that they bind.
+-- The labels of items: those that they refer to, and those that they bind.
 use Rattle.std.specs.Prelude.{◌≡◌, ◌⊎◌, ℕ, List, [], ◌∷◌}
 use Rattle.asm8080.specs.declared.item.Item.{Item}
 use Rattle.asm8080.specs.declared.item.Item.TheVariants as items
 use Rattle.asm8080.specs.declared.item.Reference.{Reference}
 use Rattle.asm8080.specs.declared.item.Reference.TheVariants.{AtLabel, AtTarget, AtNumber}
 
--- a reference is to a label of these, or to none
+-- a reference is to one of these labels, or to no label
 abbrev pub ReferenceGoes : (ok : ℕ → Type 0) → Reference → Type 0
 ReferenceGoes ok (AtLabel label) = ok label
 ReferenceGoes ok (AtTarget target offset) = Unit {0}
@@ -19,7 +19,7 @@ ItemGoes ok (items.Byte value) = Unit {0}
 ItemGoes ok (items.Gap count) = Unit {0}
 ItemGoes ok (items.Mark label) = Unit {0}
 
--- items refer to labels of these alone
+-- items refer only to these labels
 abbrev pub ItemsGo : (ok : ℕ → Type 0) → List Item → Type 0
 ItemsGo ok [] = Unit {0}
 ItemsGo ok (item ∷ others) = ItemGoes ok item × ItemsGo ok others

@@ -14,6 +14,6 @@ HasItsPlace tree called list label =
     × (has_routine called routine ≡ true)
     × ((module_label_of_routine tree routine).index ≡ label))
 
--- each label that items of a module go to has its place in them, or is that of a routine that is called
+-- each label that items of a module refer to has its place in them, or is that of a routine that is called
 abbrev pub LabelsHavePlaces : TreeModule → (called : List Bool) → List Item → Type 0
 LabelsHavePlaces tree called list = ItemsGo (HasItsPlace tree called list) list

@@ -1,4 +1,4 @@
--- How many bytes what the nodes of tree code weigh allows the code of a task at a site.
+-- The number of bytes that the weights of the nodes of tree code allow for the code of a task at a site.
 use Rattle.std.specs.Prelude.{◌≡◌, ℕ, ◌+◌, ◌*◌, ◌≤◌, List, [], ◌∷◌}
 use Rattle.trees.specs.declared.declaration.ScalarType.{ScalarType}
 use Rattle.trees.specs.declared.declaration.ScalarType.TheVariants as scalars
@@ -21,7 +21,7 @@ use Rattle.steps8080.specs.declared.sites.site.Site.{Site}
 use Rattle.measure_laws.specs.Weights.{weight_of_indices, weight_in_target, weight_of_given, beside_at}
 use Rattle.measure_laws.specs.internal.Sizes.{size_of_steps}
 
--- what an expression weighs beside 1, at a site; the subscripts of a reference; and arguments
+-- the weight of an expression beside 1, at a site; that of the subscripts of a reference; that of arguments
 abbrev pub beside : Site → ExpressionNumber → ℕ
 beside site number = beside_at (nodes_of site.tree.now) number.index
 
@@ -36,7 +36,7 @@ given site arguments =
 abbrev pub type_at : Site → ExpressionNumber → ScalarType
 type_at site number = (traits_at (nodes_of site.tree.now) number).scalar
 
--- A value that comes to its register by way of the other one takes some bytes more.
+-- A value that is moved to its register from the other one takes more bytes.
 abbrev pub more_for_byte : ScalarType → ℕ
 more_for_byte scalars.Byte = 0
 more_for_byte scalars.Address = 4
@@ -45,7 +45,7 @@ abbrev pub more_for_word : ScalarType → ℕ
 more_for_word scalars.Byte = 4
 more_for_word scalars.Address = 0
 
--- how many bytes the code of a task takes at most
+-- the greatest size of the code of a task in bytes
 abbrev pub size_of_task : Site → Task → ℕ
 size_of_task site (tasks.Byte number) = 72 + more_for_byte (type_at site number) + 128 * beside site number
 size_of_task site (tasks.Word number) = 72 + more_for_word (type_at site number) + 128 * beside site number
@@ -56,7 +56,7 @@ size_of_task site (tasks.Store target is_wanted) =
     64 + 128 * weight_in_target (beside_at (nodes_of site.tree.now)) target
 size_of_task site (tasks.Call procedure arguments) = 3 + 128 * given site arguments
 
--- the expression of a number is a tree
+-- the expression with this number is a tree
 pub record IsOperand (site : Site) (storage : Storage) (number : ExpressionNumber) : Type 0 where
   pub bound : ℕ
   pub tree : TypedExpression
@@ -64,7 +64,7 @@ pub record IsOperand (site : Site) (storage : Storage) (number : ExpressionNumbe
   pub byte_small : more_for_byte (type_at site number) ≤ 4
   pub word_small : more_for_word (type_at site number) ≤ 4
 
--- and a part of an object, a target, and arguments
+-- the same for a part of an object, a target, and arguments
 pub record IsPlaced (site : Site) (storage : Storage) (reference : Reference) : Type 0 where
   pub bound : ℕ
   pub part : TypedReference
@@ -80,7 +80,7 @@ pub record AreGiven (site : Site) (storage : Storage) (arguments : Range) : Type
   pub trees : TypedArguments
   pub node : AreArguments (nodes_of site.tree.now) storage bound arguments.first arguments.count trees
 
--- a task is of a tree
+-- a task is for a tree
 abbrev pub IsOfTree : Site → Storage → Task → Type 0
 IsOfTree site storage (tasks.Byte number) = IsOperand site storage number
 IsOfTree site storage (tasks.Word number) = IsOperand site storage number
@@ -90,7 +90,7 @@ IsOfTree site storage (tasks.Address reference) = IsPlaced site storage referenc
 IsOfTree site storage (tasks.Store target is_wanted) = IsAimed site storage target
 IsOfTree site storage (tasks.Call procedure arguments) = AreGiven site storage arguments
 
--- the parts of the tree of a number, and what they weigh
+-- the parts of the tree with this number, and their weights
 pub record HasOne (site : Site) (storage : Storage) (number inner : ExpressionNumber) : Type 0 where
   pub one : IsOperand site storage inner
   pub same : beside site number ≡ 1 + beside site inner
@@ -131,14 +131,14 @@ HasParts site storage number (forms.Function function operand) = HasOne site sto
 HasParts site storage number (forms.Shift function value count) = HasTwo site storage number value count
 HasParts site storage number (forms.Input port) = Unit {0}
 
--- each part of steps is of a tree
+-- each part of steps is for a tree
 abbrev pub AreOfTrees : Site → Storage → List Step → Type 0
 AreOfTrees site storage [] = Unit {0}
 AreOfTrees site storage (steps.Part part ∷ others) =
     IsOfTree site storage part.task × AreOfTrees site storage others
 AreOfTrees site storage (step ∷ others) = AreOfTrees site storage others
 
--- steps whose parts are of trees, with so many bytes at most
+-- steps with parts that are for trees, with at most `size` bytes
 pub record Fit (site : Site) (storage : Storage) (planned : List Step) (size : ℕ) : Type 0 where
   pub parts : AreOfTrees site storage planned
   pub small : size_of_steps (size_of_task site) planned ≤ size

@@ -1,4 +1,4 @@
--- The labels of planned steps: those that they go to, and those that they bind.
+-- The labels of planned steps: those that they refer to, and those that they bind.
 use Rattle.std.specs.Prelude.{◌≡◌, ◌⊎◌, ℕ, Bool, List, [], ◌∷◌, Some}
 use Rattle.asm8080.specs.declared.item.Item.{Item}
 use Rattle.treecode.specs.declared.lists.Range.{Range}
@@ -16,7 +16,7 @@ use Rattle.codegen8080.specs.declared.meeting.Here.{Here}
 use Rattle.codegen8080.specs.Generated.{IsCarriedOut, IsListCarriedOut}
 use Rattle.measure_laws.specs.internal.Items.{ItemsBind, ItemsGo}
 
--- a task goes to a label of these, if it is a jump by a condition, and something is true of what follows it
+-- a task refers to one of these labels, if it is a jump on a condition, and `others` holds
 abbrev pub TaskThen : (ok : ℕ → Type 0) → Task → Type 0 → Type 0
 TaskThen ok (tasks.Branch condition label sense) others = ok label.index × others
 TaskThen ok (tasks.Byte number) others = others
@@ -26,7 +26,7 @@ TaskThen ok (tasks.Address reference) others = others
 TaskThen ok (tasks.Store target is_wanted) others = others
 TaskThen ok (tasks.Call procedure arguments) others = others
 
--- planned steps go to labels of these alone; the statements and the lists in them are of some kind
+-- planned steps refer only to these labels; the statements and the lists in them satisfy a condition
 abbrev pub PlanGoes :
     (ok : ℕ → Type 0) → (statement : StatementNumber → Type 0) → (list : Range → Type 0) → List Planned → Type 0
 PlanGoes ok statement list [] = Unit {0}
@@ -66,8 +66,8 @@ abbrev pub PlanBinds : (label : ℕ) → List Planned → Type 0
 PlanBinds label [] = ⊥
 PlanBinds label (step ∷ others) = PlannedBinds label step ⊎ PlanBinds label others
 
--- The code of a statement goes to labels of these, where those are among them that it binds; so does the jump that stands for
--- it where it is a GOTO.
+-- The code of a statement refers only to these labels, if those that it binds are among them; so does the
+-- jump that replaces it, if it is a GOTO.
 pub record StatementGoes (ok : ℕ → Type 0) (body : Body) (called : List Bool) (number : StatementNumber) : Type 0 where
   pub goes :
       {facts : Facts} {last : Here} {list : List Item}
@@ -76,7 +76,7 @@ pub record StatementGoes (ok : ℕ → Type 0) (body : Body) (called : List Bool
       → ItemsGo ok list
   pub goto : (label : LabelNumber) → goto_label body number ≡ Some label → ok label.index
 
--- and so does that of a list
+-- the same for a list
 pub record ListGoes (ok : ℕ → Type 0) (body : Body) (called : List Bool) (range : Range) : Type 0 where
   pub goes :
       {facts : Facts} {last : Here} {list : List Item}

@@ -1,13 +1,14 @@
--- How many bytes the code of a part of an expression takes, by the weight of the typed tree that it is of.
+-- The size of the code of a part of an expression in bytes, by the weight of its typed tree.
 --
--- No form passes 128 bytes for a weight of 1. Beside the code of their parts the forms with the most bytes take at most:
---   * an address with two computed subscripts of a BASED object: 91, of which 74 are two products with numbers, 37 each,
---     3 keep the first subscript, and 14 add the base. Each of its subscripts is an expression, whose code spares 48 of
---     its 128 bytes and more; so 32 are enough for the address itself. One without subscripts takes 12;
+-- No form exceeds 128 bytes for a weight of 1. Beside the code of their parts, the largest forms take at
+-- most:
+--   * an address with two computed subscripts of a BASED object: 91. The two products with numbers take 37 each,
+--     3 keep the first subscript, and 14 add the base. Each subscript is an expression with code that leaves at least 48
+--     of its 128 bytes free; so 32 are enough for the address itself. One without subscripts takes 12;
 --   * a product with a number: 37;
---   * a jump where two ADDRESSes are equal: 18; a word shifted to the right by 2: 14;
+--   * a jump if two ADDRESSes are equal: 18; a word shifted right by 2: 14;
 --   * an operator on two ADDRESSes by halves: 10;
---   * a store at an address that is computed: 7;
+--   * a store at a computed address: 7;
 --   * a call: 3, and 1 for each argument but the last.
 use Rattle.std.specs.Prelude.{ℕ, ◌+◌, ◌*◌, ◌≤◌, Bool, List, [], ◌∷◌}
 use Rattle.typed_trees.specs.declared.limits.TheConstants.{CODE_BYTES_FOR_WEIGHT}
@@ -32,11 +33,11 @@ use Rattle.exprgen8080.specs.Emission.{IsWritten}
 abbrev pub bytes_for : (weight : ℕ) → ℕ
 bytes_for weight = CODE_BYTES_FOR_WEIGHT * weight
 
--- how many of these the code of an expression leaves free, whatever is done with its value
+-- the number of these bytes that the code of an expression leaves free, whatever is done with its value
 abbrev pub SPARED_BY_EXPRESSION : ℕ
 SPARED_BY_EXPRESSION = 48
 
--- and that of a store
+-- the same for a store
 abbrev pub SPARED_BY_TARGET : ℕ
 SPARED_BY_TARGET = 64
 
@@ -48,14 +49,14 @@ BYTES_OF_ADDRESS = 32
 abbrev pub BYTES_OF_CALL : ℕ
 BYTES_OF_CALL = 3
 
--- code of so many bytes is not too long for the expression of a number, whichever tree it is
+-- code of `size` bytes is not too long for the expression with this number, whichever tree it is
 abbrev pub ExpressionFits : Nodes → Storage → (number size : ℕ) → Type 0
 ExpressionFits nodes storage number size =
     (bound : ℕ) (tree : TypedExpression)
     → IsExpression nodes storage bound number tree
     → size + SPARED_BY_EXPRESSION ≤ bytes_for (weight_of_expression tree)
 
--- code of so many bytes is not too long for a task, whichever tree it is of
+-- code of `size` bytes is not too long for a task, whichever tree it is for
 abbrev pub TaskFits : Nodes → Storage → Task → (size : ℕ) → Type 0
 TaskFits nodes storage (tasks.Byte number) size = ExpressionFits nodes storage number.index size
 TaskFits nodes storage (tasks.Word number) size = ExpressionFits nodes storage number.index size
@@ -75,15 +76,15 @@ TaskFits nodes storage (tasks.Call procedure arguments) size =
     → AreArguments nodes storage bound arguments.first arguments.count trees
     → size ≤ BYTES_OF_CALL + bytes_for (weight_of_arguments trees)
 
--- The code that is written for a part of an expression is not too long for what it is of: the law that is handed
--- over, as `part_size`.
+-- The code that is written for a part of an expression is not too long for its tree. This is the law that is
+-- passed on, as `part_size`.
 abbrev pub PartsFit : (site : Site) → Storage → (called : List Bool) → Type 0
 PartsFit site storage called =
     (facts last : Facts) (part : Part) (list : List Item)
     → IsWritten site called facts part list last
     → TaskFits (nodes_of site.tree.now) storage part.task (size_of_items list)
 
--- how many bytes a step takes at most, where those of the tasks of parts are given
+-- the greatest size of a step in bytes, from those of the tasks of parts
 abbrev pub size_of_step : (Task → ℕ) → Step → ℕ
 size_of_step size (steps.Plain i) = size_of_instruction i
 size_of_step size (steps.Word form place) = 3
@@ -96,7 +97,7 @@ size_of_step size (steps.Holds held) = 0
 size_of_step size steps.MemoryChanged = 0
 size_of_step size (steps.Part part) = size part.task
 
--- and steps
+-- the same for steps
 abbrev pub size_of_steps : (Task → ℕ) → List Step → ℕ
 size_of_steps size [] = 0
 size_of_steps size (step ∷ others) = size_of_step size step + size_of_steps size others

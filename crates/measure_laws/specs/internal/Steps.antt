@@ -1,11 +1,11 @@
--- The labels of steps of expressions: those that they go to, and those that they bind.
+-- The labels of expression steps: those that they refer to, and those that they bind.
 use Rattle.std.specs.Prelude.{◌≡◌, ◌⊎◌, ℕ, List, [], ◌∷◌}
 use Rattle.steps8080.specs.declared.step.Step.{Step}
 use Rattle.steps8080.specs.declared.step.Step.TheVariants as steps
 use Rattle.steps8080.specs.declared.step.Task.{Task}
 use Rattle.steps8080.specs.declared.step.Task.TheVariants as tasks
 
--- a task is no jump by a condition, and something is true of what follows it
+-- a task is not a jump on a condition, and `others` holds
 abbrev pub with_no_branch : Task → Type 0 → Type 0
 with_no_branch (tasks.Branch condition label sense) others = ⊥
 with_no_branch (tasks.Byte number) others = others
@@ -15,7 +15,7 @@ with_no_branch (tasks.Address reference) others = others
 with_no_branch (tasks.Store target is_wanted) others = others
 with_no_branch (tasks.Call procedure arguments) others = others
 
--- steps neither go to labels nor bind any
+-- steps neither refer to labels nor bind any
 abbrev pub NoLabels : List Step → Type 0
 NoLabels [] = Unit {0}
 NoLabels (steps.Jump form label ∷ others) = ⊥
@@ -29,7 +29,7 @@ NoLabels (steps.TestA ∷ others) = NoLabels others
 NoLabels (steps.Holds held ∷ others) = NoLabels others
 NoLabels (steps.MemoryChanged ∷ others) = NoLabels others
 
--- a task goes to a label of these, if it is a jump by a condition
+-- a task refers to one of these labels, if it is a jump on a condition
 abbrev pub TaskGoes : (ok : ℕ → Type 0) → Task → Type 0
 TaskGoes ok (tasks.Branch condition label sense) = ok label.index
 TaskGoes ok (tasks.Byte number) = Unit {0}
@@ -39,7 +39,7 @@ TaskGoes ok (tasks.Address reference) = Unit {0}
 TaskGoes ok (tasks.Store target is_wanted) = Unit {0}
 TaskGoes ok (tasks.Call procedure arguments) = Unit {0}
 
--- steps go to labels of these alone, but for those of routines and procedures
+-- steps refer only to these labels, except for those of routines and procedures
 abbrev pub StepsGo : (ok : ℕ → Type 0) → List Step → Type 0
 StepsGo ok [] = Unit {0}
 StepsGo ok (steps.Jump form label ∷ others) = ok label.index × StepsGo ok others

@@ -1,4 +1,4 @@
--- Small modules, with what their uses of names are bound to, or what is wrong first. Each is computed.
+-- Small modules, with the bindings of their uses of names, or their first fault. Each is computed.
 use Rattle.std.specs.Prelude.{◌≡◌, ℕ, List, [], ◌∷◌, Option, Some, None, codes, refl}
 use Rattle.trees.specs.declared.declaration.ScalarType.TheVariants.{Byte}
 use Rattle.trees.specs.declared.identifier.Identifier.{Identifier}

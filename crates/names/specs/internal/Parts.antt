@@ -38,7 +38,7 @@ abbrev pub procedure_parts : Procedure → DeclarationTree
 procedure_parts procedure =
     procedure_tree (out-Procedure procedure).heading (out-Procedure procedure).body (out-Procedure procedure).end_name
 
--- what stands in a procedure
+-- the inside of a procedure
 abbrev pub see_body : Procedure → Here → Seen
 see_body procedure =
     in_turn (see_all declares_parameter (out-Procedure procedure).heading.parameters.items)

@@ -21,7 +21,7 @@ abbrev pub unless : {A : Type 0} → Option Fault → A → Result A Fault
 unless None a = Ok a
 unless (Some fault) a = Err fault
 
--- what a part of a text gives from a place on
+-- the result of a part of a text from a place on
 unfoldable pub gives : (Here → Seen) → Walk → Result Walk Fault
 gives part walk = unless (first_fault (part walk.here).events) (record {
   here = (part walk.here).here;
@@ -43,17 +43,17 @@ bound_at here [] bindings = Ok bindings
 bound_at here (name ∷ others) bindings =
     bind_more (bound_name name (binding_of here name.name) bindings) (bound_at here others)
 
--- the fault of a failure; out of memory is none
+-- the fault of a failure; out of memory has no fault
 abbrev pub fault_in : Failure Fault → Option Fault
 fault_in (failures.Fault fault) = Some fault
 fault_in failures.Memory = None
 
--- where there is a fault, it is what was given
+-- a fault is the fault of a failed walk; without one nothing is said
 abbrev pub FailsBy : {B : Type 0} → Option Fault → Result B Fault → Type 0
 FailsBy None given = Unit {0}
 FailsBy (Some fault) given = given ≡ Err fault
 
--- what a call returned and left is what was to be given, unless memory ran out
+-- the returned value of a call is the result that is given, unless memory ran out
 abbrev pub Does : {A B : Type 0} → Result A (Failure Fault) → B → Result B Fault → Type 0
 Does (Ok done) now given = given ≡ Ok now
 Does (Err failure) now given = FailsBy (fault_in failure) given

@@ -1,4 +1,4 @@
--- Worked files that are accepted, and faults of which one counts before another.
+-- Worked files that are accepted, and files with two faults, where one fault counts before the other.
 use Rattle.std.specs.Prelude.{◌≡◌, ℕ, List, [], ◌∷◌, ◌++◌, codes, flat_map, replicate, Option, Some, None, Result, Ok, Err, refl}
 use Rattle.omf80.specs.Records.{record_bytes, record_fault}
 use Rattle.object_modules.specs.declared.fault.Fault.{Fault}
@@ -24,7 +24,7 @@ file_of entries parts start =
 abbrev pub content_at : Segment → ℕ → List ℕ → Part
 content_at segment offset bytes = ContentPart (record { segment = segment; offset = offset; bytes = bytes })
 
--- what is judged of the bytes of parts
+-- the judgement of the bytes of parts
 abbrev pub judged : List Part → Result (List Part) Fault
 judged parts = parts_of (flat_map part_bytes parts)
 

@@ -12,7 +12,7 @@ use Rattle.object_modules.specs.Text.{Run}
 abbrev pub run_at : {A : Type 0} → (offset : ℕ) → List A → Run A
 run_at offset items = record { offset = offset; items = items }
 
--- a run after others, which goes on the last of them where it begins at its end
+-- a run after others, which continues the last of them if it begins at its end
 abbrev pub with_run : {A : Type 0} → List (Run A) → Run A → List (Run A)
 with_run [] run = run ∷ []
 with_run (last ∷ []) run =
@@ -42,7 +42,7 @@ place_fixes offset [] = []
 place_fixes offset (None ∷ others) = place_fixes (offset + 1) others
 place_fixes offset (Some here ∷ others) = before_fixes offset here.fixup (place_fixes (offset + 1) others)
 
--- a fix by a number of places later, with what it stays fixed to, if it does
+-- a fix by a number of places later, with the target to which it stays fixed, if it does
 abbrev pub fix_kept : (by : ℕ) → (kept : Target → Option Target) → Fix → Option Fix
 fix_kept by kept fix =
     option_map (λ (target : Target). record { kind = fix.kind; target = target; offset = by + fix.offset })
@@ -60,7 +60,7 @@ abbrev pub run_moved : (gain_of : Target → ℕ) → (kept : Target → Option 
 run_moved gain_of kept run =
     record { offset = run.offset; items = items_moved gain_of kept None run.items }
 
--- bytes of which the one at an index, or the word that begins with it, gains a number
+-- bytes, with a number added to the one at an index, or to the word that begins with it
 abbrev pub bytes_fixed : FixKind → (index gain : ℕ) → List ℕ → List ℕ
 bytes_fixed Low index gain bytes =
     slice_set bytes index (first_byte_moved Low (slice_index bytes index) gain)

@@ -9,7 +9,7 @@ use Rattle.object_modules.specs.Reading.{first_part}
 use Rattle.object_modules.specs.Rules.{fault_at}
 use Rattle.object_modules.specs.Spelling.{module_of}
 
--- the fault that there is, or the part in front and what is judged after it; nothing comes after the end of
+-- the fault, if there is one, or else the judgement after the part in front; nothing comes after the end of
 -- the file
 abbrev pub judged_by :
     (judged_next : List Part → Result (List Part) Fault) → (before : List Part) → Option Fault → Option Part
@@ -18,14 +18,14 @@ judged_by judged_next before (Some fault) part = Err fault
 judged_by judged_next before None None = Ok (reverse before)
 judged_by judged_next before None (Some part) = judged_next (part ∷ before)
 
--- the parts of the bytes after some parts, of which the latest stands first, with those; or the first fault
+-- the parts before, given latest first, and then those of the bytes; or the first fault
 abbrev pub judged_after : (count : ℕ) → (before : List Part) → (bytes : List ℕ) → Result (List Part) Fault
 judged_after zero before bytes = Err OutOfOrder
 judged_after (suc count) before bytes =
     judged_by (λ parts. judged_after count parts (drop (record_end bytes) bytes)) before
     (fault_at before bytes) (first_part bytes)
 
--- the parts of a file; each record has a byte at least
+-- the parts of a file; each record has at least one byte
 unfoldable pub parts_of : List ℕ → Result (List Part) Fault
 parts_of bytes = judged_after (suc (length bytes)) [] bytes
 

@@ -16,7 +16,7 @@ abbrev pub code_at : ℕ → Plan
 code_at base =
     record { code_base = base; data_base = 0x4000; stack_base = 0xF000; stack_size = 0x400 }
 
--- what stands at some addresses from one on
+-- the bytes at `count` addresses from one on
 abbrev pub bytes_from : Plan → ObjectModule → (address count : ℕ) → List (Option ℕ)
 bytes_from plan object address count = map (image_at plan object) (range_with_len address count)
 

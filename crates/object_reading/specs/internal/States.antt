@@ -62,7 +62,7 @@ beginning = record {
   start = None;
 }
 
--- what a header tells is what is known
+-- a header holds what is known
 pub record Tells (header : Header) (state : State) : Type 0 where
   pub name : header.name.now ≡ state.name
   pub code_length : header.code_length ≡ (state.extents).code_length

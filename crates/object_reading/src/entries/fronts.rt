@@ -31,7 +31,7 @@ pub fn segment_of(number: u8) -> Option<Segment>
     }
 }
 
-/// A length and so many bytes, and the bytes after those.
+/// A name after its length, and the bytes after the name.
 pub fn name_in_front(bytes: &[u8]) -> Option<(&[u8], &[u8])>
     ensures { option_map (λ named. (named.0.now, named.1.now)) result ≡ name_in_front bytes.now }
 {

@@ -1,8 +1,8 @@
-//! What a valid file tells of itself.
+//! What a valid file says of itself.
 
 use object_modules::Alignment;
 
-/// What a valid file tells besides its names, contents and fixes. It borrows the file.
+/// What a valid file says besides its names, contents and fixes. It borrows the file.
 #[derive(Clone, Copy)]
 pub struct Header<'a> {
     /// 1 to 31 characters.

@@ -14,7 +14,7 @@ use object_modules::Fault;
 use omf80::Records;
 use std::alloc::Global;
 
-// The fault that a file has where a record has one of its own.
+// The fault of a file with a record that has a fault of its own.
 fn fault_from_record(fault: omf80::Fault) -> Fault
     ensures { result ≡ fault_from_record fault }
 {

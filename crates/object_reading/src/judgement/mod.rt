@@ -1,4 +1,4 @@
-//! Judges object files whole: what a valid one tells of itself, or its first fault.
+//! Judges object files whole: what a valid one says of itself, or its first fault.
 #![tactic(auto)]
 
 mod header;

@@ -157,7 +157,7 @@ impl<'a> State<'a> {
         end <= self.extent_of(content.segment) as usize && self.end_of(content.segment) <= offset
     }
 
-    // A content is the latest one.
+    // Makes a content the latest one.
     fn set_content(&mut self, content: Content<'a>)
         requires { length content.bytes.now ≤ 1024 }
         ensures { state_view self.new ≡ with_content (state_view self.old) (content_view content.entry) }
@@ -227,7 +227,7 @@ impl<'a> State<'a> {
         Ok(())
     }
 
-    // Takes in what a record says that may stand here.
+    // Takes in the body of a record that may stand here.
     fn take_body(&mut self, read: &Record<'a>) -> Result<(), Failure<Fault>>
         requires { length read.now.body.now ≤ 1027 }
         ensures ok { OnOk result
@@ -277,7 +277,7 @@ impl<'a> State<'a> {
         matches!(self.latest, Some(RecordKind::EndOfFile))
     }
 
-    /// What the file tells of itself.
+    /// What the file says of itself.
     pub(crate) fn header(&self) -> Header<'a>
         ensures { Tells result (state_view self.now) }
     {

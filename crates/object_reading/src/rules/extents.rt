@@ -19,7 +19,7 @@ pub struct Extents {
     pub stack_length: u16,
 }
 
-/// Where no header is.
+/// What is said without a header.
 pub fn nothing_said() -> Extents
     ensures { result ≡ nothing_said }
 {
@@ -62,7 +62,7 @@ fn alignment_with(segment: Segment, length: u16, alignment: u8) -> Alignment
     }
 }
 
-// What is said of a segment, and of each other as before.
+// The extents with those of a segment replaced.
 fn extents_with(segment: Segment, length: u16, alignment: u8, extents: Extents) -> Extents
     ensures { result ≡ extents_with segment (entry_at segment length alignment) extents }
 {
@@ -93,8 +93,8 @@ fn extents_with(segment: Segment, length: u16, alignment: u8, extents: Extents) 
     }
 }
 
-/// What entries say, or their fault: a number that is no segment's or doesn't ascend, or bytes that are no whole entry,
-/// and then an alignment that is not served.
+/// What entries say, or their fault: a number that is not a segment's or doesn't ascend, or bytes that are not a whole
+/// entry, and then an alignment that is not served.
 pub fn extents_of(entries: &[u8]) -> Result<Extents, Fault>
     ensures { result ≡ extents_in 0 nothing_said true entries.now }
 {

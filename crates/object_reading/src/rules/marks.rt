@@ -51,7 +51,7 @@ fn width_of(kind: FixKind) -> usize
     }
 }
 
-// Marks the bytes of a fix. Tells whether it lies within the content and none of its bytes was marked; where not,
+// Marks the bytes of a fix. Returns whether it lies within the content and none of its bytes was marked; if not,
 // nothing changes.
 fn place_fix(marks: &mut [bool], content: &Content, fix: &Fix) -> bool
     requires { length content.now.bytes.now ≤ length marks.old }
@@ -77,7 +77,7 @@ fn place_fix(marks: &mut [bool], content: &Content, fix: &Fix) -> bool
     true
 }
 
-// Marks the bytes of fixes, one after another. Tells whether each lies within the content and shares no byte with
+// Marks the bytes of fixes, one after another. Returns whether each lies within the content and shares no byte with
 // another.
 #[tactic(auto, using(crate::proofs::FixMarks::marks_none, crate::proofs::FixMarks::marks_end, crate::proofs::FixEntries::fewer_then,))]
 fn place_fixes(
@@ -107,7 +107,7 @@ fn place_fixes(
 }
 
 impl<'a> MarkedContent<'a> {
-    /// A content of at most 1024 bytes, of which none is marked.
+    /// A content of at most 1024 bytes, none of them marked.
     pub fn new(content: Content<'a>) -> MarkedContent<'a>
         requires { length content.bytes.now ≤ 1024 }
         ensures { result ≡ unmarked (content_view content.entry) }
@@ -136,7 +136,7 @@ impl<'a> MarkedContent<'a> {
         self.content.segment
     }
 
-    /// Marks the bytes of the fixes of entries. Tells whether each lies within the content and shares no byte with
+    /// Marks the bytes of the fixes of entries. Returns whether each lies within the content and shares no byte with
     /// another.
     pub fn place(&mut self, target: Option<Segment>, kind: FixKind, entries: &[u8]) -> bool
         requires { AreFixEntries target entries.now }

@@ -86,7 +86,7 @@ impl<'a> NameSet<'a> {
         self.keys.len()
     }
 
-    /// One more name. Tells whether it is a new one.
+    /// Adds a name. Returns whether it is new.
     pub fn insert(&mut self, name: &'a [u8]) -> Result<bool, Failure<Fault>>
         ensures new { IfOk result (λ is_new. is_new ≡ not (is_among name.now self.old)) }
         ensures names { IfOk result (λ is_new. self.new
@@ -111,8 +111,8 @@ fn entry_name<'a>(list: NameList, entries: &'a [u8]) -> Option<(&'a [u8], &'a [u
     }
 }
 
-/// The names of the entries of a record. Tells whether each is a name that was not known before, and makes
-/// them known.
+/// Adds the names of the entries of a record. Returns whether each is a name that was not
+/// known before.
 #[tactic(auto, using(crate::proofs::NewNames::taken_more, crate::proofs::NewNames::taken_wrong, crate::proofs::NewNames::taken_again, crate::proofs::NewNames::taken_none, crate::proofs::NewNames::taken_end, crate::proofs::NewNames::name_shorter,))]
 pub fn take_names<'a>(
     names: &mut NameSet<'a>,

@@ -7,7 +7,7 @@ use crate::entries::fix_in_front;
 use object_modules::{FixKind, Segment, Target};
 use omf80::RecordKind;
 
-// Whether a target is a segment, or an external name that there is.
+// Whether a target is a segment, or an external name with a number below `external_count`.
 fn is_known(target: Target, external_count: usize) -> bool
     ensures { result ≡ is_known external_count target }
 {
@@ -17,7 +17,7 @@ fn is_known(target: Target, external_count: usize) -> bool
     }
 }
 
-/// Whether bytes are entries of a fix record, each with an external name that there is if it has one.
+/// Whether bytes are entries of a fix record, where each external name is known.
 #[tactic(auto, using(crate::proofs::FixReferences::fit_more, crate::proofs::FixReferences::fit_other, crate::proofs::FixReferences::fit_end, crate::proofs::FixEntries::fewer_then,))]
 pub fn entries_fit(
     target: Option<Segment>,

@@ -43,7 +43,7 @@ fn fixes_after<'a>(own: Segment, rest: &'a [u8]) -> Option<FixCursor<'a>>
     })
 }
 
-/// The cursor at the next fix record that has an entry left, or as it is where no fix is left.
+/// The cursor at the next fix record that has an entry left, or the same cursor if no fix is left.
 pub(crate) fn fixes_from<'a>(cursor: FixCursor<'a>) -> FixCursor<'a>
     requires entries { AreFixEntries cursor.target cursor.entries.now }
     requires rest { AreParts cursor.rest.now }

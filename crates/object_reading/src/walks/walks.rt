@@ -14,7 +14,7 @@ use crate::walks::cursor_fixes::{FixCursor, fixes_from};
 use object_modules::{Alignment, Fix, FixKind, PublicName, Segment};
 use std::marker::Model;
 
-/// A walk over a file that was judged: what the file tells at any time, and its parts from its front, in the
+/// A walk over a file that was judged: what the file says at any time, and its parts from its front, in the
 /// order of the file. It borrows the file and takes no memory.
 #[derive(Drop)]
 pub struct Walk<'a> {
@@ -137,7 +137,7 @@ impl<'a> Walk<'a> {
         self.start
     }
 
-    /// The same walk again, from where it stands. Takes no memory.
+    /// The same walk again, from its place. Takes no memory.
     pub fn again(&self) -> Walk<'a>
         ensures { result ≡ self.now }
     {

@@ -7,12 +7,12 @@ use Rattle.typed_trees.specs.TypedTrees.{Home, Placed, TypedObject, TypedModule}
 use Rattle.typed_trees.specs.Sizes.{size_of_object}
 use Rattle.layout.specs.Placement.{ModulePlacement, Placement, PieceKind, StaticPiece, ConstantPiece, AtPiece, PlacedPiece, range_of, address_at, object_piece, list_piece}
 
--- what a claim leaves: the table, or nothing where a byte was claimed before
+-- the result of a claim: the table, or none if a byte was claimed before
 abbrev pub claimed_as : (accepted : Bool) → List Bool → Option (List Bool)
 claimed_as true table = Some table
 claimed_as false table = None
 
--- claims so many bytes from an address on
+-- claims `count` bytes from an address on
 abbrev pub claim_bytes : (count address : ℕ) → List Bool → Option (List Bool)
 claim_bytes zero address table = Some table
 claim_bytes (suc count) address table =
@@ -22,7 +22,7 @@ claim_bytes (suc count) address table =
 unfoldable pub claim_between : (address end : ℕ) → List Bool → Option (List Bool)
 claim_between address end table = claim_bytes (end - address) address table
 
--- whether so many bytes from an address on are claimed
+-- whether `count` bytes from an address on are claimed
 abbrev pub are_claimed : (count address : ℕ) → List Bool → Bool
 are_claimed zero address table = true
 are_claimed (suc count) address table =
@@ -104,7 +104,7 @@ claim_modules code stack (typed ∷ modules) [] table = Some table
 claim_modules code stack (typed ∷ modules) (placed ∷ placements) table =
     option_and_then (claim_modules code stack modules placements) (claim_module code stack typed placed table)
 
--- Whether an object with AT may lie in a range, where the bytes with a place of their own are claimed: what lies
+-- Whether an object with AT may lie in a range, if the bytes with a place of their own are claimed: the part
 -- in the code is claimed.
 unfoldable pub may_lie_at : (code stack : Range) → List Bool → Range → Bool
 may_lie_at code stack table range =

@@ -21,7 +21,7 @@ abbrev pub bases_after : Bases → Storage → (length : ℕ) → Bases
 bases_after bases storage length =
     record { code_base = bases.code_base + length; data_base = bases.data_base + storage.data_size }
 
--- the placements of modules, the segments of the first of which begin there
+-- the placements of modules, with the segments of the first at these bases
 abbrev pub placements_from :
     Bases → List TypedModule → List Storage → (code_lengths : List ℕ) → List ModulePlacement
 placements_from bases (typed ∷ others) (storage ∷ storages) (length ∷ lengths) =

@@ -6,7 +6,7 @@ use Rattle.layout.specs.Placement.{PlacedPiece, is_constant_piece}
 use Rattle.placing.specs.declared.placement.ByteKind.{ByteKind}
 use Rattle.placing.specs.declared.placement.ByteKind.TheVariants.{Undeclared, Writable, Constant}
 
--- for each address the greatest end of the pieces that start there, 0 where none starts: of all pieces, and
+-- for each address the greatest end of the pieces that start there, 0 if none starts: of all pieces, and
 -- of the constants
 pub record ReachTables : Type 0 where
   pub all : List ℕ
@@ -19,11 +19,11 @@ no_ends = replicate MEMORY_SIZE 0
 abbrev pub no_reaches : ReachTables
 no_reaches = record { all = no_ends; constants = no_ends }
 
--- where a range ends, or the end of memory where it passes that
+-- the end of a range, or the end of memory if it passes that
 abbrev pub end_of : Range → ℕ
 end_of range = min (range.start + range.len) MEMORY_SIZE
 
--- a piece more that starts at an address
+-- one more piece that starts at an address
 abbrev pub raised : List ℕ → (start end : ℕ) → List ℕ
 raised ends start end = slice_set ends start (max (slice_index ends start) end)
 
@@ -52,7 +52,7 @@ reach_below ends address = fold max 0 (take address ends)
 abbrev pub is_covered : List ℕ → (address : ℕ) → Bool
 is_covered ends address = nat_lt address (reach_below ends (address + 1))
 
--- what a byte is that a piece has, and that a constant has
+-- the kind of a byte, by whether a piece has it and whether a constant has it
 abbrev pub byte_kind : (is_declared is_constant : Bool) → ByteKind
 byte_kind is_declared true = Constant
 byte_kind true false = Writable

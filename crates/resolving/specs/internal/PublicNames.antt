@@ -10,7 +10,7 @@ use Rattle.resolving.specs.declared.publics.Found.{Found}
 abbrev pub Table : Type 0
 Table = List (List ℕ × Found)
 
--- what stands in a module under a number
+-- an object or a procedure in a module, by its number
 abbrev pub found_at : (number_of_module number : ℕ) → Found
 found_at number_of_module number = record { number_of_module = number_of_module; number = number }
 

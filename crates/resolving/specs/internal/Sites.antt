@@ -6,7 +6,7 @@ use Rattle.layout.specs.Joined.{InProgram}
 use Rattle.layout.specs.StartingMemory.{meant_in}
 use Rattle.meaning.specs.Access.{Surroundings}
 
--- what an object of the module stands for
+-- the object that an object of the module stands for
 abbrev pub meant_at : Surroundings → (object : ℕ) → Option InProgram
 meant_at around object =
     option_and_then

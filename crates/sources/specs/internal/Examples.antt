@@ -128,7 +128,7 @@ shower scalar = module_of
     (procedure_of (show_heading (Public (on_line 2))) (its_parameter scalar ∷ [])
     (sends 3 4 (value_of (plain 3 (codes "X"))) ∷ []) ∷ []) []
 
--- what the procedures of each module stand for
+-- the procedures that the procedures of each module stand for
 abbrev pub procedures_called : List TypedModule → List (List (Option InProgram))
 procedures_called modules = map (λ (numbered : ℕ × TypedModule). called modules numbered.0 numbered.1)
     (enumerate_from 0 modules)
@@ -215,7 +215,7 @@ pub filled :
 unfolding typing_of built_in_of starting_memory
 filled = refl
 
--- what lies where: the static objects, the object with DATA and the constant list
+-- the pieces and their places: the static objects, the object with DATA and the constant list
 pub pieces :
     pieces_of (typed (filled_module ∷ [])) filled_placement
     ≡ record { kind = StaticPiece; range = range_of 2 1 }

@@ -5,7 +5,7 @@ use Rattle.stack_code.specs.declared.instruction.Instruction.{Instruction}
 use Rattle.stack_code.specs.declared.instruction.Instruction.TheVariants.{Jump}
 use Rattle.stack_code.specs.Code.{Site, statement_code}
 
--- so many jumps that are to be filled in
+-- `count` jumps that are filled in later
 abbrev pub holes : (count : ℕ) → List Instruction
 holes count = replicate count (Jump 0)
 
@@ -14,11 +14,11 @@ pub record Opening : Type 0 where
   pub code : List Instruction
   pub ends : List ℕ
 
--- code so far with such places
+-- code so far with these places
 abbrev pub opening : List Instruction → List ℕ → Opening
 opening code ends = record { code = code; ends = ends }
 
--- the instruction at a place jumps past all that there is
+-- the instruction at a place becomes a jump past the end of the code so far
 abbrev pub passing : List Instruction → (at : ℕ) → List Instruction
 passing code at = slice_set code at (Jump (length code - (at + 1)))
 
@@ -39,7 +39,7 @@ opened site entry before NoStatements = record { code = passing before.code entr
 opened site entry before (MoreStatements first others) =
     opened site (entry + 1) (opened_by site entry before first) others
 
--- the instructions before some places jump past all that there is
+-- the instructions before some places become jumps past the end of the code so far
 abbrev pub closed : (ends : List ℕ) → List Instruction → List Instruction
 closed [] code = code
 closed (end ∷ ends) code = closed ends (slice_set code (end - 1) (Jump (length code - end)))

@@ -28,7 +28,7 @@ started_entry procedure = record { begin = 0; charge = min (charge_of procedure)
 abbrev pub started_row : TypedModule → Row
 started_row typed = record { entries = map started_entry typed.procedures; labels = [] }
 
--- the first of two places, where 0 is none
+-- the first of two places, where 0 means no place
 abbrev pub first_of : (first second : ℕ) → ℕ
 first_of zero second = second
 first_of (suc first) second = suc first
@@ -59,14 +59,14 @@ abbrev pub row_begun : (number after : ℕ) → Row → Row
 row_begun number after row =
     record { entries = updated (entry_begun after) row.entries number; labels = row.labels }
 
--- what an instruction tells that stands before a place
+-- the tables once an instruction is noted that stands before a place
 abbrev pub noted : List Row → (after : ℕ) → Instruction → List Row
 noted rows after (Mark number_of_module label) =
     updated (row_labelled label after) (padded empty_row rows (suc number_of_module)) number_of_module
 noted rows after (Begin number_of_module number) = updated (row_begun number after) rows number_of_module
 noted rows after instruction = rows
 
--- what a list of instructions tells, which stand from a place on
+-- the tables once instructions are noted that stand from a place on
 abbrev pub noted_all : List Row → (at : ℕ) → List Instruction → List Row
 noted_all rows at [] = rows
 noted_all rows at (first ∷ others) = noted_all (noted rows (at + 1) first) (at + 1) others

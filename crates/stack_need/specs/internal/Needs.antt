@@ -1,4 +1,4 @@
--- The need of a body: its charge, and the greatest need of what is called in it.
+-- The need of a body: its charge, and the greatest need of the bodies that are called in it.
 use Rattle.std.specs.Prelude.{◌≡◌, ℕ, ◌+◌, List, [], ◌∷◌, max, min}
 use Rattle.stack_need.specs.CallGraph.{Body, callees_of, charge_in}
 
@@ -10,7 +10,7 @@ mutual
         → need ≡ charge_in graph body + greatest
         → NeedOf graph body need
 
-  -- the greatest need of some bodies, 0 where there are none
+  -- the greatest need of some bodies, 0 if there are none
   pub data GreatestOf (graph : List Body) : (bodies : List ℕ) → (greatest : ℕ) → Type 0 where
     of_none : (greatest : ℕ) → greatest ≡ 0 → GreatestOf graph [] greatest
     of_more :

@@ -54,7 +54,7 @@ progress_after need path = if is_ended path then Finished need else Going
 abbrev pub need_shown : List Body → Visit → ℕ
 need_shown graph visit = min (charge_in graph visit.body + visit.greatest) 4294967295
 
--- a step, where a visit has no further call
+-- a step, if a visit has no further call
 abbrev pub finished : List Body → Visit → Searched → Searched × Progress
 finished graph visit s = (
   record s { marks = slice_set s.marks visit.body (Done (need_shown graph visit)) },

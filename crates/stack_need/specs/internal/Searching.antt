@@ -38,7 +38,7 @@ pub record Searches (graph : List Body) (root : ℕ) (s : Searched) : Type 0 whe
   pub leads : Leads graph root s.path
   pub passed : AllByRecursion (HasPassed graph) s.path
 
--- what is left to do: two steps for each body that is not known, and one for each of its calls
+-- the remaining steps: two for each body that is not known, and one for each of its calls
 abbrev pub weight : Body → Mark → ℕ
 weight body New = 2 + length body.callees
 weight body Open = 0
@@ -57,22 +57,22 @@ unfinished graph (visit ∷ others) =
 abbrev pub left : List Body → Searched → ℕ
 left graph s = waiting graph s.marks + unfinished graph s.path
 
--- what a step gives
+-- the result of a step
 abbrev pub GoesTo : List Body → (root before : ℕ) → Searched → Progress → Type 0
 GoesTo graph root before s Going = Searches graph root s × (left graph s < before)
 GoesTo graph root before s (Finished need) = HasNeed graph root need × (IsTrueOf graph s × (s.path ≡ []))
 GoesTo graph root before s Cyclic = HasCycle graph
 
--- what a search for the need of a body comes to
+-- the result of a search for the need of a body
 unfoldable pub Finds : List Body → (root : ℕ) → Option ℕ → Searched → Type 0
 Finds graph root None s = HasCycle graph
 Finds graph root (Some need) s = HasNeed graph root need × (IsTrueOf graph s × (s.path ≡ []))
 
--- what searches for the needs of all bodies come to
+-- the result of searches for the needs of all bodies
 unfoldable pub Answers : List Body → Option ℕ → Type 0
 Answers graph None = HasCycle graph
 Answers graph (Some need) = HasNeed graph 0 need × (HasCycle graph → ⊥)
 
--- the first so many bodies have needs
+-- the first `count` bodies have needs
 abbrev pub HaveNeeds : List Body → (count : ℕ) → Type 0
 HaveNeeds graph count = (body : ℕ) → body < count → (need : ℕ) × HasNeed graph body need

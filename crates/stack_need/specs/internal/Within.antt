@@ -23,7 +23,7 @@ abbrev pub StaysWithin : {A : Type 0} → Outcome A → Type 0
 StaysWithin (Gave found s) = Unit {0}
 StaysWithin (Stopped why s) = IsNotStack why
 
--- the room is as much as each chain of calls from a procedure on is charged
+-- the room is as much as the charges of each chain of calls from a procedure on
 abbrev pub Holds : Surroundings → InProgram → Type 0
 Holds around at =
     (others : List ℕ)
@@ -31,7 +31,7 @@ Holds around at =
     → charges_of_chain (call_graph around.program.modules) (number_of_body around.program.modules at) others
     ≤ around.room
 
--- likewise for what a procedure of the module stands for, and for each of some calls
+-- likewise for the procedure that a call stands for, and for each of some calls
 abbrev pub HoldsCall : Surroundings → (procedure : ℕ) → Type 0
 HoldsCall around procedure = (at : InProgram) → callee_in around procedure ≡ Some at → Holds around at
 
@@ -44,7 +44,7 @@ HoldsTurn around (WhileTurn condition body) = HoldsAll around (calls_in conditio
 HoldsTurn around (IterateTurn head body) =
     HoldsAll around (calls_in_iteration head) × HoldsAll around (calls_in_list body)
 
--- what is given from outside does not go outside for the stack where the room is enough
+-- a part given from outside does not go outside for the stack if the room is enough
 pub record LaterStays (later : Later) : Type 0 where
   pub call :
       (at : InProgram) (arguments : List ℕ) (around : Surroundings) (s : State)

@@ -1,10 +1,10 @@
--- Types of targets that are being found, one target after another.
+-- Types of targets, found one target after another.
 use Rattle.std.specs.Prelude.{◌≡◌, ℕ, ◌-◌, Bool, ◌||◌}
 use Rattle.treecode.specs.declared.lists.Range.{Range}
 use Rattle.statements8080.specs.declared.body.Body.{Body}
 use Rattle.statements8080.specs.Assignments.{any_target, takes_byte, takes_word}
 
--- what is found before an index, with what is found in the targets from it on, is what is found in all
+-- the types found before an index, with those of the targets from it on, are those of all targets
 pub record IsFinding
     (body : Body) (targets : Range) (index : ℕ) (takes_bytes takes_words : Bool) : Type 0 where
   pub bytes :

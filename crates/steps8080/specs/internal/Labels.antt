@@ -1,8 +1,8 @@
--- Which labels of code have their places.
+-- The labels of code that have their places.
 use Rattle.std.specs.Prelude.{◌≡◌, ℕ, Bool, false, List, slice_index_or}
 use Rattle.asm8080.specs.Items.{Assembly, is_bound}
 
--- flags of labels that tell which ones may have a place in code: no other label has one
+-- flags of the labels that may have a place in code: no other label has one
 abbrev pub Follows : (flags : List Bool) → Assembly → Type 0
 Follows flags code =
     (label : ℕ) → slice_index_or flags label false ≡ false → is_bound label code.items ≡ false

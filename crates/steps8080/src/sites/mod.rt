@@ -1,4 +1,4 @@
-//! Where code stands, and what it asks of the tree.
+//! Sites of code, and their queries of the tree.
 #![tactic(auto)]
 
 mod queries;

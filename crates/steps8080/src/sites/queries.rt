@@ -1,4 +1,4 @@
-//! What code asks of the tree, each in O(1).
+//! Queries of a site about the tree, each in O(1).
 
 ghost use Rattle.std.specs.Prelude.{◌≡◌};
 ghost use Rattle.steps8080.specs.Queries.{are_same, base_after, base_of, direct, high_in_memory, is_at_hl, is_free, is_quiet, keeps, keeps_of_address, known, located, location_of, location_of_byte, may_exchange, memory, number as number_of, plain_in_memory, reference_after, same_low_byte, split, split_computed, split_sum, stores_nothing};
@@ -11,18 +11,18 @@ use treecode::{
 use trees::{BinaryOperator, ScalarType};
 use typed_trees::UnaryFunction;
 
-/// What the address of an object or a part of it counts from.
+/// The base from which the address of an object or a part of it counts.
 #[derive(Clone, Copy)]
 pub enum Base {
-    /// A place that is known but for where things lie.
+    /// A known place in memory.
     Static(Place),
-    /// So many bytes, modulo 65536, after the address that a scalar holds.
+    /// `offset` bytes, modulo 65536, after the address that a scalar holds.
     Based { pointer: Location, offset: u16 },
-    /// So many bytes after the start of a variable or parameter in the frame.
+    /// `offset` bytes after the start of a variable or parameter in the frame.
     Frame { variable: u16, offset: u16 },
 }
 
-/// The address of an object or a part of it: its base, to which the computed subscripts are added, each times its stride.
+/// The address of an object or a part of it: its base, plus each computed subscript times its stride.
 #[derive(Clone, Copy)]
 pub struct Located {
     pub base: Base,
@@ -30,7 +30,7 @@ pub struct Located {
     pub second: Option<Subscript>,
 }
 
-/// A subscript that is computed, and how many bytes of it are known.
+/// A subscript, split into its computed part and the known number of bytes that it adds.
 #[derive(Clone, Copy)]
 pub struct Split {
     pub computed: Option<Subscript>,
@@ -38,7 +38,7 @@ pub struct Split {
 }
 
 impl Base {
-    // The base so many bytes further on, modulo 65536.
+    // The base `distance` bytes further on, modulo 65536.
     fn after(self, distance: u16) -> Base
         ensures { result ≡ base_after self distance }
     {
@@ -70,7 +70,7 @@ fn base_of(home: Home) -> Base
     }
 }
 
-// Whether there are two locations, and they are the same.
+// Whether both locations are there, and are the same.
 fn same_location(first: Option<Location>, second: Option<Location>) -> bool
     ensures { result ≡ are_same first second }
 {
@@ -80,7 +80,7 @@ fn same_location(first: Option<Location>, second: Option<Location>) -> bool
     }
 }
 
-/// A reference to what lies so many bytes further on.
+/// A reference to the place `distance` bytes further on.
 pub fn reference_after(reference: Reference, distance: u16) -> Reference
     ensures { result ≡ reference_after reference distance }
 {
@@ -91,14 +91,15 @@ pub fn reference_after(reference: Reference, distance: u16) -> Reference
 }
 
 impl<'a> Site<'a> {
-    /// The value of an expression, where it is known but for where things lie. Exact in the type of the expression.
+    /// The value of an expression, if it is known as a number or a relocatable address. It is exact in the type of the
+    /// expression.
     pub fn known(&self, number: ExpressionNumber) -> Option<Place>
         ensures { result ≡ known self.now number }
     {
         self.tree.traits(number).known
     }
 
-    /// The number that an expression is, where it is known and depends on nothing.
+    /// The value of an expression, if it is known as a number.
     #[tactic(auto, unfolding(crate::specs::Queries::number))]
     pub fn number(&self, number: ExpressionNumber) -> Option<u16>
         ensures { result ≡ number_of self.now number }
@@ -123,21 +124,21 @@ impl<'a> Site<'a> {
         self.tree.traits(number).stores_nothing
     }
 
-    /// Whether the code that puts the low byte of an expression into A changes A and the flags alone.
+    /// Whether the code that puts the low byte of an expression into A changes only A and the flags.
     pub fn is_free(&self, number: ExpressionNumber) -> bool
         ensures { result ≡ is_free self.now number }
     {
         self.tree.traits(number).is_free
     }
 
-    /// What the code that puts the value of an expression into HL keeps.
+    /// The registers that the code putting the value of an expression into HL keeps.
     pub fn keeps(&self, number: ExpressionNumber) -> Keeps
         ensures { result ≡ keeps self.now number }
     {
         self.tree.traits(number).keeps
     }
 
-    /// What the code that puts the address of a part of an object into HL keeps.
+    /// The registers that the code putting the address of a part of an object into HL keeps.
     #[tactic(auto, unfolding(crate::specs::Queries::keeps_of_address))]
     pub fn keeps_of_address(&self, reference: &Reference) -> Keeps
         ensures { result ≡ keeps_of_address self.now reference.now }
@@ -145,8 +146,8 @@ impl<'a> Site<'a> {
         keeps_of_address(self.tree, reference)
     }
 
-    /// Whether the second of two operands may be evaluated first, since nobody can tell: the first is known, or it changes
-    /// nothing and the second stores nothing.
+    /// Whether the second of two operands may be evaluated first without a difference: the first is known, or it
+    /// changes nothing and the second stores nothing.
     #[tactic(auto, unfolding(crate::specs::Queries::may_exchange))]
     pub fn may_exchange(&self, left: ExpressionNumber, right: ExpressionNumber) -> bool
         ensures { result ≡ may_exchange self.now left right }
@@ -154,7 +155,7 @@ impl<'a> Site<'a> {
         self.known(left).is_some() || self.is_quiet(left) && self.stores_nothing(right)
     }
 
-    // A subscript with a sum or difference of a computed ADDRESS and a number, taken apart.
+    // Splits a subscript that is the sum or difference of a computed ADDRESS and a number.
     fn split_sum(
         &self,
         subscript: Subscript,
@@ -179,7 +180,7 @@ impl<'a> Site<'a> {
         })
     }
 
-    // A computed subscript, and what of it is known.
+    // Splits a computed subscript into its computed and its known part.
     #[tactic(auto, unfolding(crate::specs::Queries::split_computed))]
     fn split_computed(&self, subscript: Subscript) -> Split
         ensures { result ≡ split_computed self.now subscript }
@@ -210,8 +211,8 @@ impl<'a> Site<'a> {
         }
     }
 
-    // A subscript, if there is one, and what of it is known: numbers, and a number that is added to an ADDRESS or taken
-    // from it, are known.
+    // Splits a subscript, if there is one. Known are a number, and a number that is added to an ADDRESS or subtracted
+    // from it.
     #[tactic(auto, unfolding(crate::specs::Queries::split))]
     fn split(&self, subscript: Option<Subscript>) -> Split
         ensures { result ≡ split self.now subscript }
@@ -231,7 +232,7 @@ impl<'a> Site<'a> {
         }
     }
 
-    /// What the address of an object or a part of it is made of.
+    /// The parts of the address of an object or a part of it.
     #[tactic(auto, unfolding(crate::specs::Queries::located))]
     pub fn located(&self, reference: &Reference) -> Located
         ensures { result ≡ located self.now reference.now }
@@ -256,7 +257,7 @@ impl<'a> Site<'a> {
         }
     }
 
-    /// Where an object or a part of it lies, where neither a base nor a computed subscript has a part in it.
+    /// The location of an object or a part of it, if its address needs no base and no computed subscript.
     #[tactic(auto, unfolding(crate::specs::Queries::location_of))]
     pub fn location_of(&self, reference: &Reference) -> Option<Location>
         ensures { result ≡ location_of self.now reference.now }
@@ -272,7 +273,7 @@ impl<'a> Site<'a> {
         }
     }
 
-    /// The place in memory of an object or a part of it, where it is known but for where things lie.
+    /// The place in memory of an object or a part of it, if that place is known.
     #[tactic(auto, unfolding(crate::specs::Queries::direct))]
     pub fn direct(&self, reference: &Reference) -> Option<Place>
         ensures { result ≡ direct self.now reference.now }
@@ -283,7 +284,7 @@ impl<'a> Site<'a> {
         }
     }
 
-    // The part of memory that HIGH of an expression is, if it is one.
+    // The part of memory that holds HIGH of an expression, if any.
     #[tactic(auto, unfolding(crate::specs::Queries::high_in_memory))]
     fn high_in_memory(&self, operand: ExpressionNumber) -> Option<Reference>
         ensures { result ≡ high_in_memory self.now operand }
@@ -301,7 +302,7 @@ impl<'a> Site<'a> {
         }
     }
 
-    // The part of memory that the low byte of an expression without LOW, DOUBLE and conversions around it is, if it is one.
+    // The part of memory that holds the low byte of an expression that is not LOW, DOUBLE or a conversion, if any.
     #[tactic(auto, unfolding(crate::specs::Queries::plain_in_memory))]
     fn plain_in_memory(&self, number: ExpressionNumber) -> Option<Reference>
         ensures { result ≡ plain_in_memory self.now number }
@@ -327,7 +328,7 @@ impl<'a> Site<'a> {
         self.tree.same_low_byte(number)
     }
 
-    /// The part of memory that holds the low byte of an expression, where the expression is a reference, or LOW, HIGH,
+    /// The part of memory that holds the low byte of an expression, if the expression is a reference, or LOW, HIGH,
     /// DOUBLE or a conversion of one.
     #[tactic(auto, unfolding(crate::specs::Queries::memory))]
     pub fn memory(&self, number: ExpressionNumber) -> Option<Reference>
@@ -337,7 +338,7 @@ impl<'a> Site<'a> {
         self.plain_in_memory(inner)
     }
 
-    // Where the low byte of an expression lies, where it lies in memory at a place without a computed part.
+    // The location of the low byte of an expression in memory, if its address needs no base and no computed subscript.
     #[tactic(auto, unfolding(crate::specs::Queries::location_of_byte))]
     fn location_of_byte(&self, number: ExpressionNumber) -> Option<Location>
         ensures { result ≡ location_of_byte self.now number }

@@ -1,4 +1,4 @@
-//! What relations ask.
+//! The questions that relations ask.
 
 ghost use Rattle.std.specs.Prelude.{◌≡◌};
 ghost use Rattle.steps8080.specs.Questions.{greatest, mirrored, number_question, question_of, relation_between, relation_of, relation_with_number};
@@ -7,7 +7,7 @@ use crate::sites::site::Site;
 use treecode::{ExpressionForm, ExpressionNumber};
 use trees::{BinaryOperator, ScalarType};
 
-/// What is asked of two operands.
+/// A question about two operands.
 #[derive(Clone, Copy)]
 pub enum Question {
     /// Whether the left one is below the right one.
@@ -18,7 +18,7 @@ pub enum Question {
     Equal,
 }
 
-/// What is asked of an operand and a number.
+/// A question about an operand and a number.
 #[derive(Clone, Copy)]
 pub enum NumberQuestion {
     /// Nothing: the answer is no.
@@ -29,7 +29,7 @@ pub enum NumberQuestion {
     Is(u16),
 }
 
-/// Two operands of one type and what is asked of them.
+/// Two operands of one type, and the question about them.
 #[derive(Clone, Copy)]
 pub struct Comparison {
     pub operands: ScalarType,
@@ -38,12 +38,12 @@ pub struct Comparison {
     pub question: Question,
 }
 
-/// What a relation asks.
+/// The question of a relation.
 #[derive(Clone, Copy)]
 pub enum Inquiry {
-    /// Something of two operands, neither of which is a number.
+    /// One about two operands that are not numbers.
     Between(Comparison),
-    /// Something of an operand and a number.
+    /// One about an operand and a number.
     WithNumber {
         operand: ExpressionNumber,
         scalar: ScalarType,
@@ -51,14 +51,14 @@ pub enum Inquiry {
     },
 }
 
-/// What a relation asks, and whether it holds where the answer is yes.
+/// The question of a relation, and whether the relation holds if the answer is yes.
 #[derive(Clone, Copy)]
 pub struct Relation {
     pub inquiry: Inquiry,
     pub holds_if: bool,
 }
 
-// What a relation's operator asks, and whether the relation holds where the answer is yes.
+// The question of a relational operator, and whether the relation holds if the answer is yes.
 fn question_of(operator: BinaryOperator) -> Option<(Question, bool)>
     ensures { result ≡ question_of operator }
 {
@@ -73,7 +73,7 @@ fn question_of(operator: BinaryOperator) -> Option<(Question, bool)>
     }
 }
 
-// The question with its sides changed.
+// The question with its operands exchanged.
 fn mirrored(question: Question) -> Question
     ensures { result ≡ mirrored question }
 {
@@ -94,8 +94,8 @@ fn greatest(scalar: ScalarType) -> u16
     }
 }
 
-// What is asked of an operand and a number on its right, and whether the answer is the same: it is above the number where
-// it is not below the next one.
+// The question about an operand and a number on its right, and whether its answer is the same. An operand is above the
+// number if it is not below the number plus 1.
 fn number_question(question: Question, number: u16, scalar: ScalarType) -> (NumberQuestion, bool)
     ensures { result ≡ number_question question number scalar }
 {
@@ -130,7 +130,7 @@ fn relation_with_number(
     }
 }
 
-// The relation of two operands, where `holds_if` tells whether it holds where the answer is yes.
+// The relation of two operands. It holds if the answer is `holds_if`.
 #[tactic(auto, unfolding(crate::specs::Questions::relation_between))]
 fn relation_between(site: &Site<'_>, comparison: &Comparison, holds_if: bool) -> Relation
     ensures { result ≡ relation_between site.now comparison.now holds_if }
@@ -149,7 +149,7 @@ fn relation_between(site: &Site<'_>, comparison: &Comparison, holds_if: bool) ->
     }
 }
 
-/// The relation that an expression is, if it is one.
+/// The relation that an expression stands for, if any.
 #[tactic(auto, unfolding(crate::specs::Questions::relation_of))]
 pub fn relation_of(site: &Site<'_>, number: ExpressionNumber) -> Option<Relation>
     ensures { result ≡ relation_of site.now number }

@@ -1,4 +1,4 @@
-//! Where code stands.
+//! Sites of code.
 
 ghost use Rattle.std.specs.Prelude.{◌≡◌};
 ghost use Rattle.steps8080.specs.Site.{distance, expression, rank, rank_at, scalar};
@@ -8,7 +8,7 @@ use frames::FramePlan;
 use treecode::{Expression, ExpressionNumber, Reference, Target, TreeModule};
 use trees::ScalarType;
 
-/// Where code stands: in which module, in the body of a procedure with which frame, and what is known of the registers.
+/// A site of code: its module, the frame of the procedure that it is in, and the facts about the registers.
 #[derive(Clone, Copy)]
 pub struct Site<'a> {
     pub tree: &'a TreeModule,
@@ -16,10 +16,10 @@ pub struct Site<'a> {
     pub facts: Facts,
 }
 
-// How many ranks there are for each number.
+// The number of ranks for each number of an expression.
 const RANKS: u8 = 16;
 
-// A rank for a number of an expression, above all those for lower numbers.
+// A rank for a number of an expression, above all ranks for lower numbers.
 fn rank_at(bound: u32, level: u8) -> u64
     ensures { result ≡ rank_at bound level }
 {
@@ -27,7 +27,7 @@ fn rank_at(bound: u32, level: u8) -> u64
 }
 
 impl<'a> Site<'a> {
-    /// The expression of a number, if there is one.
+    /// The expression with this number, if any.
     #[tactic(auto, unfolding(crate::specs::Site::expression))]
     pub fn expression(&self, number: ExpressionNumber) -> Option<Expression>
         ensures { result ≡ expression self.now number }
@@ -42,8 +42,8 @@ impl<'a> Site<'a> {
         self.tree.traits(number).scalar
     }
 
-    /// How far above the stack pointer a byte of a variable or parameter in the frame lies, where so many bytes are
-    /// pushed.
+    /// The distance from the stack pointer up to a byte of a variable or parameter in the frame, when `pushed` bytes
+    /// are pushed.
     #[tactic(auto, unfolding(crate::specs::Site::distance))]
     pub fn distance(&self, variable: u16, offset: u16, pushed: u16) -> u16
         ensures { result ≡ distance self.now variable offset pushed }
@@ -54,7 +54,7 @@ impl<'a> Site<'a> {
             .wrapping_add(pushed)
     }
 
-    /// A number for a task that is above that of each part of its code.
+    /// The rank of a task, above that of each part of its code.
     #[tactic(auto, unfolding(crate::specs::Site::rank))]
     pub fn rank(&self, task: Task) -> u64
         ensures { result ≡ rank self.now task }

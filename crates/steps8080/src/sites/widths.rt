@@ -1,4 +1,4 @@
-//! Which values need one byte, and which are in a register already.
+//! Values that fit a byte, and values that are in a register already.
 
 ghost use Rattle.std.specs.Prelude.{◌≡◌};
 ghost use Rattle.steps8080.specs.Widths.{direct_word, fits_byte, form_fits_byte, high_byte_in_memory, is_byte_in_register, is_number_below, is_word_in_hl, low_number, operand_in_memory, power, power_of_two, result_fits_byte, shift_fits_byte, unknown, word_in_memory};
@@ -10,7 +10,7 @@ use treecode::{Expression, ExpressionForm, ExpressionNumber, Location, Place, Re
 use trees::{BinaryOperator, ScalarType};
 use typed_trees::{ShiftFunction, UnaryFunction};
 
-/// How often 2 is to be multiplied with itself to give a number, if that gives it.
+/// The exponent of a power of 2, if the number is one.
 #[tactic(auto, unfolding(crate::specs::Widths::power_of_two))]
 pub fn power_of_two(number: u16) -> Option<u16>
     ensures { result ≡ power_of_two number }
@@ -24,7 +24,7 @@ pub fn power_of_two(number: u16) -> Option<u16>
 }
 
 impl<'a> Site<'a> {
-    // Whether a value is known to be below a number up to 256.
+    // Whether a value is known to be a number below `bound`.
     #[tactic(auto, unfolding(crate::specs::Widths::is_number_below))]
     fn is_number_below(&self, number: ExpressionNumber, bound: u16) -> bool
         ensures { result ≡ is_number_below self.now number bound }
@@ -35,7 +35,7 @@ impl<'a> Site<'a> {
         }
     }
 
-    // Whether an operator with ADDRESS operands gives a value below 256, as far as one operand shows.
+    // Whether one operand shows that an operator on ADDRESS operands gives a value below 256.
     #[tactic(auto, unfolding(crate::specs::Widths::result_fits_byte))]
     fn result_fits_byte(
         &self,
@@ -54,7 +54,7 @@ impl<'a> Site<'a> {
         }
     }
 
-    // Whether a shift of an ADDRESS gives a value below 256, as far as its count shows.
+    // Whether its count shows that a shift of an ADDRESS gives a value below 256.
     #[tactic(auto, unfolding(crate::specs::Widths::shift_fits_byte))]
     fn shift_fits_byte(&self, function: ShiftFunction, count: ExpressionNumber) -> bool
         ensures { result ≡ shift_fits_byte self.now function count }
@@ -65,7 +65,7 @@ impl<'a> Site<'a> {
         }
     }
 
-    // Whether an ADDRESS expression of a form has a value below 256, as far as that shows.
+    // Whether its form shows that an ADDRESS expression has a value below 256.
     #[tactic(auto, unfolding(crate::specs::Widths::form_fits_byte))]
     fn form_fits_byte(&self, form: &ExpressionForm) -> bool
         ensures { result ≡ form_fits_byte self.now form.now }
@@ -91,7 +91,7 @@ impl<'a> Site<'a> {
         }
     }
 
-    /// Whether the value of an expression is below 256, as far as its form shows: its low byte is all of it.
+    /// Whether its form shows that an expression has a value below 256, so that its low byte is the whole value.
     #[tactic(auto, unfolding(crate::specs::Widths::fits_byte))]
     pub fn fits_byte(&self, number: ExpressionNumber) -> bool
         ensures { result ≡ fits_byte self.now number }
@@ -134,7 +134,7 @@ impl<'a> Site<'a> {
         }
     }
 
-    /// The place in memory of the word that an expression is, where it is known but for where things lie.
+    /// The place in memory of the word that an expression refers to, if that place is known.
     #[tactic(auto, unfolding(crate::specs::Widths::direct_word))]
     pub fn direct_word(&self, number: ExpressionNumber) -> Option<Place>
         ensures { result ≡ direct_word self.now number }
@@ -145,7 +145,7 @@ impl<'a> Site<'a> {
         }
     }
 
-    /// The part of memory that holds the low byte of an expression, where its address comes into HL with A kept.
+    /// The part of memory that holds the low byte of an expression, if the code for its address keeps A.
     #[tactic(auto, unfolding(crate::specs::Widths::operand_in_memory))]
     pub fn operand_in_memory(&self, number: ExpressionNumber) -> Option<Reference>
         ensures { result ≡ operand_in_memory self.now number }
@@ -162,7 +162,7 @@ impl<'a> Site<'a> {
         }
     }
 
-    /// Whether HL holds the word that an expression is.
+    /// Whether HL holds the word that an expression refers to.
     #[tactic(auto, unfolding(crate::specs::Widths::is_word_in_hl))]
     pub fn is_word_in_hl(&self, number: ExpressionNumber) -> bool
         ensures { result ≡ is_word_in_hl self.now number }
@@ -190,7 +190,7 @@ impl<'a> Site<'a> {
         }
     }
 
-    /// The low byte of a number, where an expression is one.
+    /// The low byte of the value of an expression, if that is known as a number.
     #[tactic(auto, unfolding(crate::specs::Widths::low_number))]
     pub fn low_number(&self, number: ExpressionNumber) -> Option<u8>
         ensures { result ≡ low_number self.now number }
@@ -201,7 +201,7 @@ impl<'a> Site<'a> {
         }
     }
 
-    /// How often 2 is to be multiplied with itself to give the number that an expression is, if that gives it.
+    /// The exponent, if the value of an expression is known as a power of 2.
     #[tactic(auto, unfolding(crate::specs::Widths::power))]
     pub fn power(&self, number: ExpressionNumber) -> Option<u16>
         ensures { result ≡ power self.now number }
@@ -212,7 +212,7 @@ impl<'a> Site<'a> {
         }
     }
 
-    /// The same place, of whose registers nothing is known.
+    /// The same site without facts about the registers.
     pub fn unknown(&self) -> Site<'a>
         ensures { result ≡ unknown self.now }
     {

@@ -37,7 +37,7 @@ next_sign symbols =
     if at_mark marks.PlusSign symbols then Some Plus
     else (if at_mark marks.MinusSign symbols then Some Minus else None)
 
--- a constant after a sign, and what goes on after it
+-- a constant after a sign, and the offsets after it
 abbrev pub offset_then : Parser (List OffsetTree) → Option Sign → Parser (List OffsetTree)
 offset_then again None symbols = Ok ([], symbols)
 offset_then again (Some sign) symbols = do
@@ -221,7 +221,7 @@ subject_of None symbols = do
 unfoldable pub subject : Parser SubjectTree
 subject symbols = subject_of (next_name symbols) symbols
 
--- what stands after the subject of an item
+-- the rest of an item, after its subject
 abbrev pub item_after : SubjectTree → Parser ItemTree
 item_after its_subject symbols = do
   its_dimension ← dimension symbols

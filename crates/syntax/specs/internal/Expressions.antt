@@ -1,4 +1,4 @@
--- How the parser reads expressions: an operand, and then operators with what stands after them, as long as
+-- How the parser reads expressions: an operand, and then operators with their right operands, as long as
 -- they may stand there.
 use Rattle.std.specs.Prelude.{ℕ, zero, suc, Bool, ◌&&◌, nat_le, nat_lt, List, [], ◌∷◌, drop, length, Option, Some, None, Ok, Err, if◌then◌else◌}
 use Rattle.words.specs.declared.vocabulary.Mark.TheVariants as marks
@@ -49,11 +49,11 @@ top_level (UnaryNode operator operand) = unary_level_of operator
 top_level (BinaryNode operator left right) = level_of operator
 top_level tree = primary_level
 
--- whether an operator goes on with an expression of a level, where what comes out must stand at another
+-- whether an operator continues an expression of one level, where the result must be of another
 abbrev pub goes_on : ℕ → ℕ → BinaryOperator → Bool
 goes_on level top operator = nat_le level (level_of operator) && nat_le (left_level (level_of operator)) top
 
--- an operator that goes on with an expression of a level, where what comes out must stand at another
+-- an operator that continues an expression of one level, where the result must be of another
 abbrev pub operator_on : ℕ → ℕ → Option BinaryOperator → Option BinaryOperator
 operator_on level top None = None
 operator_on level top (Some operator) = if goes_on level top operator then Some operator else None
@@ -63,7 +63,7 @@ abbrev pub arguments_of : List ExpressionTree → ArgumentTrees
 arguments_of [] = NoArguments
 arguments_of (first ∷ others) = MoreArguments first (arguments_of others)
 
--- [`(` expression {`,` expression} `)`], where the expressions are read so
+-- [`(` expression {`,` expression} `)`], with this parser of expressions
 abbrev pub arguments : ExpressionParser → Parser ArgumentTrees
 arguments inner symbols =
     if at_mark marks.LeftParenthesis symbols then (do
@@ -119,7 +119,7 @@ reference inner symbols = do
   base ← name symbols
   reference_after inner base.0 base.1
 
--- what stands after a period: a reference, or constants in parentheses
+-- after a period: a reference, or constants in parentheses
 unfoldable pub location : ExpressionParser → Parser ExpressionTree
 location inner symbols =
     if at_mark marks.LeftParenthesis symbols then (do
@@ -160,13 +160,13 @@ assigned deeper (ReferenceLeaf target) symbols = do
   Ok (AssignmentNode target value.0, rest)
 assigned deeper tree symbols = Err Unexpected
 
--- what stands after an opening parenthesis and an expression
+-- the rest after an opening parenthesis and an expression
 abbrev pub closed : ExpressionParser → ExpressionTree → Parser ExpressionTree
 closed deeper tree symbols =
     if at_mark marks.RightParenthesis symbols then Ok (ParenthesizedNode tree, drop 1 symbols)
     else assigned deeper tree symbols
 
--- what stands after an opening parenthesis: expression `)`, or reference `:=` expression `)`
+-- after an opening parenthesis: expression `)`, or reference `:=` expression `)`
 unfoldable pub parenthesized : ExpressionParser → ExpressionParser → Parser ExpressionTree
 parenthesized inner deeper symbols = do
   found ← inner expression_level symbols
@@ -198,7 +198,7 @@ operand inner deeper level symbols =
       Ok (UnaryNode Negate found.0, found.1))
     else primary inner deeper symbols)
 
--- an operator with what stands after it, and what goes on after these; the whole takes no more levels than
+-- an operator, its right operand, and the operators after these; the whole takes no more levels than
 -- the room
 abbrev pub operator_then : ExpressionParser
     → (ExpressionTree → Parser ExpressionTree)
@@ -216,7 +216,7 @@ operator_then inner again room level left (Some operator) symbols =
     else Err TooDeep)
     else Ok (left, symbols)
 
--- operators that may stand at a level, with what stands after them, after a left operand
+-- operators that may stand at a level, with their right operands, after a left operand
 abbrev pub operators : ExpressionParser → ℕ → ℕ → ℕ → ExpressionTree → Parser ExpressionTree
 operators inner room level zero left symbols = Ok (left, symbols)
 operators inner room level (suc count) left symbols =

@@ -20,7 +20,7 @@ use Rattle.syntax.specs.internal.Statements.{BlockParser, at_semicolon, labels_b
 abbrev pub block_in : ℕ → BlockParser
 block_in room symbols = block (declaration true room) (statement true room) symbols
 
--- what a statement begins with, where a symbol that the grammar doesn't have is taken for a name
+-- the beginning of a statement, where a symbol that the grammar doesn't have is taken for a name
 abbrev pub next_beginning : List Symbol → Beginning
 next_beginning (UnknownSymbol ∷ rest) = Name
 next_beginning symbols = beginning_of symbols
@@ -64,7 +64,7 @@ statements_before [] others = others
 statements_before (first ∷ rest) others =
     MoreStatements (statement_tree first) (statements_before rest others)
 
--- what is read after statements, with these before it
+-- a reading of statements, with others before those that were read
 abbrev pub after_statements : List Statement → Reading StatementTrees → Reading StatementTrees
 after_statements made (Ok found) = Ok (statements_before made found.0, found.1)
 after_statements made (Err cause) = Err cause
@@ -75,12 +75,12 @@ declarations_before [] others = others
 declarations_before (first ∷ rest) others =
     MoreDeclarations (declaration_tree first) (declarations_before rest others)
 
--- what is read after declarations, with these before it
+-- a reading of declarations, with others before those that were read
 abbrev pub after_declarations : List Declaration → Reading DeclarationTrees → Reading DeclarationTrees
 after_declarations made (Ok found) = Ok (declarations_before made found.0, found.1)
 after_declarations made (Err cause) = Err cause
 
--- what was returned is what the whole is read as
+-- a returned value is the reading of the whole
 abbrev pub Makes : {X Y : Type 0} → (X → Y) → Result X (Failure Fault) → Result Y Cause → Type 0
 Makes view (Ok x) read = read ≡ Ok (view x)
 Makes view (Err failure) read = Fails failure read

@@ -26,7 +26,7 @@ items item symbols = do
   others ← all_more_items item first.1
   Ok (first.0 ∷ others.0, others.1)
 
--- `(` what is read `)`
+-- an item in parentheses
 abbrev pub in_parentheses : {A : Type 0} → Parser A → Parser A
 in_parentheses inner symbols = do
   later ← mark LeftParenthesis symbols
@@ -34,7 +34,7 @@ in_parentheses inner symbols = do
   rest ← mark RightParenthesis found.1
   Ok (found.0, rest)
 
--- what is read after items, with these before it
+-- a reading of items, with others before those that were read
 abbrev pub after_items : {A : Type 0} → List A → Reading (List A) → Reading (List A)
 after_items before (Ok others) = Ok (before ++ others.0, others.1)
 after_items before (Err cause) = Err cause

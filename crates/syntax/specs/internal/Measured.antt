@@ -19,7 +19,7 @@ measured_arguments found = argument_trees found.items.items
 abbrev pub measured_items : MeasuredArguments → List ExpressionTree
 measured_items found = map expression_tree found.items.items
 
--- where there was memory, an expression or a reference with this tree was made
+-- if memory did not run out, an expression or a reference with this tree was made
 abbrev pub MakesMeasured : {E : Type 0} → Result Measured E → ExpressionTree → Type 0
 MakesMeasured result tree = IfOk result (λ made. measured_tree made ≡ tree)
 

@@ -1,4 +1,4 @@
--- How the parser looks at symbols. No public clause speaks of what stands here.
+-- How the parser looks at symbols. No public clause cites these definitions.
 use Rattle.std.specs.Prelude.{ℕ, Bool, true, false, ◌==◌, List, ◌∷◌, drop, Option, Some, None, Result, Ok, Err, if◌then◌else◌}
 use Rattle.words.specs.declared.vocabulary.Mark.{Mark}
 use Rattle.words.specs.declared.vocabulary.Mark.TheVariants as marks
@@ -16,7 +16,7 @@ pub data Cause : Type 0 where
   TooDeep : Cause
   OtherEndName : Cause
 
--- what is read, with the symbols after it, or why there is nothing
+-- a reading: a value and the symbols after it, or the cause of a failure
 abbrev pub Reading : Type 0 → Type 0
 Reading A = Result (A × List Symbol) Cause
 
@@ -91,7 +91,7 @@ word_number words.To = 36
 word_number words.While = 37
 word_number words.Xor = 38
 
--- whether the tree keeps where a reserved word stands
+-- whether the tree keeps the place of a reserved word
 abbrev pub keeps_place : ReservedWord → Bool
 keeps_place words.At = true
 keeps_place words.Call = true
@@ -107,7 +107,7 @@ keeps_place words.Reentrant = true
 keeps_place words.Return = true
 keeps_place word = false
 
--- whether a mark is a semicolon, of which the tree keeps the place
+-- whether a mark is a semicolon, whose place the tree keeps
 abbrev pub is_semicolon : Mark → Bool
 is_semicolon marks.Semicolon = true
 is_semicolon mark = false
@@ -117,18 +117,18 @@ abbrev pub at_mark : Mark → List Symbol → Bool
 at_mark mark (MarkSymbol found ∷ rest) = mark_number found == mark_number mark
 at_mark mark symbols = false
 
--- whether the next symbol is this reserved word, of which no place is kept
+-- whether the next symbol is this reserved word, whose place is not kept
 abbrev pub at_word : ReservedWord → List Symbol → Bool
 at_word word (ReservedSymbol found ∷ rest) = word_number found == word_number word
 at_word word symbols = false
 
--- where this reserved word stands, if it is the next symbol, and its place is kept
+-- the place of this reserved word, if it is the next symbol, and its place is kept
 abbrev pub place_of_word : ReservedWord → List Symbol → Option Place
 place_of_word word (PlacedSymbol found place ∷ rest) =
     if word_number found == word_number word then Some place else None
 place_of_word word symbols = None
 
--- where a semicolon stands, if it is the next symbol
+-- the place of a semicolon, if it is the next symbol
 abbrev pub next_semicolon : List Symbol → Option Place
 next_semicolon (SemicolonSymbol place ∷ rest) = Some place
 next_semicolon symbols = None
@@ -157,7 +157,7 @@ abbrev pub taken : {A : Type 0} → Option A → Parser A
 taken (Some found) symbols = Ok (found, drop 1 symbols)
 taken None symbols = Err Unexpected
 
--- a semicolon, of which the place is read
+-- a semicolon, read as its place
 abbrev pub semicolon : Parser Place
 semicolon symbols = taken (next_semicolon symbols) symbols
 

@@ -13,28 +13,28 @@ use Rattle.syntax.specs.internal.Reader.{Cause, Unexpected, TooDeep, OtherEndNam
 abbrev pub left_of : List scanned.Word → List Symbol
 left_of words = symbols_of (lexemes_of words)
 
--- the cause that a failure tells of; out of memory tells of none
+-- the cause that a failure gives; out of memory gives none
 abbrev pub cause_of : Failure Fault → Option Cause
 cause_of (failures.Fault (Word line)) = Some Unexpected
 cause_of (failures.Fault (Depth line)) = Some TooDeep
 cause_of (failures.Fault (EndName line)) = Some OtherEndName
 cause_of failures.Memory = None
 
--- a cause is that for which reading gives nothing
+-- a cause is the cause of a failed reading; without one nothing is said
 abbrev pub FailsBy : {Y : Type 0} → Option Cause → Result Y Cause → Type 0
 FailsBy None read = Unit {0}
 FailsBy (Some cause) read = read ≡ Err cause
 
--- a failure has the cause for which reading gives nothing
+-- the cause of a failure is the cause of a failed reading
 abbrev pub Fails : {Y : Type 0} → Failure Fault → Result Y Cause → Type 0
 Fails failure read = FailsBy (cause_of failure) read
 
--- what was returned, with the symbols that are left, is what reading gives
+-- a returned value, with the symbols that are left, is the reading
 abbrev pub Gives : {X Y : Type 0} → (X → Y) → Result X (Failure Fault) → List Symbol → Reading Y → Type 0
 Gives view (Ok x) rest read = read ≡ Ok (view x, rest)
 Gives view (Err failure) rest read = Fails failure read
 
--- the same where nothing but the symbols that are left is told
+-- the same for a result that is the symbols left alone
 abbrev pub Leaves : {X : Type 0}
     → Result X (Failure Fault)
     → List Symbol
@@ -43,7 +43,7 @@ abbrev pub Leaves : {X : Type 0}
 Leaves (Ok x) rest read = read ≡ Ok rest
 Leaves (Err failure) rest read = Fails failure read
 
--- what was made is returned, or memory ran out
+-- the value that was made is returned, or memory ran out
 abbrev pub OrMemory : {X E : Type 0} → Result X E → Result X (Failure Fault) → Type 0
 OrMemory (Ok x) result = result ≡ Ok x
 OrMemory (Err error) result = result ≡ Err failures.Memory

@@ -26,7 +26,7 @@ abbrev pub at_semicolon : List Symbol → Bool
 at_semicolon (SemicolonSymbol place ∷ rest) = true
 at_semicolon symbols = false
 
--- what a statement begins with
+-- the beginning of a statement
 abbrev pub beginning_at : ReservedWord → Place → Beginning
 beginning_at words.Call place = beginnings.Call place
 beginning_at words.Return place = beginnings.Return place
@@ -224,7 +224,7 @@ iterative_do expressions inner place symbols = do
   body ← body_of_do inner head.1
   Ok (IterateStatement place head.0 body.0, body.1)
 
--- what stands after DO
+-- the rest of a statement, after DO
 unfoldable pub do_statement : ExpressionParser
     → Parser StatementTree
     → BlockParser
@@ -249,7 +249,7 @@ halt place symbols = do
   end ← semicolon symbols
   Ok (HaltStatement place, end.1)
 
--- a statement without labels, by what it begins with
+-- a statement without labels, by its beginning
 abbrev pub kind_by : ExpressionParser
     → Parser StatementTree
     → BlockParser
@@ -275,7 +275,7 @@ statement_by expressions inner inside symbols =
     labelled (labels_before symbols)
     (kind_by expressions inner inside (beginning_of (after_labels symbols)) (after_labels symbols))
 
--- a procedure, whose inside is read so
+-- a procedure, with this parser of its inside
 unfoldable pub procedure : Bool → BlockParser → Parser DeclarationTree
 procedure strict inside symbols = do
   head ← heading symbols
@@ -291,7 +291,7 @@ declare symbols = do
   end ← semicolon found.1
   Ok (DeclareTree found.0, end.1)
 
--- a declaration, where procedures are read so
+-- a declaration, with this parser of procedures
 unfoldable pub declare_or : Parser DeclarationTree → Parser DeclarationTree
 declare_or procedures symbols =
     if at_word words.Declare symbols then declare (drop 1 symbols) else procedures symbols

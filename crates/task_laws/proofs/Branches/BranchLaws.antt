@@ -1,4 +1,4 @@
--- The code of jumps where a condition holds does so.
+-- The code of jumps on a condition does what the condition means.
 use Rattle.task_laws.proofs.Prelude.{◌≡◌, ℕ, zero, suc, ◌+◌, ◌-◌, ◌*◌, ◌/◌, ◌%◌, ◌<◌, ◌≤◌, ◌==◌, Bool, true, false, not, ◌&&◌, List, [], ◌∷◌, ◌++◌, Option, Some, None, max, bit_and, bit_or, refl, sym, ap, ◌∙◌, subst, arith, if◌then◌else◌, false≢true, none-some, same_Some, and_comm, or_comm, ScalarType, BinaryOperator, Not, Negate, Low, High, Double, height_of, type_of, TypedExpression, BinaryNode, TypesHold, computed, SourceState, Outcome, Gave, then_do, as_type, is_true, result_of, result_of_one, truth, values_of, Registers, Expression, ExpressionForm, ExpressionNumber, IsExpression, IsForm, IsNumber, IsValue, IsLocation, IsConstantList, IsConversion, IsEmbedded, IsUnary, IsBinary, IsCallOf, IsFunction, IsShift, IsInput, Facts, LabelNumber, Step, Does, at_place, Comparison, Question, LeftBelow, RightBelow, Equal, Between, Relation, Site, expression, is_quiet, number, agree, question_of, relation_of, fits_byte, SameAs, Opposite, Whatever, Joined, Other, branch_setting, branch_steps, by_bit_steps, equality_steps, is_odd, outcome_branch_steps, shape_of, shape_of_form, shape_steps, other_steps, relation_outcome, relation_steps, equality_of_words, low_difference_steps, words_asked, words_of, words_steps, knowing, jumps_once, Context, IsSound, nodes_in, StepsStand, PartThere, BranchDoes, Parts, PartDoes, in_order}
 use Rattle.trees.specs.declared.declaration.ScalarType.TheVariants as scalars
 use Rattle.trees.specs.declared.expression.BinaryOperator.TheVariants as operators

@@ -1,4 +1,4 @@
--- Code that jumps where a condition holds.
+-- Code that jumps on a condition.
 use Rattle.task_laws.proofs.Prelude.{◌≡◌, ℕ, ◌*◌, ◌%◌, ◌≤◌, ◌==◌, Bool, true, false, not, List, ◌++◌, refl, sym, ap, ◌∙◌, arith, height_of, TypedExpression, TypesHold, SourceState, Outcome, Gave, Stopped, then_do, is_true, truth, Condition, NotZero, NoCarry, rotate_right_of, Registers, ExpressionNumber, IsExpression, Facts, Does, at_place, Relation, Shown, Known, Where, branch_setting, by_bit_steps, outcome_branch_steps, relation_outcome, relation_steps, knowing, Context, IsSound, nodes_in, StepsStand, PartThere, PlainThere, Parts, PartDoes}
 use Rattle.isa8080.specs.declared.instr.Condition.TheVariants.{Zero, Carry}
 use Rattle.operands8080.specs.declared.answers.Purpose.TheVariants as purposes
@@ -10,7 +10,7 @@ use Rattle.task_laws.proofs.Machine.Rules.{split}
 use Rattle.task_laws.proofs.Machine.SiteNodes.{value_in}
 use Rattle.task_laws.proofs.Machine.Stages.{Stage, at_a, at_byte, does_same, script_of}
 
--- what is given as it is
+-- a value that is passed on
 pub given_itself : {A : Type 0} (outcome : Outcome A) → outcome ≡ then_do outcome (λ found u. Gave found u)
 given_itself (Gave found u) = refl
 given_itself (Stopped why u) = refl
@@ -19,7 +19,7 @@ pub truth_is_true : (holds : Bool) → is_true (truth holds) ≡ holds
 truth_is_true true = refl
 truth_is_true false = refl
 
--- where a jump by an outcome comes to
+-- the end of a jump by an outcome
 outcome_jumps :
     {context : Context} {top pushed need : ℕ} {base : List ℕ} {u : SourceState} {facts last : Facts}
     {r : Registers} {memory : List ℕ} {from to : ℕ} {tree : TypedExpression} (branch : Branch) (shown : Shown)
@@ -53,7 +53,7 @@ outcome_jumps branch (Where Rattle.isa8080.specs.declared.instr.Condition.TheVar
 outcome_jumps branch (Where Rattle.isa8080.specs.declared.instr.Condition.TheVariants.Plus) answer sound shows stand stage = absurd shows
 outcome_jumps branch (Where Rattle.isa8080.specs.declared.instr.Condition.TheVariants.Minus) answer sound shows stand stage = absurd shows
 
--- a jump by a relation whose answer the flags show
+-- a jump by a relation; the flags show its answer
 pub relation_jumps :
     {context : Context} {top need : ℕ} {base : List ℕ} {s : SourceState} {facts last : Facts}
     {r : Registers} {memory : List ℕ} {from to bound : ℕ} {tree : TypedExpression} (branch : Branch) (relation : Relation)

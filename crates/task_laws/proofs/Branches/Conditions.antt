@@ -1,4 +1,4 @@
--- Conditions whose lowest bit is that of a part, or of both.
+-- Conditions with the lowest bit of a part, or of both parts.
 use Rattle.task_laws.proofs.Prelude.{◌≡◌, ℕ, ◌*◌, ◌≤◌, Bool, true, false, not, List, [], ◌∷◌, refl, sym, ap, ◌∙◌, subst, arith, if◌then◌else◌, false≢true, height_of, TypedExpression, TypesHold, SourceState, Outcome, Gave, then_do, is_true, Registers, State, ExpressionNumber, IsExpression, Facts, LabelNumber, Part, label_of, Does, at_place, after_step, gives, no_facts_hold, Found, Fails, IsQuiet, outcome_of, in_order, branch_part, joined_steps, agree, jumps_once, Context, nodes_in, StepsStand, NoneThere, PartThere, MarkThere, BranchDoes, Know, Parts, Goes, Passes, PartDoes}
 use Rattle.steps8080.specs.declared.step.Step.TheVariants as steps
 use Rattle.treecode_laws.specs.internal.Evaluations.{Answer}
@@ -22,7 +22,7 @@ pub only_part :
     → PartIs facts part from last to
 only_part (PartThere is ends) = ended ends is
 
--- where a jump by a part comes to, the whole does
+-- the whole jumps to the same place as the part
 pub same_parts :
     {context : Context} {after : Facts} {inner tree : TypedExpression} {label : LabelNumber} {sense other : Bool}
     {top : ℕ} {base : List ℕ} {to v found : ℕ} {u : SourceState} {end : State}
@@ -61,7 +61,7 @@ part_jumps {context = context} {top = top} {base = base} {s = s} {r = r} {memory
     (λ v u end is parts spent.
     let both = bits v u is in gives (same_parts parts both.0 both.1 once))
 
--- a quiet value, of which nothing is wanted but that it is there
+-- a quiet value that is not used
 quiet_given :
     {C : Type 0} {script : List (List ℕ)} {budget more : ℕ} {from : State} {Good : C → SourceState → State → Type 0}
     (go : SourceState → Outcome ℕ) (rest : ℕ → SourceState → Outcome C) (u : SourceState)

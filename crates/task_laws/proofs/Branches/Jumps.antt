@@ -5,7 +5,7 @@ use Rattle.asm8080.specs.declared.item.WordForm.TheVariants as forms
 use Rattle.operands8080.specs.declared.branches.Branch.{Branch}
 use Rattle.task_laws.proofs.Machine.Stages.{Stage, at_end, script_of}
 
--- a machine that has come to the end of code that jumps
+-- a machine at the end of code that jumps
 pub passes :
     {context : Context} {top pushed need : ℕ} {base : List ℕ} {u : SourceState} {last : Facts}
     {r : Registers} {memory : List ℕ} {tree : TypedExpression} {label : LabelNumber} {sense : Bool} (to found : ℕ)

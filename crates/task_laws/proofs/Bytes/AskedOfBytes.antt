@@ -1,4 +1,4 @@
--- What the laws of comparisons and branches ask is met.
+-- The assumptions of the laws of comparisons and branches hold.
 use Rattle.task_laws.proofs.Prelude.{Context, IsSound}
 use Rattle.task_laws.proofs.Bytes.BytesAsked.{BytesAsked}
 use Rattle.task_laws.proofs.Bytes.GivenPairs.{pairs_given}

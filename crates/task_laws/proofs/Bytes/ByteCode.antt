@@ -1,4 +1,4 @@
--- The low byte of a value that has one part whose value counts: code on registers follows that of the part.
+-- The low byte of a value with one part that counts: code on registers follows that of the part.
 use Rattle.task_laws.proofs.Prelude.{◌≡◌, ℕ, zero, suc, ◌*◌, ◌/◌, ◌%◌, ◌<◌, ◌≤◌, Bool, true, false, List, [], ◌∷◌, replicate, refl, sym, ap, ◌∙◌, subst, arith, false≢true, height_of, type_of, TypedExpression, TypesHold, SourceState, Ended, More, Outside, Outcome, Gave, Stopped, then_do, values_of, Instr, Dcr, Inr, Of, A, Flags, decrement_of, increment_of, Registers, State, times, ExpressionNumber, IsExpression, Facts, Part, Step, part, plain, Arrives, Does, Lands, at_place, gives, is_free, Context, IsSound, SourceFits, nodes_in, StepsStand, PartThere, PlainThere, ByteIsGiven, Carries, ChangesAOnly, EffectsDo, Know, Nothing, PartDoes}
 use Rattle.steps8080.specs.declared.step.Task.TheVariants as tasks
 use Rattle.task_laws.proofs.Bytes.ByteForms.{byte_given}
@@ -49,7 +49,7 @@ changes_on one other = record {
   same_memory = one.same_memory;
 }
 
--- an instruction that changes A alone, so many times
+-- an instruction that changes only A, `count` times
 pub repeats_on_a :
     (i : Instr) (f : ℕ → ℕ) (count : ℕ) (r : Registers)
     → ((now : Registers) → ((does_to i now).a ≡ f now.a) × IsBeside now (does_to i now))
@@ -105,7 +105,7 @@ at_last_instructions (i ∷ others) sound on stand stage rest =
     at_instructions (i ∷ []) (plain others) sound (on.0, tt) stand stage
     (λ middle found ends next. at_last_instructions others sound on.1 ends next rest)
 
--- what an outcome is may be used of what is reached
+-- at the end of a run, the equation for its outcome may be used
 pub with_outcome :
     {A : Type 0} {script : List (List ℕ)} {budget more : ℕ} {from : State} (outcome : Outcome A)
     {Good Better : A → SourceState → State → Type 0}
@@ -158,7 +158,7 @@ free_effects context facts last number pushed from to bound tree does free is ty
       holds = record { known = (arrives.holds).known; free = (arrives.holds).free free };
     }))
 
--- the low byte of a tree comes into A
+-- the low byte of a tree is put into A
 abbrev pub ByteCarried :
     Context → (facts : Facts) → (number : ExpressionNumber) → TypedExpression → (pushed from : ℕ) → (last : Facts)
     → (to : ℕ) → Type 0
@@ -166,7 +166,7 @@ ByteCarried context facts number tree pushed from last to =
     Carries context facts pushed (2 * height_of tree) 0 from to Nothing (value_in context tree)
     (ByteIsGiven context last number (type_of tree))
 
--- a tree whose value is a function of that of one part, which is below a limit, beside which nothing is done
+-- a tree with a value that is a function of that of one part, which is below a limit; nothing else is done
 pub record OfOne
     (context : Context) (number inner : ExpressionNumber) (tree inside : TypedExpression) (g : ℕ → ℕ)
     (limit : ℕ) : Type 0 where
@@ -237,7 +237,7 @@ module _
       ∙ ap (λ h. f h now.l) given.h ∙ ap (λ l. f (v / 256) l) given.l ∙ bytes v fits)
       (one.small v fits) (λ free. absurd (not_free free)) final)))
 
-  -- whatever its value is, after what it does
+  -- any value, after its effects
   pub byte_alone :
       (instructions : List Instr) (k : ℕ)
       → AreStraight instructions
@@ -280,7 +280,7 @@ module _
           at_effects _ _ _ does one.node one.types one.fewer stage
           (λ v u now memory_now same next. ends v u now memory_now same (λ free. absurd (false≢true (sym is ∙ free))) next)
 
-  -- the same where the code is known by what it makes
+  -- the same, from the result of the code
   pub byte_by_code :
       {steps : List Step} {f : ℕ → ℕ}
       → CodeOfA steps f

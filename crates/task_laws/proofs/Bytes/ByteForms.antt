@@ -1,11 +1,11 @@
--- The low byte of a value that has one part: conversions, LOW, DOUBLE, NOT and `-`.
+-- The low byte of a value with one part: conversions, LOW, DOUBLE, NOT and `-`.
 use Rattle.task_laws.proofs.Prelude.{◌≡◌, ℕ, ◌+◌, ◌-◌, ◌*◌, ◌%◌, ◌<◌, ◌≤◌, true, List, [], ◌∷◌, Option, None, refl, ap, ◌∙◌, arith, option_map_or, ScalarType, Byte, Address, Not, Negate, height_of, type_of, TypedExpression, TypesHold, SourceState, Gave, then_do, as_type, result_of_one, values_of, Cma, Inr, Of, A, increment_of, Registers, Expression, ExpressionNumber, Place, IsExpression, is_free_form, is_free_of, known_of, no_traits, traits_of, Facts, Plain, part, Arrives, Does, at_place, gives, is_free, Context, IsSound, nodes_in, StepsStand, PartThere, PlainThere, ByteIsGiven, Carries, ChangesAOnly, Nothing, PartDoes}
 use Rattle.steps8080.specs.declared.step.Task.TheVariants as tasks
 use Rattle.task_laws.proofs.Machine.Nodes.{NodeOf}
 use Rattle.task_laws.proofs.Machine.SiteNodes.{free_is, value_in}
 use Rattle.task_laws.proofs.Machine.Stages.{Stage, at_a, at_byte, at_end, script_of}
 
--- whether a node is free is what its form says, where its value is not known
+-- a node without a known value is free if its form is
 pub free_by_form :
     {context : Context} {number : ExpressionNumber} {tree : TypedExpression}
     (node : NodeOf context number tree)
@@ -61,7 +61,7 @@ module _
     (means : (t : SourceState) → value_in context tree t ≡ then_do (value_in context inside t) (λ v u. Gave (f v) u))
     (small : (v : ℕ) → v < values_of (type_of inside) → f v < values_of (type_of tree))
     (is_free_too : is_free context.site number ≡ true → is_free context.site inner ≡ true) where
-  -- what the code of such a value does
+  -- the law of the code of such a value
   abbrev Gives : Type 0
   Gives =
       Carries context facts pushed (2 * height_of tree) 0 from to Nothing (value_in context tree)
@@ -93,7 +93,7 @@ module _
       (λ final. byte_given to number (f v) (ap (λ n. 255 - n) given.a ∙ bytes v given.small) (small v given.small)
       (λ free. changes_a (255 - now.a) now.flags (given.free (is_free_too free))) final))))
 
-  -- and what is to be added to it for 0
+  -- the number that is added to it to give 0
   pub byte_negative :
       ((v : ℕ) → v < values_of (type_of inside) → (255 - v % 256 + 1) % 256 ≡ f v % 256)
       → StepsStand context (PartDoes context) facts from

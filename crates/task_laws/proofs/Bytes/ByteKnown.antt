@@ -1,4 +1,4 @@
--- The low byte of a value that is known but for where things lie.
+-- The low byte of a value that is known as a number or a relocatable address.
 use Rattle.task_laws.proofs.Prelude.{◌≡◌, ℕ, ◌/◌, ◌%◌, ◌<◌, true, false, [], ◌∷◌, Option, Some, None, is_some, refl, sym, ap, ◌∙◌, subst, arith, false≢true, option_map_or, Byte, type_of, TypedExpression, TypesHold, values_of, A, L, Registers, LoadPair, Hl, Expression, ExpressionNumber, Place, Number, Code, Data, External, number_of_place, IsExpression, place_number, is_free_of, known_of, no_traits, traits_of, known_kept, place_at, Facts, Plain, Word, copy, low, is_free, known, known_byte_steps, knowing, byte_number_steps, Context, IsSound, nodes_in, StepsStand, WordThere, PartDoes}
 use Rattle.task_laws.proofs.Bytes.ByteCode.{ByteCarried, at_last_instructions, changes_on}
 use Rattle.task_laws.proofs.Bytes.ByteForms.{byte_given}
@@ -9,7 +9,7 @@ use Rattle.task_laws.proofs.Machine.Rules.{ready_with_registers, word_goes}
 use Rattle.task_laws.proofs.Machine.SiteNodes.{free_is, known_is, known_means}
 use Rattle.task_laws.proofs.Machine.Stages.{does_same}
 
--- what is known at a site is what the form says
+-- a value is known at a site if its form says so
 pub known_by_form :
     {context : Context} {number : ExpressionNumber} {tree : TypedExpression} (facts : Facts)
     (node : NodeOf context number tree)
@@ -22,7 +22,7 @@ known_by_form facts node =
     ]) (node.at_site facts)
     ∙ ap (λ traits. traits.known) node.traits
 
--- whether a node is free is what its form and its known value say
+-- a node is free according to its form and its known value
 pub free_by_known :
     {context : Context} {number : ExpressionNumber} {tree : TypedExpression} (found : Option Place)
     (node : NodeOf context number tree)
@@ -89,7 +89,7 @@ known_law {context = context} {facts = facts} {last = last} {from = from} {to = 
     free_here : is_free context.site number ≡ is_some (number_of_place place)
     free_here = free_by_known (Some place) node (sym (known_by_form facts node) ∙ here)
 
-    -- where it is no number, by way of HL
+    -- a value that is not a number, through HL
     by_word : (there : Place) → place ≡ there → is_some (number_of_place there) ≡ false
         → StepsStand context (PartDoes context) facts from
         (Word (LoadPair Hl) there ∷ Plain (copy A L) ∷ []) last to

@@ -163,7 +163,7 @@ module _
     (context : Context) {facts last : Facts} {from to pushed : ℕ} {number inner : ExpressionNumber}
     {tree inside : TypedExpression} {g : ℕ → ℕ} {limit : ℕ} (sound : IsSound context)
     (one : OfOne context number inner tree inside g limit) where
-  -- 0, after what an expression does
+  -- 0, after the effects of an expression
   pub zero_after :
       ((v : ℕ) → v < limit → 0 ≡ g v % 256)
       → StepsStand context (PartDoes context) facts from

@@ -1,4 +1,4 @@
--- An operation of the low bytes of two values, in each of the ways in which these come to it.
+-- An operation on the low bytes of two values, for each form.
 use Rattle.task_laws.proofs.Prelude.{◌≡◌, ℕ, ◌+◌, ◌*◌, ◌/◌, ◌%◌, ◌<◌, ◌≤◌, true, List, [], ◌∷◌, Some, refl, sym, ap, ◌∙◌, subst, arith, cond_some, option_and_then_some, or_of_8, xor_of_8, and_le_l, byte_at, height_of, type_of, TypedExpression, NumberNode, ValueNode, LocationNode, ListNode, ConversionNode, AssignmentNode, UnaryNode, BinaryNode, CallNode, FunctionNode, ShiftNode, InputNode, PartOf, TypesHold, SourceState, Outcome, Gave, values_of, Pop, Push, Operation, Add, AddWithCarry, Subtract, SubtractWithBorrow, And, ExclusiveOr, Or, Compare, A, B, E, Psw, StackBc, Flags, operate, flag_byte, Registers, State, with_popped, word, wrap, ExpressionNumber, Reference, IsExpression, Facts, Plain, copy, with_memory, with_register, part, Does, at_place, is_free, keeps_of_address, memory, fits_byte, operand_in_memory, exchanged, in_order, knowing, Context, IsSound, nodes_in, StepsStand, PartThere, PlainThere, PartDoes}
 use Rattle.steps8080.specs.declared.step.Task.TheVariants.{Address, Byte}
 use Rattle.task_laws.proofs.Bytes.BytesAsked.{BytesAsked, ByteIsAtHl}
@@ -51,7 +51,7 @@ some_height (FunctionNode function operand) = omega arith
 some_height (ShiftNode scalar function moved count) = omega arith
 some_height (InputNode port) = omega arith
 
--- an operand in memory is one whose address leaves A alone
+-- an operand in memory; the code for its address keeps A
 pub record IsOperandAt (context : Context) (facts : Facts) (number : ExpressionNumber) (reference : Reference) : Type 0 where
   pub is_there : memory (knowing context.site facts) number ≡ Some reference
   pub keeps : (keeps_of_address context.site reference).a ≡ true
@@ -90,7 +90,7 @@ value_of {context = context} {top = top} {bound = bound} {base = base} {t = t} {
       asked.fits known_there number bound top v tree base t u r memory_then node types stage.ready fit is;
 }
 
--- what goes on after an operation of the low bytes of two values
+-- the rest of the code after an operation on the low bytes of two values
 abbrev pub GoesOnOperated :
     {C : Type 0} → Context → (first second : TypedExpression) → (number other : ExpressionNumber) → Operation → (top pushed need : ℕ) → (base : List ℕ)
     → Facts → (place more : ℕ) → (go : ℕ → ℕ → SourceState → Outcome C)

@@ -7,7 +7,7 @@ use Rattle.task_laws.proofs.Bytes.ByteShiftNumbers.{doubled_code, low_of_type}
 use Rattle.task_laws.proofs.Words.Multiples.{bit_clear, bit_instructions, bit_is, bit_set, chain_instructions, chain_on, chain_same, effect_on, factor, fewer_bits, first_quotient, last_quotient, less_bits, next_quotient, power_is}
 use Rattle.task_laws.proofs.Machine.RegisterCode.{effect}
 
--- where the bits from one on have been gone through: A is the multiple by them, or what it was where all are 0
+-- after the bits from one on: A is the multiple by them, or unchanged if all are 0
 record Gone (below : Bool) (x gone : ℕ) (now : Registers) : Type 0 where
   nothing : below ≡ false → gone ≡ 0
   a : now.a ≡ (x * factor below gone) % 256

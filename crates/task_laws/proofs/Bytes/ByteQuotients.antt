@@ -1,4 +1,4 @@
--- The low byte of operators with one operand that is a number, by what they mean; quotients and remainders.
+-- The low byte of operators with one operand that is a number, by their meaning; quotients and remainders.
 use Rattle.task_laws.proofs.Prelude.{◌≡◌, ℕ, ◌+◌, ◌-◌, ◌/◌, ◌%◌, ◌^◌, ◌<◌, ◌≤◌, ◌==◌, true, false, List, [], ◌∷◌, ◌++◌, Option, Some, None, is_some, option_and_then, bit_and, refl, sym, ap, ◌∙◌, subst, arith, if◌then◌else◌, ne_eqb, and_mask, pow_pos, mod-le, none-some, same_Some, and_mod, ScalarType, BinaryOperator, height_of, type_of, type_of_result, BinaryNode, TypedExpression, TypesHold, computed, SourceState, Outcome, Gave, result_of, values_of, And, A, E, Registers, State, word, Event, ExpressionNumber, Number, IsExpression, Does, at_place, gives, Facts, Part, CallRoutine, Plain, copy, low, is_free, number_of, power, power_of_two, LeftInHl, pair_steps, number_of_two, quotient_byte_steps, remainder_byte_steps, with_number_steps, low_byte_shifted_right_steps, knowing, low_of_word_steps, Context, IsSound, nodes_in, StepsStand, NoneThere, PartDoes}
 use Rattle.trees.specs.declared.declaration.ScalarType.TheVariants as scalars
 use Rattle.trees.specs.declared.expression.BinaryOperator.TheVariants as operators
@@ -19,7 +19,7 @@ use Rattle.task_laws.proofs.Words.WordArithmetic.{word_is}
 use Rattle.task_laws.proofs.Words.WordRoutines.{divided_does, some_of}
 use Rattle.task_laws.proofs.Words.WordSums.{first_known, one_high, second_known, two_high}
 
--- an operator whose right operand is a number
+-- an operator with a number on the right
 pub of_left :
     {context : Context} {left right : ExpressionNumber} {first second : TypedExpression} (facts : Facts)
     (number : ExpressionNumber) (operator : BinaryOperator) (operands : ScalarType) (k : ℕ) (g : ℕ → ℕ)
@@ -47,7 +47,7 @@ of_left {context = context} {first = first} {second = second} facts number opera
   free = free;
 }
 
--- and one whose left operand is
+-- an operator with a number on the left
 pub of_right :
     {context : Context} {left right : ExpressionNumber} {first second : TypedExpression} (facts : Facts)
     (number : ExpressionNumber) (operator : BinaryOperator) (operands : ScalarType) (k : ℕ) (g : ℕ → ℕ)
@@ -75,7 +75,7 @@ of_right {context = context} {first = first} {second = second} facts number oper
   free = free;
 }
 
--- what is a power of two
+-- a power of two
 power_there :
     (context : Context) (facts : Facts) (right : ExpressionNumber) (count : ℕ)
     → power (knowing context.site facts) right ≡ Some count

@@ -23,7 +23,7 @@ code_same code same = record {
   beside = code.beside;
 }
 
--- an instruction so many times
+-- an instruction `count` times
 pub repeated_code :
     (i : Instr) (f : ℕ → ℕ) (count : ℕ)
     → IsOnRegisters i
@@ -64,7 +64,7 @@ code_on {other = other} {g = g} first second small = record {
       (beside_on (first.beside r) (second.beside (effect first.instructions r)));
 }
 
--- A doubled so many times
+-- A doubled `count` times
 pub doubled_code : (count : ℕ) → count < 8 → CodeOfA (repeat_steps (with_register Add A) count) (λ x. (x * 2 ^ count) % 256)
 doubled_code count few =
     code_same (repeated_code (with_register Add A) shift_left count tt (λ now. (omega arith, beside_a _ _ now)))
@@ -113,7 +113,7 @@ right_code count few = by (nat_le count 4) refl
         (λ x small.
         turned_left (8 - count) x (less_turns count more) small ∙ ap (λ n. turned x n) (less_right count more few))
 
--- what a turn to the right brings in is taken away
+-- the bits that a rotation to the right brings in are masked
 masked : (count x : ℕ) → count < 8 → x < 256 → bit_and (turned x ((8 - count) % 8)) (255 / 2 ^ count) ≡ x / 2 ^ count
 masked zero x few small =
     equal_below (λ k. bit_and (turned k ((8 - 0) % 8)) (255 / 2 ^ 0)) (λ k. k / 2 ^ 0) 256 x refl small

@@ -1,4 +1,4 @@
--- The low byte of any value shifted to the right by a number.
+-- The low byte of any value shifted right by a number.
 use Rattle.task_laws.proofs.Prelude.{◌≡◌, ℕ, zero, suc, ◌+◌, ◌-◌, ◌*◌, ◌/◌, ◌%◌, ◌^◌, ◌<◌, ◌≤◌, ◌==◌, Bool, true, false, nat_le, List, [], ◌∷◌, ◌++◌, replicate, pow-add, refl, sym, ap, ◌∙◌, subst, arith, if◌then◌else◌, eqb-true, eqb-false, leb-true, leb-false, false≢true, div-div-eq-div-mul, div-eq_of_lt, pow-le-pow_right, ScalarType, type_of, TypedExpression, values_of, Instr, Dad, Rar, Or, Hl, A, H, L, bit, Registers, ExpressionNumber, Facts, Plain, clear_a, copy, with_register, part, plain, repeat_steps, is_free, fits_byte, byte_shifted_right_steps, low_byte_shifted_right_steps, middle_byte_steps, right_shift_steps, zero_steps, knowing, high_byte_steps, Context, IsSound, StepsStand, PartDoes}
 use Rattle.trees.specs.declared.declaration.ScalarType.TheVariants as scalars
 use Rattle.steps8080.specs.declared.step.Task.TheVariants as tasks
@@ -31,7 +31,7 @@ high_small v small = omega (arith, small)
 first_half : (v h l : ℕ) → h ≡ v / 256 → l ≡ v % 256 → l / 2 + 128 * (h % 2) ≡ v / 2 % 256
 first_half v h l one two = omega (arith, one, two)
 
--- the middle byte of a word, by the word shifted to the left by what is missing to 8
+-- the middle byte of a word, from the word shifted left by 8 minus the count
 middle : (count v : ℕ) → 1 ≤ count → count < 8 → v < 65536 → (v * 2 ^ (8 - count)) % 65536 / 256 ≡ v / 2 ^ count % 256
 middle zero v some few small = absurd (omega (arith, some))
 middle (suc zero) v some few small = omega (arith, small)

@@ -21,7 +21,7 @@ use Rattle.task_laws.proofs.Machine.Stages.{at_carried}
 high_itself : (n : ℕ) → n / 256 < 256 → n / 256 ≡ n / 256 % 256
 high_itself n small = omega (arith, small)
 
--- the value of a target is of the type of what goes to it
+-- the source type of a target is that of the value that is stored in it
 source_is :
     (context : Context) {bound : ℕ} {target : Target} {to : TypedTarget} {scalar : ScalarType}
     → IsTarget (nodes_in context) context.storage bound target to

@@ -1,11 +1,11 @@
--- What is asked here of other parts of the proof: where the low byte of an expression lies in memory, its address comes
--- into HL by the code of the reference.
+-- Assumptions about other parts of the proof: if the low byte of an expression is in memory, the code of the
+-- reference puts its address into HL.
 use Rattle.task_laws.proofs.Prelude.{◌≡◌, ℕ, ◌+◌, ◌*◌, ◌/◌, ◌%◌, ◌<◌, ◌==◌, ◌⊎◌, max, List, Bool, Some, true, byte_at, ScalarType, height_of, type_of, TypedExpression, TypesHold, SourceState, Outcome, Gave, values_of, Registers, word, ExpressionNumber, Place, Reference, place_after, IsExpression, Facts, keeps_of_address, memory, direct_word, fits_byte, IsReady, IsSteady, place_at, PairOrder, LeftInHl, RightInHl, pair_order, pair_steps, Purpose, Branch, Value, Setting, word_is_zero_steps, GoesOutside, in_order, knowing, Context, nodes_in, StepsStand, AddressDoes, Carries, Know, Left, Nothing, PartDoes}
 use Rattle.trees.specs.declared.declaration.ScalarType.TheVariants as scalars
 use Rattle.operands8080.specs.WordRelations.{high_byte_steps}
 use Rattle.task_laws.proofs.Machine.SiteNodes.{value_in}
 
--- the low byte of a value lies at the address in HL; A is left alone where the tree says so
+-- the low byte of a value is at the address in HL; A is kept if the traits say so
 pub record ByteIsAtHl
     (context : Context) (after : Facts) (reference : Reference) (scalar : ScalarType)
     (r : Registers) (memory : List ℕ) (found : ℕ) (now : Registers) (memory_now : List ℕ) : Type 0 where
@@ -26,7 +26,7 @@ LocatesBytes context =
     → Carries context before pushed (2 * height_of tree) 0 from to Nothing (value_in context tree)
     (ByteIsAtHl context after reference (type_of tree))
 
--- a value whose form shows that it is below 256 is
+-- a value is below 256 if its form shows it
 abbrev pub FitsMeans : Context → Type 0
 FitsMeans context =
     (known_there : Facts) (number : ExpressionNumber) (bound top found : ℕ) (tree : TypedExpression) (base : List ℕ)
@@ -49,7 +49,7 @@ ValuesFit context =
     → value_in context tree s ≡ Gave found t
     → found < values_of (type_of tree)
 
--- two words lie in HL and DE
+-- two words are in HL and DE
 abbrev pub PairLies : PairOrder → (v w : ℕ) → Registers → Type 0
 PairLies LeftInHl v w r =
     (r.h ≡ v / 256) × (r.l ≡ v % 256) × (r.d ≡ w / 256) × (r.e ≡ w % 256)
@@ -69,7 +69,7 @@ abbrev pub pair_of_values : Context → (first second : TypedExpression) → Sou
 pair_of_values context first second s =
     in_order (value_in context first) (value_in context second) (λ v w u. Gave (v, w) u) s
 
--- two operands come into HL and DE
+-- two operands are put into HL and DE
 abbrev pub PairsGiven : Context → Type 0
 PairsGiven context =
     (facts last : Facts) (left right : ExpressionNumber) (wants_left_in_hl : Bool) (pushed from to bound : ℕ)
@@ -84,7 +84,7 @@ PairsGiven context =
     (pair_of_values context first second)
     (PairIsGiven context last (pair_order (knowing context.site facts) left right wants_left_in_hl))
 
--- the word that lies at a place in memory, where a state of the source is that of the machine
+-- the word at a place in memory, if the state of the source is that of the machine
 pub record WordAtPlace
     (context : Context) (place : Place) (memory : List ℕ) (s : SourceState) (outcome : Outcome ℕ) : Type 0 where
   pub found : ℕ
@@ -111,7 +111,7 @@ pub record HighIsGiven
   pub a : now.a ≡ found / 256
   pub known : Know context after now memory_now
 
--- the high byte of an ADDRESS comes into A, where a relation asks for it
+-- the high byte of an ADDRESS is put into A, for a relation
 abbrev pub HighBytesGiven : Context → Type 0
 HighBytesGiven context =
     (facts last : Facts) (number : ExpressionNumber) (pushed from to bound : ℕ) (tree : TypedExpression)

@@ -1,4 +1,4 @@
--- The low byte of a value that lies in memory.
+-- The low byte of a value in memory.
 use Rattle.task_laws.proofs.Prelude.{◌≡◌, ℕ, ◌*◌, ◌/◌, ◌%◌, ◌<◌, ◌≤◌, true, false, Option, Some, None, is_some, option_and_then, refl, sym, ap, ◌∙◌, subst, arith, false≢true, none-some, same_Some, option_map_or, ScalarType, Byte, Address, Low, High, Double, height_of, height_of_reference, type_of, FunctionNode, TypedExpression, TypedReference, ValueNode, RefersToScalar, TypesHold, TypesHoldInReference, read_scalar, SourceState, Outcome, Gave, then_do, as_type, values_of, Expression, ExpressionForm, ExpressionNumber, Home, Place, Reference, IndexNode, converted_place, function_of_place, known_distance, place_of_part, IsExpression, IsReference, IsForm, IsNumber, IsValue, IsLocation, IsConstantList, IsConversion, IsEmbedded, IsUnary, IsBinary, IsCallOf, IsFunction, IsShift, IsInput, home_at, byte_after, distance_of, free_at, is_free_form, known_at, known_of, memory_of_form, memory_of_inner, no_traits, place_of_reference, same_low_byte, traits_of, Arrives, Does, at_place, Facts, Base, Split, base_after, base_of, is_free, location_of, located_at, memory_of, number_of, reference_after, split, split_computed, byte_in_memory_steps, knowing, Context, IsSound, nodes_in, StepsStand, ByteIsGiven, PartDoes}
 use Rattle.treecode.specs.declared.expression.ExpressionForm.TheVariants as forms
 use Rattle.treecode.specs.declared.place.Home.TheVariants as homes
@@ -17,7 +17,7 @@ use Rattle.task_laws.proofs.Machine.Nodes.{NodeOf, node_of}
 use Rattle.task_laws.proofs.Machine.SiteNodes.{free_is, number_is, value_in}
 use Rattle.task_laws.proofs.Machine.Stages.{at_carried, does_same}
 
--- which byte of a scalar a part of memory is, by what a function makes of its value
+-- the byte of a scalar that a part of memory holds, as a function of its value
 data IsHalf (g : ℕ → ℕ) : ScalarType → (base reference : Reference) → Type 0 where
   LowHalf : {scalar : ScalarType} {base : Reference}
       → ((v : ℕ) → v < values_of scalar → g v % 256 ≡ v % 256)
@@ -31,7 +31,7 @@ abbrev scalar_in : Context → ScalarType → TypedReference → SourceState →
 scalar_in context scalar part s =
     then_do (located_in context part s) (λ place t. read_scalar context.activation.around.program scalar place t)
 
--- a tree whose low byte is a part of memory
+-- a tree with a low byte that is a part of memory
 record LiesAs (context : Context) (form : ExpressionForm) (tree : TypedExpression) (reference : Reference) : Type 0 where
   bound : ℕ
   scalar : ScalarType
@@ -77,7 +77,7 @@ half_on {g = g} of h small bytes (LowHalf low) = LowHalf (λ v fits. bytes (g v)
 half_on {g = g} of h small bytes (HighHalf high) = HighHalf (λ v fits. bytes (g v) (small v fits) ∙ high v fits)
 
 module _ (context : Context) (sound : IsSound context) where
-  -- what is known of a node, in the table
+  -- the traits of a node in the table
   known_in_table :
       {number : ExpressionNumber} {tree : TypedExpression} (node : NodeOf context number tree)
       → known_at (nodes_in context) number ≡ known_of (nodes_in context) (type_of tree) node.found.form
@@ -202,7 +202,7 @@ module _ (context : Context) (sound : IsSound context) where
   lies_inner (IsShift one two) types same = no_byte same
   lies_inner IsInput types same = no_byte same
 
-  -- what is inside of a tree
+  -- the inner part of a tree
   inside_free :
       {number : ExpressionNumber} {tree : TypedExpression} (node : NodeOf context number tree)
       → known_of (nodes_in context) (type_of tree) node.found.form ≡ None
@@ -211,7 +211,7 @@ module _ (context : Context) (sound : IsSound context) where
   inside_free {number = number} node unknown free =
       sym (free_by_form node unknown) ∙ free_is context.site number ∙ free
 
-  -- where a look at a form, or at what another function makes of it, finds a part of memory
+  -- the part of memory that is found for a form, or for another function of it
   abbrev LiesBy : (ExpressionForm → ExpressionForm) → Type 0
   LiesBy f =
       (bound : ℕ) (form : ExpressionForm) (tree : TypedExpression) (reference : Reference)

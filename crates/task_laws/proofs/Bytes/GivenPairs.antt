@@ -1,4 +1,4 @@
--- Two operands come into HL and DE, as comparisons ask for them.
+-- Two operands are put into HL and DE, as comparisons require.
 use Rattle.task_laws.proofs.Prelude.{ℕ, List, [], refl, sym, subst, arith, append-nil, Gave, Registers, Step, gives, PairOrder, LeftInHl, RightInHl, pair_order, pair_steps, wish_for_left, knowing, Context, IsSound, StepsStand, PartDoes}
 use Rattle.task_laws.proofs.Machine.Addresses.{nothing_goes}
 use Rattle.task_laws.proofs.Bytes.BytesAsked.{PairLies, PairsGiven}

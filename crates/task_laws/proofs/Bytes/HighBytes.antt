@@ -1,4 +1,4 @@
--- The high byte of a value, into A.
+-- The high byte of a value is put into A.
 use Rattle.task_laws.proofs.Prelude.{◌≡◌, ℕ, ◌+◌, ◌*◌, ◌/◌, ◌%◌, ◌<◌, ◌≤◌, ◌&&◌, Bool, true, List, [], ◌∷◌, Option, Some, None, refl, sym, ap, ◌∙◌, subst, arith, MEMORY_SIZE, byte_at, byte_small, Address, height_of_reference, InData, InConstants, Placed, BasedOn, Elsewhere, Nowhere, InFrame, PartOf, TypedReference, RefersToScalar, TypesHoldInReference, InMemory, InTheFrame, SourcePlace, Surroundings, home_of, next_place, place_of, read_scalar, Displacement, based_place, displacement, SourceState, Ended, More, Outside, Outcome, Gave, Stopped, then_do, Registers, State, wrap, Location, Reference, IsReference, is_static_location, Activation, Arrives, HasRoom, Does, Lands, at_place, gives, told_on, IsSteady, location_at, Facts, Plain, load, part, location_of, reference_after, byte_in_memory_steps, location_byte_steps, knowing, Context, IsSound, distances_in, nodes_in, StepsStand, PartThere, AddressIsGiven, Carries, ChangesAOnly, IsReferred, Know, Nothing, PartDoes, address_on_machine}
 use Rattle.typed_trees.specs.TypedTrees.{Home}
 use Rattle.isa8080.specs.declared.instr.Register.TheVariants as registers
@@ -38,7 +38,7 @@ base_next Nowhere around object bytes is_inside s = ap (λ (n : ℕ). Gave (InMe
 one_more : (one offset two : ℕ) → one + (offset + 1) + two ≡ one + offset + two + 1
 one_more one offset two = omega arith
 
--- so a part one byte further on lies at the place after
+-- so a part one byte further on is at the place after
 pub next_located :
     (context : Context) (part : TypedReference) (s : SourceState)
     → located_in context (next_part part) s
@@ -97,7 +97,7 @@ next_types context (PartOf object first member offset second) types = types
 next_height : (part : TypedReference) → height_of_reference (next_part part) ≡ height_of_reference part
 next_height (PartOf object first member offset second) = refl
 
--- what follows the place after is done with the place
+-- code that locates the next place, and then code for the place itself
 through_next :
     {B : Type 0} {script : List (List ℕ)} {budget more : ℕ} {from : State} (outcome : Outcome SourcePlace)
     {go : SourcePlace → SourceState → Outcome B} {Middle : SourcePlace → SourceState → State → Type 0}
@@ -114,7 +114,7 @@ through_next (Stopped Ended t) does rest = record { told = does.told }
 through_next (Stopped More t) does rest = record { told = does.told }
 through_next (Stopped (Outside reason) t) does rest = record { told = tt }
 
--- what an outcome gives, and in which state
+-- the place that an outcome gives, and its state
 abbrev place_given : (other : SourcePlace) → Outcome SourcePlace → SourcePlace
 place_given other (Gave place t) = place
 place_given other (Stopped why t) = other

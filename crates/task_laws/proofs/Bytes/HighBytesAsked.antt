@@ -1,4 +1,4 @@
--- The high byte of an ADDRESS comes into A; and a word that an ADDRESS expression is lies in memory.
+-- The high byte of an ADDRESS is put into A; the word that an ADDRESS expression reads is in memory.
 use Rattle.task_laws.proofs.Prelude.{◌≡◌, ℕ, ◌+◌, ◌*◌, ◌/◌, ◌≤◌, ◌⊎◌, inl, inr, Bool, true, false, if◌then◌else◌, List, [], ◌∷◌, Option, Some, None, option_map, refl, sym, ap, subst, ◌∙◌, arith, option_and_then, byte_at, ScalarType, height_of, height_of_reference, type_of, TypedExpression, TypedReference, ValueNode, TypesHold, SourcePlace, next_place, read_scalar, SourceState, Outcome, Gave, then_do, Registers, State, word, wrap, Expression, ExpressionForm, ExpressionNumber, Location, Place, Reference, place_after, IsExpression, IsForm, IsReference, IsValue, Does, at_place, Arrives, gives, IsSteady, place_at, location_after_is, Facts, Plain, load, part, GoesOutside, direct, location_of, place_in_memory, reference_after, direct_word, high_byte_in_memory, is_word_in_hl, word_in_memory, word_of, high_by_hl_steps, load_a_steps, knowing, Context, IsSound, distances_in, nodes_in, PartThere, PlainThere, StepsStand, WordThere, PartDoes, address_on_machine}
 use Rattle.trees.specs.declared.declaration.ScalarType.TheVariants as scalars
 use Rattle.isa8080.specs.declared.instr.Register.TheVariants as registers
@@ -65,7 +65,7 @@ word_part {context = context} {number = number} {tree = tree} facts reference so
     word_form context reference number.index node.found.form node.found.traits.scalar tree types node.scalar node.form
     (sym (ap (λ (found : Option Expression). option_and_then (λ (one : Expression). word_of one.form one.traits.scalar) found) (node.at_site facts)) ∙ told)
 
--- what lies directly in memory is located there
+-- a reference with a known place in memory has its location there
 static_location : (found : Option Location) (place : Place) → place_in_memory found ≡ Some place → found
     ≡ Some (locations.Static place)
 static_location (Some (locations.Static found)) place same = cc
@@ -82,7 +82,7 @@ direct_is context facts reference place told = static_location (location_of (kno
 same_found : {one other : ℕ} {t u : SourceState} → Gave one t ≡ Gave other u → one ≡ other
 same_found same = cc
 
--- the word of an ADDRESS that lies at a place in memory
+-- the word of an ADDRESS at a place in memory
 pub words_at_places : (context : Context) → IsSound context → WordsAtPlaces context
 unfolding direct_word
 words_at_places context sound known_there number place bound top tree base s r memory node types told ready =

@@ -1,4 +1,4 @@
--- The low byte of an expression that lies in memory: it lies at the place of the part of an object that the tree names.
+-- The low byte of an expression in memory: it is at the place of the part of an object that the tree names.
 use Rattle.task_laws.proofs.Prelude.{◌≡◌, ◌&&◌, ℕ, ◌+◌, ◌*◌, ◌/◌, ◌%◌, ◌<◌, ◌≤◌, ◌⊎◌, inl, inr, List, Option, Some, refl, sym, ap, subst, ◌∙◌, arith, option_and_then, option_map_or, MEMORY_SIZE, byte_at, ScalarType, Byte, Address, Low, High, Double, height_of, height_of_reference, type_of, BasedOn, ConversionNode, Elsewhere, FunctionNode, InConstants, InData, InFrame, Nowhere, PartOf, Placed, TypedExpression, TypedReference, ValueNode, RefersToScalar, TypesHold, TypesHoldInReference, InMemory, InTheFrame, Surroundings, home_of, next_place, place_in, place_of, read_scalar, Displacement, based_place, displacement, SourceState, Outcome, Gave, Stop, Stopped, then_do, as_type, values_of, Registers, State, Expression, ExpressionForm, ExpressionNumber, Reference, IsBinary, IsCallOf, IsConstantList, IsConversion, IsEmbedded, IsExpression, IsForm, IsFunction, IsInput, IsLocation, IsNumber, IsReference, IsShift, IsUnary, IsValue, Does, at_place, Arrives, IsReady, gives, IsSteady, Facts, GoesOutside, memory, reference_after, knowing, Context, IsSound, nodes_in, AddressIsGiven, IsReferred, address_on_machine}
 use Rattle.typed_trees.specs.TypedTrees.{Home}
 use Rattle.meaning.specs.Access.{Place}
@@ -27,7 +27,7 @@ memory_next start one offset two s = ap (λ (n : ℕ). Gave (InMemory n) s) (fur
         ≡ ((start + (one + offset + two)) % MEMORY_SIZE + 1) % MEMORY_SIZE
     further start one offset two = omega arith
 
--- a part one byte further on lies at the next place
+-- a part one byte further on is at the next place
 based_next :
     (home : Home) (around : Surroundings) (object one offset two : ℕ) (is_inside : _) (s : SourceState)
     → based_place home around object (one + (offset + 1) + two) is_inside s
@@ -58,7 +58,7 @@ based_next (Placed at) around object one offset two is_inside s = memory_next (R
 based_next Elsewhere around object one offset two is_inside s = memory_next (Rattle.meaning.specs.Access.address_of around object) one offset two s
 based_next Nowhere around object one offset two is_inside s = memory_next (Rattle.meaning.specs.Access.address_of around object) one offset two s
 
--- what follows two outcomes
+-- the rest after two outcomes
 after_both :
     {A B C D : Type 0} (first : Outcome A) (second : A → SourceState → Outcome B)
     (one : A → B → SourceState → Outcome C)
@@ -93,7 +93,7 @@ same_both : {A : Type 0} {one other : A} {t u : SourceState} → Gave one t ≡ 
     × (t ≡ u)
 same_both same = (cc, cc)
 
--- The low byte of an expression lies at a part of an object that lies at a reference.
+-- The low byte of an expression is at the part of an object of a reference.
 pub record ByteLies (context : Context) (reference : Reference) (tree : TypedExpression) : Type 0 where
   pub bound : ℕ
   pub part : TypedReference
@@ -113,7 +113,7 @@ pub record ByteLies (context : Context) (reference : Reference) (tree : TypedExp
       → located_in context part s ≡ Stopped why u
       → value_in context tree s ≡ Stopped why u
 
--- the high byte of an ADDRESS that is read lies at the next part
+-- the high byte of an ADDRESS that is read is at the next part
 pub high_found :
     {context : Context} (part : TypedReference) (place : Place) (s u : SourceState) (top : ℕ)
     (base memory : List ℕ)
@@ -204,7 +204,7 @@ high_small : (n : ℕ) → n < 65536 → n / 256 < 256
 high_small n small = omega (arith, small)
 
 module _ (context : Context) (sound : IsSound context) where
-  -- what is read
+  -- a value that is read
   value_lies :
       {bound : ℕ} {reference : Reference} (scalar : ScalarType) (part : TypedReference)
       → IsReference (nodes_in context) context.storage bound reference part
@@ -261,7 +261,7 @@ module _ (context : Context) (sound : IsSound context) where
       })
       by place u memory outcome (inr outside) = inr (then_outside outcome _ outside)
 
-  -- a value whose low byte is that of another one
+  -- a value with the low byte of another one
   inside_lies :
       {reference : Reference} (tree inside : TypedExpression) (f : ℕ → ℕ)
       → height_of inside ≤ height_of tree
@@ -301,7 +301,7 @@ module _ (context : Context) (sound : IsSound context) where
       })
       by place u memory outcome (inr outside) = inr (then_outside outcome _ outside)
 
-  -- where a form tells a part of memory
+  -- the part of memory of a form
   abbrev LiesBy : (ExpressionForm → Option Reference) → Type 0
   LiesBy tells =
       (bound : ℕ) (form : ExpressionForm) (tree : TypedExpression) (reference : Reference)
@@ -336,7 +336,7 @@ module _ (context : Context) (sound : IsSound context) where
       by bound _ Address tree types same other told = absurd cc
       by bound _ Byte tree types same other told = absurd cc
 
-  -- a form that is none of these itself
+  -- a form other than these
   inner_lies : LiesBy (λ form. traits.memory_of_inner (nodes_in context) form)
   inner_lies bound _ _ reference (IsValue {scalar = scalar} {part = part} is) types told =
       subst (λ (given : Reference). ByteLies context given (ValueNode scalar part)) (same_some told) (value_lies scalar part is types)
@@ -405,7 +405,7 @@ module _ (context : Context) (sound : IsSound context) where
   deeper tells lies bound form tree reference (IsShift one two) types told = lies bound form tree reference (IsShift one two) types told
   deeper tells lies bound form tree reference IsInput types told = lies bound form tree reference IsInput types told
 
-  -- what a site says is in memory lies there
+  -- a byte that is in memory according to a site is there
   pub byte_lies :
       {bound : ℕ} {number : ExpressionNumber} {tree : TypedExpression} {reference : Reference} (facts : Facts)
       → IsExpression (nodes_in context) context.storage bound number.index tree
@@ -419,7 +419,7 @@ module _ (context : Context) (sound : IsSound context) where
       number.index node.found.form tree reference node.form types
       (sym (memory_same context sound facts node) ∙ told)
 
--- what gives its place in a part, gives a value then
+-- an outcome is carried out by code that first carries out another one, if it stops whenever that one stops
 pub where_located :
     {A B : Type 0} {script : List (List ℕ)} {budget more : ℕ} {from : State} (outcome : Outcome A)
     (other : Outcome B)
@@ -434,7 +434,7 @@ where_located (Gave found t) other one rest stops = then_does_where (Gave found 
 where_located (Stopped why t) other one rest stops =
     does_same (Stopped why t) (stops why t refl) (then_does_where (Stopped why t) {go = λ found t. other} one rest)
 
--- the low byte of an expression lies at the address that comes into HL
+-- the low byte of an expression is at the address that is put into HL
 pub locates_bytes : (context : Context) → IsSound context → LocatesBytes context
 locates_bytes context sound known_there before after number reference pushed from to bound tree told does is types top base s r memory below room ready known asked =
     let lies = byte_lies context sound known_there is types told in

@@ -1,4 +1,4 @@
--- The low byte of values that come by way of HL, of calls and of ports.
+-- The low byte of values that are computed through HL, of calls and of ports.
 use Rattle.task_laws.proofs.Prelude.{◌≡◌, ℕ, ◌*◌, ◌%◌, ◌<◌, true, List, [], ◌∷◌, ◌++◌, Some, refl, sym, subst, arith, ScalarType, height_of, type_of, CallNode, InputNode, TypedArguments, TypedExpression, Takes, TypesHold, TypesHoldInArguments, SourceState, Outcome, Gave, values_of, In, A, L, Registers, State, ExpressionNumber, Range, AreArguments, IsExpression, Arrives, IsReady, Does, at_place, gives, Facts, Plain, copy, is_free, low_of_value_steps, call_steps, knowing, low_of_word_steps, Context, InRegister, IsSound, nodes_in, StepsStand, PlainThere, ByteIsGiven, Know, PartDoes}
 use Rattle.trees.specs.declared.declaration.ScalarType.TheVariants as scalars
 use Rattle.task_laws.proofs.Branches.Branches.{given_itself}
@@ -11,7 +11,7 @@ use Rattle.task_laws.proofs.Machine.Rules.{Parted, split}
 use Rattle.task_laws.proofs.Machine.SiteNodes.{value_in}
 use Rattle.task_laws.proofs.Machine.Stages.{Stage, at_end, gives_then, has_less_room, script_of}
 
--- by way of HL
+-- through HL
 pub low_word_law :
     {context : Context} {facts last : Facts} {from to bound : ℕ} {tree : TypedExpression} (number : ExpressionNumber)
     (pushed : ℕ)

@@ -1,4 +1,4 @@
--- The low byte of sums, differences, AND, OR and XOR of two values, neither of which is a number.
+-- The low byte of sums, differences, AND, OR and XOR of two values that are not numbers.
 use Rattle.task_laws.proofs.Prelude.{◌≡◌, ℕ, ◌+◌, ◌-◌, ◌*◌, ◌%◌, ◌<◌, Bool, true, false, ◌&&◌, List, [], ◌∷◌, ◌++◌, Option, Some, None, option_map, max, bit_and, bit_or, bit_xor, refl, sym, ◌∙◌, subst, arith, if◌then◌else◌, and_parts, false≢true, or_of_8, or_of_16, xor_of_8, xor_of_16, and_comm, and_le_l, and_mod, or_comm, or_mod, xor_comm, xor_mod, ScalarType, height_of, type_of, TypedExpression, TypesHold, SourceState, Gave, values_of, Operation, Add, AddWithCarry, Subtract, SubtractWithBorrow, And, ExclusiveOr, Or, Compare, Flags, operate, Registers, ExpressionNumber, Reference, IsExpression, Facts, Plain, copy, with_register, part, Pop, Push, A, B, Psw, StackBc, Arrives, Does, at_place, Site, is_free, may_exchange, is_byte_in_register, operand_in_memory, in_order, ByteForm, RightInMemory, LeftInMemory, LeftFree, RightFree, Pushed, Operands, commutes, form_after_right, form_from_register, form_of, form_with_left, form_without_memory, in_form_steps, with_e_steps, with_memory_steps, with_stack_steps, knowing, Context, IsSound, nodes_in, StepsStand, ByteIsGiven, Carries, Nothing, PartDoes}
 use Rattle.trees.specs.declared.declaration.ScalarType.TheVariants as scalars
 use Rattle.steps8080.specs.declared.step.Task.TheVariants as tasks
@@ -8,7 +8,7 @@ use Rattle.task_laws.proofs.Bytes.ByteOperations.{IsOperated, IsValueOf, operand
 use Rattle.task_laws.proofs.Machine.SiteNodes.{does_exchanged, free_is, value_in}
 use Rattle.task_laws.proofs.Machine.Stages.{Stage, does_same, script_of}
 
--- the operations that stand for operators
+-- the operations of operators
 abbrev pub IsSimple : Operation → Type 0
 IsSimple Add = Unit {0}
 IsSimple Subtract = Unit {0}
@@ -17,7 +17,7 @@ IsSimple Or = Unit {0}
 IsSimple ExclusiveOr = Unit {0}
 IsSimple operation = ⊥
 
--- what they give of values of a type
+-- their results for values of a type
 abbrev pub result_by : Operation → ScalarType → (v w : ℕ) → ℕ
 result_by Add operands v w = (v + w) % values_of operands
 result_by Subtract operands v w = (v + (values_of operands - w)) % values_of operands
@@ -77,7 +77,7 @@ either_way AddWithCarry x y f is = absurd (false≢true is)
 either_way SubtractWithBorrow x y f is = absurd (false≢true is)
 either_way Compare x y f is = absurd (false≢true is)
 
--- the forms in which operands come to an operation
+-- the forms in which operands are brought to an operation
 data IsFormOf (site : Site) (operation : Operation) (left right : ExpressionNumber) : ByteForm → Type 0 where
   IsRightInMemory : {reference : Reference} → operand_in_memory site right ≡ Some reference
       → IsFormOf site operation left right (RightInMemory reference)
@@ -285,7 +285,7 @@ module _
           stands (omega (arith, whole)) (omega (arith, whole)) stage
           (λ v w u now memory_now value other_value is final. operated_end v w value other_value (straight v w now other_value is) final)
 
-  -- an operation with two operands, neither of which is a number
+  -- an operation with two operands that are not numbers
   pub two_bytes :
       StepsStand context (PartDoes context) facts from
       (in_form_steps (form_of (knowing context.site facts) operation (of_both left right)) operation (of_both left right) pushed) last to

@@ -1,4 +1,4 @@
--- Whether an ADDRESS is 0 is shown by the steps that ask it.
+-- The steps that test whether an ADDRESS is 0 show it.
 use Rattle.task_laws.proofs.Prelude.{◌≡◌, ℕ, ◌*◌, ◌%◌, ◌==◌, Bool, true, false, ◌||◌, nat_lt, bit_and, ◌++◌, Option, Some, None, refl, sym, ap, ◌∙◌, subst, arith, if◌then◌else◌, none-some, same_Some, and_comm, height_of, TypedExpression, TypesHold, SourceState, Outcome, Gave, Stopped, then_do, ExpressionNumber, IsExpression, Facts, part, Is, Setting, number_in_a_steps, masked_steps, zero_by_hl_steps, knowing, Context, IsSound, nodes_in, StepsStand, Carries, Nothing, PartDoes, BinaryNode, Expression, ExpressionForm, IsForm, IsNumber, IsValue, IsLocation, IsConstantList, IsConversion, IsEmbedded, IsUnary, IsBinary, IsCallOf, IsFunction, IsShift, IsInput, number, masked, masked_form, word_is_zero_steps}
 use Rattle.trees.specs.declared.declaration.ScalarType.TheVariants as scalars
 use Rattle.task_laws.proofs.Bytes.BytesAsked.{HighBytesGiven, ZeroIsShown}
@@ -9,7 +9,7 @@ use Rattle.task_laws.proofs.Machine.Nodes.{node_of}
 use Rattle.task_laws.proofs.Machine.SiteNodes.{number_means}
 use Rattle.task_laws.proofs.Bytes.Zeros.{zero_by_hl, zero_by_mask}
 
--- what a mask is of
+-- the operand of a mask
 data IsMasked (context : Context) (facts : Facts) (bound : ℕ) : TypedExpression → (ExpressionNumber × ℕ) → Type 0 where
   RightMask : {left right : ExpressionNumber} {first second : TypedExpression} {mask : ℕ}
       → IsExpression (nodes_in context) context.storage bound left.index first

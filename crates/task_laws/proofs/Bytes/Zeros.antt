@@ -1,4 +1,4 @@
--- Whether an ADDRESS is 0: by its value in HL, or by the byte of it that a mask leaves.
+-- Tests whether an ADDRESS is 0: by its value in HL, or by the byte that a mask keeps.
 use Rattle.task_laws.proofs.Prelude.{◌≡◌, ℕ, ◌*◌, ◌/◌, ◌%◌, ◌<◌, ◌≤◌, ◌==◌, Bool, true, false, ◌||◌, nat_lt, bit_and, List, [], ◌∷◌, ◌++◌, refl, sym, ap, ◌∙◌, subst, arith, if◌then◌else◌, ltb-true, eqb-true, eqb-false, eq-eqb, ne_eqb, and_le_l, and_le_r, and_mod, and_shr, height_of, type_of, TypedExpression, TypesHold, SourceState, Gave, then_do, values_of, AccumulateImmediate, And, operate, Registers, ExpressionNumber, IsExpression, Facts, Plain, high, low, part, Arrives, Does, at_place, gives, same_test, Is, Purpose, Branch, Value, Setting, number_in_a_steps, masked_steps, zero_by_hl_steps, knowing, Context, IsSound, nodes_in, StepsStand, PartThere, PlainThere, Carries, Nothing, PartDoes}
 use lib.Bits.{and_zero_r}
 use Rattle.trees.specs.declared.declaration.ScalarType.TheVariants as scalars

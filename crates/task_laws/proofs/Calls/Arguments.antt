@@ -7,8 +7,8 @@ use Rattle.task_laws.proofs.Machine.Stages.{Stage, at_push, does_same, flag_byte
 use Rattle.task_laws.proofs.Machine.Effects.{then_again}
 use Rattle.task_laws.proofs.Machine.StoredValues.{at_value}
 
--- Arguments that are passed: all but the last one lie on the stack down to a level, and of what was before only what the
--- activation may change has changed.
+-- Arguments that are passed: all but the last one are on the stack, down to a level, and only bytes that the
+-- activation may change have changed.
 pub record ArePassed
     (context : Context) (types : List ScalarType) (top : ℕ) (base : List ℕ) (given : List ℕ) (low : ℕ) (u : SourceState)
     (now : Registers) (memory : List ℕ) : Type 0 where
@@ -34,7 +34,7 @@ ready_now {activation = activation} {top = top} {memory = memory} ready = record
   kept = keeps_all (Owns activation top) memory;
 }
 
--- a push changes what the activation may change
+-- a push changes only bytes that the activation may change
 push_keeps :
     (activation : Activation) (top number : ℕ) (memory : List ℕ)
     → activation.floor + 2 ≤ top
@@ -61,7 +61,7 @@ scalar_is {number = number} facts sound node =
     let is = node_of {number = number} sound node in
     ap (λ entry. elim (entry) [ Some found ↦ found.traits.scalar | None ↦ Byte ]) (is.at_site facts) ∙ is.scalar
 
--- an argument of an index that stands in the table
+-- the argument at an index is in the table
 argument_is :
     (context : Context) (arguments : Range) (facts : Facts) (first others : ℕ) (number : ExpressionNumber)
     → first ≡ arguments.first + (arguments.count - suc others)
@@ -77,7 +77,7 @@ abbrev pushed_value : ScalarType → Registers → ℕ
 pushed_value Byte r = word r.a (flag_byte r.flags)
 pushed_value Address r = word r.h r.l
 
--- a value that was pushed lies in its word while what is below may change
+-- a value that was pushed is in its word while bytes below may change
 lies_in_word :
     (activation : Activation) (scalar : ScalarType) (found top low : ℕ) (r : Registers) (memory ended : List ℕ)
     → LiesWell activation
@@ -173,7 +173,7 @@ argument_split {context = context} {facts = facts} {last = last} {from = from} {
     ]) last to)
     (argument_is context arguments known first others number place within there) stand
 
--- the arguments from one on, wherever their code stands
+-- the arguments from one on, wherever their code is placed
 abbrev ArgumentsDo :
     {B : Type 0} → Context → (Good : B → SourceState → State → Type 0) → (known : Facts) → Range → (count : ℕ)
     → TypedArguments → (top pushed need to : ℕ) → (last : Facts) → Type 0

@@ -1,4 +1,4 @@
--- The code of the low byte of a value in memory, into A.
+-- The code that puts the low byte of a value in memory into A.
 use Rattle.task_laws.proofs.Prelude.{◌≡◌, ℕ, ◌+◌, ◌*◌, ◌%◌, ◌<◌, true, List, [], ◌∷◌, Option, Some, None, refl, sym, ap, subst, ◌∙◌, arith, MEMORY_SIZE, byte_at, byte_small, ScalarType, Byte, Address, height_of_reference, size_of_scalar, TypedReference, RefersToScalar, TypesHoldInReference, SourcePlace, InMemory, InTheFrame, read_scalar, SourceState, Outcome, Gave, then_do, values_of, Registers, State, wrap, Location, Reference, IsReference, is_static_location, Does, at_place, Activation, Arrives, IsReady, gives, IsSteady, Facts, Plain, load, part, location_of, byte_in_memory_steps, location_byte_steps, knowing, Context, IsSound, nodes_in, StepsStand, PartThere, Carries, ChangesAOnly, Know, Nothing, PartDoes, address_on_machine}
 use Rattle.isa8080.specs.declared.instr.Register.TheVariants as registers
 use Rattle.steps8080.specs.declared.step.Task.TheVariants as tasks
@@ -15,7 +15,7 @@ low_of low high small = omega (arith, small)
 two_bytes : (low high : ℕ) → low < 256 → high < 256 → low + 256 * high < 65536
 two_bytes low high one two = omega (arith, one, two)
 
--- a scalar that is read: its low byte lies at the address of its place
+-- a scalar that is read: its low byte is at the address of its place
 pub scalar_read :
     {A : Type 0} {budget more : ℕ} {from : State} {Good : A → SourceState → State → Type 0}
     {context : Context} {top : ℕ} {base memory : List ℕ} {r : Registers} (scalar : ScalarType) (place : SourcePlace)

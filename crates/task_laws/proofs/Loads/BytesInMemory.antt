@@ -1,4 +1,4 @@
--- The byte in memory that an expression is, at a site and as its node tells it.
+-- The byte in memory of an expression, at a site and according to its node.
 use Rattle.task_laws.proofs.Prelude.{◌≡◌, ℕ, Option, Some, None, slice_get, refl, sym, ap, ◌∙◌, option_map_or, option_and_then, ScalarType, Address, Byte, Low, High, Double, TypedExpression, Expression, ExpressionForm, ExpressionNumber, IsExpression, IsForm, IsNumber, IsValue, IsLocation, IsConstantList, IsConversion, IsEmbedded, IsUnary, IsBinary, IsCallOf, IsFunction, IsShift, IsInput, inside, Facts, form_in_memory, high_in_memory, high_of, memory, plain_in_memory, expression, knowing, Context, IsSound, nodes_in}
 use Rattle.treecode.specs.declared.expression.ExpressionForm.TheVariants as forms
 use Rattle.treecode.specs.Traits as traits
@@ -116,7 +116,7 @@ module _ (context : Context) (sound : IsSound context) (facts : Facts) where
         | None ↦ number
       ]) (node.at_site facts)
 
-  -- what is in memory at a site is what the node tells
+  -- the part of memory at a site is that of the node
   pub memory_same : {number : ExpressionNumber} {tree : TypedExpression} (node : NodeOf context number tree)
       → memory (knowing context.site facts) number ≡ traits.memory_of_form (nodes_in context) node.found.form
   unfolding memory

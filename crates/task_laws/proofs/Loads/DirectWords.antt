@@ -1,4 +1,4 @@
--- Operations of a word in memory, at a known place, and the word in HL.
+-- Operations on a word in memory, at a known place, and the word in HL.
 use Rattle.task_laws.proofs.Prelude.{◌≡◌, ℕ, ◌+◌, ◌-◌, ◌/◌, ◌%◌, ◌<◌, Bool, true, false, List, [], ◌∷◌, Option, Some, None, if◌then◌else◌, refl, sym, ◌∙◌, subst, arith, byte_at, ScalarType, Address, height_of, type_of, SourceState, Gave, values_of, Operation, Subtract, SubtractWithBorrow, A, H, L, Registers, ExpressionNumber, Place, place_after, keeps_none, Does, at_place, Arrives, IsSteady, place_at, Facts, Plain, Word, LoadA, copy, with_register, Site, keeps, may_exchange, direct_word, RightInHl, Operands, knowing, left_word, with_word_steps, Context, IsSound, StepsStand, PartThere, WordThere, PartDoes, WordIsGiven}
 use Rattle.task_laws.proofs.Bytes.BytesAsked.{WordAtPlace, WordsAtPlaces}
 use Rattle.task_laws.proofs.Words.PairedWords.{Makes, byte_instructions, difference_makes, kept_none}
@@ -63,7 +63,7 @@ module _
       (Word LoadA (place_after place 1) ∷ Plain (with_register on_high H) ∷ Plain (copy H A) ∷ []) sound (tt, (tt, tt)) stand loaded
       (λ middle found rest after. second_half t r _ memory ended small next (record { h = made.h; l = made.l }) rest after))
 
--- the left operand stays in memory only where it is a word at a known place, and may come second
+-- the left operand stays in memory only if it is a word at a known place, and may come second
 left_word_is :
     (site : Site) (operands : Operands) (place : Place) → left_word site operands ≡ Some place
     → (direct_word site operands.left ≡ Some place) × (may_exchange site operands.left operands.right ≡ true)
@@ -84,7 +84,7 @@ left_word_is site operands place is = by (direct_word site operands.left) (may_e
 word_of : (n : ℕ) (scalar : ScalarType) → scalar ≡ Address → n < values_of scalar → n < 65536
 word_of n scalar same small = subst (λ (of : ScalarType). n < values_of of) same small
 
--- a difference whose left operand is a word in memory
+-- a difference with a word in memory on the left
 pub left_words_do : (context : Context) → IsSound context → WordsAtPlaces context → LeftWordDoes context
 left_words_do context sound places facts last operands number place pushed top need from to base s r memory first second words is none less room height (PartThere part rest) going =
     let left = left_word_is (knowing context.site facts) operands place is in

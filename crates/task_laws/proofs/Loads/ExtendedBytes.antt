@@ -1,4 +1,4 @@
--- Bytes in memory that come into HL with zeros added.
+-- Bytes in memory that are put into HL, zero-extended.
 use Rattle.task_laws.proofs.Prelude.{◌≡◌, ℕ, ◌+◌, ◌*◌, ◌/◌, ◌%◌, ◌<◌, ◌==◌, ◌&&◌, ◌⊎◌, inl, inr, Bool, true, false, if◌then◌else◌, List, [], ◌∷◌, ◌++◌, Option, Some, None, refl, sym, ap, ◌∙◌, subst, arith, option_map_or, eqb-true, false≢true, MEMORY_SIZE, byte_at, word_at, byte_small, Event, ScalarType, Address, Byte, height_of_reference, type_of, TypedHome, InData, InConstants, Placed, BasedOn, Elsewhere, Nowhere, InFrame, PartOf, TypedExpression, TypedReference, TypesHold, SourcePlace, InMemory, home_of, place_of, read_scalar, based_place, displacement, SourceState, Outcome, Gave, then_do, values_of, Instr, H, L, Registers, State, high_byte, low_byte, word, wrap, LoadHl, ExpressionForm, ExpressionNumber, Location, Place, Reference, Keeps, IsExpression, IsForm, IsNumber, IsValue, IsLocation, IsConstantList, IsConversion, IsEmbedded, IsUnary, IsBinary, IsCallOf, IsFunction, IsShift, IsInput, keeps_none, keeps_of_form, memory_of_form, Does, at_place, Arrives, HasRoom, plain_first, location_at, place_at, without_hl_holds, address_in_hl_is, byte_in_a_is, byte_in_h_is, word_in_hl_is, GoesOutside, Facts, Part, Step, Plain, Word, before, is_at, copy, load, set, part_of, plain, keeps, keeps_at_site, location_of, memory_of, distance, location_address_steps, byte_to_l_steps, extended_byte_in_memory_steps, frame_byte_to_l_steps, top_word_steps, knowing, Context, IsSound, distances_in, nodes_in, StepsStand, NoneThere, PartThere, PlainThere, WordThere, Know, PartDoes, WordIsGiven, address_on_machine}
 use Rattle.isa8080.specs.declared.instr.Register.TheVariants as registers
 use Rattle.treecode.specs.declared.expression.ExpressionForm.TheVariants as forms
@@ -20,7 +20,7 @@ use Rattle.task_laws.proofs.Places.Located.{located_in}
 use Rattle.task_laws.proofs.Machine.Values.{KeepsThem, word_given}
 use Rattle.task_laws.proofs.Words.CarriedWords.{IsCarriedOut}
 
--- HL is the byte at an address with zeros added; A and DE are what they were
+-- HL is the byte at an address, zero-extended; A and DE are kept
 pub record ExtendedBeside (memory : List ℕ) (address : ℕ) (r now : Registers) : Type 0 where
   pub h : now.h ≡ 0
   pub l : now.l ≡ byte_at memory address
@@ -28,7 +28,7 @@ pub record ExtendedBeside (memory : List ℕ) (address : ℕ) (r now : Registers
   pub d : now.d ≡ r.d
   pub e : now.e ≡ r.e
 
--- what follows a byte that is there
+-- the rest of the code after a byte that is there
 abbrev pub Follows :
     {A : Type 0} → Outcome A → (Good : A → SourceState → State → Type 0) → Context → (last : Facts)
     → (to top budget more : ℕ) → (base source memory : List ℕ) → (frame : List (List ℕ)) → (events : List Event)
@@ -61,7 +61,7 @@ module _
       (λ on_now. registers_end (set H 0 ∷ []) now sound (tt, tt) stand on_now
       (rest (record now { h = 0 }) (record { h = refl; l = ap (byte_at memory) is; a = refl; d = refl; e = refl })))
 
-  -- the byte at a place in memory: the one after it comes into H, and is not kept
+  -- the byte at a place in memory: the one after it is loaded into H, and overwritten
   static_goes :
       {facts : Facts} {from : ℕ} (place : Place) (r : Registers)
       → StepsStand context PartIs facts from (Word LoadHl place ∷ Plain (set H 0) ∷ []) last to
@@ -287,7 +287,7 @@ memory_keeps context reference is here = by is here
 same_given : {A : Type 0} {one other : A} {t u : SourceState} → Gave one t ≡ Gave other u → one ≡ other
 same_given same = cc
 
--- what is located has an address
+-- the address of a located part is below the size of memory
 based_small :
     (context : Context) (home : TypedHome) (object bytes : ℕ) (is_inside : Bool) (place : SourcePlace) (s u : SourceState)
     → based_place home context.activation.around object bytes is_inside s ≡ Gave place u

@@ -11,7 +11,7 @@ use Rattle.task_laws.proofs.Places.Subscripts.{IsSplit, AllKnown, IsComputed, is
 use Rattle.task_laws.proofs.Places.Located.{all_known, base_with, base_with_is, located_in}
 use Rattle.task_laws.proofs.Places.Fitting.{located_fits, refers_is_referred}
 
--- a part of an object whose place is known lies at its location
+-- a part of an object with a known place is at its location
 pub record LiesThere (context : Context) (tree : TypedReference) (location : Location) : Type 0 where
   pub place : SourcePlace
   pub means : (s : SourceState) → located_in context tree s ≡ Gave place s
@@ -115,7 +115,7 @@ lies_there facts location sound
     lies_by_split object offset first second subscript member_subscript member _ _ _ _ location sound referred
     (is_split facts sound one types.0) (is_split facts sound two types.1) same
 
--- what is given at the end is given
+-- the value at the end is passed on
 pub given_last : {A : Type 0} (outcome : Outcome A) → then_do outcome (λ found t. Gave found t) ≡ outcome
 given_last (Gave found t) = refl
 given_last (Stopped why t) = refl

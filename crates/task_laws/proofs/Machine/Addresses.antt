@@ -1,4 +1,4 @@
--- The code of addresses of locations, and of words there: HL holds them then, and what is beside stays.
+-- The code that puts addresses of locations, and words there, into HL; other registers are kept.
 use Rattle.task_laws.proofs.Prelude.{◌≡◌, ℕ, zero, suc, ◌+◌, ◌*◌, ◌%◌, ◌<◌, Bool, true, false, if◌then◌else◌, nat_le, List, [], ◌∷◌, ◌++◌, Some, refl, sym, ap, subst, append-nil, ◌∙◌, arith, Event, SourceState, Outcome, Instr, Dad, Dcx, Inx, Lxi, Bc, Hl, Sp, Registers, State, high_byte, low_byte, word, wrap, LoadPair, Place, Number, Code, Data, External, Location, location_after, Does, at_place, HasRoom, location_at, place_at, after_before, location_after_is, address_in_hl_is, Facts, Part, Step, Plain, Word, before, is_at, no_facts, plain, repeat_steps, distance, addition_steps, hold_address_steps, location_address_steps, negated, new_address_steps, number_added_steps, knowing, Context, IsSound, distances_in, StepsStand, NoneThere, WordThere, HoldsThere, Know}
 use Rattle.treecode.specs.declared.place.Location.TheVariants as locations
 use Rattle.task_laws.proofs.Machine.Rules.{GoesOn, holds_go, ready_with_registers, word_goes}
@@ -17,7 +17,7 @@ pub nothing_goes :
     → Does context.activation.around.program.script budget more (at_place from r memory events) outcome Good
 nothing_goes r NoneThere on rest = rest on
 
--- HL is an address, and A and DE are what they were
+-- HL is an address, and A and DE are kept
 pub record AddressBeside (address : ℕ) (r now : Registers) : Type 0 where
   pub hl : word now.h now.l ≡ address
   pub a : now.a ≡ r.a
@@ -33,7 +33,7 @@ one_more : (h l count now : ℕ) → h < 256 → l < 256
     → now ≡ wrap (word h l + suc count)
 one_more h l count now one two is = omega (arith, is)
 
--- INX H so many times
+-- INX H `count` times
 pub inx_go :
     {A : Type 0} {outcome : Outcome A} {Good : A → SourceState → State → Type 0}
     {context : Context} {PartIs : (before : Facts) → Part → (from : ℕ) → (after : Facts) → (to : ℕ) → Type 0}
@@ -69,7 +69,7 @@ one_less_more : (h l count now : ℕ) → h < 256 → l < 256
     → now ≡ wrap (word h l + 65535 * suc count)
 one_less_more h l count now one two is = omega (arith, is)
 
--- DCX H so many times
+-- DCX H `count` times
 pub dcx_go :
     {A : Type 0} {outcome : Outcome A} {Good : A → SourceState → State → Type 0}
     {context : Context} {PartIs : (before : Facts) → Part → (from : ℕ) → (after : Facts) → (to : ℕ) → Type 0}
@@ -163,7 +163,7 @@ number_added_goes {outcome = outcome} {Good = Good} {context = context} {PartIs 
           e = refl;
         }) on)
 
--- a word that is added by way of BC
+-- a word that is added through BC
 word_added_goes :
     {A : Type 0} {outcome : Outcome A} {Good : A → SourceState → State → Type 0}
     {context : Context} {PartIs : (before : Facts) → Part → (from : ℕ) → (after : Facts) → (to : ℕ) → Type 0}

@@ -1,4 +1,4 @@
--- Code of what an expression of each form does beside its value.
+-- The code for the effects of an expression of each form.
 use Rattle.task_laws.proofs.Prelude.{◌≡◌, ℕ, ◌+◌, ◌*◌, ◌<◌, ◌≤◌, ◌⊎◌, inl, inr, Bool, true, false, if◌then◌else◌, List, [], ◌∷◌, ◌++◌, Option, Some, None, refl, sym, ap, subst, ◌∙◌, arith, zero, suc, All, slice_get, slice_index_or, read_event, input_value, queue_of, ScalarType, height_of, TypedExpression, TypesHold, address_in_memory, computed, value, read_scalar, SourceState, Outcome, Gave, Stopped, then_do, as_type, function_of, result_of, result_of_one, shifted, In, after, Registers, State, Expression, ExpressionForm, ExpressionNumber, IsExpression, IsForm, IsNumber, IsValue, IsLocation, IsConstantList, IsConversion, IsEmbedded, IsUnary, IsBinary, IsCallOf, IsFunction, IsShift, IsInput, is_free, is_quiet, keeps, option_map_or, is_some, left_true, right_true, Low, High, Double, Site, expression, Keeps, nodes_of, free_at, has_immediate, is_free_form, is_free_with, is_of_low_byte, is_quiet_form, keeps_at, no_traits, number_at, quiet_at, quiet_computed, quiet_gave, quiet_scalar, false_is_true, Facts, Arrives, IsThere, Does, at_place, gives, both_effects_steps, effects_steps, form_effects_steps, knowing, Context, IsSound, nodes_in, NoneThere, PartThere, PlainThere, StepsStand, ChangesAOnly, EffectsAreGiven, EffectsDo, Know, NothingIsGiven, PartDoes}
 use Rattle.asm8080.specs.declared.item.Item.TheVariants as items
 use Rattle.treecode.specs.declared.expression.ExpressionForm.TheVariants as forms
@@ -95,12 +95,12 @@ input_goes {context = context} {t = t} {r = r} {memory = memory} port sound ther
       known = known;
     }))
 
--- a part of which all is given on
+-- a part with a value that is passed on
 then_itself : {A : Type 0} (outcome : Outcome A) → outcome ≡ then_do outcome (λ found t. Gave found t)
 then_itself (Gave found t) = refl
 then_itself (Stopped why t) = refl
 
--- an expression whose code keeps a register is quiet
+-- an expression with code that keeps a register is quiet
 abbrev pub KeptIsQuiet : Context → Type 0
 KeptIsQuiet context =
     (bound : ℕ) (number : ExpressionNumber) (tree : TypedExpression)
@@ -108,7 +108,7 @@ KeptIsQuiet context =
     → ((keeps context.site number).a ≡ true) ⊎ ((keeps context.site number).de ≡ true)
     → is_quiet context.site number ≡ true
 
--- what the code of a form does that is not quiet
+-- the code of a form that is not quiet
 form_goes :
     {context : Context} {facts last : Facts} {bound pushed from to : ℕ} {tree : TypedExpression}
     (form : ExpressionForm)
@@ -164,7 +164,7 @@ form_goes (forms.Shift function value count) sound (IsShift {scalar = scalar} fi
 form_goes {to = to} (forms.Input port) sound IsInput types (PlainThere there NoneThere) top base s r memory stage =
     input_goes port sound there stage (λ small next. ends_here to _ next)
 
--- what something quiet gives, where it is known of each value
+-- the value of a quiet evaluation, with a property of every value
 quiet_arrives :
     {A : Type 0} {context : Context} {top pushed need : ℕ} {base : List ℕ} {u : SourceState} {facts : Facts}
     {now : Registers} {memory_now : List ℕ} {Holds : A → Registers → List ℕ → Type 0}
@@ -274,7 +274,7 @@ two_free {context = context} {from = from} {to = to} {left = left} {right = righ
     })
     (record { below = low; room = stage.room; ready = then_on.ready; known = then_on.known })))
 
--- what the code of a form does that is free and not quiet
+-- the code of a form that is free and not quiet
 free_form_goes :
     {context : Context} {facts last : Facts} {bound pushed from to : ℕ} {tree : TypedExpression}
     (form : ExpressionForm)
@@ -338,7 +338,7 @@ free_form_goes (forms.Location reference) scalar sound free loud form types stan
 free_form_goes (forms.Assignment target inner) scalar sound free loud form types stand top base s r memory stage = false_is_true free
 free_form_goes (forms.Call procedure range) scalar sound free loud form types stand top base s r memory stage = false_is_true free
 
--- what is given where A and DE are kept by quiet code alone
+-- only quiet code keeps A and DE
 given_kept :
     {context : Context} {last : Facts} {r now : Registers} {memory memory_now : List ℕ} {found : ℕ}
     (number : ExpressionNumber)
@@ -354,7 +354,7 @@ given_kept number never only known = record {
   free = only;
 }
 
--- the task of what an expression does
+-- the task of the effects of an expression
 pub effects_do :
     {context : Context} {facts last : Facts} {pushed from to : ℕ} (number : ExpressionNumber)
     → IsSound context
@@ -435,7 +435,7 @@ effects_do {context = context} {facts = facts} {last = last} {pushed = pushed} {
               holds = given_kept number never_kept (λ so. absurd (false_is_true (sym told ∙ so))) arrives.holds.known;
             }))
 
--- what the tree says of kept registers, as code asks it
+-- the registers that are kept according to the tree, as code queries them
 keeps_is : (site : Site) (of : ExpressionNumber) → keeps site of ≡ keeps_at (nodes_of site.tree.now) of
 unfolding keeps expression
 keeps_is site of = by (slice_get site.tree.now.expressions.items of.index)
@@ -446,14 +446,14 @@ keeps_is site of = by (slice_get site.tree.now.expressions.items of.index)
     by (Some one) = refl
     by None = refl
 
--- an expression whose code keeps a register is quiet
+-- an expression with code that keeps a register is quiet
 pub kept_is_quiet : {context : Context} → IsSound context → KeptIsQuiet context
 kept_is_quiet {context = context} sound bound number tree node kept =
     quiet_is context.site number
     ∙ kept_quiet (nodes_in context) context.storage sound.lowered.traits bound number.index tree node
     (subst (λ (one : Keeps). (one.a ≡ true) ⊎ (one.de ≡ true)) (keeps_is context.site number) kept)
 
--- the task of what an expression does
+-- the task of the effects of an expression
 pub effects_done :
     {context : Context} {facts last : Facts} {pushed from to : ℕ} (number : ExpressionNumber)
     → IsSound context

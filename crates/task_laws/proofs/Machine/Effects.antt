@@ -1,4 +1,4 @@
--- Code of what an expression does beside its value.
+-- The code for the effects of an expression.
 use Rattle.task_laws.proofs.Prelude.{◌≡◌, ℕ, ◌+◌, ◌*◌, ◌≤◌, ◌&&◌, List, Option, refl, ap, arith, height_of_reference, height_of_subscript, TypedReference, Subscript, TypesHoldInReference, TypesHoldInSubscript, Displacement, based_place, displacement, displaced, located, no_displacement, value, home_of, SourceState, Outcome, Gave, Stopped, then_do, Registers, State, Reference, IndexNode, IsReference, IsPart, IsSubscript, IsAbsent, IsIndex, Found, Fails, IsQuiet, outcome_of, quiet_base, Facts, Arrives, Does, at_place, outside_does, gives, reference_effects_steps, subscript_effects_steps, Context, nodes_in, NoneThere, PartThere, StepsStand, NothingIsGiven, PartDoes}
 use Rattle.meaning.specs.Access.{Place}
 use Rattle.treecode_laws.specs.internal.Evaluations.{Answer}
@@ -29,7 +29,7 @@ at_quiet {A = A} {context = context} {t = t} {r = r} {memory = memory} {more = m
     answered (Found found) is = does_same (go found t) (ap (λ (outcome : Outcome A). then_do outcome go) is) (rest found)
     answered (Fails reason) is = outside_does reason t (ap (λ (outcome : Outcome A). then_do outcome go) is)
 
--- the end of code of which nothing is given
+-- the end of code without a value
 pub ends_here :
     {A : Type 0} {context : Context} {top pushed need : ℕ} {base : List ℕ} {u : SourceState} {facts : Facts}
     {r now : Registers} {memory memory_now : List ℕ} (to : ℕ) (found : A)
@@ -45,7 +45,7 @@ ends_here {now = now} {memory_now = memory_now} to found stage =
       holds = record { known = stage.known };
     })
 
--- what something quiet gives is not used
+-- the value of a quiet evaluation is not used
 pub quiet_ends :
     {A : Type 0} {context : Context} {top pushed need : ℕ} {base : List ℕ} {u : SourceState} {facts : Facts}
     {r now : Registers} {memory memory_now : List ℕ} (to : ℕ) (meant : SourceState → Outcome A)
@@ -62,7 +62,7 @@ quiet_ends {A = A} {context = context} {top = top} {base = base} {u = u} {facts 
     answered (Found found) is = does_same (Gave found u) is (ends_here to found stage)
     answered (Fails reason) is = outside_does reason u is
 
--- what a subscript does
+-- the effects of a subscript
 pub at_subscript :
     {B : Type 0} {context : Context} {top pushed need : ℕ} {base : List ℕ} {t : SourceState} {facts found_facts : Facts}
     {r : Registers} {memory : List ℕ} {more bound : ℕ} {index : Option IndexNode} {subscript : Subscript}
@@ -85,7 +85,7 @@ at_subscript {context = context} {t = t} {go = go} from middle (IsIndex {stride 
     (at_effects from middle number does node types.0 fewer stage
     (λ found u now memory_now is next. rest (displaced stride count found) u now memory_now next))
 
--- what the subscripts of a part of an object do
+-- the effects of the subscripts of a part of an object
 pub at_reference :
     {B : Type 0} {context : Context} {top pushed need : ℕ} {base : List ℕ} {t : SourceState} {facts found_facts : Facts}
     {r : Registers} {memory : List ℕ} {more bound : ℕ} {reference : Reference} {tree : TypedReference}

@@ -1,4 +1,4 @@
--- Expressions that are free: one that is a number is, and one that lies in memory is quiet.
+-- Free expressions: a number is free, and a free expression in memory is quiet.
 use Rattle.task_laws.proofs.Prelude.{◌≡◌, ℕ, ◌+◌, ◌%◌, ◌&&◌, Bool, true, false, Option, Some, None, refl, sym, ap, ◌∙◌, is_some, slice_get, option_and_then, option_map_or, ScalarType, Byte, Address, High, TypedExpression, TypedReference, Storage, node_traits, false_is_true, Expression, ExpressionForm, ExpressionNumber, Place, Code, Data, External, Number, Reference, Traits, number_of_place, known_number, IsExpression, IsForm, IsNode, IsPart, IsReference, IsValue, Nodes, home_at, KeepTraits, byte_after, distance_of, free_at, is_direct, is_free_form, is_free_of, is_quiet_form, known_of, number_at, place_of_reference, quiet_at, traits_of}
 use Rattle.treecode.specs.declared.expression.ExpressionForm.TheVariants as forms
 use Rattle.task_laws.proofs.Machine.KeptCode.{index_known_quiet, known_of_entry, known_quiet, part_known_quiet, place_known, quiet_of_entry}
@@ -36,7 +36,7 @@ module _ (nodes : Nodes) (storage : Storage) (keeps : KeepTraits nodes) where
       free_of_entry number expression at
       ∙ ap (λ (found : Option Place). is_free_of nodes expression.traits.scalar found expression.form) known.1 ∙ known.2
 
-  -- what is not quiet is not known
+  -- a free node that is not quiet is not known, so its form is free
   pub not_known :
       {bound number : ℕ} {tree : TypedExpression} (expression : Expression)
       → IsExpression nodes storage bound number tree
@@ -56,7 +56,7 @@ module _ (nodes : Nodes) (storage : Storage) (keeps : KeepTraits nodes) where
           sym (ap (λ (found : Option Place). is_free_of nodes expression.traits.scalar found expression.form) is)
           ∙ sym (free_of_entry number expression at) ∙ free
 
-  -- a value that lies at a known place in memory
+  -- a value at a known place in memory
   pub value_is_quiet :
       {bound : ℕ} {reference : Reference} {part : TypedReference}
       → IsReference nodes storage bound reference part

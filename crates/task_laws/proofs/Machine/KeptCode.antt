@@ -1,11 +1,11 @@
--- An expression whose code keeps A or DE is quiet, and so is one that is known.
+-- An expression with code that keeps A or DE is quiet, and so is a known one.
 use Rattle.task_laws.proofs.Prelude.{◌≡◌, ℕ, zero, suc, ◌%◌, ◌<◌, ◌≤◌, ◌&&◌, ◌⊎◌, inl, inr, Bool, true, false, not, ◌||◌, if◌then◌else◌, Option, Some, None, is_some, option_and_then, option_map, slice_get, refl, sym, ap, subst, ◌∙◌, arith, and_parts, ScalarType, Byte, Address, Xor, Less, Greater, LessOrEqual, GreaterOrEqual, Unequal, Multiply, Divide, Modulo, Subscript, TypedExpression, TypedReference, Storage, Expression, ExpressionForm, Home, Place, Reference, IndexNode, Keeps, Traits, place_of_part, IsExpression, IsNode, IsForm, IsNumber, IsValue, IsLocation, IsConstantList, IsConversion, IsEmbedded, IsUnary, IsBinary, IsCallOf, IsFunction, IsShift, IsInput, IsReference, IsPart, IsSubscript, IsAbsent, IsIndex, Nodes, home_at, option_map_or, ShiftLeft, ShiftRight, RotateLeft, RotateRight, Low, High, Double, ExpressionNumber, KeepTraits, byte_after, distance_of, form_at, is_quiet_form, is_static_location, keeps_at, keeps_of, keeps_none, keeps_of_byte, keeps_of_extended, keeps_of_form, keeps_of_index, keeps_of_part, keeps_of_shift, keeps_of_subscript, keeps_of_sum, known_at, known_of, memory_of_form, memory_of_inner, number_at, place_of_reference, quiet_at, reference_is_quiet, same_low_byte, subscript_is_quiet, traits_at, traits_of, node_traits, false_is_true}
 use Rattle.trees.specs.declared.expression.BinaryOperator.TheVariants.{Or, And, Equal, Add, Subtract}
 use Rattle.treecode.specs.declared.expression.ExpressionForm.TheVariants as forms
 use Rattle.treecode.specs.declared.place.Home.TheVariants as homes
 use Rattle.treecode.specs.Traits.{keeps_of_address}
 
--- what follows something that is there
+-- if a function of an optional value has a result, the value is there
 some_then : {A B : Type 0} (go : A → Option B) (found : Option A) → is_some (option_and_then go found) ≡ true → is_some found ≡ true
 some_then go (Some found) some = refl
 some_then go None some = some
@@ -29,7 +29,7 @@ place_known (homes.Based base) offset first second some = false_is_true some
 place_known (homes.Frame variable) offset first second some = false_is_true some
 
 module _ (nodes : Nodes) (storage : Storage) (keeps : KeepTraits nodes) where
-  -- what the entry of a node keeps
+  -- the known value in the entry of a node
   pub known_of_entry : (number : ℕ) (expression : Expression) → slice_get nodes.expressions number ≡ Some expression
       → known_at nodes (record { index = number }) ≡ known_of nodes expression.traits.scalar expression.form
   unfolding traits_of
@@ -426,7 +426,7 @@ module _ (nodes : Nodes) (storage : Storage) (keeps : KeepTraits nodes) where
   form_kept Address below less whole (IsShift {function = RotateLeft} moved by) kept = none_is_kept kept
   form_kept Address below less whole (IsShift {function = RotateRight} moved by) kept = none_is_kept kept
 
-  -- what the code of a node keeps
+  -- the registers that the code of a node keeps
   keeps_of_entry : (number : ℕ) (expression : Expression) → slice_get nodes.expressions number ≡ Some expression
       → keeps_at nodes (record { index = number })
       ≡ keeps_of nodes expression.traits.scalar (known_of nodes expression.traits.scalar expression.form) expression.form
@@ -454,7 +454,7 @@ module _ (nodes : Nodes) (storage : Storage) (keeps : KeepTraits nodes) where
       ∙ shape_kept expression.traits.scalar (kept_below limit) (omega (arith, less)) shape
       (subst (λ (one : Keeps). Kept one) (keeps_of_entry number expression at) kept)
 
-  -- an expression whose code keeps A or DE is quiet
+  -- an expression with code that keeps A or DE is quiet
   pub kept_quiet :
       (bound number : ℕ) (tree : TypedExpression)
       → IsExpression nodes storage bound number tree

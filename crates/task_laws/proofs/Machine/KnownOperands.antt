@@ -1,4 +1,4 @@
--- What is known of expressions at a site: values that are known but for where things lie, their range, and operands
+-- Expressions at a site: values that are known as numbers or relocatable addresses, their range, and operands
 -- that may be evaluated in the other order.
 use Rattle.task_laws.proofs.Prelude.{◌≡◌, ℕ, ◌+◌, ◌-◌, ◌*◌, ◌/◌, ◌%◌, ◌^◌, ◌<◌, ◌≤◌, ◌==◌, Bool, true, false, ◌&&◌, ◌||◌, not, nat_lt, nat_le, if◌then◌else◌, Option, Some, None, is_some, option_map, slice_get, List, bit_and, refl, sym, ap, ◌∙◌, subst, arith, length, option_and_then, option_map_or, and_le_l, or_of_8, or_of_16, xor_of_8, xor_of_16, ScalarType, Byte, Address, BinaryOperator, UnaryOperator, Not, Negate, ShiftFunction, ShiftLeft, ShiftRight, RotateLeft, RotateRight, UnaryFunction, Low, High, Double, type_of, type_of_function, type_of_result, TypedExpression, NumberNode, ValueNode, LocationNode, ListNode, ConversionNode, AssignmentNode, UnaryNode, BinaryNode, CallNode, FunctionNode, ShiftNode, InputNode, TypedModule, TypedReference, PartOf, Subscript, NoSubscript, At, ShiftsIn, TypesHold, TypesHoldInReference, TypesHoldInSubscript, Within, WorksOn, value, Ended, More, Outside, Outcome, Gave, Stopped, result_of, result_of_one, shifted, truth, turned, values_of, Machine, Expression, ExpressionForm, ExpressionNumber, Home, Place, Number, Code, Data, External, number_of_place, place_after, converted_place, function_of_place, known_number, known_subscript, known_value, place_of_part, result_of_known, result_of_place, shift_of_known, IsExpression, IsNode, IsForm, IsNumber, IsValue, IsLocation, IsConstantList, IsConversion, IsEmbedded, IsUnary, IsBinary, IsCallOf, IsFunction, IsShift, IsInput, home_at, HaveOperands, PartHasOperands, SubscriptHasOperands, known_at, no_traits, known_kept, AreAlike, AreSame, BothOutside, GoesOutside, may_exchange_at, in_order, exchanged, known_gives, operands_exchanged, Does, place_at, Facts, is_quiet, known, may_exchange, number, stores_nothing, expression, knowing, equal_below, Context, IsSound, NumbersAreWords, nodes_in}
 use Rattle.trees.specs.declared.expression.BinaryOperator.TheVariants as operators
@@ -16,7 +16,7 @@ number_known context facts of n here =
     known_is (knowing context.site facts) of
     ∙ place_of_number (known_at (nodes_in context) of) n (sym (number_is (knowing context.site facts) of) ∙ here)
 
--- where something lies is an ADDRESS, and a known number is one of its type
+-- a relocatable address is an ADDRESS, and a known number is one of its type
 abbrev pub KnownFits : Option Place → ScalarType → Type 0
 KnownFits None scalar = Unit {0}
 KnownFits (Some (Number n)) scalar = n < values_of scalar
@@ -156,7 +156,7 @@ result_fits operands operators.Modulo x y one two = by (y == 0)
     by true = tt
     by false = less_or_same (x % y) x (values_of operands) (Rattle.std.proofs.Math.Nat.mod-le x y) one
 
--- an ADDRESS some bytes further on
+-- an ADDRESS `distance` bytes further on
 after_fits : (place : Place) (distance : ℕ) → KnownFits (Some (place_after place distance)) Address
 after_fits (Number n) distance = omega arith
 after_fits (Code n) distance = refl
@@ -248,7 +248,7 @@ place_small context (Code o) scalar sound fits = rw fits (sound.resolves.below (
 place_small context (Data o) scalar sound fits = rw fits (sound.resolves.below (Data o) refl)
 place_small context (External o name) scalar sound fits = rw fits (sound.resolves.below (External o name) refl)
 
--- so what is known is a value of the type of the expression
+-- so a known value is of the type of the expression
 pub known_small :
     {context : Context} {bound : ℕ} {of : ExpressionNumber} {tree : TypedExpression} (facts : Facts) (place : Place)
     → IsSound context

@@ -1,7 +1,7 @@
--- The node of a number: what stands in the tables where the expression of a number is a tree.
+-- The node with a number: the entry of the tables, if the expression with this number is a tree.
 use Rattle.task_laws.proofs.Prelude.{◌≡◌, ℕ, Some, slice_get, ap, ◌∙◌, type_of, TypedExpression, Expression, ExpressionNumber, IsExpression, IsNode, IsForm, traits_of, Facts, expression, knowing, Context, IsSound, nodes_in}
 
--- what is found at the number of a tree
+-- the node that is found at the number of a tree
 pub record NodeOf (context : Context) (number : ExpressionNumber) (tree : TypedExpression) : Type 0 where
   pub found : Expression
   pub is_there : slice_get (nodes_in context).expressions number.index ≡ Some found

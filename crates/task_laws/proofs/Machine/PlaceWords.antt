@@ -1,4 +1,4 @@
--- Where a static object lies has the width of a word, where the numbers of tree code have.
+-- The address of a static object has 16 bits, if the numbers of tree code have.
 use Rattle.task_laws.proofs.Prelude.{◌≡◌, ℕ, ◌<◌, List, MEMORY_SIZE, Layout, wrapped_small, Home, Place, Number, Code, Data, External, home_at, place_at}
 use Rattle.treecode.specs.declared.place.Home.TheVariants.{Static}
 

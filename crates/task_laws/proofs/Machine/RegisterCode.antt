@@ -1,4 +1,4 @@
--- Steps that touch registers alone, one after another.
+-- Steps that change only registers, one after another.
 use Rattle.task_laws.proofs.Prelude.{◌≡◌, ℕ, ◌+◌, ◌*◌, ◌/◌, ◌%◌, ◌<◌, ◌≤◌, Bool, true, false, List, [], ◌∷◌, ◌++◌, bit_and, refl, sym, ap, ◌∙◌, arith, subst, and_le_l, or_of_8, xor_of_8, IsMemory, byte_at, byte_small, Event, SourceState, Outcome, Instr, Accumulate, AccumulateImmediate, Cma, Dad, Dcx, Inx, Lxi, Mov, Mvi, Rar, Rlc, Rrc, Ral, Xchg, Of, Operation, Add, AddWithCarry, Subtract, SubtractWithBorrow, And, ExclusiveOr, Or, Compare, Bc, De, Hl, Register, A, B, C, D, E, H, L, Flags, bit, HoldBytes, Registers, State, register_of, wrap, operate, act, running, InstructionStands, size_of_instruction, Does, at_place, plain_first, stands_now, Asks, FactsHold, facts_after, Facts, Part, Step, after, plain, Context, IsSound, distances_in, StepsStand, PlainThere, Know}
 use Rattle.isa8080.specs.State.{with_register}
 use Rattle.asm8080.specs.declared.item.Item.TheVariants as items
@@ -59,7 +59,7 @@ acts_on script Cma r memory events is = refl
 acts_on script Xchg r memory events is = refl
 acts_on script i r memory events is = absurd is
 
--- wherever it stands
+-- wherever it is placed
 placed : (i : Instr) (place : ℕ) (r : Registers) → IsOnRegisters i
     → does_to i (record r { pc = wrap place }) ≡ record (does_to i r) { pc = wrap place }
 placed (Lxi Bc word) place r is = refl
@@ -137,7 +137,7 @@ word_fits word high same small = omega (arith, same, small)
 byte_fits : (number byte : ℕ) → byte ≡ number → byte < 256 → number < 256
 byte_fits number byte same small = omega (arith, same, small)
 
--- since their bytes stand in a memory
+-- since their bytes are in a memory
 numbers_fit :
     (i : Instr) (memory : List ℕ) (place : ℕ)
     → IsMemory memory
@@ -260,7 +260,7 @@ asks_nothing context facts Cma r is = tt
 asks_nothing context facts Xchg r is = tt
 asks_nothing context facts i r is = absurd is
 
--- what is known after it
+-- the facts after it
 known_after :
     (context : Context) (facts : Facts) (i : Instr) (r : Registers) (memory : List ℕ)
     → IsOnRegisters i
@@ -285,7 +285,7 @@ abbrev pub AreOnRegisters : List Instr → Type 0
 AreOnRegisters [] = Unit {0}
 AreOnRegisters (i ∷ others) = IsOnRegisters i × AreOnRegisters others
 
--- A machine that comes to such instructions: what follows them is done with the registers after them.
+-- A machine at such instructions: the code after them runs with the registers after them.
 pub registers_then :
     {A : Type 0} {outcome : Outcome A} {Good : A → SourceState → State → Type 0}
     {context : Context} {PartIs : (before : Facts) → Part → (from : ℕ) → (after : Facts) → (to : ℕ) → Type 0}

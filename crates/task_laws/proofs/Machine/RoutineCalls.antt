@@ -44,7 +44,7 @@ no_copy routines.RotateLeft s range is = tt
 no_copy routines.RotateRight s range is = tt
 no_copy routines.Move s range is = absurd is
 
--- what a routine computes and leaves does not depend on where it is called
+-- the results and the kept registers of a routine do not depend on the place of its call
 computes_there : (routine : Routine) (place : ℕ) (r now : Registers)
     → Computes routine (record r { pc = place }) now → Computes routine r now
 computes_there routines.Multiply place r now computes = computes
@@ -160,8 +160,8 @@ ready_after_routine activation top pushed need base source memory ended frame r 
           kept);
     }
 
--- The call of a routine returns: what it computes is in the registers, and of the others only those are the same that
--- it leaves.
+-- The call of a routine returns: its results are in the registers, and of the other registers only those that
+-- it keeps are the same.
 pub routine_then :
     {A : Type 0} {outcome : Outcome A} {Good : A → SourceState → State → Type 0}
     {context : Context} {PartIs : (before : Facts) → Part → (from : ℕ) → (after : Facts) → (to : ℕ) → Type 0}

@@ -1,9 +1,9 @@
--- The rules by which code of steps is followed: what the machine does that comes to a step.
+-- The rules for following the code of steps: the run of a machine at a step.
 use Rattle.task_laws.proofs.Prelude.{◌≡◌, ℕ, ◌+◌, ◌-◌, ◌%◌, ◌<◌, ◌≤◌, Bool, true, false, if◌then◌else◌, List, [], ◌∷◌, ◌++◌, ◌==◌, bit_or, refl, sym, ap, subst, ◌∙◌, arith, MEMORY_SIZE, Event, SourceState, Outcome, Instr, Pop, Push, StackPair, StackBc, StackDe, StackHl, Psw, HoldBytes, Registers, State, pushed_of, with_popped, wrap, Or, operate, act, flag_byte_small, WordForm, instruction_with, AgreesIn, size_of_instruction, pushed, pop_does, push_does, Place, Does, at_place, Activation, HasRoom, IsReady, IsThere, LiesWell, plain_first, word_first, ready_after_pop, ready_after_push, still_pushed, Asks, WordAsks, or_self, after_test, test_items, test_of_a, ZeroHolds, place_at, facts_after, facts_after_word, with_facts_hold, without_memory_holds, push_asks, Facts, Part, Step, after, after_word, with_facts, without_memory, word_item, Context, IsSound, distances_in, StepsStand, NoneThere, PlainThere, WordThere, JumpThere, MarkThere, RoutineThere, CallThere, TestThere, HoldsThere, ChangeThere, PartThere, Know}
 use Rattle.asm8080.specs.declared.item.Item.TheVariants as items
 use Rattle.steps8080.specs.declared.step.Step.TheVariants as steps
 
--- steps that stand in two parts
+-- steps in two parts
 pub record Parted
     (context : Context) (PartIs : (before : Facts) → Part → (from : ℕ) → (after : Facts) → (to : ℕ) → Type 0)
     (facts : Facts) (from : ℕ) (one other : List Step) (last : Facts) (to : ℕ) : Type 0 where
@@ -77,7 +77,7 @@ ready_with_registers pointer bytes ready = record {
   kept = ready.kept;
 }
 
--- an instruction: what it does is left, and what is known after it holds then
+-- an instruction: its effect is carried out, and the facts after it hold then
 pub plain_goes :
     {A : Type 0} {budget more : ℕ} {outcome : Outcome A} {Good : A → SourceState → State → Type 0}
     {context : Context} {facts : Facts} {top : ℕ} {base source : List ℕ} {frame : List (List ℕ)}
@@ -125,7 +125,7 @@ registers_go {memory = memory} {events = events} r now sound there on asks does 
     plain_goes r now memory events sound there on asks does
     (λ known. rest (record { ready = ready_with_registers pointer bytes on.ready; known = known }))
 
--- an instruction with the word of a place: what it does is left
+-- an instruction with the word of a place: its effect is carried out
 pub word_acts :
     {A : Type 0} {budget more : ℕ} {outcome : Outcome A} {Good : A → SourceState → State → Type 0}
     {context : Context} {memory : List ℕ} {events : List Event} {from : ℕ} (form : WordForm) (place : Place) (r : Registers)
@@ -139,7 +139,7 @@ pub word_acts :
     → Does context.activation.around.program.script budget more (at_place from r memory events) outcome Good
 word_acts form place r sound code there rest = word_first r sound.lies code there rest
 
--- and what is known after it holds then
+-- the facts after it hold then
 pub word_goes :
     {A : Type 0} {budget more : ℕ} {outcome : Outcome A} {Good : A → SourceState → State → Type 0}
     {context : Context} {facts : Facts} {top : ℕ} {base source : List ℕ} {frame : List (List ℕ)}

@@ -1,4 +1,4 @@
--- What the code asks of nodes, in the words of trees.
+-- The queries of code about nodes, in terms of trees.
 use Rattle.task_laws.proofs.Prelude.{◌≡◌, ℕ, ◌&&◌, ◌||◌, true, false, Option, Some, None, is_some, slice_get, refl, sym, ap, ◌∙◌, List, length, subst, option_map_or, TypedModule, TypedExpression, NumberNode, ValueNode, LocationNode, ListNode, ConversionNode, AssignmentNode, UnaryNode, BinaryNode, CallNode, FunctionNode, ShiftNode, InputNode, TypedReference, PartOf, Subscript, NoSubscript, At, TypesHold, TypesHoldInReference, TypesHoldInSubscript, Within, value, SourceState, Ended, More, Outside, Outcome, Gave, Stopped, State, Expression, ExpressionNumber, Place, Number, Code, Data, External, known_number, IsExpression, nodes_of, place_number, HaveOperands, PartHasOperands, SubscriptHasOperands, free_at, known_at, no_traits, number_at, quiet_at, storing_nothing_at, known_kept, AreAlike, AreSame, BothOutside, GoesOutside, IsQuiet, exchanged, in_order, quiet_kept, known_gives, operands_exchanged, quiet_value, Does, place_at, Site, expression, is_free, is_quiet, known, may_exchange, number, stores_nothing, Facts, knowing, Context, IsSound, nodes_in}
 use Rattle.treecode_laws.specs.internal.Evaluations as evaluations
 use Rattle.task_laws.proofs.Machine.Stages.{does_same}
@@ -43,7 +43,7 @@ mutual
   subscript_has_operands typed within NoSubscript hold = tt
   subscript_has_operands typed within (At stride count index) hold = have_operands typed within index hold.0
 
--- what a site says of a node is what tree code says of it
+-- the traits of a node at a site are those of tree code
 pub known_is : (site : Site) (of : ExpressionNumber) → known site of ≡ known_at (nodes_of site.tree.now) of
 unfolding known expression
 known_is site of = by (slice_get site.tree.now.expressions.items of.index)
@@ -111,7 +111,7 @@ exchange_is site left right =
     ∙ ap (λ b. is_some (known_at (nodes_of site.tree.now) left) || (b && stores_nothing site right)) (quiet_is site left)
     ∙ ap (λ b. is_some (known_at (nodes_of site.tree.now) left) || (quiet_at (nodes_of site.tree.now) left && b)) (storing_is site right)
 
--- the value of a tree, where the code stands
+-- the value of a tree in a context
 abbrev pub value_in : Context → TypedExpression → SourceState → Outcome ℕ
 value_in context tree s = value context.later context.activation.around tree s
 
@@ -142,7 +142,7 @@ number_means {context = context} {of = of} {tree = tree} facts n sound node type
     (known_is (knowing context.site facts) of
     ∙ place_of_number (known_at (nodes_in context) of) n (sym (number_is (knowing context.site facts) of) ∙ is)) s
 
--- what an outcome may be had in place of is done where that one is
+-- an outcome is carried out if one that may replace it is
 pub does_alike :
     {A : Type 0} {script : List (List ℕ)} {budget more : ℕ} {from : State} (outcome other : Outcome A)
     {Good : A → SourceState → State → Type 0}

@@ -1,14 +1,14 @@
--- A machine within the code of a body, and what it does that comes to a step.
+-- A machine within the code of a body, and its run at a step.
 use Rattle.task_laws.proofs.Prelude.{◌≡◌, ℕ, ◌+◌, ◌-◌, ◌*◌, ◌%◌, ◌<◌, ◌≤◌, Bool, true, false, List, [], ◌∷◌, ◌++◌, refl, sym, ap, ◌∙◌, subst, arith, MEMORY_SIZE, byte_at, byte_small, height_of, type_of, TypedExpression, TypesHold, value, SourceState, Ended, More, Outside, Outcome, Gave, Stopped, then_do, Instr, Pop, Push, StackPair, StackBc, StackDe, StackHl, Psw, Flags, act, bit, flag_byte, HoldBytes, Registers, State, pushed_of, with_popped, wrap, size_of_instruction, pushed_word, pop_does, push_does, ExpressionNumber, IsExpression, Facts, Part, Step, after, after_word, plain, word_item, LoadA, Place, Activation, HasRoom, IsReady, IsThere, Does, Lands, at_place, plain_first, then_does, told_on, ready_after_pop, ready_after_push, still_pushed, Asks, FactsHold, IsSteady, place_at, facts_after, push_asks, Context, IsSound, distances_in, nodes_in, StepsStand, NoneThere, ByteDoes, ByteIsGiven, Carries, EffectsDo, Know, EffectsAreGiven, WordDoes, WordIsGiven}
 use Rattle.asm8080.specs.declared.item.Item.TheVariants as items
 use Rattle.task_laws.proofs.Machine.RegisterCode.{AreOnRegisters, effect, registers_then}
 use Rattle.task_laws.proofs.Machine.Rules.{ready_with_registers, word_goes}
 
--- what ports give
+-- the script of the ports
 abbrev pub script_of : Context → List (List ℕ)
 script_of context = context.activation.around.program.script
 
--- a machine may go on, of which this is known
+-- a machine may continue, with these facts
 pub record Stage
     (context : Context) (top pushed need : ℕ) (base : List ℕ) (t : SourceState) (facts : Facts)
     (r : Registers) (memory : List ℕ) : Type 0 where
@@ -17,7 +17,7 @@ pub record Stage
   pub ready : IsReady context.activation top base t.memory t.frame r memory
   pub known : Know context facts r memory
 
--- what an outcome is, is done where the same one is
+-- an outcome is carried out if an equal one is
 pub does_same :
     {A : Type 0} {script : List (List ℕ)} {budget more : ℕ} {from : State} {outcome : Outcome A}
     {Good : A → SourceState → State → Type 0} (other : Outcome A)
@@ -27,7 +27,7 @@ pub does_same :
 does_same {script = script} {budget = budget} {more = more} {from = from} {Good = Good} other same does =
     subst (λ one. Does script budget more from one Good) (sym same) does
 
--- a part that gave something, after which the machine goes on
+-- a part that gave a value, after which the machine continues
 pub gives_then :
     {A : Type 0} {script : List (List ℕ)} {budget more : ℕ} {from : State} (outcome : Outcome A)
     {Middle Good : A → SourceState → State → Type 0}
@@ -43,7 +43,7 @@ gives_then {A = A} {script = script} {budget = budget} {more = more} {from = fro
     ends (Gave found t) = refl
     ends (Stopped why t) = refl
 
--- what follows a part knows what the part gave
+-- the rest after a part, which may use the value that the part gave
 pub then_does_where :
     {A B : Type 0} {script : List (List ℕ)} {budget other : ℕ} {from : State} (outcome : Outcome A)
     {go : A → SourceState → Outcome B}
@@ -363,7 +363,7 @@ pub at_end :
     → Does (script_of context) budget more (at_place from r memory t.events) outcome Good
 at_end NoneThere stage rest = rest stage
 
--- code that carries something out, and then the machine goes on
+-- code that carries something out, after which the machine continues
 pub at_carried :
     {A B : Type 0} {context : Context} {top pushed need : ℕ} {base : List ℕ} {t : SourceState} {facts : Facts}
     {r : Registers} {memory : List ℕ} {more less : ℕ} {Asked : Registers → Type 0}
@@ -439,7 +439,7 @@ at_word {context = context} {found_facts = found_facts} {r = r} {memory = memory
     at_carried from middle found_facts (does bound tree node types) fewer tt
     (λ found now memory_now (given : WordIsGiven context found_facts number (type_of tree) r memory found now memory_now). given.known) stage rest
 
--- what a part does, of which nothing is used
+-- a part with a value that is not used
 pub at_effects :
     {B : Type 0} {context : Context} {top pushed need : ℕ} {base : List ℕ} {t : SourceState} {facts found_facts : Facts}
     {r : Registers} {memory : List ℕ} {more : ℕ} {bound : ℕ}

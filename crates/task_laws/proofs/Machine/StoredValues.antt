@@ -1,4 +1,4 @@
--- A value in its register, and one that is stored where it is evaluated.
+-- A value in its register, and a value that is stored while it is evaluated.
 use Rattle.task_laws.proofs.Prelude.{◌≡◌, ℕ, ◌+◌, ◌*◌, ◌%◌, ◌<◌, ◌≤◌, Bool, true, List, sym, subst, ◌∙◌, arith, ScalarType, Byte, Address, height_of, height_of_target, type_of, TypedExpression, TypedTarget, AssignmentNode, TypesHold, TypesHoldInTarget, stored, value, SourceState, Ended, More, Outside, Outcome, Gave, Stopped, then_do, values_of, Registers, State, ExpressionNumber, Target, IsExpression, IsTarget, IsStored, IsSent, source, Facts, Does, Lands, at_place, embedded_steps, value_task, Context, InRegister, nodes_in, NoneThere, PartThere, StepsStand, ByteIsGiven, Carries, WasStored, PartDoes, StoreDoes, TaskDoes, WordIsGiven}
 use Rattle.task_laws.proofs.Machine.Stages.{Stage, at_byte, at_carried, at_word, does_same, script_of}
 use Rattle.task_laws.proofs.Machine.Effects.{then_again}
@@ -59,7 +59,7 @@ at_value {context = context} {found_facts = found_facts} {r = r} {memory = memor
     (λ found u now memory_now is (given : WordIsGiven context found_facts number (type_of tree) r memory found now memory_now) next.
     rest found u now memory_now (given.h, given.l) (subst (λ scalar. found < values_of scalar) type given.small) next)
 
--- a value in its register goes to a target
+-- a value in its register is stored in a target
 pub at_store :
     {B : Type 0} {context : Context} {top pushed need : ℕ} {base : List ℕ} {t : SourceState} {facts found_facts : Facts}
     {r : Registers} {memory : List ℕ} {more : ℕ} {bound : ℕ} {is_wanted : Bool}

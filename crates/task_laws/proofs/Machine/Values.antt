@@ -1,9 +1,9 @@
--- Parts of code that give values: what follows them is done with the value in its register.
+-- Parts of code that give values: the code after them uses the value in its register.
 use Rattle.task_laws.proofs.Prelude.{◌≡◌, ℕ, ◌*◌, ◌/◌, ◌%◌, ◌<◌, ◌≤◌, List, [], ◌∷◌, refl, sym, subst, arith, ScalarType, height_of, type_of, TypedExpression, TypesHold, value, SourceState, Ended, More, Outside, Outcome, Gave, Stopped, then_do, values_of, Registers, State, ExpressionNumber, IsExpression, Does, Lands, at_place, Arrives, HasRoom, IsReady, gives, told_on, Facts, Part, Step, keeps, Context, nodes_in, StepsStand, NoneThere, PartThere, PartDoes, ByteDoes, ByteIsGiven, EffectsDo, Left, EffectsAreGiven, WordDoes, WordIsGiven}
 use Rattle.steps8080.specs.declared.step.Step.TheVariants as steps
 use Rattle.task_laws.proofs.Machine.Rules.{GoesOn, room_for}
 
--- a part that gave something, then others, which know what it gave
+-- a part that gave a value, then others, which may use it
 pub then_does_where :
     {A B : Type 0} {script : List (List ℕ)} {budget other : ℕ} {from : State} {outcome : Outcome A}
     {go : A → SourceState → Outcome B} {Middle : A → SourceState → State → Type 0}
@@ -124,7 +124,7 @@ pub record HasWord (n : ℕ) (r : Registers) : Type 0 where
   pub h : r.h ≡ n / 256
   pub l : r.l ≡ n % 256
 
--- what of the registers is kept
+-- the registers that are kept
 pub record KeepsThem (context : Context) (number : ExpressionNumber) (r now : Registers) : Type 0 where
   pub a : Left (keeps context.site number).a r.a now.a
   pub d : Left (keeps context.site number).de r.d now.d
@@ -149,7 +149,7 @@ word_given {context = context} {after = after} {number = number} {scalar = scala
       holds = record { h = has.h; l = has.l; small = small; known = going.known; a = kept.a; d = kept.d; e = kept.e };
     })
 
--- a part that stands first
+-- a part that comes first
 pub record FirstPart
     (context : Context) (facts : Facts) (from : ℕ) (part : Part) (others : List Step) (last : Facts) (to : ℕ) : Type 0 where
   pub found : Facts

@@ -1,5 +1,5 @@
--- Items that are written for steps and stand in the code are steps that stand there; where each task is carried out by
--- its steps, so is each part.
+-- The items of steps in the code are the steps in memory. If each task is carried out by its steps, so is
+-- each part.
 use Rattle.task_laws.proofs.Prelude.{◌≡◌, ℕ, ◌+◌, Bool, List, [], ◌∷◌, refl, sym, subst, ap, ◌∙◌, arith, Item, size_of, size_of_instruction, stands_size, Activation, IsThere, both_there, after_mark, mark_lies, Facts, Part, Step, word_item, Site, AreWritten, CallWritten, ChangeWritten, HoldsWritten, IsWritten, JumpWritten, MarkWritten, NoneWritten, PartWritten, PlainWritten, Planned, RoutineWritten, TestWritten, WordWritten, call_items, has_routine, knowing, test_items, task_steps, Context, PartDoes, CallThere, ChangeThere, HoldsThere, JumpThere, MarkThere, NoneThere, PartThere, PlainThere, RoutineThere, StepsStand, TestThere, WordThere}
 use Rattle.asm8080.specs.declared.item.Item.TheVariants as items
 
@@ -23,7 +23,7 @@ first_there activation item more from size to same there =
     (stands_size activation.layout activation.image (item ∷ []) from parts.middle parts.first.stands) in
     record { first = rw (sym here) parts.first; rest = rw (sym here) parts.second }
 
--- what carries out each task by its steps
+-- the law that each task is carried out by its steps
 abbrev pub CarryOut : Context → Type 0
 CarryOut context =
     (before after : Facts) (part : Part) (label from to : ℕ)

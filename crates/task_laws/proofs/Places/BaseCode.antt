@@ -1,4 +1,4 @@
--- The code that has the address of a base: without computed subscripts, or with their sum in HL.
+-- The code for the address of a base: without computed subscripts, or with their sum in HL.
 use Rattle.task_laws.proofs.Prelude.{◌≡◌, ℕ, ◌+◌, ◌*◌, ◌<◌, Bool, true, false, List, [], ◌∷◌, ◌++◌, refl, sym, ap, subst, ◌∙◌, arith, byte_at, SourcePlace, InMemory, InTheFrame, home_of, place_of, based_place, SourceState, Outcome, Gave, Dad, Lxi, Xchg, Bc, De, Sp, Registers, State, high_byte, low_byte, word, wrap, Number, is_static_location, Does, at_place, Activation, HasRoom, location_at, place_at, no_facts_hold, Facts, Part, Plain, no_facts, Base, distance, addition_steps, base_added_steps, base_steps, location_word_steps, knowing, Context, IsSound, distances_in, StepsStand, Know, Left, address_on_machine}
 use Rattle.treecode.specs.declared.place.Location.TheVariants as locations
 use Rattle.steps8080.specs.declared.sites.queries.Base.TheVariants as bases
@@ -9,7 +9,7 @@ use Rattle.task_laws.proofs.Places.LocationWords.{frame_away, location_word_goes
 use Rattle.task_laws.proofs.Places.Reading.{word_read}
 use Rattle.task_laws.proofs.Places.Bases.{IsBase, InAFrame, InPlace, IsSmall, OnBase}
 
--- which registers the code of a base leaves alone, where subscripts are computed or none is
+-- the registers that the code of a base keeps, with and without computed subscripts
 abbrev pub base_keeps_a : Base → Bool
 base_keeps_a (bases.Based pointer offset) = is_static_location pointer
 base_keeps_a base = true
@@ -18,7 +18,7 @@ abbrev pub added_base_keeps_de : Base → Bool
 added_base_keeps_de (bases.Based pointer offset) = false
 added_base_keeps_de base = true
 
--- HL is the address of a place, and what is kept is what it was
+-- HL is the address of a place, and the kept registers are the same
 pub record PlaceBeside
     (activation : Activation) (keeps_a keeps_de : Bool) (r : Registers) (found : SourcePlace) (now : Registers) : Type 0 where
   pub hl : word now.h now.l ≡ address_on_machine activation found
@@ -123,7 +123,7 @@ pointed : (d e h l start bytes known offset now : ℕ) → wrap offset ≡ wrap 
     → now ≡ wrap (start + bytes)
 pointed d e h l start bytes known offset now one two three is = omega (arith, one, two, three, is)
 
--- the address that a base is, with what is in HL
+-- the address of a base, plus HL
 pub base_added_goes :
     {Good : SourcePlace → SourceState → State → Type 0}
     {context : Context} {PartIs : (before : Facts) → Part → (from : ℕ) → (after : Facts) → (to : ℕ) → Type 0}

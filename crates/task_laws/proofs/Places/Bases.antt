@@ -1,4 +1,4 @@
--- The base of an object: where it lies by the tree and by the source, and the code that has its address.
+-- The base of an object: its location by the tree and by the source, and the code for its address.
 use Rattle.task_laws.proofs.Prelude.{◌≡◌, ℕ, ◌+◌, ◌*◌, ◌%◌, ◌<◌, Bool, true, List, [], Option, Some, None, slice_get, refl, sym, ap, subst, ◌∙◌, arith, IsSomeAnd, option_map_or, ScalarType, Address, IsScalar, count_of, size_of_element, size_of_object, TypedHome, InData, InConstants, Placed, BasedOn, Elsewhere, Nowhere, InFrame, ObjectType, TypedObject, TypedModule, IsSeen, LiesFor, Within, WithinMain, WithinProcedure, SourcePlace, InMemory, InTheFrame, Surroundings, home_in, home_of, place_in, place_of, read_scalar, based_place, SourceState, Outcome, Gave, Stopped, then_do, wrap, Home, Place, Location, frame_number, homes_of, place_after, home_at, home, location_at, place_at, location_after_is, Base, base_after, base_of, Context, IsSound, distances_in, address_on_machine}
 use Rattle.treecode.specs.declared.place.Home.TheVariants as homes
 use Rattle.treecode.specs.declared.place.Location.TheVariants as locations
@@ -7,8 +7,8 @@ use Rattle.steps8080.specs.declared.sites.queries.Base.TheVariants as bases
 use Rattle.task_laws.proofs.Places.Homes.{Begins, BeginsAtBase, BeginsInFrame, BeginsInMemory, begins}
 use Rattle.task_laws.proofs.Places.Reading.{FitsIn}
 
--- The base of an object, with so many bytes of what is asked known: where it lies on the machine is where the source
--- has the object, for each number of bytes that these are a part of.
+-- The base of an object, with `known` bytes of a displacement: its place on the machine is where the source
+-- has the object, for each displacement with this known part.
 pub data IsBase (context : Context) (object known : ℕ) : Base → Type 0 where
   InPlace : {place : Place}
       → ((bytes rest : ℕ) (is_inside : Bool) (s : SourceState)
@@ -56,7 +56,7 @@ moved_on address rest more after is = omega (arith, is)
 further : (offset known more : ℕ) → wrap offset ≡ wrap known → wrap ((offset + more) % 65536) ≡ wrap (known + more)
 further offset known more is = omega (arith, is)
 
--- a base so many bytes further on
+-- a base `more` bytes further on
 pub base_further :
     {context : Context} {object known : ℕ} (base : Base) (more : ℕ)
     → IsSound context
@@ -78,7 +78,7 @@ base_further {context = context} {object = object} {known = known} (bases.Frame 
 base_further {context = context} {object = object} {known = known} (bases.Based pointer offset) more sound (OnBase base is at place fits) =
     OnBase base (further offset known more is) at place fits
 
--- what an option has of which something is said
+-- an option has a value, with a property
 pub record HasSome {A : Type 0} (option : Option A) (P : A → Type 0) : Type 0 where
   pub found : A
   pub is : option ≡ Some found
@@ -116,7 +116,7 @@ given : Outcome SourcePlace → SourcePlace
 given (Gave place t) = place
 given (Stopped why t) = InMemory 0
 
--- an object that is not BASED lies where it begins
+-- an object that is not BASED is at its home
 not_based :
     (within : Within) (kind : TypedHome) (around : Surroundings) (object bytes : ℕ) (is_inside : Bool) (s : SourceState)
     → LiesFor within kind

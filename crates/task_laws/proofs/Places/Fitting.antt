@@ -1,11 +1,11 @@
--- What is located is a scalar that lies within its object, where each subscript is below its dimension.
+-- A located scalar is within its object, if each subscript is below its dimension.
 use Rattle.task_laws.proofs.Prelude.{◌≡◌, ℕ, ◌+◌, ◌%◌, ◌<◌, ◌≤◌, ◌&&◌, Bool, true, Option, Some, None, refl, sym, ap, subst, ◌∙◌, arith, IsSomeAnd, slice_get, ltb-true, MEMORY_SIZE, left_true, right_true, ScalarType, IsScalarOf, size_of_object, size_of_scalar, TypedHome, InData, InConstants, Placed, BasedOn, Elsewhere, Nowhere, InFrame, PartOf, Subscript, NoSubscript, At, TypedObject, TypedReference, IsSeen, RefersToScalar, InMemory, home_of, place_of, read_scalar, Displacement, based_place, displaced, displacement, located, value, Outcome, Gave, Stopped, then_do, Context, IsSound, IsReferred}
 use Rattle.typed_trees.proofs.Inside.{LiesAt, scalar_lies_within}
 use Rattle.meaning.specs.{Access.{Place}, Outcomes.{State}}
 use Rattle.task_laws.proofs.Places.Bases.{has_some, home_there, own_frame}
 use Rattle.task_laws.proofs.Places.Reading.{FitsIn}
 
--- what is given was given by what comes first
+-- the given value comes from the first evaluation
 pub record GaveFirst {A B : Type 0} (outcome : Outcome A) (go : A → State → Outcome B) (found : B) (u : State) : Type 0 where
   pub first : A
   pub t : State
@@ -41,7 +41,7 @@ displacement_lies context (At stride count index) found s u same inside =
 wrapped : (n : ℕ) → n % MEMORY_SIZE < MEMORY_SIZE
 wrapped n = omega arith
 
--- what a base is located at fits
+-- a place that is located from a base fits
 based_fits :
     (context : Context) (object bytes size : ℕ) (is_inside : Bool) (found : TypedObject) (place : Place) (s u : State)
     → IsSound context

@@ -1,4 +1,4 @@
--- Where tree code has objects begin: those that are BASED, those in the frame, and all others in memory.
+-- The homes of objects in tree code: those that are BASED, those in the frame, and all others in memory.
 use Rattle.task_laws.proofs.Prelude.{◌≡◌, ℕ, zero, suc, ◌+◌, ◌<◌, List, [], ◌∷◌, ◌++◌, length, slice_get, get_or, Some, refl, ap, sym, ◌∙◌, arith, get_or_append_left, get_or_push, length_push, none-some, same_Some, AtNumber, AtObject, TypedHome, InData, InConstants, Placed, BasedOn, Elsewhere, Nowhere, InFrame, TypedObject, TypedModule, Storage, Home, Place, Number, frame_number, home_after, home_of_object, homes_from, homes_of, home_at}
 use Rattle.treecode.specs.declared.place.Home.TheVariants as homes
 use Rattle.treecode.specs.Homes.{location_of}

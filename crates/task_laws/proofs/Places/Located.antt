@@ -10,7 +10,7 @@ use Rattle.task_laws.proofs.Places.Strides.{HasStride, has_stride}
 use Rattle.task_laws.proofs.Places.Bases.{IsBase, base_further, base_is, small_after}
 use Rattle.task_laws.proofs.Places.BaseCode.{added_base_keeps_de, base_added_goes, base_goes, base_keeps_a}
 
--- the base of an object with what is known of its subscripts
+-- the base of an object with the known parts of its subscripts
 abbrev pub base_with : Context → (object offset one two : ℕ) → Base
 base_with context object offset one two =
     base_after (base_after (base_after (base_of (home context.site.tree.now object)) (offset % 65536)) one) two
@@ -26,7 +26,7 @@ base_with_is context object offset one two sound referred =
     (base_further (base_after (base_of (home context.site.tree.now object)) (offset % 65536)) one sound
     (base_further (base_of (home context.site.tree.now object)) (offset % 65536) sound (base_is context object sound referred)))
 
--- what code keeps of an address is kept by its parts
+-- the registers that the code of an address keeps are kept by its parts
 home_keeps_a :
     (start : Home) (offset one two : ℕ) (first second : Option Keeps)
     → (keeps_of_part start first second).a ≡ true
@@ -69,7 +69,7 @@ part_keeps context reference first second one two =
     (keeps_of_subscript (nodes_in context) reference.member_subscript)) one
     ∙ ap (λ (kept : Option Keeps). keeps_of_part (home_at context.site.tree.now.homes.items reference.object) first kept) two
 
--- what is given is changed, and handed on
+-- a value that is changed, and passed on
 changed_first :
     {A B C : Type 0} (outcome : Outcome A) (change : A → B) (go : B → SourceState → Outcome C)
     → then_do (then_do outcome (λ found t. Gave (change found) t)) go ≡ then_do outcome (λ found t. go (change found) t)
@@ -106,7 +106,7 @@ low_enough_too inner one two less = omega (arith, less)
 lower : (inner one two : ℕ) → inner ≤ two → 2 * inner ≤ 2 * (1 + max one two)
 lower inner one two less = omega (arith, less)
 
--- what locating a part of an object means
+-- the meaning of locating a part of an object
 abbrev pub located_in : Context → TypedReference → SourceState → Outcome SourcePlace
 located_in context tree s = Rattle.meaning.specs.Meaning.located context.later context.activation.around tree s
 

@@ -1,4 +1,4 @@
--- The code of the byte at a location, which comes into A.
+-- The code that puts the byte at a location into A.
 use Rattle.task_laws.proofs.Prelude.{◌≡◌, ℕ, ◌+◌, ◌<◌, ◌≤◌, ◌⊎◌, inl, inr, ◌==◌, Bool, true, false, if◌then◌else◌, List, [], ◌∷◌, ◌++◌, Option, Some, None, refl, sym, ap, subst, ◌∙◌, arith, cases_lt, eqb-true, MEMORY_SIZE, byte_at, word_at, byte_small, Event, SourceState, Outcome, Instr, A, H, L, Registers, State, high_byte, low_byte, word, wrap, LoadA, Place, Location, is_static_location, Does, at_place, Item, Activation, HasRoom, IsThere, LiesWell, IsSteady, location_at, place_at, after_before, location_after_is, address_asks, address_in_hl_is, byte_in_a_is, byte_in_h_is, word_in_hl_is, Facts, Part, Step, Plain, Word, before, is_at, no_facts, copy, load, distance, hold_word_steps, location_address_steps, frame_byte_steps, location_byte_steps, top_word_steps, knowing, Context, IsSound, distances_in, StepsStand, PlainThere, WordThere, HoldsThere, ChangesAOnly, Know}
 use Rattle.treecode.specs.declared.place.Location.TheVariants as locations
 use Rattle.task_laws.proofs.Machine.Rules.{GoesOn, holds_go, ready_with_registers, registers_go, split, word_goes}
@@ -101,8 +101,8 @@ copy_goes {memory = memory} false address r sound is (PlainThere there stand) on
     (record { a = bytes.l; b = bytes.b; c = bytes.c; d = bytes.d; e = bytes.e; h = bytes.h; l = bytes.l })
     (λ on_now. nothing_goes now stand on_now (rest now (record { a = is; others = λ alone. only_a r r.l memory })))
 
--- The word at the stack pointer, where one byte of it is steady: so is the other one. Where words alone are pushed, the
--- first one lies at the level.
+-- The word at the stack pointer: if one byte of it is steady, so is the other one. If only words are pushed,
+-- the first one is at the level.
 next_is_steady :
     (activation : Activation) (top pushed need sp from : ℕ) (one two : List Item)
     → LiesWell activation
@@ -187,7 +187,7 @@ at_none away sp address none small is = omega (arith, none, small, is)
 back_one : (sp address before : ℕ) → sp < MEMORY_SIZE → wrap (sp + 1) ≡ address → before ≡ wrap (address + 65535) → sp ≡ before
 back_one sp address before small is before_is = omega (arith, small, is, before_is)
 
--- a fact that the plan makes up of HL as a word, and what follows
+-- a fact that the planner notes about HL as a word, and the rest
 held_goes :
     {Given : Type 0} {outcome : Outcome Given} {Good : Given → SourceState → State → Type 0}
     {context : Context} {PartIs : (before : Facts) → Part → (from : ℕ) → (after : Facts) → (to : ℕ) → Type 0}

@@ -1,4 +1,4 @@
--- The code of the word at a location, which comes into HL.
+-- The code that puts the word at a location into HL.
 use Rattle.task_laws.proofs.Prelude.{◌≡◌, ℕ, zero, suc, ◌+◌, ◌*◌, ◌<◌, ◌==◌, Bool, true, false, if◌then◌else◌, List, [], ◌∷◌, ◌++◌, Some, slice_set, slice_index, refl, sym, ap, subst, ◌∙◌, arith, eqb-true, MEMORY_SIZE, IsMemory, byte_at, word_at, byte_small, Event, SourceState, Outcome, Mov, Pop, Push, Of, A, L, StackPair, StackBc, StackHl, Registers, State, high_byte, low_byte, one_less, pushed_of, two_less, word, wrap, act, LoadHl, Place, Location, is_static_location, Does, at_place, HasRoom, plain_first, IsSteady, location_at, place_at, without_hl_holds, address_asks, word_in_hl_is, Facts, Part, Step, Word, is_at, no_facts, plain, distance, frame_word_steps, hold_word_steps, location_address_steps, location_word_steps, word_at_hl_steps, knowing, Context, IsSound, distances_in, StepsStand, NoneThere, PlainThere, WordThere, HoldsThere, Know}
 use Rattle.treecode.specs.declared.place.Location.TheVariants as locations
 use Rattle.task_laws.proofs.Machine.Rules.{GoesOn, holds_go, pushed_anywhere, ready_with_registers, registers_go, split, word_goes}
@@ -37,7 +37,7 @@ word_small memory p is =
     let two = byte_small memory (wrap (p + 1)) is in
     omega (arith, one, two)
 
--- a word that was popped is pushed again: the memory is what it was
+-- a word that was popped is pushed again: the memory is unchanged
 pub push_back :
     (script : List (List ℕ)) (pair : StackPair) (place p : ℕ) (r : Registers) (memory : List ℕ) (events : List Event)
     → r.sp ≡ wrap (p + 2)
@@ -61,7 +61,7 @@ push_back script pair place p r memory events pointer small is same =
     left one two high low =
         at_place place (record r { sp = two }) (slice_set (slice_set memory one high) two low) events
 
--- the word at the stack pointer comes into HL, and is put back
+-- the word at the stack pointer is popped into HL, and pushed back
 pub top_word_goes :
     {A : Type 0} {outcome : Outcome A} {Good : A → SourceState → State → Type 0}
     {context : Context} {PartIs : (before : Facts) → Part → (from : ℕ) → (after : Facts) → (to : ℕ) → Type 0}
@@ -100,7 +100,7 @@ top_word_goes {outcome = outcome} {Good = Good} {context = context} {top = top} 
       known = without_hl_holds facts on.known;
     }))))
 
--- the word after that one, by way of BC
+-- the word after that one, through BC
 pub second_word_goes :
     {A : Type 0} {outcome : Outcome A} {Good : A → SourceState → State → Type 0}
     {context : Context} {PartIs : (before : Facts) → Part → (from : ℕ) → (after : Facts) → (to : ℕ) → Type 0}
@@ -149,7 +149,7 @@ second_word_goes {outcome = outcome} {Good = Good} {context = context} {top = to
       known = without_hl_holds facts on.known;
     })))))))
 
--- HL is the word at an address; A is what it was where that is said, and DE is
+-- HL is the word at an address; A is kept if required, and DE is kept
 pub record WordBeside (memory : List ℕ) (address : ℕ) (keeps_a : Bool) (r now : Registers) : Type 0 where
   pub low : now.l ≡ byte_at memory address
   pub high : now.h ≡ byte_at memory (wrap (address + 1))
@@ -232,7 +232,7 @@ hold_word_goes :
     → Does context.activation.around.program.script budget more (at_place from r memory events) outcome Good
 hold_word_goes location r (HoldsThere NoneThere) on known rest = rest (holds_go on known)
 
--- how far above the stack pointer a location of the frame lies
+-- the distance from the stack pointer up to a location of the frame
 pub frame_away :
     (context : Context) (top pushed need variable offset sp : ℕ)
     → HasRoom context.activation top pushed need

@@ -1,4 +1,4 @@
--- What is asked here of the code of products, and how it is followed.
+-- Assumptions about the code of products, and their use.
 use Rattle.task_laws.proofs.Prelude.{◌≡◌, ℕ, ◌*◌, ◌%◌, ◌<◌, ◌≤◌, List, sym, subst, Address, height_of, type_of, TypedExpression, TypesHold, value, SourceState, Outcome, then_do, Registers, State, word, ExpressionNumber, IsExpression, Does, at_place, HasRoom, then_does, Facts, keeps, product_steps, Context, nodes_in, StepsStand, Carries, Know, Left, Nothing, PartDoes}
 use Rattle.task_laws.proofs.Machine.Rules.{GoesOn, room_for}
 

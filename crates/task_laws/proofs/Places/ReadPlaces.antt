@@ -1,10 +1,10 @@
--- What is read at places, on both sides: the bytes of the machine's memory, or the read goes outside the language.
+-- Reads at places, on both sides: the bytes of the machine's memory, or the read goes outside the language.
 use Rattle.task_laws.proofs.Prelude.{◌≡◌, ℕ, ◌+◌, ◌*◌, ◌/◌, ◌%◌, ◌<◌, ◌≤◌, ◌⊎◌, inl, inr, Bool, true, false, if◌then◌else◌, List, refl, sym, ap, ◌∙◌, arith, byte_at, byte_small, ScalarType, Byte, Address, size_of_scalar, UndeclaredByte, SourceState, Ended, More, Outside, Outcome, Gave, Stopped, then_do, InMemory, InTheFrame, is_declared, next_place, read_byte, read_scalar, values_of, Registers, State, wrap, Does, IsReady, IsSteady, declared_is_steady, GoesOutside, Context, IsSound, address_on_machine}
 use Rattle.meaning.specs.Access.{Place}
 use Rattle.task_laws.proofs.Places.Reading.{FitsIn, frame_is, of_frame}
 use Rattle.task_laws.proofs.Stores.WordWriting.{first_fits, second_fits}
 
--- what goes outside is done by any machine
+-- if the source goes outside, any machine does it
 pub does_outside :
     {A : Type 0} {script : List (List ℕ)} {budget more : ℕ} {from : State}
     {Good : A → SourceState → State → Type 0}
@@ -16,7 +16,7 @@ does_outside (Stopped (Outside reason) t) is = record { told = tt }
 does_outside (Stopped Ended t) is = absurd is
 does_outside (Stopped More t) is = absurd is
 
--- what comes first goes outside
+-- the first evaluation goes outside
 pub then_outside :
     {A B : Type 0} (outcome : Outcome A) (go : A → SourceState → Outcome B)
     → GoesOutside outcome
@@ -26,7 +26,7 @@ then_outside (Stopped (Outside reason) t) go is = tt
 then_outside (Stopped Ended t) go is = absurd is
 then_outside (Stopped More t) go is = absurd is
 
--- a value was given without a change of the state, whose low byte lies at an address
+-- a value was given without a change of the state, and its low byte is at an address
 pub record LowIsAt
     (context : Context) (scalar : ScalarType) (address : ℕ) (memory : List ℕ) (t : SourceState) (outcome : Outcome ℕ) : Type 0 where
   pub found : ℕ
@@ -35,7 +35,7 @@ pub record LowIsAt
   pub small : found < values_of scalar
   pub steady : IsSteady context.activation address
 
--- and one whose high byte does
+-- the same for its high byte
 pub record HighIsAt
     (context : Context) (address : ℕ) (memory : List ℕ) (t : SourceState) (outcome : Outcome ℕ) : Type 0 where
   pub found : ℕ
@@ -87,7 +87,7 @@ two_bytes low high one two = omega (arith, one, two)
 itself : (n : ℕ) → n < 256 → n ≡ n % 256
 itself n small = omega (arith, small)
 
--- an ADDRESS that is read, of which both bytes are steady
+-- an ADDRESS that is read; both its bytes are steady
 pub record WordIsAt
     (context : Context) (place : Place) (memory : List ℕ) (t : SourceState) (outcome : Outcome ℕ) : Type 0 where
   pub low_is : LowIsAt context Address (address_on_machine context.activation place) memory t outcome

@@ -1,8 +1,9 @@
--- Scalars that are read: the machine has their bytes at the address of their place, and they are steady.
+-- Scalars that are read: the machine has their bytes at the address of their place, and these bytes are
+-- steady.
 use Rattle.task_laws.proofs.Prelude.{◌≡◌, ℕ, ◌+◌, ◌*◌, ◌<◌, ◌≤◌, Bool, true, false, if◌then◌else◌, List, slice_index, refl, ap, subst, ◌∙◌, arith, MEMORY_SIZE, byte_at, Byte, Address, UndeclaredByte, SourceState, Outside, Outcome, Gave, Stopped, then_do, InMemory, InTheFrame, frame_bytes, is_declared, read_scalar, Registers, State, wrap, Does, Activation, IsReady, IsSteady, declared_is_steady, Context, IsSound, address_on_machine}
 use Rattle.meaning.specs.Access.{Place}
 
--- so many bytes from a place on are those of an object, where the place is inside of it
+-- `size` bytes from a place on are those of an object, if the place is inside it
 abbrev pub FitsIn : Activation → (size : ℕ) → Place → Type 0
 FitsIn activation size (InMemory address) = address < MEMORY_SIZE
 FitsIn activation size (InTheFrame object offset is_inside) =

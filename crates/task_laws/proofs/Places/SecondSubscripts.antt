@@ -1,4 +1,4 @@
--- The code that adds a second subscript to a first one, which waits in DE or on the stack.
+-- The code that adds a second subscript to a first one, which is kept in DE or on the stack meanwhile.
 use Rattle.task_laws.proofs.Prelude.{◌≡◌, ℕ, ◌+◌, ◌-◌, ◌*◌, ◌%◌, ◌<◌, ◌≤◌, Bool, true, false, if◌then◌else◌, List, [], ◌∷◌, ◌++◌, refl, sym, ap, ◌∙◌, arith, Address, height_of, height_of_reference, type_of, TypedExpression, NumberNode, ValueNode, LocationNode, ListNode, ConversionNode, AssignmentNode, UnaryNode, BinaryNode, CallNode, FunctionNode, ShiftNode, InputNode, TypedReference, PartOf, TypesHold, value, SourceState, Outcome, then_do, Dad, Pop, Push, Xchg, De, StackDe, StackHl, Registers, State, high_byte, low_byte, pushed_of, word, wrap, pushed_memory, ExpressionNumber, IndexNode, IsExpression, Does, at_place, HasRoom, Facts, Plain, plain, keeps, expression, second_steps, product_steps, knowing, Context, IsSound, nodes_in, StepsStand, PlainThere, Left, PartDoes}
 use Rattle.task_laws.proofs.Machine.Rules.{GoesOn, more_pushed, pop_goes, push_goes, pushed_word_small, split}
 use Rattle.task_laws.proofs.Machine.RegisterCode.{registers_then}
@@ -23,7 +23,7 @@ some_height (FunctionNode function operand) = omega arith
 some_height (ShiftNode scalar function moved count) = omega arith
 some_height (InputNode port) = omega arith
 
--- what is known of registers does not change what code keeps
+-- the facts about the registers do not change which registers code keeps
 pub keeps_anywhere : (context : Context) (used : Facts) (of : ExpressionNumber)
     → keeps (knowing context.site used) of ≡ keeps context.site of
 unfolding keeps expression

@@ -1,4 +1,4 @@
--- The strides of computed subscripts are below the size of memory, also where a subscript is taken apart.
+-- The strides of computed subscripts are below the size of memory, also for split subscripts.
 use Rattle.task_laws.proofs.Prelude.{ℕ, ◌*◌, ◌%◌, ◌<◌, Option, Some, None, unwrap_or, arith, option_and_then, BinaryOperator, Subscript, Storage, Expression, ExpressionForm, ExpressionNumber, IndexNode, IsSubscript, IsAbsent, IsIndex, Nodes, Split, Site, number_of, split, split_computed, split_form, split_sum, split_whole, expression}
 use Rattle.trees.specs.declared.declaration.ScalarType.TheVariants as scalars
 use Rattle.trees.specs.declared.expression.BinaryOperator.TheVariants as operators

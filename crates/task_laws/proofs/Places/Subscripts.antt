@@ -1,5 +1,5 @@
--- Subscripts as tree code takes them apart: what is computed, and how many bytes are known, are the source's
--- displacement modulo the size of memory.
+-- Subscripts as tree code splits them: the computed part plus the known bytes is the source's displacement,
+-- modulo the size of memory.
 use Rattle.task_laws.proofs.Prelude.{◌≡◌, ℕ, ◌+◌, ◌-◌, ◌*◌, ◌%◌, ◌<◌, ◌≤◌, true, Option, Some, None, is_some, slice_get, max, if◌then◌else◌, refl, sym, ap, ◌∙◌, subst, arith, mul_comm, unwrap_or, mul-add, mul-mod_second, option_and_then, option_map_or, ScalarType, Address, BinaryOperator, height_of, height_of_subscript, type_of, TypedExpression, BinaryNode, Subscript, At, TypesHold, TypesHoldInSubscript, Displacement, computed, displaced, displacement, no_displacement, value, Outcome, Gave, Stopped, then_do, result_of, values_of, Expression, ExpressionForm, ExpressionNumber, Place, Number, Code, Data, External, IndexNode, Keeps, Traits, IsExpression, IsForm, IsBinary, IsSubscript, IsAbsent, IsIndex, known_number, result_of_known, none_kept, place_number, keeps_at, keeps_none, keeps_of, keeps_of_index, keeps_of_subscript, known_of, known_at, no_traits, number_at, traits_at, traits_of, wrap, Facts, keeps, known, number, split, split_computed, split_form, split_sum, split_whole, expression, knowing, Context, IsSound, nodes_in}
 use Rattle.trees.specs.declared.expression.BinaryOperator.TheVariants as operators
 use Rattle.meaning.specs.Outcomes.{State}
@@ -9,13 +9,12 @@ use Rattle.task_laws.proofs.Machine.Nodes.{NodeOf, node_of}
 use Rattle.task_laws.proofs.Machine.KnownOperands.{number_small}
 use Rattle.task_laws.proofs.Machine.SiteNodes.{number_means}
 
--- what is kept by one is kept by another
+-- the registers that one keeps are kept by another
 pub record KeepsLess (one other : Keeps) : Type 0 where
   pub a : one.a ≡ true → other.a ≡ true
   pub de : one.de ≡ true → other.de ≡ true
 
--- A subscript that is taken apart: all of it is known; or it is computed, by the code of an expression of which it is
--- a function.
+-- A split subscript: all of it is known, or it is a function of the value of an expression that is computed.
 pub data IsSplit (context : Context) (given : Option IndexNode) (subscript : Subscript) :
     (computed : Option IndexNode) → (offset : ℕ) → Type 0 where
   AllKnown : {offset : ℕ} (shift : Displacement)
@@ -35,7 +34,7 @@ pub data IsSplit (context : Context) (given : Option IndexNode) (subscript : Sub
       → KeepsLess of (keeps context.site index.index)
       → IsSplit context given subscript (Some index) offset
 
--- what a node's code keeps, as sites and as tables have it
+-- the registers that the code of a node keeps, at sites and in tables
 pub keeps_same :
     (context : Context) (of : ExpressionNumber) → keeps context.site of ≡ keeps_at (nodes_in context) of
 unfolding keeps expression
@@ -152,7 +151,7 @@ then_two :
 then_two (Gave found t) first second other same = same found t
 then_two (Stopped why t) first second other same = refl
 
--- what is added of a number is known
+-- a number that is added is known
 sum_means :
     (context : Context) (stride count k : ℕ) (operator : BinaryOperator) (left right : TypedExpression)
     (found_by : ℕ → ℕ) (s : State)
@@ -199,7 +198,7 @@ known_number_is (Some (Data n)) k is = absurd cc
 known_number_is (Some (External n name)) k is = absurd cc
 known_number_is None k is = absurd cc
 
--- what the code of a known value keeps
+-- the registers that the code of a known value keeps
 known_keeps :
     {context : Context} {bound : ℕ} {of : ExpressionNumber} {tree : TypedExpression} (place : Place)
     → IsSound context
@@ -226,7 +225,7 @@ less_same one other same = record {
   de = λ kept. ap (λ (of : Keeps). of.de) (sym same) ∙ kept;
 }
 
--- the code of a sum with a number keeps what that of the other operand does
+-- the code of a sum with a number keeps the registers that the code of the other operand keeps
 sum_keeps :
     (context : Context) (bound k : ℕ) (left right : ExpressionNumber) (tree : TypedExpression)
     → IsSound context
@@ -292,7 +291,7 @@ less_from first one other same less = record {
   de = λ kept. less.de (ap (λ (of : Keeps). of.de) (sym same) ∙ kept);
 }
 
--- the code of a node keeps what its form says
+-- the code of a node keeps the registers that its form says
 form_keeps :
     {context : Context} {number : ExpressionNumber} {tree : TypedExpression} (node : NodeOf context number tree)
     → keeps_at (nodes_in context) number
@@ -370,7 +369,7 @@ difference_split context facts number left right stride count bound k first seco
     (known_number_is (known_at (nodes_in context) right) k (sym (number_same context facts right) ∙ known_is)))
     (sym (keeps_same context left))))
 
--- an operator that no number goes out of
+-- an operator from which no number is split off
 other_split :
     (context : Context) (facts : Facts) (of left right : ExpressionNumber) (operator : BinaryOperator) (stride count bound : ℕ)
     (tree : TypedExpression)

@@ -1,5 +1,5 @@
--- The numbers of a module that is tree code have the width of a word, since those of tree code have; and so a program of
--- such modules has types.
+-- The numbers of a module that is tree code have 16 bits, since those of tree code have. So a program of such
+-- modules has types.
 use Rattle.task_laws.proofs.Prelude.{◌≡◌, ◌⊎◌, inl, inr, ℕ, suc, ◌<◌, ◌≤◌, List, [], ◌∷◌, length, get_or, Option, Some, None, slice_get, refl, sym, subst, arith, slice_get_cases, slice_get_within, All, AllByRecursion, All-from_recursion, IsScript, ListsGlobals, IsWellTyped, IsJoined, Program, Subscript, TypedArguments, TypedElse, TypedExpression, TypedIteration, TypedList, TypedModule, TypedProcedure, TypedReference, TypedStatement, TypedStatements, TypedTarget, Storage, ExpressionForm, ExpressionNumber, Range, TreeModule, TreeProcedure, Reference, IndexNode, Target, Iteration, Statement, StatementNumber, AreArguments, AreMore, AreMoreStatements, AreNoStatements, AreNone, AreStatements, AreTargets, IsAbsent, IsAssignment, IsBinary, IsCall, IsCallOf, IsCase, IsConstantList, IsConversion, IsDo, IsElse, IsEmbedded, IsExpression, IsForm, IsFunction, IsGoto, IsHalt, IsIf, IsIndex, IsInput, IsIterate, IsIteration, IsLabel, IsList, IsListOf, IsLocation, IsLowered, IsMove, IsNoElse, IsNoValue, IsNode, IsNull, IsNumber, IsOptional, IsPart, IsReference, IsReturn, IsSent, IsShift, IsSomeElse, IsSomeValue, IsStatement, IsStatementForm, IsStatementNode, IsStored, IsSubscript, IsTarget, IsUnary, IsValue, IsWhile, MoreTargets, NoTargets, Nodes, nodes_of, NumbersAreWords, NumbersFit, NumbersFitIfSome, NumbersFitIn, NumbersFitInArguments, NumbersFitInElse, NumbersFitInHead, NumbersFitInList, NumbersFitInModule, NumbersFitInProcedure, NumbersFitInReference, NumbersFitInStatements, NumbersFitInSubscript, NumbersFitInTarget, NumbersFitInTargets, HasTypes}
 use Rattle.treecode.specs.declared.expression.ExpressionForm.TheVariants as forms
 
@@ -94,7 +94,7 @@ module _ (nodes : Nodes) (storage : Storage) (words : NumbersAreWords nodes) whe
         → IsList nodes storage labels bound range list → NumbersFitInList list
     in_list (IsListOf are) = in_statements are
 
--- what holds of what stands at each number holds of each
+-- a property of the item at each number holds for each item
 each_of :
     {X : Type 0} (P : X → Type 0) (items : List X)
     → ((at : ℕ) (item : X) → slice_get items at ≡ Some item → P item)
@@ -130,7 +130,7 @@ numbers_of_lowered typed storage tree lowered words = record {
         in_list (nodes_of tree) storage words (lowered.procedures number found.0 heading found.2 is).has_body.body
     by number heading is (inr past) less = let most = past.0 in absurd (omega (arith, less, most))
 
--- a module as it is typed is well typed, and it is tree code whose numbers are words
+-- a typed module is well typed, and its tree code has only numbers of 16 bits
 pub record IsTypedCode (typed : TypedModule) : Type 0 where
   pub types : IsWellTyped typed
   pub storage : Storage
@@ -138,7 +138,7 @@ pub record IsTypedCode (typed : TypedModule) : Type 0 where
   pub lowered : IsLowered typed storage tree
   pub numbers : NumbersAreWords (nodes_of tree)
 
--- a program whose modules are so has types
+-- a program of such modules has types
 pub has_types :
     (program : Program)
     → IsJoined program.modules

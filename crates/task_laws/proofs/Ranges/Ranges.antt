@@ -1,4 +1,4 @@
--- Values of expressions are of their types, as long as calls give such values.
+-- Values of expressions are of their types, provided that calls give such values.
 use Rattle.task_laws.proofs.Prelude.{◌≡◌, ℕ, ◌+◌, ◌-◌, ◌/◌, ◌%◌, ◌^◌, ◌<◌, ◌≤◌, ◌==◌, nat_lt, Bool, true, false, ◌||◌, bit_and, List, [], All, Option, Some, None, if◌then◌else◌, refl, sym, ap, ◌∙◌, subst, arith, All-from_get_or, and_le_l, and_le_r, false≢true, ltb-true, leb-true, eqb-false, byte_at, byte_small, ScalarType, Byte, Address, BinaryOperator, Greater, GreaterOrEqual, Less, LessOrEqual, Modulo, Unequal, ShiftFunction, ShiftRight, Low, High, Double, type_of, type_of_result, TypedExpression, BinaryNode, ShiftNode, TypesHold, frame_bytes, called_for, callee_in, computed, value, Outcome, Gave, then_do, as_type, result_of, shifted, values_of, Expression, ExpressionForm, IsBinary, IsCallOf, IsConstantList, IsConversion, IsEmbedded, IsExpression, IsForm, IsFunction, IsInput, IsLocation, IsNumber, IsShift, IsUnary, IsValue, IsReady, Registers, by_eight, ExpressionNumber, Facts, number_of, expression, scalar_at, fits_byte, fits_byte_by, shift_by_fits_byte, form_fits_byte, is_byte, is_number_below, result_fits_byte, shift_fits_byte, knowing, Context, IsSound, SourceFits, nodes_in}
 use Rattle.trees.specs.declared.expression.BinaryOperator.TheVariants.{And, Equal}
 use Rattle.meaning.specs.Outcomes.{State}

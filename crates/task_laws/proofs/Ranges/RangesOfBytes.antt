@@ -1,10 +1,11 @@
--- What is read and written has its type: bytes of a state of the source, places, operators and functions.
+-- Values that are read and written have their types: bytes of a state of the source, places, operators and
+-- functions.
 use Rattle.task_laws.proofs.Prelude.{◌≡◌, ◌≢◌, ◌⊎◌, inl, inr, ℕ, ◌+◌, ◌*◌, ◌/◌, ◌%◌, ◌<◌, ◌≤◌, Bool, true, false, List, [], length, All, option_map, Option, Some, None, slice_get, slice_index_or, slice_set, if◌then◌else◌, refl, subst, arith, option_map_or, All-get_or, All-nil, All-set, get_or_past, length-set, cases_lt, cases_eq, MEMORY_SIZE, byte_at, input_value, queue_of, reads_of, IsScript, ScalarType, Byte, Address, UnaryFunction, Low, High, Double, type_of_function, type_of_target, InData, InConstants, Placed, BasedOn, Elsewhere, Nowhere, InFrame, TypedModule, TypedTarget, StoredIn, SentTo, TypesHoldInTarget, Within, Reason, Constant, InMemory, InTheFrame, Surroundings, frame_bytes, is_constant, is_declared, next_place, place_of, read_byte, read_scalar, write_byte, write_scalar, address_in_memory, address_of_list, based_place, computed, Outside, Outcome, Gave, Stop, Stopped, then_do, as_type, function_of, values_of, Number, ModulePlacement, Event, byte_kept, byte_put, SourceFits}
 use Rattle.typed_trees.specs.TypedTrees.{Home}
 use Rattle.meaning.specs.{Access.{Place}, Outcomes.{State}}
 use Rattle.task_laws.proofs.Machine.KnownOperands.{KnownFits, high_fits, word_fits}
 
--- what an outcome gives, if it gives something
+-- the value of an outcome, if it gives one
 pub data Gives {A : Type 0} (Holds : A → State → Type 0) : Outcome A → Type 0 where
   IsGiven : {found : A} {t : State} → Holds found t → Gives Holds (Gave found t)
   IsStopped : {why : Stop} {t : State} → Gives Holds (Stopped why t)
@@ -201,7 +202,7 @@ input_fits script events port is = by (cases_lt (reads_of events port) (length (
 pub of_type : (one other : ScalarType) (n : ℕ) → one ≡ other → n < values_of one → n < values_of other
 of_type one other n same small = subst (λ (scalar : ScalarType). n < values_of scalar) same small
 
--- a value that is stored has the type that stands there
+-- a value that is stored has the type of its target
 pub target_type : (typed : TypedModule) (within : Within) (to : TypedTarget) (scalar : ScalarType)
     → TypesHoldInTarget typed within scalar to → type_of_target to ≡ scalar
 target_type typed within (StoredIn from to part) scalar types = types.0

@@ -1,5 +1,5 @@
--- Values of typed trees are of their types: calls with arguments of the types of parameters give values of the types of
--- results, and leave bytes, in any program whose modules are well typed.
+-- Values of typed trees are of their types: calls with arguments of the types of parameters give values of
+-- the types of results, and leave bytes, in any program with well-typed modules.
 use Rattle.task_laws.proofs.Prelude.{◌≡◌, ℕ, zero, suc, ◌+◌, ◌-◌, ◌<◌, Bool, true, false, nat_lt, List, [], ◌∷◌, replicate, get_or, IsSomeAnd, Option, Some, None, option_map, slice_get, if◌then◌else◌, refl, sym, ap, ◌∙◌, subst, arith, All, AllByRecursion, enumerate_from, option_and_then, option_map_or, All-get_or, All-map, All-nil, All-replicate, All-from_recursion, length-enumerate_from, get_or-enumerate_from, slice_get_within, get_or_from_slice_get, ScalarType, Visibility, charge_of, size_of_object, TypedModule, TypedObject, TypedProcedure, IsWellTyped, TypesHoldInList, TypesHoldInProcedure, WithinProcedure, DeclaredProcedure, InProgram, is_public_procedure, procedure_meant, Stack, Surroundings, place_of, write_scalar, Later, called, called_for, callee_in, charged, done_list, entered, frame_of, is_frame_of, later_by, parameters_set, procedure_at, value_of_flow, Flow, Gave, Jumped, Onward, Outcome, Outside, Returned, Stopped, then_do, AreOfTypes, CallsFit, Context, IsOfResult, SourceFits, NumbersFitInList, NumbersFitInModule, NumbersFitInProcedure, HasTypes}
 use Rattle.typed_trees.specs.declared.parts.Visibility.TheVariants as visibilities
 use Rattle.layout.specs.Joined.{agree}
@@ -9,7 +9,7 @@ use Rattle.task_laws.proofs.Ranges.RangesOfBytes.{Gives, IsGiven, IsStopped, giv
 use Rattle.task_laws.proofs.Ranges.RangesOfTrees.{CalleesAreHeaded, FlowFits, IsHeaded, LaterFits, calls_give, nothing_fits}
 use Rattle.task_laws.proofs.Ranges.RangesOfStatements.{after_taking, either, list_fits, rest_fits, turn_fits}
 
--- what holds of each element holds of one
+-- a property of each element holds for one
 of_each :
     {X : Type 0} (P : X → Type 0) (items : List X) (at : ℕ) (item : X)
     → All P items
@@ -37,7 +37,7 @@ of_numbered {X} P items at item all found =
     zero_plus : 0 + at ≡ at
     zero_plus = omega arith
 
--- A call finds the procedure that it stands for.
+-- A call finds its procedure.
 module _ (around : Surroundings) (program : HasTypes around.program) (typed : TypedModule)
     (here : slice_get around.program.modules around.number_of_module ≡ Some typed) where
   callee_is : (procedure : ℕ) (heading : TypedProcedure) → slice_get typed.procedures procedure ≡ Some heading
@@ -59,7 +59,7 @@ module _ (around : Surroundings) (program : HasTypes around.program) (typed : Ty
       procedure_meant around.program.modules (record { number_of_module = around.number_of_module; number = procedure })
       found found.visibility) entry) is
 
-  -- what stands at a place
+  -- the procedure at a place in the program
   at_place : (modules : List TypedModule) (at : InProgram) (its : TypedModule) (found : TypedProcedure)
       → slice_get modules at.number_of_module ≡ Some its
       → slice_get its.procedures at.number ≡ Some found
@@ -349,7 +349,7 @@ module _ (later : Later) (fits : LaterFits later) where
       source
       (λ t less. found_fits at result scalars arguments around t program headed types less)
 
--- What so many calls, turns and jumps give is of its type.
+-- The values of up to `number` calls, turns and jumps are of their types.
 pub later_fits : (number : ℕ) → LaterFits (later_by number)
 later_fits zero = record {
   call = λ at result scalars arguments around s program headed types source. IsStopped;
@@ -384,7 +384,7 @@ calls_of_program_fit bound procedure found typed heading values around s t progr
     (calls_give (later_by bound) typed around (later_fits bound) program (callees_headed around program typed here)
     procedure heading values s is types source)
 
--- The same of a context: nothing is asked but what is true of its program.
+-- The same for a context: the assumptions are properties of its program.
 pub calls_fit :
     (context : Context) (bound : ℕ)
     → context.later ≡ later_by bound

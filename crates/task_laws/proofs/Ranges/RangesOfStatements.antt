@@ -1,4 +1,5 @@
--- Values of typed trees are of their types: along statements, as long as what calls, further turns and jumps give is.
+-- Values of typed trees are of their types: for statements, provided that those of calls, further turns and
+-- jumps are.
 use Rattle.task_laws.proofs.Prelude.{◌≡◌, ℕ, zero, suc, ◌+◌, ◌-◌, ◌%◌, ◌<◌, ◌==◌, Bool, true, false, nat_le, nat_lt, Option, Some, None, option_map, slice_get, if◌then◌else◌, refl, subst, IfSome, MEMORY_SIZE, type_of, TypedExpression, TypedIteration, TypedStatement, LabelStatement, NullStatement, AssignmentStatement, CallStatement, MoveStatement, ReturnStatement, HaltStatement, GotoStatement, IfStatement, DoStatement, WhileStatement, IterateStatement, CaseStatement, TypedElse, NoElse, ElseStatement, TypedStatements, NoStatements, MoreStatements, TypedList, ListOf, TypedModule, IsReturned, TypesHold, TypesHoldIn, TypesHoldInElse, TypesHoldInList, TypesHoldInStatements, Within, WithinMain, WithinProcedure, InMemory, Surroundings, place_of, read_byte, write_byte, IterateTurn, Later, Turn, WhileTurn, after_turn, called_for, callee_in, caught_in, done, done_all, done_case, done_else, done_list, dropped, going_on, iterated, landed, moved, next_turn, read_variable, rest_from, rest_of, returned, step_value, stepped, stored_in_each, turn_of, value, values, write_variable, Flow, Gave, Jumped, More, Onward, Outcome, Returned, Stopped, taking_one, then_do, as_type, is_true, values_of, SourceFits, NumbersFit, NumbersFitIfSome, NumbersFitIn, NumbersFitInElse, NumbersFitInList, NumbersFitInStatements, HasTypes}
 use Rattle.meaning.specs.Outcomes.{State}
 use Rattle.task_laws.proofs.Ranges.RangesOfBytes.{Gives, IsGiven, IsStopped, as_type_fits, byte_fits, gives_then, of_type, read_fits, scalar_fits, write_fits}
@@ -88,7 +89,7 @@ module _ (around : Surroundings) where
 module _ (later : Later) (fits : LaterFits later) (typed : TypedModule) (within : Within) (around : Surroundings)
     (program : HasTypes around.program) (headed : CalleesAreHeaded typed around)
     (here : slice_get around.program.modules around.number_of_module ≡ Some typed) where
-  -- what a part of a body gives
+  -- the result of a part of a body
   abbrev FlowIs : Outcome Flow → Type 0
   FlowIs outcome = Gives (λ flow t. FlowFits within flow × SourceFits around t) outcome
 
@@ -100,7 +101,7 @@ module _ (later : Later) (fits : LaterFits later) (typed : TypedModule) (within 
       → Gives (λ n t. (n < values_of (type_of tree)) × SourceFits around t) (value later around tree s)
   value_is tree s types small source = tree_fits later typed within around program.script calls tree s types small source
 
-  -- what follows what a part leaves
+  -- the rest after a part of a body
   after_fits : (turn : Turn) (flow : Flow) (s : State)
       → TurnFits typed within turn
       → FlowFits within flow × SourceFits around s

@@ -1,5 +1,5 @@
--- Values of typed expressions are of their types, as long as what calls stand for gives such values: along the trees,
--- for any module of a program.
+-- Values of typed expressions are of their types, provided that calls give such values: for the trees of any
+-- module of a program.
 use Rattle.task_laws.proofs.Prelude.{◌≡◌, ℕ, ◌+◌, ◌<◌, ◌&&◌, List, [], ◌∷◌, IsSomeAnd, Option, Some, None, slice_get, refl, sym, subst, arith, ScalarType, Byte, Address, type_of, type_of_result, type_of_target, TypedExpression, NumberNode, ValueNode, LocationNode, ListNode, ConversionNode, AssignmentNode, UnaryNode, BinaryNode, CallNode, FunctionNode, ShiftNode, InputNode, TypedReference, PartOf, Subscript, NoSubscript, At, TypedTarget, StoredIn, SentTo, TypedArguments, NoArguments, MoreArguments, TypedModule, TypedProcedure, TypedList, TypedStatements, TypesHold, TypesHoldInArguments, TypesHoldInHead, TypesHoldInList, TypesHoldInReference, TypesHoldInStatements, TypesHoldInSubscript, TypesHoldInTarget, TypesHoldInTargets, Takes, Within, WithinMain, WithinProcedure, types_of, InProgram, IsScript, Surroundings, home_of, read_scalar, write_scalar, IterateTurn, Later, Turn, WhileTurn, address_in_memory, based_place, called_for, callee_in, computed, displaced, displacement, located, procedure_at, stored, stored_in_each, value, values, Flow, Gave, Jumped, Onward, Returned, then_do, as_type, function_of, result_of, result_of_one, shifted, values_of, AreOfTypes, IsOfResult, SourceFits, NumbersFit, NumbersFitInArguments, NumbersFitInHead, NumbersFitInList, NumbersFitInReference, NumbersFitInStatements, NumbersFitInSubscript, NumbersFitInTarget, NumbersFitInTargets, HasTypes}
 use Rattle.meaning.specs.Outcomes.{State}
 use Rattle.task_laws.proofs.Machine.KnownOperands.{number_fits, one_fits, result_fits, shift_fits}
@@ -10,7 +10,7 @@ abbrev pub ReturnFits : Within → (found : ℕ) → Type 0
 ReturnFits (WithinProcedure number result) found = IsOfResult result found
 ReturnFits WithinMain found = Unit {0}
 
--- how a part of a body leaves what follows
+-- the way in which a part of a body ends
 abbrev pub FlowFits : Within → Flow → Type 0
 FlowFits within Onward = Unit {0}
 FlowFits within (Returned found) = ReturnFits within found
@@ -25,13 +25,13 @@ TurnFits typed within (IterateTurn head body) =
     (TypesHoldInHead typed within head × NumbersFitInHead head) × TypesHoldInList typed within body
     × NumbersFitInList body
 
--- what a procedure that is called has for its heading
+-- a procedure that is called has its heading
 abbrev pub IsHeaded : List TypedModule → InProgram → (result : Option ScalarType) → List ScalarType → Type 0
 IsHeaded modules at result scalars =
     (typed : TypedModule) (procedure : TypedProcedure) → procedure_at modules at ≡ Some (typed, procedure)
     → (procedure.result ≡ result) × (procedure.parameter_types ≡ scalars)
 
--- What calls, further turns and jumps give is of its type, in all modules of a program.
+-- The values of calls, further turns and jumps are of their types, in all modules of a program.
 pub record LaterFits (later : Later) : Type 0 where
   pub call :
       (at : InProgram) (result : Option ScalarType) (scalars : List ScalarType) (arguments : List ℕ)
@@ -58,13 +58,13 @@ pub record LaterFits (later : Later) : Type 0 where
       → SourceFits around s
       → Gives (λ flow t. FlowFits within flow × SourceFits around t) (later.onto list rest around s)
 
--- a procedure that comes to its end gives 0
+-- a procedure that reaches its end gives 0
 pub nothing_fits : (result : Option ScalarType) → IsOfResult result 0
 nothing_fits None = tt
 nothing_fits (Some Byte) = omega arith
 nothing_fits (Some Address) = omega arith
 
--- what a procedure of a module stands for has its heading
+-- a procedure of a module that is called has its heading
 abbrev pub CalleesAreHeaded : TypedModule → Surroundings → Type 0
 CalleesAreHeaded typed around =
     (procedure : ℕ) (heading : TypedProcedure) (at : InProgram)
@@ -72,7 +72,7 @@ CalleesAreHeaded typed around =
     → callee_in around procedure ≡ Some at
     → IsHeaded around.program.modules at heading.result heading.parameter_types
 
--- what calls in a module give
+-- the values of calls in a module
 abbrev pub CallsGive : Later → TypedModule → Surroundings → Type 0
 CallsGive later typed around =
     (procedure : ℕ) (heading : TypedProcedure) (arguments : List ℕ) (s : State)
@@ -101,7 +101,7 @@ calls_give later typed around fits program headed procedure heading arguments s 
 
 module _ (later : Later) (typed : TypedModule) (within : Within) (around : Surroundings)
     (script : IsScript around.program.script) (calls : CallsGive later typed around) where
-  -- a call by what it takes
+  -- a call, by its arguments
   pub takes_fits :
       (procedure : ℕ) (result : Option ScalarType) (trees : TypedArguments) (arguments : List ℕ) (s : State)
       → Takes typed procedure result trees

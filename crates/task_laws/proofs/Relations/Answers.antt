@@ -1,4 +1,4 @@
--- What questions ask, and how flags show it.
+-- The meaning of questions, and the flags that show their answers.
 use Rattle.task_laws.proofs.Prelude.{◌≡◌, ℕ, ◌+◌, ◌%◌, ◌<◌, ◌≤◌, ◌==◌, Bool, true, false, not, nat_lt, nat_le, min, if◌then◌else◌, Option, Some, refl, sym, ap, ◌∙◌, arith, ltb-true, ltb-false, lt-ltb, le-ltb, leb-true, leb-false, le-leb, lt-leb, eqb-true, eqb-false, eq-eqb, ne_eqb, none-some, same_Some, ScalarType, Byte, Address, BinaryOperator, result_of, truth, values_of, Compare, Subtract, Registers, borrow_shows, same_test, zero_shows, NumberQuestion, Never, Below, Is, Question, LeftBelow, RightBelow, Equal, agree, greatest, mirrored, number_question, question_of, Answer, Carry, Zero, Purpose, Branch, Value}
 use Rattle.trees.specs.declared.expression.BinaryOperator.TheVariants as operators
 use Rattle.operands8080.specs.declared.answers.Answer.TheVariants.{Known}
@@ -111,7 +111,7 @@ never_below v = le-ltb v 0 (omega arith)
 abbrev Asks : Bool → (v : ℕ) → NumberQuestion × Bool → Type 0
 Asks answer v asked = answer ≡ agree (number_truth asked.0 v) asked.1
 
--- what is asked of a value and a number on its right
+-- the question about a value and a number on its right
 pub number_asks :
     (question : Question) (n : ℕ) (scalar : ScalarType) (v : ℕ)
     → v < values_of scalar

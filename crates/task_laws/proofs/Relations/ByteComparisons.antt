@@ -165,7 +165,7 @@ form_fits site comparison = by comparison.question
         better_fits site comparison Equal _ _ _ (left_fits site comparison Equal refl)
         (right_fits site comparison Equal refl)
 
--- what an operation with the left operand in A shows
+-- the flags after an operation with the left operand in A
 shows_with_left :
     (question : Question) (setting : Setting) (v w : ℕ) (now : Registers)
     → asks_left question ≡ true
@@ -201,7 +201,7 @@ shows_with_right Equal setting v w now asks one two is = by setting.purpose is
     by Branch made = compared_equal w v now two one made ∙ same_turned v w
     by Value made = subtracted_equal w v now two one made ∙ same_turned v w
 
--- what goes on after two values were compared
+-- the rest of the code after two values were compared
 abbrev pub GoesOnCompared :
     {C : Type 0} → Context → (first second : TypedExpression) → (left right : ExpressionNumber) → Question → Setting → (top pushed need : ℕ)
     → (base : List ℕ) → Facts → (place more : ℕ) → (go : ℕ → ℕ → SourceState → Outcome C)
@@ -305,7 +305,7 @@ steps_are comparison setting operation (WithMemory sides reference) = refl
 steps_are comparison setting operation (WithE sides) = refl
 steps_are comparison setting operation Pushed = refl
 
--- what is asked of two BYTEs, or of two ADDRESSes that are below 256
+-- the answer to a question about two BYTEs, or about two ADDRESSes that are below 256
 pub bytes_compared :
     {C : Type 0} {context : Context} {top need : ℕ} {base : List ℕ} {t : SourceState} {facts last : Facts}
     {r : Registers} {memory : List ℕ} {from to more bound other_bound : ℕ}

@@ -1,4 +1,4 @@
--- Jumps where two ADDRESSes are equal, or where they are not.
+-- Jumps if two ADDRESSes are equal, or if they are not.
 use Rattle.task_laws.proofs.Prelude.{◌≡◌, ℕ, ◌+◌, ◌/◌, ◌%◌, ◌<◌, ◌==◌, Bool, true, false, not, List, [], ◌∷◌, ◌++◌, None, refl, sym, ap, ◌∙◌, subst, arith, if◌then◌else◌, eqb-true, eqb-false, eq-eqb, ne_eqb, byte_at, TypedExpression, SourceState, Outcome, Gave, is_true, Condition, NotZero, subtract_of, Registers, State, holds, AtLabel, Place, place_after, Facts, LabelNumber, Part, Step, Jump, Mark, label_of, jump_item, IsThere, Does, at_place, jump_passed, jump_taken, word_step, gives, IsSteady, place_at, Words, PlaceAndHl, DeAndHl, high_difference_steps, low_difference_steps, Context, IsSound, StepsStand, JumpThere, NoneThere, PlainThere, WordThere, Know, Parts, Goes, Passes, PartDoes}
 use Rattle.isa8080.specs.declared.instr.Condition.TheVariants.{Zero}
 use Rattle.asm8080.specs.declared.item.WordForm.TheVariants as forms
@@ -19,7 +19,7 @@ pub data HasWords (context : Context) (x y : ℕ) (r : Registers) (memory : List
       → HasWords context x y r memory (PlaceAndHl place)
   InRegisters : r.h ≡ y / 256 → r.l ≡ y % 256 → r.d ≡ x / 256 → r.e ≡ x % 256 → HasWords context x y r memory DeAndHl
 
--- what is known after a difference
+-- the facts after a difference
 abbrev taken : Facts → Facts
 taken facts = record facts { byte_in_a = None; zero_shows_a = true }
 
@@ -100,7 +100,7 @@ ends_at :
     → (facts ≡ last) × (from ≡ to)
 ends_at NoneThere = (refl, refl)
 
--- the jump that goes to the label
+-- the jump to the label
 goes_there :
     {context : Context} {top pushed need : ℕ} {base : List ℕ} {u : SourceState} {facts last : Facts}
     {r : Registers} {memory : List ℕ} {tree : TypedExpression} {sense : Bool} (from to : ℕ) (c : Condition) (label : LabelNumber)

@@ -1,4 +1,4 @@
--- Relations that ask whether two ADDRESSes are equal, as jumps.
+-- Relations that test whether two ADDRESSes are equal, as jumps.
 use Rattle.task_laws.proofs.Prelude.{◌≡◌, ℕ, ◌+◌, ◌*◌, ◌<◌, ◌≤◌, ◌==◌, false, List, [], ◌∷◌, ◌++◌, Option, Some, None, max, refl, arith, height_of, type_of, TypedExpression, TypesHold, SourceState, Outcome, Registers, State, ExpressionNumber, IsExpression, Facts, Step, Does, at_place, in_order, Equal, PairOrder, LeftInHl, RightInHl, pair_order, pair_steps, Apart, Words, PlaceAndHl, DeAndHl, operand_apart, words_of, words_steps, knowing, Context, IsSound, nodes_in, StepsStand, PartThere, PartDoes}
 use Rattle.trees.specs.declared.declaration.ScalarType.TheVariants as scalars
 use Rattle.task_laws.proofs.Relations.Answers.{same_turned}
@@ -11,7 +11,7 @@ use Rattle.task_laws.proofs.Machine.SiteNodes.{does_exchanged, value_in}
 use Rattle.task_laws.proofs.Machine.Stages.{Stage, at_carried, at_word, does_same, script_of}
 use Rattle.task_laws.proofs.Relations.WordComparisons.{pair_then}
 
--- what goes on once both words are there
+-- the rest of the code once both words are in place
 abbrev pub GoesOnWords :
     {C : Type 0} → Context → Words → (top pushed need : ℕ) → (base : List ℕ) → (others : List Step) → Facts
     → (to more : ℕ) → (go : ℕ → ℕ → SourceState → Outcome C) → (Good : C → SourceState → State → Type 0) → Type 0

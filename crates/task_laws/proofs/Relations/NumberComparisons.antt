@@ -8,7 +8,7 @@ use Rattle.task_laws.proofs.Machine.Rules.{test_goes}
 use Rattle.task_laws.proofs.Machine.SiteNodes.{value_in}
 use Rattle.task_laws.proofs.Machine.Stages.{Stage, at_a, at_byte, at_effects, at_end, script_of}
 
--- A that counts down comes to 0 where it was 1
+-- A counted down becomes 0 if it was 1
 down_shows : (x : ℕ) → x < 256 → ((x + 254 + 1) % 256 == 0) ≡ (x == 1)
 down_shows x small =
     sym (same_test (x == 1) ((x + 254 + 1) % 256 == 0)
@@ -28,7 +28,7 @@ below_one v =
 is_zero_too : (v n : ℕ) → (n == 0) ≡ true → (v == 0) ≡ (v == n)
 is_zero_too v n is = ap (λ m. v == m) (sym (eqb-true n 0 is))
 
--- A holds the byte that was asked about, and what is known then goes on
+-- A holds the byte of the question, and the rest uses the facts then
 abbrev pub GoesOnShown :
     {B : Type 0} → Context → Purpose → Answer → (truth : Bool) → (top pushed need : ℕ) → (base : List ℕ) → SourceState
     → Facts → (memory : List ℕ) → (place budget more : ℕ) → Outcome B → (B → SourceState → State → Type 0) → Type 0
@@ -126,7 +126,7 @@ module _
           (λ final. rest _
           (zero_shows r.a n stage.ready.registers.a other_small ∙ ap (λ m. m == n) is) final))
 
-  -- what is asked of A and a number
+  -- the answer to a question about A and a number
   pub number_in_a :
       {facts : Facts} {from : ℕ} {r : Registers} (question : NumberQuestion) (setting : Setting) (v : ℕ)
       → r.a ≡ v
@@ -177,7 +177,7 @@ module _
           at_end ends stage
           (λ final. rest r (ne_eqb v n (λ same. omega (arith, small, ltb-false n 256 two, same))) final)
 
--- what goes on after a value was compared with a number
+-- the rest of the code after a value was compared with a number
 abbrev pub GoesOnAsked :
     {C : Type 0} → Context → (tree : TypedExpression) → (operand : ExpressionNumber) → Purpose → Answer
     → (truth : ℕ → Bool) → (top pushed need : ℕ)
@@ -209,7 +209,7 @@ known_number_answer (Is n) v answer small is = by (nat_lt 255 n) refl is
         ∙ Rattle.std.proofs.lemmas.Option.same_Some false answer same
     by false here same = absurd (Rattle.std.proofs.lemmas.Option.none-some answer same)
 
--- what is asked of a BYTE and a number
+-- the answer to a question about a BYTE and a number
 pub byte_asked :
     {C : Type 0} {context : Context} {top need : ℕ} {base : List ℕ} {t : SourceState} {facts last : Facts}
     {r : Registers} {memory : List ℕ} {from to more bound : ℕ}

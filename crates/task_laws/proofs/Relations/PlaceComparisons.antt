@@ -1,4 +1,4 @@
--- Two ADDRESSes are compared of which one stays in memory.
+-- Comparisons of two ADDRESSes, one of them in memory.
 use Rattle.task_laws.proofs.Prelude.{◌≡◌, ℕ, ◌*◌, ◌/◌, ◌%◌, ◌<◌, ◌≤◌, ◌==◌, ◌⊎◌, inl, inr, Bool, true, false, nat_lt, bit_or, List, ◌++◌, Option, Some, None, refl, sym, ap, ◌∙◌, subst, arith, if◌then◌else◌, byte_at, or_of_8, ScalarType, height_of, type_of, TypedExpression, TypesHold, SourceState, Ended, More, Outside, Outcome, Gave, Stopped, then_do, values_of, Or, operate, subtract_of, Registers, State, ExpressionNumber, Place, place_after, IsExpression, Facts, Does, at_place, IsSteady, place_at, GoesOutside, evaluated_in_order, Question, LeftBelow, RightBelow, Equal, Site, may_exchange, direct_word, is_word_in_hl, Purpose, Setting, Apart, answer_to, apart_of, high_steps, in_hl, left_apart, load_a_steps, low_steps, operand_apart, right_apart, with_place_steps, knowing, Context, IsSound, nodes_in, StepsStand, PartThere, PlainThere, WordThere, PartDoes}
 use Rattle.task_laws.proofs.Relations.Answers.{AnswerShows, question_truth, same_turned}
 use Rattle.task_laws.proofs.Bytes.BytesAsked.{BytesAsked, WordAtPlace}
@@ -99,7 +99,7 @@ is_apart site operands left right question apart is =
     subst (λ (found : Option Apart). Fits site left right question found) is
     (apart_fits site operands left right question)
 
--- a word that is read where it lies, or goes outside
+-- a word that is read at its place, or goes outside
 pub read_then :
     {B : Type 0} {script : List (List ℕ)} {budget more : ℕ} {from : State} {Good : B → SourceState → State → Type 0}
     {context : Context} {place : Place} {memory : List ℕ} {u : SourceState} (outcome : Outcome ℕ)

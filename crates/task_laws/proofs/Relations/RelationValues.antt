@@ -1,4 +1,4 @@
--- A relation as a value: 0FFH in A where it holds, else 0.
+-- A relation as a value: 0FFH in A if it holds, else 0.
 use Rattle.task_laws.proofs.Prelude.{◌≡◌, ℕ, ◌+◌, ◌*◌, ◌%◌, ◌<◌, ◌≤◌, ◌==◌, Bool, true, false, not, nat_le, List, ◌++◌, Some, bit_xor, refl, sym, ap, ◌∙◌, arith, false≢true, eqb-true, le-leb, xor_self, height_of, type_of, TypedExpression, TypesHold, SourceState, Outcome, Gave, truth, values_of, ScalarType, Byte, Address, Flags, add_of, operate, subtract_of, ExclusiveOr, Registers, State, ExpressionNumber, IsExpression, Facts, Arrives, Does, at_place, gives, borrow_shows, Relation, relation_of, is_free, Shown, Known, Where, outcome_value_steps, relation_outcome, relation_steps, value_setting, knowing, Context, IsSound, nodes_in, StepsStand, PlainThere, ByteIsGiven, Carries, Nothing, PartDoes}
 use Rattle.isa8080.specs.declared.instr.Condition.TheVariants as conditions
 use Rattle.operands8080.specs.declared.answers.Purpose.TheVariants as purposes
@@ -29,7 +29,7 @@ sum_carries a true is =
         positive (Rattle.std.specs.Prelude.suc n) none = omega arith
 sum_carries a false is = ap (λ n. nat_le 256 (n + 255 + 0)) (eqb-true a 0 is)
 
--- 0FFH or 0 comes into A
+-- 0FFH or 0 is put into A
 outcome_in_a :
     {B : Type 0} {context : Context} {top pushed need : ℕ} {base : List ℕ} {t : SourceState} {facts last : Facts}
     {r : Registers} {memory : List ℕ} {from to budget more : ℕ} {outcome : Outcome B}

@@ -1,4 +1,4 @@
--- Relations: what their code leaves shows whether they hold.
+-- Relations: the result of their code shows whether they hold.
 use Rattle.task_laws.proofs.Prelude.{◌≡◌, ℕ, ◌+◌, ◌*◌, ◌<◌, ◌≤◌, ◌==◌, Bool, true, false, not, ◌&&◌, nat_le, min, max, List, Option, Some, None, option_map, refl, sym, ap, ◌∙◌, subst, arith, if◌then◌else◌, option_and_then, and_parts, none-some, same_Some, ScalarType, BinaryOperator, height_of, type_of, TypedExpression, BinaryNode, TypesHold, computed, SourceState, Outcome, Gave, Stopped, then_do, result_of, truth, values_of, Registers, State, Expression, ExpressionForm, ExpressionNumber, IsExpression, IsForm, IsNumber, IsValue, IsLocation, IsConstantList, IsConversion, IsEmbedded, IsUnary, IsBinary, IsCallOf, IsFunction, IsShift, IsInput, Facts, Does, at_place, Between, NumberQuestion, Never, Below, Question, LeftBelow, RightBelow, Equal, Relation, Site, number, agree, greatest, mirrored, number_question, question_of, relation_between, relation_of, relation_of_form, relation_with_number, fits_byte, Answer, Purpose, Branch, Value, Setting, Shown, Known, Where, Apart, answer_to, byte_relation_steps, comparison_steps, number_answer, number_steps, relation_outcome, relation_steps, operand_apart, with_pair_steps, with_place_steps, evaluated_in_order, knowing, Context, IsSound, nodes_in, StepsStand, PartDoes}
 use Rattle.trees.specs.declared.declaration.ScalarType.TheVariants as scalars
 use Rattle.isa8080.specs.declared.instr.Condition.TheVariants as conditions
@@ -113,7 +113,7 @@ bounded RightBelow n scalar small = by (nat_le (greatest scalar) n)
     by true = tt
     by false = omega arith
 
--- what goes on after a relation
+-- the rest of the code after a relation
 abbrev pub GoesOnRelated :
     {C : Type 0} → Context → Purpose → Shown → (top pushed need : ℕ) → (base : List ℕ) → Facts → (place more : ℕ)
     → (go : ℕ → SourceState → Outcome C) → (Good : C → SourceState → State → Type 0) → Type 0
@@ -123,7 +123,7 @@ GoesOnRelated context purpose shown top pushed need base last place more go Good
     → Stage context top pushed need base u last now memory
     → Does (script_of context) u.budget more (at_place place now memory u.events) (go (truth holds) u) Good
 
--- a relation by what is known of its operands
+-- a relation, by the known values of its operands
 abbrev pub between : Site → ScalarType → (left right : ExpressionNumber) → Question → (holds_if : Bool)
     → (right_number left_number : Option ℕ) → Relation
 between site operands left right question holds_if (Some n) left_number =
@@ -154,7 +154,7 @@ between_is site operands left right question holds_if = by (number site right) (
     by None (Some n) = refl
     by None None = refl
 
--- the value of an operator, and then what follows it
+-- the value of an operator, and then the rest
 pub in_order_of :
     {C : Type 0} (context : Context) (first second : TypedExpression) (operands : ScalarType) (operator : BinaryOperator)
     (go : ℕ → SourceState → Outcome C) (t : SourceState)
@@ -259,7 +259,7 @@ module _
           pair_compared scalars.Address left right question setting go asked sound one types two other_types
           fewer stand stage rest
 
-  -- a relation, by what is known of its operands
+  -- a relation, by the known values of its operands
   related :
       (operands : ScalarType) (operator : BinaryOperator) (left right : ExpressionNumber) (question : Question)
       (holds_if : Bool) (t : SourceState) (r : Registers)

@@ -8,7 +8,7 @@ use Rattle.task_laws.proofs.Machine.SiteNodes.{value_in}
 use Rattle.task_laws.proofs.Machine.Stages.{Stage, at_carried, at_end, at_instructions, does_same, script_of}
 use Rattle.task_laws.proofs.Relations.WordFlags.{word_below, word_equal}
 
--- both values, and then what follows them
+-- both values, and then the rest
 pub pair_then :
     {C : Type 0} (context : Context) (first second : TypedExpression) (go : ℕ → ℕ → SourceState → Outcome C)
     (t : SourceState)
@@ -89,7 +89,7 @@ pair_is_less {r = r} v w RightInHl Equal purpose sound small other_small lies st
     let shows = word_equal w v r.h r.l r.d r.e lies.0 lies.1 lies.2 lies.3 other_small small ∙ same_turned v w in
     rest _ (zero_for purpose (v == w) _ shows shows) final))
 
--- what goes on after two values were compared
+-- the rest of the code after two values were compared
 abbrev pub GoesOnBoth :
     {C : Type 0} → Context → Question → Purpose → (top pushed need : ℕ) → (base : List ℕ) → Facts → (place more : ℕ)
     → (go : ℕ → ℕ → SourceState → Outcome C) → (Good : C → SourceState → State → Type 0) → Type 0

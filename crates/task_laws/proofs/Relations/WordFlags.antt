@@ -1,4 +1,4 @@
--- What the flags show after the bytes of two words were taken from each other.
+-- The flags after the bytes of two words were subtracted.
 use Rattle.task_laws.proofs.Prelude.{◌≡◌, ℕ, ◌+◌, ◌-◌, ◌*◌, ◌/◌, ◌%◌, ◌<◌, ◌==◌, Bool, true, false, nat_lt, bit_or, sym, ap, ◌∙◌, arith, ltb-true, ltb-false, lt-ltb, le-ltb, eqb-true, eqb-false, eq-eqb, ne_eqb, le_or_l, le_or_r, subtract_of, bit, borrow_shows, borrow_shows_more, same_test, word_borrow}
 
 whole : (v : ℕ) → 256 * (v / 256) + v % 256 ≡ v

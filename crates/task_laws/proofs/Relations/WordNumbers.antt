@@ -269,7 +269,7 @@ module _
           word_is_below sound v n given.h given.l small stand next
           (λ end shows final. rest v u end memory_now (value_of v asked node types stage equal) shows final))
 
-  -- what is asked of an ADDRESS and a number
+  -- the answer to a question about an ADDRESS and a number
   question_asked :
       (question : NumberQuestion) → IsBounded question
       → StepsStand context (PartDoes context) facts from

@@ -1,4 +1,4 @@
--- The part of memory one byte further on, as tree code and as the typed tree have it.
+-- The part of memory one byte further on, in tree code and in the typed tree.
 use Rattle.task_laws.proofs.Prelude.{◌≡◌, ℕ, ◌+◌, ◌%◌, sym, subst, arith, PartOf, TypedReference, Storage, Reference, IsReference, IsPart, Nodes, reference_after}
 
 -- a part of an object one byte further on

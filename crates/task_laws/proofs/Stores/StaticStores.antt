@@ -1,4 +1,4 @@
--- Instructions that store at places that are known.
+-- Instructions that store at known places.
 use Rattle.task_laws.proofs.Prelude.{◌≡◌, ℕ, ◌+◌, ◌<◌, List, [], ◌∷◌, slice_set, refl, sym, ap, subst, ◌∙◌, Event, SourcePlace, write_byte, SourceState, Outcome, then_do, Registers, State, wrap, act, WordForm, StoreA, instruction_with, Place, Does, at_place, IsReady, IsThere, word_step, IsSteadyByte, WordAsks, place_at, facts_after_word, Facts, Word, after_word, word_item, Context, IsSound, distances_in, StepsStand, WordThere, Know, PartDoes, address_on_machine}
 use Rattle.task_laws.proofs.Machine.Rules.{GoesOn, bytes_at_place}
 use Rattle.task_laws.proofs.Machine.Addresses.{nothing_goes}

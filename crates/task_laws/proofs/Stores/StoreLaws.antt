@@ -52,7 +52,7 @@ same_near same = cc
 no_near : {one : Near} → None ≡ Some one → ⊥
 no_near same = cc
 
--- a word that is next to the stack pointer lies there
+-- a word next to the stack pointer is at its location
 near_is :
     (context : Context) (facts : Facts) (top pushed need variable offset sp : ℕ) (near : Near)
     → HasRoom context.activation top pushed need
@@ -91,7 +91,7 @@ module _
     (is_wanted : Bool) (sound : IsSound context)
     (is : IsReference (nodes_in context) context.storage bound reference tree)
     (types : TypesHoldInReference context.typed context.within tree) where
-  -- a value of a type goes to a scalar of a type
+  -- a value of a type is stored in a scalar of a type
   abbrev Goes : (of scalar : ScalarType) → Type 0
   Goes of scalar =
       Carries context facts pushed (2 + 2 * height_of_reference tree) 1 from to (InRegister of number)
@@ -122,7 +122,7 @@ module _
         holds = record { known = on.known; wanted = wanted };
       })
 
-  -- and it is known that A or HL holds what lies there
+  -- A or HL is known to hold the value at the location
   byte_here_ends :
       {top middle : ℕ} {base : List ℕ} {found : Facts} (of : ScalarType) (r : Registers) (memory : List ℕ)
       (place : SourcePlace)
@@ -157,7 +157,7 @@ module _
       nothing_goes now ends (holds_go on (word_known_at context the_location place stored left now lies h l word_is))
       (λ final. stored_ends of r memory u now left wanted final)
 
-  -- a BYTE in A goes to a BYTE at an address that is computed
+  -- a BYTE in A is stored in a BYTE at a computed address
   byte_at_computed :
       RefersToScalar context.typed context.within Byte tree
       → number < 256
@@ -179,7 +179,7 @@ module _
       nothing_goes now ends final
       (λ done. stored_ends Byte r memory u now left (λ wanted. a ∙ asked) done))))
 
-  -- a BYTE in A goes to an ADDRESS at an address that is computed
+  -- a BYTE in A is stored in an ADDRESS at a computed address
   byte_to_word_at :
       RefersToScalar context.typed context.within Address tree
       → number < 256
@@ -205,7 +205,7 @@ module _
       (place_lies facts place s t sound is referred types same)
       (record { is = lies.low ∙ sym (a ∙ asked ∙ byte_low number small); steady = lies.steady }) ends final)))
 
-  -- the low byte of HL goes to a BYTE at an address that is computed
+  -- the low byte of HL is stored in a BYTE at a computed address
   low_byte_at :
       RefersToScalar context.typed context.within Byte tree
       → StepsStand context (PartDoes context) facts from (store_hl_at_steps (the_goal Byte) is_wanted pushed)
@@ -308,7 +308,7 @@ module _
           (λ on_turned.
           word_here_ends Address r memory place (number % 65536) u turned left (λ wanted. (d, e)) there high low lies ends on_turned)
 
-  -- by way of A where that is shorter
+  -- through A if that is shorter
   low_byte_by_a :
       RefersToScalar context.typed context.within Byte tree
       → is_wanted ≡ false
@@ -367,7 +367,7 @@ module _
       (record { ready = ready; known = known })
       (λ u left final. stored_ends Byte r memory u r left (λ wanted. asked) final))
 
-  -- a BYTE in A goes to a BYTE
+  -- a BYTE in A is stored in a BYTE
   byte_goes :
       RefersToScalar context.typed context.within Byte tree
       → number < 256
@@ -426,7 +426,7 @@ module _
       (asked.1 ∙ low_twice number) lies.is_at (located_fits context Byte tree lies.place s s sound refers (lies.means s)) stand on_low
       (λ u left final. stored_ends Address r memory u low left (λ wanted. asked) final)))
 
-  -- the low byte of HL goes to a BYTE
+  -- the low byte of HL is stored in a BYTE
   low_byte_goes :
       RefersToScalar context.typed context.within Byte tree
       → StepsStand context (PartDoes context) facts from
@@ -520,7 +520,7 @@ module _
           (holds_go on_left (word_known_at context (Some (locations.Frame variable offset)) lies.place stored left final lies.is_at
           (high ∙ h) (low ∙ l) word_is))
 
-  -- a word goes to an ADDRESS
+  -- a word is stored in an ADDRESS
   word_goes_to :
       RefersToScalar context.typed context.within Address tree
       → number < 65536
@@ -566,7 +566,7 @@ module _
       by (Some (locations.Frame variable offset)) told stands =
           by_near variable offset told (word_near (knowing context.site facts) (locations.Frame variable offset) pushed) refl stands
 
-  -- a BYTE in A goes to an ADDRESS
+  -- a BYTE in A is stored in an ADDRESS
   byte_to_word_goes :
       RefersToScalar context.typed context.within Address tree
       → number < 256

@@ -1,4 +1,5 @@
--- Rules of stores at addresses that are computed: the address comes into HL beside the value, and then bytes are stored.
+-- Rules of stores at computed addresses: the address is put into HL beside the value, and then bytes are
+-- stored.
 use Rattle.task_laws.proofs.Prelude.{◌≡◌, ◌≢◌, ℕ, ◌+◌, ◌-◌, ◌*◌, ◌/◌, ◌%◌, ◌<◌, ◌≤◌, Bool, true, false, if◌then◌else◌, List, [], ◌∷◌, ◌++◌, length, Option, Some, None, slice_set, refl, sym, ap, subst, ◌∙◌, arith, length-set, MEMORY_SIZE, byte_at, Event, ScalarType, Address, height_of_reference, TypedReference, TypesHoldInReference, SourcePlace, next_place, write_byte, write_scalar, SourceState, Outcome, Gave, then_do, Instr, Inx, Pop, Push, Xchg, Hl, Psw, StackDe, StackHl, act, flag_byte, flags_in, flag_byte_small, Registers, State, high_byte, low_byte, pushed_of, word, wrap, StoreHl, size_of_instruction, pushed_memory, byte_kept, byte_put, Location, Place, Reference, IsReference, Does, at_place, Activation, HasRoom, IsReady, Asks, IsSteadyByte, IsSteady, location_at, place_at, Facts, Step, Plain, Word, after, no_facts, part, keeps_of_address, location_of, address_beside_a_steps, address_beside_de_steps, goal_of, knowing, Context, IsSound, distances_in, nodes_in, PartThere, PlainThere, StepsStand, WordThere, IsReferred, Know, PartDoes, address_on_machine}
 use Rattle.steps8080.specs.declared.step.Task.TheVariants as tasks
 use Rattle.task_laws.proofs.Loads.Loads.{lies_there}
@@ -92,7 +93,7 @@ beside_a_then {Good = Good} {context = context} {facts = facts} {last = last} {r
         rest place t back given.memory (middle + 1) _ same (popped_a r.a (flag_byte r.flags) (flag_byte_small r.flags))
         (given.holds).hl stand on_back))))
 
--- and while the value that was in HL comes into DE
+-- the value that was in HL is put into DE
 pub beside_de_then :
     {B : Type 0} {Good : B → SourceState → State → Type 0}
     {context : Context} {facts last : Facts} {reference : Reference} {bound top pushed need to more : ℕ}
@@ -205,7 +206,7 @@ word_lies_at activation memory address number size steady steady_too =
       steady_too = steady_too.0;
     }
 
--- a byte goes to the address in HL
+-- a byte is stored at the address in HL
 pub one_stored :
     {A : Type 0} {Good : A → SourceState → State → Type 0}
     {context : Context} {facts last : Facts} {top from to : ℕ} {base : List ℕ} (i : Instr)
@@ -345,7 +346,7 @@ two_stored {Good = Good} {context = context} {facts = facts} {last = last} {top 
       known = known_twice;
     })))))))))
 
--- where a location is known, a place lies there
+-- if a location is given, the place has its address
 abbrev pub PlaceLies : Context → Option Location → SourcePlace → Type 0
 PlaceLies context None place = Unit {0}
 PlaceLies context (Some location) place =
@@ -374,7 +375,7 @@ place_lies {context = context} {reference = reference} {tree = tree} facts place
         let lies = lies_there facts location sound is referred types told in
         ap (λ (of : SourcePlace). address_on_machine context.activation of) (same_place (sym same ∙ lies.means s)) ∙ lies.is_at
 
--- what is known of A and HL where a place lies at a location
+-- the facts about A and HL, if a place is at a location
 pub byte_known_at :
     (context : Context) (location : Option Location) (place : SourcePlace) (memory : List ℕ) (r : Registers)
     → PlaceLies context location place
@@ -416,7 +417,7 @@ word_low h l number one two = omega (arith, one, two)
 word_high : (h l number : ℕ) → h ≡ number / 256 → l ≡ number % 256 → number / 256 ≡ high_byte (word h l)
 word_high h l number one two = omega (arith, one, two)
 
--- HL goes to a place in memory
+-- HL is stored at a place in memory
 pub shld_then :
     {A : Type 0} {Good : A → SourceState → State → Type 0}
     {context : Context} {facts last : Facts} {top from to : ℕ} {base : List ℕ} (others : List Step)

@@ -1,4 +1,4 @@
--- Steps of stores: one of them is to spare.
+-- Steps of stores: they have one step to spare.
 use Rattle.task_laws.proofs.Prelude.{◌≡◌, ℕ, suc, ◌+◌, List, [], ◌∷◌, refl, subst, ◌∙◌, arith, SourceState, Ended, More, Outside, Outcome, Gave, Stopped, Instr, Registers, State, wrap, act, step_of, size_of_instruction, step_then, Reference, Does, Lands, at_place, IsThere, after_step, plain_step, Asks, facts_after, Facts, after, keeps_of_address, knowing, Context, IsSound, distances_in, Know}
 use Rattle.asm8080.specs.declared.item.Item.TheVariants as items
 use Rattle.task_laws.proofs.Machine.Rules.{GoesOn, bytes_at_place}
@@ -61,7 +61,7 @@ plain_gains {budget = budget} {outcome = outcome} {Good = Good} {context = conte
     shares.is_memory (bytes_at_place (wrap place) r on.ready.registers) asks on.known) in
     gains (plain_step script context.activation i [] from place r memory events sound.lies shares.code there ∙ does) (rest known)
 
--- what is known of registers does not change what the code of an address keeps
+-- the facts about the registers do not change which registers the code of an address keeps
 pub address_keeps_anywhere : (context : Context) (used : Facts) (reference : Reference)
     → keeps_of_address (knowing context.site used) reference ≡ keeps_of_address context.site reference
 unfolding keeps_of_address

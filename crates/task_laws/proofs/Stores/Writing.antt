@@ -1,4 +1,4 @@
--- Bytes that are written, in memory or in the frame, on both sides: an activation stays ready.
+-- Bytes that are written, in memory or in the frame, on both sides: an activation remains ready.
 use Rattle.task_laws.proofs.Prelude.{◌≡◌, ◌≢◌, ℕ, zero, suc, ◌+◌, ◌<◌, ◌≤◌, ◌==◌, ◌⊎◌, inl, inr, Bool, true, false, if◌then◌else◌, List, [], ◌∷◌, length, slice_set, slice_index_or, refl, sym, ap, subst, ◌∙◌, arith, cases_lt, length-set, eqb-true, eqb-false, MEMORY_SIZE, byte_at, UndeclaredByte, Constant, SourceState, Outside, Outcome, Gave, Stopped, then_do, InMemory, InTheFrame, frame_bytes, is_constant, is_declared, write_byte, Registers, State, wrap, byte_kept, byte_put, memory_put, Does, Activation, FrameLies, IsReady, LiesWell, Owns, keeps_put, ready_with_variable, IsSteadyByte, declared_is_steady, Context, IsSound, address_on_machine}
 use Rattle.meaning.specs.Access.{Place}
 use Rattle.task_laws.proofs.Places.Reading.{FitsIn, frame_is, of_frame}

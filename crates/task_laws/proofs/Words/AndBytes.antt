@@ -1,4 +1,4 @@
--- AND of two ADDRESSes of which one is below 256: it is one of bytes.
+-- AND of two ADDRESSes, one of them below 256: the result fits a byte.
 use Rattle.task_laws.proofs.Prelude.{◌≡◌, ℕ, ◌+◌, ◌*◌, ◌%◌, ◌<◌, ◌≤◌, ◌⊎◌, inl, inr, max, Bool, true, false, ◌||◌, List, ◌++◌, Option, Some, None, option_map, length, bit_and, refl, ap, subst, arith, slice_get_past, and_le_l, and_le_r, Address, height_of, BinaryNode, TypedExpression, SourceState, Gave, then_do, And, Registers, Expression, ExpressionNumber, IsExpression, IsNode, keeps_none, Does, at_place, Arrives, HasRoom, Facts, low, extension_steps, expression, is_free, keeps, number_of, fits_byte, low_number, Operands, knowing, byte_operation_steps, form_of, from_number_steps, in_form_steps, with_number_steps, is_of_bytes, Context, IsSound, nodes_in, StepsStand, ByteIsGiven, PartDoes, WordIsGiven}
 use Rattle.trees.specs.declared.expression.BinaryOperator.TheVariants as operators
 use Rattle.task_laws.proofs.Words.AndNumbers.{extended_then}
@@ -13,7 +13,7 @@ use Rattle.task_laws.proofs.Machine.Stages.{at_carried, script_of}
 use Rattle.task_laws.proofs.Bytes.TwoBytes.{two_bytes}
 use Rattle.task_laws.proofs.Words.WordSums.{TwoWords}
 
--- a number of no expression: nothing is said of what its code leaves alone
+-- a number without an expression: nothing is promised about the registers that its code keeps
 abbrev pub no_expression : Context → ExpressionNumber
 no_expression context = record { index = length (nodes_in context).expressions }
 

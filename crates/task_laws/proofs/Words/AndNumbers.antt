@@ -1,4 +1,4 @@
--- AND of an ADDRESS and a number in HL, of which a byte may be 0.
+-- AND of an ADDRESS and a number in HL; a byte of the number may be 0.
 use Rattle.task_laws.proofs.Prelude.{◌≡◌, ℕ, ◌*◌, ◌/◌, ◌%◌, ◌<◌, ◌≤◌, ◌==◌, nat_lt, Bool, true, false, if◌then◌else◌, List, [], ◌∷◌, ◌++◌, bit_and, refl, sym, ap, ◌∙◌, subst, arith, eqb-true, ltb-true, append_assoc, and_le_r, xor_self, and_zero_r, Address, height_of, type_of, TypedExpression, TypesHold, SourceState, Gave, then_do, AccumulateImmediate, And, A, H, L, Registers, ExpressionNumber, IsExpression, keeps_none, Does, at_place, Arrives, HasRoom, Facts, Step, Plain, clear_a, copy, high, low, set, extension_steps, part_of, plain, keeps, immediate_steps, with_number_steps, knowing, high_byte_steps, and_with_number_steps, both_halves_steps, high_half_steps, logic_with_number_steps, Context, IsSound, nodes_in, StepsStand, PartThere, Carries, Nothing, PartDoes, WordIsGiven}
 use Rattle.steps8080.specs.declared.step.Task.TheVariants as tasks
 use Rattle.task_laws.proofs.Bytes.BytesAsked.{HighIsGiven}
@@ -12,7 +12,7 @@ use Rattle.task_laws.proofs.Machine.Stages.{Stage, at_byte, at_carried, at_effec
 use Rattle.task_laws.proofs.Machine.Values.{HasWord, word_given}
 use Rattle.task_laws.proofs.Bytes.Zeros.{low_mask}
 
--- the high byte of a value, 0 of a BYTE, comes into A
+-- the high byte of a value, 0 for a BYTE, is put into A
 abbrev pub HighHalvesGiven : Context → Type 0
 HighHalvesGiven context =
     (facts last : Facts) (number : ExpressionNumber) (pushed from to bound : ℕ) (tree : TypedExpression)
@@ -37,7 +37,7 @@ all_low n small = omega (arith, small)
 and_under : (x n limit : ℕ) → n < limit → bit_and x n < limit
 and_under x n limit small = let less : bit_and x n ≤ n = and_le_r x n in omega (arith, less, small)
 
--- a byte in A comes into HL
+-- a byte in A is put into HL
 pub extended : (n : ℕ) (now : Registers) → n < 256 → now.a ≡ n → HasWord n (effect (copy L A ∷ set H 0 ∷ []) now)
 extended n now small same = record { h = no_high n small; l = same ∙ all_low n small }
 
@@ -120,7 +120,7 @@ module _
             (xor_self now.a ∙ sym (nothing_left x n small (eqb-true (low n) 0 is))) rest after))
         by false is given = by_full (low n == 255) refl given
 
-    -- the high byte AND that of a number whose low byte is 0
+    -- the high byte AND that of a number with the low byte 0
     high_half_does :
         (n from : ℕ) (s : SourceState) (r : Registers) (memory : List ℕ)
         → HighHalvesGiven context

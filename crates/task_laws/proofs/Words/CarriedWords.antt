@@ -1,8 +1,8 @@
--- What the code of a value in HL does, for each need of stack and wherever it is begun.
+-- The code of a value in HL, for each need of stack and from any start.
 use Rattle.task_laws.proofs.Prelude.{ℕ, ◌*◌, ◌<◌, ◌≤◌, List, ScalarType, height_of, TypedExpression, value, SourceState, Registers, ExpressionNumber, Does, at_place, Arrives, HasRoom, Facts, Context, WordIsGiven}
 use Rattle.task_laws.proofs.Machine.Rules.{GoesOn}
 
--- the value of a tree comes into HL
+-- the value of a tree is put into HL
 abbrev pub IsCarriedOut :
     Context → (facts : Facts) → (number : ExpressionNumber) → TypedExpression → ScalarType → (pushed from : ℕ) → (last : Facts)
     → (to : ℕ) → Type 0

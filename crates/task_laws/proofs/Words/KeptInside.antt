@@ -1,9 +1,9 @@
--- What the code of a conversion or of DOUBLE keeps is kept by the code of what is inside.
+-- The registers that the code of a conversion or of DOUBLE keeps are kept by the code of its operand.
 use Rattle.task_laws.proofs.Prelude.{◌≡◌, true, Option, Some, None, refl, sym, subst, option_map_or, false≢true, Byte, Low, High, Double, ExpressionForm, Place, Reference, Keeps, Nodes, form_at, keeps_none, keeps_of, keeps_of_byte, keeps_of_form, memory_of_inner, same_low_byte}
 use Rattle.treecode.specs.declared.expression.ExpressionForm.TheVariants as forms
 use Rattle.treecode.specs.Traits.{keeps_of_address}
 
--- what one keeps the other keeps
+-- the registers that one keeps are kept by the other
 pub record IsKeptBy (less more : Keeps) : Type 0 where
   pub a : less.a ≡ true → more.a ≡ true
   pub de : less.de ≡ true → more.de ≡ true
@@ -17,7 +17,7 @@ kept_nothing more = record { a = λ is. absurd (false≢true is); de = λ is. ab
 abbrev in_memory : Nodes → Option Reference → Keeps
 in_memory nodes found = option_map_or (keeps_of_address nodes) found keeps_none
 
--- what is in memory is not looked through
+-- a form in memory is not looked through
 same_twice : (nodes : Nodes) (form : ExpressionForm)
     → IsKeptBy (in_memory nodes (memory_of_inner nodes form)) (in_memory nodes (memory_of_inner nodes (same_low_byte nodes form)))
 same_twice nodes (forms.Number n) = kept_nothing _

@@ -1,4 +1,4 @@
--- Shifts of an ADDRESS to the left by a number.
+-- Shifts of an ADDRESS left by a number.
 use Rattle.task_laws.proofs.Prelude.{◌≡◌, ℕ, ◌+◌, ◌-◌, ◌*◌, ◌/◌, ◌%◌, ◌^◌, ◌<◌, ◌≤◌, Bool, true, false, nat_le, if◌then◌else◌, List, [], ◌∷◌, ◌++◌, replicate, Some, pow-add, refl, sym, ap, ◌∙◌, subst, arith, leb-true, leb-false, lt-ltb, le-ltb, Address, ShiftLeft, height_of, TypedExpression, value, SourceState, Gave, then_do, shifted, Instr, Dad, Hl, A, H, L, Registers, LoadPair, ExpressionNumber, Number, keeps_at, keeps_none, keeps_of_shift, Does, at_place, Arrives, HasRoom, Facts, Step, copy, set, part_of, plain, repeat_steps, keeps, Context, IsSound, nodes_in, StepsStand, PartThere, WordThere, PartDoes, WordIsGiven}
 use Rattle.steps8080.specs.declared.step.Task.TheVariants as tasks
 use Rattle.exprgen8080.specs.WordShifts.{shifted_left_steps, zero_steps}
@@ -32,7 +32,7 @@ by_eight_bits x count most =
 shifted_small : (x p : ℕ) → (x * p) % 65536 < 65536
 shifted_small x p = omega arith
 
--- 0, after what an expression does
+-- 0, after the effects of an expression
 pub zero_does :
     {context : Context} {pushed top need to : ℕ} {base : List ℕ} {facts last : Facts}
     {other : ExpressionNumber} {tree : TypedExpression} (f : ℕ → ℕ) (number : ExpressionNumber) (from : ℕ)

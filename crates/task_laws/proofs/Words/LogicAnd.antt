@@ -13,7 +13,7 @@ use Rattle.task_laws.proofs.Bytes.BytesAsked.{BytesAsked}
 use Rattle.task_laws.proofs.Words.LogicNumbers.{bits, bits_small}
 use Rattle.task_laws.proofs.Words.SimpleLogic.{with_simple_does}
 
--- where AND is none of bytes, no operand is one
+-- if AND does not fit a byte, no operand does
 no_byte_left : (one other : Bool) → (one || other) ≡ false → one ≡ true → ⊥
 no_byte_left true other none is = false≢true (sym none)
 no_byte_left false other none is = false≢true is

@@ -8,7 +8,7 @@ use Rattle.task_laws.proofs.Words.WordArithmetic.{word_below}
 use Rattle.task_laws.proofs.Machine.RegisterCode.{AreOnRegisters, IsOnRegisters, does_to, effect, registers_then}
 use Rattle.task_laws.proofs.Machine.Values.{HasWord, effects_then, word_then}
 
--- HL is a word, and A and DE are what they were
+-- HL is a word, and A and DE are kept
 pub record WordBeside (n : ℕ) (r now : Registers) : Type 0 where
   pub h : now.h ≡ n / 256
   pub l : now.l ≡ n % 256
@@ -67,7 +67,7 @@ once_high h x one small = omega (arith, one, small)
 once_low : (l x : ℕ) → l ≡ x % 256 → x < 65536 → l ≡ ((x * 1) % 65536) % 256
 once_low l x one small = omega (arith, one, small)
 
--- HL doubled so many times
+-- HL doubled `count` times
 pub doubled_is : (count x : ℕ) (r : Registers) → x < 65536 → HasWord x r
     → WordBeside ((x * 2 ^ count) % 65536) r (effect (replicate count (Dad Hl)) r)
 doubled_is count x r small has =
@@ -146,7 +146,7 @@ chain_on (suc bit) number twice once_more below one other =
     (bit_on twice once_more below (has_bit number bit) one other)
     (chain_on bit number twice once_more (below || has_bit number bit) one other)
 
--- where the bits from one on have been gone through: HL is the multiple by them, or what it was where all are 0
+-- after the bits from one on: HL is the multiple by them, or unchanged if all are 0
 abbrev pub factor : (below : Bool) → (bits_gone : ℕ) → ℕ
 factor true gone = gone
 factor false gone = 1
@@ -279,7 +279,7 @@ chain_is (suc bit) number x below r now few gone =
     let last = chain_is bit number x (below || set) r (effect first now) (fewer_bits bit few) next in
     (last.0, subst (λ (after : Registers). Gone last.0 x (number / 2 ^ 0) r after) (sym (effect_on first rest now)) last.1)
 
--- what straight code gives that leaves A and DE alone
+-- the result of straight-line code that keeps A and DE
 abbrev Reaches : {A : Type 0} → (Outcome A) → (A → SourceState → State → Type 0) → Context → (budget more : ℕ) → (top : ℕ) → (base source : List ℕ) → (frame : List (List ℕ)) → (memory : List ℕ) → (events : List Event) → (last : Facts) → (to n : ℕ) → Registers → Type 0
 Reaches outcome Good context budget more top base source frame memory events last to n r =
     (now : Registers) → WordBeside n r now

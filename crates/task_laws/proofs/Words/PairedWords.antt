@@ -1,4 +1,4 @@
--- Operators whose two operands come into HL and DE, and then straight code.
+-- Operators with two operands that are put into HL and DE, and then straight-line code.
 use Rattle.task_laws.proofs.Prelude.{◌≡◌, ℕ, ◌+◌, ◌-◌, ◌*◌, ◌/◌, ◌%◌, ◌<◌, ◌≤◌, not, nat_lt, bit_and, bit_or, bit_xor, List, [], ◌∷◌, ◌++◌, append-nil, Option, sym, ap, ◌∙◌, subst, false≢true, Address, height_of, TypedExpression, SourceState, Gave, then_do, Instr, Dad, Operation, And, ExclusiveOr, Or, Subtract, SubtractWithBorrow, De, A, D, E, H, L, bit, HoldBytes, Registers, ExpressionNumber, keeps_none, Does, at_place, Arrives, HasRoom, Facts, Step, copy, with_register, plain, keeps, PairOrder, LeftInHl, RightInHl, pair_in_order_steps, pair_order_by, knowing, Context, IsSound, StepsStand, PartDoes, WordIsGiven}
 use Rattle.task_laws.proofs.Machine.Rules.{GoesOn}
 use Rattle.task_laws.proofs.Machine.RegisterCode.{AreOnRegisters, effect, registers_then}
@@ -17,7 +17,7 @@ kept_none context number r now none = record {
   e = λ is. absurd (false≢true (sym (ap (λ kept. kept.de) none) ∙ is));
 }
 
--- what straight code makes of a pair
+-- the result of straight-line code for a pair
 abbrev pub Makes : (instructions : PairOrder → List Instr) → (f : ℕ → ℕ → ℕ) → Type 0
 Makes instructions f =
     (order : PairOrder) (x y : ℕ) (r : Registers)

@@ -1,4 +1,4 @@
--- Two words of which one comes into HL and the other into DE.
+-- Two words, one put into HL and the other into DE.
 use Rattle.task_laws.proofs.Prelude.{◌≡◌, ℕ, ◌+◌, ◌-◌, ◌*◌, ◌/◌, ◌%◌, ◌<◌, ◌≤◌, Bool, true, false, ◌&&◌, if◌then◌else◌, List, [], ◌∷◌, ◌++◌, Option, Some, None, refl, sym, ap, ◌∙◌, subst, arith, and_parts, height_of, height_of_reference, type_of, TypedExpression, NumberNode, ValueNode, LocationNode, ListNode, ConversionNode, AssignmentNode, UnaryNode, BinaryNode, CallNode, FunctionNode, ShiftNode, InputNode, TypedReference, PartOf, TypesHold, value, SourceState, Outcome, Gave, Stopped, then_do, Xchg, De, A, D, E, StackDe, StackHl, Registers, State, wrap, LoadPair, ExpressionNumber, Place, IsExpression, Does, at_place, HasRoom, place_at, Facts, Step, copy, set, part_of, Site, is_free, keeps, known, may_exchange, expression, fits_byte, append_assoc, Choices, PairForm, RightKnown, LeftKnown, RightKeeps, LeftKeeps, PairOrder, LeftInHl, RightInHl, any_order, choices_of, form_steps, is_free_byte, left_in_hl, order_of, pair_form, pair_in_order_steps, pair_order_by, right_in_hl, wished_steps, with_byte_steps, with_exchange_steps, with_known_steps, knowing, Context, IsSound, nodes_in, StepsStand, PlainThere, WordThere, PartThere, PartDoes}
 use Rattle.steps8080.specs.declared.step.Task.TheVariants as tasks
 use Rattle.operands8080.specs.{declared.pairs.PairForm.TheVariants.{RightFree, LeftFree, Pushed}, Pairs.{with_stack_steps}}
@@ -16,7 +16,7 @@ pub record HasBoth (first second : ℕ) (r : Registers) : Type 0 where
   pub d : r.d ≡ second / 256
   pub e : r.e ≡ second % 256
 
--- the left value and the right one, where the order tells which of them is in HL
+-- the left value and the right one; the order is which of them is in HL
 abbrev pub HasPair : PairOrder → (left right : ℕ) → Registers → Type 0
 HasPair LeftInHl left right r = HasBoth left right r
 HasPair RightInHl left right r = HasBoth right left r
@@ -60,7 +60,7 @@ low_byte_is a n same small = same
 no_high : (n : ℕ) → n < 256 → 0 ≡ n / 256
 no_high n small = omega (arith, small)
 
--- what follows an outcome may be replaced by what is the same
+-- the rest after an outcome may be replaced by an equal one
 pub same_rest : {A B : Type 0} (outcome : Outcome A) (one other : A → SourceState → Outcome B)
     → ((found : A) (t : SourceState) → one found t ≡ other found t)
     → then_do outcome one ≡ then_do outcome other
@@ -79,7 +79,7 @@ module _ (context : Context) (sound : IsSound context) where
   abbrev pub meant : TypedExpression → SourceState → Outcome ℕ
   meant tree s = value context.later context.activation.around tree s
 
-  -- what is done with two values that are in HL and DE
+  -- the rest for two values in HL and DE
   abbrev pub Continues :
       {B : Type 0} → (more top : ℕ) → (base : List ℕ) → (budget : ℕ) → (others : List Step) → (last : Facts)
       → (to : ℕ)
@@ -170,7 +170,7 @@ module _ (context : Context) (sound : IsSound context) where
         e = then_given.e kept ∙ given.l;
       }))))
 
-  -- the first one into HL, and the second one, a byte whose code changes A alone, into DE
+  -- puts the first one into HL, and the second one, a byte with code that changes only A, into DE
   byte_beside_then :
       {B : Type 0} {more pushed top need to : ℕ} {base : List ℕ} {facts last : Facts}
       {go : ℕ → ℕ → SourceState → Outcome B} {Good : B → SourceState → State → Type 0}
@@ -248,7 +248,7 @@ module _ (context : Context) (sound : IsSound context) where
         e = swap_low now.h now.l m given.h given.l;
       })))))
 
-  -- what a form asks
+  -- the requirement of a form
   abbrev IsAllowed : Facts → (left right : ExpressionNumber) → PairForm → Type 0
   IsAllowed facts left right (RightKnown place) = known (knowing context.site facts) right ≡ Some place
   IsAllowed facts left right (LeftKnown place) = known (knowing context.site facts) left ≡ Some place

@@ -1,4 +1,4 @@
--- AND, OR and XOR of an operand in HL and one whose code leaves HL alone.
+-- AND, OR and XOR of an operand in HL and one with code that does not change HL.
 use Rattle.task_laws.proofs.Prelude.{◌≡◌, ℕ, ◌+◌, ◌*◌, ◌/◌, ◌%◌, ◌<◌, ◌≤◌, max, Bool, true, false, ◌&&◌, List, [], ◌∷◌, Option, Some, None, if◌then◌else◌, refl, sym, ap, ◌∙◌, subst, arith, ScalarType, Address, height_of, type_of, TypedExpression, SourceState, Gave, then_do, values_of, Operation, ExclusiveOr, Or, A, L, Registers, ExpressionNumber, Place, keeps_none, Does, at_place, Arrives, HasRoom, Facts, copy, with_register, Site, is_free, keeps, may_exchange, direct_word, fits_byte, is_word_in_hl, Operands, Simple, knowing, exchanged_operand, first_and_simple, logic_with_byte_steps, logic_with_simple_steps, simple_operand, with_simple, Context, IsSound, StepsStand, PartThere, PartDoes, WordIsGiven}
 use Rattle.exprgen8080.specs.declared.word_operators.Simple.TheVariants as simple
 use Rattle.task_laws.proofs.Bytes.BytesAsked.{WordAtPlace, WordsAtPlaces}
@@ -15,12 +15,12 @@ use Rattle.task_laws.proofs.Machine.SiteNodes.{does_exchanged, value_in}
 use Rattle.task_laws.proofs.Machine.Values.{HasWord, byte_then, word_ends, word_then}
 use Rattle.task_laws.proofs.Words.WordSums.{TwoWords, less_high, one_high}
 
--- what a simple operand is
+-- a simple operand
 pub data IsSimple (site : Site) (of : ExpressionNumber) : Simple → Type 0 where
   IsFreeByte : fits_byte site of ≡ true → is_free site of ≡ true → IsSimple site of (simple.Byte of)
   IsDirectWord : {place : Place} → direct_word site of ≡ Some place → IsSimple site of (simple.Word place)
 
--- a byte that is none of the bits of another one's
+-- OR and XOR with 0 leave a byte as it is
 nothing_more : (operation : Operation) (h : ℕ) → IsEither operation → h < 256 → bits operation h 0 ≡ h
 nothing_more Or h is small = or_none h small
 nothing_more ExclusiveOr h is small = xor_none h small
@@ -112,7 +112,7 @@ simple_then {context = context} {top = top} {need = need} {to = to} {base = base
     read.low read.high read.low_steady read.high_steady (record { h = given.h; l = given.l }) rest
     (record { below = omega (arith, less, fewer); room = room; ready = going_on.ready; known = going_on.known }))))
 
--- which operand comes first, and that the other one is simple
+-- the operand that is evaluated first, and the other one, which is simple
 pub data IsChosen (site : Site) (operands : Operands) : ExpressionNumber × Simple → Type 0 where
   RightIsSimple : {operand : Simple} → IsSimple site operands.right operand → IsChosen site operands (operands.left, operand)
   LeftIsSimple : {operand : Simple} → may_exchange site operands.left operands.right ≡ true
@@ -181,7 +181,7 @@ chosen_fits site operands =
     by None fits (Some other) also = LeftIsSimple also.0 also.1
     by None fits None also = tt
 
--- AND, OR or XOR of which one operand is simple
+-- AND, OR or XOR with one simple operand
 pub with_simple_does :
     {context : Context} {pushed top need to : ℕ} {base : List ℕ} {facts last : Facts}
     {first second : TypedExpression} (operation : Operation) (operands : Operands) (chosen : ExpressionNumber × Simple)

@@ -17,7 +17,7 @@ use Rattle.task_laws.proofs.Places.Products.{product_then}
 use Rattle.task_laws.proofs.Words.Multiples.{products_do}
 use Rattle.task_laws.proofs.Machine.SiteNodes.{known_is}
 
--- what a number at a site is to its node
+-- a number at a site is that of its node
 pub number_same :
     (context : Context) (facts : Facts) (of : ExpressionNumber)
     → number_of (knowing context.site facts) of ≡ number_at (nodes_in context) of
@@ -195,7 +195,7 @@ pub bytes_on : (on_low on_high : Operation) (order : PairOrder) → AreOnRegiste
 bytes_on on_low on_high LeftInHl = (tt, (tt, (tt, (tt, (tt, (tt, tt))))))
 bytes_on on_low on_high RightInHl = (tt, (tt, (tt, (tt, (tt, (tt, tt))))))
 
--- what is asked of a difference whose left operand is a word in memory
+-- the assumption about a difference with a word in memory on the left
 abbrev pub LeftWordDoes : Context → Type 0
 LeftWordDoes context =
     (facts last : Facts) (operands : Operands) (number : ExpressionNumber) (place : Place)

@@ -1,4 +1,4 @@
--- Values in HL of one operand, and straight code.
+-- Values in HL of one operand, and straight-line code.
 use Rattle.task_laws.proofs.Prelude.{◌≡◌, ℕ, ◌+◌, ◌-◌, ◌*◌, ◌/◌, ◌%◌, ◌<◌, ◌≤◌, ◌==◌, Bool, true, false, not, nat_lt, if◌then◌else◌, List, [], ◌∷◌, append-nil, bit_xor, refl, sym, ap, ◌∙◌, subst, arith, xor_self, ltb-true, ltb-false, eqb-true, ScalarType, Byte, Address, UnaryOperator, Not, Negate, height_of, type_of, TypedExpression, value, SourceState, Gave, then_do, result_of_one, values_of, Instr, Cma, Subtract, SubtractWithBorrow, A, H, L, bit, Registers, ExpressionNumber, keeps_none, Does, at_place, Arrives, HasRoom, Facts, Step, Plain, clear_a, copy, high, low, set, with_register, extension_steps, part_of, plain, keeps, taken_from_number_steps, word_unary_steps, Context, IsSound, StepsStand, PartThere, PartDoes, WordIsGiven}
 use Rattle.steps8080.specs.declared.step.Task.TheVariants as tasks
 use Rattle.task_laws.proofs.Machine.Rules.{GoesOn}

@@ -11,7 +11,7 @@ use Rattle.task_laws.proofs.Words.PairedWords.{paired_does, sum_instructions, su
 use Rattle.task_laws.proofs.Words.WordArithmetic.{has_word, word_is}
 use Rattle.task_laws.proofs.Machine.SiteNodes.{known_is, known_means}
 
--- what a node keeps is what the site says
+-- the registers that a node keeps are those at the site
 pub keeps_at_site : (context : Context) (of : ExpressionNumber) → keeps context.site of ≡ keeps_at (nodes_in context) of
 unfolding keeps expression
 keeps_at_site context of = by (Rattle.std.specs.Prelude.slice_get (nodes_in context).expressions of.index)
@@ -25,7 +25,7 @@ keeps_at_site context of = by (Rattle.std.specs.Prelude.slice_get (nodes_in cont
     by (Some node) = refl
     by None = refl
 
--- what another expression keeps
+-- the registers that another expression keeps
 pub kept_as :
     (context : Context) (number other : ExpressionNumber) (r now : Registers)
     → keeps context.site number ≡ keeps_at (nodes_in context) other
@@ -150,7 +150,7 @@ keeps_neither nodes left right none also =
     else if is_some (known_at nodes left) then keeps_at nodes right else keeps_none) none
     ∙ ap (λ found. if is_some found then keeps_at nodes right else keeps_none) also
 
--- what two ADDRESS operands are to an operator
+-- two ADDRESS operands of an operator
 pub record TwoWords
     (context : Context) (operands : Operands) (first second : TypedExpression) : Type 0 where
   pub one : IsOperand context operands.left first

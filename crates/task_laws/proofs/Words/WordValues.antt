@@ -19,7 +19,7 @@ use Rattle.task_laws.proofs.Words.WordArithmetic.{word_below}
 use Rattle.task_laws.proofs.Words.WordRoutines.{word_given_by}
 use Rattle.task_laws.proofs.Words.CarriedWords.{IsCarriedOut}
 
--- what holds at the end of code, in other words
+-- the end of code, with a property in another form
 pub ends_with :
     {A : Type 0} {script : List (List ℕ)} {activation : Activation} {budget top to : ℕ} {base : List ℕ} {from : State}
     {Holds Other : A → Registers → List ℕ → Type 0} (outcome : Outcome A)
@@ -68,7 +68,7 @@ value_carried {context = context} {facts = facts} {last = last} {number = number
 same_given : {A : Type 0} {one other : A} {t u : SourceState} → Gave one t ≡ Gave other u → one ≡ other
 same_given same = cc
 
--- what has a location lies in memory, at the address of its place
+-- a part with a location is in memory, at the address of its place
 based_location :
     (context : Context) (object bytes : ℕ) (is_inside : Bool) (found : TypedObject) (place : Place) (s u : SourceState)
     → IsSound context

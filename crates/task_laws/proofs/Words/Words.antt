@@ -55,7 +55,7 @@ as_small n = omega arith
 same_word : (n : ℕ) → n < 65536 → n ≡ as_type Address n
 same_word n small = omega (arith, small)
 
--- what is kept of what stands inside
+-- the registers that the code of an inner expression keeps
 extended_kept :
     (nodes : Nodes) (outer form : ExpressionForm) (scalar : ScalarType) (traits : Traits)
     → traits ≡ traits_of nodes scalar form
@@ -126,7 +126,7 @@ power_some n count same = ne_eqb n 0 (λ none. not_none (sym same ∙ none))
     not_none : 2 ^ count ≡ 0 → ⊥
     not_none none = let positive : 2 ^ 0 ≤ 2 ^ count = pow-le-pow_right some_bit from_none in omega (arith, none, positive)
 
--- what a division by a power of 2 gives
+-- the result of a division by a power of 2
 quotient_is : (x n count : ℕ) (u : SourceState) → n ≡ 2 ^ count
     → computed (result_of Address operators.Divide x n) u ≡ Gave (x / 2 ^ count) u
 quotient_is x n count u same =
@@ -349,7 +349,7 @@ module _ (context : Context) (sound : IsSound context) (asked : BytesAsked conte
       ap (λ (found : Option Expression). option_map_or (λ (expression : Expression). expression.form) found (forms.Function Double inner))
       (node_of {context = context} {number = inner} sound is).is_there
 
-  -- what is kept of it
+  -- the registers that its operand keeps
   inside_keeps :
       {bound : ℕ} {tree : TypedExpression} (number inner : ExpressionNumber) (outer : ExpressionForm)
       (is : IsExpression (nodes_in context) context.storage bound inner.index tree)
@@ -454,7 +454,7 @@ module _ (context : Context) (sound : IsSound context) (asked : BytesAsked conte
   form_carried (IsShift {scalar = Byte} moved by) types address unknown kept stand = bytes_differ address
   form_carried IsInput types address unknown kept stand = bytes_differ address
 
-  -- what is kept with the node of an expression that is not known
+  -- the traits of the node of an expression that is not known
   node_unknown :
       {number : ExpressionNumber} {tree : TypedExpression} (facts : Facts) (node : NodeOf context number tree)
       → known (knowing context.site facts) number ≡ None

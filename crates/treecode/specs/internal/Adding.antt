@@ -1,4 +1,4 @@
--- What lowering adds to the tables of nodes for an expression, as functions of the tables and of the tree.
+-- The nodes that lowering adds for an expression, as functions of the tables and of the tree.
 use Rattle.std.specs.Prelude.{ℕ, ◌%◌, List, [], ◌∷◌, ◌++◌, length, Option, Some, None}
 use Rattle.trees.specs.declared.declaration.ScalarType.{ScalarType}
 use Rattle.typed_trees.specs.ExpressionTypes.{type_of}
@@ -16,29 +16,29 @@ use Rattle.treecode.specs.Known.{offset_of_list}
 use Rattle.treecode.specs.Nodes.{Nodes}
 use Rattle.treecode.specs.Traits.{expression_of}
 
--- the tables with an expression of a form more, and its number
+-- the tables with one more expression, and its number
 abbrev pub put_expression : ScalarType → Nodes × ExpressionForm → Nodes × ExpressionNumber
 put_expression scalar made = (
   record (made.0) { expressions = (made.0).expressions ++ expression_of (made.0) scalar made.1 ∷ [] },
   record { index = length (made.0).expressions },
 )
 
--- the tables with arguments more, and where they stand
+-- the tables with more arguments, and their range
 abbrev pub put_arguments : Nodes × List ExpressionNumber → Nodes × Range
 put_arguments made = (
   record (made.0) { arguments = (made.0).arguments ++ made.1 },
   record { first = length (made.0).arguments; count = length made.1 },
 )
 
--- what is made of what was added, and the tables
+-- the tables, and a function of the item that was added
 abbrev pub with_item : {W A B : Type 0} → (A → B) → W × A → W × B
 with_item of made = (made.0, of made.1)
 
--- what is made of two things that were added one after the other
+-- the tables, and a function of two items that were added one after the other
 abbrev pub with_both : {W A B C : Type 0} → (A → B → C) → W × A → (W → W × B) → W × C
 with_both of first second = ((second first.0).0, of first.1 (second first.0).1)
 
--- numbers of bytes are taken modulo the size of memory
+-- a part of an object; its offsets are taken modulo the size of memory
 abbrev pub part_of : (object offset : ℕ) → (first second : Option IndexNode) → Reference
 part_of object offset first second = record {
   object = object;
@@ -51,7 +51,7 @@ abbrev pub element_of : (stride : ℕ) → ExpressionNumber → Option IndexNode
 element_of stride number = Some (record { index = number; stride = stride % 65536 })
 
 abbrev mutual
-  -- the parts of an expression are added, and its form
+  -- adds the parts of an expression, and returns its form
   pub form_in : Storage → Nodes → TypedExpression → Nodes × ExpressionForm
   form_in storage nodes (NumberNode scalar number origin) = (nodes, forms.Number number)
   form_in storage nodes (ValueNode scalar reference) =
@@ -97,7 +97,7 @@ abbrev mutual
       with_item (targets.Stored from to) (reference_in storage nodes reference)
   target_in storage nodes (SentTo from port) = (nodes, targets.Sent from port)
 
-  -- the expressions of arguments are added from left to right, and their numbers
+  -- adds the expressions of arguments from left to right, and returns their numbers
   pub numbers_in : Storage → Nodes → TypedArguments → Nodes × List ExpressionNumber
   numbers_in storage nodes NoArguments = (nodes, [])
   numbers_in storage nodes (MoreArguments first others) =
@@ -105,10 +105,10 @@ abbrev mutual
       (put_expression (type_of first) (form_in storage nodes first))
       (λ given. numbers_in storage given others)
 
--- an expression is added after its parts
+-- adds an expression after its parts
 abbrev pub expression_in : Storage → Nodes → TypedExpression → Nodes × ExpressionNumber
 expression_in storage nodes tree = put_expression (type_of tree) (form_in storage nodes tree)
 
--- the arguments of a call are added after their expressions
+-- adds the arguments of a call after their expressions
 abbrev pub arguments_in : Storage → Nodes → TypedArguments → Nodes × Range
 arguments_in storage nodes trees = put_arguments (numbers_in storage nodes trees)

@@ -1,4 +1,4 @@
--- What stands beside the tables of nodes in a module that is being lowered.
+-- The parts of a module that is being lowered beside its tables of nodes.
 use Rattle.std.specs.Prelude.{ℕ, List, Option}
 use Rattle.treecode.specs.declared.lowering.Lowering.{Lowering}
 use Rattle.treecode.specs.declared.module.ExternalName.{ExternalName}
@@ -6,14 +6,14 @@ use Rattle.treecode.specs.declared.procedure.TreeProcedure.{TreeProcedure}
 use Rattle.treecode.specs.Nodes.{Nodes, nodes_of}
 use Rattle.treecode.specs.internal.Walking.{Walk}
 
--- what no statement changes
+-- the parts that no statement changes
 pub record Outside : Type 0 where
   pub name : List ℕ
   pub externals : List ExternalName
   pub procedures : List TreeProcedure
   pub main : TreeProcedure
 
--- what no expression changes
+-- the parts that no expression changes
 pub record Beside : Type 0 where
   pub labels : List (Option ℕ)
   pub label_count : ℕ

@@ -1,4 +1,4 @@
--- Procedures under whose headings it is put what stands in them.
+-- Procedures with headings that are completed with their bodies.
 use Rattle.std.specs.Prelude.{◌≡◌, ℕ, ◌<◌, List, length, Some, slice_get, slice_set, All}
 use Rattle.std.specs.Option.{option_map_or}
 use Rattle.typed_trees.specs.Jumps.{BodyIsSound}
@@ -14,7 +14,7 @@ use Rattle.treecode.specs.internal.Beside.{Outside}
 use Rattle.treecode.specs.internal.Sound.{Leads}
 use Rattle.treecode.specs.internal.Walking.{Walk, begun, list_in}
 
--- a procedure with what stands in it
+-- a procedure with its body
 abbrev pub completed : TreeProcedure → Body → TreeProcedure
 completed procedure body = record procedure {
   parameters = body.parameters;
@@ -24,7 +24,7 @@ completed procedure body = record procedure {
   height = body.height;
 }
 
--- what stands in a procedure was added
+-- the body of a procedure was added
 pub record IsBody (storage : Storage) (before after : Walk) (body : Body) (tree : TypedProcedure) : Type 0 where
   pub added : list_in storage (begun before) tree.body
       ≡ (after, record { range = body.range; reaches_its_end = body.reaches_its_end })
@@ -32,7 +32,7 @@ pub record IsBody (storage : Storage) (before after : Walk) (body : Body) (tree 
   pub label_count : body.label_count ≡ after.label_count
   pub height : body.height ≡ after.height
 
--- what a heading tells of a procedure
+-- the parts of a procedure that come from its heading are the same
 pub record SameHeading (old now : TreeProcedure) : Type 0 where
   pub kind : now.kind ≡ old.kind
   pub result : now.result ≡ old.result
@@ -44,7 +44,7 @@ pub record HasHeading (procedures : List TreeProcedure) (number : ℕ) (now : Tr
   pub at : slice_get procedures number ≡ Some old
   pub same : SameHeading old now
 
--- the first so many procedures of a module are complete
+-- the first `done` procedures of a module are complete
 pub record AreComplete (storage : Storage) (first now : Walk) (before after : Outside)
     (headings : List TypedProcedure) (done : ℕ) : Type 0 where
   pub leads : Leads first.nodes now.nodes
@@ -70,7 +70,7 @@ pub record MainIsComplete (storage : Storage) (first now : Walk) (before after :
 abbrev pub BodiesAreSound : List TypedProcedure → Type 0
 BodiesAreSound procedures = All (λ (procedure : TypedProcedure). BodyIsSound procedure.body) procedures
 
--- what stands in a procedure is put under its heading, if there is one of that number
+-- the procedure with this number, if any, is completed with its body
 abbrev pub with_body : Outside → (number : ℕ) → Body → Outside
 with_body before number body = record before {
   procedures = option_map_or
@@ -81,7 +81,7 @@ with_body before number body = record before {
 abbrev pub with_main : Outside → Body → Outside
 with_main before body = record before { main = completed before.main body }
 
--- what stands in the procedures and at the outer level of a module was added to its tables
+-- the bodies of the procedures and of the main program were added to the tables of a module
 pub record BodiesAreAdded (typed : TypedModule) (storage : Storage) (before after : TreeModule) : Type 0 where
   pub leads : Leads (nodes_of before) (nodes_of after)
   pub name : after.name ≡ before.name

@@ -24,7 +24,7 @@ gathered_view externals = record {
 abbrev pub none_gathered : Gathered
 none_gathered = record { names = []; objects = []; procedures = [] }
 
--- an object, or a procedure, with its name if it is EXTERNAL
+-- adds an object, or a procedure, with its name if it is EXTERNAL
 abbrev pub with_external_object : Gathered → (number : ℕ) → Option ExternalName → Gathered
 with_external_object before number None = before
 with_external_object before number (Some name) = record before {

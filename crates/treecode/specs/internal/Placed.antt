@@ -18,7 +18,7 @@ use Rattle.treecode.specs.Homes.{external_place, frame_variables, home_after, ki
 use Rattle.treecode.specs.Nodes.{home_at}
 use Rattle.treecode.specs.internal.Numbers.{number_in, with_number}
 
--- what a heading tells of a procedure, and what its frame holds
+-- the heading of a procedure, and the contents of its frame
 pub record Heading : Type 0 where
   pub kind : ProcedureKind
   pub result : Option ScalarType
@@ -36,7 +36,7 @@ heading_of procedure = record {
 abbrev pub headings_of : TreeModule → List Heading
 headings_of tree = map heading_of tree.procedures.items
 
--- a procedure of a number with nothing in its frame, where EXTERNAL ones have these indices among the names
+-- a procedure with this number and an empty frame, from the indices of EXTERNAL procedures among the names
 abbrev pub heading_in : (externals : List (Option ℕ)) → (number : ℕ) → TypedProcedure → Heading
 heading_in externals number procedure = record {
   kind = kind_with (number_in externals number) procedure.visibility procedure.is_reentrant;
@@ -45,7 +45,7 @@ heading_in externals number procedure = record {
   frame_bytes = procedure.frame_bytes;
 }
 
--- what the module says of a procedure of a number
+-- the heading of the procedure with this number, according to the module
 abbrev pub heading_at : TypedModule → (number : ℕ) → TypedProcedure → Heading
 heading_at typed number procedure = record {
   kind = kind_of typed number procedure;
@@ -59,13 +59,13 @@ HeadingsAre typed headings =
     (number : ℕ)
     → slice_get headings number ≡ option_map (heading_at typed number) (slice_get typed.procedures number)
 
--- procedures, of which the first one has a number
+-- the headings of procedures, from the number of the first one
 abbrev pub headings_in : (externals : List (Option ℕ)) → (first : ℕ) → List TypedProcedure → List Heading
 headings_in externals first [] = []
 headings_in externals first (procedure ∷ others) =
     heading_in externals first procedure ∷ headings_in externals (suc first) others
 
--- which parameters objects are, of which the first one has an index, after those that are known
+-- parameter indices extended by those of objects, from the index of the first one
 abbrev pub with_parameters : List (Option ℕ) → (index : ℕ) → (objects : List ℕ) → List (Option ℕ)
 with_parameters entries index [] = entries
 with_parameters entries index (object ∷ others) =
@@ -86,18 +86,18 @@ variable_of object parameter = record {
 abbrev pub with_variable : FrameVariable → Heading → Heading
 with_variable variable heading = record heading { frame = heading.frame ++ variable ∷ [] }
 
--- a variable is added to the frame of a procedure, if there is one of that number
+-- adds a variable to the frame of the procedure with this number, if any
 abbrev pub with_variable_in : List Heading → (procedure : ℕ) → FrameVariable → List Heading
 with_variable_in headings procedure variable =
     option_map_or (λ (heading : Heading). slice_set headings procedure (with_variable variable heading))
     (slice_get headings procedure) headings
 
--- the number that the next variable has in the frame of a procedure
+-- the number of the next variable in the frame of a procedure
 abbrev pub variable_number : List Heading → (procedure : ℕ) → ℕ
 variable_number headings procedure =
     option_map_or (λ (heading : Heading). min (length heading.frame) 65535) (slice_get headings procedure) 0
 
--- where the objects before one begin, and the procedures with what their frames hold
+-- the homes of the objects so far, and the procedures with the contents of their frames
 pub record PlacedSoFar : Type 0 where
   pub homes : List Home
   pub headings : List Heading
@@ -105,12 +105,12 @@ pub record PlacedSoFar : Type 0 where
 abbrev pub placed_in : TreeModule → PlacedSoFar
 placed_in tree = record { homes = tree.homes.items; headings = headings_of tree }
 
--- where AT puts an object
+-- the home of an object with AT
 abbrev pub home_at_address : (before : List Home) → AtAddress → Home
 home_at_address before (AtNumber address) = homes.Static (Number address)
 home_at_address before (AtObject object offset) = home_after (home_at before object) offset
 
--- where an object of a number begins, where EXTERNAL ones have these indices among the names
+-- the home of an object with this number, from the indices of EXTERNAL objects among the names
 abbrev pub home_in : (externals : List (Option ℕ)) → Storage → PlacedSoFar → (number : ℕ) → TypedHome → Home
 home_in externals storage before number (InData values) =
     homes.Static (place_of_slot (slice_index_or storage.objects number None))
@@ -123,12 +123,12 @@ home_in externals storage before number Nowhere = homes.Static (Number 0)
 home_in externals storage before number (InFrame procedure) =
     homes.Frame (variable_number before.headings procedure)
 
--- the procedures after an object, which may live in the frame of one
+-- the procedures after an object, which may be in the frame of one
 abbrev pub headings_after : List Heading → FrameVariable → TypedHome → List Heading
 headings_after before variable (InFrame procedure) = with_variable_in before procedure variable
 headings_after before variable home = before
 
--- an object of a number is placed
+-- places the object with this number
 abbrev pub with_placed :
     (externals parameters : List (Option ℕ)) → Storage → PlacedSoFar → (number : ℕ) → TypedObject
     → PlacedSoFar
@@ -137,7 +137,7 @@ with_placed externals parameters storage before number object = record {
   headings = headings_after before.headings (variable_of object (number_in parameters number)) object.home;
 }
 
--- objects are placed, of which the first one has a number
+-- places objects, from the number of the first one
 abbrev pub all_placed :
     (externals parameters : List (Option ℕ)) → Storage → PlacedSoFar → (number : ℕ) → List TypedObject
     → PlacedSoFar

@@ -1,4 +1,4 @@
--- Numbers rise along the tree: the parts of each expression have lower numbers than itself.
+-- Numbers rise along the tree: each part of an expression has a lower number than the whole.
 use Rattle.std.specs.Prelude.{◌≡◌, ℕ, ◌+◌, ◌<◌, Option, Some, None, slice_get}
 use Rattle.treecode.specs.declared.expression.Expression.{Expression}
 use Rattle.treecode.specs.declared.expression.ExpressionForm.{ExpressionForm}
@@ -24,7 +24,7 @@ abbrev pub TargetIsBelow : (bound : ℕ) → Target → Type 0
 TargetIsBelow bound (targets.Stored from to reference) = ReferenceIsBelow bound reference
 TargetIsBelow bound (targets.Sent from port) = Unit {0}
 
--- each of so many arguments in a row stands in the table, and has a number below a bound
+-- each argument of a range is in the table, and has a number below a bound
 abbrev pub ArgumentsAreBelow : Nodes → (bound : ℕ) → Range → Type 0
 ArgumentsAreBelow nodes bound range =
     (index : ℕ) → index < range.count

@@ -1,16 +1,16 @@
--- Nodes that are sound, and nodes that stand after others.
+-- Sound nodes, and nodes that extend others.
 use Rattle.std.specs.Prelude.{◌≡◌, ◌≤◌, length}
 use Rattle.treecode.specs.Nodes.{Nodes}
 use Rattle.treecode.specs.Traits.{KeepTraits}
 use Rattle.treecode.specs.internal.Growth.{Grows}
 use Rattle.treecode.specs.internal.Rising.{NumbersRise}
 
--- nodes keep their traits, and their numbers rise
+-- the traits of nodes follow from their parts, and their numbers rise
 pub record AreSound (nodes : Nodes) : Type 0 where
   pub keeps : KeepTraits nodes
   pub rises : NumbersRise nodes
 
--- other nodes stand after those that there were, and all are sound
+-- new nodes come after the old ones, and all are sound
 pub record Leads (before after : Nodes) : Type 0 where
   pub grows : Grows before after
   pub statements : length before.statements ≤ length after.statements

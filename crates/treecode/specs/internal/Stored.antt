@@ -1,4 +1,4 @@
--- Expressions as a module keeps them.
+-- The compact form in which a module stores expressions.
 use Rattle.std.specs.Prelude.{true, false, if◌then◌else◌, Option, Some, None}
 use Rattle.treecode.specs.declared.expression.ExpressionForm.{ExpressionForm}
 use Rattle.treecode.specs.declared.expression.ExpressionForm.TheVariants as forms
@@ -29,7 +29,7 @@ reference_of reference = record {
   member_subscript = subscript_of reference.member_subscript;
 }
 
--- what an expression is
+-- the form of an expression
 abbrev pub form_of : StoredForm → ExpressionForm
 form_of (stored.Number number) = forms.Number number
 form_of (stored.Value reference) = forms.Value (reference_of reference)
@@ -52,7 +52,7 @@ keeps_in kept.OnlyA = record { a = true; de = false }
 keeps_in kept.OnlyDe = record { a = false; de = true }
 keeps_in kept.Both = record { a = true; de = true }
 
--- what is known of an expression
+-- the traits of an expression
 abbrev pub traits_in : StoredTraits → Traits
 traits_in traits = record {
   known = if traits.is_known then Some traits.known else None;

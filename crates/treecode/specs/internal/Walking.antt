@@ -1,4 +1,4 @@
--- What lowering adds for the statements of a body, as functions of what there is and of the tree.
+-- The nodes that lowering adds for the statements of a body, as functions of the tables and of the tree.
 use Rattle.std.specs.Prelude.{ℕ, zero, suc, ◌+◌, min, max, Bool, true, false, ◌||◌, List, [], ◌∷◌, ◌++◌, length, Option, Some, None, unwrap_or}
 use Rattle.typed_trees.specs.TypedTrees.{TypedExpression, TypedTarget, TypedArguments, TypedIteration, TypedStatement, LabelStatement, NullStatement, AssignmentStatement, CallStatement, MoveStatement, ReturnStatement, HaltStatement, GotoStatement, IfStatement, DoStatement, WhileStatement, IterateStatement, CaseStatement, TypedElse, NoElse, ElseStatement, TypedStatements, NoStatements, MoreStatements, TypedList, ListOf}
 use Rattle.layout.specs.Storage.{Storage}
@@ -17,8 +17,8 @@ use Rattle.treecode.specs.Traits.{height_at, height_of_call, height_of_target, n
 use Rattle.treecode.specs.internal.Adding.{arguments_in, expression_in, target_in, with_both, with_item}
 use Rattle.treecode.specs.internal.Numbers.{number_in, with_number}
 
--- A body that is being lowered: the tables of nodes, the number in the body of each label, by its number in the
--- module, how many labels the body has so far, and its greatest height so far.
+-- A body that is being lowered: the tables of nodes, the number in the body of each label (by its number in
+-- the module), the number of labels so far, and the greatest height so far.
 pub record Walk : Type 0 where
   pub nodes : Nodes
   pub labels : List (Option ℕ)
@@ -29,25 +29,25 @@ pub record Walk : Type 0 where
 abbrev pub label_in : Walk → (label : ℕ) → ℕ
 label_in walk label = unwrap_or (number_in walk.labels label) 0
 
--- the next number is that of a label
+-- gives the next number to a label
 abbrev pub with_label : Walk → (label : ℕ) → Walk
 with_label walk label =
     record walk { labels = with_number walk.labels label walk.label_count; label_count = suc walk.label_count }
 
--- the next numbers are those of so many labels, from a first one on
+-- gives the next numbers to `count` labels, from a first one on
 abbrev pub numbered : Walk → (first count : ℕ) → Walk
 numbered walk first zero = walk
 numbered walk first (suc count) = numbered (with_label walk first) (suc first) count
 
--- a body begins
+-- begins a body
 abbrev pub begun : Walk → Walk
 begun walk = record walk { label_count = 0; height = 0 }
 
--- something of a height stands in the body
+-- notes the height of an expression, a target or a call in the body
 abbrev pub noted : Walk → (height : ℕ) → Walk
 noted walk height = record walk { height = max walk.height height }
 
--- an expression is added, and its height noted
+-- adds an expression, and notes its height
 abbrev pub value_with : Walk → Nodes × ExpressionNumber → Walk × ExpressionNumber
 value_with walk made = (noted (record walk { nodes = made.0 }) (height_at made.0 made.1), made.1)
 
@@ -58,14 +58,14 @@ abbrev pub optional_in : Storage → Walk → Option TypedExpression → Walk ×
 optional_in storage walk None = (walk, None)
 optional_in storage walk (Some tree) = with_item Some (value_in storage walk tree)
 
--- a statement is added, after its parts
+-- adds a statement, after its parts
 abbrev pub put_statement : Walk → Statement → (ends : Bool) → Walk × AddedStatement
 put_statement walk statement ends = (
   record walk { nodes = record (walk.nodes) { statements = (walk.nodes).statements ++ statement ∷ [] } },
   record { number = record { index = length (walk.nodes).statements }; reaches_its_end = ends },
 )
 
--- the parts of targets are added from left to right, and the height of each is noted
+-- adds the parts of targets from left to right, and notes the height of each
 abbrev pub goal_with : Walk → Nodes × Target → Walk × Target
 goal_with walk made = (noted (record walk { nodes = made.0 }) (height_of_target made.0 made.1), made.1)
 
@@ -90,7 +90,7 @@ assigned_in storage walk trees tree =
     let range = targets_in storage value.0 trees in
     put_statement range.0 (statements.Assignment range.1 value.1) true
 
--- the arguments of a call are added, and its height is noted
+-- adds the arguments of a call, and notes its height
 abbrev pub call_with : Walk → (procedure : ℕ) → Nodes × Range → Walk × AddedStatement
 call_with walk procedure made =
     put_statement (noted (record walk { nodes = made.0 }) (height_of_call made.0 made.1))
@@ -118,7 +118,7 @@ returned_in storage walk tree =
     let value = optional_in storage walk tree in
     put_statement value.0 (statements.Return value.1) false
 
--- the expressions of the head of an iterative DO are added
+-- adds the expressions of the head of an iterative DO
 abbrev pub iteration_in : Storage → Walk → TypedIteration → Walk × Iteration
 iteration_in storage walk head =
     let first = value_in storage (noted walk 1) head.first in
@@ -134,7 +134,7 @@ iteration_in storage walk head =
       },
     )
 
--- the numbers of statements that are added, and whether the end of the last one can be reached
+-- the numbers of statements that were added, and whether the end of the last one can be reached
 pub record Items : Type 0 where
   pub numbers : List StatementNumber
   pub reaches_its_end : Bool
@@ -142,7 +142,7 @@ pub record Items : Type 0 where
 abbrev pub items_after : List StatementNumber → Items → Items
 items_after before items = record items { numbers = before ++ items.numbers }
 
--- a list of statements is added
+-- adds a list of statements
 abbrev pub put_list : Walk × Items → Walk × AddedList
 put_list made = (
   record (made.0) { nodes = record ((made.0).nodes) { lists = ((made.0).nodes).lists ++ (made.1).numbers } },
@@ -156,7 +156,7 @@ abbrev pub number_of_added : Option AddedStatement → Option StatementNumber
 number_of_added None = None
 number_of_added (Some added) = Some added.number
 
--- the end of IF can be reached where that of one of its two statements can
+-- the end of IF can be reached if that of one of its two statements can
 abbrev pub either_ends : Bool → Option AddedStatement → Bool
 either_ends ends None = true
 either_ends ends (Some added) = ends || added.reaches_its_end
@@ -209,7 +209,7 @@ abbrev mutual
   else_in storage walk NoElse = (walk, None)
   else_in storage walk (ElseStatement tree) = with_item Some (statement_in storage walk tree)
 
-  -- statements are added one after another; where there are none, the end can be reached as is given
+  -- adds statements one after another; without statements, `ends` is whether their end can be reached
   pub items_in : Storage → Walk → (ends : Bool) → TypedStatements → Walk × Items
   items_in storage walk ends NoStatements = (walk, record { numbers = []; reaches_its_end = ends })
   items_in storage walk ends (MoreStatements first others) =
@@ -217,11 +217,11 @@ abbrev mutual
       (items_in storage (statement_in storage walk first).0 (statement_in storage walk first).1.reaches_its_end
       others)
 
-  -- the labels of a list are numbered, and then its statements are added
+  -- numbers the labels of a list, and then adds its statements
   pub list_in : Storage → Walk → TypedList → Walk × AddedList
   list_in storage walk (ListOf first places trees) =
       put_list (items_in storage (numbered walk first (length places)) true trees)
 
--- statements in a row are added
+-- adds statements in a row
 abbrev pub statements_in : Storage → Walk → TypedStatements → Walk × AddedList
 statements_in storage walk trees = put_list (items_in storage walk true trees)

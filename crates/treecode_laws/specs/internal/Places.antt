@@ -1,4 +1,4 @@
--- Places and contents of tree code as locations and bytes of a module that has no place in memory yet.
+-- Places and contents of tree code, as locations and bytes of a module that is not placed in memory yet.
 use Rattle.std.specs.Prelude.{ℕ, ◌<◌, List, [], ◌∷◌, flat_map, replicate, None, slice_get}
 use Rattle.std.specs.List.{AllByRecursion}
 use Rattle.std.specs.Option.{option_map_or}
@@ -11,11 +11,11 @@ use Rattle.treecode.specs.declared.module.ExternalName.{ExternalName as External
 use Rattle.treecode.specs.declared.place.Place.{Place}
 use Rattle.treecode.specs.declared.place.Place.TheVariants as places
 
--- the EXTERNAL name of an index; an empty one where there is none
+-- the EXTERNAL name at an index; an empty one if there is none
 abbrev pub name_at : List External → (index : ℕ) → List ℕ
 name_at names index = option_map_or (λ (external : External). external.name) (slice_get names index) []
 
--- where a place lies, in a module with these EXTERNAL names
+-- the location of a place, in a module with these EXTERNAL names
 abbrev pub location_of_place : List External → Place → Location
 location_of_place names (places.Number number) = Absolute number
 location_of_place names (places.Code offset) = After (SegmentStart segments.Code) offset
@@ -28,11 +28,11 @@ places_of_content names (Byte byte) = places_of_bytes (byte ∷ [])
 places_of_content names (Word place) = places_of_location (location_of_place names place)
 places_of_content names (Gap count) = replicate count None
 
--- and of contents one after another
+-- the bytes of contents, one after another
 abbrev pub places_of_contents : List External → List Content → Places
 places_of_contents names contents = flat_map (places_of_content names) contents
 
--- an object whose place does not depend on what runs: it is neither BASED nor in a frame
+-- an object with a place that is known before the run: it is neither BASED nor in a frame
 abbrev pub IsStatic : Home → Type 0
 IsStatic (BasedOn base) = ⊥
 IsStatic (InFrame procedure) = ⊥
@@ -48,6 +48,6 @@ abbrev pub KeepsWord : Content → Type 0
 KeepsWord (Word (places.Number number)) = number < 65536
 KeepsWord content = Unit {0}
 
--- and so is each
+-- the same for each of the contents
 abbrev pub KeepWords : List Content → Type 0
 KeepWords list = AllByRecursion KeepsWord list

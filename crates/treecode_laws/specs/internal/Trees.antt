@@ -1,4 +1,4 @@
--- Which expressions change nothing, and which store nothing, as functions of typed trees.
+-- Expressions that change nothing, and expressions that store nothing, as functions of typed trees.
 use Rattle.std.specs.Prelude.{Bool, true, false, ◌&&◌}
 use Rattle.typed_trees.specs.TypedTrees.{TypedExpression, NumberNode, ValueNode, LocationNode, ListNode, ConversionNode, AssignmentNode, UnaryNode, BinaryNode, CallNode, FunctionNode, ShiftNode, InputNode, TypedReference, PartOf, Subscript, NoSubscript, At}
 
@@ -18,12 +18,12 @@ abbrev mutual
   is_quiet (ShiftNode scalar function value count) = is_quiet value && is_quiet count
   is_quiet (InputNode port) = false
 
-  -- the same of the subscripts of a part of an object
+  -- the same for the subscripts of a part of an object
   pub part_is_quiet : TypedReference → Bool
   part_is_quiet (PartOf object subscript member offset member_subscript) =
       index_is_quiet subscript && index_is_quiet member_subscript
 
-  -- the same of a subscript, if there is one
+  -- the same for a subscript, if there is one
   pub index_is_quiet : Subscript → Bool
   index_is_quiet NoSubscript = true
   index_is_quiet (At stride count index) = is_quiet index
@@ -44,12 +44,12 @@ abbrev mutual
   stores_nothing (ShiftNode scalar function value count) = stores_nothing value && stores_nothing count
   stores_nothing (InputNode port) = true
 
-  -- the same of the subscripts of a part of an object
+  -- the same for the subscripts of a part of an object
   pub part_stores_nothing : TypedReference → Bool
   part_stores_nothing (PartOf object subscript member offset member_subscript) =
       index_stores_nothing subscript && index_stores_nothing member_subscript
 
-  -- the same of a subscript, if there is one
+  -- the same for a subscript, if there is one
   pub index_stores_nothing : Subscript → Bool
   index_stores_nothing NoSubscript = true
   index_stores_nothing (At stride count index) = stores_nothing index

@@ -1,4 +1,4 @@
--- How far the code has come with the scalars of an object, and what it has filled them with.
+-- The scalars of an object that the code has still to fill, and the values so far.
 use Rattle.std.specs.Prelude.{ℕ, List, [], ◌∷◌, ◌++◌, map, replicate, drop, flat_map, Option, Some, None, Ok, ◌≡◌, nat_lt}
 use Rattle.trees.specs.declared.declaration.ScalarType.{ScalarType}
 use Rattle.typed_trees.specs.declared.parts.InitialValue.{InitialValue}
@@ -57,14 +57,14 @@ abbrev pub first_of : List ScalarType → Option ScalarType
 first_of [] = None
 first_of (scalar ∷ others) = Some scalar
 
--- what is filled, and what is left to be
+-- the values so far, and the scalars that are left to fill
 abbrev pub filled_view : ObjectType → Filling → Filled
 filled_view object_type filling = record {
   values = filling.values.items;
   left = left_of object_type filling.scalars;
 }
 
--- what is filled by more values, which come after those that were there
+-- the values that are filled, after those that were there before
 abbrev pub onto : List InitialValue → Checked Filled → Checked Filled
 onto before checked =
     checked >>= (λ (filled : Filled). Ok (record filled { values = before ++ filled.values }))

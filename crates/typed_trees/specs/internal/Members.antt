@@ -11,7 +11,7 @@ member_of entry = record { name = entry.0; dimension = entry.1.dimension; scalar
 abbrev pub members_of : List (List ℕ × Entry) → List TypedMember
 members_of entries = map member_of entries
 
--- entries that begin one after another, the first of them at a place; what begins further on than a u32 has its greatest
+-- entries that begin one after another, the first of them at a place; an offset past the greatest u32 becomes that number
 abbrev pub IsLaidOut : (at : ℕ) → List (List ℕ × Entry) → Type 0
 IsLaidOut at [] = Unit {0}
 IsLaidOut at (entry ∷ others) =

@@ -43,6 +43,6 @@ abbrev pub statements_before : List Statement → TypedStatements → TypedState
 statements_before [] rest = rest
 statements_before (first ∷ others) rest = MoreStatements (statement_view first) (statements_before others rest)
 
--- statements, with what is known after them, after others
+-- statements, with the state after them, after others
 abbrev pub statements_after : {S : Type 0} → List Statement → TypedStatements × S → TypedStatements × S
 statements_after made rest = (statements_before made rest.0, rest.1)

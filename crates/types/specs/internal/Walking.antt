@@ -78,7 +78,7 @@ abbrev pub procedure_closed :
 procedure_closed heading declared number parameters body progress =
     Ok (close_procedure heading declared number parameters body progress)
 
--- what stands in a procedure of a number: the objects of its parameters, and what it does
+-- the inside of a procedure, by its number: the objects of its parameters, and its statements
 abbrev pub inside_of :
     Block → HeadingTree → DeclarationTrees → StatementTrees → Progress
     → Checked ((List ℕ × TypedList) × Progress)
@@ -100,7 +100,7 @@ procedure_inside number procedure =
 abbrev pub inside_view : Inside → List ℕ × TypedList
 inside_view inside = (inside.parameters.items, list_view inside.body)
 
--- what a module declares and does
+-- the declarations and the statements of a module
 abbrev pub module_body : DeclarationTrees → StatementTrees → Progress → Checked (TypedList × Progress)
 module_body declared body progress = do
   within ← declarations module_block declared progress
@@ -129,7 +129,7 @@ heading_opened block heading before = do
   _ ← check_reentrant heading.linkage heading.reentrant
   Ok here
 
--- the parameters of a heading, whose body they begin, and what goes with its attributes
+-- the parameters of a heading, at the start of the body, and the checks of its attributes
 abbrev pub parameters_opened : Block → HeadingTree → Here → Checked Here
 parameters_opened block heading before = do
   here ← declare_parameters (take PARAMETER_LIMIT heading.parameters) (into_body before)

@@ -12,7 +12,7 @@ use Rattle.typing.specs.Checks.{Checked, ◌>>=◌, refuse}
 use Rattle.typing.specs.Typing.{typing_of}
 use Rattle.typing.specs.internal.Samples.{on_line, name_on, number_on, string_on, a_number, plain, at_subscript, value_of, scalar_item, unlabelled, assigns, statements_of, module_of, doing}
 
--- what the main program of a module does
+-- the statements of the main program of a module
 abbrev pub main_of : ModuleTree → Checked TypedList
 main_of tree = typing_of tree >>= (λ (typed : TypedModule). Ok typed.main.body)
 
@@ -92,7 +92,7 @@ pub loop :
 unfolding typing_of built_in_of
 loop = refl
 
--- A = V: an array without a subscript is no value
+-- A = V: an array without a subscript has no value
 pub array_as_value :
     main_of (doing (assigns (plain 3 (codes "A") ∷ []) (value_of (plain 3 (codes "V"))) ∷ []))
     ≡ refuse WrongUse 3

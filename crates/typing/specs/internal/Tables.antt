@@ -1,4 +1,4 @@
--- What the tables of a module hold, as against what is known at a place of its text.
+-- The tables of a module, compared with what is known at a place of its text.
 use Rattle.std.specs.Prelude.{◌≡◌, ℕ, List, [], Some, unwrap_or, slice_get}
 use Rattle.names.specs.declared.entity.Entity.TheVariants.{Object, Procedure}
 use Rattle.names.specs.Environment.{entity_of}
@@ -6,7 +6,7 @@ use Rattle.typed_trees.specs.TypedTrees.{TypedObject, TypedProcedure, TypedModul
 use Rattle.typing.specs.References.{Known, members_of}
 use Rattle.typing.specs.Untyped.{object_name, procedure_name, members_of_object}
 
--- what is known at a place says of objects what the tables at the end of the module say
+-- objects that are known at a place are those of the tables at the end of the module
 abbrev pub AgreesOnObjects : TypedModule → Known → Type 0
 AgreesOnObjects tables known =
     (name : List ℕ) (number : ℕ) (object : TypedObject)
@@ -26,7 +26,7 @@ AgreesOnProcedures tables known =
 abbrev pub Agrees : TypedModule → Known → Type 0
 Agrees tables known = AgreesOnObjects tables known × AgreesOnProcedures tables known
 
--- constants go on from others: each constant list keeps its number
+-- constants that continue others: each constant list keeps its number
 abbrev pub Grows : Constants → Constants → Type 0
 Grows before after =
     (number : ℕ) (bytes : List ℕ)

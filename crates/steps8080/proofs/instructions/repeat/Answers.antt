@@ -2,7 +2,7 @@ use Rattle.steps8080.proofs.Prelude.{◌≡◌, ℕ, ◌+◌, ◌-◌, suc, ◌<
 use Rattle.steps8080.specs.declared.step.Step.{Step}
 use Rattle.steps8080.proofs.instructions.repeat.Goals as goal
 
--- one step more, of which so many are to be added
+-- one more step of those that remain
 one_more :
     (made now total : List Step) (step : Step) (count done : ℕ)
     → made ++ replicate (count - done) step ≡ total

@@ -1,7 +1,7 @@
 use Rattle.steps8080.proofs.Prelude.{◌≡◌, ℕ, ◌+◌, ◌*◌, ◌-◌, ◌<◌, ◌%◌, ◌^◌, suc, arith, ap, sym, ◌∙◌, pow_below, false, Option, Some, ◌==◌, if◌then◌else◌, not_equal, power_from}
 use Rattle.steps8080.proofs.sites.widths.power_of_two.Goals as goal
 
--- a power that a number is not is passed over
+-- a power that is not the number is passed over
 passed :
     (count others power number : ℕ) (total : Option ℕ)
     → count ≡ suc others
@@ -13,7 +13,7 @@ passed count others power number total more differs given =
     ∙ sym (ap (λ left. power_from left power number) more)
     ∙ given
 
--- one is shifted within a word
+-- 1 shifted within a word
 shifted_one : (power : ℕ) → power < 16 → (1 * 2 ^ power) % 65536 ≡ 2 ^ power
 shifted_one power some = within (2 ^ power) (pow_below power 16 some)
   where
