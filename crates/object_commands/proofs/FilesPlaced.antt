@@ -1,5 +1,5 @@
 -- Object files that are read and placed.
-use Rattle.object_commands.proofs.Prelude.{◌≡◌, ℕ, List, Option, None, Some, inl, inr, refl, subst, Appends, Keeps, AppendsBeginning, Directory, HasFile, Absolute, IsPlaced, plan_view, ObjectModule, Spells, PlacesFile, PrintsHex, PrintsPlaces, StopsHex, StopsPlaces, places_text}
+use Rattle.object_commands.proofs.Prelude.{◌≡◌, ◌⊎◌, ℕ, List, Option, None, Some, inl, inr, refl, subst, Appends, Keeps, AppendsBeginning, Directory, HasFile, Absolute, IsPlaced, plan_view, ObjectModule, Spells, PlacesFile, PrintsHex, PrintsPlaces, StopsHex, StopsPlaces, jump_refusal, pieces_with, places_text}
 use Rattle.hex80.specs.Texts.{BeginsText, WritesText}
 use Rattle.mem80.specs.declared.plan.Plan.{Plan}
 
@@ -7,9 +7,10 @@ pub placed : (files : Option Directory) (name bytes : List ℕ) (plan : Plan) (o
     → IsPlaced (plan_view plan) object absolute → PlacesFile files name plan object absolute
 placed files name bytes plan object absolute read spelled is = record { bytes = bytes; read = read; spelled = spelled; placed = is }
 
-pub prints_hex : (files : Option Directory) (name : List ℕ) (plan : Plan) (object : ObjectModule) (absolute : Absolute) (old new : Option (List ℕ))
-    → PlacesFile files name plan object absolute → WritesText absolute.pieces old new → PrintsHex files name plan old new
-prints_hex files name plan object absolute old new of_file printed = record { object = object; absolute = absolute; of_file = of_file; printed = printed }
+pub prints_hex : (files : Option Directory) (name : List ℕ) (plan : Plan) (jump : Option ℕ) (object : ObjectModule) (absolute : Absolute) (old new : Option (List ℕ))
+    → PlacesFile files name plan object absolute → jump_refusal plan object jump ≡ None → WritesText (pieces_with jump absolute) old new → PrintsHex files name plan jump old new
+prints_hex files name plan jump object absolute old new of_file room printed =
+    record { object = object; absolute = absolute; of_file = of_file; room = room; printed = printed }
 
 -- a writer that nothing was sent to
 stays_written : (known : Option (List ℕ)) → Keeps known known
@@ -19,12 +20,15 @@ stays_written (Some bytes) = refl
 pub no_places : (files : Option Directory) (name : List ℕ) (plan : Plan) (known : Option (List ℕ)) → StopsPlaces files name plan known known
 no_places files name plan known = inl (stays_written known)
 
-pub no_hex : (files : Option Directory) (name : List ℕ) (plan : Plan) (known : Option (List ℕ)) → StopsHex files name plan known known
-no_hex files name plan known = inl (stays_written known)
+pub no_hex : (files : Option Directory) (name : List ℕ) (plan : Plan) (jump : Option ℕ) (known : Option (List ℕ)) → StopsHex files name plan jump known known
+no_hex files name plan jump known = inl (stays_written known)
 
-pub begins_hex : (files : Option Directory) (name : List ℕ) (plan : Plan) (object : ObjectModule) (absolute : Absolute) (old new : Option (List ℕ))
-    → PlacesFile files name plan object absolute → BeginsText absolute.pieces old new → StopsHex files name plan old new
-begins_hex files name plan object absolute old new of_file printed = inr (record { object = object; absolute = absolute; of_file = of_file; printed = printed })
+pub stops_hex : (files : Option Directory) (name : List ℕ) (plan : Plan) (jump : Option ℕ) (object : ObjectModule) (absolute : Absolute) (old new : Option (List ℕ))
+    → PlacesFile files name plan object absolute → jump_refusal plan object jump ≡ None → Keeps old new ⊎ BeginsText (pieces_with jump absolute) old new
+    → StopsHex files name plan jump old new
+stops_hex files name plan jump object absolute old new of_file room (inl kept) = inl kept
+stops_hex files name plan jump object absolute old new of_file room (inr printed) =
+    inr (record { object = object; absolute = absolute; of_file = of_file; room = room; printed = printed })
 
 pub prints_places : (files : Option Directory) (name : List ℕ) (plan : Plan) (object : ObjectModule) (absolute : Absolute) (lines : List ℕ) (old new : Option (List ℕ))
     → PlacesFile files name plan object absolute → lines ≡ places_text plan object absolute → Appends old new lines → PrintsPlaces files name plan old new

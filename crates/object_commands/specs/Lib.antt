@@ -5,5 +5,6 @@ pub use Rattle.hex80.specs.Texts
 pub use Rattle.link.specs.Streams
 pub use Rattle.locate.specs.Locating
 pub mod Linking
+pub mod Merging
 pub mod Placing
 pub mod internal

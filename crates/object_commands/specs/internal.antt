@@ -1,2 +1,3 @@
 -- What only private functions and proofs cite.
+pub mod Merges
 pub mod Rooms

@@ -1,12 +1,15 @@
 //! The commands that carry out orders on object files, over files and output streams that are handed in.
 #![tactic(auto)]
 
+mod jumps;
 mod linking;
+mod merges;
 mod places;
 mod placing;
 mod refusals;
 mod writing_files;
 
 pub use linking::link_files;
+pub use merges::place_merge;
 pub use placing::{print_hex, print_places};
 pub use writing_files::write_file;

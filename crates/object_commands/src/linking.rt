@@ -1,8 +1,11 @@
 //! Object files that are linked.
 
 ghost use Rattle.std.specs.Prelude.{◌≡◌, ◌⊎◌, [], ◌∷◌, ◌++◌, IfOk, map};
-ghost use Rattle.host.specs.Refusals.{TellsOther, TellsRefusal};
+ghost use Rattle.host.specs.Refusals.{Tells, TellsOther, TellsRefusal};
+ghost use Rattle.link_laws.specs.Faults.{refusal_of};
 ghost use Rattle.object_commands.specs.Linking.{KeepsOthers, LinksFiles, MergesTo, StopsLinking};
+ghost use Rattle.object_commands.specs.Merging.{file_at};
+ghost use Rattle.object_commands.specs.internal.Merges.{merge_line, refused_line};
 
 use crate::refusals::{refuse_link_at, refuse_object};
 use crate::writing_files::write_file;
@@ -54,8 +57,8 @@ pub fn link_files<F: Files, E: Write>(
     }
 }
 
-// The bytes of texts.
-fn slices_of(alloc: Global, texts: &[Vec<u8>]) -> Result<Vec<&[u8]>, AllocError>
+/// The bytes of texts.
+pub(crate) fn slices_of(alloc: Global, texts: &[Vec<u8>]) -> Result<Vec<&[u8]>, AllocError>
     ensures { IfOk result (λ slices.
         map (λ slice. slice.now) slices.items ≡ map (λ text. text.items) texts.now) }
 {
@@ -82,10 +85,12 @@ fn merge(alloc: Global, texts: &[Vec<u8>]) -> Result<Vec<u8>, Failure<StreamFaul
     }
 }
 
-// Prints why object files have no merge: the file that is no object file, the name that is there twice or not at all, or
-// a dash.
-fn refuse_merge<E: Write>(fault: &StreamFault, objects: &[&str], err: &mut E) -> Ending
+/// Prints why object files have no merge: the file that is no object file, the name that is there twice or not at all, or
+/// a dash.
+pub(crate) fn refuse_merge<E: Write>(fault: &StreamFault, objects: &[&str], err: &mut E) -> Ending
     ensures ending { result ≡ Ending.Refused }
+    ensures line { Tells (merge_line (map (λ name. name.now) objects.now) fault.now)
+        (E.contents err.old) (E.contents err.new) }
     ensures told { TellsOther (E.contents err.old) (E.contents err.new) }
 {
     match fault {
@@ -96,7 +101,9 @@ fn refuse_merge<E: Write>(fault: &StreamFault, objects: &[&str], err: &mut E) ->
 }
 
 // The name of the file of this number, or a dash.
-fn name_at<'a>(objects: &[&'a str], number: usize) -> &'a str {
+fn name_at<'a>(objects: &[&'a str], number: usize) -> &'a str
+    ensures { result.now ≡ file_at (map (λ name. name.now) objects.now) number }
+{
     match objects.get(number) {
         Some(name) => *name,
         None => "-",
@@ -106,6 +113,7 @@ fn name_at<'a>(objects: &[&'a str], number: usize) -> &'a str {
 // Prints why modules have no merge.
 fn refuse_link<E: Write>(fault: &LinkFault, err: &mut E) -> Ending
     ensures ending { result ≡ Ending.Refused }
+    ensures line { Tells (refused_line (refusal_of fault.now)) (E.contents err.old) (E.contents err.new) }
     ensures told { TellsOther (E.contents err.old) (E.contents err.new) }
 {
     match fault {

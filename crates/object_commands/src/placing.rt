@@ -1,13 +1,17 @@
 //! Object files that are placed in memory.
 
 ghost use Rattle.std.specs.Prelude.{◌≡◌, ◌⊎◌, ◌∷◌, [], IfErr, IfOk, OnErr, OnOk};
+ghost use Rattle.std.specs.Io.KnownBytes.{Keeps};
 ghost use Rattle.host.specs.Files.{KeepsFiles};
 ghost use Rattle.host.specs.Refusals.{TellsRefusal};
-ghost use Rattle.object_commands.specs.Placing.{PlacesFile, PrintsHex, PrintsPlaces, StopsHex, StopsPlaces};
+ghost use Rattle.hex80.specs.Texts.{BeginsText, WritesText};
+ghost use Rattle.object_commands.specs.Placing.{PlacesFile, PrintsHex, PrintsPlaces, StopsHex, StopsPlaces, pieces_with};
+ghost use Rattle.object_commands.specs.internal.Rooms.{LeavesRoom};
 
+use crate::jumps::{pieces_with_jump, refusal_of_jump};
 use crate::places::lines_of;
 use crate::refusals::{refuse_object, refuse_place};
-use failure::{Failure, write_bytes};
+use failure::{Failure, WriteFault, write_bytes};
 use hex80::write_hex;
 use host::{Ending, Files, refuse_file, refuse_memory, refuse_output};
 use locate::{Absolute, locate};
@@ -105,20 +109,43 @@ pub fn print_places<F: Files, O: Write, E: Write>(
     }
 }
 
-/// Places an object file by a plan, and prints its bytes as Intel HEX. After a write that failed a beginning of that was
-/// printed, and after any other refusal nothing.
+// Writes the bytes of an object that is placed as Intel HEX, with a jump to its start where one is wanted.
+fn write_placed<O: Write>(
+    alloc: Global,
+    absolute: &Absolute,
+    jump: Option<u16>,
+    out: &mut O,
+) -> Result<(), Failure<WriteFault>>
+    requires { LeavesRoom jump absolute.now }
+    ensures ok { OnOk result
+        (WritesText (pieces_with jump absolute.now) (O.contents out.old) (O.contents out.new)) }
+    ensures err { OnErr result (Keeps (O.contents out.old) (O.contents out.new)
+        ⊎ BeginsText (pieces_with jump absolute.now) (O.contents out.old) (O.contents out.new)) }
+{
+    match jump {
+        None => write_hex(alloc, absolute.pieces(), out),
+        Some(address) => {
+            let pieces = pieces_with_jump(alloc, absolute, address)?;
+            write_hex(alloc, pieces.as_slice(), out)
+        }
+    }
+}
+
+/// Places an object file by a plan, and prints its bytes as Intel HEX, with those of a jump to its start at an address
+/// where one is wanted. After a write that failed a beginning of that was printed, and after any other refusal nothing.
 pub fn print_hex<F: Files, O: Write, E: Write>(
     alloc: Global,
     file: &str,
     plan: &Plan,
+    jump: Option<u16>,
     files: &mut F,
     out: &mut O,
     err: &mut E,
 ) -> Ending
     ensures kept { KeepsFiles (F.files files.old) (F.files files.new) }
-    ensures printed { result ≡ Ending.Done → PrintsHex (F.files files.old) file.now plan.now
+    ensures printed { result ≡ Ending.Done → PrintsHex (F.files files.old) file.now plan.now jump
         (O.contents out.old) (O.contents out.new) }
-    ensures refused { (result ≡ Ending.Done → ⊥) → StopsHex (F.files files.old) file.now plan.now
+    ensures refused { (result ≡ Ending.Done → ⊥) → StopsHex (F.files files.old) file.now plan.now jump
         (O.contents out.old) (O.contents out.new) }
     ensures ending { (result ≡ Ending.Done) ⊎ (result ≡ Ending.Refused) }
     ensures told { result ≡ Ending.Refused → TellsRefusal (F.files files.old) (file.now ∷ [])
@@ -130,7 +157,11 @@ pub fn print_hex<F: Files, O: Write, E: Write>(
         Ok(placed) => placed,
         Err(ending) => return ending,
     };
-    let written = write_hex(alloc, placed.absolute.pieces(), out);
+    if let Some(fault) = refusal_of_jump(&placed.object, plan, jump) {
+        drop(placed);
+        return refuse_place(&fault, err);
+    }
+    let written = write_placed(alloc, &placed.absolute, jump, out);
     drop(placed);
     match written {
         Ok(()) => Ending::Done,
