@@ -100,6 +100,30 @@ pub fn return_if<M: MachineMemory>(
     }
 }
 
+/// A return at the end of a line, which ends so many bytes after the program counter: goes on at the address on top of
+/// the stack, or after the instruction.
+#[inline(always)]
+pub fn return_after<M: MachineMemory>(
+    condition: bool,
+    distance: u16,
+    pc: &mut u16,
+    registers: &mut MachineRegisters,
+    memory: &M,
+)
+    ensures place { pc.new
+        ≡ (if condition then word_at (M.bytes memory.now) registers.old.sp else wrap (pc.old + distance)) }
+    ensures registers { registers.new
+        ≡ (if condition
+        then record registers.old { sp = wrap (registers.old.sp + 2) }
+        else registers.old) }
+{
+    if condition {
+        *pc = pop(registers, memory);
+    } else {
+        *pc = pc.wrapping_add(distance);
+    }
+}
+
 /// CALL and RST: puts the program counter on the stack, for the return, and goes on at an address.
 #[inline(always)]
 pub fn call<M: MachineMemory>(
