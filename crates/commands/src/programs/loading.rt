@@ -1,6 +1,6 @@
 //! Sources and inputs of a command.
 
-ghost use Rattle.std.specs.Prelude.{◌≡◌, ◌<◌, [], IfOk, length, map, slice_index};
+ghost use Rattle.std.specs.Prelude.{◌≡◌, ◌<◌, ℕ, [], IfOk, length, map, slice_index};
 ghost use Rattle.mem80.specs.Pieces.{IsLoaded};
 ghost use Rattle.mem80.specs.declared.memory.TheConstants.{MEMORY_SIZE};
 ghost use Rattle.command_line.specs.Settings.{values_in};
