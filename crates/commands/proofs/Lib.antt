@@ -12,6 +12,7 @@ pub mod Names
 pub mod Refused
 pub mod Printed
 pub mod Untold
+pub mod Executed
 pub mod NeedsPrinted
 pub mod NeedRefused
 pub mod NeedLemmas

@@ -1,5 +1,5 @@
 -- What was printed of programs, and why not.
-use Rattle.commands.proofs.Prelude.{◌≡◌, ℕ, List, [], ◌∷◌, Ok, None, Option, Some, inl, inr, sym, subst, ◌∙◌, Directory, status_of, TellsRefusal, Ending, Refused, WrongLine, CompileWanted, PlaceWanted, ProgramWanted, Wanted, wants_compile, Values, only_file, plan_read, values_read, Plan, RefusesCompiling, RunsOut, PrintsFiles, PrintsProgram, RefusesAsWanted, RefusesByWords, RefusesPlaced, RunsAsWanted, RunsByWords, StopsPlaced}
+use Rattle.commands.proofs.Prelude.{◌≡◌, ℕ, List, [], ◌∷◌, Ok, None, Option, Some, inl, inr, sym, subst, ◌∙◌, Directory, status_of, TellsRefusal, Ending, Refused, WrongLine, CompileWanted, PlaceWanted, ProgramWanted, Wanted, wants_compile, Values, jump_read, only_file, plan_read, values_read, Plan, RefusesCompiling, RunsOut, PrintsFiles, PrintsProgram, RefusesAsWanted, RefusesByWords, RefusesPlaced, RunsAsWanted, RunsByWords, StopsPlaced}
 use Rattle.commands.proofs.Printed.{stays_written}
 use Rattle.commands.proofs.OrdersKept.{not_refused, not_wrong}
 
@@ -8,12 +8,12 @@ pub prints_program : (files : Option Directory) (wanted : ProgramWanted) (values
     → PrintsFiles wanted values files status old new → PrintsProgram wanted files status old new
 prints_program files wanted values status old new written printed = record { values = values; written = written; printed = printed }
 
--- the one file and the plan are values, and what was printed of the file stops
-pub refuses_placed : (place : PlaceWanted) (name : List ℕ) (plan : Plan) (files : Option Directory) (before after : ℕ) (old new out now : Option (List ℕ)) → only_file place.files ≡ Ok name
-    → plan_read place.plan ≡ Ok plan → TellsRefusal files (name ∷ []) before after old new → StopsPlaced place.action files name plan out now
-    → RefusesPlaced place files before after old new out now
-refuses_placed place name plan files before after old new out now only planned told printed =
-    record { name = name; plan = plan; only = only; planned = planned; told = told; printed = printed }
+-- the one file, the plan and the jump are values, and what was printed of the file stops
+pub refuses_placed : (place : PlaceWanted) (name : List ℕ) (plan : Plan) (jump : Option ℕ) (files : Option Directory) (before after : ℕ) (old new out now : Option (List ℕ))
+    → only_file place.files ≡ Ok name → plan_read place.plan ≡ Ok plan → jump_read place.jump ≡ Ok jump → TellsRefusal files (name ∷ []) before after old new
+    → StopsPlaced place.action files name plan jump out now → RefusesPlaced place files before after old new out now
+refuses_placed place name plan jump files before after old new out now only planned jumping told printed =
+    record { name = name; plan = plan; jump = jump; only = only; planned = planned; jumping = jumping; told = told; printed = printed }
 
 -- compiling prints nothing
 pub refuses_compile : (compile : CompileWanted) (files : Option Directory) (before after : ℕ) (old new out : Option (List ℕ)) → RefusesCompiling compile files before after old new

@@ -1,5 +1,5 @@
 -- Texts of the command line that are refused.
-use Rattle.commands.proofs.Prelude.{◌≡◌, ◌⊎◌, ℕ, List, Err, Ok, Option, Some, codes, inl, inr, refl, subst, arith, Kinds, kind_of, DisplayHelp, DisplayVersion, status_of, Tells, refusal_line, Ending, Done, Refused, WrongLine, Limit, Stopped, Outside, IsFaultOf, PlaceWanted, Wanted, wants_place, Read, ◌>>=◌, only_file, plan_read, LineFault, Help, Version, Wrong, Plan, AsksHelpAtMost, RefusesNoText, TellsText, TellsTextByWords, IsWrong}
+use Rattle.commands.proofs.Prelude.{◌≡◌, ◌⊎◌, ℕ, List, Err, Ok, Option, Some, codes, inl, inr, refl, subst, arith, Kinds, kind_of, DisplayHelp, DisplayVersion, status_of, Tells, refusal_line, Ending, Done, Refused, WrongLine, Limit, Stopped, Outside, IsFaultOf, PlaceWanted, Wanted, wants_place, Read, ◌>>=◌, jump_read, only_file, plan_read, LineFault, Help, Version, Wrong, Plan, AsksHelpAtMost, RefusesNoText, TellsText, TellsTextByWords, IsWrong}
 
 pub text_by_words : (found : Option Wanted) (wanted : Wanted) (old new : Option (List ℕ)) → found ≡ Some wanted → TellsText wanted old new → TellsTextByWords found old new
 text_by_words found wanted old new e told = rw e told
@@ -24,21 +24,29 @@ pub done_or_refused : (ending : Ending) → (ending ≡ Done) ⊎ (ending ≡ Re
 done_or_refused ending (inl done) wrong = cc
 done_or_refused ending (inr refused) wrong = cc
 
--- a text of the plan, and a second file once the plan was read
-plan_first : (read : Read Plan) (files : List (List ℕ)) (text : List ℕ) → read ≡ Err text → (read >>= (λ plan. only_file files)) ≡ Err text
-plan_first read files text e = rw e refl
-
-file_next : (read : Read Plan) (plan : Plan) (files : List (List ℕ)) (text : List ℕ) → read ≡ Ok plan → only_file files ≡ Err text → (read >>= (λ plan. only_file files)) ≡ Err text
-file_next read plan files text e second = rw e second
-
+-- a text of the plan, that of a jump once the plan was read, and a second file after both
 pub tells_plan : (place : PlaceWanted) (text : List ℕ) (old new : Option (List ℕ)) → plan_read place.plan ≡ Err text → Tells (refusal_line (codes "U4") text 0) old new
     → TellsText (wants_place place) old new
-tells_plan place text old new refused told = record { text = text; refused = plan_first (plan_read place.plan) place.files text refused; told = told }
+tells_plan place text old new refused told = record { text = text; refused = plan_first (plan_read place.plan) refused; told = told }
+  where
+    plan_first : (read : Read Plan) → read ≡ Err text → (read >>= (λ plan. jump_read place.jump >>= (λ jump. only_file place.files))) ≡ Err text
+    plan_first read e = rw e refl
 
-pub tells_second : (place : PlaceWanted) (plan : Plan) (text : List ℕ) (old new : Option (List ℕ)) → plan_read place.plan ≡ Ok plan → only_file place.files ≡ Err text
+pub tells_jump : (place : PlaceWanted) (plan : Plan) (text : List ℕ) (old new : Option (List ℕ)) → plan_read place.plan ≡ Ok plan → jump_read place.jump ≡ Err text
     → Tells (refusal_line (codes "U4") text 0) old new → TellsText (wants_place place) old new
-tells_second place plan text old new planned second told =
-    record { text = text; refused = file_next (plan_read place.plan) plan place.files text planned second; told = told }
+tells_jump place plan text old new planned refused told = record { text = text; refused = jump_next (plan_read place.plan) (jump_read place.jump) planned refused; told = told }
+  where
+    jump_next : (read : Read Plan) (jumping : Read (Option ℕ)) → read ≡ Ok plan → jumping ≡ Err text → (read >>= (λ plan. jumping >>= (λ jump. only_file place.files))) ≡ Err text
+    jump_next read jumping e f = rw (e, f) refl
+
+pub tells_second : (place : PlaceWanted) (plan : Plan) (jump : Option ℕ) (text : List ℕ) (old new : Option (List ℕ)) → plan_read place.plan ≡ Ok plan → jump_read place.jump ≡ Ok jump
+    → only_file place.files ≡ Err text → Tells (refusal_line (codes "U4") text 0) old new → TellsText (wants_place place) old new
+tells_second place plan jump text old new planned jumping second told =
+    record { text = text; refused = file_next (plan_read place.plan) (jump_read place.jump) (only_file place.files) planned jumping second; told = told }
+  where
+    file_next : (read : Read Plan) (jumps : Read (Option ℕ)) (only : Read (List ℕ)) → read ≡ Ok plan → jumps ≡ Ok jump → only ≡ Err text
+        → (read >>= (λ plan. jumps >>= (λ jump. only))) ≡ Err text
+    file_next read jumps only e f g = rw (e, f, g) refl
 
 pub wrong_is : (ending : Ending) → status_of ending ≡ 2 → ending ≡ WrongLine
 wrong_is Done e = absurd (omega arith)

@@ -6,14 +6,16 @@ use Rattle.clap.specs.declared.error.ErrorKind.{ErrorKind}
 use Rattle.clap.specs.declared.error.ErrorKind.TheVariants.{DisplayHelp, DisplayVersion}
 use Rattle.host.specs.Files.{Directory, KeepsFiles}
 use Rattle.host.specs.Refusals.{Tells, TellsRefusal, refusal_line}
-use Rattle.command_line.specs.Command.{NeedWanted, PlaceWanted, Wanted, wants_compile, wants_link, wants_need}
+use Rattle.command_line.specs.Command.{NeedWanted, PlaceWanted, Wanted, wants_compile, wants_execute, wants_link}
+use Rattle.command_line.specs.Command.{wants_need}
 use Rattle.command_line.specs.Command.{wants_place, wants_program}
-use Rattle.command_line.specs.Settings.{Read, ◌>>=◌, jump_read, only_file, plan_read, values_read}
+use Rattle.command_line.specs.Settings.{Read, ◌>>=◌, execute_read, jump_read, only_file, plan_read, values_read}
 use Rattle.command_line.specs.declared.orders.PlaceAction.{PlaceAction}
 use Rattle.command_line.specs.declared.orders.PlaceAction.TheVariants.{Locate, Hex}
 use Rattle.object_commands.specs.Linking.{KeepsOthers, LinksFiles, StopsLinking}
 use Rattle.object_commands.specs.Placing.{PrintsHex, PrintsPlaces, StopsHex, StopsPlaces}
 use Rattle.commands.specs.Compiling.{CompilesFile, StopsCompiling}
+use Rattle.commands.specs.Executing.{PrintsExecution, RefusesExecution}
 use Rattle.commands.specs.Refusing.{RefusesCompiling, RefusesFor, RefusesProgram, RunsOut}
 use Rattle.commands.specs.Running.{PrintsProgram}
 use Rattle.commands.specs.Needing.{PrintsNeedOf, RefusesNeedOf}
@@ -26,6 +28,7 @@ ChangesAsWanted (wants_link link) old new = KeepsOthers old new link.out
 ChangesAsWanted (wants_program program) old new = KeepsFiles old new
 ChangesAsWanted (wants_place place) old new = KeepsFiles old new
 ChangesAsWanted (wants_need need) old new = KeepsFiles old new
+ChangesAsWanted (wants_execute execute) old new = KeepsFiles old new
 
 -- the objects that an order to link names are merged in its file, and the source of an order to compile is
 -- compiled to its object
@@ -35,6 +38,7 @@ WritesAsWanted (wants_link link) old new = LinksFiles old new link.objects link.
 WritesAsWanted (wants_program program) old new = Unit {0}
 WritesAsWanted (wants_place place) old new = Unit {0}
 WritesAsWanted (wants_need need) old new = Unit {0}
+WritesAsWanted (wants_execute execute) old new = Unit {0}
 
 -- where an order is not carried out, no file changes, but that of an order to compile or to link may have a
 -- beginning of its object
@@ -44,6 +48,7 @@ StopsAsWanted (wants_link link) old new = StopsLinking old new link.objects link
 StopsAsWanted (wants_program program) old new = KeepsFiles old new
 StopsAsWanted (wants_place place) old new = KeepsFiles old new
 StopsAsWanted (wants_need need) old new = KeepsFiles old new
+StopsAsWanted (wants_execute execute) old new = KeepsFiles old new
 
 -- what a command on an object file prints of the file of this name, placed by this plan, where a jump may be wanted
 abbrev pub PrintsPlaced :
@@ -78,22 +83,24 @@ pub record PrintsNeedWanted (need : NeedWanted) (files : Option Directory)
   pub printed : PrintsNeedOf files need.files old new
 
 -- what an order on an object file prints, and one that tells a need; one to compile or to link prints nothing.
--- What one to run or to interpret prints is said below
+-- What one to run sources or objects or to interpret prints is said below
 abbrev pub PrintsAsWanted : Wanted → Option Directory → (old new : Option (List ℕ)) → Type 0
 PrintsAsWanted (wants_place place) files old new = PrintsWanted place files old new
 PrintsAsWanted (wants_need need) files old new = PrintsNeedWanted need files old new
 PrintsAsWanted (wants_compile compile) files old new = Keeps old new
 PrintsAsWanted (wants_link link) files old new = Keeps old new
 PrintsAsWanted (wants_program program) files old new = Unit {0}
+PrintsAsWanted (wants_execute execute) files old new = Unit {0}
 
--- what an order to run or to interpret sources prints where it is not refused, and the status that it ends
--- with; any other order ends with status 0 then
+-- what an order to run or to interpret sources, or to run objects, prints where it is not refused, and the status
+-- that it ends with; any other order ends with status 0 then
 abbrev pub RunsAsWanted : Wanted → Option Directory → (status : ℕ) → (old new : Option (List ℕ)) → Type 0
 RunsAsWanted (wants_program program) files status old new = PrintsProgram program files status old new
 RunsAsWanted (wants_compile compile) files status old new = status ≡ 0
 RunsAsWanted (wants_link link) files status old new = status ≡ 0
 RunsAsWanted (wants_place place) files status old new = status ≡ 0
 RunsAsWanted (wants_need need) files status old new = status ≡ 0
+RunsAsWanted (wants_execute execute) files status old new = PrintsExecution execute files status old new
 
 -- Why an order on an object file is refused. Its plan is one, its jump has an address, and it has one file. What is told is the line of
 -- that file, where its failure was counted, or that of another fault, of which no cause is said. Nothing was
@@ -131,6 +138,8 @@ RefusesAsWanted (wants_place place) files before after err_old err_new out_old o
     RefusesPlaced place files before after err_old err_new out_old out_new
 RefusesAsWanted (wants_need need) files before after err_old err_new out_old out_new =
     RefusesNeed need files before after err_old err_new out_old out_new
+RefusesAsWanted (wants_execute execute) files before after err_old err_new out_old out_new =
+    RefusesExecution execute files before after err_old err_new out_old out_new
 
 -- the files that an order reads, in their order, and then the one that it writes
 abbrev pub names_of : Wanted → List (List ℕ)
@@ -139,6 +148,7 @@ names_of (wants_program program) = program.files
 names_of (wants_link link) = link.objects ++ link.out ∷ []
 names_of (wants_place place) = place.files
 names_of (wants_need need) = need.files
+names_of (wants_execute execute) = execute.objects
 
 -- the same of what words want; those that give no order change no file
 abbrev pub ChangesByWords : Option Wanted → Option Directory → Option Directory → Type 0
@@ -193,6 +203,7 @@ RefusesText (wants_place place) text = file_read place ≡ Err text
 RefusesText (wants_need need) text = plan_read need.plan ≡ Err text
 RefusesText (wants_compile compile) text = ⊥
 RefusesText (wants_link link) text = ⊥
+RefusesText (wants_execute execute) text = execute_read execute ≡ Err text
 
 -- the line of a text that is refused was printed, or a beginning of it, which may be nothing
 pub record TellsText (wanted : Wanted) (old new : Option (List ℕ)) : Type 0 where

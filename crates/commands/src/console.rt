@@ -12,6 +12,7 @@ ghost use Rattle.commands.specs.Running.{PrintsProgram};
 ghost use Rattle.commands.specs.Orders.{AsksHelpAtMost, ChangesAsWanted, ChangesByWords, PrintsAsWanted, PrintsByWords, PrintsWanted, RefusesAsWanted, RefusesByWords, RefusesNoText, RefusesPlaced, RunsAsWanted, RunsByWords, StopsAsWanted, StopsByWords, TellsText, TellsTextByWords, WritesAsWanted, WritesByWords, names_by_words, names_of};
 ghost use Rattle.commands.specs.internal.LineFaults.{IsWrong};
 
+use crate::executing::execute_objects;
 use crate::needing::tell_need;
 use crate::programs::{carry_out_sources, compile_file};
 use crate::refusals::refuse_value;
@@ -181,11 +182,12 @@ fn carry_out<F: Files, O: Write, E: Write>(
         Order::Link(link) => link_files(alloc, link.objects.as_slice(), link.out, files, err),
         Order::Place(place) => carry_out_place(alloc, place, files, out, err),
         Order::Need(need) => tell_need(alloc, need, files, out, err),
+        Order::Execute(execute) => execute_objects(alloc, execute, files, out, err),
     }
 }
 
 // Carries out an order on an object file, once the values of its options are known.
-#[tactic(auto, using(host::proofs::FilesRead::stays, crate::proofs::OrdersKept::told_of_only, crate::proofs::TextsTold::done_or_refused, crate::proofs::TextsTold::tells_plan, crate::proofs::TextsTold::tells_second, crate::proofs::NeedTold::is_done, crate::proofs::NeedTold::refused_not_done, crate::proofs::ProgramsTold::refuses_placed))]
+#[tactic(auto, using(host::proofs::FilesRead::stays, crate::proofs::OrdersKept::told_of_only, crate::proofs::TextsTold::done_or_refused, crate::proofs::TextsTold::tells_plan, crate::proofs::TextsTold::tells_jump, crate::proofs::TextsTold::tells_second, crate::proofs::NeedTold::is_done, crate::proofs::NeedTold::refused_not_done, crate::proofs::ProgramsTold::refuses_placed))]
 fn carry_out_place<F: Files, O: Write, E: Write>(
     alloc: Global,
     order: &PlaceOrder,
@@ -215,13 +217,17 @@ fn carry_out_place<F: Files, O: Write, E: Write>(
         Ok(plan) => plan,
         Err(fault) => return refuse_value(&fault, err),
     };
+    let jump = match order.jump() {
+        Ok(jump) => jump,
+        Err(fault) => return refuse_value(&fault, err),
+    };
     let file = match order.file() {
         Ok(file) => file,
         Err(fault) => return refuse_value(&fault, err),
     };
     match order.action {
         PlaceAction::Locate => print_places(alloc, file, &plan, files, out, err),
-        PlaceAction::Hex => print_hex(alloc, file, &plan, files, out, err),
+        PlaceAction::Hex => print_hex(alloc, file, &plan, jump, files, out, err),
     }
 }
 

@@ -2,6 +2,7 @@
 #![tactic(auto)]
 
 mod console;
+mod executing;
 mod needing;
 mod needs;
 mod printed_needs;

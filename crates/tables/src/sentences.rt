@@ -222,6 +222,20 @@ impl Help {
         }
     }
 
+    // The faults of a merge that is placed: it has a start, and no external name is left.
+    fn seek_placed_merge(&mut self, name: Name) {
+        self.seek_merge(name);
+        let places = [
+            LocateFault::SegmentsMeet,
+            LocateFault::PassesMemory,
+            LocateFault::HighByteBroken,
+            LocateFault::PageBroken,
+        ];
+        for fault in &places {
+            self.seek(fault.number(), fault);
+        }
+    }
+
     // The faults of files and memory.
     fn seek_files(&mut self) {
         self.seek(FileFault.number(), &FileFault);
@@ -311,6 +325,15 @@ fn print_hex(page: &mut Page) {
     help.print(page, "hex");
 }
 
+// The help of the command that runs objects.
+fn print_execute(page: &mut Page, name: Name) {
+    let mut help = Help::of(page.alloc(), &["plm", "execute", "--help"]);
+    help.seek_placed_merge(name);
+    help.seek_files();
+    help.seek_value();
+    help.print(page, "execute");
+}
+
 /// Prints for the help of each command how many lines of faults it is to have, and how many of them it lacks.
 pub fn print_sentences(page: &mut Page) {
     let Some(name) = Name::from_text(b"X") else {
@@ -324,4 +347,5 @@ pub fn print_sentences(page: &mut Page) {
     print_link(page, name);
     print_locate(page, name);
     print_hex(page);
+    print_execute(page, name);
 }

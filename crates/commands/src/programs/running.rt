@@ -121,8 +121,8 @@ fn print_image<O: Write>(
     Ok(end)
 }
 
-// How a command ends whose run ended so.
-fn ending_of(end: End) -> Ending
+/// How a command ends whose run ended so.
+pub(crate) fn ending_of(end: End) -> Ending
     ensures refused { result ≡ Ending.Refused → ⊥ }
     ensures not_wrong { result ≡ Ending.WrongLine → ⊥ }
     ensures status { status_of result ≡ end_status end }

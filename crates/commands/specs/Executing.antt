@@ -1,0 +1,82 @@
+-- What is printed of objects that are run, and why they are not.
+use Rattle.std.specs.Prelude.{◌≡◌, ◌⊎◌, ℕ, List, [], Ok, Option}
+use Rattle.std.specs.Io.KnownBytes.{Keeps}
+use Rattle.mem80.specs.Memory.{zeros}
+use Rattle.host.specs.Files.{Directory}
+use Rattle.cpu8080.specs.Machine.{Machine}
+use Rattle.cpu8080.specs.declared.machine.End.{End}
+use Rattle.printing.specs.Printing.{BeginsRun, PrintsRun}
+use Rattle.locate.specs.Locating.{Absolute}
+use Rattle.tool.specs.Execution.{started}
+use Rattle.command_line.specs.Command.{ExecuteWanted}
+use Rattle.command_line.specs.Settings.{ExecuteValues, execute_read}
+use Rattle.object_commands.specs.Merging.{PlacesMerge, RefusesPlacing}
+use Rattle.commands.specs.Refusing.{RunsOut, TellsUnwritten}
+use Rattle.commands.specs.Running.{GivesInput, end_status}
+
+-- what an image does on a memory of zeros, with this input and this limit, was printed
+pub record PrintsImage (values : ExecuteValues) (image : Absolute) (status : ℕ)
+    (old new : Option (List ℕ)) : Type 0 where
+  pub script : List (List ℕ)
+  pub gives : GivesInput values.input script
+  pub end : End
+  pub machine : Machine
+  pub run : PrintsRun values.limit (started image zeros script [] 0) end machine old new
+  pub ended : status ≡ end_status end
+
+-- a beginning of that was printed
+pub record BeginsImage (values : ExecuteValues) (image : Absolute) (old new : Option (List ℕ)) : Type 0 where
+  pub script : List (List ℕ)
+  pub gives : GivesInput values.input script
+  pub begun : BeginsRun values.limit (started image zeros script [] 0) old new
+
+-- nothing was printed, or a beginning of that
+abbrev pub StopsImage : ExecuteValues → Absolute → (old new : Option (List ℕ)) → Type 0
+StopsImage values image old new = Keeps old new ⊎ BeginsImage values image old new
+
+-- the merge of the objects that are wanted, placed by the plan of these values, was run, and this was printed
+pub record PrintsMerge (wanted : ExecuteWanted) (values : ExecuteValues) (files : Option Directory) (status : ℕ)
+    (old new : Option (List ℕ)) : Type 0 where
+  pub image : Absolute
+  pub placed : PlacesMerge files wanted.objects values.plan image
+  pub printed : PrintsImage values image status old new
+
+-- the same with the values that are written
+pub record PrintsExecution (wanted : ExecuteWanted) (files : Option Directory) (status : ℕ)
+    (old new : Option (List ℕ)) : Type 0 where
+  pub values : ExecuteValues
+  pub written : execute_read wanted ≡ Ok values
+  pub printed : PrintsMerge wanted values files status old new
+
+-- The merge of the objects was placed, and then memory ran out or standard output was not written. What was printed by
+-- then is a beginning of what is printed of that merge, which may be nothing or all.
+pub record StopsMerge (wanted : ExecuteWanted) (values : ExecuteValues) (files : Option Directory)
+    (err_old err_new out_old out_new : Option (List ℕ)) : Type 0 where
+  pub image : Absolute
+  pub placed : PlacesMerge files wanted.objects values.plan image
+  pub told : TellsUnwritten err_old err_new
+  pub printed : StopsImage values image out_old out_new
+
+-- Why objects were not run with these values: their merge was not placed, with nothing printed; or it was placed, with
+-- no failure counted.
+unfoldable pub RefusesObjects :
+    ExecuteWanted → ExecuteValues → (files : Option Directory) → (before after : ℕ)
+    → (err_old err_new out_old out_new : Option (List ℕ)) → Type 0
+RefusesObjects wanted values files before after err_old err_new out_old out_new =
+    (Keeps out_old out_new × RefusesPlacing files wanted.objects values.plan before after err_old err_new)
+    ⊎ ((after ≡ before) × StopsMerge wanted values files err_old err_new out_old out_new)
+
+-- the same with the values that are written
+pub record RefusesValues (wanted : ExecuteWanted) (files : Option Directory) (before after : ℕ)
+    (err_old err_new out_old out_new : Option (List ℕ)) : Type 0 where
+  pub values : ExecuteValues
+  pub written : execute_read wanted ≡ Ok values
+  pub refused : RefusesObjects wanted values files before after err_old err_new out_old out_new
+
+-- the same, or memory ran out before the values were known
+unfoldable pub RefusesExecution :
+    ExecuteWanted → (files : Option Directory) → (before after : ℕ)
+    → (err_old err_new out_old out_new : Option (List ℕ)) → Type 0
+RefusesExecution wanted files before after err_old err_new out_old out_new =
+    RunsOut before after err_old err_new out_old out_new
+    ⊎ RefusesValues wanted files before after err_old err_new out_old out_new

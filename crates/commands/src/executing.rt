@@ -1,0 +1,127 @@
+//! Orders to run objects, carried out.
+
+ghost use Rattle.std.specs.Prelude.{◌≡◌, IfOk, OnErr};
+ghost use Rattle.host.specs.Endings.{status_of};
+ghost use Rattle.host.specs.Files.{KeepsFiles};
+ghost use Rattle.host.specs.Refusals.{TellsRefusal};
+ghost use Rattle.command_line.specs.Command.{execute_in, wants_execute};
+ghost use Rattle.command_line.specs.Settings.{execute_values_in};
+ghost use Rattle.tool.specs.Execution.{started};
+ghost use Rattle.commands.specs.Executing.{PrintsExecution, PrintsImage, PrintsMerge, RefusesExecution, RefusesObjects, StopsImage};
+ghost use Rattle.commands.specs.Orders.{TellsText};
+ghost use Rattle.commands.specs.Running.{end_status};
+
+use crate::programs::{ending_of, script_of};
+use crate::refusals::refuse_value;
+use command_line::{ExecuteOrder, ExecuteSettings};
+use cpu8080::{End, Machine};
+use failure::{Failure, WriteFault};
+use host::{Ending, Files, refuse_memory, refuse_output};
+use locate::Absolute;
+use mem80::Memory;
+use object_commands::place_merge;
+use ports::Script;
+use printing::print_machine;
+use std::alloc::Global;
+use std::io::Write;
+
+/// Merges the objects of an order, places the merge and runs it on a memory of zeros, once the values of its options are
+/// known.
+pub(crate) fn execute_objects<F: Files, O: Write, E: Write>(
+    alloc: Global,
+    order: &ExecuteOrder,
+    files: &mut F,
+    out: &mut O,
+    err: &mut E,
+) -> Ending
+    ensures unchanged { KeepsFiles (F.files files.old) (F.files files.new) }
+    ensures refused_text { result ≡ Ending.WrongLine → TellsText (wants_execute (execute_in order.now))
+        (E.contents err.old) (E.contents err.new) }
+    ensures silent { result ≡ Ending.WrongLine → O.contents out.new ≡ O.contents out.old }
+    ensures told { result ≡ Ending.Refused → TellsRefusal (F.files files.old) (execute_in order.now).objects
+        (F.failures files.old) (F.failures files.new) (E.contents err.old) (E.contents err.new) }
+    ensures refused { result ≡ Ending.Refused → RefusesExecution (execute_in order.now) (F.files files.old)
+        (F.failures files.old) (F.failures files.new)
+        (E.contents err.old) (E.contents err.new) (O.contents out.old) (O.contents out.new) }
+    ensures count { (result ≡ Ending.Refused → ⊥) → F.failures files.new ≡ F.failures files.old }
+    ensures quiet { (result ≡ Ending.Refused → ⊥) → (result ≡ Ending.WrongLine → ⊥) →
+        E.contents err.new ≡ E.contents err.old }
+    ensures ran { (result ≡ Ending.Refused → ⊥) → (result ≡ Ending.WrongLine → ⊥) →
+        PrintsExecution (execute_in order.now) (F.files files.old) (status_of result)
+        (O.contents out.old) (O.contents out.new) }
+{
+    match order.settings(alloc) {
+        Ok(values) => execute_with(alloc, order, &values, files, out, err),
+        Err(Failure::Fault(fault)) => refuse_value(&fault, err),
+        Err(Failure::Memory) => refuse_memory(err),
+    }
+}
+
+// The same with these values.
+#[tactic(auto, using(crate::proofs::Executed::runs_merge))]
+fn execute_with<F: Files, O: Write, E: Write>(
+    alloc: Global,
+    order: &ExecuteOrder,
+    values: &ExecuteSettings,
+    files: &mut F,
+    out: &mut O,
+    err: &mut E,
+) -> Ending
+    ensures unchanged { KeepsFiles (F.files files.old) (F.files files.new) }
+    ensures not_wrong { result ≡ Ending.WrongLine → ⊥ }
+    ensures told { result ≡ Ending.Refused → TellsRefusal (F.files files.old) (execute_in order.now).objects
+        (F.failures files.old) (F.failures files.new) (E.contents err.old) (E.contents err.new) }
+    ensures refused { result ≡ Ending.Refused → RefusesObjects (execute_in order.now)
+        (execute_values_in values.now) (F.files files.old) (F.failures files.old) (F.failures files.new)
+        (E.contents err.old) (E.contents err.new) (O.contents out.old) (O.contents out.new) }
+    ensures count { (result ≡ Ending.Refused → ⊥) → F.failures files.new ≡ F.failures files.old }
+    ensures quiet { (result ≡ Ending.Refused → ⊥) → E.contents err.new ≡ E.contents err.old }
+    ensures ran { (result ≡ Ending.Refused → ⊥) →
+        PrintsMerge (execute_in order.now) (execute_values_in values.now) (F.files files.old) (status_of result)
+        (O.contents out.old) (O.contents out.new) }
+{
+    let image = match place_merge(alloc, order.objects.as_slice(), &values.plan, files, err) {
+        Ok(image) => image,
+        Err(ending) => return ending,
+    };
+    let printed = print_placed(alloc, &image, values, out);
+    drop(image);
+    match printed {
+        Ok(end) => ending_of(end),
+        Err(Failure::Fault(_)) => refuse_output(err),
+        Err(Failure::Memory) => refuse_memory(err),
+    }
+}
+
+// Prints what an image does on a memory of zeros. After a failure nothing was printed, or a beginning of that.
+#[tactic(auto, using(crate::proofs::Executed::no_image))]
+fn print_placed<O: Write>(
+    alloc: Global,
+    image: &Absolute,
+    values: &ExecuteSettings,
+    out: &mut O,
+) -> Result<End, Failure<WriteFault>>
+    ensures ok { IfOk result (λ end. PrintsImage (execute_values_in values.now) image.now (end_status end)
+        (O.contents out.old) (O.contents out.new)) }
+    ensures err { OnErr result
+        (StopsImage (execute_values_in values.now) image.now (O.contents out.old) (O.contents out.new)) }
+{
+    let Ok(memory) = Memory::new(alloc) else {
+        return Err(Failure::Memory);
+    };
+    let Ok(script) = script_of(alloc, values.input.as_slice()) else {
+        return Err(Failure::Memory);
+    };
+    let mut machine = machine_of(image, memory, script);
+    let end = print_machine(&mut machine, values.limit, out)?;
+    Ok(end)
+}
+
+// A machine at its start: with an image loaded into a memory, and this script.
+fn machine_of(image: &Absolute, memory: Memory, script: Script) -> Machine<Script>
+    ensures { result ≡ started image.now memory script.script script.events script.failures }
+{
+    let mut memory = memory;
+    image.load(&mut memory);
+    Machine::new(memory, script, image.start())
+}
