@@ -32,7 +32,7 @@ keeps_contract typed object made =
     let is = made.made in
     record {
       does = generated_does typed object made;
-      object = is_object_of typed is.storage is.tree object is.laid is.lowered is.valid is.generated;
+      is_object = is_object_of typed is.storage is.tree object is.laid is.lowered is.valid is.generated;
       segments = has_segments typed is.storage is.tree object is.laid is.lowered is.valid is.generated;
       names = has_names typed is.storage is.tree object is.laid is.lowered is.generated;
       tree = is.tree;

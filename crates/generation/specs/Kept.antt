@@ -13,7 +13,7 @@ use Rattle.generation.specs.Modules.{IsCounted}
 -- tree code that it was made of.
 pub record KeepsContract (typed : TypedModule) (object : ObjectModule) : Type 0 where
   pub does : DoesWhereItLies typed object
-  pub object : IsObjectOf typed object
+  pub is_object : IsObjectOf typed object
   pub segments : HasSegments typed object
   pub names : HasNames typed object
   pub tree : TreeModule
