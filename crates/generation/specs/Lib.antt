@@ -4,6 +4,6 @@ pub mod Bounded
 pub mod Items
 pub mod Modules
 pub mod Kept
-pub mod Lowering
+pub mod TreeCode
 pub mod internal
 pub mod Doing
