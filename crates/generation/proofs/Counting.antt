@@ -98,7 +98,7 @@ bodies_push tree typed object same pushes items =
     }
 
 -- the code bound that is counted on the nodes of tree code is that of its module
-tree_bound_is :
+pub tree_bound_is :
     (typed : TypedModule) (storage : Storage) (tree : TreeModule)
     → IsSoundlyTyped typed
     → IsStored typed storage

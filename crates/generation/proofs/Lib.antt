@@ -2,5 +2,6 @@ mod Prelude
 pub mod Bounding
 pub mod Contract
 pub mod Counting
+pub mod TreeCode
 pub mod Programs
 pub mod Doing

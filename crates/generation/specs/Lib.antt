@@ -4,5 +4,6 @@ pub mod Bounded
 pub mod Items
 pub mod Modules
 pub mod Kept
+pub mod TreeCode
 pub mod internal
 pub mod Doing

@@ -18,13 +18,12 @@ ghost use Rattle.tool.specs.internal.Compiling.{AreCompiled, HasCompileCause, Ha
 
 use crate::fault::ToolFault;
 use failure::Failure;
-use generation::generate;
+use generation::{generate, lower};
 use layout::Layout;
 use mem80::Plan;
 use object_modules::{ObjectModule, Segment};
 use sources::{Source, SourceModule, read_source};
 use std::alloc::{AllocError, Global};
-use treecode::lower;
 use typed_trees::Typed;
 
 /// A source that is read, and its object module.
