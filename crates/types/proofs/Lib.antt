@@ -6,3 +6,4 @@ pub mod Lines
 pub mod Modules
 pub mod Headings
 pub mod ItemLemmas
+pub mod Declares

@@ -1,1 +1,2 @@
+pub mod Declares
 pub mod internal

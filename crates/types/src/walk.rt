@@ -15,6 +15,7 @@ ghost use Rattle.typed_trees.specs.Numbers.{NumbersFitInModule};
 ghost use Rattle.typing.specs.Untyped.{GivesBack};
 ghost use Rattle.typing.specs.Typing.{alone, cases, declaration, declarations, else_part, entered, kind, left, main_procedure, module_with, statements, typing_of};
 ghost use Rattle.typing.specs.Results.{Answers, Gives, Leaves};
+ghost use Rattle.types.specs.Declares.{Declares};
 ghost use Rattle.types.specs.internal.Views.{block_view, progress_view};
 ghost use Rattle.types.specs.internal.Walking.{inside_view, list_left, listing, module_body, procedure_inside, statement_with_labels};
 
@@ -426,10 +427,15 @@ fn typed(alloc: Global, parsed: &Module) -> Result<Typed, Failure<Fault>>
 
 /// Types a module: resolves its names, gives each expression its type and writes each conversion out. Refuses a module
 /// that breaks a rule of names, types, attributes or constants, with the first fault in the text.
+///
+/// Without its conversions the typing gives back the statements of the text (`given_back`), and its tables have what the text
+/// declares (`declared`). It does not keep parentheses, places, the names of labels, or which names were declared together:
+/// so no clause gives these back, and which label a GOTO goes to is said by `ok` alone.
 pub fn check(alloc: Global, parsed: Module) -> Result<Typed, Failure<Fault>>
     ensures ok { IfOk result (λ typed. typing_of (module_tree parsed) ≡ Ok (module_view typed)) }
     ensures fault { IfFault result (λ fault. typing_of (module_tree parsed) ≡ Err fault) }
     ensures given_back { IfOk result (λ typed. GivesBack (module_tree parsed) (module_view typed)) }
+    ensures declared { IfOk result (λ typed. Declares (module_tree parsed) (module_view typed)) }
     ensures jumps { IfOk result (λ typed. JumpsAreSound (module_view typed)) }
     ensures storable { IfOk result (λ typed. IsStorable (module_view typed)) }
     ensures types { IfOk result (λ typed. IsWellTyped (module_view typed)) }

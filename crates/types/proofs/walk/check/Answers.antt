@@ -1,4 +1,5 @@
-use Rattle.types.proofs.Prelude.{module_tree, FramesFit, ParametersFit, ListsGlobals, JumpsAreSound, IsStorable, IsWellTyped, module_view, typing_of, GivesBack, jumps_are_sound, gives_back, is_storable, where_typed, is_well_typed, globals_are_listed, frames_are_summed, parameters_fit}
+use Rattle.types.proofs.Prelude.{module_tree, Declares, FramesFit, ParametersFit, ListsGlobals, JumpsAreSound, IsStorable, IsWellTyped, module_view, typing_of, GivesBack, jumps_are_sound, gives_back, is_storable, where_typed, is_well_typed, globals_are_listed, frames_are_summed, parameters_fit}
+use Rattle.types.proofs.Declares.Walks.{declares}
 use Rattle.types.proofs.walk.check.Goals as goal
 
 pub returns-clause-given_back : goal.returns-clause-given_back
@@ -33,3 +34,8 @@ pub returns-clause-parameters : goal.returns-clause-parameters
 returns-clause-parameters c =
     where_typed module_view c.typed.result (typing_of (module_tree c.args.parsed)) ParametersFit c.typed.ensures.typing
     (parameters_fit (module_tree c.args.parsed))
+
+pub returns-clause-declared : goal.returns-clause-declared
+returns-clause-declared c =
+    where_typed module_view c.typed.result (typing_of (module_tree c.args.parsed)) (Declares (module_tree c.args.parsed)) c.typed.ensures.typing
+    (declares (module_tree c.args.parsed))
