@@ -54,7 +54,7 @@ fn modules_of(
 {
     for file in files {
         let module = module_of(alloc, modules.len(), file)?;
-        modules.insert(0, module)?;
+        modules.push(module)?;
     }
     Ok(())
 }
