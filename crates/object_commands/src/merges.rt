@@ -129,7 +129,8 @@ pub fn place_merge<F: Files, E: Write>(
     ensures refused { IfErr result (λ ending. ending ≡ Ending.Refused) }
     ensures told { OnErr result (TellsRefusal (F.files files.old) (map (λ name. name.now) objects.now)
         (F.failures files.old) (F.failures files.new) (E.contents err.old) (E.contents err.new)) }
-    ensures cause { OnErr result (RefusesPlacing (F.files files.old) (map (λ name. name.now) objects.now) plan.now
+    ensures cause { OnErr result
+        (RefusesPlacing (F.files files.old) (map (λ name. name.now) objects.now) plan.now
         (F.failures files.old) (F.failures files.new) (E.contents err.old) (E.contents err.new)) }
     ensures silent { OnOk result (E.contents err.new ≡ E.contents err.old) }
     ensures count { OnOk result (F.failures files.new ≡ F.failures files.old) }
