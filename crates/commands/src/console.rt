@@ -29,9 +29,9 @@ use std::io::Write;
 /// status is 0, and that of `compile`, which has an object module then; both may have a beginning of it otherwise. None changes
 /// where the words have a fault or ask for help or the version. Sources that are run or interpreted, where the status is
 /// neither 1 nor 2, have had printed what the machine does with their image, or what they mean, and the status tells how
-/// that ended; any other command ends with status 0 then, and `compile` and `link` print nothing. That a file can't be read
-/// or written is told, with status 1, just where a failure of the files was counted, but for a count that is at its greatest
-/// value, and not where a value of the command line is wrong. Where that is not told, sources that are refused with status 1
+/// that ended; any other command ends with status 0 then, and `compile` and `link` print nothing. A file that
+/// can't be read or written is reported, with status 1, just where a failure of the files was counted. The exceptions are a
+/// count that is at its greatest value, and a wrong value of the command line. Where no such file is reported, sources that are refused with status 1
 /// have a fault that is told, with nothing printed, or memory ran out, or standard output could not be written: then a
 /// beginning of what is printed of them may be there.
 #[tactic(auto, using(crate::proofs::OrdersKept::status_bound, crate::proofs::OrdersKept::done_is, crate::proofs::OrdersKept::not_done, crate::proofs::OrdersKept::not_refused, crate::proofs::OrdersKept::not_wrong, crate::proofs::OrdersKept::refused_is, crate::proofs::TextsTold::wrong_is))]
