@@ -23,17 +23,17 @@ use object_commands::{link_files, print_hex, print_places};
 use std::alloc::Global;
 use std::io::Write;
 
-/// Carries out the words of a command line, the first of which is the program's name, and answers the exit status. What
-/// it prints goes to `out`, and faults go to `err`, which has nothing more where the status is neither 1 nor 2; a failure of
-/// `err` changes no status. It changes no file but that of `link --out`, which has the merge of the objects where the
-/// status is 0, and that of `compile`, which has an object module then; both may have a beginning of it otherwise. None changes
+/// Carries out the words of a command line, the first of which is the program's name, and answers the exit status. What it
+/// prints goes to `out`, and faults go to `err`, which has nothing more where the status is neither 1 nor 2; a failure of
+/// `err` changes no status. It changes no file but that of `link --out`, which has the merge of the objects where the status
+/// is 0, and that of `compile`, which has an object module then; both may have a beginning of it otherwise. None changes
 /// where the words have a fault or ask for help or the version. Sources that are run or interpreted, where the status is
 /// neither 1 nor 2, have had printed what the machine does with their image, or what they mean, and the status tells how
-/// that ended; any other command ends with status 0 then, and `compile` and `link` print nothing. That a file can't be read
-/// or written is told, with status 1, just where a failure of the files was counted, but for a count that is at its greatest
-/// value, and not where a value of the command line is wrong. Where that is not told, sources that are refused with status 1
-/// have a fault that is told, with nothing printed, or memory ran out, or standard output could not be written: then a
-/// beginning of what is printed of them may be there.
+/// that ended; any other command ends with status 0 then, and `compile` and `link` print nothing. A file that can't be read
+/// or written is reported, with status 1, just where a failure of the files was counted. The exceptions are a count that is
+/// at its greatest value, and a wrong value of the command line. Where no such file is reported, sources that are refused
+/// with status 1 have a fault that is told, with nothing printed, or memory ran out, or standard output could not be
+/// written: then a beginning of what is printed of them may be there.
 #[tactic(auto, using(crate::proofs::OrdersKept::status_bound, crate::proofs::OrdersKept::done_is, crate::proofs::OrdersKept::not_done, crate::proofs::OrdersKept::not_refused, crate::proofs::OrdersKept::not_wrong, crate::proofs::OrdersKept::refused_is, crate::proofs::TextsTold::wrong_is))]
 pub fn run_command<F: Files, O: Write, E: Write>(
     alloc: Global,

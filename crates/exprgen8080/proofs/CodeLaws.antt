@@ -1,7 +1,7 @@
 -- Items with labels counted in their order are the code that the function gives, so that the code is unique.
-use Rattle.exprgen8080.proofs.Prelude.{◌≡◌, ℕ, suc, ◌+◌, Bool, List, [], ◌++◌, Option, Some, option_and_then, option_map, sym, ap, subst, ◌∙◌, arith, Item, Facts, Part, Step, label_after, Site, Emission, AreWritten, IsWritten, NoneWritten, PlainWritten, WordWritten, JumpWritten, MarkWritten, RoutineWritten, CallWritten, TestWritten, HoldsWritten, ChangeWritten, PartWritten, Planned, knowing, Emits, after_step, step_items, task_labels, task_steps, AreLabelled, IsLabelled}
+use Rattle.exprgen8080.proofs.Prelude.{◌≡◌, ℕ, suc, ◌+◌, Bool, List, [], ◌++◌, Option, Some, option_and_then, option_map, sym, ap, subst, ◌∙◌, arith, Item, Facts, Part, Step, label_after, Site, AreWritten, IsWritten, NoneWritten, PlainWritten, WordWritten, JumpWritten, MarkWritten, RoutineWritten, CallWritten, TestWritten, HoldsWritten, ChangeWritten, PartWritten, Planned, knowing, after_step, step_items, task_labels, task_steps, AreLabelled, IsLabelled}
 use Rattle.steps8080.specs.declared.step.Step.TheVariants as steps
-use Rattle.exprgen8080.specs.Code.{AddsCodeOfPart, Code, IsCodeOfPart, IsCodeOfSteps, IsFoundDeep, code_of_part, code_of_steps, in_front}
+use Rattle.exprgen8080.specs.Code.{Code, IsCodeOfPart, IsCodeOfSteps, IsFoundDeep, code_of_part, code_of_steps, in_front}
 
 -- A value found by a function of another found value, looked up one level deeper.
 pub found_then : {A B : Type 0} (first_at : (depth : ℕ) → Option A) (then_at : (depth : ℕ) → A → Option B)
@@ -122,13 +122,3 @@ mutual
       code_of_steps site.tree.now (code_of_part site depth) facts (task_steps (knowing site facts) part first) after)
       code)
       labels.0 (steps_are_code after next steps labels.1))
-
--- The items that a call adds for a part are the code of that part.
-pub emitted_is_code :
-    (site : Site) (part : Part) (before after : Emission)
-    → Emits site part before after
-    → AddsCodeOfPart site part before after
-emitted_is_code site part before after emits = record {
-  emits = emits;
-  is_code = part_is_code before.steps.labels after.steps.labels emits.written emits.labels;
-}

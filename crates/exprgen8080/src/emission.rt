@@ -6,7 +6,6 @@ ghost use Rattle.asm8080.specs.declared.item.WordForm.TheVariants.{CallTo};
 ghost use Rattle.steps8080.specs.Facts.{after, after_form, after_word, no_facts};
 ghost use Rattle.steps8080.specs.Writer.{jump_item, word_item};
 ghost use Rattle.exprgen8080.specs.Emission.{after_test, has_routine, index_of_routine, knowing, module_call_items, module_label_of_routine, module_routine_label, test_items};
-ghost use Rattle.exprgen8080.specs.Code.{AddsCodeOfPart};
 ghost use Rattle.exprgen8080.specs.Emitted.{AddsItems, Emits, EmitsSteps, HasAll, IsAlone, IsEmpty, NotesCalled, NotesOnly, after_step, step_items};
 
 use crate::forms::plan_task;
@@ -295,19 +294,6 @@ impl Emission {
         self.steps.truncate(start);
         Ok(())
     }
-}
-
-/// Takes code, and returns it with the code of one expression or location added, in the body of the given site. The
-/// task of the part says what that code does: put the value into A or HL or its address into HL, store it, or jump by
-/// it. A refusal drops the code.
-#[tactic(auto, using(crate::proofs::CodeLaws::emitted_is_code))]
-pub fn emit_expression(code: Emission, site: &Site<'_>, part: Part) -> Result<Emission, AllocError>
-    ensures emits { IfOk result (λ after. Emits site.now part code after) }
-    ensures code { IfOk result (λ after. AddsCodeOfPart site.now part code after) }
-{
-    let mut code = code;
-    code.emit(site, part)?;
-    Ok(code)
 }
 
 /// The label of a routine, by its index in `ROUTINES`.

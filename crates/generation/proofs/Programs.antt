@@ -35,7 +35,7 @@ keeps_contract typed object made =
       is_object = is_object_of typed is.storage is.tree object is.laid is.lowered is.valid is.generated;
       segments = has_segments typed is.storage is.tree object is.laid is.lowered is.valid is.generated;
       names = has_names typed is.storage is.tree object is.laid is.lowered is.generated;
-      tree = is.tree;
+      made = made;
       counted = is_counted typed is.storage is.tree object made.facts is.laid.stored is.lowered is.generated;
     }
 

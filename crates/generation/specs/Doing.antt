@@ -9,9 +9,9 @@ use Rattle.exprgen8080.specs.Emitted.{HasAll}
 use Rattle.task_laws.specs.Contexts.{Context, IsSound}
 use Rattle.task_laws.specs.Tasks.{PartDoes}
 
--- Items are added to code that are the code of a part. Wherever they stand, in a body with this site of a module whose
--- code calls the routines that they and the code before call, the machine does from their first to their last what the
--- part says, where is known at their start what was known at the end of the code before.
+-- The items added to code are the code of a part, and from the first of them to the last the machine does what the part
+-- says. They may stand anywhere in a body with this site, of a module whose code calls the routines that they and the
+-- code before them call. What is known at their start is what was known at the end of the code before.
 pub record CodeDoes (site : Site) (part : Part) (before after : Emission) : Type 0 where
   pub code : AddsCodeOfPart site part before after
   pub does :

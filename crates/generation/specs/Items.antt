@@ -24,9 +24,9 @@ pub record HasItems (tree : TreeModule) (object : ObjectModule) : Type 0 where
   pub written : IsCodeWritten tree start code
   pub segment : IsSegmentOf code bytes to object.code
 
--- The statements and the end of a procedure push at most what its charge leaves beside what its call has on the stack
--- then, which is at most the return address, a word for each parameter, and the variables of a frame. An EXTERNAL one
--- has no code.
+-- The statements and the end of a procedure push at most what is left of its charge after what its call has on the
+-- stack. That is at most the return address, a word for each parameter, and the variables of a frame. An EXTERNAL
+-- procedure has no code.
 abbrev pub ProcedurePushes :
     (tree : TreeModule) (called : List Bool) (number : ℕ) (procedure : TreeProcedure) (heading : TypedProcedure)
     (kind : ProcedureKind) (list : List Item)

@@ -4,8 +4,8 @@ use Rattle.typed_trees.specs.TypedTrees.{TypedModule}
 use Rattle.image_laws.specs.Names.{HasNames}
 use Rattle.image_laws.specs.Objects.{IsObjectOf}
 use Rattle.image_laws.specs.Segments.{HasSegments}
-use Rattle.treecode.specs.declared.module.TreeModule.{TreeModule}
 use Rattle.program_laws.specs.OneModule.{DoesWhereItLies}
+use Rattle.program_laws.specs.Typed.{IsSoundlyMade}
 use Rattle.generation.specs.Modules.{IsCounted}
 
 -- What `generate` promises of the object module of a module: wherever it lies, it does on the machine what the module
@@ -16,5 +16,5 @@ pub record KeepsContract (typed : TypedModule) (object : ObjectModule) : Type 0 
   pub is_object : IsObjectOf typed object
   pub segments : HasSegments typed object
   pub names : HasNames typed object
-  pub tree : TreeModule
-  pub counted : IsCounted tree typed object
+  pub made : IsSoundlyMade typed object
+  pub counted : IsCounted made.made.tree typed object

@@ -15,5 +15,7 @@ use steps8080::{Part, Site};
 pub fn emit_expression(code: Emission, site: &Site<'_>, part: Part) -> Result<Emission, AllocError>
     ensures { IfOk result (λ after. CodeDoes site.now part code after) }
 {
-    exprgen8080::emit_expression(code, site, part)
+    let mut code = code;
+    code.emit(site, part)?;
+    Ok(code)
 }

@@ -1,7 +1,7 @@
 -- What a module declares: as its text says it, and as the tables of its typing have it. The tables keep neither which
--- block a declaration stands in, nor which names are declared together, nor LITERALLY, nor places. What a rule computes
--- of a declaration is in the typing alone: where AT puts a variable, what INITIAL and DATA fill it with, and how many
--- elements `(*)` stands for.
+-- names are declared together, nor LITERALLY, nor places. What a rule computes of a declaration is in the typing alone:
+-- where AT puts a variable, which variable is its base, whether INITIAL is there and what it and DATA fill, in which
+-- procedure's frame it lies, how many elements `(*)` stands for, and which objects the parameters are beside their names.
 use Rattle.std.specs.Prelude.{◌≡◌, ℕ, Bool, true, false, List, [], ◌∷◌, ◌++◌, map, filter_map, Option, None, Some, is_some, slice_get}
 use Rattle.std.specs.List.{AllZip}
 use Rattle.std.specs.Option.{option_map, option_map_or}
