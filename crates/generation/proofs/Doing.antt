@@ -1,6 +1,5 @@
 -- Code that is added for one expression or location does what that means.
-use Rattle.generation.proofs.Prelude.{◌≡◌, ℕ, IfOk, Result, Ok, Err, sym, subst}
-use Rattle.code_meaning.specs.Activations.{IsThere}
+use Rattle.generation.proofs.Prelude.{sym, subst}
 use Rattle.steps8080.specs.{declared.step.Part.{Part}, declared.sites.site.Site.{Site}}
 use Rattle.exprgen8080.specs.{declared.emission.Emission.{Emission}, Emission.{IsWritten}, Emitted.{Emits, NotesCalled}, Labelled.{IsLabelled}}
 use Rattle.exprgen8080.proofs.CodeLaws.{part_is_code}
@@ -42,11 +41,3 @@ code_does site part before after emits = record {
       })
       called there;
 }
-
--- where it was not refused
-pub code_does_if :
-    {F : Type 0} (site : Site) (part : Part) (before : Emission) (result : Result Emission F)
-    → IfOk result (Emits site part before)
-    → IfOk result (CodeDoes site part before)
-code_does_if site part before (Ok after) emits = code_does site part before after emits
-code_does_if site part before (Err failure) emits = tt

@@ -2,7 +2,6 @@
 use Rattle.generation.proofs.Prelude.{◌≡◌, ℕ, List, length, Some, slice_get, sym, ap, ◌∙◌, TypedModule, TypedProcedure, stored, TreeModule, TreeProcedure, IsLowered, NumbersAreWords, nodes_of, HomesAreWords, OfItsModule}
 use Rattle.std.specs.Prelude.{map, zip}
 use Rattle.trees.specs.declared.declaration.ScalarType.{ScalarType}
-use Rattle.typed_trees.specs.Frames.{ParametersFit}
 use Rattle.layout.specs.{Storage.{Storage}, Sound.{IsSoundlyTyped}}
 use Rattle.treecode.specs.{Homes.{parameter_at}, declared.procedure.Parameter.{Parameter}}
 use Rattle.frames.specs.Charges.{IsChargedAs}

@@ -11,7 +11,6 @@ use steps8080::{Part, Site};
 /// Takes code over and hands it back with the code of one expression or location of the tree code added, in a body with this
 /// site, as the task of the part says. Wherever that stands the machine does what the expression or location means, if calls
 /// of all procedures do with less of the budget. A refusal drops the code.
-#[tactic(auto, using(crate::proofs::Doing::code_does_if))]
 pub fn emit_expression(code: Emission, site: &Site<'_>, part: Part) -> Result<Emission, AllocError>
     ensures { IfOk result (λ after. CodeDoes site.now part code after) }
 {
