@@ -15,15 +15,15 @@ pub no_image : (values : Values) (image : Absolute) (known : Option (List ℕ)) 
 no_image values image known = inl (stays_written known)
 
 -- a run of an image that was printed, or a beginning of it
-module _ (values : Values) (image : Absolute) (memory : List ℕ) (script : Session) (old new : Option (List ℕ)) (start : IsStart values memory) (gives : GivesInput values.input script.script)
-    (none : script.events ≡ []) (unfailed : script.failures ≡ 0) where
-  same_start : started image memory script.script script.events script.failures ≡ started image memory script.script [] 0
+module _ (values : Values) (image : Absolute) (memory : List ℕ) (script : Session) (from : Machine) (old new : Option (List ℕ)) (start : IsStart values memory)
+    (gives : GivesInput values.input script.script) (none : script.events ≡ []) (unfailed : script.failures ≡ 0)
+    (starts : from ≡ started image memory script.script script.events script.failures) where
+  same_start : from ≡ started image memory script.script [] 0
   same_start =
-      ap (λ (es : List Event). started image memory script.script es script.failures) none
+      starts ∙ ap (λ (es : List Event). started image memory script.script es script.failures) none
       ∙ ap (λ (n : ℕ). started image memory script.script [] n) unfailed
 
-  pub prints_image : (end : End) (machine : Machine) → PrintsRun values.limit (started image memory script.script script.events script.failures) end machine old new
-      → PrintsImage values image (end_status end) old new
+  pub prints_image : (end : End) (machine : Machine) → PrintsRun values.limit from end machine old new → PrintsImage values image (end_status end) old new
   prints_image end machine ran = record {
     memory = memory;
     start = start;
@@ -31,17 +31,17 @@ module _ (values : Values) (image : Absolute) (memory : List ℕ) (script : Sess
     gives = gives;
     end = end;
     machine = machine;
-    run = subst (λ (from : Machine). PrintsRun values.limit from end machine old new) same_start ran;
+    run = subst (λ (m : Machine). PrintsRun values.limit m end machine old new) same_start ran;
     ended = refl;
   }
 
-  pub begins_image : BeginsRun values.limit (started image memory script.script script.events script.failures) old new → StopsImage values image old new
+  pub begins_image : BeginsRun values.limit from old new → StopsImage values image old new
   begins_image ran = inr (record {
     memory = memory;
     start = start;
     script = script.script;
     gives = gives;
-    begun = subst (λ (from : Machine). BeginsRun values.limit from old new) same_start ran;
+    begun = subst (λ (m : Machine). BeginsRun values.limit m old new) same_start ran;
   })
 
 module _ (wanted : ExecuteWanted) (values : Values) (files : Option Directory) (image : Absolute) (old new : Option (List ℕ)) (placed : PlacesMerge files wanted.objects values.plan image) where

@@ -94,7 +94,7 @@ fn execute_with<F: Files, O: Write, E: Write>(
 }
 
 // Prints what an image does on a memory as values start it. After a failure nothing was printed, or a beginning of that.
-#[tactic(auto, using(crate::proofs::Executed::no_image))]
+#[tactic(auto, using(crate::proofs::Executed::no_image, crate::proofs::Executed::prints_image, crate::proofs::Executed::begins_image))]
 fn print_placed<O: Write>(
     alloc: Global,
     image: &Absolute,
