@@ -1,5 +1,5 @@
 -- What may come before the files: nothing, an option with its text, or a flag.
-use Rattle.command_line.proofs.Prelude.{◌≡◌, ◌∙◌, List, [], ◌∷◌, ◌++◌, Some, None, false, refl, ap, codes, fold, AllByRecursion, clap_on_literals, Kinds, Row, Shape, Text, Held, Walk, idle, option, has_row, nothing_held, reading_by, settled, walk, walk_from, walked, filled, settle_fault, turn_fault, walk_fault, or_else, CommandLine, PlaceAction, Locate, Hex, Code, DataBase, Input, IsBare, Limit, OfPlan, PlanOption, Stack, StackSize, ExecuteOption, PlaceOf, RunInput, RunLimit, ValueOption, execute_option_name, flag_rule, option_name, option_words, plan_option_name, Fill, StartMemory}
+use Rattle.command_line.proofs.Prelude.{◌≡◌, ◌∙◌, List, [], ◌∷◌, ◌++◌, Some, None, false, refl, ap, codes, fold, AllByRecursion, clap_on_literals, Kinds, Row, Shape, Text, Held, Walk, idle, option, has_row, nothing_held, reading_by, settled, walk, walk_from, walked, filled, settle_fault, turn_fault, walk_fault, or_else, CommandLine, PlaceAction, Locate, Hex, Code, DataBase, Input, IsBare, Limit, OfPlan, PlanOption, Stack, StackSize, ValueOption, flag_rule, option_name, option_words, plan_option_name, Fill, StartMemory}
 use Rattle.command_line.proofs.Files.{all_done, bare_fault, bare_word, done_of, files_fault, files_filled, files_row, files_rows, files_walk, last_of, rows_more, state}
 use Rattle.command_line.proofs.Verbs.{Executed, Form, Located, Objects, Placed, Sources, form_of, leaf, rules}
 
@@ -115,7 +115,7 @@ pub data Choice : Type 0 where
   of_place : PlaceAction → PlanOption → Choice
   out : Choice
   jump : Choice
-  of_execute : ExecuteOption → Choice
+  of_execute : ValueOption → Choice
 
 abbrev pub form_at : Choice → Form
 form_at (of_program o) = Sources
@@ -129,7 +129,7 @@ name_at (of_program o) = option_name o
 name_at (of_place action o) = plan_option_name o
 name_at out = codes "out"
 name_at jump = codes "jump"
-name_at (of_execute o) = execute_option_name o
+name_at (of_execute o) = option_name o
 
 abbrev pub option_row : Choice → Text → Row
 option_row o text = record { id = name_at o; values = text ∷ []; count = None; source = Some CommandLine; reading = reading_by files_filled }
@@ -172,12 +172,14 @@ option_step (of_place Locate StackSize) = refl
 option_step (of_place Hex StackSize) = refl
 option_step out = refl
 option_step jump = refl
-option_step (of_execute (PlaceOf Code)) = refl
-option_step (of_execute (PlaceOf DataBase)) = refl
-option_step (of_execute (PlaceOf Stack)) = refl
-option_step (of_execute (PlaceOf StackSize)) = refl
-option_step (of_execute RunLimit) = refl
-option_step (of_execute RunInput) = refl
+option_step (of_execute (OfPlan Code)) = refl
+option_step (of_execute (OfPlan DataBase)) = refl
+option_step (of_execute (OfPlan Stack)) = refl
+option_step (of_execute (OfPlan StackSize)) = refl
+option_step (of_execute Limit) = refl
+option_step (of_execute Input) = refl
+option_step (of_execute Fill) = refl
+option_step (of_execute StartMemory) = refl
 
 option_turn : (name : Text) (o : Choice) → turn_fault (leaf (form_at o) name) [] (found_walk []) (45 ∷ 45 ∷ name_at o) ≡ []
 unfolding clap_on_literals
@@ -199,12 +201,14 @@ option_turn name (of_place Locate StackSize) = refl
 option_turn name (of_place Hex StackSize) = refl
 option_turn name out = refl
 option_turn name jump = refl
-option_turn name (of_execute (PlaceOf Code)) = refl
-option_turn name (of_execute (PlaceOf DataBase)) = refl
-option_turn name (of_execute (PlaceOf Stack)) = refl
-option_turn name (of_execute (PlaceOf StackSize)) = refl
-option_turn name (of_execute RunLimit) = refl
-option_turn name (of_execute RunInput) = refl
+option_turn name (of_execute (OfPlan Code)) = refl
+option_turn name (of_execute (OfPlan DataBase)) = refl
+option_turn name (of_execute (OfPlan Stack)) = refl
+option_turn name (of_execute (OfPlan StackSize)) = refl
+option_turn name (of_execute Limit) = refl
+option_turn name (of_execute Input) = refl
+option_turn name (of_execute Fill) = refl
+option_turn name (of_execute StartMemory) = refl
 
 text_step : (o : Choice) (text : Text) → IsBare text → walked (rules (form_at o)) [] (waiting_walk o) text ≡ pending_walk o text
 unfolding walked
@@ -226,12 +230,14 @@ text_step (of_place Locate StackSize) text bare = rw (bare_word (rules Located) 
 text_step (of_place Hex StackSize) text bare = rw (bare_word (rules Placed) (waiting_walk (of_place Hex StackSize)).waiting 1 text (waiting_walk (of_place Hex StackSize)).held bare) refl
 text_step out text bare = rw (bare_word (rules Objects) (waiting_walk out).waiting 1 text (waiting_walk out).held bare) refl
 text_step jump text bare = rw (bare_word (rules Placed) (waiting_walk jump).waiting 1 text (waiting_walk jump).held bare) refl
-text_step (of_execute (PlaceOf Code)) text bare = rw (bare_word (rules Executed) (waiting_walk (of_execute (PlaceOf Code))).waiting 1 text (waiting_walk (of_execute (PlaceOf Code))).held bare) refl
-text_step (of_execute (PlaceOf DataBase)) text bare = rw (bare_word (rules Executed) (waiting_walk (of_execute (PlaceOf DataBase))).waiting 1 text (waiting_walk (of_execute (PlaceOf DataBase))).held bare) refl
-text_step (of_execute (PlaceOf Stack)) text bare = rw (bare_word (rules Executed) (waiting_walk (of_execute (PlaceOf Stack))).waiting 1 text (waiting_walk (of_execute (PlaceOf Stack))).held bare) refl
-text_step (of_execute (PlaceOf StackSize)) text bare = rw (bare_word (rules Executed) (waiting_walk (of_execute (PlaceOf StackSize))).waiting 1 text (waiting_walk (of_execute (PlaceOf StackSize))).held bare) refl
-text_step (of_execute RunLimit) text bare = rw (bare_word (rules Executed) (waiting_walk (of_execute RunLimit)).waiting 1 text (waiting_walk (of_execute RunLimit)).held bare) refl
-text_step (of_execute RunInput) text bare = rw (bare_word (rules Executed) (waiting_walk (of_execute RunInput)).waiting 1 text (waiting_walk (of_execute RunInput)).held bare) refl
+text_step (of_execute (OfPlan Code)) text bare = rw (bare_word (rules Executed) (waiting_walk (of_execute (OfPlan Code))).waiting 1 text (waiting_walk (of_execute (OfPlan Code))).held bare) refl
+text_step (of_execute (OfPlan DataBase)) text bare = rw (bare_word (rules Executed) (waiting_walk (of_execute (OfPlan DataBase))).waiting 1 text (waiting_walk (of_execute (OfPlan DataBase))).held bare) refl
+text_step (of_execute (OfPlan Stack)) text bare = rw (bare_word (rules Executed) (waiting_walk (of_execute (OfPlan Stack))).waiting 1 text (waiting_walk (of_execute (OfPlan Stack))).held bare) refl
+text_step (of_execute (OfPlan StackSize)) text bare = rw (bare_word (rules Executed) (waiting_walk (of_execute (OfPlan StackSize))).waiting 1 text (waiting_walk (of_execute (OfPlan StackSize))).held bare) refl
+text_step (of_execute Limit) text bare = rw (bare_word (rules Executed) (waiting_walk (of_execute Limit)).waiting 1 text (waiting_walk (of_execute Limit)).held bare) refl
+text_step (of_execute Input) text bare = rw (bare_word (rules Executed) (waiting_walk (of_execute Input)).waiting 1 text (waiting_walk (of_execute Input)).held bare) refl
+text_step (of_execute Fill) text bare = rw (bare_word (rules Executed) (waiting_walk (of_execute Fill)).waiting 1 text (waiting_walk (of_execute Fill)).held bare) refl
+text_step (of_execute StartMemory) text bare = rw (bare_word (rules Executed) (waiting_walk (of_execute StartMemory)).waiting 1 text (waiting_walk (of_execute StartMemory)).held bare) refl
 
 text_turn : (name : Text) (o : Choice) (text : Text) → IsBare text → turn_fault (leaf (form_at o) name) [] (waiting_walk o) text ≡ []
 text_turn name (of_program (OfPlan Code)) text bare =
@@ -270,18 +276,22 @@ text_turn name out text bare =
     rw (bare_word (rules Objects) (waiting_walk out).waiting 1 text (waiting_walk out).held bare, bare_fault (leaf Objects name) (waiting_walk out).waiting text (waiting_walk out).held bare) refl
 text_turn name jump text bare =
     rw (bare_word (rules Placed) (waiting_walk jump).waiting 1 text (waiting_walk jump).held bare, bare_fault (leaf Placed name) (waiting_walk jump).waiting text (waiting_walk jump).held bare) refl
-text_turn name (of_execute (PlaceOf Code)) text bare =
-    rw (bare_word (rules Executed) (waiting_walk (of_execute (PlaceOf Code))).waiting 1 text (waiting_walk (of_execute (PlaceOf Code))).held bare, bare_fault (leaf Executed name) (waiting_walk (of_execute (PlaceOf Code))).waiting text (waiting_walk (of_execute (PlaceOf Code))).held bare) refl
-text_turn name (of_execute (PlaceOf DataBase)) text bare =
-    rw (bare_word (rules Executed) (waiting_walk (of_execute (PlaceOf DataBase))).waiting 1 text (waiting_walk (of_execute (PlaceOf DataBase))).held bare, bare_fault (leaf Executed name) (waiting_walk (of_execute (PlaceOf DataBase))).waiting text (waiting_walk (of_execute (PlaceOf DataBase))).held bare) refl
-text_turn name (of_execute (PlaceOf Stack)) text bare =
-    rw (bare_word (rules Executed) (waiting_walk (of_execute (PlaceOf Stack))).waiting 1 text (waiting_walk (of_execute (PlaceOf Stack))).held bare, bare_fault (leaf Executed name) (waiting_walk (of_execute (PlaceOf Stack))).waiting text (waiting_walk (of_execute (PlaceOf Stack))).held bare) refl
-text_turn name (of_execute (PlaceOf StackSize)) text bare =
-    rw (bare_word (rules Executed) (waiting_walk (of_execute (PlaceOf StackSize))).waiting 1 text (waiting_walk (of_execute (PlaceOf StackSize))).held bare, bare_fault (leaf Executed name) (waiting_walk (of_execute (PlaceOf StackSize))).waiting text (waiting_walk (of_execute (PlaceOf StackSize))).held bare) refl
-text_turn name (of_execute RunLimit) text bare =
-    rw (bare_word (rules Executed) (waiting_walk (of_execute RunLimit)).waiting 1 text (waiting_walk (of_execute RunLimit)).held bare, bare_fault (leaf Executed name) (waiting_walk (of_execute RunLimit)).waiting text (waiting_walk (of_execute RunLimit)).held bare) refl
-text_turn name (of_execute RunInput) text bare =
-    rw (bare_word (rules Executed) (waiting_walk (of_execute RunInput)).waiting 1 text (waiting_walk (of_execute RunInput)).held bare, bare_fault (leaf Executed name) (waiting_walk (of_execute RunInput)).waiting text (waiting_walk (of_execute RunInput)).held bare) refl
+text_turn name (of_execute (OfPlan Code)) text bare =
+    rw (bare_word (rules Executed) (waiting_walk (of_execute (OfPlan Code))).waiting 1 text (waiting_walk (of_execute (OfPlan Code))).held bare, bare_fault (leaf Executed name) (waiting_walk (of_execute (OfPlan Code))).waiting text (waiting_walk (of_execute (OfPlan Code))).held bare) refl
+text_turn name (of_execute (OfPlan DataBase)) text bare =
+    rw (bare_word (rules Executed) (waiting_walk (of_execute (OfPlan DataBase))).waiting 1 text (waiting_walk (of_execute (OfPlan DataBase))).held bare, bare_fault (leaf Executed name) (waiting_walk (of_execute (OfPlan DataBase))).waiting text (waiting_walk (of_execute (OfPlan DataBase))).held bare) refl
+text_turn name (of_execute (OfPlan Stack)) text bare =
+    rw (bare_word (rules Executed) (waiting_walk (of_execute (OfPlan Stack))).waiting 1 text (waiting_walk (of_execute (OfPlan Stack))).held bare, bare_fault (leaf Executed name) (waiting_walk (of_execute (OfPlan Stack))).waiting text (waiting_walk (of_execute (OfPlan Stack))).held bare) refl
+text_turn name (of_execute (OfPlan StackSize)) text bare =
+    rw (bare_word (rules Executed) (waiting_walk (of_execute (OfPlan StackSize))).waiting 1 text (waiting_walk (of_execute (OfPlan StackSize))).held bare, bare_fault (leaf Executed name) (waiting_walk (of_execute (OfPlan StackSize))).waiting text (waiting_walk (of_execute (OfPlan StackSize))).held bare) refl
+text_turn name (of_execute Limit) text bare =
+    rw (bare_word (rules Executed) (waiting_walk (of_execute Limit)).waiting 1 text (waiting_walk (of_execute Limit)).held bare, bare_fault (leaf Executed name) (waiting_walk (of_execute Limit)).waiting text (waiting_walk (of_execute Limit)).held bare) refl
+text_turn name (of_execute Input) text bare =
+    rw (bare_word (rules Executed) (waiting_walk (of_execute Input)).waiting 1 text (waiting_walk (of_execute Input)).held bare, bare_fault (leaf Executed name) (waiting_walk (of_execute Input)).waiting text (waiting_walk (of_execute Input)).held bare) refl
+text_turn name (of_execute Fill) text bare =
+    rw (bare_word (rules Executed) (waiting_walk (of_execute Fill)).waiting 1 text (waiting_walk (of_execute Fill)).held bare, bare_fault (leaf Executed name) (waiting_walk (of_execute Fill)).waiting text (waiting_walk (of_execute Fill)).held bare) refl
+text_turn name (of_execute StartMemory) text bare =
+    rw (bare_word (rules Executed) (waiting_walk (of_execute StartMemory)).waiting 1 text (waiting_walk (of_execute StartMemory)).held bare, bare_fault (leaf Executed name) (waiting_walk (of_execute StartMemory)).waiting text (waiting_walk (of_execute StartMemory)).held bare) refl
 
 value_step : (o : Choice) (text file : Text) → IsBare file → walked (rules (form_at o)) [] (pending_walk o text) file ≡ state (option_row o text ∷ []) [] file
 unfolding walked
@@ -303,12 +313,14 @@ value_step (of_place Locate StackSize) text file bare = rw (bare_word (rules Loc
 value_step (of_place Hex StackSize) text file bare = rw (bare_word (rules Placed) idle 1 file (pending_walk (of_place Hex StackSize) text).held bare) refl
 value_step out text file bare = rw (bare_word (rules Objects) idle 1 file (pending_walk out text).held bare) refl
 value_step jump text file bare = rw (bare_word (rules Placed) idle 1 file (pending_walk jump text).held bare) refl
-value_step (of_execute (PlaceOf Code)) text file bare = rw (bare_word (rules Executed) idle 1 file (pending_walk (of_execute (PlaceOf Code)) text).held bare) refl
-value_step (of_execute (PlaceOf DataBase)) text file bare = rw (bare_word (rules Executed) idle 1 file (pending_walk (of_execute (PlaceOf DataBase)) text).held bare) refl
-value_step (of_execute (PlaceOf Stack)) text file bare = rw (bare_word (rules Executed) idle 1 file (pending_walk (of_execute (PlaceOf Stack)) text).held bare) refl
-value_step (of_execute (PlaceOf StackSize)) text file bare = rw (bare_word (rules Executed) idle 1 file (pending_walk (of_execute (PlaceOf StackSize)) text).held bare) refl
-value_step (of_execute RunLimit) text file bare = rw (bare_word (rules Executed) idle 1 file (pending_walk (of_execute RunLimit) text).held bare) refl
-value_step (of_execute RunInput) text file bare = rw (bare_word (rules Executed) idle 1 file (pending_walk (of_execute RunInput) text).held bare) refl
+value_step (of_execute (OfPlan Code)) text file bare = rw (bare_word (rules Executed) idle 1 file (pending_walk (of_execute (OfPlan Code)) text).held bare) refl
+value_step (of_execute (OfPlan DataBase)) text file bare = rw (bare_word (rules Executed) idle 1 file (pending_walk (of_execute (OfPlan DataBase)) text).held bare) refl
+value_step (of_execute (OfPlan Stack)) text file bare = rw (bare_word (rules Executed) idle 1 file (pending_walk (of_execute (OfPlan Stack)) text).held bare) refl
+value_step (of_execute (OfPlan StackSize)) text file bare = rw (bare_word (rules Executed) idle 1 file (pending_walk (of_execute (OfPlan StackSize)) text).held bare) refl
+value_step (of_execute Limit) text file bare = rw (bare_word (rules Executed) idle 1 file (pending_walk (of_execute Limit) text).held bare) refl
+value_step (of_execute Input) text file bare = rw (bare_word (rules Executed) idle 1 file (pending_walk (of_execute Input) text).held bare) refl
+value_step (of_execute Fill) text file bare = rw (bare_word (rules Executed) idle 1 file (pending_walk (of_execute Fill) text).held bare) refl
+value_step (of_execute StartMemory) text file bare = rw (bare_word (rules Executed) idle 1 file (pending_walk (of_execute StartMemory) text).held bare) refl
 
 value_turn : (name : Text) (o : Choice) (text file : Text) → IsBare file → turn_fault (leaf (form_at o) name) [] (pending_walk o text) file ≡ []
 value_turn name (of_program (OfPlan Code)) text file bare =
@@ -347,18 +359,22 @@ value_turn name out text file bare =
     rw (bare_word (rules Objects) idle 1 file (pending_walk out text).held bare, bare_fault (leaf Objects name) idle file (pending_walk out text).held bare) refl
 value_turn name jump text file bare =
     rw (bare_word (rules Placed) idle 1 file (pending_walk jump text).held bare, bare_fault (leaf Placed name) idle file (pending_walk jump text).held bare) refl
-value_turn name (of_execute (PlaceOf Code)) text file bare =
-    rw (bare_word (rules Executed) idle 1 file (pending_walk (of_execute (PlaceOf Code)) text).held bare, bare_fault (leaf Executed name) idle file (pending_walk (of_execute (PlaceOf Code)) text).held bare) refl
-value_turn name (of_execute (PlaceOf DataBase)) text file bare =
-    rw (bare_word (rules Executed) idle 1 file (pending_walk (of_execute (PlaceOf DataBase)) text).held bare, bare_fault (leaf Executed name) idle file (pending_walk (of_execute (PlaceOf DataBase)) text).held bare) refl
-value_turn name (of_execute (PlaceOf Stack)) text file bare =
-    rw (bare_word (rules Executed) idle 1 file (pending_walk (of_execute (PlaceOf Stack)) text).held bare, bare_fault (leaf Executed name) idle file (pending_walk (of_execute (PlaceOf Stack)) text).held bare) refl
-value_turn name (of_execute (PlaceOf StackSize)) text file bare =
-    rw (bare_word (rules Executed) idle 1 file (pending_walk (of_execute (PlaceOf StackSize)) text).held bare, bare_fault (leaf Executed name) idle file (pending_walk (of_execute (PlaceOf StackSize)) text).held bare) refl
-value_turn name (of_execute RunLimit) text file bare =
-    rw (bare_word (rules Executed) idle 1 file (pending_walk (of_execute RunLimit) text).held bare, bare_fault (leaf Executed name) idle file (pending_walk (of_execute RunLimit) text).held bare) refl
-value_turn name (of_execute RunInput) text file bare =
-    rw (bare_word (rules Executed) idle 1 file (pending_walk (of_execute RunInput) text).held bare, bare_fault (leaf Executed name) idle file (pending_walk (of_execute RunInput) text).held bare) refl
+value_turn name (of_execute (OfPlan Code)) text file bare =
+    rw (bare_word (rules Executed) idle 1 file (pending_walk (of_execute (OfPlan Code)) text).held bare, bare_fault (leaf Executed name) idle file (pending_walk (of_execute (OfPlan Code)) text).held bare) refl
+value_turn name (of_execute (OfPlan DataBase)) text file bare =
+    rw (bare_word (rules Executed) idle 1 file (pending_walk (of_execute (OfPlan DataBase)) text).held bare, bare_fault (leaf Executed name) idle file (pending_walk (of_execute (OfPlan DataBase)) text).held bare) refl
+value_turn name (of_execute (OfPlan Stack)) text file bare =
+    rw (bare_word (rules Executed) idle 1 file (pending_walk (of_execute (OfPlan Stack)) text).held bare, bare_fault (leaf Executed name) idle file (pending_walk (of_execute (OfPlan Stack)) text).held bare) refl
+value_turn name (of_execute (OfPlan StackSize)) text file bare =
+    rw (bare_word (rules Executed) idle 1 file (pending_walk (of_execute (OfPlan StackSize)) text).held bare, bare_fault (leaf Executed name) idle file (pending_walk (of_execute (OfPlan StackSize)) text).held bare) refl
+value_turn name (of_execute Limit) text file bare =
+    rw (bare_word (rules Executed) idle 1 file (pending_walk (of_execute Limit) text).held bare, bare_fault (leaf Executed name) idle file (pending_walk (of_execute Limit) text).held bare) refl
+value_turn name (of_execute Input) text file bare =
+    rw (bare_word (rules Executed) idle 1 file (pending_walk (of_execute Input) text).held bare, bare_fault (leaf Executed name) idle file (pending_walk (of_execute Input) text).held bare) refl
+value_turn name (of_execute Fill) text file bare =
+    rw (bare_word (rules Executed) idle 1 file (pending_walk (of_execute Fill) text).held bare, bare_fault (leaf Executed name) idle file (pending_walk (of_execute Fill) text).held bare) refl
+value_turn name (of_execute StartMemory) text file bare =
+    rw (bare_word (rules Executed) idle 1 file (pending_walk (of_execute StartMemory) text).held bare, bare_fault (leaf Executed name) idle file (pending_walk (of_execute StartMemory) text).held bare) refl
 
 no_file_in : (o : Choice) (text : Text) → has_row (codes "FILES") (option_row o text ∷ []) ≡ false
 no_file_in (of_program (OfPlan Code)) text = refl
@@ -379,12 +395,14 @@ no_file_in (of_place Locate StackSize) text = refl
 no_file_in (of_place Hex StackSize) text = refl
 no_file_in out text = refl
 no_file_in jump text = refl
-no_file_in (of_execute (PlaceOf Code)) text = refl
-no_file_in (of_execute (PlaceOf DataBase)) text = refl
-no_file_in (of_execute (PlaceOf Stack)) text = refl
-no_file_in (of_execute (PlaceOf StackSize)) text = refl
-no_file_in (of_execute RunLimit) text = refl
-no_file_in (of_execute RunInput) text = refl
+no_file_in (of_execute (OfPlan Code)) text = refl
+no_file_in (of_execute (OfPlan DataBase)) text = refl
+no_file_in (of_execute (OfPlan Stack)) text = refl
+no_file_in (of_execute (OfPlan StackSize)) text = refl
+no_file_in (of_execute Limit) text = refl
+no_file_in (of_execute Input) text = refl
+no_file_in (of_execute Fill) text = refl
+no_file_in (of_execute StartMemory) text = refl
 
 pub option_begins : (name : Text) (o : Choice) (text : Text) → IsBare text → Begins (form_at o) name (option_words (name_at o) text) (option_row o text ∷ [])
 option_begins name o text fits = record {

@@ -258,7 +258,7 @@ rules_take Sources = (set_takes _ refl refl, (set_takes _ refl refl, (set_takes 
 rules_take Objects = (set_takes _ refl refl, (append_takes _ refl refl, (help_takes _ refl, tt)))
 rules_take Placed = (set_takes _ refl refl, (set_takes _ refl refl, (set_takes _ refl refl, (set_takes _ refl refl, (set_takes _ refl refl, (append_takes _ refl refl, (help_takes _ refl, tt)))))))
 rules_take Located = (set_takes _ refl refl, (set_takes _ refl refl, (set_takes _ refl refl, (set_takes _ refl refl, (flag_takes _ refl refl, (append_takes _ refl refl, (help_takes _ refl, tt)))))))
-rules_take Executed = (set_takes _ refl refl, (set_takes _ refl refl, (set_takes _ refl refl, (set_takes _ refl refl, (set_takes _ refl refl, (set_takes _ refl refl, (append_takes _ refl refl, (help_takes _ refl, tt))))))))
+rules_take Executed = (set_takes _ refl refl, (set_takes _ refl refl, (set_takes _ refl refl, (set_takes _ refl refl, (set_takes _ refl refl, (set_takes _ refl refl, (set_takes _ refl refl, (set_takes _ refl refl, (append_takes _ refl refl, (help_takes _ refl, tt))))))))))
 
 abbrev IfFull : Option Row → Type 0
 IfFull None = Unit {0}

@@ -1,5 +1,5 @@
 -- Command lines of one option at most: they have no fault, and give what is wanted.
-use Rattle.command_line.proofs.Prelude.{◌≡◌, ◌∙◌, List, [], ◌∷◌, ◌++◌, Some, Ok, Err, codes, sym, arith, true, HasKind, Text, fault_of, Error, Failure, Action, Order, PlaceAction, Hex, Locate, LineFault, IsFailureFor, Gives, IsBare, Orders, OrdersCompile, OrdersExecute, OrdersExecuteText, OrdersFiles, OrdersJump, OrdersLink, OrdersMap, OrdersNeed, OrdersPlace, OrdersPlaceText, OrdersText, ExecuteOption, PlanOption, ValueOption, execute_option_name, usual_execute, wants_execute, with_execute_text, Wanted, name_of_action, name_of_place_action, option_name, option_words, plan_option_name, plm_app, usual, usual_place, usual_plan, wanted_by, wanted_in, wants_compile, wants_link, wants_need, wants_place, wants_program, with_plan_text, with_text}
+use Rattle.command_line.proofs.Prelude.{◌≡◌, ◌∙◌, List, [], ◌∷◌, ◌++◌, Some, Ok, Err, codes, sym, arith, true, HasKind, Text, fault_of, Error, Failure, Action, Order, PlaceAction, Hex, Locate, LineFault, IsFailureFor, Gives, IsBare, Orders, OrdersCompile, OrdersExecute, OrdersExecuteText, OrdersFiles, OrdersJump, OrdersLink, OrdersMap, OrdersNeed, OrdersPlace, OrdersPlaceText, OrdersText, PlanOption, ValueOption, usual_execute, wants_execute, with_execute_text, Wanted, name_of_action, name_of_place_action, option_name, option_words, plan_option_name, plm_app, usual, usual_place, usual_plan, wanted_by, wanted_in, wants_compile, wants_link, wants_need, wants_place, wants_program, with_plan_text, with_text}
 use Rattle.command_line.proofs.Begins.{ends_by, flag_begins, jump, map_flag, need_flag, of_execute, of_place, of_program, option_begins, option_row, out, plain_begins, rows_of_flag}
 use Rattle.command_line.proofs.Lines.{Line, execute_line, execute_option_line, jump_line, link_line, map_line, need_line, option_line, place_line, place_option_line, plain_line}
 use Rattle.command_line.proofs.Verbs.{Executed, Located, Objects, Placed, Sources, Verb, compile, execute, form_of, link, name_of, place, program}
@@ -91,13 +91,13 @@ execute_wanted words name (file ∷ files) g =
     wants_by words (file ∷ files) name execute (wants_execute (usual_execute (file ∷ files))) g.words_are
     (execute_line file files (ends_by Executed (codes "execute") [] [] (plain_begins Executed (codes "execute")) file files g.bare.0 g.bare.1))
 
-execute_text_wanted : (words : List Text) (name : Text) (files : List Text) (option : ExecuteOption) (text : Text) → IsBare text
-    → Gives words name (codes "execute") (option_words (execute_option_name option) text) files → Wants words (wants_execute (with_execute_text option text (usual_execute files)))
+execute_text_wanted : (words : List Text) (name : Text) (files : List Text) (option : ValueOption) (text : Text) → IsBare text
+    → Gives words name (codes "execute") (option_words (option_name option) text) files → Wants words (wants_execute (with_execute_text option text (usual_execute files)))
 execute_text_wanted words name [] option text bare g = absurd (let none = g.some in omega arith)
 execute_text_wanted words name (file ∷ files) option text bare g =
-    wants_by words (option_words (execute_option_name option) text ++ file ∷ files) name execute (wants_execute (with_execute_text option text (usual_execute (file ∷ files)))) g.words_are
+    wants_by words (option_words (option_name option) text ++ file ∷ files) name execute (wants_execute (with_execute_text option text (usual_execute (file ∷ files)))) g.words_are
     (execute_option_line option text file files
-    (ends_by Executed (codes "execute") (option_words (execute_option_name option) text) (option_row (of_execute option) text ∷ []) (option_begins (codes "execute") (of_execute option) text bare) file files g.bare.0 g.bare.1))
+    (ends_by Executed (codes "execute") (option_words (option_name option) text) (option_row (of_execute option) text ∷ []) (option_begins (codes "execute") (of_execute option) text bare) file files g.bare.0 g.bare.1))
 
 order_is : (words : List Text) (order : Order) (wanted : Wanted) → Orders words order → Wants words wanted → wanted_in order ≡ wanted
 order_is words order wanted found wants = let same : Some (wanted_in order) ≡ Some wanted = sym found ∙ wants.gives in cc

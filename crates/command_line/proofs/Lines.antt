@@ -1,5 +1,5 @@
 -- Words of one option at most, after a command: they have no fault, and give what is wanted.
-use Rattle.command_line.proofs.Prelude.{◌≡◌, ◌∙◌, List, [], ◌∷◌, ◌++◌, Some, true, false, refl, ap, codes, fold, Row, Text, nothing_held, rows_after, with_default, check_fault, defaults_fault, level_fault, Action, PlaceAction, Locate, Hex, Code, DataBase, Input, Limit, OfPlan, PlanOption, Stack, StackSize, ExecuteOption, PlaceOf, RunInput, RunLimit, ValueOption, execute_option_name, usual_execute, wants_execute, with_execute_text, Wanted, option_words, plan_option_name, option_name, usual, usual_place, usual_plan, wants_link, wants_need, wants_place, wants_program, with_plan_text, with_text, Fill, StartMemory}
+use Rattle.command_line.proofs.Prelude.{◌≡◌, ◌∙◌, List, [], ◌∷◌, ◌++◌, Some, true, false, refl, ap, codes, fold, Row, Text, nothing_held, rows_after, with_default, check_fault, defaults_fault, level_fault, Action, PlaceAction, Locate, Hex, Code, DataBase, Input, Limit, OfPlan, PlanOption, Stack, StackSize, ValueOption, usual_execute, wants_execute, with_execute_text, Wanted, option_words, plan_option_name, option_name, usual, usual_place, usual_plan, wants_link, wants_need, wants_place, wants_program, with_plan_text, with_text, Fill, StartMemory}
 use Rattle.command_line.proofs.Files.{files_row, level_of, rows_of_level}
 use Rattle.command_line.proofs.Begins.{Ends, jump, map_flag, need_flag, of_execute, of_place, of_program, option_row, out, rows_of_flag}
 use Rattle.command_line.proofs.Verbs.{Executed, Located, Objects, Placed, Sources, Verb, execute, form_of, leaf, leaf_of, link, name_of, place, program, rules_of, wanted_of}
@@ -118,25 +118,31 @@ pub execute_line : (file : Text) (files : List Text) → Ends (leaf Executed (co
 unfolding defaults_fault
 execute_line file files e = line_of execute (file ∷ files) (files_row (file ∷ files) ∷ []) (wants_execute (usual_execute (file ∷ files))) e refl refl refl
 
-pub execute_option_line : (o : ExecuteOption) (text file : Text) (files : List Text)
-    → Ends (leaf Executed (codes "execute")) (option_words (execute_option_name o) text ++ file ∷ files) (option_row (of_execute o) text ∷ files_row (file ∷ files) ∷ [])
-    → Line execute (option_words (execute_option_name o) text ++ file ∷ files) (wants_execute (with_execute_text o text (usual_execute (file ∷ files))))
+pub execute_option_line : (o : ValueOption) (text file : Text) (files : List Text)
+    → Ends (leaf Executed (codes "execute")) (option_words (option_name o) text ++ file ∷ files) (option_row (of_execute o) text ∷ files_row (file ∷ files) ∷ [])
+    → Line execute (option_words (option_name o) text ++ file ∷ files) (wants_execute (with_execute_text o text (usual_execute (file ∷ files))))
 unfolding defaults_fault
-execute_option_line (PlaceOf Code) text file files e =
-    line_of execute (option_words (execute_option_name (PlaceOf Code)) text ++ file ∷ files) (option_row (of_execute (PlaceOf Code)) text ∷ files_row (file ∷ files) ∷ [])
-    (wants_execute (with_execute_text (PlaceOf Code) text (usual_execute (file ∷ files)))) e refl refl refl
-execute_option_line (PlaceOf DataBase) text file files e =
-    line_of execute (option_words (execute_option_name (PlaceOf DataBase)) text ++ file ∷ files) (option_row (of_execute (PlaceOf DataBase)) text ∷ files_row (file ∷ files) ∷ [])
-    (wants_execute (with_execute_text (PlaceOf DataBase) text (usual_execute (file ∷ files)))) e refl refl refl
-execute_option_line (PlaceOf Stack) text file files e =
-    line_of execute (option_words (execute_option_name (PlaceOf Stack)) text ++ file ∷ files) (option_row (of_execute (PlaceOf Stack)) text ∷ files_row (file ∷ files) ∷ [])
-    (wants_execute (with_execute_text (PlaceOf Stack) text (usual_execute (file ∷ files)))) e refl refl refl
-execute_option_line (PlaceOf StackSize) text file files e =
-    line_of execute (option_words (execute_option_name (PlaceOf StackSize)) text ++ file ∷ files) (option_row (of_execute (PlaceOf StackSize)) text ∷ files_row (file ∷ files) ∷ [])
-    (wants_execute (with_execute_text (PlaceOf StackSize) text (usual_execute (file ∷ files)))) e refl refl refl
-execute_option_line RunLimit text file files e =
-    line_of execute (option_words (execute_option_name RunLimit) text ++ file ∷ files) (option_row (of_execute RunLimit) text ∷ files_row (file ∷ files) ∷ [])
-    (wants_execute (with_execute_text RunLimit text (usual_execute (file ∷ files)))) e refl refl refl
-execute_option_line RunInput text file files e =
-    line_of execute (option_words (execute_option_name RunInput) text ++ file ∷ files) (option_row (of_execute RunInput) text ∷ files_row (file ∷ files) ∷ [])
-    (wants_execute (with_execute_text RunInput text (usual_execute (file ∷ files)))) e refl refl refl
+execute_option_line (OfPlan Code) text file files e =
+    line_of execute (option_words (option_name (OfPlan Code)) text ++ file ∷ files) (option_row (of_execute (OfPlan Code)) text ∷ files_row (file ∷ files) ∷ [])
+    (wants_execute (with_execute_text (OfPlan Code) text (usual_execute (file ∷ files)))) e refl refl refl
+execute_option_line (OfPlan DataBase) text file files e =
+    line_of execute (option_words (option_name (OfPlan DataBase)) text ++ file ∷ files) (option_row (of_execute (OfPlan DataBase)) text ∷ files_row (file ∷ files) ∷ [])
+    (wants_execute (with_execute_text (OfPlan DataBase) text (usual_execute (file ∷ files)))) e refl refl refl
+execute_option_line (OfPlan Stack) text file files e =
+    line_of execute (option_words (option_name (OfPlan Stack)) text ++ file ∷ files) (option_row (of_execute (OfPlan Stack)) text ∷ files_row (file ∷ files) ∷ [])
+    (wants_execute (with_execute_text (OfPlan Stack) text (usual_execute (file ∷ files)))) e refl refl refl
+execute_option_line (OfPlan StackSize) text file files e =
+    line_of execute (option_words (option_name (OfPlan StackSize)) text ++ file ∷ files) (option_row (of_execute (OfPlan StackSize)) text ∷ files_row (file ∷ files) ∷ [])
+    (wants_execute (with_execute_text (OfPlan StackSize) text (usual_execute (file ∷ files)))) e refl refl refl
+execute_option_line Limit text file files e =
+    line_of execute (option_words (option_name Limit) text ++ file ∷ files) (option_row (of_execute Limit) text ∷ files_row (file ∷ files) ∷ [])
+    (wants_execute (with_execute_text Limit text (usual_execute (file ∷ files)))) e refl refl refl
+execute_option_line Input text file files e =
+    line_of execute (option_words (option_name Input) text ++ file ∷ files) (option_row (of_execute Input) text ∷ files_row (file ∷ files) ∷ [])
+    (wants_execute (with_execute_text Input text (usual_execute (file ∷ files)))) e refl refl refl
+execute_option_line Fill text file files e =
+    line_of execute (option_words (option_name Fill) text ++ file ∷ files) (option_row (of_execute Fill) text ∷ files_row (file ∷ files) ∷ [])
+    (wants_execute (with_execute_text Fill text (usual_execute (file ∷ files)))) e refl refl refl
+execute_option_line StartMemory text file files e =
+    line_of execute (option_words (option_name StartMemory) text ++ file ∷ files) (option_row (of_execute StartMemory) text ∷ files_row (file ∷ files) ∷ [])
+    (wants_execute (with_execute_text StartMemory text (usual_execute (file ∷ files)))) e refl refl refl

@@ -69,13 +69,16 @@ with_memory app =
     (default_rule (codes "fill") (codes "00")))
     (option_rule (codes "memory"))
 
+-- a command with the options of a limit and an input
+abbrev pub with_limit_and_input : App → App
+with_limit_and_input app =
+    with_rule (with_rule app
+    (default_rule (codes "limit") (codes "10000000")))
+    (option_rule (codes "input"))
+
 -- a command with the options of a run
 abbrev pub with_run : App → App
-with_run app =
-    with_memory (with_rule (with_rule (with_rule app
-    (default_rule (codes "limit") (codes "10000000")))
-    (option_rule (codes "input")))
-    (flag_rule (codes "map")))
+with_run app = with_memory (with_rule (with_limit_and_input app) (flag_rule (codes "map")))
 
 -- the command `name [plan] [--limit N] [--input T] [--map] [--fill T] [--memory T] SOURCE...`
 abbrev pub program_app : Text → App
@@ -98,13 +101,10 @@ hex_app name = with_rule (with_rule (with_plan (new_app name)) (option_rule (cod
 abbrev pub locate_app : Text → App
 locate_app name = with_rule (with_rule (with_plan (new_app name)) (flag_rule (codes "need"))) files_rule
 
--- the command `name [plan] [--limit N] [--input T] OBJECT...`
+-- the command `name [plan] [--limit N] [--input T] [--fill T] [--memory T] OBJECT...`
 abbrev pub execute_app : Text → App
 execute_app name =
-    with_rule (with_rule (with_rule (with_plan (new_app name))
-    (default_rule (codes "limit") (codes "10000000")))
-    (option_rule (codes "input")))
-    files_rule
+    with_rule (with_memory (with_limit_and_input (with_plan (new_app name)))) files_rule
 
 -- the program, which has to have a command, and which knows its version
 abbrev pub bare_app : App
@@ -170,6 +170,8 @@ pub record ExecuteWanted : Type 0 where
   pub plan : PlanWanted
   pub limit : Text
   pub input : Option Text
+  pub fill : Text
+  pub memory : Option Text
 
 -- what is wanted of sources whose need is told
 pub record NeedWanted : Type 0 where
@@ -251,6 +253,8 @@ execute_of rows = record {
   plan = plan_of rows;
   limit = text_of (codes "limit") rows;
   input = first_of (codes "input") rows;
+  fill = text_of (codes "fill") rows;
+  memory = first_of (codes "memory") rows;
 }
 
 -- what `locate` wants: the places of an object or, with its flag, the need of sources
@@ -317,6 +321,8 @@ execute_in order = record {
   plan = plan_in order.plan;
   limit = order.limit.now;
   input = option_map (λ text. text.now) order.input;
+  fill = order.fill.now;
+  memory = option_map (λ text. text.now) order.memory;
 }
 
 abbrev pub wanted_in : Order → Wanted
@@ -370,8 +376,14 @@ abbrev pub usual_place : PlaceAction → List Text → PlaceWanted
 usual_place action files = record { action = action; files = files; plan = usual_plan; jump = None }
 
 abbrev pub usual_execute : List Text → ExecuteWanted
-usual_execute objects =
-    record { objects = objects; plan = usual_plan; limit = codes "10000000"; input = None }
+usual_execute objects = record {
+  objects = objects;
+  plan = usual_plan;
+  limit = codes "10000000";
+  input = None;
+  fill = codes "00";
+  memory = None;
+}
 
 -- the options of a plan
 pub data PlanOption : Type 0 where
@@ -380,7 +392,7 @@ pub data PlanOption : Type 0 where
   Stack : PlanOption
   StackSize : PlanOption
 
--- the options with a value
+-- the options of a run with a value
 pub data ValueOption : Type 0 where
   OfPlan : PlanOption → ValueOption
   Limit : ValueOption
@@ -416,22 +428,14 @@ with_text Input text wanted = record wanted { input = Some text }
 with_text Fill text wanted = record wanted { fill = text }
 with_text StartMemory text wanted = record wanted { memory = Some text }
 
--- the options of `execute`, all with a value
-pub data ExecuteOption : Type 0 where
-  PlaceOf : PlanOption → ExecuteOption
-  RunLimit : ExecuteOption
-  RunInput : ExecuteOption
-
-abbrev pub execute_option_name : ExecuteOption → Text
-execute_option_name (PlaceOf option) = plan_option_name option
-execute_option_name RunLimit = codes "limit"
-execute_option_name RunInput = codes "input"
-
-abbrev pub with_execute_text : ExecuteOption → Text → ExecuteWanted → ExecuteWanted
-with_execute_text (PlaceOf option) text wanted =
+-- the same of objects, which have these options too
+abbrev pub with_execute_text : ValueOption → Text → ExecuteWanted → ExecuteWanted
+with_execute_text (OfPlan option) text wanted =
     record wanted { plan = with_plan_text option text wanted.plan }
-with_execute_text RunLimit text wanted = record wanted { limit = text }
-with_execute_text RunInput text wanted = record wanted { input = Some text }
+with_execute_text Limit text wanted = record wanted { limit = text }
+with_execute_text Input text wanted = record wanted { input = Some text }
+with_execute_text Fill text wanted = record wanted { fill = text }
+with_execute_text StartMemory text wanted = record wanted { memory = Some text }
 
 -- the words are a program's name, a command, and then these words and bare files, one at least
 pub record Gives (words : List Text) (name command : Text) (first files : List Text) : Type 0 where
@@ -517,9 +521,9 @@ OrdersExecute words answer = (name : Text) (files : List Text)
 
 -- with an option before them, it wants its text too
 abbrev pub OrdersExecuteText : List Text → Result Order (Failure LineFault) → Type 0
-OrdersExecuteText words answer = (name : Text) (files : List Text) (option : ExecuteOption) (text : Text)
+OrdersExecuteText words answer = (name : Text) (files : List Text) (option : ValueOption) (text : Text)
     → IsBare text
-    → Gives words name (codes "execute") (option_words (execute_option_name option) text) files
+    → Gives words name (codes "execute") (option_words (option_name option) text) files
     → IsOrderOf (wants_execute (with_execute_text option text (usual_execute files))) answer
 
 -- a fault has one of the kinds that `clap` finds in the words, where Help stands for that of help alone, and Version for

@@ -13,7 +13,6 @@ use Rattle.command_line.specs.declared.values.InputByte.{InputByte}
 use Rattle.command_line.specs.declared.start_memory.MemoryByte.{MemoryByte}
 use Rattle.mem80.specs.declared.memory.TheConstants.{MEMORY_SIZE}
 use Rattle.mem80.specs.declared.plan.Plan.{Plan}
-use Rattle.command_line.specs.declared.values.ExecuteSettings.{ExecuteSettings}
 use Rattle.command_line.specs.declared.values.Settings.{Settings}
 use Rattle.command_line.specs.declared.values.ValueFault.{ValueFault}
 
@@ -143,29 +142,24 @@ plan_read wanted = do
   stack_size ← plan_number wanted.stack_size
   Ok (record { code = code; data_base = data_base; stack = stack; stack_size = stack_size })
 
--- the values of what is wanted, or the first text that is no value
-abbrev pub values_read : ProgramWanted → Read Values
-values_read wanted = do
-  plan ← plan_read wanted.plan
-  limit ← limit_number wanted.limit
-  input ← input_read wanted.input
-  fill ← fill_read wanted.fill
-  memory ← memory_read wanted.memory
+-- the values that the texts of all options write, or the first text that is no value
+abbrev pub texts_read :
+    PlanWanted → (limit : Text) → (input : Option Text) → (fill : Text) → (memory : Option Text) → Read Values
+texts_read plan_text limit_text input_text fill_text memory_text = do
+  plan ← plan_read plan_text
+  limit ← limit_number limit_text
+  input ← input_read input_text
+  fill ← fill_read fill_text
+  memory ← memory_read memory_text
   Ok (record { plan = plan; limit = limit; input = input; fill = fill; memory = memory })
 
--- the values of the options of `execute`
-pub record ExecuteValues : Type 0 where
-  pub plan : Plan
-  pub limit : ℕ
-  pub input : List InputByte
+-- the values of what is wanted of sources
+abbrev pub values_read : ProgramWanted → Read Values
+values_read wanted = texts_read wanted.plan wanted.limit wanted.input wanted.fill wanted.memory
 
--- the values of what is wanted of objects, or the first text that is no value
-abbrev pub execute_read : ExecuteWanted → Read ExecuteValues
-execute_read wanted = do
-  plan ← plan_read wanted.plan
-  limit ← limit_number wanted.limit
-  input ← input_read wanted.input
-  Ok (record { plan = plan; limit = limit; input = input })
+-- the values of what is wanted of objects
+abbrev pub execute_read : ExecuteWanted → Read Values
+execute_read wanted = texts_read wanted.plan wanted.limit wanted.input wanted.fill wanted.memory
 
 -- the address of a jump, where one is wanted
 abbrev pub jump_read : Option Text → Read (Option ℕ)
@@ -203,16 +197,6 @@ abbrev pub IsSettingsOf : Read Values → Result Settings (Failure ValueFault) �
 IsSettingsOf read (Ok settings) = read ≡ Ok (values_in settings)
 IsSettingsOf read (Err (Fault fault)) = read ≡ Err fault.text.now
 IsSettingsOf read (Err Memory) = Unit {0}
-
--- the same of objects that are run
-abbrev pub execute_values_in : ExecuteSettings → ExecuteValues
-execute_values_in settings =
-    record { plan = settings.plan; limit = settings.limit; input = settings.input.items }
-
-abbrev pub IsExecuteSettingsOf : Read ExecuteValues → Result ExecuteSettings (Failure ValueFault) → Type 0
-IsExecuteSettingsOf read (Ok settings) = read ≡ Ok (execute_values_in settings)
-IsExecuteSettingsOf read (Err (Fault fault)) = read ≡ Err fault.text.now
-IsExecuteSettingsOf read (Err Memory) = Unit {0}
 
 -- memory did not run out
 abbrev pub HasMemory : Result Settings (Failure ValueFault) → Type 0

@@ -3,7 +3,7 @@
 ghost use Rattle.std.specs.Prelude.{◌≡◌, codes, false};
 ghost use Rattle.clap.specs.Words.{App, Rule, new_app, rule_of, with_rule, with_subcommand};
 ghost use Rattle.command_line.specs.internal.Building.{Builds, IsBuilt};
-ghost use Rattle.command_line.specs.Command.{bare_app, compile_app, default_rule, execute_app, file_rule, files_rule, flag_rule, hex_app, link_app, locate_app, option_rule, out_rule, plm_app, program_app, programs_app, with_plan, with_run, with_memory};
+ghost use Rattle.command_line.specs.Command.{bare_app, compile_app, default_rule, execute_app, file_rule, files_rule, flag_rule, hex_app, link_app, locate_app, option_rule, out_rule, plm_app, program_app, programs_app, with_limit_and_input, with_plan, with_run, with_memory};
 
 use crate::help::{
     ABOUT, COMPILE, EXECUTE, GUIDE, HEX, INTERPRET, INTERPRET_LIMIT, LINK, LOCATE, RUN, RUN_LIMIT,
@@ -137,9 +137,9 @@ fn add_plan<'a>(alloc: Global, command: Built<'a>) -> Built<'a>
     )
 }
 
-// The command with the options of a run.
-fn add_run<'a>(alloc: Global, command: Built<'a>, limit_help: &'a str) -> Built<'a>
-    ensures { (app : App) → Builds app command.entry → Builds (with_run app) result }
+// The command with the options of a limit and an input.
+fn add_limit_and_input<'a>(alloc: Global, command: Built<'a>, limit_help: &'a str) -> Built<'a>
+    ensures { (app : App) → Builds app command.entry → Builds (with_limit_and_input app) result }
 {
     let with_limit = add_option(alloc, command, "limit", "10000000", "N", limit_help);
     let input = option(
@@ -148,7 +148,14 @@ fn add_run<'a>(alloc: Global, command: Built<'a>, limit_help: &'a str) -> Built<
         "GROUPS",
         "What the ports give, as 01:0904/02:FF",
     );
-    let with_input = add(with_limit, input);
+    add(with_limit, input)
+}
+
+// The command with the options of a run.
+fn add_run<'a>(alloc: Global, command: Built<'a>, limit_help: &'a str) -> Built<'a>
+    ensures { (app : App) → Builds app command.entry → Builds (with_run app) result }
+{
+    let with_input = add_limit_and_input(alloc, command, limit_help);
     let map = flag(
         alloc,
         "map",
@@ -307,16 +314,10 @@ fn execute<'a>(alloc: Global) -> Built<'a>
     ensures { Builds (execute_app (codes "execute")) result }
 {
     let planned = add_plan(alloc, named(alloc, "execute", EXECUTE));
-    let with_limit = add_option(alloc, planned, "limit", "10000000", "N", RUN_LIMIT);
-    let input = option(
-        alloc,
-        "input",
-        "GROUPS",
-        "What the ports give, as 01:0904/02:FF",
-    );
-    let with_input = add(with_limit, input);
+    let with_input = add_limit_and_input(alloc, planned, RUN_LIMIT);
+    let with_start = add_memory(alloc, with_input);
     add(
-        with_input,
+        with_start,
         files(alloc, "OBJECT", "The object files, in their order"),
     )
 }

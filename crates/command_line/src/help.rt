@@ -398,6 +398,10 @@ Prints what `plm run` prints, a line for each byte at a port, and then how the r
 Input is groups joined by `/`, each a port, a colon and the bytes that the port gives, all in
 hexadecimal digits: 01:0904/02:FF gives 09 and then 04 at port 01, and FF at port 02.
 
+Each byte of memory is what --fill says at the start, but for the bytes of --memory: groups joined
+by `/`, each an address of four hexadecimal digits, a colon and the bytes from there on, so that
+0080:0161/005C:FF puts 01 at 0080, 61 at 0081, and FF at 005C. The image comes over that.
+
 Exit status:
   0  the program halted, or help was asked for
   1  an object, the merge or its place was refused, memory ran out, or a file can't be read

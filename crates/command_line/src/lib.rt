@@ -15,4 +15,4 @@ pub use orders::{
 };
 pub use reading::{LineFault, command};
 pub use start_memory::MemoryByte;
-pub use values::{ExecuteSettings, InputByte, Settings, ValueFault};
+pub use values::{InputByte, Settings, ValueFault};

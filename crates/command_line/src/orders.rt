@@ -103,6 +103,10 @@ pub struct ExecuteOrder<'a> {
     pub limit: &'a str,
     /// What the ports give, where that was said.
     pub input: Option<&'a str>,
+    /// The byte that the memory has at the start where nothing else is said.
+    pub fill: &'a str,
+    /// Other bytes of the memory at the start, where that was said.
+    pub memory: Option<&'a str>,
 }
 
 /// What the command line asks for.

@@ -188,6 +188,8 @@ fn execute<'a>(alloc: Global, matches: &ArgMatches<'a>) -> Result<Option<Order<'
         plan: plan(matches),
         limit: text(matches, "limit"),
         input: first(matches, "input"),
+        fill: text(matches, "fill"),
+        memory: first(matches, "memory"),
     })))
 }
 

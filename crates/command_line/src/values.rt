@@ -7,9 +7,9 @@ ghost use Rattle.std.specs.Char.{digit_value, is_digit};
 ghost use Rattle.failure.specs.Failure.{IfFault};
 ghost use Rattle.clap.specs.Walk.{texts};
 ghost use Rattle.command_line.specs.Command.{execute_in, place_in, plan_in, program_in};
-ghost use Rattle.command_line.specs.Settings.{IsExecuteSettingsOf, execute_read, HasMemory, IsSettingsOf, byte_of, bytes_for, group_bytes, input_bytes, input_read, jump_read, limit_number, only_file, plan_number, all_groups};
+ghost use Rattle.command_line.specs.Settings.{execute_read, HasMemory, IsSettingsOf, byte_of, bytes_for, group_bytes, input_bytes, input_read, jump_read, limit_number, only_file, plan_number, all_groups};
 ghost use Rattle.command_line.specs.Settings.{plan_read};
-ghost use Rattle.command_line.specs.Settings.{values_read};
+ghost use Rattle.command_line.specs.Settings.{texts_read, values_read};
 ghost use Rattle.command_line.specs.Settings.{Reads, ReadsFile};
 ghost use Rattle.command_line.specs.internal.Reads.{if_read, in_front};
 
@@ -45,17 +45,6 @@ pub struct Settings {
     pub fill: u8,
     /// Bytes of the memory at the start, a later one over an earlier one of its address.
     pub memory: Vec<MemoryByte>,
-}
-
-/// The values of an order to run objects.
-#[derive(Drop)]
-pub struct ExecuteSettings {
-    /// Where the parts of the program are to lie.
-    pub plan: Plan,
-    /// The most instructions that are run.
-    pub limit: u64,
-    /// What the ports give, in the order of the text.
-    pub input: Vec<InputByte>,
 }
 
 /// U4: an option has a text that is none of its values.
@@ -240,6 +229,43 @@ fn input<'a>(
     }
 }
 
+// The values that the texts of all options write.
+fn settings_of<'a>(
+    alloc: Global,
+    plan_texts: &PlanTexts<'a>,
+    limit_text: &'a str,
+    input_text: Option<&'a str>,
+    fill_text: &'a str,
+    memory_text: Option<&'a str>,
+) -> Result<Settings, Failure<ValueFault<'a>>>
+    ensures values { IsSettingsOf (texts_read (plan_in plan_texts.now) limit_text.entry.now
+        (option_map (λ text. text.now) input_text.entry) fill_text.entry.now
+        (option_map (λ text. text.now) memory_text.entry)) result }
+    ensures memory { input_text.entry ≡ None → memory_text.entry ≡ None → HasMemory result }
+{
+    let plan = match plan_of(plan_texts) {
+        Ok(plan) => plan,
+        Err(fault) => return Err(Failure::Fault(fault)),
+    };
+    let limit = match limit(limit_text) {
+        Ok(limit) => limit,
+        Err(fault) => return Err(Failure::Fault(fault)),
+    };
+    let input = input(alloc, input_text)?;
+    let fill = match fill(fill_text) {
+        Ok(fill) => fill,
+        Err(fault) => return Err(Failure::Fault(fault)),
+    };
+    let memory = memory(alloc, memory_text)?;
+    Ok(Settings {
+        plan,
+        limit,
+        input,
+        fill,
+        memory,
+    })
+}
+
 impl<'a> PlaceOrder<'a> {
     /// Where the parts of the program are to lie. It answers U4 only where a text is none of its option's values, with
     /// the first such text, in the order code, data, stack, stack size.
@@ -276,22 +302,20 @@ impl<'a> PlaceOrder<'a> {
 
 impl<'a> ExecuteOrder<'a> {
     /// The values of the options. It answers U4 only where a text is none of its option's values, with the first
-    /// such text, in the order code, data, stack, stack size, limit, input; else the values, or that memory ran
-    /// out. Only an input takes memory.
-    pub fn settings(&self, alloc: Global) -> Result<ExecuteSettings, Failure<ValueFault<'a>>>
-        ensures values { IsExecuteSettingsOf (execute_read (execute_in self.now)) result }
-        ensures memory { self.now.input ≡ None → result ≡ Err Failure.Memory → ⊥ }
+    /// such text, in the order code, data, stack, stack size, limit, input, fill, memory; else the values, or that
+    /// memory ran out. Only an input and bytes of the memory at the start take memory.
+    pub fn settings(&self, alloc: Global) -> Result<Settings, Failure<ValueFault<'a>>>
+        ensures values { IsSettingsOf (execute_read (execute_in self.now)) result }
+        ensures memory { self.now.input ≡ None → self.now.memory ≡ None → HasMemory result }
     {
-        let plan = match plan_of(&self.plan) {
-            Ok(plan) => plan,
-            Err(fault) => return Err(Failure::Fault(fault)),
-        };
-        let limit = match limit(self.limit) {
-            Ok(limit) => limit,
-            Err(fault) => return Err(Failure::Fault(fault)),
-        };
-        let input = input(alloc, self.input)?;
-        Ok(ExecuteSettings { plan, limit, input })
+        settings_of(
+            alloc,
+            &self.plan,
+            self.limit,
+            self.input,
+            self.fill,
+            self.memory,
+        )
     }
 }
 
@@ -313,26 +337,13 @@ impl<'a> ProgramOrder<'a> {
         ensures values { IsSettingsOf (values_read (program_in self.now)) result }
         ensures memory { self.now.input ≡ None → self.now.memory ≡ None → HasMemory result }
     {
-        let plan = match plan_of(&self.plan) {
-            Ok(plan) => plan,
-            Err(fault) => return Err(Failure::Fault(fault)),
-        };
-        let limit = match limit(self.limit) {
-            Ok(limit) => limit,
-            Err(fault) => return Err(Failure::Fault(fault)),
-        };
-        let input = input(alloc, self.input)?;
-        let fill = match fill(self.fill) {
-            Ok(fill) => fill,
-            Err(fault) => return Err(Failure::Fault(fault)),
-        };
-        let memory = memory(alloc, self.memory)?;
-        Ok(Settings {
-            plan,
-            limit,
-            input,
-            fill,
-            memory,
-        })
+        settings_of(
+            alloc,
+            &self.plan,
+            self.limit,
+            self.input,
+            self.fill,
+            self.memory,
+        )
     }
 }

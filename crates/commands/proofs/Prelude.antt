@@ -6,7 +6,6 @@ unfoldable pub use Rattle.std.specs.Fmt.{digits}
 pub use Rattle.failure.proofs.WritingLemmas.{beginning_after, on_err}
 pub use Rattle.failure.specs.{Failure.{IfFault}, Writing.{AppendsBeginning, IsBeginning}, declared.Failure.{Failure, TheVariants.{Fault, Memory}}}
 pub use Rattle.mem80.specs.declared.plan.Plan.{Plan}
-unfoldable pub use Rattle.mem80.specs.Memory.{zeros}
 pub use Rattle.ports.specs.{Events.{CountsFailure}, Input.{AddsByte, queue_of}, Session.{Session}, declared.event.Event.{Event}}
 pub use Rattle.typed_trees.specs.{Jumps.{JumpsAreSound}, TypedTrees.{TypedModule}, Views.{module_view, object_view}, declared.module.Typed.{Typed}}
 pub use Rattle.layout.specs.{Joined.{IsJoined}, Placement.{ModulePlacement, Placement, pieces_of}}

@@ -1,7 +1,6 @@
 -- What is printed of objects that are run, and why they are not.
 use Rattle.std.specs.Prelude.{◌≡◌, ◌⊎◌, ℕ, List, [], Ok, Option}
 use Rattle.std.specs.Io.KnownBytes.{Keeps}
-use Rattle.mem80.specs.Memory.{zeros}
 use Rattle.host.specs.Files.{Directory}
 use Rattle.cpu8080.specs.Machine.{Machine}
 use Rattle.cpu8080.specs.declared.machine.End.{End}
@@ -9,33 +8,38 @@ use Rattle.printing.specs.Printing.{BeginsRun, PrintsRun}
 use Rattle.locate.specs.Locating.{Absolute}
 use Rattle.tool.specs.Execution.{started}
 use Rattle.command_line.specs.Command.{ExecuteWanted}
-use Rattle.command_line.specs.Settings.{ExecuteValues, execute_read}
+use Rattle.command_line.specs.Settings.{Values, execute_read}
 use Rattle.object_commands.specs.Merging.{PlacesMerge, RefusesPlacing}
 use Rattle.commands.specs.Refusing.{RunsOut, TellsUnwritten}
 use Rattle.commands.specs.Running.{GivesInput, end_status}
+use Rattle.commands.specs.Starting.{IsStart}
 
--- what an image does on a memory of zeros, with this input and this limit, was printed
-pub record PrintsImage (values : ExecuteValues) (image : Absolute) (status : ℕ)
+-- what an image does on a memory as these values start it, with their input and their limit, was printed
+pub record PrintsImage (values : Values) (image : Absolute) (status : ℕ)
     (old new : Option (List ℕ)) : Type 0 where
+  pub memory : List ℕ
+  pub start : IsStart values memory
   pub script : List (List ℕ)
   pub gives : GivesInput values.input script
   pub end : End
   pub machine : Machine
-  pub run : PrintsRun values.limit (started image zeros script [] 0) end machine old new
+  pub run : PrintsRun values.limit (started image memory script [] 0) end machine old new
   pub ended : status ≡ end_status end
 
 -- a beginning of that was printed
-pub record BeginsImage (values : ExecuteValues) (image : Absolute) (old new : Option (List ℕ)) : Type 0 where
+pub record BeginsImage (values : Values) (image : Absolute) (old new : Option (List ℕ)) : Type 0 where
+  pub memory : List ℕ
+  pub start : IsStart values memory
   pub script : List (List ℕ)
   pub gives : GivesInput values.input script
-  pub begun : BeginsRun values.limit (started image zeros script [] 0) old new
+  pub begun : BeginsRun values.limit (started image memory script [] 0) old new
 
 -- nothing was printed, or a beginning of that
-abbrev pub StopsImage : ExecuteValues → Absolute → (old new : Option (List ℕ)) → Type 0
+abbrev pub StopsImage : Values → Absolute → (old new : Option (List ℕ)) → Type 0
 StopsImage values image old new = Keeps old new ⊎ BeginsImage values image old new
 
 -- the merge of the objects that are wanted, placed by the plan of these values, was run, and this was printed
-pub record PrintsMerge (wanted : ExecuteWanted) (values : ExecuteValues) (files : Option Directory) (status : ℕ)
+pub record PrintsMerge (wanted : ExecuteWanted) (values : Values) (files : Option Directory) (status : ℕ)
     (old new : Option (List ℕ)) : Type 0 where
   pub image : Absolute
   pub placed : PlacesMerge files wanted.objects values.plan image
@@ -44,13 +48,13 @@ pub record PrintsMerge (wanted : ExecuteWanted) (values : ExecuteValues) (files 
 -- the same with the values that are written
 pub record PrintsExecution (wanted : ExecuteWanted) (files : Option Directory) (status : ℕ)
     (old new : Option (List ℕ)) : Type 0 where
-  pub values : ExecuteValues
+  pub values : Values
   pub written : execute_read wanted ≡ Ok values
   pub printed : PrintsMerge wanted values files status old new
 
 -- The merge of the objects was placed, and then memory ran out or standard output was not written. What was printed by
 -- then is a beginning of what is printed of that merge, which may be nothing or all.
-pub record StopsMerge (wanted : ExecuteWanted) (values : ExecuteValues) (files : Option Directory)
+pub record StopsMerge (wanted : ExecuteWanted) (values : Values) (files : Option Directory)
     (err_old err_new out_old out_new : Option (List ℕ)) : Type 0 where
   pub image : Absolute
   pub placed : PlacesMerge files wanted.objects values.plan image
@@ -60,7 +64,7 @@ pub record StopsMerge (wanted : ExecuteWanted) (values : ExecuteValues) (files :
 -- Why objects were not run with these values: their merge was not placed, with nothing printed; or it was placed, with
 -- no failure counted.
 unfoldable pub RefusesObjects :
-    ExecuteWanted → ExecuteValues → (files : Option Directory) → (before after : ℕ)
+    ExecuteWanted → Values → (files : Option Directory) → (before after : ℕ)
     → (err_old err_new out_old out_new : Option (List ℕ)) → Type 0
 RefusesObjects wanted values files before after err_old err_new out_old out_new =
     (Keeps out_old out_new × RefusesPlacing files wanted.objects values.plan before after err_old err_new)
@@ -69,7 +73,7 @@ RefusesObjects wanted values files before after err_old err_new out_old out_new 
 -- the same with the values that are written
 pub record RefusesValues (wanted : ExecuteWanted) (files : Option Directory) (before after : ℕ)
     (err_old err_new out_old out_new : Option (List ℕ)) : Type 0 where
-  pub values : ExecuteValues
+  pub values : Values
   pub written : execute_read wanted ≡ Ok values
   pub refused : RefusesObjects wanted values files before after err_old err_new out_old out_new
 

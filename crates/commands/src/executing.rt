@@ -5,15 +5,15 @@ ghost use Rattle.host.specs.Endings.{status_of};
 ghost use Rattle.host.specs.Files.{KeepsFiles};
 ghost use Rattle.host.specs.Refusals.{TellsRefusal};
 ghost use Rattle.command_line.specs.Command.{execute_in, wants_execute};
-ghost use Rattle.command_line.specs.Settings.{execute_values_in};
+ghost use Rattle.command_line.specs.Settings.{values_in};
 ghost use Rattle.tool.specs.Execution.{started};
 ghost use Rattle.commands.specs.Executing.{PrintsExecution, PrintsImage, PrintsMerge, RefusesExecution, RefusesObjects, StopsImage};
 ghost use Rattle.commands.specs.Orders.{TellsText};
 ghost use Rattle.commands.specs.Running.{end_status};
 
-use crate::programs::{ending_of, script_of};
+use crate::programs::{ending_of, script_of, start_memory};
 use crate::refusals::refuse_value;
-use command_line::{ExecuteOrder, ExecuteSettings};
+use command_line::{ExecuteOrder, Settings};
 use cpu8080::{End, Machine};
 use failure::{Failure, WriteFault};
 use host::{Ending, Files, refuse_memory, refuse_output};
@@ -25,8 +25,8 @@ use printing::print_machine;
 use std::alloc::Global;
 use std::io::Write;
 
-/// Merges the objects of an order, places the merge and runs it on a memory of zeros, once the values of its options are
-/// known.
+/// Merges the objects of an order, places the merge and runs it on a memory as values start it, once the values of its
+/// options are known.
 pub(crate) fn execute_objects<F: Files, O: Write, E: Write>(
     alloc: Global,
     order: &ExecuteOrder,
@@ -62,7 +62,7 @@ pub(crate) fn execute_objects<F: Files, O: Write, E: Write>(
 fn execute_with<F: Files, O: Write, E: Write>(
     alloc: Global,
     order: &ExecuteOrder,
-    values: &ExecuteSettings,
+    values: &Settings,
     files: &mut F,
     out: &mut O,
     err: &mut E,
@@ -72,12 +72,12 @@ fn execute_with<F: Files, O: Write, E: Write>(
     ensures told { result ≡ Ending.Refused → TellsRefusal (F.files files.old) (execute_in order.now).objects
         (F.failures files.old) (F.failures files.new) (E.contents err.old) (E.contents err.new) }
     ensures refused { result ≡ Ending.Refused → RefusesObjects (execute_in order.now)
-        (execute_values_in values.now) (F.files files.old) (F.failures files.old) (F.failures files.new)
+        (values_in values.now) (F.files files.old) (F.failures files.old) (F.failures files.new)
         (E.contents err.old) (E.contents err.new) (O.contents out.old) (O.contents out.new) }
     ensures count { (result ≡ Ending.Refused → ⊥) → F.failures files.new ≡ F.failures files.old }
     ensures quiet { (result ≡ Ending.Refused → ⊥) → E.contents err.new ≡ E.contents err.old }
     ensures ran { (result ≡ Ending.Refused → ⊥) →
-        PrintsMerge (execute_in order.now) (execute_values_in values.now) (F.files files.old) (status_of result)
+        PrintsMerge (execute_in order.now) (values_in values.now) (F.files files.old) (status_of result)
         (O.contents out.old) (O.contents out.new) }
 {
     let image = match place_merge(alloc, order.objects.as_slice(), &values.plan, files, err) {
@@ -93,20 +93,20 @@ fn execute_with<F: Files, O: Write, E: Write>(
     }
 }
 
-// Prints what an image does on a memory of zeros. After a failure nothing was printed, or a beginning of that.
-#[tactic(auto, using(crate::proofs::Executed::no_image))]
+// Prints what an image does on a memory as values start it. After a failure nothing was printed, or a beginning of that.
+#[tactic(auto, using(crate::proofs::Executed::no_image, crate::proofs::Executed::prints_image, crate::proofs::Executed::begins_image))]
 fn print_placed<O: Write>(
     alloc: Global,
     image: &Absolute,
-    values: &ExecuteSettings,
+    values: &Settings,
     out: &mut O,
 ) -> Result<End, Failure<WriteFault>>
-    ensures ok { IfOk result (λ end. PrintsImage (execute_values_in values.now) image.now (end_status end)
+    ensures ok { IfOk result (λ end. PrintsImage (values_in values.now) image.now (end_status end)
         (O.contents out.old) (O.contents out.new)) }
     ensures err { OnErr result
-        (StopsImage (execute_values_in values.now) image.now (O.contents out.old) (O.contents out.new)) }
+        (StopsImage (values_in values.now) image.now (O.contents out.old) (O.contents out.new)) }
 {
-    let Ok(memory) = Memory::new(alloc) else {
+    let Ok(memory) = start_memory(alloc, values) else {
         return Err(Failure::Memory);
     };
     let Ok(script) = script_of(alloc, values.input.as_slice()) else {

@@ -11,6 +11,6 @@ mod running;
 
 pub use carrying::carry_out_sources;
 pub use compiling::compile_file;
-pub(crate) use loading::script_of;
 pub use loading::sources_of;
+pub(crate) use loading::{script_of, start_memory};
 pub(crate) use running::ending_of;

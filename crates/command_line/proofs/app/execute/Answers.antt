@@ -3,5 +3,5 @@ use Rattle.command_line.proofs.app.execute.Goals as goal
 pub returns : goal.returns
 returns c =
     c.add.ensures _ _
-    (c.add-with_input.ensures _ _ (c.add_option-with_limit.ensures _ (c.add_plan-planned.ensures _ c.named.ensures)) c.option-input.ensures.rule)
+    (c.add_memory-with_start.ensures _ (c.add_limit_and_input-with_input.ensures _ (c.add_plan-planned.ensures _ c.named.ensures)))
     c.files.ensures.rule

@@ -1,0 +1,4 @@
+use Rattle.command_line.proofs.app.add_limit_and_input.Goals as goal
+
+pub returns : goal.returns
+returns c = λ app builds. c.add.ensures _ _ (c.add_option-with_limit.ensures app builds) c.option-input.ensures.rule
