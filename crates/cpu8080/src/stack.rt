@@ -163,3 +163,24 @@ pub fn call_if<M: MachineMemory>(
         call(address, pc, registers, memory);
     }
 }
+
+/// A call of the address that lies so many bytes after the program counter, within the memory.
+#[inline(always)]
+pub fn call_after<M: MachineMemory>(
+    distance: u16,
+    pc: &mut u16,
+    registers: &mut MachineRegisters,
+    memory: &mut M,
+)
+    requires within { pc.old + distance + 1 < MEMORY_SIZE }
+    requires near { distance < 256 }
+    ensures place { pc.new
+        ≡ byte_at (M.bytes memory.old) (pc.old + distance) + 256 * byte_at (M.bytes memory.old) (pc.old + (distance + 1)) }
+    ensures registers { registers.new ≡ record registers.old { sp = two_less registers.old.sp } }
+    ensures memory { M.bytes memory.new
+        ≡ memory_pushed (wrap (pc.old + (distance + 2))) registers.old (M.bytes memory.old) }
+{
+    let address = word_after(*pc, distance, memory);
+    push(pc.wrapping_add(distance + 2), registers, memory);
+    *pc = address;
+}
