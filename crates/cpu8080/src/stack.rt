@@ -18,9 +18,14 @@ pub fn push<M: MachineMemory>(word: u16, registers: &mut MachineRegisters, memor
     ensures registers { registers.new ≡ record registers.old { sp = two_less registers.old.sp } }
     ensures memory { M.bytes memory.new ≡ memory_pushed word registers.old (M.bytes memory.old) }
 {
-    memory.set(registers.sp.wrapping_sub(1), (word / 256) as u8);
-    registers.sp = registers.sp.wrapping_sub(2);
-    memory.set(registers.sp, (word % 256) as u8);
+    let top = registers.sp.wrapping_sub(2);
+    memory.set_two(
+        registers.sp.wrapping_sub(1),
+        (word / 256) as u8,
+        top,
+        (word % 256) as u8,
+    );
+    registers.sp = top;
 }
 
 /// POP: takes a 16-bit value from the stack.
