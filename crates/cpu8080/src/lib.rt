@@ -12,6 +12,7 @@ mod pairs;
 mod port;
 mod register_pair;
 mod remaining;
+mod singles;
 mod stack;
 mod table;
 

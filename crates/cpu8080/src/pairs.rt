@@ -143,8 +143,12 @@ pub fn put_word<M: MachineMemory>(address: u16, word: u16, memory: &mut M)
     ensures { M.bytes memory.new
         ≡ slice_set (slice_set (M.bytes memory.old) address (low_byte word)) (wrap (address + 1)) (high_byte word) }
 {
-    memory.set(address, (word % 256) as u8);
-    memory.set(address.wrapping_add(1), (word / 256) as u8);
+    memory.set_two(
+        address,
+        (word % 256) as u8,
+        address.wrapping_add(1),
+        (word / 256) as u8,
+    );
 }
 
 /// The byte at the program counter, which goes on by one.

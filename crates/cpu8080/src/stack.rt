@@ -18,9 +18,14 @@ pub fn push<M: MachineMemory>(word: u16, registers: &mut MachineRegisters, memor
     ensures registers { registers.new ≡ record registers.old { sp = two_less registers.old.sp } }
     ensures memory { M.bytes memory.new ≡ memory_pushed word registers.old (M.bytes memory.old) }
 {
-    memory.set(registers.sp.wrapping_sub(1), (word / 256) as u8);
-    registers.sp = registers.sp.wrapping_sub(2);
-    memory.set(registers.sp, (word % 256) as u8);
+    let top = registers.sp.wrapping_sub(2);
+    memory.set_two(
+        registers.sp.wrapping_sub(1),
+        (word / 256) as u8,
+        top,
+        (word % 256) as u8,
+    );
+    registers.sp = top;
 }
 
 /// POP: takes a 16-bit value from the stack.
@@ -162,4 +167,25 @@ pub fn call_if<M: MachineMemory>(
     if condition {
         call(address, pc, registers, memory);
     }
+}
+
+/// A call of the address that lies so many bytes after the program counter, within the memory.
+#[inline(always)]
+pub fn call_after<M: MachineMemory>(
+    distance: u16,
+    pc: &mut u16,
+    registers: &mut MachineRegisters,
+    memory: &mut M,
+)
+    requires within { pc.old + distance + 1 < MEMORY_SIZE }
+    requires near { distance < 256 }
+    ensures place { pc.new
+        ≡ byte_at (M.bytes memory.old) (pc.old + distance) + 256 * byte_at (M.bytes memory.old) (pc.old + (distance + 1)) }
+    ensures registers { registers.new ≡ record registers.old { sp = two_less registers.old.sp } }
+    ensures memory { M.bytes memory.new
+        ≡ memory_pushed (wrap (pc.old + (distance + 2))) registers.old (M.bytes memory.old) }
+{
+    let address = word_after(*pc, distance, memory);
+    push(pc.wrapping_add(distance + 2), registers, memory);
+    *pc = address;
 }
