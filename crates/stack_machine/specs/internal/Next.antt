@@ -1,7 +1,6 @@
 -- Where a running machine goes on.
 use Rattle.std.specs.Prelude.{◌≡◌, ℕ, ◌+◌, ◌-◌, ◌<◌, ◌≤◌, List, Result, Ok, Err}
 use Rattle.meaning.specs.declared.reason.Reason.{Reason}
-use Rattle.stack_machine.specs.declared.end.SourceEnd.{SourceEnd}
 use Rattle.stack_machine.specs.declared.end.SourceEnd.TheVariants.{Ended, More, Outside}
 use Rattle.stack_machine.specs.declared.machine.StackMachine.{StackMachine}
 use Rattle.stack_machine.specs.declared.machine.Remaining.{Remaining}
