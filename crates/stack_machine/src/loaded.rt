@@ -27,7 +27,8 @@ impl Loaded<'_> {
     #[inline(always)]
     pub fn read(&self, memory: &Memory, scalar: ScalarType, address: u16) -> Result<u16, Reason>
         requires { HasTable (self.now).joined.now (self.now).placement.now }
-        ensures { result ≡ scalar_read (modules_in (self.now).joined.now) (placement_view (self.now).placement.now)
+        ensures { result
+            ≡ scalar_read (modules_in (self.now).joined.now) (placement_view (self.now).placement.now)
             memory.now scalar address }
     {
         read_scalar(self.joined, self.placement, memory, scalar, address)

@@ -24,7 +24,8 @@ impl<'a> StackMachine<'a> {
     #[inline(always)]
     pub fn push(&mut self, number: u16) -> Result<Remaining, AllocError>
         requires { self.old.at < usize.MAX }
-        ensures { IfOk result (λ remaining. IsNext self.old (number ∷ self.old.values) remaining self.new) }
+        ensures { IfOk result (λ remaining.
+            IsNext self.old (number ∷ self.old.values) remaining self.new) }
     {
         self.values.push(number)?;
         Ok(self.next())
@@ -34,7 +35,8 @@ impl<'a> StackMachine<'a> {
     #[inline(always)]
     pub fn put(&mut self, number: u16) -> Result<Remaining, AllocError>
         requires { self.old.at < usize.MAX }
-        ensures { IfOk result (λ remaining. IsNext self.old (number ∷ below self.old.values) remaining self.new) }
+        ensures { IfOk result (λ remaining.
+            IsNext self.old (number ∷ below self.old.values) remaining self.new) }
     {
         self.values.put(number)?;
         Ok(self.next())
