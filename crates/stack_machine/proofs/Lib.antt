@@ -4,7 +4,6 @@ pub mod Steps
 pub mod Copies
 pub mod Accesses
 pub mod Moving
-pub mod Arguing
 pub mod ModuleSlots
 pub mod Entering
 pub mod Leading

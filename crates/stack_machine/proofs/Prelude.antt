@@ -17,4 +17,7 @@ pub use Rattle.stack_machine.specs.declared.machine.StackMachine.{StackMachine}
 pub use Rattle.stack_machine.specs.internal.Arguments.{arguments_of}
 pub use Rattle.stack_machine.specs.internal.Moves.{bytes_moved, copied}
 pub use Rattle.stack_machine.specs.internal.Opened.{IsThere, frame_opened}
-pub use Rattle.stack_machine.specs.internal.Views.{calls_view, machine_view, program_in, program_of, state_view, weight_of}
+pub use Rattle.stack_machine.specs.internal.Views.{calls_view, machine_view, program_in, program_of, state_view, weight_of, weight_of_calls}
+pub use Rattle.stack_machine.specs.declared.loaded.Loaded.{Loaded}
+pub use Rattle.stack_code.specs.internal.Simulation.{Leads}
+pub use Rattle.stack_code.proofs.Steps.{leads_as, leads_here, leads_step, leads_then}

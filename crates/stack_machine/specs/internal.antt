@@ -1,6 +1,7 @@
 -- What only private functions and proofs cite.
 pub mod Arguments
 pub mod Views
+pub mod Next
 pub mod Performs
 pub mod Parts
 pub mod Moves

@@ -1,22 +1,9 @@
-//! Where the machine continues.
+//! What the tables have for labels and procedures.
 
-ghost use Rattle.std.specs.Prelude.{◌≡◌, ◌+◌, ◌<◌, ◌≤◌, MatchOption, IfSome};
+ghost use Rattle.std.specs.Prelude.{◌≡◌};
 ghost use Rattle.stack_code.specs.Program.{entry_in, label_in};
 
 use stack_code::{Entry, ModuleTable};
-
-/// The place `count` instructions after the next one, or `None` past the end of the code.
-#[inline(always)]
-pub fn ahead(at: usize, count: usize, length: usize) -> Option<usize>
-    requires { at < length }
-    ensures { MatchOption result (length ≤ at + 1 + count) (λ to. to ≡ at + 1 + count) }
-{
-    if count < length - at - 1 {
-        Some(at + 1 + count)
-    } else {
-        None
-    }
-}
 
 /// The instruction after the mark of a label.
 #[inline(always)]

@@ -2,7 +2,6 @@
 #![tactic(auto)]
 
 mod access;
-mod arithmetic;
 mod calling;
 mod calls;
 mod computing;
@@ -14,6 +13,7 @@ mod jumping;
 mod loaded;
 mod machine;
 mod moves;
+mod next;
 mod opening;
 mod parts;
 mod port_access;

@@ -1,5 +1,5 @@
 -- Each turn carries out one instruction.
-use Rattle.stack_machine.proofs.Prelude.{◌∙◌, placement_view, modules_in}
+use Rattle.stack_machine.proofs.Prelude.{◌∙◌}
 use Rattle.stack_machine.proofs.Leading.{performed, performed_stop, performed_input, performed_output, code_ends}
 use Rattle.stack_machine.proofs.machine.StackMachine.go_on.Goals as goal
 
@@ -8,20 +8,18 @@ loop-self-preserved-in-Ok-Nothing g c =
     let i = c.loop-self.invariant in
     record {
       leads =
-          performed (modules_in c.args.loaded.joined.now) (placement_view c.args.loaded.placement.now)
-          c.args.loaded.code.now (g.P.Ports.script c.args.ports.now) c.args.self.now c.loop-self.self c.carry_out.new.self
-          (g.P.Ports.events c.args.ports.now) (g.P.Ports.events c.loop-self.ports) c.in-Ok-Nothing.field-0 i.leads
-          c.loop-self-test.true c.in-Ok-Nothing.field-0-is c.in-Ok-Nothing.ensures.performs;
+          performed c.args.loaded (g.P.Ports.script c.args.ports.now) c.args.self.now (g.P.Ports.events c.args.ports.now)
+          c.loop-self.self (g.P.Ports.events c.loop-self.ports) i.leads c.loop-self-test.true
+          c.carry_out.new.self c.in-Ok-Nothing.field-0 c.in-Ok-Nothing.field-0-is c.in-Ok-Nothing.ensures.performs;
       script = i.script;
       failures = i.failures;
     }
 
 pub returns-in-Ok-Stop-clause-ended : goal.returns-in-Ok-Stop-clause-ended
 returns-in-Ok-Stop-clause-ended g c =
-    performed_stop (modules_in c.args.loaded.joined.now) (placement_view c.args.loaded.placement.now)
-    c.args.loaded.code.now (g.P.Ports.script c.args.ports.now) c.args.self.now c.loop-self.self c.carry_out.new.self
-    (g.P.Ports.events c.args.ports.now) (g.P.Ports.events c.loop-self.ports) c.in-Ok-Stop.field-0 c.in-Ok-Stop.end
-    c.loop-self.invariant.leads c.loop-self-test.true c.in-Ok-Stop.field-0-is c.in-Ok-Stop.ensures.performs
+    performed_stop c.args.loaded (g.P.Ports.script c.args.ports.now) c.args.self.now (g.P.Ports.events c.args.ports.now)
+    c.loop-self.self (g.P.Ports.events c.loop-self.ports) c.loop-self.invariant.leads c.loop-self-test.true
+    c.carry_out.new.self c.in-Ok-Stop.field-0 c.in-Ok-Stop.end c.in-Ok-Stop.field-0-is c.in-Ok-Stop.ensures.performs
 
 pub loop-self-preserved-in-Continue-1 : goal.loop-self-preserved-in-Continue-1
 loop-self-preserved-in-Continue-1 g c =
@@ -29,12 +27,11 @@ loop-self-preserved-in-Continue-1 g c =
     let h = c.in_ok-input-in-Ok-Input.ensures in
     record {
       leads =
-          performed_input (modules_in c.args.loaded.joined.now) (placement_view c.args.loaded.placement.now)
-          c.args.loaded.code.now (g.P.Ports.script c.args.ports.now) (g.P.Ports.script c.loop-self.ports)
-          c.args.self.now c.loop-self.self c.carry_out.new.self c.input.new.self (g.P.Ports.events c.args.ports.now)
-          (g.P.Ports.events c.loop-self.ports) (g.P.Ports.events c.input.new.ports) c.in-Ok-Input.field-0
-          c.in-Ok-Input.port i.leads c.loop-self-test.true c.in-Ok-Input.field-0-is c.in-Ok-Input.ensures.performs
-          i.script h.after h.event;
+          performed_input c.args.loaded (g.P.Ports.script c.args.ports.now) c.args.self.now
+          (g.P.Ports.events c.args.ports.now) c.loop-self.self (g.P.Ports.events c.loop-self.ports) i.leads
+          c.loop-self-test.true c.carry_out.new.self c.input.new.self c.in-Ok-Input.field-0 c.in-Ok-Input.port
+          (g.P.Ports.script c.loop-self.ports) (g.P.Ports.events c.input.new.ports) c.in-Ok-Input.field-0-is
+          c.in-Ok-Input.ensures.performs i.script h.after h.event;
       script = h.script ∙ i.script;
       failures = h.count ∙ i.failures;
     }
@@ -45,17 +42,16 @@ loop-self-preserved g c =
     let h = c.in_ok-output-in-Ok-Output.ensures in
     record {
       leads =
-          performed_output (modules_in c.args.loaded.joined.now) (placement_view c.args.loaded.placement.now)
-          c.args.loaded.code.now (g.P.Ports.script c.args.ports.now) c.args.self.now c.loop-self.self c.carry_out.new.self
-          c.output.new.self (g.P.Ports.events c.args.ports.now) (g.P.Ports.events c.loop-self.ports)
-          (g.P.Ports.events c.output.new.ports) c.in-Ok-Output.field-0 c.in-Ok-Output.port i.leads
-          c.loop-self-test.true c.in-Ok-Output.field-0-is c.in-Ok-Output.ensures.performs h.after h.event;
+          performed_output c.args.loaded (g.P.Ports.script c.args.ports.now) c.args.self.now
+          (g.P.Ports.events c.args.ports.now) c.loop-self.self (g.P.Ports.events c.loop-self.ports) i.leads
+          c.loop-self-test.true c.carry_out.new.self c.output.new.self c.in-Ok-Output.field-0 c.in-Ok-Output.port
+          (g.P.Ports.events c.output.new.ports) c.in-Ok-Output.field-0-is c.in-Ok-Output.ensures.performs
+          h.after h.event;
       script = h.script ∙ i.script;
       failures = h.count ∙ i.failures;
     }
 
 pub returns-clause-ended : goal.returns-clause-ended
 returns-clause-ended g c =
-    code_ends (modules_in c.args.loaded.joined.now) (placement_view c.args.loaded.placement.now)
-    c.args.loaded.code.now (g.P.Ports.script c.args.ports.now) c.args.self.now c.loop-self.self
-    (g.P.Ports.events c.args.ports.now) (g.P.Ports.events c.loop-self.ports) c.loop-self.invariant.leads c.loop-self-test.false
+    code_ends c.args.loaded (g.P.Ports.script c.args.ports.now) c.args.self.now (g.P.Ports.events c.args.ports.now)
+    c.loop-self.self (g.P.Ports.events c.loop-self.ports) c.loop-self.invariant.leads c.loop-self-test.false

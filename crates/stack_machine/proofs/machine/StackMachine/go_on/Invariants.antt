@@ -1,13 +1,12 @@
 -- Some steps led here; the script of the ports and their failures are as before.
-use Rattle.stack_machine.proofs.Prelude.{◌≡◌, length, placement_view, modules_in, weight_of}
+use Rattle.stack_machine.proofs.Prelude.{◌≡◌, length, weight_of}
 use Rattle.stack_machine.proofs.Leading.{LeadsTo}
 use Rattle.stack_machine.proofs.machine.StackMachine.go_on.Given as goal
 
 abbrev pub invariant-loop-self : goal.invariant-loop-self
 invariant-loop-self g l =
     record {
-      leads : LeadsTo (modules_in l.loaded.joined.now) (placement_view l.loaded.placement.now) l.loaded.code.now
-          (g.P.Ports.script l.fn.ports) l.fn.self (g.P.Ports.events l.fn.ports) l.self
+      leads : LeadsTo l.loaded (g.P.Ports.script l.fn.ports) l.fn.self (g.P.Ports.events l.fn.ports) l.self
           (g.P.Ports.events l.ports);
       script : g.P.Ports.script l.ports ≡ g.P.Ports.script l.fn.ports;
       failures : g.P.Ports.failures l.ports ≡ g.P.Ports.failures l.fn.ports;
