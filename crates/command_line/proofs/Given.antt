@@ -1,9 +1,10 @@
 -- Command lines of one option at most: they have no fault, and give what is wanted.
-use Rattle.command_line.proofs.Prelude.{◌≡◌, ◌∙◌, List, [], ◌∷◌, ◌++◌, Some, Ok, Err, codes, sym, arith, true, HasKind, Text, fault_of, Error, Failure, Action, Order, PlaceAction, Hex, Locate, LineFault, IsFailureFor, Gives, IsBare, Orders, OrdersCompile, OrdersExecute, OrdersExecuteText, OrdersFiles, OrdersJump, OrdersLink, OrdersMap, OrdersNeed, OrdersPlace, OrdersPlaceText, OrdersText, PlanOption, ValueOption, usual_execute, wants_execute, with_execute_text, Wanted, name_of_action, name_of_place_action, option_name, option_words, plan_option_name, plm_app, usual, usual_place, usual_plan, wanted_by, wanted_in, wants_compile, wants_link, wants_need, wants_place, wants_program, with_plan_text, with_text}
+use Rattle.command_line.proofs.Prelude.{◌≡◌, ◌∙◌, List, [], ◌∷◌, ◌++◌, Some, Ok, Err, codes, sym, arith, true, HasKind, Text, fault_of, Error, Failure, Action, Order, PlaceAction, Hex, Locate, LineFault, IsFailureFor, Gives, IsBare, Orders, OrdersCompile, OrdersExecute, OrdersExecuteText, OrdersExplain, OrdersFiles, OrdersJump, OrdersLink, OrdersMap, OrdersNeed, OrdersPlace, OrdersPlaceText, OrdersText, PlanOption, ValueOption, usual_execute, wants_execute, with_execute_text, Wanted, name_of_action, name_of_place_action, option_name, option_words, plan_option_name, plm_app, usual, usual_place, usual_plan, wanted_by, wanted_in, wants_compile, wants_explain, wants_link, wants_need, wants_place, wants_program, with_plan_text, with_text}
 use Rattle.command_line.proofs.Begins.{ends_by, flag_begins, jump, map_flag, need_flag, of_execute, of_place, of_program, option_begins, option_row, out, plain_begins, rows_of_flag}
 use Rattle.command_line.proofs.Lines.{Line, execute_line, execute_option_line, jump_line, link_line, map_line, need_line, option_line, place_line, place_option_line, plain_line}
-use Rattle.command_line.proofs.Verbs.{Executed, Located, Objects, Placed, Sources, Verb, compile, execute, form_of, link, name_of, place, program}
+use Rattle.command_line.proofs.Verbs.{Executed, Located, Objects, Placed, Sources, Verb, compile, execute, explain, form_of, link, name_of, place, program}
 use Rattle.command_line.proofs.Compiles.{compile_line}
+use Rattle.command_line.proofs.Explains.{explain_line}
 use Rattle.command_line.proofs.CommandLemmas.{only_memory}
 use Rattle.command_line.proofs.PlmWords.{line_fine, line_wanted}
 
@@ -43,6 +44,9 @@ compile_wanted : (words : List Text) (name source object : Text) → IsBare sour
     → Gives words name (codes "compile") (source ∷ []) (object ∷ []) → Wants words (wants_compile (record { source = source; object = object }))
 compile_wanted words name source object bare g =
     wants_by words (source ∷ object ∷ []) name compile (wants_compile (record { source = source; object = object })) g.words_are (compile_line source object bare g.bare.0)
+
+explain_wanted : (words : List Text) (name number : Text) → Gives words name (codes "explain") [] (number ∷ []) → Wants words (wants_explain (record { number = number }))
+explain_wanted words name number g = wants_by words (number ∷ []) name explain (wants_explain (record { number = number })) g.words_are (explain_line number g.bare.0)
 
 link_wanted : (words : List Text) (name : Text) (target : Text) (files : List Text) → IsBare target
     → Gives words name (codes "link") (option_words (codes "out") target) files → Wants words (wants_link (record { out = target; objects = files }))
@@ -136,6 +140,9 @@ execute_ordered words order found = λ name files g. order_is words order (wants
 pub execute_text_ordered : (words : List Text) (order : Order) → Orders words order → OrdersExecuteText words (Ok order)
 execute_text_ordered words order found = λ name files option text bare g. order_is words order (wants_execute (with_execute_text option text (usual_execute files))) found (execute_text_wanted words name files option text bare g)
 
+pub explain_ordered : (words : List Text) (order : Order) → Orders words order → OrdersExplain words (Ok order)
+explain_ordered words order found = λ name number g. order_is words order (wants_explain (record { number = number })) found (explain_wanted words name number g)
+
 -- where they have none, only memory can fail
 pub files_failed : (words : List Text) (error : Error) (failure : Failure LineFault) → HasKind (fault_of plm_app words) error → IsFailureFor error failure
     → OrdersFiles words (Err failure)
@@ -180,3 +187,7 @@ execute_failed words error failure has is = λ name files g. only_memory error f
 pub execute_text_failed : (words : List Text) (error : Error) (failure : Failure LineFault) → HasKind (fault_of plm_app words) error → IsFailureFor error failure
     → OrdersExecuteText words (Err failure)
 execute_text_failed words error failure has is = λ name files option text bare g. only_memory error failure (fault_of plm_app words) (execute_text_wanted words name files option text bare g).fine has is
+
+pub explain_failed : (words : List Text) (error : Error) (failure : Failure LineFault) → HasKind (fault_of plm_app words) error → IsFailureFor error failure
+    → OrdersExplain words (Err failure)
+explain_failed words error failure has is = λ name number g. only_memory error failure (fault_of plm_app words) (explain_wanted words name number g).fine has is

@@ -7,6 +7,7 @@ pub mod Files
 pub mod Begins
 pub mod Lines
 pub mod Compiles
+pub mod Explains
 pub mod Full
 pub mod PlmWords
 pub mod Given

@@ -1,9 +1,9 @@
 -- The words of a whole command line: without a fault they give an order.
-use Rattle.command_line.proofs.Prelude.{◌≡◌, ℕ, List, [], ◌∷◌, Option, Some, None, Bool, true, false, refl, sym, subst, codes, drop, is_some, ap, ◌∙◌, ◌++◌, append_assoc, ◌<◌, length, arith, find, fold, option_and_then, option_map, if◌then◌else◌, not, ◌&&◌, ◌||◌, AllByRecursion, option_map_or, bytes_eq, App, Kinds, Row, Rule, Shape, Text, fault_of, is_simple, Names, rows_after, settled, Waiting, option, positional, waits, done, refused, next, subcommand, plain_word, bundle, long_met, subcommand_or_other, subcommand_met, to_positional, arg_by_index, walked_from, walk, walk_from, nothing_held, answers_to, Held, Walk, Step, Outcome, plain, idle, value, trailing, walked, after_step, word_met, after_flag, short_or_plain, long_or_other, arg_by_long, finished, long_of, short_of, clap_on_literals, built, entered, filled, label_of, names_of, rows_at, built_leaf, help_rule, help_shape, new_shape, version_rule, level_fault, entered_fault, other_fault, is_simple_and_free, step_fault, turn_fault, walk_fault, word_fault, check_fault, defaults_fault, settle_fault, or_else, ErrorKind, Wanted, files_in, files_of, is_set, located_of, need_of, place_of, plm_app, wanted_by, wanted_of_match, wants_need, wants_place, stopped_fault, append-nil, Locate, Hex}
+use Rattle.command_line.proofs.Prelude.{◌≡◌, ℕ, List, [], ◌∷◌, Option, Some, None, Bool, true, false, refl, sym, subst, codes, drop, is_some, ap, ◌∙◌, ◌++◌, append_assoc, ◌<◌, length, arith, find, fold, option_and_then, option_map, if◌then◌else◌, not, ◌&&◌, ◌||◌, AllByRecursion, option_map_or, bytes_eq, App, Kinds, Row, Rule, Shape, Text, fault_of, is_simple, Names, rows_after, settled, Waiting, option, positional, waits, done, refused, next, subcommand, plain_word, bundle, long_met, subcommand_or_other, subcommand_met, to_positional, arg_by_index, walked_from, walk, walk_from, nothing_held, answers_to, Held, Walk, Step, Outcome, plain, idle, value, trailing, walked, after_step, word_met, after_flag, short_or_plain, long_or_other, arg_by_long, finished, long_of, short_of, clap_on_literals, built, entered, filled, label_of, names_of, rows_at, built_leaf, help_rule, help_shape, new_shape, version_rule, level_fault, entered_fault, other_fault, is_simple_and_free, step_fault, turn_fault, walk_fault, word_fault, check_fault, defaults_fault, settle_fault, or_else, ErrorKind, Wanted, named_in, files_of, is_set, located_of, need_of, place_of, plm_app, wanted_by, wanted_of_match, wants_need, wants_place, stopped_fault, append-nil, Locate, Hex}
 use Rattle.command_line.specs.declared.orders.Action.TheVariants.{Run, Interpret}
 use Rattle.command_line.proofs.CommandLemmas.{same_text_of}
 use Rattle.command_line.proofs.Full.{some_file}
-use Rattle.command_line.proofs.Verbs.{Executed, Located, Objects, Placed, Sources, Verb, compile, execute, leaf, leaf_of, link, name_of, place, program, rules, rules_of, wanted_of}
+use Rattle.command_line.proofs.Verbs.{Executed, Located, Objects, Placed, Sources, Verb, compile, execute, explain, leaf, leaf_of, link, name_of, place, program, rules, rules_of, wanted_of}
 use Rattle.command_line.proofs.Levels.{level_passes_by, never, none_of_both}
 
 pub plm_is_simple : is_simple plm_app ≡ true
@@ -107,7 +107,7 @@ help_built = built_leaf help_shape
 abbrev plm_built : App
 plm_built = record {
   top = top_built;
-  subs = leaf_of compile ∷ leaf Sources (codes "run") ∷ leaf Sources (codes "interpret") ∷ leaf Objects (codes "link") ∷ leaf Located (codes "locate") ∷ leaf Placed (codes "hex") ∷ leaf Executed (codes "execute") ∷ help_built ∷ [];
+  subs = leaf_of compile ∷ leaf Sources (codes "run") ∷ leaf Sources (codes "interpret") ∷ leaf Objects (codes "link") ∷ leaf Located (codes "locate") ∷ leaf Placed (codes "hex") ∷ leaf Executed (codes "execute") ∷ leaf_of explain ∷ help_built ∷ [];
 }
 
 built_is : built plm_app ≡ plm_built
@@ -155,7 +155,10 @@ all_commands name other = (
           λ e rows missing. some_is_none _ missing,
           (
             λ e rows missing. some_is_none _ missing,
-            (λ e rows missing. some_is_none _ missing, (λ e rows missing. help_named name e other, tt)),
+            (
+              λ e rows missing. some_is_none _ missing,
+              (λ e rows missing. some_is_none _ missing, (λ e rows missing. help_named name e other, tt)),
+            ),
           ),
         ),
       ),
@@ -199,6 +202,7 @@ command_met link = refl
 command_met (place Locate) = refl
 command_met (place Hex) = refl
 command_met execute = refl
+command_met explain = refl
 
 command_walk : (verb : Verb) (rest : List Text)
     → walk top_built.rules (names_of plm_built) nothing_held (name_of verb ∷ rest) ≡ record (walk_from nothing_held) { stopped = Some (name_of verb, rest) }
@@ -215,6 +219,7 @@ command_turn link = refl
 command_turn (place Locate) = refl
 command_turn (place Hex) = refl
 command_turn execute = refl
+command_turn explain = refl
 
 command_fault : (verb : Verb) (rest : List Text) → walk_fault top_built (names_of plm_built) (walk_from nothing_held) (name_of verb ∷ rest) ≡ []
 unfolding walk_fault
@@ -231,6 +236,7 @@ entered_is link rest = refl
 entered_is (place Locate) rest = refl
 entered_is (place Hex) rest = refl
 entered_is execute rest = refl
+entered_is explain rest = refl
 
 entered_fine : (verb : Verb) (rest : List Text) → level_fault (leaf_of verb) [] nothing_held rest false [] ≡ [] → entered_fault plm_built (Some (name_of verb, rest)) ≡ []
 entered_fine compile rest fine = fine
@@ -240,6 +246,7 @@ entered_fine link rest fine = fine
 entered_fine (place Locate) rest fine = fine
 entered_fine (place Hex) rest fine = fine
 entered_fine execute rest fine = fine
+entered_fine explain rest fine = fine
 
 top_level : (s : Shape) (names : Names) (words : List Text) (inside : Option (Text × List Text) → Bool) (below : Option (Text × List Text) → Kinds) (end : Walk)
     → walk_fault s names (walk_from nothing_held) words ≡ [] → walk s.rules names nothing_held words ≡ end → below end.stopped ≡ [] → settle_fault s.rules s.args_override_self end.held ≡ []
@@ -263,6 +270,7 @@ wanted_named link rest = refl
 wanted_named (place Locate) rest = refl
 wanted_named (place Hex) rest = refl
 wanted_named execute rest = refl
+wanted_named explain rest = refl
 
 pub line_wanted : (name : Text) (verb : Verb) (rest : List Text) (wanted : Wanted) → wanted_of verb (rows_after (rules_of verb) [] rest) ≡ wanted
     → wanted_by (name ∷ name_of verb ∷ rest) ≡ Some wanted
@@ -272,7 +280,7 @@ line_wanted name verb rest wanted gives =
 
 -- a level without a fault gives a file
 abbrev HasFile : Shape → Type 0
-HasFile s = (rest : List Text) (wanted : Wanted) → level_fault s [] nothing_held rest false [] ≡ [] → wanted_of_match (rows_at s rest) ≡ Some wanted → 0 < length (files_in wanted)
+HasFile s = (rest : List Text) (wanted : Wanted) → level_fault s [] nothing_held rest false [] ≡ [] → wanted_of_match (rows_at s rest) ≡ Some wanted → 0 < length (named_in wanted)
 
 same_wanted : (x y : Wanted) → Some x ≡ Some y → x ≡ y
 same_wanted x y e = cc
@@ -281,23 +289,24 @@ verb_wants : (verb : Verb) (rest : List Text) (wanted : Wanted) → wanted_of_ma
 verb_wants verb rest wanted found = same_wanted (wanted_of verb (rows_after (rules_of verb) [] rest)) wanted (sym (wanted_named verb rest) ∙ found)
 
 -- what `locate` wants has the files of its words
-files_located : (rows : List Row) → files_in (located_of rows) ≡ files_of rows
+files_located : (rows : List Row) → named_in (located_of rows) ≡ files_of rows
 files_located rows = go (is_set (codes "need") rows)
   where
-    go : (t : Bool) → files_in (if t then wants_need (need_of rows) else wants_place (place_of Locate rows)) ≡ files_of rows
+    go : (t : Bool) → named_in (if t then wants_need (need_of rows) else wants_place (place_of Locate rows)) ≡ files_of rows
     go true = refl
     go false = refl
 
 verb_has_file : (verb : Verb) → HasFile (leaf_of verb)
-verb_has_file verb rest wanted fine found = subst (λ (w : Wanted). 0 < length (files_in w)) (verb_wants verb rest wanted found) (has_file verb fine)
+verb_has_file verb rest wanted fine found = subst (λ (w : Wanted). 0 < length (named_in w)) (verb_wants verb rest wanted found) (has_file verb fine)
   where
-    has_file : (v : Verb) → level_fault (leaf_of v) [] nothing_held rest false [] ≡ [] → 0 < length (files_in (wanted_of v (rows_after (rules_of v) [] rest)))
+    has_file : (v : Verb) → level_fault (leaf_of v) [] nothing_held rest false [] ≡ [] → 0 < length (named_in (wanted_of v (rows_after (rules_of v) [] rest)))
     has_file compile fine = omega arith
     has_file (program action) fine = some_file Sources (name_of (program action)) rest fine
     has_file link fine = some_file Objects (name_of link) rest fine
     has_file (place Locate) fine = rw (files_located (rows_after (rules Located) [] rest)) (some_file Located (codes "locate") rest fine)
     has_file (place Hex) fine = some_file Placed (codes "hex") rest fine
     has_file execute fine = some_file Executed (codes "execute") rest fine
+    has_file explain fine = omega arith
 
 all_have_files : (name : Text) → bytes_eq name (codes "help") ≡ false → AllByRecursion (λ s. answers_to name (label_of s) ≡ true → HasFile s) plm_built.subs
 all_have_files name other = (
@@ -312,7 +321,10 @@ all_have_files name other = (
           λ e. verb_has_file (place Locate),
           (
             λ e. verb_has_file (place Hex),
-            (λ e. verb_has_file execute, (λ e rest wanted fine found. absurd (help_named name e other), tt)),
+            (
+              λ e. verb_has_file execute,
+              (λ e. verb_has_file explain, (λ e rest wanted fine found. absurd (help_named name e other), tt)),
+            ),
           ),
         ),
       ),
@@ -321,19 +333,19 @@ all_have_files name other = (
 )
 
 files_of_one : (rest : List Text) (wanted : Wanted) (o : Option Shape) → IfFound HasFile o → option_map_or (λ s. level_fault s [] nothing_held rest false []) o [] ≡ []
-    → option_and_then wanted_of_match (option_map (λ s. rows_at s rest) o) ≡ Some wanted → 0 < length (files_in wanted)
+    → option_and_then wanted_of_match (option_map (λ s. rows_at s rest) o) ≡ Some wanted → 0 < length (named_in wanted)
 files_of_one rest wanted None has below found = cc
 files_of_one rest wanted (Some s) has below found = has rest wanted below found
 
 entered_files : (stop : Option (Text × List Text)) (wanted : Wanted) → IsNoHelp stop → entered_fault plm_built stop ≡ []
-    → option_and_then wanted_of_match (entered plm_built stop) ≡ Some wanted → 0 < length (files_in wanted)
+    → option_and_then wanted_of_match (entered plm_built stop) ≡ Some wanted → 0 < length (named_in wanted)
 entered_files None wanted other below found = cc
 entered_files (Some (name, rest)) wanted other below found =
     files_of_one rest wanted (find (λ s. answers_to name (label_of s)) plm_built.subs)
     (found_has HasFile (λ s. answers_to name (label_of s)) plm_built.subs (all_have_files name other)) below found
 
 -- words without a fault give a file
-pub some_files : (words : List Text) (wanted : Wanted) → fault_of plm_app words ≡ [] → wanted_by words ≡ Some wanted → 0 < length (files_in wanted)
+pub some_files : (words : List Text) (wanted : Wanted) → fault_of plm_app words ≡ [] → wanted_by words ≡ Some wanted → 0 < length (named_in wanted)
 some_files words wanted fine found =
     let given = drop 1 words in
     let end = walk top_built.rules (names_of plm_built) nothing_held given in

@@ -19,10 +19,11 @@ use Rattle.command_line.specs.declared.orders.PlaceAction.{PlaceAction}
 use Rattle.command_line.specs.declared.orders.PlaceAction.TheVariants.{Locate, Hex}
 use Rattle.command_line.specs.declared.orders.CompileOrder.{CompileOrder}
 use Rattle.command_line.specs.declared.orders.ExecuteOrder.{ExecuteOrder}
+use Rattle.command_line.specs.declared.orders.ExplainOrder.{ExplainOrder}
 use Rattle.command_line.specs.declared.orders.LinkOrder.{LinkOrder}
 use Rattle.command_line.specs.declared.orders.NeedOrder.{NeedOrder}
 use Rattle.command_line.specs.declared.orders.Order.{Order}
-use Rattle.command_line.specs.declared.orders.Order.TheVariants.{Compile, Execute, Link, Need, Place, Program}
+use Rattle.command_line.specs.declared.orders.Order.TheVariants.{Compile, Execute, Explain, Link, Need, Place, Program}
 use Rattle.command_line.specs.declared.orders.PlaceOrder.{PlaceOrder}
 use Rattle.command_line.specs.declared.orders.PlanTexts.{PlanTexts}
 use Rattle.command_line.specs.declared.orders.ProgramOrder.{ProgramOrder}
@@ -49,7 +50,7 @@ out_rule = record (option_rule (codes "out")) { required = true }
 abbrev pub files_rule : Rule
 files_rule = record (new_rule (codes "FILES")) { required = true; action = Some Append; value_names = 1 }
 
--- a file that has to be there
+-- a file, or another text, that has to be there
 abbrev pub file_rule : Text → Rule
 file_rule name = record (new_rule name) { required = true; value_names = 1 }
 
@@ -106,6 +107,10 @@ abbrev pub execute_app : Text → App
 execute_app name =
     with_rule (with_memory (with_limit_and_input (with_plan (new_app name)))) files_rule
 
+-- the command `name NUMBER`
+abbrev pub explain_app : Text → App
+explain_app name = with_rule (new_app name) (file_rule (codes "NUMBER"))
+
 -- the program, which has to have a command, and which knows its version
 abbrev pub bare_app : App
 bare_app = record {
@@ -123,11 +128,12 @@ programs_app =
 -- the program `plm` with its commands
 abbrev pub plm_app : App
 plm_app =
-    with_subcommand (with_subcommand (with_subcommand (with_subcommand programs_app
+    with_subcommand (with_subcommand (with_subcommand (with_subcommand (with_subcommand programs_app
     (link_app (codes "link")).top)
     (locate_app (codes "locate")).top)
     (hex_app (codes "hex")).top)
-    (execute_app (codes "execute")).top
+    (execute_app (codes "execute")).top)
+    (explain_app (codes "explain")).top
 
 -- the texts of the options of a plan
 pub record PlanWanted : Type 0 where
@@ -178,6 +184,10 @@ pub record NeedWanted : Type 0 where
   pub files : List Text
   pub plan : PlanWanted
 
+-- the number of a fault that is explained
+pub record ExplainWanted : Type 0 where
+  pub number : Text
+
 -- what the words want, as texts
 pub data Wanted : Type 0 where
   wants_compile : CompileWanted → Wanted
@@ -186,15 +196,17 @@ pub data Wanted : Type 0 where
   wants_place : PlaceWanted → Wanted
   wants_need : NeedWanted → Wanted
   wants_execute : ExecuteWanted → Wanted
+  wants_explain : ExplainWanted → Wanted
 
--- the files that are read
-abbrev pub files_in : Wanted → List Text
-files_in (wants_compile wanted) = wanted.source ∷ []
-files_in (wants_program wanted) = wanted.files
-files_in (wants_link wanted) = wanted.objects
-files_in (wants_place wanted) = wanted.files
-files_in (wants_need wanted) = wanted.files
-files_in (wants_execute wanted) = wanted.objects
+-- the files that are read, or the number that is explained
+abbrev pub named_in : Wanted → List Text
+named_in (wants_compile wanted) = wanted.source ∷ []
+named_in (wants_program wanted) = wanted.files
+named_in (wants_link wanted) = wanted.objects
+named_in (wants_place wanted) = wanted.files
+named_in (wants_need wanted) = wanted.files
+named_in (wants_execute wanted) = wanted.objects
+named_in (wants_explain wanted) = wanted.number ∷ []
 
 -- the text of an option that has a default
 abbrev pub text_of : Text → List Row → Text
@@ -257,6 +269,9 @@ execute_of rows = record {
   memory = first_of (codes "memory") rows;
 }
 
+abbrev pub explain_of : List Row → ExplainWanted
+explain_of rows = record { number = text_of (codes "NUMBER") rows }
+
 -- what `locate` wants: the places of an object or, with its flag, the need of sources
 abbrev pub located_of : List Row → Wanted
 located_of rows =
@@ -271,7 +286,8 @@ wanted_of_match (name, rows) =
     else (if bytes_eq name (codes "link") then Some (wants_link (link_of rows))
     else (if bytes_eq name (codes "locate") then Some (located_of rows)
     else (if bytes_eq name (codes "hex") then Some (wants_place (place_of Hex rows))
-    else (if bytes_eq name (codes "execute") then Some (wants_execute (execute_of rows)) else None))))))
+    else (if bytes_eq name (codes "execute") then Some (wants_execute (execute_of rows))
+    else (if bytes_eq name (codes "explain") then Some (wants_explain (explain_of rows)) else None)))))))
 
 -- what the words, with the program's name in front, want
 abbrev pub wanted_by : List Text → Option Wanted
@@ -325,6 +341,9 @@ execute_in order = record {
   memory = option_map (λ text. text.now) order.memory;
 }
 
+abbrev pub explain_in : ExplainOrder → ExplainWanted
+explain_in order = record { number = order.number.now }
+
 abbrev pub wanted_in : Order → Wanted
 wanted_in (Compile order) = wants_compile (compile_in order)
 wanted_in (Program order) = wants_program (program_in order)
@@ -332,6 +351,7 @@ wanted_in (Link order) = wants_link (link_in order)
 wanted_in (Place order) = wants_place (place_in order)
 wanted_in (Need order) = wants_need (need_in order)
 wanted_in (Execute order) = wants_execute (execute_in order)
+wanted_in (Explain order) = wants_explain (explain_in order)
 
 -- the words give this order
 abbrev pub Orders : List Text → Order → Type 0
@@ -525,6 +545,12 @@ OrdersExecuteText words answer = (name : Text) (files : List Text) (option : Val
     → IsBare text
     → Gives words name (codes "execute") (option_words (option_name option) text) files
     → IsOrderOf (wants_execute (with_execute_text option text (usual_execute files))) answer
+
+-- `explain` with a bare word wants that number explained
+abbrev pub OrdersExplain : List Text → Result Order (Failure LineFault) → Type 0
+OrdersExplain words answer = (name number : Text)
+    → Gives words name (codes "explain") [] (number ∷ [])
+    → IsOrderOf (wants_explain (record { number = number })) answer
 
 -- a fault has one of the kinds that `clap` finds in the words, where Help stands for that of help alone, and Version for
 -- that of the version

@@ -1,4 +1,5 @@
 pub use Rattle.failure.specs.Failure
 pub mod Command
+pub mod Explained
 pub mod Settings
 pub mod internal

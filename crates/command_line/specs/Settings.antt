@@ -8,7 +8,8 @@ use Rattle.std.specs.Str.Parse.{digits_value}
 use Rattle.clap.specs.Words.{Text}
 use Rattle.failure.specs.declared.Failure.{Failure}
 use Rattle.failure.specs.declared.Failure.TheVariants.{Fault, Memory}
-use Rattle.command_line.specs.Command.{ExecuteWanted, PlanWanted, ProgramWanted}
+use Rattle.command_line.specs.Command.{ExecuteWanted, ExplainWanted, PlanWanted, ProgramWanted}
+use Rattle.command_line.specs.Explained.{page_of}
 use Rattle.command_line.specs.declared.values.InputByte.{InputByte}
 use Rattle.command_line.specs.declared.start_memory.MemoryByte.{MemoryByte}
 use Rattle.mem80.specs.declared.memory.TheConstants.{MEMORY_SIZE}
@@ -172,6 +173,10 @@ only_file [] = Err []
 only_file (file ∷ []) = Ok file
 only_file (file ∷ second ∷ more) = Err second
 
+-- what is printed of the number that is wanted, which is refused where there is no such number
+abbrev pub page_read : ExplainWanted → Read Text
+page_read wanted = found_in wanted.number (page_of wanted.number)
+
 -- the answer is what the text reads as
 abbrev pub Reads : {A : Type 0} → Read A → Result A ValueFault → Type 0
 Reads read (Ok value) = read ≡ Ok value
@@ -197,6 +202,12 @@ abbrev pub IsSettingsOf : Read Values → Result Settings (Failure ValueFault) �
 IsSettingsOf read (Ok settings) = read ≡ Ok (values_in settings)
 IsSettingsOf read (Err (Fault fault)) = read ≡ Err fault.text.now
 IsSettingsOf read (Err Memory) = Unit {0}
+
+-- the answer is the page that the text reads as, unless memory ran out
+abbrev pub IsPageOf : Read Text → Result (Bor Text) (Failure ValueFault) → Type 0
+IsPageOf read (Ok page) = read ≡ Ok page.now
+IsPageOf read (Err (Fault fault)) = read ≡ Err fault.text.now
+IsPageOf read (Err Memory) = Unit {0}
 
 -- memory did not run out
 abbrev pub HasMemory : Result Settings (Failure ValueFault) → Type 0

@@ -3,11 +3,11 @@
 ghost use Rattle.std.specs.Prelude.{◌≡◌, codes, false};
 ghost use Rattle.clap.specs.Words.{App, Rule, new_app, rule_of, with_rule, with_subcommand};
 ghost use Rattle.command_line.specs.internal.Building.{Builds, IsBuilt};
-ghost use Rattle.command_line.specs.Command.{bare_app, compile_app, default_rule, execute_app, file_rule, files_rule, flag_rule, hex_app, link_app, locate_app, option_rule, out_rule, plm_app, program_app, programs_app, with_limit_and_input, with_plan, with_run, with_memory};
+ghost use Rattle.command_line.specs.Command.{bare_app, compile_app, default_rule, execute_app, explain_app, file_rule, files_rule, flag_rule, hex_app, link_app, locate_app, option_rule, out_rule, plm_app, program_app, programs_app, with_limit_and_input, with_plan, with_run, with_memory};
 
 use crate::help::{
-    ABOUT, COMPILE, EXECUTE, GUIDE, HEX, INTERPRET, INTERPRET_LIMIT, LINK, LOCATE, RUN, RUN_LIMIT,
-    Teaching, VERSION,
+    ABOUT, COMPILE, EXECUTE, EXPLAIN, GUIDE, HEX, INTERPRET, INTERPRET_LIMIT, LINK, LOCATE, RUN,
+    RUN_LIMIT, Teaching, VERSION,
 };
 use clap::{Arg, ArgAction, Command};
 use std::alloc::{AllocError, Global};
@@ -197,7 +197,7 @@ fn flag<'a>(alloc: Global, name: &'a str, help: &'a str) -> Arg<'a>
         .help(help)
 }
 
-// An argument that is a file and has to be there, by its name and its line in help.
+// An argument that is a file, or another text, and has to be there, by its name and its line in help.
 fn file<'a>(alloc: Global, name: &'a str, help: &'a str) -> Arg<'a>
     ensures rule { rule_of result ≡ file_rule name.entry.now }
     ensures local { result.global ≡ false }
@@ -322,6 +322,16 @@ fn execute<'a>(alloc: Global) -> Built<'a>
     )
 }
 
+// The command that explains a number.
+fn explain<'a>(alloc: Global) -> Built<'a>
+    ensures { Builds (explain_app (codes "explain")) result }
+{
+    add(
+        named(alloc, "explain", EXPLAIN),
+        file(alloc, "NUMBER", "The number of a fault, such as C7"),
+    )
+}
+
 // The program `plm`, which has to have a command.
 fn bare_command<'a>(alloc: Global) -> Built<'a>
     ensures { Builds bare_app result }
@@ -352,5 +362,6 @@ pub(crate) fn plm_command<'a>(alloc: Global) -> Result<Command<'a>, AllocError>
     let with_link = add_leaf(with_programs(alloc), link(alloc));
     let with_locate = add_leaf(with_link, locate(alloc));
     let with_hex = add_leaf(with_locate, hex(alloc));
-    add_leaf(with_hex, execute(alloc))
+    let with_execute = add_leaf(with_hex, execute(alloc));
+    add_leaf(with_execute, explain(alloc))
 }

@@ -145,7 +145,8 @@ Numbers, where X is the name or the text that is printed with one:
 Read more in the folder docs:
   language.md     a manual of the language; definition.md has its exact rules
   old-sources.md  from a listing of the time to a run
-  faults.md       each number in plain words, with an example and its cure
+  faults.md       each number in plain words, with an example and its cure;
+                  plm explain NUMBER prints what it says of one
   commands.md     the commands, their options and what they print");
 
 pub(crate) const COMPILE: Teaching = Teaching {
@@ -181,6 +182,11 @@ pub(crate) const HEX: Teaching = Teaching {
 pub(crate) const EXECUTE: Teaching = Teaching {
     about: "Merges object files, places the merge in memory, and runs it on a simulated 8080",
     printed: PRINTED_BY_EXECUTE,
+};
+
+pub(crate) const EXPLAIN: Teaching = Teaching {
+    about: "Explains the number of a fault: what it means, an example and the cure",
+    printed: PRINTED_BY_EXPLAIN,
 };
 
 pub(crate) const RUN_LIMIT: &str = "The most instructions that are run, to 1000000000000";
@@ -420,3 +426,21 @@ Example: run a module together with one that an assembler made
 Numbers, where X is the name or the text that is printed with one:
 " MERGES OBJECTS PLACES PAGES FILES VALUES MEMORY "\n\
 Read more in the folder docs: faults.md (each number with an example and its cure), commands.md");
+
+const PRINTED_BY_EXPLAIN: &str = text_of!([] "\
+Prints what docs/faults.md says of the number, in lines of 80 columns. The case of its letters does
+not count. No file is read.
+
+Exit status:
+  0  it was printed, or help was asked for
+  1  memory ran out, or standard output can't be written
+  2  the command line is wrong, or no fault has the number
+
+A number that no fault has is refused as `U4 text 0` on standard error.
+
+Example: a run printed C7 prog.plm 4
+  plm explain C7
+
+Numbers that can occur here, where X is the text that is printed with one:
+" FILES VALUES MEMORY "\n\
+Read more in the folder docs: faults.md (all numbers), commands.md");

@@ -2,6 +2,7 @@
 #![tactic(auto)]
 
 mod app;
+mod explained;
 mod help;
 mod orders;
 mod reading;
@@ -10,8 +11,8 @@ mod values;
 
 pub use mem80::Plan;
 pub use orders::{
-    Action, CompileOrder, ExecuteOrder, LinkOrder, NeedOrder, Order, PlaceAction, PlaceOrder,
-    PlanTexts, ProgramOrder,
+    Action, CompileOrder, ExecuteOrder, ExplainOrder, LinkOrder, NeedOrder, Order, PlaceAction,
+    PlaceOrder, PlanTexts, ProgramOrder,
 };
 pub use reading::{LineFault, command};
 pub use start_memory::MemoryByte;

@@ -109,6 +109,13 @@ pub struct ExecuteOrder<'a> {
     pub memory: Option<&'a str>,
 }
 
+/// An order to explain a number.
+#[derive(Clone, Copy)]
+pub struct ExplainOrder<'a> {
+    /// The number of the fault.
+    pub number: &'a str,
+}
+
 /// What the command line asks for.
 #[derive(Drop)]
 pub enum Order<'a> {
@@ -124,4 +131,6 @@ pub enum Order<'a> {
     Need(NeedOrder<'a>),
     /// Run the merge of object files.
     Execute(ExecuteOrder<'a>),
+    /// Explain a number.
+    Explain(ExplainOrder<'a>),
 }

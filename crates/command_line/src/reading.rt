@@ -7,8 +7,9 @@ ghost use Rattle.clap.specs.Words.{all_of, fault_of, first_of, found_of, rows_of
 ghost use Rattle.failure.specs.Failure.{IfFault};
 ghost use Rattle.command_line.specs.Command.{IsFaultOf, Orders, OrdersCompile, OrdersFiles, OrdersJump, OrdersLink, OrdersMap};
 ghost use Rattle.command_line.specs.Command.{OrdersExecute, OrdersExecuteText, execute_of, wants_execute};
+ghost use Rattle.command_line.specs.Command.{OrdersExplain, explain_of, wants_explain};
 ghost use Rattle.command_line.specs.Command.{OrdersNeed, OrdersPlace, OrdersPlaceText, OrdersText};
-ghost use Rattle.command_line.specs.Command.{files_in, is_set, link_of, located_of, need_of, place_of, plan_in, plan_of};
+ghost use Rattle.command_line.specs.Command.{is_set, link_of, located_of, named_in, need_of, place_of, plan_in, plan_of};
 ghost use Rattle.command_line.specs.Command.{plm_app, program_of, text_of};
 ghost use Rattle.command_line.specs.Command.{wanted_in, wanted_of_match};
 ghost use Rattle.command_line.specs.Command.{compile_of, wants_compile, wants_link, wants_need, wants_place, wants_program};
@@ -16,8 +17,8 @@ ghost use Rattle.command_line.specs.internal.Errors.{IsFailureFor};
 
 use crate::app::plm_command;
 use crate::orders::{
-    Action, CompileOrder, ExecuteOrder, LinkOrder, NeedOrder, Order, PlaceAction, PlaceOrder,
-    PlanTexts, ProgramOrder,
+    Action, CompileOrder, ExecuteOrder, ExplainOrder, LinkOrder, NeedOrder, Order, PlaceAction,
+    PlaceOrder, PlanTexts, ProgramOrder,
 };
 use clap::ArgMatches;
 use clap::error::ErrorKind;
@@ -193,6 +194,16 @@ fn execute<'a>(alloc: Global, matches: &ArgMatches<'a>) -> Result<Option<Order<'
     })))
 }
 
+// The order to explain a number, from the matches of its arguments. It is there in each answer, as that of `program`.
+fn explain<'a>(matches: &ArgMatches<'a>) -> Result<Option<Order<'a>>, AllocError>
+    ensures { IfOk result (λ order. option_map wanted_in order
+        ≡ Some (wants_explain (explain_of (rows_of (found_of matches.now))))) }
+{
+    Ok(Some(Order::Explain(ExplainOrder {
+        number: text(matches, "NUMBER"),
+    })))
+}
+
 // The order for the command that tells where an object lies or, with its flag, the need of sources.
 fn locate<'a>(alloc: Global, matches: &ArgMatches<'a>) -> Result<Option<Order<'a>>, AllocError>
     ensures { IfOk result (λ order. option_map wanted_in order
@@ -222,6 +233,7 @@ fn order_named<'a>(
         "locate" => locate(alloc, matches),
         "hex" => place(alloc, PlaceAction::Hex, matches),
         "execute" => execute(alloc, matches),
+        "explain" => explain(matches),
         _ => Ok(None),
     }
 }
@@ -249,7 +261,7 @@ fn order_of<'a>(alloc: Global, matches: ArgMatches<'a>) -> Result<Option<Order<'
 
 /// The order that the words of the command line give. The first word is the program's name. It answers an order
 /// where `clap` finds no fault in the words, and else one of the faults that it finds, or that memory ran out. An
-/// order has one file at least.
+/// order has one file at least, or a number.
 pub fn command<'a>(alloc: Global, words: &'a [&'a str]) -> Result<Order<'a>, Failure<LineFault>>
     ensures files { OrdersFiles (texts words.entry.now) result }
     ensures option { OrdersText (texts words.entry.now) result }
@@ -262,8 +274,9 @@ pub fn command<'a>(alloc: Global, words: &'a [&'a str]) -> Result<Order<'a>, Fai
     ensures need { OrdersNeed (texts words.entry.now) result }
     ensures execute { OrdersExecute (texts words.entry.now) result }
     ensures execute_option { OrdersExecuteText (texts words.entry.now) result }
+    ensures explain { OrdersExplain (texts words.entry.now) result }
     ensures order { IfOk result (λ order. Orders (texts words.entry.now) order) }
-    ensures some { IfOk result (λ order. 0 < length (files_in (wanted_in order))) }
+    ensures some { IfOk result (λ order. 0 < length (named_in (wanted_in order))) }
     ensures ok { OnOk result (fault_of plm_app (texts words.entry.now) ≡ []) }
     ensures fault { IfFault result (IsFaultOf (fault_of plm_app (texts words.entry.now))) }
 {

@@ -6,14 +6,16 @@ ghost use Rattle.std.specs.Option.{SomeIff};
 ghost use Rattle.std.specs.Char.{digit_value, is_digit};
 ghost use Rattle.failure.specs.Failure.{IfFault};
 ghost use Rattle.clap.specs.Walk.{texts};
-ghost use Rattle.command_line.specs.Command.{execute_in, place_in, plan_in, program_in};
+ghost use Rattle.command_line.specs.Command.{execute_in, explain_in, place_in, plan_in, program_in};
 ghost use Rattle.command_line.specs.Settings.{execute_read, HasMemory, IsSettingsOf, byte_of, bytes_for, group_bytes, input_bytes, input_read, jump_read, limit_number, only_file, plan_number, all_groups};
 ghost use Rattle.command_line.specs.Settings.{plan_read};
+ghost use Rattle.command_line.specs.Settings.{IsPageOf, page_read};
 ghost use Rattle.command_line.specs.Settings.{texts_read, values_read};
 ghost use Rattle.command_line.specs.Settings.{Reads, ReadsFile};
 ghost use Rattle.command_line.specs.internal.Reads.{if_read, in_front};
 
-use crate::orders::{ExecuteOrder, NeedOrder, PlaceOrder, PlanTexts, ProgramOrder};
+use crate::explained::page;
+use crate::orders::{ExecuteOrder, ExplainOrder, NeedOrder, PlaceOrder, PlanTexts, ProgramOrder};
 use crate::start_memory::{MemoryByte, fill, memory};
 use failure::Failure;
 use mem80::Plan;
@@ -47,7 +49,7 @@ pub struct Settings {
     pub memory: Vec<MemoryByte>,
 }
 
-/// U4: an option has a text that is none of its values.
+/// U4: an option has a text that is none of its values, or no fault has this number.
 #[derive(Clone, Copy, Debug, PartialEq, Eq, Error)]
 #[error("`{text}` is not a value of its option")]
 pub struct ValueFault<'a> {
@@ -316,6 +318,19 @@ impl<'a> ExecuteOrder<'a> {
             self.fill,
             self.memory,
         )
+    }
+}
+
+impl<'a> ExplainOrder<'a> {
+    /// What is printed of the number, in which the case of letters does not count. It answers U4 where no fault has
+    /// the number; else its page, or that memory ran out.
+    pub fn page(&self, alloc: Global) -> Result<&'static [u8], Failure<ValueFault<'a>>>
+        ensures { IsPageOf (page_read (explain_in self.now)) result }
+    {
+        match page(alloc, self.number)? {
+            Some(page) => Ok(page),
+            None => Err(Failure::Fault(ValueFault { text: self.number })),
+        }
     }
 }
 

@@ -13,6 +13,7 @@ pub mod Refused
 pub mod Printed
 pub mod Untold
 pub mod Executed
+pub mod Explained
 pub mod NeedsPrinted
 pub mod NeedRefused
 pub mod NeedLemmas

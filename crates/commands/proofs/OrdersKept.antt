@@ -1,5 +1,5 @@
 -- Files after a command line was carried out.
-use Rattle.commands.proofs.Prelude.{◌≡◌, ◌≤◌, ◌⊎◌, ℕ, List, [], ◌∷◌, Ok, Option, None, Some, inl, inr, refl, subst, arith, Directory, KeepsFiles, status_of, TellsRefusal, Ending, Done, Refused, WrongLine, Limit, Stopped, Outside, Wanted, wants_compile, wants_execute, wants_link, wants_need, wants_place, wants_program, only_file, kept_others, ChangesAsWanted, ChangesByWords, WritesAsWanted, WritesByWords, PrintsAsWanted, PrintsByWords, StopsAsWanted, StopsByWords, names_by_words, names_of}
+use Rattle.commands.proofs.Prelude.{◌≡◌, ◌≤◌, ◌⊎◌, ℕ, List, [], ◌∷◌, Ok, Option, None, Some, inl, inr, refl, subst, arith, Directory, KeepsFiles, status_of, TellsRefusal, Ending, Done, Refused, WrongLine, Limit, Stopped, Outside, Wanted, wants_compile, wants_execute, wants_explain, wants_link, wants_need, wants_place, wants_program, only_file, kept_others, ChangesAsWanted, ChangesByWords, WritesAsWanted, WritesByWords, PrintsAsWanted, PrintsByWords, StopsAsWanted, StopsByWords, names_by_words, names_of}
 
 -- where no file changed, none changed but what was wanted
 pub kept_as_wanted : (wanted : Wanted) (old new : Option Directory) → KeepsFiles old new → ChangesAsWanted wanted old new
@@ -9,6 +9,7 @@ kept_as_wanted (wants_link link) old new kept = kept_others old new link.out kep
 kept_as_wanted (wants_place place) old new kept = kept
 kept_as_wanted (wants_need need) old new kept = kept
 kept_as_wanted (wants_execute execute) old new kept = kept
+kept_as_wanted (wants_explain explain) old new kept = kept
 
 pub kept_by_words : (found : Option Wanted) (old new : Option Directory) → KeepsFiles old new → ChangesByWords found old new
 kept_by_words None old new kept = kept
@@ -29,6 +30,7 @@ stops_as_wanted (wants_link link) old new kept = inl kept
 stops_as_wanted (wants_place place) old new kept = kept
 stops_as_wanted (wants_need need) old new kept = kept
 stops_as_wanted (wants_execute execute) old new kept = kept
+stops_as_wanted (wants_explain explain) old new kept = kept
 
 pub kept_stops : (found : Option Wanted) (old new : Option Directory) → KeepsFiles old new → StopsByWords found old new
 kept_stops None old new kept = kept

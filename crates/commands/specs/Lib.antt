@@ -8,6 +8,7 @@ pub use Rattle.commands.specs.Compiling
 pub use Rattle.commands.specs.Running
 pub use Rattle.commands.specs.Refusing
 pub mod Executing
+pub mod Explaining
 pub mod Needing
 pub mod Orders
 pub mod internal

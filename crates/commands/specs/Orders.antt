@@ -6,16 +6,17 @@ use Rattle.clap.specs.declared.error.ErrorKind.{ErrorKind}
 use Rattle.clap.specs.declared.error.ErrorKind.TheVariants.{DisplayHelp, DisplayVersion}
 use Rattle.host.specs.Files.{Directory, KeepsFiles}
 use Rattle.host.specs.Refusals.{Tells, TellsRefusal, refusal_line}
-use Rattle.command_line.specs.Command.{NeedWanted, PlaceWanted, Wanted, wants_compile, wants_execute, wants_link}
-use Rattle.command_line.specs.Command.{wants_need}
-use Rattle.command_line.specs.Command.{wants_place, wants_program}
-use Rattle.command_line.specs.Settings.{Read, ◌>>=◌, execute_read, jump_read, only_file, plan_read, values_read}
+use Rattle.command_line.specs.Command.{NeedWanted, PlaceWanted, Wanted, wants_compile, wants_execute, wants_explain}
+use Rattle.command_line.specs.Command.{wants_link, wants_need, wants_place, wants_program}
+use Rattle.command_line.specs.Settings.{Read, ◌>>=◌, execute_read, jump_read, only_file, page_read, plan_read}
+use Rattle.command_line.specs.Settings.{values_read}
 use Rattle.command_line.specs.declared.orders.PlaceAction.{PlaceAction}
 use Rattle.command_line.specs.declared.orders.PlaceAction.TheVariants.{Locate, Hex}
 use Rattle.object_commands.specs.Linking.{KeepsOthers, LinksFiles, StopsLinking}
 use Rattle.object_commands.specs.Placing.{PrintsHex, PrintsPlaces, StopsHex, StopsPlaces}
 use Rattle.commands.specs.Compiling.{CompilesFile, StopsCompiling}
 use Rattle.commands.specs.Executing.{PrintsExecution, RefusesExecution}
+use Rattle.commands.specs.Explaining.{PrintsPage, RefusesPage}
 use Rattle.commands.specs.Refusing.{RefusesCompiling, RefusesFor, RefusesProgram, RunsOut}
 use Rattle.commands.specs.Running.{PrintsProgram}
 use Rattle.commands.specs.Needing.{PrintsNeedOf, RefusesNeedOf}
@@ -29,6 +30,7 @@ ChangesAsWanted (wants_program program) old new = KeepsFiles old new
 ChangesAsWanted (wants_place place) old new = KeepsFiles old new
 ChangesAsWanted (wants_need need) old new = KeepsFiles old new
 ChangesAsWanted (wants_execute execute) old new = KeepsFiles old new
+ChangesAsWanted (wants_explain explain) old new = KeepsFiles old new
 
 -- the objects that an order to link names are merged in its file, and the source of an order to compile is
 -- compiled to its object
@@ -39,6 +41,7 @@ WritesAsWanted (wants_program program) old new = Unit {0}
 WritesAsWanted (wants_place place) old new = Unit {0}
 WritesAsWanted (wants_need need) old new = Unit {0}
 WritesAsWanted (wants_execute execute) old new = Unit {0}
+WritesAsWanted (wants_explain explain) old new = Unit {0}
 
 -- where an order is not carried out, no file changes, but that of an order to compile or to link may have a
 -- beginning of its object
@@ -49,6 +52,7 @@ StopsAsWanted (wants_program program) old new = KeepsFiles old new
 StopsAsWanted (wants_place place) old new = KeepsFiles old new
 StopsAsWanted (wants_need need) old new = KeepsFiles old new
 StopsAsWanted (wants_execute execute) old new = KeepsFiles old new
+StopsAsWanted (wants_explain explain) old new = KeepsFiles old new
 
 -- what a command on an object file prints of the file of this name, placed by this plan, where a jump may be wanted
 abbrev pub PrintsPlaced :
@@ -82,7 +86,8 @@ pub record PrintsNeedWanted (need : NeedWanted) (files : Option Directory)
   pub planned : plan_read need.plan ≡ Ok plan
   pub printed : PrintsNeedOf files need.files old new
 
--- what an order on an object file prints, and one that tells a need; one to compile or to link prints nothing.
+-- what an order on an object file prints, one that tells a need, and one to explain a number; one to compile or to
+-- link prints nothing.
 -- What one to run sources or objects or to interpret prints is said below
 abbrev pub PrintsAsWanted : Wanted → Option Directory → (old new : Option (List ℕ)) → Type 0
 PrintsAsWanted (wants_place place) files old new = PrintsWanted place files old new
@@ -91,6 +96,7 @@ PrintsAsWanted (wants_compile compile) files old new = Keeps old new
 PrintsAsWanted (wants_link link) files old new = Keeps old new
 PrintsAsWanted (wants_program program) files old new = Unit {0}
 PrintsAsWanted (wants_execute execute) files old new = Unit {0}
+PrintsAsWanted (wants_explain explain) files old new = PrintsPage explain old new
 
 -- what an order to run or to interpret sources, or to run objects, prints where it is not refused, and the status
 -- that it ends with; any other order ends with status 0 then
@@ -101,6 +107,7 @@ RunsAsWanted (wants_link link) files status old new = status ≡ 0
 RunsAsWanted (wants_place place) files status old new = status ≡ 0
 RunsAsWanted (wants_need need) files status old new = status ≡ 0
 RunsAsWanted (wants_execute execute) files status old new = PrintsExecution execute files status old new
+RunsAsWanted (wants_explain explain) files status old new = status ≡ 0
 
 -- Why an order on an object file is refused. Its plan is one, its jump has an address, and it has one file. What is told is the line of
 -- that file, where its failure was counted, or that of another fault, of which no cause is said. Nothing was
@@ -140,6 +147,8 @@ RefusesAsWanted (wants_need need) files before after err_old err_new out_old out
     RefusesNeed need files before after err_old err_new out_old out_new
 RefusesAsWanted (wants_execute execute) files before after err_old err_new out_old out_new =
     RefusesExecution execute files before after err_old err_new out_old out_new
+RefusesAsWanted (wants_explain explain) files before after err_old err_new out_old out_new =
+    (after ≡ before) × RefusesPage explain err_old err_new out_old out_new
 
 -- the files that an order reads, in their order, and then the one that it writes
 abbrev pub names_of : Wanted → List (List ℕ)
@@ -149,6 +158,7 @@ names_of (wants_link link) = link.objects ++ link.out ∷ []
 names_of (wants_place place) = place.files
 names_of (wants_need need) = need.files
 names_of (wants_execute execute) = execute.objects
+names_of (wants_explain explain) = []
 
 -- the same of what words want; those that give no order change no file
 abbrev pub ChangesByWords : Option Wanted → Option Directory → Option Directory → Type 0
@@ -195,8 +205,8 @@ file_read place = do
   jump ← jump_read place.jump
   only_file place.files
 
--- this text of what is wanted is the first that is refused: it is none of its option's values, or the name of
--- a second file
+-- this text of what is wanted is the first that is refused: it is none of its option's values, the name of
+-- a second file, or no number of a fault
 abbrev pub RefusesText : Wanted → (text : List ℕ) → Type 0
 RefusesText (wants_program program) text = values_read program ≡ Err text
 RefusesText (wants_place place) text = file_read place ≡ Err text
@@ -204,6 +214,7 @@ RefusesText (wants_need need) text = plan_read need.plan ≡ Err text
 RefusesText (wants_compile compile) text = ⊥
 RefusesText (wants_link link) text = ⊥
 RefusesText (wants_execute execute) text = execute_read execute ≡ Err text
+RefusesText (wants_explain explain) text = page_read explain ≡ Err text
 
 -- the line of a text that is refused was printed, or a beginning of it, which may be nothing
 pub record TellsText (wanted : Wanted) (old new : Option (List ℕ)) : Type 0 where

@@ -13,6 +13,7 @@ ghost use Rattle.commands.specs.Orders.{AsksHelpAtMost, ChangesAsWanted, Changes
 ghost use Rattle.commands.specs.internal.LineFaults.{IsWrong};
 
 use crate::executing::execute_objects;
+use crate::explaining::explain_number;
 use crate::needing::tell_need;
 use crate::programs::{carry_out_sources, compile_file};
 use crate::refusals::refuse_value;
@@ -145,7 +146,7 @@ fn end_line<O: Write, E: Write>(fault: &LineFault, out: &mut O, err: &mut E) -> 
 }
 
 // Carries out an order.
-#[tactic(auto, using(crate::proofs::OrdersKept::kept_as_wanted, crate::proofs::OrdersKept::done_status, crate::proofs::OrdersKept::other_status, crate::proofs::ProgramsTold::refuses_compile, crate::proofs::Printed::stays_written))]
+#[tactic(auto, using(crate::proofs::OrdersKept::kept_as_wanted, crate::proofs::OrdersKept::done_status, crate::proofs::OrdersKept::other_status, crate::proofs::ProgramsTold::refuses_compile, crate::proofs::Explained::refuses_explain, crate::proofs::Printed::stays_written))]
 fn carry_out<F: Files, O: Write, E: Write>(
     alloc: Global,
     order: &Order,
@@ -183,6 +184,7 @@ fn carry_out<F: Files, O: Write, E: Write>(
         Order::Place(place) => carry_out_place(alloc, place, files, out, err),
         Order::Need(need) => tell_need(alloc, need, files, out, err),
         Order::Execute(execute) => execute_objects(alloc, execute, files, out, err),
+        Order::Explain(explain) => explain_number(alloc, explain, out, err),
     }
 }
 

@@ -3,6 +3,7 @@
 
 mod console;
 mod executing;
+mod explaining;
 mod needing;
 mod needs;
 mod printed_needs;

@@ -334,6 +334,14 @@ fn print_execute(page: &mut Page, name: Name) {
     help.print(page, "execute");
 }
 
+// The help of the command that explains a number.
+fn print_explain(page: &mut Page) {
+    let mut help = Help::of(page.alloc(), &["plm", "explain", "--help"]);
+    help.seek_files();
+    help.seek_value();
+    help.print(page, "explain");
+}
+
 /// Prints for the help of each command how many lines of faults it is to have, and how many of them it lacks.
 pub fn print_sentences(page: &mut Page) {
     let Some(name) = Name::from_text(b"X") else {
@@ -348,4 +356,5 @@ pub fn print_sentences(page: &mut Page) {
     print_locate(page, name);
     print_hex(page);
     print_execute(page, name);
+    print_explain(page);
 }

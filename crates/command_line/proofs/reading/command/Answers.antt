@@ -1,6 +1,6 @@
-use Rattle.command_line.proofs.Prelude.{◌≡◌, ◌∙◌, [], ap, sym, subst, ◌<◌, length, option_and_then, option_map, texts, is_simple_and_free, HasKind, App, fault_of, is_simple, subcommand_of, subcommand_rows_of, IsFaultOf, Orders, files_in, plm_app, wanted_by, wanted_in, wanted_of_match, Order}
+use Rattle.command_line.proofs.Prelude.{◌≡◌, ◌∙◌, [], ap, sym, subst, ◌<◌, length, option_and_then, option_map, texts, is_simple_and_free, HasKind, App, fault_of, is_simple, subcommand_of, subcommand_rows_of, IsFaultOf, Orders, named_in, plm_app, wanted_by, wanted_in, wanted_of_match, Order}
 use Rattle.command_line.proofs.CommandLemmas.{fault_among, gives_none, out_of_memory, tells_none, wants_any}
-use Rattle.command_line.proofs.Given.{compile_failed, compile_ordered, execute_failed, execute_ordered, execute_text_failed, execute_text_ordered, files_failed, files_ordered, link_failed, link_ordered, map_failed, map_ordered, jump_failed, jump_ordered, need_failed, need_ordered, place_failed, place_ordered, place_text_failed, place_text_ordered, text_failed, text_ordered}
+use Rattle.command_line.proofs.Given.{compile_failed, compile_ordered, execute_failed, execute_ordered, execute_text_failed, execute_text_ordered, explain_failed, explain_ordered, files_failed, files_ordered, link_failed, link_ordered, map_failed, map_ordered, jump_failed, jump_ordered, need_failed, need_ordered, place_failed, place_ordered, place_text_failed, place_text_ordered, text_failed, text_ordered}
 use Rattle.command_line.proofs.PlmWords.{order_is_there, some_files, plm_is_free, plm_is_simple}
 use Rattle.command_line.proofs.reading.command.Goals as goal
 use Rattle.command_line.proofs.reading.command.Goals.{In-Ok}
@@ -36,6 +36,7 @@ returns c =
       need = need_ordered (texts c.args.words.now) c.in-Some.order order;
       execute = execute_ordered (texts c.args.words.now) c.in-Some.order order;
       execute_option = execute_text_ordered (texts c.args.words.now) c.in-Some.order order;
+      explain = explain_ordered (texts c.args.words.now) c.in-Some.order order;
       order = order;
       some = some_files (texts c.args.words.now) (wanted_in c.in-Some.order) (no_fault at) order;
       ok = no_fault at;
@@ -60,6 +61,7 @@ returns-in-Err c = record {
   need = need_failed (texts c.args.words.now) c.in-Err.error c.failure_of.result (has_kind c) c.failure_of.ensures;
   execute = execute_failed (texts c.args.words.now) c.in-Err.error c.failure_of.result (has_kind c) c.failure_of.ensures;
   execute_option = execute_text_failed (texts c.args.words.now) c.in-Err.error c.failure_of.result (has_kind c) c.failure_of.ensures;
+  explain = explain_failed (texts c.args.words.now) c.in-Err.error c.failure_of.result (has_kind c) c.failure_of.ensures;
   order = tt;
   some = tt;
   ok = tt;
@@ -83,8 +85,9 @@ returns-in_err-plm c =
       need = λ name files given. wants_any _ answer is;
       execute = λ name files given. wants_any _ answer is;
       execute_option = λ name files option text bare given. wants_any _ answer is;
+      explain = λ name number given. wants_any _ answer is;
       order = gives_none (Orders words) answer is;
-      some = gives_none (λ order. 0 < length (files_in (wanted_in order))) answer is;
+      some = gives_none (λ order. 0 < length (named_in (wanted_in order))) answer is;
       ok = gives_none (λ order. fault_of plm_app words ≡ []) answer is;
       fault = tells_none (IsFaultOf (fault_of plm_app words)) answer is;
     }
@@ -106,8 +109,9 @@ returns-in_err-order c =
       need = λ name files given. wants_any _ answer is;
       execute = λ name files given. wants_any _ answer is;
       execute_option = λ name files option text bare given. wants_any _ answer is;
+      explain = λ name number given. wants_any _ answer is;
       order = gives_none (Orders words) answer is;
-      some = gives_none (λ order. 0 < length (files_in (wanted_in order))) answer is;
+      some = gives_none (λ order. 0 < length (named_in (wanted_in order))) answer is;
       ok = gives_none (λ order. fault_of plm_app words ≡ []) answer is;
       fault = tells_none (IsFaultOf (fault_of plm_app words)) answer is;
     }
