@@ -13,3 +13,4 @@ pub mod Given
 pub mod Decimals
 pub mod Inputs
 pub mod MemoryBytes
+pub mod PortFiles

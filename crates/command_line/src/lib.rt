@@ -4,6 +4,7 @@
 mod app;
 mod help;
 mod orders;
+mod port_files;
 mod reading;
 mod start_memory;
 mod values;
@@ -13,6 +14,7 @@ pub use orders::{
     Action, CompileOrder, ExecuteOrder, LinkOrder, NeedOrder, Order, PlaceAction, PlaceOrder,
     PlanTexts, ProgramOrder,
 };
+pub use port_files::PortFile;
 pub use reading::{LineFault, command};
 pub use start_memory::MemoryByte;
 pub use values::{InputByte, Settings, ValueFault};
