@@ -5,6 +5,7 @@ mod console;
 mod executing;
 mod needing;
 mod needs;
+mod port_inputs;
 mod printed_needs;
 mod programs;
 mod refusals;

@@ -11,6 +11,7 @@ ghost use Rattle.commands.specs.Map.{map_if};
 ghost use Rattle.commands.specs.Refusing.{RefusesTexts, TellsUnwritten};
 ghost use Rattle.commands.specs.Running.{PrintsMachine, PrintsTexts, StopsBuilt, end_status};
 
+use crate::port_inputs::quiet_of;
 use crate::programs::loading::{script_of, start_memory};
 use crate::programs::map::print_map;
 use crate::programs::refusals::refuse_sources;
@@ -117,7 +118,18 @@ fn print_image<O: Write>(
     let Ok(script) = script_of(alloc, settings.input.as_slice()) else {
         return Err(Failure::Memory);
     };
-    let (end, _machine) = print_run(built, memory, script, None, settings.limit, out)?;
+    let Ok(quiet) = quiet_of(alloc, settings) else {
+        return Err(Failure::Memory);
+    };
+    let (end, _machine) = print_run(
+        built,
+        memory,
+        script,
+        None,
+        settings.limit,
+        quiet.as_slice(),
+        out,
+    )?;
     Ok(end)
 }
 
