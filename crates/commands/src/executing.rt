@@ -17,7 +17,7 @@ use crate::port_inputs::{quiet_of, read_input};
 use crate::programs::{ending_of, script_of, start_memory};
 use crate::refusals::refuse_value;
 use command_line::{ExecuteOrder, Settings};
-use cpu8080::{End, Machine};
+use cpu8080::{DecodeTable, End, Machine};
 use failure::{Failure, WriteFault};
 use host::{Ending, Files, refuse_file, refuse_memory, refuse_output};
 use locate::Absolute;
@@ -173,16 +173,24 @@ fn print_placed<O: Write>(
     let Ok(quiet) = quiet_of(alloc, values) else {
         return Err(Failure::Memory);
     };
-    let mut machine = machine_of(image, memory, script);
+    let Ok(table) = DecodeTable::new(alloc) else {
+        return Err(Failure::Memory);
+    };
+    let mut machine = machine_of(image, memory, script, table);
     let end = print_machine(&mut machine, values.limit, quiet.as_slice(), out)?;
     Ok(end)
 }
 
-// A machine at its start: with an image loaded into a memory, and this script.
-fn machine_of(image: &Absolute, memory: Memory, script: Script) -> Machine<Script>
+// A machine at its start: with an image loaded into a memory, this script, and a table for what it decodes.
+fn machine_of(
+    image: &Absolute,
+    memory: Memory,
+    script: Script,
+    table: DecodeTable,
+) -> Machine<Script>
     ensures { result ≡ started image.now memory script.script script.events script.failures }
 {
     let mut memory = memory;
     image.load(&mut memory);
-    Machine::new(memory, script, image.start())
+    Machine::with_table(memory, script, image.start(), table)
 }

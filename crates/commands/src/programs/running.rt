@@ -16,7 +16,7 @@ use crate::programs::loading::{script_of, start_memory};
 use crate::programs::map::print_map;
 use crate::programs::refusals::refuse_sources;
 use command_line::{ProgramOrder, Settings};
-use cpu8080::End;
+use cpu8080::{DecodeTable, End};
 use failure::{Failure, WriteFault};
 use host::{Ending, refuse_memory, refuse_output};
 use std::alloc::Global;
@@ -121,11 +121,14 @@ fn print_image<O: Write>(
     let Ok(quiet) = quiet_of(alloc, settings) else {
         return Err(Failure::Memory);
     };
+    let Ok(table) = DecodeTable::new(alloc) else {
+        return Err(Failure::Memory);
+    };
     let (end, _machine) = print_run(
         built,
         memory,
         script,
-        None,
+        Some(table),
         settings.limit,
         quiet.as_slice(),
         out,
