@@ -14,3 +14,4 @@ pub mod Given
 pub mod Decimals
 pub mod Inputs
 pub mod MemoryBytes
+pub mod PortFiles

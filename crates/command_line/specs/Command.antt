@@ -38,6 +38,10 @@ option_rule name = record (new_rule name) { long = Some name; value_names = 1 }
 abbrev pub default_rule : Text → Text → Rule
 default_rule name text = record (option_rule name) { defaults = text ∷ [] }
 
+-- the same option, which may be given several times
+abbrev pub many_rule : Text → Rule
+many_rule name = record (option_rule name) { action = Some Append }
+
 -- the flag `--name`
 abbrev pub flag_rule : Text → Rule
 flag_rule name = record (new_rule name) { long = Some name; action = Some SetTrue }
@@ -73,15 +77,16 @@ with_memory app =
 -- a command with the options of a limit and an input
 abbrev pub with_limit_and_input : App → App
 with_limit_and_input app =
-    with_rule (with_rule app
+    with_rule (with_rule (with_rule app
     (default_rule (codes "limit") (codes "10000000")))
-    (option_rule (codes "input"))
+    (option_rule (codes "input")))
+    (many_rule (codes "input-file"))
 
 -- a command with the options of a run
 abbrev pub with_run : App → App
 with_run app = with_memory (with_rule (with_limit_and_input app) (flag_rule (codes "map")))
 
--- the command `name [plan] [--limit N] [--input T] [--map] [--fill T] [--memory T] SOURCE...`
+-- the command `name [plan] [--limit N] [--input T] [--input-file T]... [--map] [--fill T] [--memory T] SOURCE...`
 abbrev pub program_app : Text → App
 program_app name = with_rule (with_run (with_plan (new_app name))) files_rule
 
@@ -102,7 +107,7 @@ hex_app name = with_rule (with_rule (with_plan (new_app name)) (option_rule (cod
 abbrev pub locate_app : Text → App
 locate_app name = with_rule (with_rule (with_plan (new_app name)) (flag_rule (codes "need"))) files_rule
 
--- the command `name [plan] [--limit N] [--input T] [--fill T] [--memory T] OBJECT...`
+-- the command `name [plan] [--limit N] [--input T] [--input-file T]... [--fill T] [--memory T] OBJECT...`
 abbrev pub execute_app : Text → App
 execute_app name =
     with_rule (with_memory (with_limit_and_input (with_plan (new_app name)))) files_rule
@@ -149,6 +154,7 @@ pub record ProgramWanted : Type 0 where
   pub plan : PlanWanted
   pub limit : Text
   pub input : Option Text
+  pub input_files : List Text
   pub map : Bool
   pub fill : Text
   pub memory : Option Text
@@ -176,6 +182,7 @@ pub record ExecuteWanted : Type 0 where
   pub plan : PlanWanted
   pub limit : Text
   pub input : Option Text
+  pub input_files : List Text
   pub fill : Text
   pub memory : Option Text
 
@@ -216,9 +223,13 @@ text_of name rows = unwrap_or (first_of name rows) []
 abbrev pub is_set : Text → List Row → Bool
 is_set name rows = option_map_or (λ text. bytes_eq text (codes "true")) (first_of name rows) false
 
+-- the texts of an argument that may be given several times
+abbrev pub texts_of : Text → List Row → List Text
+texts_of name rows = unwrap_or (all_of name rows) []
+
 -- the files of a command
 abbrev pub files_of : List Row → List Text
-files_of rows = unwrap_or (all_of (codes "FILES") rows) []
+files_of rows = texts_of (codes "FILES") rows
 
 -- the plan of a command
 abbrev pub plan_of : List Row → PlanWanted
@@ -237,6 +248,7 @@ program_of action rows = record {
   plan = plan_of rows;
   limit = text_of (codes "limit") rows;
   input = first_of (codes "input") rows;
+  input_files = texts_of (codes "input-file") rows;
   map = is_set (codes "map") rows;
   fill = text_of (codes "fill") rows;
   memory = first_of (codes "memory") rows;
@@ -265,6 +277,7 @@ execute_of rows = record {
   plan = plan_of rows;
   limit = text_of (codes "limit") rows;
   input = first_of (codes "input") rows;
+  input_files = texts_of (codes "input-file") rows;
   fill = text_of (codes "fill") rows;
   memory = first_of (codes "memory") rows;
 }
@@ -309,6 +322,7 @@ program_in order = record {
   plan = plan_in order.plan;
   limit = order.limit.now;
   input = option_map (λ text. text.now) order.input;
+  input_files = texts order.input_files.items;
   map = order.map;
   fill = order.fill.now;
   memory = option_map (λ text. text.now) order.memory;
@@ -337,6 +351,7 @@ execute_in order = record {
   plan = plan_in order.plan;
   limit = order.limit.now;
   input = option_map (λ text. text.now) order.input;
+  input_files = texts order.input_files.items;
   fill = order.fill.now;
   memory = option_map (λ text. text.now) order.memory;
 }
@@ -387,6 +402,7 @@ usual action files = record {
   plan = usual_plan;
   limit = codes "10000000";
   input = None;
+  input_files = [];
   map = false;
   fill = codes "00";
   memory = None;
@@ -401,6 +417,7 @@ usual_execute objects = record {
   plan = usual_plan;
   limit = codes "10000000";
   input = None;
+  input_files = [];
   fill = codes "00";
   memory = None;
 }
@@ -417,6 +434,7 @@ pub data ValueOption : Type 0 where
   OfPlan : PlanOption → ValueOption
   Limit : ValueOption
   Input : ValueOption
+  InputFile : ValueOption
   Fill : ValueOption
   StartMemory : ValueOption
 
@@ -431,6 +449,7 @@ abbrev pub option_name : ValueOption → Text
 option_name (OfPlan option) = plan_option_name option
 option_name Limit = codes "limit"
 option_name Input = codes "input"
+option_name InputFile = codes "input-file"
 option_name Fill = codes "fill"
 option_name StartMemory = codes "memory"
 
@@ -445,6 +464,7 @@ abbrev pub with_text : ValueOption → Text → ProgramWanted → ProgramWanted
 with_text (OfPlan option) text wanted = record wanted { plan = with_plan_text option text wanted.plan }
 with_text Limit text wanted = record wanted { limit = text }
 with_text Input text wanted = record wanted { input = Some text }
+with_text InputFile text wanted = record wanted { input_files = text ∷ [] }
 with_text Fill text wanted = record wanted { fill = text }
 with_text StartMemory text wanted = record wanted { memory = Some text }
 
@@ -454,6 +474,7 @@ with_execute_text (OfPlan option) text wanted =
     record wanted { plan = with_plan_text option text wanted.plan }
 with_execute_text Limit text wanted = record wanted { limit = text }
 with_execute_text Input text wanted = record wanted { input = Some text }
+with_execute_text InputFile text wanted = record wanted { input_files = text ∷ [] }
 with_execute_text Fill text wanted = record wanted { fill = text }
 with_execute_text StartMemory text wanted = record wanted { memory = Some text }
 

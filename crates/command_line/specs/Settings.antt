@@ -1,9 +1,10 @@
 -- The values of an order's options: which texts are values, and what they say.
-use Rattle.std.specs.Prelude.{◌≡◌, ◌==◌, Bool, ◌&&◌, ◌+◌, ◌*◌, ◌++◌, ℕ, List, [], ◌∷◌, length, nat_le, nat_lt}
+use Rattle.std.specs.Prelude.{◌≡◌, ◌==◌, Bool, ◌&&◌, ◌||◌, ◌+◌, ◌*◌, ◌++◌, ℕ, List, [], ◌∷◌, codes, length, map, nat_le, nat_lt}
 use Rattle.std.specs.Prelude.{Option, Some, None, option_and_then, option_map, Result, Ok, Err, if◌then◌else◌}
 use Rattle.std.specs.Borrow.{Bor}
 use Rattle.std.specs.Char.{digit_value, is_digit}
-use Rattle.std.specs.List.{list_all, slice_split}
+use Rattle.std.specs.List.{after_first, before_first, flat_map, list_all, list_any, position_or_len, slice_split}
+use Rattle.std.specs.Str.{bytes_eq}
 use Rattle.std.specs.Str.Parse.{digits_value}
 use Rattle.clap.specs.Words.{Text}
 use Rattle.failure.specs.declared.Failure.{Failure}
@@ -11,6 +12,7 @@ use Rattle.failure.specs.declared.Failure.TheVariants.{Fault, Memory}
 use Rattle.command_line.specs.Command.{ExecuteWanted, ExplainWanted, PlanWanted, ProgramWanted}
 use Rattle.command_line.specs.Explained.{page_of}
 use Rattle.command_line.specs.declared.values.InputByte.{InputByte}
+use Rattle.command_line.specs.declared.port_files.PortFile.{PortFile}
 use Rattle.command_line.specs.declared.start_memory.MemoryByte.{MemoryByte}
 use Rattle.mem80.specs.declared.memory.TheConstants.{MEMORY_SIZE}
 use Rattle.mem80.specs.declared.plan.Plan.{Plan}
@@ -126,6 +128,66 @@ abbrev pub memory_read : Option Text → Read (List MemoryByte)
 memory_read None = Ok []
 memory_read (Some text) = found_in text (memory_bytes text)
 
+-- a port and the name of its file
+pub record NamedPort : Type 0 where
+  pub port : ℕ
+  pub name : Text
+
+-- a colon (58)
+abbrev pub is_colon : ℕ → Bool
+is_colon letter = letter == 58
+
+-- the name of a file, where a dash stands for standard input
+abbrev pub input_name : Text → Text
+input_name name = if bytes_eq name (codes "-") then codes "/dev/stdin" else name
+
+-- a port and a name, which has a letter at least
+abbrev pub port_of_digits : (digits name : Text) → Option NamedPort
+port_of_digits digits name =
+    if nat_lt 0 (length name) then option_map (λ port. record { port = port; name = input_name name }) (digits_byte digits)
+    else None
+
+-- the file of a port: before the first colon of the text the two digits of the port, and after it the name
+abbrev pub port_file : Text → Option NamedPort
+port_file text =
+    if nat_lt (position_or_len is_colon text) (length text)
+    then port_of_digits (before_first is_colon text) (after_first is_colon text) else None
+
+-- whether some bytes of an input are for a port, and whether one of these files is
+abbrev pub has_input : List InputByte → (port : ℕ) → Bool
+has_input input port = list_any (λ (one : InputByte). one.port == port) input
+
+abbrev pub has_file : List NamedPort → (port : ℕ) → Bool
+has_file files port = list_any (λ (one : NamedPort). one.port == port) files
+
+-- the file that a text writes, of a port that has neither one of these files nor bytes of an input
+abbrev pub port_file_read : List InputByte → List NamedPort → Text → Read NamedPort
+port_file_read input files text = do
+  file ← found_in text (port_file text)
+  if has_input input file.port || has_file files file.port then Err text else Ok file
+
+-- these files, and then those that texts write
+abbrev pub port_files_after : List InputByte → List NamedPort → List Text → Read (List NamedPort)
+port_files_after input files [] = Ok files
+port_files_after input files (text ∷ more) =
+    port_file_read input files text >>= (λ file. port_files_after input (files ++ file ∷ []) more)
+
+-- the files of ports that texts write, beside an input
+abbrev pub port_files_read : List InputByte → List Text → Read (List NamedPort)
+port_files_read input texts = port_files_after input [] texts
+
+-- the names of the files that texts write
+abbrev pub names_if : Option NamedPort → List Text
+names_if None = []
+names_if (Some file) = file.name ∷ []
+
+abbrev pub names_in : List Text → List Text
+names_in texts = flat_map (λ text. names_if (port_file text)) texts
+
+-- the names of files of ports
+abbrev pub file_names : List NamedPort → List Text
+file_names files = map (λ (file : NamedPort). file.name) files
+
 -- the values of all options
 pub record Values : Type 0 where
   pub plan : Plan
@@ -133,6 +195,7 @@ pub record Values : Type 0 where
   pub input : List InputByte
   pub fill : ℕ
   pub memory : List MemoryByte
+  pub input_files : List NamedPort
 
 -- the plan that texts write
 abbrev pub plan_read : PlanWanted → Read Plan
@@ -145,22 +208,31 @@ plan_read wanted = do
 
 -- the values that the texts of all options write, or the first text that is no value
 abbrev pub texts_read :
-    PlanWanted → (limit : Text) → (input : Option Text) → (fill : Text) → (memory : Option Text) → Read Values
-texts_read plan_text limit_text input_text fill_text memory_text = do
+    PlanWanted → (limit : Text) → (input : Option Text) → (fill : Text) → (memory : Option Text)
+    → (input_files : List Text) → Read Values
+texts_read plan_text limit_text input_text fill_text memory_text input_file_texts = do
   plan ← plan_read plan_text
   limit ← limit_number limit_text
   input ← input_read input_text
   fill ← fill_read fill_text
   memory ← memory_read memory_text
-  Ok (record { plan = plan; limit = limit; input = input; fill = fill; memory = memory })
+  input_files ← port_files_read input input_file_texts
+  Ok (record {
+    plan = plan;
+    limit = limit;
+    input = input;
+    fill = fill;
+    memory = memory;
+    input_files = input_files;
+  })
 
 -- the values of what is wanted of sources
 abbrev pub values_read : ProgramWanted → Read Values
-values_read wanted = texts_read wanted.plan wanted.limit wanted.input wanted.fill wanted.memory
+values_read wanted = texts_read wanted.plan wanted.limit wanted.input wanted.fill wanted.memory wanted.input_files
 
 -- the values of what is wanted of objects
 abbrev pub execute_read : ExecuteWanted → Read Values
-execute_read wanted = texts_read wanted.plan wanted.limit wanted.input wanted.fill wanted.memory
+execute_read wanted = texts_read wanted.plan wanted.limit wanted.input wanted.fill wanted.memory wanted.input_files
 
 -- the address of a jump, where one is wanted
 abbrev pub jump_read : Option Text → Read (Option ℕ)
@@ -187,6 +259,10 @@ abbrev pub ReadsFile : Read Text → Result (Bor Text) ValueFault → Type 0
 ReadsFile read (Ok file) = read ≡ Ok file.now
 ReadsFile read (Err fault) = read ≡ Err fault.text.now
 
+-- a port and the name of its file, as settings hold them
+abbrev pub port_file_in : PortFile → NamedPort
+port_file_in file = record { port = file.port; name = file.name.now }
+
 -- what settings hold
 abbrev pub values_in : Settings → Values
 values_in settings = record {
@@ -195,7 +271,13 @@ values_in settings = record {
   input = settings.input.items;
   fill = settings.fill;
   memory = settings.memory.items;
+  input_files = map port_file_in settings.input_files.items;
 }
+
+-- the files of the settings have the names that these texts write
+abbrev pub HasNames : List Text → Result Settings (Failure ValueFault) → Type 0
+HasNames texts (Ok settings) = file_names (map port_file_in settings.input_files.items) ≡ names_in texts
+HasNames texts (Err failure) = Unit {0}
 
 -- the answer is what the texts read as, unless memory ran out
 abbrev pub IsSettingsOf : Read Values → Result Settings (Failure ValueFault) → Type 0

@@ -3,7 +3,7 @@
 ghost use Rattle.std.specs.Prelude.{◌≡◌, codes, false};
 ghost use Rattle.clap.specs.Words.{App, Rule, new_app, rule_of, with_rule, with_subcommand};
 ghost use Rattle.command_line.specs.internal.Building.{Builds, IsBuilt};
-ghost use Rattle.command_line.specs.Command.{bare_app, compile_app, default_rule, execute_app, explain_app, file_rule, files_rule, flag_rule, hex_app, link_app, locate_app, option_rule, out_rule, plm_app, program_app, programs_app, with_limit_and_input, with_plan, with_run, with_memory};
+ghost use Rattle.command_line.specs.Command.{bare_app, compile_app, default_rule, execute_app, file_rule, files_rule, flag_rule, hex_app, link_app, locate_app, option_rule, out_rule, plm_app, program_app, programs_app, with_limit_and_input, with_plan, with_run, with_memory, many_rule, explain_app};
 
 use crate::help::{
     ABOUT, COMPILE, EXECUTE, EXPLAIN, GUIDE, HEX, INTERPRET, INTERPRET_LIMIT, LINK, LOCATE, RUN,
@@ -25,6 +25,14 @@ fn option<'a>(alloc: Global, name: &'a str, value: &'a str, help: &'a str) -> Ar
         .long(name)
         .value_name(value)
         .help(help)
+}
+
+// The same of an option that may be given several times.
+fn option_again<'a>(alloc: Global, name: &'a str, value: &'a str, help: &'a str) -> Arg<'a>
+    ensures rule { rule_of result ≡ many_rule name.entry.now }
+    ensures local { result.global ≡ false }
+{
+    option(alloc, name, value, help).action(ArgAction::Append)
 }
 
 // The same with the text that stands for the option where it is left out.
@@ -148,7 +156,14 @@ fn add_limit_and_input<'a>(alloc: Global, command: Built<'a>, limit_help: &'a st
         "GROUPS",
         "What the ports give, as 01:0904/02:FF",
     );
-    add(with_limit, input)
+    let with_input = add(with_limit, input);
+    let input_file = option_again(
+        alloc,
+        "input-file",
+        "PORT:FILE",
+        "A file whose bytes a port gives, as 00:text.txt, or - for standard input",
+    );
+    add(with_input, input_file)
 }
 
 // The command with the options of a run.

@@ -233,6 +233,8 @@ With --map it first prints where each object lies, by its address and its number
 
 Input is groups joined by `/`, each a port, a colon and the bytes that the port gives, all in
 hexadecimal digits: 01:0904/02:FF gives 09 and then 04 at port 01, and FF at port 02.
+With --input-file 00:text.txt port 00 gives the bytes of the file text.txt, and its events are not
+printed; 00:- is standard input. A port has one file, or bytes of --input.
 
 Each byte of memory is what --fill says at the start, but for the bytes of --memory: groups joined
 by `/`, each an address of four hexadecimal digits, a colon and the bytes from there on, so that
@@ -277,6 +279,8 @@ With --map it first prints where each object lies, by its address and its number
 
 Input is groups joined by `/`, each a port, a colon and the bytes that the port gives, all in
 hexadecimal digits: 01:0904/02:FF gives 09 and then 04 at port 01, and FF at port 02.
+With --input-file 00:text.txt port 00 gives the bytes of the file text.txt, and its events are not
+printed; 00:- is standard input. A port has one file, or bytes of --input.
 
 Each byte of memory is what --fill says at the start, but for the bytes of --memory: groups joined
 by `/`, each an address of four hexadecimal digits, a colon and the bytes from there on, so that
@@ -403,6 +407,8 @@ Prints what `plm run` prints, a line for each byte at a port, and then how the r
 
 Input is groups joined by `/`, each a port, a colon and the bytes that the port gives, all in
 hexadecimal digits: 01:0904/02:FF gives 09 and then 04 at port 01, and FF at port 02.
+With --input-file 00:text.txt port 00 gives the bytes of the file text.txt, and its events are not
+printed; 00:- is standard input. A port has one file, or bytes of --input.
 
 Each byte of memory is what --fill says at the start, but for the bytes of --memory: groups joined
 by `/`, each an address of four hexadecimal digits, a colon and the bytes from there on, so that

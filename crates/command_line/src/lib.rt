@@ -5,6 +5,7 @@ mod app;
 mod explained;
 mod help;
 mod orders;
+mod port_files;
 mod reading;
 mod start_memory;
 mod values;
@@ -14,6 +15,7 @@ pub use orders::{
     Action, CompileOrder, ExecuteOrder, ExplainOrder, LinkOrder, NeedOrder, Order, PlaceAction,
     PlaceOrder, PlanTexts, ProgramOrder,
 };
+pub use port_files::PortFile;
 pub use reading::{LineFault, command};
 pub use start_memory::MemoryByte;
 pub use values::{InputByte, Settings, ValueFault};

@@ -1,16 +1,16 @@
 //! The order that the words of a command line give.
 
 ghost use Rattle.std.specs.Prelude.{◌≡◌, ◌<◌, [], IfOk, OnOk, length, codes};
-ghost use Rattle.std.specs.Prelude.{Some, option_and_then, option_map, unwrap_or};
+ghost use Rattle.std.specs.Prelude.{Some, option_and_then, option_map};
 ghost use Rattle.clap.specs.Walk.{texts};
-ghost use Rattle.clap.specs.Words.{all_of, fault_of, first_of, found_of, rows_of, subcommand_rows_of};
+ghost use Rattle.clap.specs.Words.{fault_of, first_of, found_of, rows_of, subcommand_rows_of};
 ghost use Rattle.failure.specs.Failure.{IfFault};
 ghost use Rattle.command_line.specs.Command.{IsFaultOf, Orders, OrdersCompile, OrdersFiles, OrdersJump, OrdersLink, OrdersMap};
 ghost use Rattle.command_line.specs.Command.{OrdersExecute, OrdersExecuteText, execute_of, wants_execute};
 ghost use Rattle.command_line.specs.Command.{OrdersExplain, explain_of, wants_explain};
 ghost use Rattle.command_line.specs.Command.{OrdersNeed, OrdersPlace, OrdersPlaceText, OrdersText};
-ghost use Rattle.command_line.specs.Command.{is_set, link_of, located_of, named_in, need_of, place_of, plan_in, plan_of};
-ghost use Rattle.command_line.specs.Command.{plm_app, program_of, text_of};
+ghost use Rattle.command_line.specs.Command.{is_set, link_of, located_of, need_of, place_of, plan_in, plan_of, files_of, named_in};
+ghost use Rattle.command_line.specs.Command.{plm_app, program_of, text_of, texts_of};
 ghost use Rattle.command_line.specs.Command.{wanted_in, wanted_of_match};
 ghost use Rattle.command_line.specs.Command.{compile_of, wants_compile, wants_link, wants_need, wants_place, wants_program};
 ghost use Rattle.command_line.specs.internal.Errors.{IsFailureFor};
@@ -59,15 +59,21 @@ fn first<'a>(matches: &ArgMatches<'a>, name: &str) -> Option<&'a str>
     matches.get_str(name)
 }
 
-// The files that a command reads.
-fn files<'a>(alloc: Global, matches: &ArgMatches<'a>) -> Result<Vec<&'a str>, AllocError>
-    ensures { IfOk result (λ files.
-        texts files.items ≡ unwrap_or (all_of (codes "FILES") (rows_of (found_of matches.now))) []) }
+// The texts of an argument that may be given several times.
+fn all<'a>(alloc: Global, matches: &ArgMatches<'a>, name: &str) -> Result<Vec<&'a str>, AllocError>
+    ensures { IfOk result (λ found. texts found.items ≡ texts_of name.now (rows_of (found_of matches.now))) }
 {
-    match matches.get_raw("FILES") {
-        Some(names) => Vec::from_slice(alloc, names),
+    match matches.get_raw(name) {
+        Some(found) => Vec::from_slice(alloc, found),
         None => Ok(Vec::new(alloc)),
     }
+}
+
+// The files that a command reads.
+fn files<'a>(alloc: Global, matches: &ArgMatches<'a>) -> Result<Vec<&'a str>, AllocError>
+    ensures { IfOk result (λ files. texts files.items ≡ files_of (rows_of (found_of matches.now))) }
+{
+    all(alloc, matches, "FILES")
 }
 
 // The text of an option that has a default.
@@ -113,12 +119,14 @@ fn program<'a>(
         ≡ Some (wants_program (program_of action (rows_of (found_of matches.now))))) }
 {
     let files = files(alloc, matches)?;
+    let input_files = all(alloc, matches, "input-file")?;
     Ok(Some(Order::Program(ProgramOrder {
         action,
         files,
         plan: plan(matches),
         limit: text(matches, "limit"),
         input: first(matches, "input"),
+        input_files,
         map: flag(matches, "map"),
         fill: text(matches, "fill"),
         memory: first(matches, "memory"),
@@ -184,11 +192,13 @@ fn execute<'a>(alloc: Global, matches: &ArgMatches<'a>) -> Result<Option<Order<'
         ≡ Some (wants_execute (execute_of (rows_of (found_of matches.now))))) }
 {
     let objects = files(alloc, matches)?;
+    let input_files = all(alloc, matches, "input-file")?;
     Ok(Some(Order::Execute(ExecuteOrder {
         objects,
         plan: plan(matches),
         limit: text(matches, "limit"),
         input: first(matches, "input"),
+        input_files,
         fill: text(matches, "fill"),
         memory: first(matches, "memory"),
     })))

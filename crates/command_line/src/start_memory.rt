@@ -20,8 +20,8 @@ pub struct MemoryByte {
     pub byte: u8,
 }
 
-// The byte of a text of two hexadecimal digits.
-fn digits_value(digits: &[u8]) -> Option<u8>
+/// The byte of a text of two hexadecimal digits.
+pub(crate) fn digits_value(digits: &[u8]) -> Option<u8>
     ensures { result ≡ digits_byte digits.now }
 {
     match digits {

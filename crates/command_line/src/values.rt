@@ -1,13 +1,13 @@
 //! The values of an order's options.
 
-ghost use Rattle.std.specs.Prelude.{◌≡◌, ◌==◌, ◌<◌, Err, IfOk, IsOk, codes, map, option_map, slice_index};
+ghost use Rattle.std.specs.Prelude.{◌≡◌, ◌==◌, ◌<◌, [], Err, IfOk, IsOk, codes, map, option_map, slice_index};
 ghost use Rattle.std.specs.List.{slice_split};
 ghost use Rattle.std.specs.Option.{SomeIff};
 ghost use Rattle.std.specs.Char.{digit_value, is_digit};
 ghost use Rattle.failure.specs.Failure.{IfFault};
 ghost use Rattle.clap.specs.Walk.{texts};
 ghost use Rattle.command_line.specs.Command.{execute_in, explain_in, place_in, plan_in, program_in};
-ghost use Rattle.command_line.specs.Settings.{execute_read, HasMemory, IsSettingsOf, byte_of, bytes_for, group_bytes, input_bytes, input_read, jump_read, limit_number, only_file, plan_number, all_groups};
+ghost use Rattle.command_line.specs.Settings.{execute_read, HasMemory, HasNames, IsSettingsOf, byte_of, bytes_for, group_bytes, input_bytes, input_read, jump_read, limit_number, only_file, plan_number, all_groups};
 ghost use Rattle.command_line.specs.Settings.{plan_read};
 ghost use Rattle.command_line.specs.Settings.{IsPageOf, page_read};
 ghost use Rattle.command_line.specs.Settings.{texts_read, values_read};
@@ -16,6 +16,7 @@ ghost use Rattle.command_line.specs.internal.Reads.{if_read, in_front};
 
 use crate::explained::page;
 use crate::orders::{ExecuteOrder, ExplainOrder, NeedOrder, PlaceOrder, PlanTexts, ProgramOrder};
+use crate::port_files::{PortFile, port_files};
 use crate::start_memory::{MemoryByte, fill, memory};
 use failure::Failure;
 use mem80::Plan;
@@ -36,7 +37,7 @@ pub struct InputByte {
 
 /// The values of an order's options.
 #[derive(Drop)]
-pub struct Settings {
+pub struct Settings<'a> {
     /// Where the parts of the program are to lie.
     pub plan: Plan,
     /// The most instructions that are run, or the budget of the interpreter.
@@ -47,6 +48,8 @@ pub struct Settings {
     pub fill: u8,
     /// Bytes of the memory at the start, a later one over an earlier one of its address.
     pub memory: Vec<MemoryByte>,
+    /// The files from which the bytes of ports come, one of a port at most, none of a port that the input names.
+    pub input_files: Vec<PortFile<'a>>,
 }
 
 /// U4: an option has a text that is none of its values, or no fault has this number.
@@ -239,11 +242,14 @@ fn settings_of<'a>(
     input_text: Option<&'a str>,
     fill_text: &'a str,
     memory_text: Option<&'a str>,
-) -> Result<Settings, Failure<ValueFault<'a>>>
+    input_file_texts: &[&'a str],
+) -> Result<Settings<'a>, Failure<ValueFault<'a>>>
     ensures values { IsSettingsOf (texts_read (plan_in plan_texts.now) limit_text.entry.now
         (option_map (λ text. text.now) input_text.entry) fill_text.entry.now
-        (option_map (λ text. text.now) memory_text.entry)) result }
-    ensures memory { input_text.entry ≡ None → memory_text.entry ≡ None → HasMemory result }
+        (option_map (λ text. text.now) memory_text.entry) (texts input_file_texts.now)) result }
+    ensures names { HasNames (texts input_file_texts.now) result }
+    ensures memory { input_text.entry ≡ None → memory_text.entry ≡ None →
+        input_file_texts.now ≡ [] → HasMemory result }
 {
     let plan = match plan_of(plan_texts) {
         Ok(plan) => plan,
@@ -259,12 +265,14 @@ fn settings_of<'a>(
         Err(fault) => return Err(Failure::Fault(fault)),
     };
     let memory = memory(alloc, memory_text)?;
+    let input_files = port_files(alloc, input_file_texts, input.as_slice())?;
     Ok(Settings {
         plan,
         limit,
         input,
         fill,
         memory,
+        input_files,
     })
 }
 
@@ -304,11 +312,13 @@ impl<'a> PlaceOrder<'a> {
 
 impl<'a> ExecuteOrder<'a> {
     /// The values of the options. It answers U4 only where a text is none of its option's values, with the first
-    /// such text, in the order code, data, stack, stack size, limit, input, fill, memory; else the values, or that
-    /// memory ran out. Only an input and bytes of the memory at the start take memory.
-    pub fn settings(&self, alloc: Global) -> Result<Settings, Failure<ValueFault<'a>>>
+    /// such text, in the order code, data, stack, stack size, limit, input, fill, memory, files of the input; else the
+    /// values, or that memory ran out. Only an input, its files and bytes of the memory at the start take memory.
+    pub fn settings(&self, alloc: Global) -> Result<Settings<'a>, Failure<ValueFault<'a>>>
         ensures values { IsSettingsOf (execute_read (execute_in self.now)) result }
-        ensures memory { self.now.input ≡ None → self.now.memory ≡ None → HasMemory result }
+        ensures names { HasNames (execute_in self.now).input_files result }
+        ensures memory { self.now.input ≡ None → self.now.memory ≡ None →
+            self.now.input_files.items ≡ [] → HasMemory result }
     {
         settings_of(
             alloc,
@@ -317,6 +327,7 @@ impl<'a> ExecuteOrder<'a> {
             self.input,
             self.fill,
             self.memory,
+            self.input_files.as_slice(),
         )
     }
 }
@@ -346,11 +357,13 @@ impl<'a> NeedOrder<'a> {
 
 impl<'a> ProgramOrder<'a> {
     /// The values of the options. It answers U4 only where a text is none of its option's values, with the first
-    /// such text, in the order code, data, stack, stack size, limit, input, fill, memory; else the values, or that
-    /// memory ran out. Only an input and bytes of the memory at the start take memory.
-    pub fn settings(&self, alloc: Global) -> Result<Settings, Failure<ValueFault<'a>>>
+    /// such text, in the order code, data, stack, stack size, limit, input, fill, memory, files of the input; else the
+    /// values, or that memory ran out. Only an input, its files and bytes of the memory at the start take memory.
+    pub fn settings(&self, alloc: Global) -> Result<Settings<'a>, Failure<ValueFault<'a>>>
         ensures values { IsSettingsOf (values_read (program_in self.now)) result }
-        ensures memory { self.now.input ≡ None → self.now.memory ≡ None → HasMemory result }
+        ensures names { HasNames (program_in self.now).input_files result }
+        ensures memory { self.now.input ≡ None → self.now.memory ≡ None →
+            self.now.input_files.items ≡ [] → HasMemory result }
     {
         settings_of(
             alloc,
@@ -359,6 +372,7 @@ impl<'a> ProgramOrder<'a> {
             self.input,
             self.fill,
             self.memory,
+            self.input_files.as_slice(),
         )
     }
 }

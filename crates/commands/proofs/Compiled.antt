@@ -1,5 +1,5 @@
 -- Sources that are compiled to object files.
-use Rattle.commands.proofs.Prelude.{◌≡◌, ℕ, List, [], ◌∷◌, Option, None, Some, inl, inr, refl, subst, ChangesFiles, Directory, HasFile, KeepsFiles, with_file, ObjectModule, text_of, IsBeginning, StopsAt, stays_on, StopsWriting, kept_then_written, IsCompiledTo, CompilesFile, CompilesTo, StopsCompiling}
+use Rattle.commands.proofs.Prelude.{◌≡◌, ℕ, List, [], ◌∷◌, Option, inl, inr, refl, subst, ChangesFiles, Directory, HasFile, KeepsFiles, with_file, ObjectModule, text_of, IsBeginning, StopsAt, stays_on, StopsWriting, kept_then_written, IsCompiledTo, CompilesFile, CompilesTo, StopsCompiling}
 
 -- the command stopped at its source, or at its object once that was read
 pub stops_at_source : (files : Option Directory) (name out : List ℕ) → StopsAt files (name ∷ out ∷ []) name

@@ -1,14 +1,16 @@
 -- Merges of objects that were run, or not.
-use Rattle.commands.proofs.Prelude.{◌≡◌, ℕ, List, [], Ok, Option, inl, inr, refl, sym, ap, subst, ◌∙◌, Event, Session, Directory, RunsOut, started, IsStart, Values}
+use Rattle.commands.proofs.Prelude.{◌≡◌, ℕ, List, [], Ok, Option, inl, inr, refl, sym, ap, subst, ◌∙◌, ◌++◌, Event, Session, Directory, KeepsFiles, TellsRefusal, RefusesFor, RunsOut, started, IsStart, Values}
 use Rattle.printing.specs.Printing.{BeginsRun, PrintsRun}
 use Rattle.cpu8080.specs.{Machine.{Machine}, declared.machine.End.{End}}
 use Rattle.locate.specs.Locating.{Absolute}
 use Rattle.command_line.specs.{Command.{ExecuteWanted}, Settings.{execute_read}}
 use Rattle.object_commands.specs.Merging.{PlacesMerge, RefusesPlacing}
-use Rattle.commands.specs.Executing.{PrintsExecution, PrintsImage, PrintsMerge, StopsImage}
+use Rattle.commands.specs.Executing.{PrintsExecution, PrintsImage, PrintsMerge, PrintsRead, StopsImage, StopsRead}
+use Rattle.commands.specs.InputFiles.{HasInput, input_names, quiet_ports}
 unfoldable use Rattle.commands.specs.Executing.{RefusesExecution, RefusesObjects}
 use Rattle.commands.specs.Refusing.{TellsUnwritten}
 use Rattle.commands.specs.Running.{GivesInput, end_status}
+use Rattle.commands.proofs.InputFiles.{input_there, refused_after, told_after}
 use Rattle.commands.proofs.Printed.{stays_written}
 
 pub no_image : (values : Values) (image : Absolute) (known : Option (List ℕ)) → StopsImage values image known known
@@ -17,13 +19,13 @@ no_image values image known = inl (stays_written known)
 -- a run of an image that was printed, or a beginning of it
 module _ (values : Values) (image : Absolute) (memory : List ℕ) (script : Session) (from : Machine) (old new : Option (List ℕ)) (start : IsStart values memory)
     (gives : GivesInput values.input script.script) (none : script.events ≡ []) (unfailed : script.failures ≡ 0)
-    (starts : from ≡ started image memory script.script script.events script.failures) where
+    (starts : from ≡ started image memory script.script script.events script.failures) (quiet : List ℕ) (silent : quiet ≡ quiet_ports values) where
   same_start : from ≡ started image memory script.script [] 0
   same_start =
       starts ∙ ap (λ (es : List Event). started image memory script.script es script.failures) none
       ∙ ap (λ (n : ℕ). started image memory script.script [] n) unfailed
 
-  pub prints_image : (end : End) (machine : Machine) → PrintsRun values.limit from end machine old new → PrintsImage values image (end_status end) old new
+  pub prints_image : (end : End) (machine : Machine) → PrintsRun quiet values.limit from end machine old new → PrintsImage values image (end_status end) old new
   prints_image end machine ran = record {
     memory = memory;
     start = start;
@@ -31,29 +33,61 @@ module _ (values : Values) (image : Absolute) (memory : List ℕ) (script : Sess
     gives = gives;
     end = end;
     machine = machine;
-    run = subst (λ (m : Machine). PrintsRun values.limit m end machine old new) same_start ran;
+    run = subst (λ (q : List ℕ). PrintsRun q values.limit (started image memory script.script [] 0) end machine old new) silent
+        (subst (λ (m : Machine). PrintsRun quiet values.limit m end machine old new) same_start ran);
     ended = refl;
   }
 
-  pub begins_image : BeginsRun values.limit from old new → StopsImage values image old new
+  pub begins_image : BeginsRun quiet values.limit from old new → StopsImage values image old new
   begins_image ran = inr (record {
     memory = memory;
     start = start;
     script = script.script;
     gives = gives;
-    begun = subst (λ (m : Machine). BeginsRun values.limit m old new) same_start ran;
+    begun = subst (λ (q : List ℕ). BeginsRun q values.limit (started image memory script.script [] 0) old new) silent
+        (subst (λ (m : Machine). BeginsRun quiet values.limit m old new) same_start ran);
   })
 
-module _ (wanted : ExecuteWanted) (values : Values) (files : Option Directory) (image : Absolute) (old new : Option (List ℕ)) (placed : PlacesMerge files wanted.objects values.plan image) where
-  pub runs_merge : (end : End) (status : ℕ) → status ≡ end_status end → PrintsImage values image (end_status end) old new → PrintsMerge wanted values files status old new
-  runs_merge end status is printed =
-      record { image = image; placed = placed; printed = subst (λ (s : ℕ). PrintsImage values image s old new) (sym is) printed }
+-- the status of the ending is that of the end
+pub image_status : (values : Values) (image : Absolute) (old new : Option (List ℕ)) (status of_end : ℕ) → status ≡ of_end → PrintsImage values image of_end old new → PrintsImage values image status old new
+image_status values image old new status of_end same printed = subst (λ (s : ℕ). PrintsImage values image s old new) (sym same) printed
 
-  -- it was placed, and not run whole
-  pub not_written : (before after : ℕ) (told was : Option (List ℕ)) → after ≡ before → TellsUnwritten was told → StopsImage values image old new
-      → RefusesObjects wanted values files before after was told old new
+-- the files of the input were read, and the image was run, or not whole
+module _ (values full : Values) (files : Option Directory) (image : Absolute) (old new : Option (List ℕ)) (input : HasInput files values full) where
+  pub prints_read : (status : ℕ) → PrintsImage full image status old new → PrintsRead values files image status old new
+  prints_read status printed = record { full = full; input = input; printed = printed }
+
+  pub stops_read : (told was : Option (List ℕ)) → TellsUnwritten was told → StopsImage full image old new → StopsRead values files image was told old new
+  stops_read told was unwritten stops = record { full = full; input = input; told = unwritten; printed = stops }
+
+-- the objects were placed before
+module _ (wanted : ExecuteWanted) (values : Values) (files mid : Option Directory) (image : Absolute) (kept : KeepsFiles files mid) (placed : PlacesMerge files wanted.objects values.plan image) where
+  pub runs_merge : (status : ℕ) (old new : Option (List ℕ)) → PrintsRead values mid image status old new → PrintsMerge wanted values files status old new
+  runs_merge status old new printed = record {
+    image = image;
+    placed = placed;
+    printed = record { full = printed.full; input = input_there files mid values printed.full kept printed.input; printed = printed.printed };
+  }
+
+  stopped_there : (old new out now : Option (List ℕ)) → StopsRead values mid image old new out now → StopsRead values files image old new out now
+  stopped_there old new out now stops =
+      record { full = stops.full; input = input_there files mid values stops.full kept stops.input; told = stops.told; printed = stops.printed }
+
+  pub not_run : (before now after : ℕ) (old new out done : Option (List ℕ)) → now ≡ before
+      → RefusesFor (StopsRead values mid image old new out done) mid (input_names values) now after old new out done
+      → RefusesObjects wanted values files before after old new out done
   unfolding RefusesObjects
-  not_written before after told was same unwritten stops = inr (same, record { image = image; placed = placed; told = unwritten; printed = stops })
+  not_run before now after old new out done same refused = inr (record {
+    image = image;
+    placed = placed;
+    stopped = refused_after files mid [] (input_names values) [] before now after kept tt same (StopsRead values mid image old new out done) (StopsRead values files image old new out done)
+        old new out done (stopped_there old new out done) refused;
+  })
+
+  pub told_later : (before now after : ℕ) (old new : Option (List ℕ)) → now ≡ before → TellsRefusal mid (input_names values) now after old new
+      → TellsRefusal files (wanted.objects ++ input_names values) before after old new
+  told_later before now after old new same told =
+      told_after files mid wanted.objects (input_names values) placed.texts before now after kept placed.read same old new told
 
 -- it was not placed, with nothing printed
 pub not_placed : (wanted : ExecuteWanted) (values : Values) (files : Option Directory) (before after : ℕ) (old new out : Option (List ℕ))

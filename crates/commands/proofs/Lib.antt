@@ -8,6 +8,7 @@ pub mod Inputs
 pub mod StartMemory
 pub mod Interpreted
 pub mod MapLines
+pub mod InputFiles
 pub mod Names
 pub mod Refused
 pub mod Printed

@@ -1,5 +1,5 @@
 -- The lines of a map.
-use Rattle.commands.proofs.Prelude.{◌≡◌, ℕ, ◌+◌, ◌-◌, ◌^◌, ◌<◌, ◌≤◌, true, List, [], ◌∷◌, ◌++◌, length, get_or, drop, map, zip, Option, Some, Result, OnOk, IfSome, codes, decimal, refl, sym, ap, subst, ◌∙◌, append_assoc, append-nil, arith, ◌++?◌, digits, format_spec, digits_output, styled_digits_output, flat_map, Appends, Typed, module_view, ModulePlacement, Placement, Joined, modules_of, CodeModulePlacement, CodePlacement, module_placement_view, placement_view, address_digits, hole_is, program_modules, Construction, map_line, map_of, map_text}
+use Rattle.commands.proofs.Prelude.{◌≡◌, ℕ, ◌-◌, ◌^◌, ◌<◌, ◌≤◌, true, List, [], ◌∷◌, ◌++◌, length, get_or, drop, map, zip, Option, Some, Result, OnOk, IfSome, codes, decimal, refl, sym, ap, subst, ◌∙◌, append_assoc, append-nil, arith, ◌++?◌, digits, format_spec, digits_output, styled_digits_output, flat_map, Appends, Typed, module_view, ModulePlacement, Placement, Joined, modules_of, CodeModulePlacement, CodePlacement, module_placement_view, placement_view, address_digits, hole_is, program_modules, Construction, map_line, map_of, map_text}
 
 five_parts : (a b c d e : List ℕ) → a ++ (b ++ (c ++ (d ++ e))) ≡ a ++ b ++ c ++ d ++ e
 five_parts a b c d e = sym (append_assoc (a ++ b ++ c) d e ∙ append_assoc (a ++ b) c (d ++ e) ∙ append_assoc a b (c ++ (d ++ e)))
@@ -22,10 +22,10 @@ pub none_added : (old : List ℕ) → old ≡ old ++ []
 none_added old = sym (append-nil old)
 
 -- what was added for pairs, and then what the pairs that are left add, is all
-module _ {V W : Type 0} (f : V × W → List ℕ) (total made new : List ℕ) where
+module _ {V W C : Type 0} (f : V × W → List C) (total made new : List C) where
   pair_added : (v : V) (w : W) (vs : List V) (ws : List W) → made ++ flat_map f (zip (v ∷ vs) (w ∷ ws)) ≡ total → new ≡ made ++ f (v, w) → new ++ flat_map f (zip vs ws) ≡ total
   pair_added v w vs ws rest added =
-      ap (λ (n : List ℕ). n ++ flat_map f (zip vs ws)) added ∙ append_assoc made (f (v, w)) (flat_map f (zip vs ws)) ∙ rest
+      ap (λ (n : List C). n ++ flat_map f (zip vs ws)) added ∙ append_assoc made (f (v, w)) (flat_map f (zip vs ws)) ∙ rest
 
   -- an item that is seen, with another as it is
   pub seen_added : {A : Type 0} (see : A → V) (xs : List A) (ws : List W) (x : A) (w : W) → 1 ≤ length xs → 1 ≤ length ws → x ≡ get_or xs 0 x → w ≡ get_or ws 0 w
@@ -41,7 +41,7 @@ module _ {V W : Type 0} (f : V × W → List ℕ) (total made new : List ℕ) wh
   both_added see look (a ∷ xs) [] x y some others is other rest added = absurd (omega arith)
   both_added see look (a ∷ xs) (b ∷ ys) x y some others is other rest added = pair_added (see a) (look b) (map see xs) (map look ys) rest (rw (sym is, sym other) added)
 
-module _ {V W : Type 0} (f : V × W → List ℕ) (total made : List ℕ) where
+module _ {V W C : Type 0} (f : V × W → List C) (total made : List C) where
   -- nothing is left on one side
   pub firsts_ended : {A : Type 0} (see : A → V) (xs : List A) (ws : List W) → length xs < 1 → made ++ flat_map f (zip (map see xs) ws) ≡ total → made ≡ total
   firsts_ended see [] ws none rest = sym (append-nil made) ∙ rest

@@ -1,5 +1,8 @@
 -- What was printed of programs, step by step.
-use Rattle.commands.proofs.Prelude.{◌≡◌, ℕ, ◌≤◌, Bool, true, false, List, [], ◌++◌, length, map, Bor, Option, None, Some, inl, inr, refl, sym, ap, subst, ◌∙◌, append-nil, Appends, Keeps, Appends-trans, AppendsBeginning, beginning_after, texts, Event, Session, Directory, HasFiles, Plan, Joined, CodePlacement, placement_view, ProgramWanted, Values, Action, ToRun, Interpret, MOST_SOURCES, IsProgramOf, program_modules, Construction, IsConstruction, source_of, started, map_if, map_of, DoesAs, GivesInput, IsStart, PrintsFiles, PrintsMachine, PrintsMeaning, PrintsTexts, StopsBuilt, end_status, source_status, source_word}
+use Rattle.commands.proofs.Prelude.{◌≡◌, ℕ, ◌≤◌, Bool, true, false, List, [], ◌++◌, length, map, Bor, Option, None, Some, inl, inr, refl, sym, ap, subst, ◌∙◌, append-nil, Appends, Keeps, Appends-trans, AppendsBeginning, beginning_after, texts, Event, Session, Directory, HasFiles, Plan, Joined, CodePlacement, placement_view, ProgramWanted, Values, Action, ToRun, Interpret, MOST_SOURCES, IsProgramOf, program_modules, Construction, IsConstruction, source_of, started, map_if, map_of, DoesAs, GivesInput, IsStart, PrintsFiles, PrintsMachine, PrintsMeaning, PrintsTexts, StopsBuilt, end_status, source_status, source_word, KeepsFiles}
+use Rattle.commands.proofs.InputFiles.{input_there, named}
+use Rattle.commands.specs.InputFiles.{HasInput, quiet_ports}
+use Rattle.commands.specs.Running.{PrintsRead}
 use Rattle.ports.specs.Events.{IsBeginning}
 use Rattle.printing.specs.{Report.{report_of}, Printing.{BeginsRun, PrintsRun, end_word}}
 use Rattle.cpu8080.specs.{Machine.{Machine}, Runs.{IsRun}, declared.machine.End.{End}}
@@ -20,13 +23,13 @@ nothing_stops action before values built known = inl (nothing_begun known before
 
 -- a run of an image that was printed, or a beginning of it
 module _ (values : Values) (built : Construction) (memory : List ℕ) (script : Session) (old new : Option (List ℕ)) (start : IsStart values memory) (gives : GivesInput values.input script.script)
-    (none : script.events ≡ []) (unfailed : script.failures ≡ 0) where
+    (none : script.events ≡ []) (unfailed : script.failures ≡ 0) (quiet : List ℕ) (silent : quiet ≡ quiet_ports values) where
   same_start : started built.image memory script.script script.events script.failures ≡ started built.image memory script.script [] 0
   same_start =
       ap (λ (es : List Event). started built.image memory script.script es script.failures) none
       ∙ ap (λ (n : ℕ). started built.image memory script.script [] n) unfailed
 
-  pub prints_machine : (end : End) (machine : Machine) → PrintsRun values.limit (started built.image memory script.script script.events script.failures) end machine old new
+  pub prints_machine : (end : End) (machine : Machine) → PrintsRun quiet values.limit (started built.image memory script.script script.events script.failures) end machine old new
       → PrintsMachine [] values built (end_status end) old new
   prints_machine end machine ran = record {
     memory = memory;
@@ -37,10 +40,10 @@ module _ (values : Values) (built : Construction) (memory : List ℕ) (script : 
     machine = machine;
     run = subst (λ (from : Machine). IsRun values.limit from end machine) same_start ran.run;
     ended = refl;
-    printed = ran.printed;
+    printed = subst (λ (q : List ℕ). Appends old new (report_of q machine.state.events (end_word end))) silent ran.printed;
   }
 
-  pub begins_machine : BeginsRun values.limit (started built.image memory script.script script.events script.failures) old new → StopsBuilt ToRun [] values built old new
+  pub begins_machine : BeginsRun quiet values.limit (started built.image memory script.script script.events script.failures) old new → StopsBuilt ToRun [] values built old new
   unfolding StopsBuilt
   begins_machine ran = inr (record {
     memory = memory;
@@ -50,7 +53,7 @@ module _ (values : Values) (built : Construction) (memory : List ℕ) (script : 
     end = ran.end;
     machine = ran.machine;
     run = subst (λ (from : Machine). IsRun values.limit from ran.end ran.machine) same_start ran.run;
-    printed = ran.printed;
+    printed = subst (λ (q : List ℕ). AppendsBeginning old new (report_of q ran.machine.state.events (end_word ran.end))) silent ran.printed;
   })
 
 -- the meaning of a program that was printed, or a beginning of it
@@ -62,14 +65,17 @@ module _ (values : Values) (built : Construction) (memory : List ℕ) (script : 
       ap (λ (es : List Event). source_of built memory script.script es values.limit) none in
       subst (λ (run : Run). DoesAs run end events) same does
 
-  pub prints_meaning : Appends old new (report_of events (source_word end)) → PrintsMeaning [] values built (source_status end) old new
+  pub prints_meaning : Appends old new (report_of (quiet_ports values) events (source_word end)) → PrintsMeaning [] values built (source_status end) old new
   prints_meaning printed = record { memory = memory; start = start; script = script.script; gives = gives; end = end; events = events; does = same_run; ended = refl; printed = printed }
 
-  pub begins_meaning : (shown : List Event) (word : List ℕ) → shown ≡ events → word ≡ source_word end → AppendsBeginning old new (report_of shown word) → StopsBuilt Interpret [] values built old new
+  pub begins_meaning : (quiet : List ℕ) (shown : List Event) (word : List ℕ) → quiet ≡ quiet_ports values → shown ≡ events → word ≡ source_word end
+      → AppendsBeginning old new (report_of quiet shown word) → StopsBuilt Interpret [] values built old new
   unfolding StopsBuilt
-  begins_meaning shown word are is printed =
-      let begun : AppendsBeginning old new (report_of events (source_word end)) = subst (λ (es : List Event). AppendsBeginning old new (report_of es (source_word end))) are
-      (subst (λ (w : List ℕ). AppendsBeginning old new (report_of shown w)) is printed) in
+  begins_meaning quiet shown word silent are is printed =
+      let begun : AppendsBeginning old new (report_of (quiet_ports values) events (source_word end)) =
+      subst (λ (q : List ℕ). AppendsBeginning old new (report_of q events (source_word end))) silent
+      (subst (λ (es : List Event). AppendsBeginning old new (report_of quiet es (source_word end))) are
+      (subst (λ (w : List ℕ). AppendsBeginning old new (report_of quiet shown w)) is printed)) in
       inr (record { memory = memory; start = start; script = script.script; gives = gives; end = end; events = events; does = same_run; printed = begun })
 
 module _ (before : List ℕ) (values : Values) (built : Construction) (a b c : Option (List ℕ)) where
@@ -116,7 +122,7 @@ module _ (before : List ℕ) (values : Values) (built : Construction) (a b c : O
     end = begun.end;
     machine = begun.machine;
     run = begun.run;
-    printed = begun_after (report_of begun.machine.state.events (end_word begun.end)) first begun.printed;
+    printed = begun_after (report_of (quiet_ports values) begun.machine.state.events (end_word begun.end)) first begun.printed;
   })
   stops_after Interpret first (inr begun) = inr (record {
     memory = begun.memory;
@@ -126,7 +132,7 @@ module _ (before : List ℕ) (values : Values) (built : Construction) (a b c : O
     end = begun.end;
     events = begun.events;
     does = begun.does;
-    printed = begun_after (report_of begun.events (source_word begun.end)) first begun.printed;
+    printed = begun_after (report_of (quiet_ports values) begun.events (source_word begun.end)) first begun.printed;
   })
 
 -- after the map, where it is wanted
@@ -191,12 +197,26 @@ module _ (with_map : Bool) (values : Values) (texts : List (List ℕ)) (built : 
 -- the texts are those of files with these names
 pub prints_files : (files : Option Directory) (wanted : ProgramWanted) (values : Values) (names order : List (Bor (List ℕ))) (read used : List (List ℕ)) (status : ℕ) (old new : Option (List ℕ))
     → names ≡ order → wanted.files ≡ texts order → HasFiles files (map (λ n. n.now) names) read → used ≡ read
-    → PrintsTexts wanted.action wanted.map values used status old new → PrintsFiles wanted values files status old new
-prints_files files wanted values names order read used status old new same wants has are printed = record {
+    → (mid : Option Directory) → KeepsFiles files mid → PrintsRead wanted values mid used status old new → PrintsFiles wanted values files status old new
+prints_files files wanted values names order read used status old new same wants has are mid kept printed = record {
   texts = read;
-  read = subst (λ (l : List (List ℕ)). HasFiles files l read) (sym wants) (subst (λ (l : List (Bor (List ℕ))). HasFiles files (map (λ n. n.now) l) read) same has);
-  printed = subst (λ (l : List (List ℕ)). PrintsTexts wanted.action wanted.map values l status old new) are printed;
+  read = subst (λ (l : List (List ℕ)). HasFiles files l read) (sym wants) (named names order files read same has);
+  printed = record {
+    full = printed.full;
+    input = input_there files mid values printed.full kept printed.input;
+    printed = subst (λ (l : List (List ℕ)). PrintsTexts wanted.action wanted.map printed.full l status old new) are printed.printed;
+  };
 }
+
+-- the files of the input were read, and the action was carried out
+pub prints_read : (files : Option Directory) (wanted : ProgramWanted) (values full : Values) (read : List (List ℕ)) (status : ℕ) (old new : Option (List ℕ)) → HasInput files values full
+    → PrintsTexts wanted.action wanted.map full read status old new → PrintsRead wanted values files read status old new
+prints_read files wanted values full read status old new input printed = record { full = full; input = input; printed = printed }
+
+-- the texts are those of these sources
+pub prints_texts : (action : Action) (with_map : Bool) (values : Values) (used read : List (List ℕ)) (status : ℕ) (old new : Option (List ℕ)) → used ≡ read
+    → PrintsTexts action with_map values used status old new → PrintsTexts action with_map values read status old new
+prints_texts action with_map values used read status old new are printed = subst (λ (l : List (List ℕ)). PrintsTexts action with_map values l status old new) are printed
 
 -- the action is this one
 pub by_action : (action this : Action) (with_map : Bool) (values : Values) (texts : List (List ℕ)) (status : ℕ) (old new : Option (List ℕ)) → action ≡ this

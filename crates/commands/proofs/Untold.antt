@@ -1,5 +1,8 @@
 -- Why sources were not run or interpreted, or not compiled.
-use Rattle.commands.proofs.Prelude.{◌≡◌, ℕ, ◌<◌, ◌≤◌, Bool, List, [], ◌∷◌, Bor, Err, Ok, Option, Result, inl, inr, length, map, refl, subst, sym, ⊎_elim, cases_lt, length-map, texts, CountsFailure, Failure, Fault, Directory, HasFile, HasFiles, StopsAt, Tells, file_line, memory_line, output_line, CompileWanted, ProgramWanted, Values, values_read, Action, MOST_SOURCES, IsProgramOf, program_modules, texts_of, Construction, IsConstruction, IsInOrder, IsRefusedAlone, ToolFault, TooManySources, CompilesTo, fault_line, map_if, RefusesCompiling, RefusesFiles, RefusesFor, RefusesProgram, RefusesTexts, RunsOut, TellsUnwritten, StopsBuilt}
+use Rattle.commands.proofs.Prelude.{◌≡◌, ℕ, ◌<◌, ◌≤◌, Bool, List, [], ◌∷◌, Bor, Err, Ok, Option, Result, inl, inr, length, map, refl, subst, sym, ⊎_elim, cases_lt, length-map, texts, CountsFailure, Failure, Fault, Directory, HasFile, HasFiles, StopsAt, Tells, file_line, memory_line, output_line, CompileWanted, ProgramWanted, Values, values_read, Action, MOST_SOURCES, IsProgramOf, program_modules, texts_of, Construction, IsConstruction, IsInOrder, IsRefusedAlone, ToolFault, TooManySources, CompilesTo, fault_line, map_if, RefusesCompiling, RefusesFiles, RefusesFor, RefusesProgram, RefusesTexts, RunsOut, TellsUnwritten, StopsBuilt, KeepsFiles, ◌++◌}
+use Rattle.commands.proofs.InputFiles.{input_there, named}
+use Rattle.commands.specs.InputFiles.{HasInput, input_names}
+use Rattle.commands.specs.Refusing.{RefusesRead}
 use Rattle.sources.specs.declared.sources.Source.{Source}
 use Rattle.tool.specs.Sources.{HasCause}
 use Rattle.commands.proofs.Printed.{stays_written}
@@ -63,12 +66,27 @@ refused_by_action action this with_map values names sources old new out now is r
 -- the texts are those of the files that are wanted
 pub refuses_files : (wanted : ProgramWanted) (values : Values) (files : Option Directory) (names order : List (Bor (List ℕ))) (read used : List (List ℕ)) (old new out now : Option (List ℕ))
     → names ≡ order → wanted.files ≡ texts order → HasFiles files (map (λ n. n.now) names) read → used ≡ read
-    → RefusesTexts wanted.action wanted.map values wanted.files used old new out now → RefusesFiles wanted values files old new out now
-refuses_files wanted values files names order read used old new out now same wants has are refused = record {
+    → (mid : Option Directory) → KeepsFiles files mid → RefusesRead wanted values mid used old new out now → RefusesFiles wanted values files old new out now
+refuses_files wanted values files names order read used old new out now same wants has are mid kept refused = record {
   texts = read;
-  read = subst (λ (l : List (List ℕ)). HasFiles files l read) (sym wants) (subst (λ (l : List (Bor (List ℕ))). HasFiles files (map (λ n. n.now) l) read) same has);
-  refused = subst (λ (l : List (List ℕ)). RefusesTexts wanted.action wanted.map values wanted.files l old new out now) are refused;
+  read = subst (λ (l : List (List ℕ)). HasFiles files l read) (sym wants) (named names order files read same has);
+  refused = record {
+    full = refused.full;
+    input = input_there files mid values refused.full kept refused.input;
+    refused = subst (λ (l : List (List ℕ)). RefusesTexts wanted.action wanted.map refused.full wanted.files l old new out now) are refused.refused;
+  };
 }
+
+-- the files of the input were read, and the action was not carried out
+pub refuses_read : (wanted : ProgramWanted) (values full : Values) (files : Option Directory) (read : List (List ℕ)) (old new out now : Option (List ℕ)) → HasInput files values full
+    → RefusesTexts wanted.action wanted.map full wanted.files read old new out now → RefusesRead wanted values files read old new out now
+refuses_read wanted values full files read old new out now input refused = record { full = full; input = input; refused = refused }
+
+-- the texts are those of these sources
+pub refuses_texts : (action : Action) (with_map : Bool) (values : Values) (names used read : List (List ℕ)) (old new out now : Option (List ℕ)) → used ≡ read
+    → RefusesTexts action with_map values names used old new out now → RefusesTexts action with_map values names read old new out now
+refuses_texts action with_map values names used read old new out now are refused =
+    subst (λ (l : List (List ℕ)). RefusesTexts action with_map values names l old new out now) are refused
 
 module _ (reason : Type 0) (files : Option Directory) (names : List (List ℕ)) (old new : Option (List ℕ)) where
   -- a file whose failure was counted, after calls that did not fail
@@ -92,7 +110,7 @@ runs_out before after old new out same told = record { count = same; told = told
 
 -- the values are those that are written, or memory ran out before they were known
 module _ (wanted : ProgramWanted) (files : Option Directory) (before after : ℕ) (old new out now : Option (List ℕ)) where
-  pub refuses_values : (values : Values) → values_read wanted ≡ Ok values → RefusesFor (RefusesFiles wanted values files old new out now) files wanted.files before after old new out now
+  pub refuses_values : (values : Values) → values_read wanted ≡ Ok values → RefusesFor (RefusesFiles wanted values files old new out now) files (wanted.files ++ input_names values) before after old new out now
       → RefusesProgram wanted files before after old new out now
   unfolding RefusesProgram
   refuses_values values written refused = inr (record { values = values; written = written; refused = refused })

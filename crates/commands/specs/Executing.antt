@@ -10,7 +10,8 @@ use Rattle.tool.specs.Execution.{started}
 use Rattle.command_line.specs.Command.{ExecuteWanted}
 use Rattle.command_line.specs.Settings.{Values, execute_read}
 use Rattle.object_commands.specs.Merging.{PlacesMerge, RefusesPlacing}
-use Rattle.commands.specs.Refusing.{RunsOut, TellsUnwritten}
+use Rattle.commands.specs.InputFiles.{HasInput, input_names, quiet_ports}
+use Rattle.commands.specs.Refusing.{RefusesFor, RunsOut, TellsUnwritten}
 use Rattle.commands.specs.Running.{GivesInput, end_status}
 use Rattle.commands.specs.Starting.{IsStart}
 
@@ -23,7 +24,7 @@ pub record PrintsImage (values : Values) (image : Absolute) (status : ℕ)
   pub gives : GivesInput values.input script
   pub end : End
   pub machine : Machine
-  pub run : PrintsRun values.limit (started image memory script [] 0) end machine old new
+  pub run : PrintsRun (quiet_ports values) values.limit (started image memory script [] 0) end machine old new
   pub ended : status ≡ end_status end
 
 -- a beginning of that was printed
@@ -32,18 +33,25 @@ pub record BeginsImage (values : Values) (image : Absolute) (old new : Option (L
   pub start : IsStart values memory
   pub script : List (List ℕ)
   pub gives : GivesInput values.input script
-  pub begun : BeginsRun values.limit (started image memory script [] 0) old new
+  pub begun : BeginsRun (quiet_ports values) values.limit (started image memory script [] 0) old new
 
 -- nothing was printed, or a beginning of that
 abbrev pub StopsImage : Values → Absolute → (old new : Option (List ℕ)) → Type 0
 StopsImage values image old new = Keeps old new ⊎ BeginsImage values image old new
+
+-- the files of the input were read, and with the values that they give this was printed of an image
+pub record PrintsRead (values : Values) (files : Option Directory) (image : Absolute) (status : ℕ)
+    (old new : Option (List ℕ)) : Type 0 where
+  pub full : Values
+  pub input : HasInput files values full
+  pub printed : PrintsImage full image status old new
 
 -- the merge of the objects that are wanted, placed by the plan of these values, was run, and this was printed
 pub record PrintsMerge (wanted : ExecuteWanted) (values : Values) (files : Option Directory) (status : ℕ)
     (old new : Option (List ℕ)) : Type 0 where
   pub image : Absolute
   pub placed : PlacesMerge files wanted.objects values.plan image
-  pub printed : PrintsImage values image status old new
+  pub printed : PrintsRead values files image status old new
 
 -- the same with the values that are written
 pub record PrintsExecution (wanted : ExecuteWanted) (files : Option Directory) (status : ℕ)
@@ -52,23 +60,30 @@ pub record PrintsExecution (wanted : ExecuteWanted) (files : Option Directory) (
   pub written : execute_read wanted ≡ Ok values
   pub printed : PrintsMerge wanted values files status old new
 
--- The merge of the objects was placed, and then memory ran out or standard output was not written. What was printed by
--- then is a beginning of what is printed of that merge, which may be nothing or all.
-pub record StopsMerge (wanted : ExecuteWanted) (values : Values) (files : Option Directory)
+-- The files of the input were read, and then memory ran out or standard output was not written. What was printed by then
+-- is a beginning of what is printed of an image with the values that they give, which may be nothing or all.
+pub record StopsRead (values : Values) (files : Option Directory) (image : Absolute)
+    (err_old err_new out_old out_new : Option (List ℕ)) : Type 0 where
+  pub full : Values
+  pub input : HasInput files values full
+  pub told : TellsUnwritten err_old err_new
+  pub printed : StopsImage full image out_old out_new
+
+-- the merge of the objects was placed, and not run whole: for a file of the input, for memory, or for that reason
+pub record StopsMerge (wanted : ExecuteWanted) (values : Values) (files : Option Directory) (before after : ℕ)
     (err_old err_new out_old out_new : Option (List ℕ)) : Type 0 where
   pub image : Absolute
   pub placed : PlacesMerge files wanted.objects values.plan image
-  pub told : TellsUnwritten err_old err_new
-  pub printed : StopsImage values image out_old out_new
+  pub stopped : RefusesFor (StopsRead values files image err_old err_new out_old out_new)
+      files (input_names values) before after err_old err_new out_old out_new
 
--- Why objects were not run with these values: their merge was not placed, with nothing printed; or it was placed, with
--- no failure counted.
+-- Why objects were not run with these values: their merge was not placed, with nothing printed; or it was placed.
 unfoldable pub RefusesObjects :
     ExecuteWanted → Values → (files : Option Directory) → (before after : ℕ)
     → (err_old err_new out_old out_new : Option (List ℕ)) → Type 0
 RefusesObjects wanted values files before after err_old err_new out_old out_new =
     (Keeps out_old out_new × RefusesPlacing files wanted.objects values.plan before after err_old err_new)
-    ⊎ ((after ≡ before) × StopsMerge wanted values files err_old err_new out_old out_new)
+    ⊎ StopsMerge wanted values files before after err_old err_new out_old out_new
 
 -- the same with the values that are written
 pub record RefusesValues (wanted : ExecuteWanted) (files : Option Directory) (before after : ℕ)

@@ -15,6 +15,7 @@ pub mod internal
 pub use Rattle.commands.specs.NeedFaults as NeedFaults
 pub use Rattle.printing.specs.Printing as PrintedRuns
 pub mod Compiling
+pub mod InputFiles
 pub mod Map
 pub mod Starting
 pub mod Running

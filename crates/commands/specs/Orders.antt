@@ -8,8 +8,8 @@ use Rattle.host.specs.Files.{Directory, KeepsFiles}
 use Rattle.host.specs.Refusals.{Tells, TellsRefusal, refusal_line}
 use Rattle.command_line.specs.Command.{NeedWanted, PlaceWanted, Wanted, wants_compile, wants_execute, wants_explain}
 use Rattle.command_line.specs.Command.{wants_link, wants_need, wants_place, wants_program}
-use Rattle.command_line.specs.Settings.{Read, ◌>>=◌, execute_read, jump_read, only_file, page_read, plan_read}
-use Rattle.command_line.specs.Settings.{values_read}
+use Rattle.command_line.specs.Settings.{Read, ◌>>=◌, execute_read, jump_read, names_in, only_file, page_read}
+use Rattle.command_line.specs.Settings.{plan_read, values_read}
 use Rattle.command_line.specs.declared.orders.PlaceAction.{PlaceAction}
 use Rattle.command_line.specs.declared.orders.PlaceAction.TheVariants.{Locate, Hex}
 use Rattle.object_commands.specs.Linking.{KeepsOthers, LinksFiles, StopsLinking}
@@ -153,11 +153,11 @@ RefusesAsWanted (wants_explain explain) files before after err_old err_new out_o
 -- the files that an order reads, in their order, and then the one that it writes
 abbrev pub names_of : Wanted → List (List ℕ)
 names_of (wants_compile compile) = compile.source ∷ compile.object ∷ []
-names_of (wants_program program) = program.files
+names_of (wants_program program) = program.files ++ names_in program.input_files
 names_of (wants_link link) = link.objects ++ link.out ∷ []
 names_of (wants_place place) = place.files
 names_of (wants_need need) = need.files
-names_of (wants_execute execute) = execute.objects
+names_of (wants_execute execute) = execute.objects ++ names_in execute.input_files
 names_of (wants_explain explain) = []
 
 -- the same of what words want; those that give no order change no file

@@ -1,5 +1,5 @@
 -- Why sources were not run, interpreted or compiled, what was told of it, and what was printed by then.
-use Rattle.std.specs.Prelude.{◌≡◌, ◌⊎◌, ℕ, ◌≤◌, Bool, List, [], ◌∷◌, length, Ok, Option}
+use Rattle.std.specs.Prelude.{◌≡◌, ◌⊎◌, ℕ, ◌≤◌, Bool, List, [], ◌∷◌, ◌++◌, length, Ok, Option}
 use Rattle.std.specs.Io.KnownBytes.{Keeps}
 use Rattle.ports.specs.Events.{CountsFailure}
 use Rattle.host.specs.Files.{Directory, HasFile}
@@ -18,6 +18,7 @@ use Rattle.tool.specs.Sources.{HasCause, IsInOrder, IsRefusedAlone}
 use Rattle.tool.specs.declared.fault.ToolFault.{ToolFault}
 use Rattle.tool.specs.declared.fault.ToolFault.TheVariants.{TooManySources}
 use Rattle.commands.specs.ProgramFaults.{fault_line}
+use Rattle.commands.specs.InputFiles.{HasInput, input_names}
 use Rattle.commands.specs.Map.{map_if}
 use Rattle.commands.specs.Running.{StopsBuilt}
 
@@ -59,13 +60,21 @@ RefusesTexts action map values names texts err_old err_new out_old out_new =
     × (TellsCause names texts values.plan err_old err_new ⊎ Tells memory_line err_old err_new))
     ⊎ StopsTexts action map values texts err_old err_new out_old out_new
 
+-- the files of the input were read, and with the values that they give the action that is wanted was not carried out
+-- on texts
+pub record RefusesRead (wanted : ProgramWanted) (values : Values) (files : Option Directory)
+    (texts : List (List ℕ)) (err_old err_new out_old out_new : Option (List ℕ)) : Type 0 where
+  pub full : Values
+  pub input : HasInput files values full
+  pub refused :
+      RefusesTexts wanted.action wanted.map full wanted.files texts err_old err_new out_old out_new
+
 -- the files that are wanted have texts, and the action that is wanted was not carried out on these
 pub record RefusesFiles (wanted : ProgramWanted) (values : Values) (files : Option Directory)
     (err_old err_new out_old out_new : Option (List ℕ)) : Type 0 where
   pub texts : List (List ℕ)
   pub read : HasFiles files wanted.files texts
-  pub refused :
-      RefusesTexts wanted.action wanted.map values wanted.files texts err_old err_new out_old out_new
+  pub refused : RefusesRead wanted values files texts err_old err_new out_old out_new
 
 -- a file was told at which a command stopped, and its failure was counted
 pub record TellsFile (stops : (name : List ℕ) → Type 0) (before after : ℕ) (old new : Option (List ℕ)) :
@@ -90,13 +99,14 @@ RefusesFor reason files names before after err_old err_new out_old out_new =
     (Keeps out_old out_new × TellsFile (StopsAt files names) before after err_old err_new)
     ⊎ (RunsOut before after err_old err_new out_old out_new ⊎ ((after ≡ before) × reason))
 
--- why sources were not run or interpreted with the values that are written
+-- why sources were not run or interpreted with the values that are written; they are read first, and then the files of
+-- the input
 pub record RefusesWithValues (wanted : ProgramWanted) (files : Option Directory) (before after : ℕ)
     (err_old err_new out_old out_new : Option (List ℕ)) : Type 0 where
   pub values : Values
   pub written : values_read wanted ≡ Ok values
   pub refused : RefusesFor (RefusesFiles wanted values files err_old err_new out_old out_new)
-      files wanted.files before after err_old err_new out_old out_new
+      files (wanted.files ++ input_names values) before after err_old err_new out_old out_new
 
 -- the same, or memory ran out before the values were known
 unfoldable pub RefusesProgram :

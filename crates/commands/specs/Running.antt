@@ -26,6 +26,7 @@ use Rattle.sources.specs.declared.sources.TheConstants.{MOST_SOURCES}
 use Rattle.sources.specs.Programs.{IsProgramOf, program_modules}
 use Rattle.tool.specs.Construction.{Construction, IsConstruction}
 use Rattle.tool.specs.Execution.{source_of, started}
+use Rattle.commands.specs.InputFiles.{HasInput, quiet_ports}
 use Rattle.commands.specs.Map.{map_if}
 use Rattle.commands.specs.Starting.{IsStart}
 
@@ -57,7 +58,8 @@ pub record PrintsMachine (before : List ℕ) (values : Values) (built : Construc
   pub machine : Machine
   pub run : IsRun values.limit (started built.image memory script [] 0) end machine
   pub ended : status ≡ end_status end
-  pub printed : Appends old new (before ++ report_of machine.state.events (end_word end))
+  pub printed : Appends old new
+      (before ++ report_of (quiet_ports values) machine.state.events (end_word end))
 
 -- a beginning of that was printed
 pub record BeginsMachine (before : List ℕ) (values : Values) (built : Construction)
@@ -69,7 +71,8 @@ pub record BeginsMachine (before : List ℕ) (values : Values) (built : Construc
   pub end : End
   pub machine : Machine
   pub run : IsRun values.limit (started built.image memory script [] 0) end machine
-  pub printed : AppendsBeginning old new (before ++ report_of machine.state.events (end_word end))
+  pub printed : AppendsBeginning old new
+      (before ++ report_of (quiet_ports values) machine.state.events (end_word end))
 
 -- a run of a source as it ended, with its events, or a port that failed, with a beginning of them
 abbrev pub DoesAs : Run → (end : Option Stop) → (events : List Event) → Type 0
@@ -105,7 +108,8 @@ pub record PrintsMeaning (before : List ℕ) (values : Values) (built : Construc
   pub events : List Event
   pub does : DoesAs (source_of built memory script [] values.limit) end events
   pub ended : status ≡ source_status end
-  pub printed : Appends old new (before ++ report_of events (source_word end))
+  pub printed : Appends old new
+      (before ++ report_of (quiet_ports values) events (source_word end))
 
 -- a beginning of that was printed
 pub record BeginsMeaning (before : List ℕ) (values : Values) (built : Construction)
@@ -117,7 +121,8 @@ pub record BeginsMeaning (before : List ℕ) (values : Values) (built : Construc
   pub end : Option Stop
   pub events : List Event
   pub does : DoesAs (source_of built memory script [] values.limit) end events
-  pub printed : AppendsBeginning old new (before ++ report_of events (source_word end))
+  pub printed : AppendsBeginning old new
+      (before ++ report_of (quiet_ports values) events (source_word end))
 
 -- what an action prints of a program
 abbrev pub PrintsBuilt :
@@ -150,12 +155,19 @@ pub record PrintsTexts (action : Action) (map : Bool) (values : Values) (texts :
   pub construction : IsConstruction built
   pub printed : PrintsBuilt action (map_if map built) values built status old new
 
+-- the files of the input were read, and with the values that they give this was printed of texts
+pub record PrintsRead (wanted : ProgramWanted) (values : Values) (files : Option Directory)
+    (texts : List (List ℕ)) (status : ℕ) (old new : Option (List ℕ)) : Type 0 where
+  pub full : Values
+  pub input : HasInput files values full
+  pub printed : PrintsTexts wanted.action wanted.map full texts status old new
+
 -- the files that are wanted have texts, of which with these values this was printed
 pub record PrintsFiles (wanted : ProgramWanted) (values : Values) (files : Option Directory) (status : ℕ)
     (old new : Option (List ℕ)) : Type 0 where
   pub texts : List (List ℕ)
   pub read : HasFiles files wanted.files texts
-  pub printed : PrintsTexts wanted.action wanted.map values texts status old new
+  pub printed : PrintsRead wanted values files texts status old new
 
 -- the same with the values that are written
 pub record PrintsProgram (wanted : ProgramWanted) (files : Option Directory) (status : ℕ)

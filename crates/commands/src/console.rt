@@ -247,7 +247,7 @@ fn carry_out_program<F: Files, O: Write, E: Write>(
         (E.contents err.old) (E.contents err.new) }
     ensures silent { result ≡ Ending.WrongLine → O.contents out.new ≡ O.contents out.old }
     ensures told { result ≡ Ending.Refused → TellsRefusal (F.files files.old)
-        (program_in order.now).files
+        (names_of (wants_program (program_in order.now)))
         (F.failures files.old) (F.failures files.new) (E.contents err.old) (E.contents err.new) }
     ensures refused { result ≡ Ending.Refused → RefusesProgram (program_in order.now) (F.files files.old)
         (F.failures files.old) (F.failures files.new)
@@ -260,7 +260,7 @@ fn carry_out_program<F: Files, O: Write, E: Write>(
         (O.contents out.old) (O.contents out.new) }
 {
     match order.settings(alloc) {
-        Ok(values) => carry_out_sources(alloc, order, &values, files, out, err),
+        Ok(mut values) => carry_out_sources(alloc, order, &mut values, files, out, err),
         Err(Failure::Fault(fault)) => refuse_value(&fault, err),
         Err(Failure::Memory) => refuse_memory(err),
     }

@@ -1,22 +1,25 @@
 //! Orders to run objects, carried out.
 
-ghost use Rattle.std.specs.Prelude.{◌≡◌, IfOk, OnErr};
+ghost use Rattle.std.specs.Prelude.{◌≡◌, ◌++◌, IfOk, OnErr};
 ghost use Rattle.host.specs.Endings.{status_of};
 ghost use Rattle.host.specs.Files.{KeepsFiles};
-ghost use Rattle.host.specs.Refusals.{TellsRefusal};
+ghost use Rattle.host.specs.Refusals.{TellsOther, TellsRefusal};
 ghost use Rattle.command_line.specs.Command.{execute_in, wants_execute};
 ghost use Rattle.command_line.specs.Settings.{values_in};
 ghost use Rattle.tool.specs.Execution.{started};
-ghost use Rattle.commands.specs.Executing.{PrintsExecution, PrintsImage, PrintsMerge, RefusesExecution, RefusesObjects, StopsImage};
-ghost use Rattle.commands.specs.Orders.{TellsText};
+ghost use Rattle.commands.specs.Executing.{PrintsExecution, PrintsImage, PrintsMerge, PrintsRead, RefusesExecution, RefusesObjects, StopsImage, StopsRead};
+ghost use Rattle.commands.specs.InputFiles.{input_names};
+ghost use Rattle.commands.specs.Refusing.{RefusesFor, TellsUnwritten};
+ghost use Rattle.commands.specs.Orders.{TellsText, names_of};
 ghost use Rattle.commands.specs.Running.{end_status};
 
+use crate::port_inputs::{quiet_of, read_input};
 use crate::programs::{ending_of, script_of, start_memory};
 use crate::refusals::refuse_value;
 use command_line::{ExecuteOrder, Settings};
-use cpu8080::{End, Machine};
+use cpu8080::{DecodeTable, End, Machine};
 use failure::{Failure, WriteFault};
-use host::{Ending, Files, refuse_memory, refuse_output};
+use host::{Ending, Files, refuse_file, refuse_memory, refuse_output};
 use locate::Absolute;
 use mem80::Memory;
 use object_commands::place_merge;
@@ -38,7 +41,8 @@ pub(crate) fn execute_objects<F: Files, O: Write, E: Write>(
     ensures refused_text { result ≡ Ending.WrongLine → TellsText (wants_execute (execute_in order.now))
         (E.contents err.old) (E.contents err.new) }
     ensures silent { result ≡ Ending.WrongLine → O.contents out.new ≡ O.contents out.old }
-    ensures told { result ≡ Ending.Refused → TellsRefusal (F.files files.old) (execute_in order.now).objects
+    ensures told { result ≡ Ending.Refused → TellsRefusal (F.files files.old)
+        (names_of (wants_execute (execute_in order.now)))
         (F.failures files.old) (F.failures files.new) (E.contents err.old) (E.contents err.new) }
     ensures refused { result ≡ Ending.Refused → RefusesExecution (execute_in order.now) (F.files files.old)
         (F.failures files.old) (F.failures files.new)
@@ -51,7 +55,7 @@ pub(crate) fn execute_objects<F: Files, O: Write, E: Write>(
         (O.contents out.old) (O.contents out.new) }
 {
     match order.settings(alloc) {
-        Ok(values) => execute_with(alloc, order, &values, files, out, err),
+        Ok(mut values) => execute_with(alloc, order, &mut values, files, out, err),
         Err(Failure::Fault(fault)) => refuse_value(&fault, err),
         Err(Failure::Memory) => refuse_memory(err),
     }
@@ -62,31 +66,85 @@ pub(crate) fn execute_objects<F: Files, O: Write, E: Write>(
 fn execute_with<F: Files, O: Write, E: Write>(
     alloc: Global,
     order: &ExecuteOrder,
-    values: &Settings,
+    values: &mut Settings,
     files: &mut F,
     out: &mut O,
     err: &mut E,
 ) -> Ending
     ensures unchanged { KeepsFiles (F.files files.old) (F.files files.new) }
     ensures not_wrong { result ≡ Ending.WrongLine → ⊥ }
-    ensures told { result ≡ Ending.Refused → TellsRefusal (F.files files.old) (execute_in order.now).objects
+    ensures told { result ≡ Ending.Refused → TellsRefusal (F.files files.old)
+        ((execute_in order.now).objects ++ input_names (values_in values.old))
         (F.failures files.old) (F.failures files.new) (E.contents err.old) (E.contents err.new) }
     ensures refused { result ≡ Ending.Refused → RefusesObjects (execute_in order.now)
-        (values_in values.now) (F.files files.old) (F.failures files.old) (F.failures files.new)
+        (values_in values.old) (F.files files.old) (F.failures files.old) (F.failures files.new)
         (E.contents err.old) (E.contents err.new) (O.contents out.old) (O.contents out.new) }
     ensures count { (result ≡ Ending.Refused → ⊥) → F.failures files.new ≡ F.failures files.old }
     ensures quiet { (result ≡ Ending.Refused → ⊥) → E.contents err.new ≡ E.contents err.old }
     ensures ran { (result ≡ Ending.Refused → ⊥) →
-        PrintsMerge (execute_in order.now) (values_in values.now) (F.files files.old) (status_of result)
+        PrintsMerge (execute_in order.now) (values_in values.old) (F.files files.old) (status_of result)
         (O.contents out.old) (O.contents out.new) }
 {
     let image = match place_merge(alloc, order.objects.as_slice(), &values.plan, files, err) {
         Ok(image) => image,
         Err(ending) => return ending,
     };
-    let printed = print_placed(alloc, &image, values, out);
+    let ending = run_image(alloc, &image, values, files, out, err);
     drop(image);
-    match printed {
+    ending
+}
+
+// Reads the files of the input, and runs an image.
+fn run_image<F: Files, O: Write, E: Write>(
+    alloc: Global,
+    image: &Absolute,
+    values: &mut Settings,
+    files: &mut F,
+    out: &mut O,
+    err: &mut E,
+) -> Ending
+    ensures unchanged { KeepsFiles (F.files files.old) (F.files files.new) }
+    ensures not_wrong { result ≡ Ending.WrongLine → ⊥ }
+    ensures told { result ≡ Ending.Refused → TellsRefusal (F.files files.old)
+        (input_names (values_in values.old))
+        (F.failures files.old) (F.failures files.new) (E.contents err.old) (E.contents err.new) }
+    ensures refused { result ≡ Ending.Refused → RefusesFor
+        (StopsRead (values_in values.old) (F.files files.old) image.now
+        (E.contents err.old) (E.contents err.new) (O.contents out.old) (O.contents out.new))
+        (F.files files.old) (input_names (values_in values.old)) (F.failures files.old) (F.failures files.new)
+        (E.contents err.old) (E.contents err.new) (O.contents out.old) (O.contents out.new) }
+    ensures count { (result ≡ Ending.Refused → ⊥) → F.failures files.new ≡ F.failures files.old }
+    ensures quiet { (result ≡ Ending.Refused → ⊥) → E.contents err.new ≡ E.contents err.old }
+    ensures ran { (result ≡ Ending.Refused → ⊥) →
+        PrintsRead (values_in values.old) (F.files files.old) image.now (status_of result)
+        (O.contents out.old) (O.contents out.new) }
+{
+    match read_input(alloc, values, files) {
+        Ok(()) => run_placed(alloc, image, values, out, err),
+        Err(Failure::Fault((fault, name))) => refuse_file(fault, name, err),
+        Err(Failure::Memory) => refuse_memory(err),
+    }
+}
+
+// Runs an image, and prints what it does.
+#[tactic(auto, using(crate::proofs::Executed::image_status, crate::proofs::Untold::memory_unwritten, crate::proofs::Untold::output_unwritten))]
+fn run_placed<O: Write, E: Write>(
+    alloc: Global,
+    image: &Absolute,
+    values: &Settings,
+    out: &mut O,
+    err: &mut E,
+) -> Ending
+    ensures not_wrong { result ≡ Ending.WrongLine → ⊥ }
+    ensures told { result ≡ Ending.Refused → TellsOther (E.contents err.old) (E.contents err.new) }
+    ensures refused { result ≡ Ending.Refused → TellsUnwritten (E.contents err.old) (E.contents err.new) }
+    ensures stopped { result ≡ Ending.Refused → StopsImage (values_in values.now) image.now
+        (O.contents out.old) (O.contents out.new) }
+    ensures quiet { (result ≡ Ending.Refused → ⊥) → E.contents err.new ≡ E.contents err.old }
+    ensures ran { (result ≡ Ending.Refused → ⊥) → PrintsImage (values_in values.now) image.now
+        (status_of result) (O.contents out.old) (O.contents out.new) }
+{
+    match print_placed(alloc, image, values, out) {
         Ok(end) => ending_of(end),
         Err(Failure::Fault(_)) => refuse_output(err),
         Err(Failure::Memory) => refuse_memory(err),
@@ -112,16 +170,27 @@ fn print_placed<O: Write>(
     let Ok(script) = script_of(alloc, values.input.as_slice()) else {
         return Err(Failure::Memory);
     };
-    let mut machine = machine_of(image, memory, script);
-    let end = print_machine(&mut machine, values.limit, out)?;
+    let Ok(quiet) = quiet_of(alloc, values) else {
+        return Err(Failure::Memory);
+    };
+    let Ok(table) = DecodeTable::new(alloc) else {
+        return Err(Failure::Memory);
+    };
+    let mut machine = machine_of(image, memory, script, table);
+    let end = print_machine(&mut machine, values.limit, quiet.as_slice(), out)?;
     Ok(end)
 }
 
-// A machine at its start: with an image loaded into a memory, and this script.
-fn machine_of(image: &Absolute, memory: Memory, script: Script) -> Machine<Script>
+// A machine at its start: with an image loaded into a memory, this script, and a table for what it decodes.
+fn machine_of(
+    image: &Absolute,
+    memory: Memory,
+    script: Script,
+    table: DecodeTable,
+) -> Machine<Script>
     ensures { result ≡ started image.now memory script.script script.events script.failures }
 {
     let mut memory = memory;
     image.load(&mut memory);
-    Machine::new(memory, script, image.start())
+    Machine::with_table(memory, script, image.start(), table)
 }

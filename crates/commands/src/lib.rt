@@ -6,6 +6,7 @@ mod executing;
 mod explaining;
 mod needing;
 mod needs;
+mod port_inputs;
 mod printed_needs;
 mod programs;
 mod refusals;

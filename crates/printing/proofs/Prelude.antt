@@ -4,4 +4,4 @@ pub use Rattle.std.specs.{Io.KnownBytes.{Appends}, List.{flat_map}}
 pub use Rattle.failure.proofs.WritingLemmas.{beginning_after, on_err}
 pub use Rattle.failure.specs.Writing.{AppendsBeginning}
 pub use Rattle.ports.specs.{Events.{IsBeginning}, declared.event.Event.{Event}}
-pub use Rattle.printing.specs.Report.{line_of, report_of}
+pub use Rattle.printing.specs.Report.{report_of, shown_line}

@@ -1,5 +1,5 @@
 -- Runs after runs, and what is printed of them.
-use Rattle.printing.proofs.Prelude.{◌≡◌, ℕ, ◌+◌, ◌-◌, ◌≤◌, List, [], ◌∷◌, ◌++◌, length, drop, Option, refl, sym, ap, subst, ◌∙◌, append_assoc, arith, common_steps, flat_map-append, flat_map, Appends, Appends-trans, Event, IsBeginning, AppendsBeginning, line_of, report_of}
+use Rattle.printing.proofs.Prelude.{◌≡◌, ℕ, ◌+◌, ◌-◌, ◌≤◌, List, [], ◌∷◌, ◌++◌, length, drop, Option, refl, sym, ap, subst, ◌∙◌, append_assoc, arith, common_steps, flat_map-append, flat_map, Appends, Appends-trans, Event, IsBeginning, AppendsBeginning, report_of, shown_line}
 use Rattle.printing.proofs.ReportLemmas.{begun_report, first_begun, then_begun}
 use Rattle.isa8080.specs.{State.{State}, declared.registers.Status.{Status}, Step.{state_after}}
 use Rattle.isa8080.specs.declared.registers.Status.TheVariants as status
@@ -81,10 +81,10 @@ module _ (start here new : Machine) (j n : ℕ) (why : End) (made : Made start j
   slice_ends limit within other = run_within (n + j) limit start new why within other (run_on start here j made n why new run)
 
 -- the lines of events, and of those that were added
-pub lines_on : (old new : List Event) → IsBeginning old new → flat_map line_of old ++ flat_map line_of (drop (length old) new) ≡ flat_map line_of new
-lines_on old new (more, e) =
+pub lines_on : (quiet : List ℕ) (old new : List Event) → IsBeginning old new → flat_map (shown_line quiet) old ++ flat_map (shown_line quiet) (drop (length old) new) ≡ flat_map (shown_line quiet) new
+lines_on quiet old new (more, e) =
     let rest : drop (length old) new ≡ more = rw e (simp common_steps) in
-    rw rest (sym (flat_map-append line_of old more) ∙ ap (flat_map line_of) (sym e))
+    rw rest (sym (flat_map-append (shown_line quiet) old more) ∙ ap (flat_map (shown_line quiet)) (sym e))
 
 -- a run only adds events
 pub run_grows : (n : ℕ) (old new : Machine) (why : End) → IsRun n old why new → IsBeginning old.state.events new.state.events
@@ -99,27 +99,27 @@ beginning_fits old new (more, e) = rw e (grind (arith, common_steps))
 pub longer : (n : ℕ) (old new : Machine) (why : End) → IsRun n old why new → length old.state.events ≤ length new.state.events
 longer n old new why run = beginning_fits old.state.events new.state.events (run_grows n old new why run)
 
-module _ (a b c : Option (List ℕ)) where
+module _ (quiet : List ℕ) (a b c : Option (List ℕ)) where
   -- the lines of the first events were written, and then those that were added
-  pub lines_written : (old new : List Event) → IsBeginning old new → Appends a b (flat_map line_of old) → Appends b c (flat_map line_of (drop (length old) new))
-      → Appends a c (flat_map line_of new)
-  lines_written old new grows p q = subst (Appends a c) (lines_on old new grows) (Appends-trans a b c _ _ p q)
+  pub lines_written : (old new : List Event) → IsBeginning old new → Appends a b (flat_map (shown_line quiet) old) → Appends b c (flat_map (shown_line quiet) (drop (length old) new))
+      → Appends a c (flat_map (shown_line quiet) new)
+  lines_written old new grows p q = subst (Appends a c) (lines_on quiet old new grows) (Appends-trans a b c _ _ p q)
 
-  lines_begun : (old new : List Event) → IsBeginning old new → Appends a b (flat_map line_of old) → AppendsBeginning b c (flat_map line_of (drop (length old) new))
-      → AppendsBeginning a c (flat_map line_of new)
-  lines_begun old new grows p q = subst (AppendsBeginning a c) (lines_on old new grows) (then_begun a b c _ _ p q)
+  lines_begun : (old new : List Event) → IsBeginning old new → Appends a b (flat_map (shown_line quiet) old) → AppendsBeginning b c (flat_map (shown_line quiet) (drop (length old) new))
+      → AppendsBeginning a c (flat_map (shown_line quiet) new)
+  lines_begun old new grows p q = subst (AppendsBeginning a c) (lines_on quiet old new grows) (then_begun a b c _ _ p q)
 
   -- a beginning of the lines of the first events is one of the lines of all
-  begun_longer : (old new : List Event) → IsBeginning old new → AppendsBeginning a b (flat_map line_of old) → AppendsBeginning a b (flat_map line_of new)
+  begun_longer : (old new : List Event) → IsBeginning old new → AppendsBeginning a b (flat_map (shown_line quiet) old) → AppendsBeginning a b (flat_map (shown_line quiet) new)
   begun_longer old new (more, e) p =
-      rw e (subst (AppendsBeginning a b) (sym (flat_map-append line_of old more)) (first_begun a b c _ _ p))
+      rw e (subst (AppendsBeginning a b) (sym (flat_map-append (shown_line quiet) old more)) (first_begun a b c _ _ p))
 
-ended_report_at : (a b c : Option (List ℕ)) (events : List Event) (last : List ℕ) → Appends a b (flat_map line_of events) → AppendsBeginning b c (last ++ 10 ∷ [])
-    → AppendsBeginning a c (report_of events last)
-ended_report_at a b c events last p h = rw (append_assoc (flat_map line_of events) last (10 ∷ [])) (then_begun a b c _ _ p h)
+ended_report_at : (quiet : List ℕ) (a b c : Option (List ℕ)) (events : List Event) (last : List ℕ) → Appends a b (flat_map (shown_line quiet) events) → AppendsBeginning b c (last ++ 10 ∷ [])
+    → AppendsBeginning a c (report_of quiet events last)
+ended_report_at quiet a b c events last p h = rw (append_assoc (flat_map (shown_line quiet) events) last (10 ∷ [])) (then_begun a b c _ _ p h)
 
 -- the machine after all steps, where no port fails
-module _ (limit : ℕ) (start : Machine) where
+module _ (quiet : List ℕ) (limit : ℕ) (start : Machine) where
   abbrev machine_at_end : Machine
   machine_at_end = record { state = state_after start.script limit start.state; script = start.script; failures = start.failures }
 
@@ -143,8 +143,8 @@ module _ (limit : ℕ) (start : Machine) where
       (last.0, (machine_at_end, last.1))
 
   -- the lines of the events of the first steps were begun
-  pub begins_at : (a b : Option (List ℕ)) (k : ℕ) (here : Machine) → k ≤ limit → here.state ≡ state_after start.script k start.state → AppendsBeginning a b (flat_map line_of here.state.events)
-      → BeginsRun limit start a b
+  pub begins_at : (a b : Option (List ℕ)) (k : ℕ) (here : Machine) → k ≤ limit → here.state ≡ state_after start.script k start.state → AppendsBeginning a b (flat_map (shown_line quiet) here.state.events)
+      → BeginsRun quiet limit start a b
   begins_at a b k here within same begun =
       let last = runs_to_end (state_after start.script limit start.state).status refl in
       let grows : IsBeginning here.state.events (state_after start.script limit start.state).events =
@@ -153,33 +153,33 @@ module _ (limit : ℕ) (start : Machine) where
         end = last.0;
         machine = machine_at_end;
         run = last.1;
-        printed = begun_report a b _ (end_word last.0) (begun_longer a b b here.state.events _ grows begun);
+        printed = begun_report quiet a b _ (end_word last.0) (begun_longer quiet a b b here.state.events _ grows begun);
       }
 
-  module _ (a b c : Option (List ℕ)) (here : Machine) (j : ℕ) (made : Made start j here) (written : Appends a b (flat_map line_of here.state.events)) where
-    slice_by : (n : ℕ) (new : Machine) (why : End) → n + j ≤ limit → IsRun n here why new → AppendsBeginning a c (flat_map line_of new.state.events) → BeginsRun limit start a c
+  module _ (a b c : Option (List ℕ)) (here : Machine) (j : ℕ) (made : Made start j here) (written : Appends a b (flat_map (shown_line quiet) here.state.events)) where
+    slice_by : (n : ℕ) (new : Machine) (why : End) → n + j ≤ limit → IsRun n here why new → AppendsBeginning a c (flat_map (shown_line quiet) new.state.events) → BeginsRun quiet limit start a c
     slice_by n new end.Limit within run begun =
         let all : IsRun (n + j) start end.Limit new = run_on start here j made n end.Limit new run in
         begins_at a c (n + j) new within all.state begun
     slice_by n new end.Halted within run begun =
-        record { end = end.Halted; machine = new; run = run_within (n + j) limit start new end.Halted within (λ h. cc) (run_on start here j made n end.Halted new run); printed = begun_report a c _ _ begun }
+        record { end = end.Halted; machine = new; run = run_within (n + j) limit start new end.Halted within (λ h. cc) (run_on start here j made n end.Halted new run); printed = begun_report quiet a c _ _ begun }
     slice_by n new end.Illegal within run begun =
-        record { end = end.Illegal; machine = new; run = run_within (n + j) limit start new end.Illegal within (λ h. cc) (run_on start here j made n end.Illegal new run); printed = begun_report a c _ _ begun }
+        record { end = end.Illegal; machine = new; run = run_within (n + j) limit start new end.Illegal within (λ h. cc) (run_on start here j made n end.Illegal new run); printed = begun_report quiet a c _ _ begun }
     slice_by n new end.PortFault within run begun =
-        record { end = end.PortFault; machine = new; run = run_within (n + j) limit start new end.PortFault within (λ h. cc) (run_on start here j made n end.PortFault new run); printed = begun_report a c _ _ begun }
+        record { end = end.PortFault; machine = new; run = run_within (n + j) limit start new end.PortFault within (λ h. cc) (run_on start here j made n end.PortFault new run); printed = begun_report quiet a c _ _ begun }
 
     -- some steps were made, and the writer failed at the lines of the next ones
-    pub slice_begun : (n : ℕ) (new : Machine) → n + j ≤ limit → BeginsSlice n here new b c → BeginsRun limit start a c
+    pub slice_begun : (n : ℕ) (new : Machine) → n + j ≤ limit → BeginsSlice quiet n here new b c → BeginsRun quiet limit start a c
     slice_begun n new within begins =
         slice_by n new begins.end within begins.run
-        (lines_begun a b c here.state.events new.state.events (run_grows n here new begins.end begins.run) written begins.printed)
+        (lines_begun quiet a b c here.state.events new.state.events (run_grows n here new begins.end begins.run) written begins.printed)
 
 -- the last line of a run was begun
-pub last_begun : (limit : ℕ) (start new : Machine) (why : End) (a b c : Option (List ℕ)) (last : List ℕ) → IsRun limit start why new → Appends a b (flat_map line_of new.state.events)
-    → last ≡ end_word why → AppendsBeginning b c (last ++ 10 ∷ []) → BeginsRun limit start a c
-last_begun limit start new why a b c last run lines e h = record {
+pub last_begun : (quiet : List ℕ) (limit : ℕ) (start new : Machine) (why : End) (a b c : Option (List ℕ)) (last : List ℕ) → IsRun limit start why new → Appends a b (flat_map (shown_line quiet) new.state.events)
+    → last ≡ end_word why → AppendsBeginning b c (last ++ 10 ∷ []) → BeginsRun quiet limit start a c
+last_begun quiet limit start new why a b c last run lines e h = record {
   end = why;
   machine = new;
   run = run;
-  printed = subst (λ text. AppendsBeginning a c (report_of new.state.events text)) e (ended_report_at a b c new.state.events last lines h);
+  printed = subst (λ text. AppendsBeginning a c (report_of quiet new.state.events text)) e (ended_report_at quiet a b c new.state.events last lines h);
 }

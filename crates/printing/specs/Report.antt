@@ -1,6 +1,6 @@
 -- The text that a run prints.
-use Rattle.std.specs.Prelude.{ℕ, ◌+◌, ◌/◌, ◌%◌, List, [], ◌∷◌, ◌++◌, codes, nat_lt, if◌then◌else◌}
-use Rattle.std.specs.List.{flat_map}
+use Rattle.std.specs.Prelude.{ℕ, ◌+◌, ◌/◌, ◌%◌, ◌==◌, Bool, List, [], ◌∷◌, ◌++◌, codes, nat_lt, if◌then◌else◌}
+use Rattle.std.specs.List.{flat_map, list_any}
 use Rattle.ports.specs.declared.event.Event.{Event}
 
 -- the upper-case hexadecimal digit of a number below 16
@@ -19,6 +19,14 @@ word_of event = if event.write then codes "OUT" else codes "IN"
 abbrev pub line_of : Event → List ℕ
 line_of event = word_of event ++ 32 ∷ hex_of event.port ++ 32 ∷ hex_of event.value ++ 10 ∷ []
 
--- a line for each event in order, and then the last line
-abbrev pub report_of : List Event → List ℕ → List ℕ
-report_of events last = flat_map line_of events ++ last ++ 10 ∷ []
+-- whether a port is one of these, whose events are not printed
+abbrev pub is_quiet : (quiet : List ℕ) → (port : ℕ) → Bool
+is_quiet quiet port = list_any (λ one. one == port) quiet
+
+-- the line of an event, or nothing where its port is quiet
+abbrev pub shown_line : (quiet : List ℕ) → Event → List ℕ
+shown_line quiet event = if is_quiet quiet event.port then [] else line_of event
+
+-- a line for each event in order, but for those of quiet ports, and then the last line
+abbrev pub report_of : (quiet : List ℕ) → List Event → List ℕ → List ℕ
+report_of quiet events last = flat_map (shown_line quiet) events ++ last ++ 10 ∷ []

@@ -4,7 +4,7 @@
 ghost use Rattle.std.specs.Prelude.{◌≡◌, ℕ, ◌*◌, ◌/◌, ◌%◌, ◌<◌, ◌≤◌, ◌∷◌, ◌++◌, [], length, take, OnOk, OnErr};
 ghost use Rattle.std.specs.List.{flat_map};
 ghost use Rattle.std.specs.Io.KnownBytes.{Appends};
-ghost use Rattle.printing.specs.Report.{digit_of, line_of, report_of};
+ghost use Rattle.printing.specs.Report.{digit_of, report_of, shown_line};
 ghost use Rattle.failure.specs.Writing.{AppendsBeginning};
 
 use failure::{Failure, WriteFault, write_bytes};
@@ -37,12 +37,15 @@ fn digits(byte: u8) -> (u8, u8)
     (digit(byte / 16), digit(byte % 16))
 }
 
-// Puts the line of an event at the front of the text, and answers its length.
-fn put_line(text: &mut [u8], event: &Event) -> usize
+// Puts the line of an event at the front of the text, unless its port is quiet, and answers its length.
+fn put_line(text: &mut [u8], quiet: &[u8], event: &Event) -> usize
     requires { LINE ≤ length text.old }
     ensures fits { result ≤ LINE }
-    ensures line { take result text.new ≡ line_of event.now }
+    ensures line { take result text.new ≡ shown_line quiet.now event.now }
 {
+    if quiet.contains(&event.port) {
+        return 0;
+    }
     let (p, q) = digits(event.port);
     let (v, w) = digits(event.value);
     if event.write {
@@ -55,43 +58,52 @@ fn put_line(text: &mut [u8], event: &Event) -> usize
 }
 
 // Puts the lines of the events at the front of the text, and answers their length.
-fn put_lines(text: &mut [u8], events: &[Event]) -> usize
+fn put_lines(text: &mut [u8], quiet: &[u8], events: &[Event]) -> usize
     requires { length events.now * LINE ≤ length text.old }
     ensures fits { result ≤ length text.new }
-    ensures lines { take result text.new ≡ flat_map line_of events.now }
+    ensures lines { take result text.new ≡ flat_map (shown_line quiet.now) events.now }
 {
     let mut end = 0;
     for event in events {
-        end += put_line(&mut text[end..], event);
+        end += put_line(&mut text[end..], quiet, event);
     }
     end
 }
 
 // Writes the lines of a few events at once.
-fn write_group<W: Write>(events: &[Event], out: &mut W) -> Result<(), Failure<WriteFault>>
+fn write_group<W: Write>(
+    events: &[Event],
+    quiet: &[u8],
+    out: &mut W,
+) -> Result<(), Failure<WriteFault>>
     requires { length events.now ≤ GROUP }
     ensures ok { OnOk result
-        (Appends (W.contents out.old) (W.contents out.new) (flat_map line_of events.now)) }
+        (Appends (W.contents out.old) (W.contents out.new) (flat_map (shown_line quiet.now) events.now)) }
     ensures err { OnErr result
-        (AppendsBeginning (W.contents out.old) (W.contents out.new) (flat_map line_of events.now)) }
+        (AppendsBeginning (W.contents out.old) (W.contents out.new) (flat_map (shown_line quiet.now) events.now)) }
 {
     let mut text = [0u8; LINE * GROUP];
-    let end = put_lines(&mut text, events);
+    let end = put_lines(&mut text, quiet, events);
     write_bytes(out, &text[..end])
 }
 
-/// Writes a line for each event, `IN pp vv` or `OUT pp vv` with port and value in two upper-case hexadecimal digits.
+/// Writes a line for each event that is not of a quiet port, `IN pp vv` or `OUT pp vv` with port and value in two
+/// upper-case hexadecimal digits. It looks for the port of each event in the list of quiet ports.
 /// After a failure the writer has a beginning of that text.
-pub fn write_events<W: Write>(events: &[Event], out: &mut W) -> Result<(), Failure<WriteFault>>
+pub fn write_events<W: Write>(
+    events: &[Event],
+    quiet: &[u8],
+    out: &mut W,
+) -> Result<(), Failure<WriteFault>>
     ensures ok { OnOk result
-        (Appends (W.contents out.old) (W.contents out.new) (flat_map line_of events.now)) }
+        (Appends (W.contents out.old) (W.contents out.new) (flat_map (shown_line quiet.now) events.now)) }
     ensures err { OnErr result
-        (AppendsBeginning (W.contents out.old) (W.contents out.new) (flat_map line_of events.now)) }
+        (AppendsBeginning (W.contents out.old) (W.contents out.new) (flat_map (shown_line quiet.now) events.now)) }
 {
     let mut at = 0;
     while at < events.len() {
         let count = GROUP.min(events.len() - at);
-        write_group(&events[at..at + count], out)?;
+        write_group(&events[at..at + count], quiet, out)?;
         at += count;
     }
     Ok(())
@@ -108,17 +120,18 @@ pub fn write_line<W: Write>(last: &str, out: &mut W) -> Result<(), Failure<Write
     write_bytes(out, b"\n")
 }
 
-/// Writes a line for each event, and then the line `last`. After a failure the writer has a beginning of that text.
+/// Writes a line for each event that is not of a quiet port, and then the line `last`. After a failure the writer has a beginning of that text.
 pub fn report<W: Write>(
     events: &[Event],
+    quiet: &[u8],
     last: &str,
     out: &mut W,
 ) -> Result<(), Failure<WriteFault>>
     ensures ok { OnOk result
-        (Appends (W.contents out.old) (W.contents out.new) (report_of events.now last.now)) }
+        (Appends (W.contents out.old) (W.contents out.new) (report_of quiet.now events.now last.now)) }
     ensures err { OnErr result
-        (AppendsBeginning (W.contents out.old) (W.contents out.new) (report_of events.now last.now)) }
+        (AppendsBeginning (W.contents out.old) (W.contents out.new) (report_of quiet.now events.now last.now)) }
 {
-    write_events(events, out)?;
+    write_events(events, quiet, out)?;
     write_line(last, out)
 }

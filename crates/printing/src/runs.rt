@@ -5,7 +5,7 @@ ghost use Rattle.std.specs.Prelude.{◌≡◌, ◌≤◌, codes, drop, length, I
 ghost use Rattle.std.specs.List.{flat_map};
 ghost use Rattle.std.specs.Io.KnownBytes.{Appends};
 ghost use Rattle.failure.specs.Writing.{AppendsBeginning};
-ghost use Rattle.printing.specs.Report.{line_of};
+ghost use Rattle.printing.specs.Report.{shown_line};
 ghost use Rattle.cpu8080.specs.Runs.{IsOnlyHalt, IsRun};
 ghost use Rattle.printing.specs.Printing.{BeginsRun, PrintsRun, end_word};
 ghost use Rattle.printing.specs.internal.Slices.{BeginsSlice};
@@ -31,37 +31,39 @@ pub fn word_of(end: End) -> &'static str
     }
 }
 
-// Writes the lines of the events of a machine from one of them on.
+// Writes the lines of the events of a machine from one of them on, but for those of quiet ports.
 fn write_from<W: Write>(
     machine: &Machine<Script>,
     first: usize,
+    quiet: &[u8],
     out: &mut W,
 ) -> Result<(), Failure<WriteFault>>
     requires { first ≤ length machine.now.state.events }
     ensures ok { OnOk result (Appends (W.contents out.old) (W.contents out.new)
-        (flat_map line_of (drop first machine.now.state.events))) }
+        (flat_map (shown_line quiet.now) (drop first machine.now.state.events))) }
     ensures err { OnErr result (AppendsBeginning (W.contents out.old) (W.contents out.new)
-        (flat_map line_of (drop first machine.now.state.events))) }
+        (flat_map (shown_line quiet.now) (drop first machine.now.state.events))) }
 {
-    write_events(&machine.ports().events()[first..], out)
+    write_events(&machine.ports().events()[first..], quiet, out)
 }
 
 // Makes some steps, and writes the lines of their events.
 fn run_slice<W: Write>(
     machine: &mut Machine<Script>,
     limit: u64,
+    quiet: &[u8],
     out: &mut W,
 ) -> Result<End, Failure<WriteFault>>
     ensures run { IfOk result (λ end. IsRun limit machine.old end machine.new) }
     ensures script { machine.new.script ≡ machine.old.script }
     ensures lines { OnOk result (Appends (W.contents out.old) (W.contents out.new)
-        (flat_map line_of (drop (length machine.old.state.events) machine.new.state.events))) }
+        (flat_map (shown_line quiet.now) (drop (length machine.old.state.events) machine.new.state.events))) }
     ensures err { OnErr result
-        (BeginsSlice limit machine.old machine.new (W.contents out.old) (W.contents out.new)) }
+        (BeginsSlice quiet.now limit machine.old machine.new (W.contents out.old) (W.contents out.new)) }
 {
     let before = machine.ports().events().len();
     let end = machine.run(limit);
-    write_from(machine, before, out)?;
+    write_from(machine, before, quiet, out)?;
     Ok(end)
 }
 
@@ -69,42 +71,44 @@ fn run_slice<W: Write>(
 fn run_slices<W: Write>(
     machine: &mut Machine<Script>,
     limit: u64,
+    quiet: &[u8],
     out: &mut W,
 ) -> Result<End, Failure<WriteFault>>
     ensures run { IfOk result (λ end. IsRun limit machine.old end machine.new) }
     ensures lines { OnOk result (Appends (W.contents out.old) (W.contents out.new)
-        (flat_map line_of machine.new.state.events)) }
+        (flat_map (shown_line quiet.now) machine.new.state.events)) }
     ensures err { OnErr result
-        (BeginsRun limit machine.old (W.contents out.old) (W.contents out.new)) }
+        (BeginsRun quiet.now limit machine.old (W.contents out.old) (W.contents out.new)) }
 {
-    write_from(machine, 0, out)?;
+    write_from(machine, 0, quiet, out)?;
     let mut left = limit;
     while left > SLICE {
-        match run_slice(machine, SLICE, out)? {
+        match run_slice(machine, SLICE, quiet, out)? {
             End::Limit => left -= SLICE,
             end => return Ok(end),
         }
     }
-    let end = run_slice(machine, left, out)?;
+    let end = run_slice(machine, left, quiet, out)?;
     Ok(end)
 }
 
-/// Runs a machine for at most so many steps, and writes a line for each of its events, those of some steps at a time
-/// while it runs, and then the word that the run ends with. After a failure the writer has a beginning of that text. A
+/// Runs a machine for at most so many steps, and writes a line for each of its events that is not of a quiet port, those
+/// of some steps at a time while it runs, and then the word that the run ends with. After a failure the writer has a beginning of that text. A
 /// machine that halts is then in the only state in which it is ever halted.
 #[tactic(auto, using(cpu8080::proofs::MachineLemmas::only_halt))]
 pub fn print_machine<W: Write>(
     machine: &mut Machine<Script>,
     limit: u64,
+    quiet: &[u8],
     out: &mut W,
 ) -> Result<End, Failure<WriteFault>>
     ensures ok { IfOk result (λ end.
-        PrintsRun limit machine.old end machine.new (W.contents out.old) (W.contents out.new)) }
+        PrintsRun quiet.now limit machine.old end machine.new (W.contents out.old) (W.contents out.new)) }
     ensures halt { IfOk result (λ end. end ≡ End.Halted → IsOnlyHalt machine.old machine.new) }
     ensures err { OnErr result
-        (BeginsRun limit machine.old (W.contents out.old) (W.contents out.new)) }
+        (BeginsRun quiet.now limit machine.old (W.contents out.old) (W.contents out.new)) }
 {
-    let end = run_slices(machine, limit, out)?;
+    let end = run_slices(machine, limit, quiet, out)?;
     write_line(word_of(end), out)?;
     Ok(end)
 }

@@ -99,6 +99,7 @@ fn printed_of(alloc: Global, built: &Built) -> Result<Vec<u8>, Failure<ToolFault
         Script::new(alloc),
         Some(table),
         LIMIT,
+        &[],
         &mut text,
     ) {
         Ok(_) => Ok(text),

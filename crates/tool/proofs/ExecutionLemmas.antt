@@ -38,17 +38,17 @@ module _ (image : Absolute) (memory : List ℕ) (script : List (List ℕ)) (even
       record { begins = begins_at run.0 new run.2.state; ended = λ e. absurd (cc) }
 
 -- what is printed of a run that halted is what the source does
-pub prints_ended : (image : Absolute) (memory : List ℕ) (script : List (List ℕ)) (events : List Event) (failures : ℕ) (source : ℕ → Run)
+pub prints_ended : (quiet : List ℕ) (image : Absolute) (memory : List ℕ) (script : List (List ℕ)) (events : List Event) (failures : ℕ) (source : ℕ → Run)
     → Agrees source (machine_run image memory script events)
     → (limit : ℕ) (why : End) (machine : Machine) (old new : Option (List ℕ)) → why ≡ end.Halted
-    → PrintsRun limit (started image memory script events failures) why machine old new
-    → (why ≡ end.Halted → IsOnlyHalt (started image memory script events failures) machine) → PrintsEnded source old new
-prints_ended image memory script events failures source agrees limit why machine old new halted prints halt =
+    → PrintsRun quiet limit (started image memory script events failures) why machine old new
+    → (why ≡ end.Halted → IsOnlyHalt (started image memory script events failures) machine) → PrintsEnded quiet source old new
+prints_ended quiet image memory script events failures source agrees limit why machine old new halted prints halt =
     let faithful = is_faithful image memory script events failures source agrees limit why machine prints.run halt in
     let found = faithful.ended halted in
     record {
       budget = found.0;
       ended = found.1;
-      printed = subst (λ word. Appends old new (report_of (source found.0).events word)) (ap end_word halted)
-          (subst (λ es. Appends old new (report_of es (end_word why))) (sym found.2) prints.printed);
+      printed = subst (λ word. Appends old new (report_of quiet (source found.0).events word)) (ap end_word halted)
+          (subst (λ es. Appends old new (report_of quiet es (end_word why))) (sym found.2) prints.printed);
     }

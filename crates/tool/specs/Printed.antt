@@ -5,8 +5,8 @@ use Rattle.printing.specs.Report.{report_of}
 use Rattle.meaning.specs.Outcomes.{Ended}
 use Rattle.meaning.specs.Run.{Run}
 
--- just the lines of the events of a source that ended, and then HALT, were printed
-pub record PrintsEnded (source : ℕ → Run) (old new : Option (List ℕ)) : Type 0 where
+-- just the lines of the events of a source that ended, but for those of quiet ports, and then HALT, were printed
+pub record PrintsEnded (quiet : List ℕ) (source : ℕ → Run) (old new : Option (List ℕ)) : Type 0 where
   pub budget : ℕ
   pub ended : (source budget).end ≡ Ended
-  pub printed : Appends old new (report_of (source budget).events (codes "HALT"))
+  pub printed : Appends old new (report_of quiet (source budget).events (codes "HALT"))

@@ -111,30 +111,31 @@ pub fn execute_with<P: Ports>(
 }
 
 /// Loads the image of a program into a memory, and runs it on an 8080 with this script, and with a table of what it decodes
-/// where one is given, for at most so many steps. It writes a line for each event, those of some steps at a time while it runs, and then the word that the run ends with.
-/// The answer is how the run ended, and the machine at its end: a port failed just where that machine has counted it.
-/// After a failure the writer has a beginning of that text. Where the program never goes outside, what is
-/// written of a machine that halted is just what a source that ended does.
+/// where one is given, for at most so many steps. It writes a line for each event that is not of a quiet port, those of some
+/// steps at a time while it runs, and then the word that the run ends with. The answer is how the run ended, and the machine
+/// at its end: a port failed just where that machine has counted it. After a failure the writer has a beginning of that text.
+/// Where the program never goes outside, what is written of a machine that halted is just what a source that ended does.
 pub fn print_run<W: Write>(
     built: &Built,
     memory: Memory,
     script: Script,
     table: Option<DecodeTable>,
     limit: u64,
+    quiet: &[u8],
     out: &mut W,
 ) -> Result<(End, Machine<Script>), Failure<WriteFault>>
-    ensures ok { IfOk result (λ ran. PrintsRun limit
+    ensures ok { IfOk result (λ ran. PrintsRun quiet.now limit
         (started built.now.image memory script.script script.events script.failures)
         ran.0 ran.1 (W.contents out.old) (W.contents out.new)) }
-    ensures err { OnErr result (BeginsRun limit
+    ensures err { OnErr result (BeginsRun quiet.now limit
         (started built.now.image memory script.script script.events script.failures)
         (W.contents out.old) (W.contents out.new)) }
     ensures faithful { let source = source_of built.now memory script.script script.events in
         NeverOutside source
         → IfOk result (λ ran. ran.0 ≡ End.Halted
-        → PrintsEnded source (W.contents out.old) (W.contents out.new)) }
+        → PrintsEnded quiet.now source (W.contents out.old) (W.contents out.new)) }
 {
     let mut machine = machine_of(built, memory, script, table);
-    let end = print_machine(&mut machine, limit, out)?;
+    let end = print_machine(&mut machine, limit, quiet, out)?;
     Ok((end, machine))
 }

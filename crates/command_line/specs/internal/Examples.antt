@@ -3,9 +3,10 @@ use Rattle.std.specs.Prelude.{◌≡◌, ℕ, [], ◌∷◌, Some, None, Ok, Err
 use Rattle.command_line.specs.declared.orders.Action.TheVariants.{Run}
 use Rattle.command_line.specs.declared.start_memory.MemoryByte.{MemoryByte}
 use Rattle.command_line.specs.declared.values.InputByte.{InputByte}
+use Rattle.clap.specs.Words.{Text}
 use Rattle.command_line.specs.Command.{usual}
-use Rattle.command_line.specs.Settings.{fill_read, input_bytes, limit_number, memory_bytes, plan_number}
-use Rattle.command_line.specs.Settings.{values_read}
+use Rattle.command_line.specs.Settings.{NamedPort, fill_read, input_bytes, limit_number, memory_bytes, plan_number}
+use Rattle.command_line.specs.Settings.{port_file, port_files_read, values_read}
 
 usual_values : values_read (usual Run []) ≡ Ok (record {
   plan = record { code = 256; data_base = 16384; stack = 61440; stack_size = 1024 };
@@ -13,6 +14,7 @@ usual_values : values_read (usual Run []) ≡ Ok (record {
   input = [];
   fill = 0;
   memory = [];
+  input_files = [];
 })
 usual_values = refl
 
@@ -106,3 +108,29 @@ three_digits_of_an_address = refl
 
 an_odd_digit_of_memory : memory_bytes (codes "0080:022") ≡ None
 an_odd_digit_of_memory = refl
+
+-- the file of a port
+abbrev file_at : ℕ → Text → NamedPort
+file_at port name = record { port = port; name = name }
+
+a_file : port_file (codes "fE:a:b") ≡ Some (file_at 254 (codes "a:b"))
+a_file = refl
+
+no_file_name : port_file (codes "00:") ≡ None
+no_file_name = refl
+
+three_digits_of_a_port : port_file (codes "000:a") ≡ None
+three_digits_of_a_port = refl
+
+no_colon_of_a_file : port_file (codes "00a") ≡ None
+no_colon_of_a_file = refl
+
+two_files : port_files_read (of_port 2 255 ∷ []) (codes "00:a" ∷ codes "01:-" ∷ [])
+    ≡ Ok (file_at 0 (codes "a") ∷ file_at 1 (codes "/dev/stdin") ∷ [])
+two_files = refl
+
+a_port_twice : port_files_read [] (codes "00:a" ∷ codes "00:b" ∷ []) ≡ Err (codes "00:b")
+a_port_twice = refl
+
+a_port_of_the_input : port_files_read (of_port 0 255 ∷ []) (codes "00:a" ∷ []) ≡ Err (codes "00:a")
+a_port_of_the_input = refl

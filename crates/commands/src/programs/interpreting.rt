@@ -13,6 +13,7 @@ ghost use Rattle.commands.specs.Map.{map_if};
 ghost use Rattle.commands.specs.Refusing.{RefusesTexts, TellsUnwritten};
 ghost use Rattle.commands.specs.Running.{DoesAs, PrintsMeaning, PrintsTexts, StopsBuilt, source_status, source_word};
 
+use crate::port_inputs::quiet_of;
 use crate::programs::loading::{script_of, start_memory};
 use crate::programs::map::print_map;
 use crate::programs::refusals::refuse_sources;
@@ -123,8 +124,11 @@ fn print_meaning<O: Write>(
     let Ok(mut script) = script_of(alloc, settings.input.as_slice()) else {
         return Err(Failure::Memory);
     };
+    let Ok(quiet) = quiet_of(alloc, settings) else {
+        return Err(Failure::Memory);
+    };
     let end = interpret_built(alloc, settings, built, memory, &mut script)?;
-    report(script.events(), word_of(end), out)?;
+    report(script.events(), quiet.as_slice(), word_of(end), out)?;
     Ok(end)
 }
 

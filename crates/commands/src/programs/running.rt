@@ -11,11 +11,12 @@ ghost use Rattle.commands.specs.Map.{map_if};
 ghost use Rattle.commands.specs.Refusing.{RefusesTexts, TellsUnwritten};
 ghost use Rattle.commands.specs.Running.{PrintsMachine, PrintsTexts, StopsBuilt, end_status};
 
+use crate::port_inputs::quiet_of;
 use crate::programs::loading::{script_of, start_memory};
 use crate::programs::map::print_map;
 use crate::programs::refusals::refuse_sources;
 use command_line::{ProgramOrder, Settings};
-use cpu8080::End;
+use cpu8080::{DecodeTable, End};
 use failure::{Failure, WriteFault};
 use host::{Ending, refuse_memory, refuse_output};
 use std::alloc::Global;
@@ -117,7 +118,21 @@ fn print_image<O: Write>(
     let Ok(script) = script_of(alloc, settings.input.as_slice()) else {
         return Err(Failure::Memory);
     };
-    let (end, _machine) = print_run(built, memory, script, None, settings.limit, out)?;
+    let Ok(quiet) = quiet_of(alloc, settings) else {
+        return Err(Failure::Memory);
+    };
+    let Ok(table) = DecodeTable::new(alloc) else {
+        return Err(Failure::Memory);
+    };
+    let (end, _machine) = print_run(
+        built,
+        memory,
+        script,
+        Some(table),
+        settings.limit,
+        quiet.as_slice(),
+        out,
+    )?;
     Ok(end)
 }
 

@@ -1,7 +1,11 @@
 use Rattle.commands.proofs.Prelude.{refl, tells_no_file}
+use Rattle.commands.proofs.InputFiles.{told_by_names}
 use Rattle.commands.proofs.Untold.{refuses_memory, refuses_values, runs_out}
 use Rattle.commands.proofs.ProgramsTold.{prints_program}
 use Rattle.commands.proofs.console.carry_out_program.Goals as goal
+
+pub returns-in-Ok-clause-told : goal.returns-in-Ok-clause-told
+returns-in-Ok-clause-told g c = λ refused. told_by_names _ _ _ _ _ _ _ _ c.in-Ok.ensures.names (c.carry_out_sources.ensures.told refused)
 
 pub returns-in-Err-Memory-clause-told : goal.returns-in-Err-Memory-clause-told
 returns-in-Err-Memory-clause-told g c = λ refused. tells_no_file _ _ _ _ _ _ refl c.refuse_memory.ensures.told

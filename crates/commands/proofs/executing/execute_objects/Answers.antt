@@ -1,7 +1,11 @@
 use Rattle.commands.proofs.Prelude.{refl, tells_no_file}
+use Rattle.commands.proofs.InputFiles.{told_by_names}
 use Rattle.commands.proofs.Untold.{runs_out}
 use Rattle.commands.proofs.Executed.{prints_execution, refuses_memory, refuses_values}
 use Rattle.commands.proofs.executing.execute_objects.Goals as goal
+
+pub returns-in-Ok-clause-told : goal.returns-in-Ok-clause-told
+returns-in-Ok-clause-told g c = λ refused. told_by_names _ _ _ _ _ _ _ _ c.in-Ok.ensures.names (c.execute_with.ensures.told refused)
 
 pub returns-in-Err-Memory-clause-told : goal.returns-in-Err-Memory-clause-told
 returns-in-Err-Memory-clause-told g c = λ refused. tells_no_file _ _ _ _ _ _ refl c.refuse_memory.ensures.told

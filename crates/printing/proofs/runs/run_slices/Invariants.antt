@@ -1,4 +1,4 @@
-use Rattle.printing.proofs.Prelude.{◌-◌, ◌≤◌, flat_map, Appends, line_of}
+use Rattle.printing.proofs.Prelude.{◌-◌, ◌≤◌, flat_map, Appends, shown_line}
 use Rattle.printing.proofs.RunLemmas.{Made}
 use Rattle.printing.proofs.runs.run_slices.Given as goal
 
@@ -6,7 +6,7 @@ abbrev pub invariant-loop-left : goal.invariant-loop-left
 invariant-loop-left g l = record {
   within : l.left ≤ l.fn.limit;
   made : Made l.fn.machine (l.fn.limit - l.left) l.machine;
-  written : Appends (g.W.Write.contents l.fn.out) (g.W.Write.contents l.out) (flat_map line_of l.machine.state.events);
+  written : Appends (g.W.Write.contents l.fn.out) (g.W.Write.contents l.out) (flat_map (shown_line l.fn.quiet) l.machine.state.events);
 }
 
 abbrev pub decreases-loop-left : goal.decreases-loop-left

@@ -1,39 +1,42 @@
-use Rattle.commands.proofs.Prelude.{refl, ap, ◌∙◌, stops_as, tells_file, tells_no_file, texts_of}
+use Rattle.commands.proofs.Prelude.{refl, ◌∙◌, stays_on, stops_as, tells_file, tells_no_file}
+use Rattle.host.proofs.FilesRead.{stops_before}
+use Rattle.commands.proofs.InputFiles.{named, refused_after, same_texts, told_after, told_before}
 use Rattle.commands.proofs.Names.{stops_in_files}
 use Rattle.commands.proofs.Printed.{prints_files}
-use Rattle.commands.proofs.Untold.{for_file, for_memory, for_reason, refuses_files}
+use Rattle.commands.proofs.Untold.{for_file, for_memory, refuses_files}
 use Rattle.commands.proofs.programs.carrying.carry_out_sources.Goals as goal
 
+pub returns-in-Ok-clause-unchanged : goal.returns-in-Ok-clause-unchanged
+returns-in-Ok-clause-unchanged g c = stays_on _ _ _ c.read_files.ensures.kept c.carry_out_texts.ensures.unchanged
+
+pub returns-in-Ok-clause-told : goal.returns-in-Ok-clause-told
+returns-in-Ok-clause-told g c = λ refused. told_after _ _ _ _ _ _ _ _ c.read_files.ensures.kept (named _ _ _ _ c.as_slice.ensures.value c.in-Ok.ensures.texts) c.in-Ok.ensures.count _ _
+    (c.carry_out_texts.ensures.told refused)
+
+pub returns-in-Ok-clause-refused : goal.returns-in-Ok-clause-refused
+returns-in-Ok-clause-refused g c = λ refused. refused_after _ _ _ _ _ _ _ _ c.read_files.ensures.kept (named _ _ _ _ c.as_slice.ensures.value c.in-Ok.ensures.texts) c.in-Ok.ensures.count _ _ _ _ _ _
+    (λ why. refuses_files _ _ _ _ _ _ _ _ _ _ _ c.as_slice.ensures.value refl c.in-Ok.ensures.texts (same_texts _ _ _ c.as_slice-in-Ok.ensures.value) _ c.read_files.ensures.kept why)
+    (c.carry_out_texts.ensures.refused refused)
+
+pub returns-in-Ok-clause-count : goal.returns-in-Ok-clause-count
+returns-in-Ok-clause-count g c = λ other. c.carry_out_texts.ensures.count other ∙ c.in-Ok.ensures.count
+
+pub returns-in-Ok-clause-ran : goal.returns-in-Ok-clause-ran
+returns-in-Ok-clause-ran g c = λ other. prints_files _ _ _ _ _ _ _ _ _ _ c.as_slice.ensures.value refl c.in-Ok.ensures.texts (same_texts _ _ _ c.as_slice-in-Ok.ensures.value) _ c.read_files.ensures.kept
+    (c.carry_out_texts.ensures.ran other)
+
 pub returns-in-Err-Fault-clause-told : goal.returns-in-Err-Fault-clause-told
-returns-in-Err-Fault-clause-told g c = λ refused. tells_file _ _ _ _ _ _ _ _ refl (rw c.in-Err-Fault.field-0-is at c.in-Err-Fault.ensures.failed)
+returns-in-Err-Fault-clause-told g c = λ refused. told_before _ _ _ _ _ _ _ (tells_file _ _ _ _ _ _ _ _ refl (rw c.in-Err-Fault.field-0-is at c.in-Err-Fault.ensures.failed)
     (stops_as _ _ _ c.in-Err-Fault.name c.in-Err-Fault.name-is
-    (stops_in_files _ _ _ _ c.as_slice-names.ensures.value (rw c.in-Err-Fault.field-0-is at c.in-Err-Fault.ensures.stops))) c.refuse_file.ensures.told
+    (stops_in_files _ _ _ _ c.as_slice.ensures.value (rw c.in-Err-Fault.field-0-is at c.in-Err-Fault.ensures.stops))) c.refuse_file.ensures.told)
+
+pub returns-in-Err-Fault-clause-refused : goal.returns-in-Err-Fault-clause-refused
+returns-in-Err-Fault-clause-refused g c = λ refused. for_file _ _ _ _ _ _ _ _ _ _ refl (rw c.in-Err-Fault.field-0-is at c.in-Err-Fault.ensures.failed)
+    (stops_before _ _ _ _ (stops_as _ _ _ c.in-Err-Fault.name c.in-Err-Fault.name-is
+    (stops_in_files _ _ _ _ c.as_slice.ensures.value (rw c.in-Err-Fault.field-0-is at c.in-Err-Fault.ensures.stops)))) c.refuse_file.ensures.told
 
 pub returns-in-Err-Memory-clause-told : goal.returns-in-Err-Memory-clause-told
 returns-in-Err-Memory-clause-told g c = λ refused. tells_no_file _ _ _ _ _ _ (rw c.in-Err-Memory.field-0-is at c.in-Err-Memory.ensures.failed) c.refuse_memory.ensures.told
 
-pub returns-in-Ok-sources_of-clause-told : goal.returns-in-Ok-sources_of-clause-told
-returns-in-Ok-sources_of-clause-told g c = λ refused. tells_no_file _ _ _ _ _ _ c.in-Ok.ensures.count (c.act.ensures.told refused)
-
-pub returns-clause-told : goal.returns-clause-told
-returns-clause-told g c = λ refused. tells_no_file _ _ _ _ _ _ c.in-Ok.ensures.count c.refuse_memory-in-Err.ensures.told
-
-pub returns-in-Ok-sources_of-clause-ran : goal.returns-in-Ok-sources_of-clause-ran
-returns-in-Ok-sources_of-clause-ran g c = λ other. prints_files _ _ _ _ _ _ _ _ _ _ c.as_slice-names.ensures.value refl c.in-Ok.ensures.texts
-    (ap texts_of c.as_slice-in-Ok-sources_of.ensures.value ∙ (rw c.as_slice.ensures.value at c.in-Ok-sources_of.ensures)) (c.act.ensures.ran other)
-
-pub returns-in-Err-Fault-clause-refused : goal.returns-in-Err-Fault-clause-refused
-returns-in-Err-Fault-clause-refused g c = λ refused. for_file _ _ _ _ _ _ _ _ _ _ refl (rw c.in-Err-Fault.field-0-is at c.in-Err-Fault.ensures.failed)
-    (stops_as _ _ _ c.in-Err-Fault.name c.in-Err-Fault.name-is
-    (stops_in_files _ _ _ _ c.as_slice-names.ensures.value (rw c.in-Err-Fault.field-0-is at c.in-Err-Fault.ensures.stops))) c.refuse_file.ensures.told
-
 pub returns-in-Err-Memory-clause-refused : goal.returns-in-Err-Memory-clause-refused
 returns-in-Err-Memory-clause-refused g c = λ refused. for_memory _ _ _ _ _ _ _ _ (rw c.in-Err-Memory.field-0-is at c.in-Err-Memory.ensures.failed) c.refuse_memory.ensures.line
-
-pub returns-in-Ok-sources_of-clause-refused : goal.returns-in-Ok-sources_of-clause-refused
-returns-in-Ok-sources_of-clause-refused g c = λ refused. for_reason _ _ _ _ _ _ _ _ _ c.in-Ok.ensures.count
-    (refuses_files _ _ _ _ _ _ _ _ _ _ _ c.as_slice-names.ensures.value refl c.in-Ok.ensures.texts
-    (ap texts_of c.as_slice-in-Ok-sources_of.ensures.value ∙ (rw c.as_slice.ensures.value at c.in-Ok-sources_of.ensures)) (c.act.ensures.refused refused))
-
-pub returns-clause-refused : goal.returns-clause-refused
-returns-clause-refused g c = λ refused. for_memory _ _ _ _ _ _ _ _ c.in-Ok.ensures.count c.refuse_memory-in-Err.ensures.line

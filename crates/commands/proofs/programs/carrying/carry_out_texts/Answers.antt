@@ -1,0 +1,28 @@
+use Rattle.commands.proofs.Prelude.{refl, stops_as, tells_file, tells_no_file}
+use Rattle.commands.proofs.Printed.{prints_read}
+use Rattle.commands.proofs.Untold.{for_file, for_memory, for_reason, refuses_read}
+use Rattle.commands.proofs.programs.carrying.carry_out_texts.Goals as goal
+
+pub returns-in-Ok-clause-told : goal.returns-in-Ok-clause-told
+returns-in-Ok-clause-told g c = λ refused. tells_no_file _ _ _ _ _ _ c.in-Ok.ensures.count (c.act_on.ensures.told refused)
+
+pub returns-in-Ok-clause-refused : goal.returns-in-Ok-clause-refused
+returns-in-Ok-clause-refused g c = λ refused. for_reason _ _ _ _ _ _ _ _ _ c.in-Ok.ensures.count
+    (refuses_read _ _ _ _ _ _ _ _ _ c.in-Ok.ensures.input (c.act_on.ensures.refused refused))
+
+pub returns-in-Ok-clause-ran : goal.returns-in-Ok-clause-ran
+returns-in-Ok-clause-ran g c = λ other. prints_read _ _ _ _ _ _ _ _ c.in-Ok.ensures.input (c.act_on.ensures.ran other)
+
+pub returns-in-Err-Fault-clause-told : goal.returns-in-Err-Fault-clause-told
+returns-in-Err-Fault-clause-told g c = λ refused. tells_file _ _ _ _ _ _ _ _ refl (rw c.in-Err-Fault.field-0-is at c.in-Err-Fault.ensures.failed)
+    (stops_as _ _ _ c.in-Err-Fault.name c.in-Err-Fault.name-is (rw c.in-Err-Fault.field-0-is at c.in-Err-Fault.ensures.stops)) c.refuse_file.ensures.told
+
+pub returns-in-Err-Fault-clause-refused : goal.returns-in-Err-Fault-clause-refused
+returns-in-Err-Fault-clause-refused g c = λ refused. for_file _ _ _ _ _ _ _ _ _ _ refl (rw c.in-Err-Fault.field-0-is at c.in-Err-Fault.ensures.failed)
+    (stops_as _ _ _ c.in-Err-Fault.name c.in-Err-Fault.name-is (rw c.in-Err-Fault.field-0-is at c.in-Err-Fault.ensures.stops)) c.refuse_file.ensures.told
+
+pub returns-in-Err-Memory-clause-told : goal.returns-in-Err-Memory-clause-told
+returns-in-Err-Memory-clause-told g c = λ refused. tells_no_file _ _ _ _ _ _ (rw c.in-Err-Memory.field-0-is at c.in-Err-Memory.ensures.failed) c.refuse_memory.ensures.told
+
+pub returns-in-Err-Memory-clause-refused : goal.returns-in-Err-Memory-clause-refused
+returns-in-Err-Memory-clause-refused g c = λ refused. for_memory _ _ _ _ _ _ _ _ (rw c.in-Err-Memory.field-0-is at c.in-Err-Memory.ensures.failed) c.refuse_memory.ensures.line
