@@ -1,6 +1,6 @@
 -- The words after a command: bare files, after an option or none. They have no fault, and give the files.
 use Rattle.command_line.proofs.Prelude.{◌≡◌, ◌∙◌, ℕ, List, [], ◌∷◌, ◌++◌, Some, None, Bool, true, false, refl, ap, codes, append_assoc, fold, ◌==◌, ◌||◌, AllByRecursion, bytes_eq, long_of, short_of, strip_byte, Kinds, Row, Rule, Shape, Text, Held, Waiting, Walk, idle, option, positional, has_row, nothing_held, plain_word, reading_by, rows_after, settled, walk, walk_from, walked, with_default, with_values, word_met, filled, with_index, check_fault, defaults_fault, level_fault, settle_fault, turn_fault, walk_fault, word_fault, or_else, CommandLine, IsBare, files_rule}
-use Rattle.command_line.proofs.Verbs.{Executed, Form, Located, Objects, Placed, Sources, leaf, rules}
+use Rattle.command_line.proofs.Verbs.{Executed, Form, Listed, Located, Objects, Placed, Sources, leaf, rules}
 
 abbrev pub files_filled : Rule
 files_filled = with_index 1 (filled files_rule)
@@ -61,6 +61,8 @@ file_step Objects before done last file none bare =
     rw (bare_word (rules Objects) positional 1 file (state before done last).held bare) (rw (rows_more before done last none) refl)
 file_step Placed before done last file none bare =
     rw (bare_word (rules Placed) positional 1 file (state before done last).held bare) (rw (rows_more before done last none) refl)
+file_step Listed before done last file none bare =
+    rw (bare_word (rules Listed) positional 1 file (state before done last).held bare) (rw (rows_more before done last none) refl)
 file_step Located before done last file none bare =
     rw (bare_word (rules Located) positional 1 file (state before done last).held bare) (rw (rows_more before done last none) refl)
 file_step Executed before done last file none bare =
@@ -74,6 +76,8 @@ file_turn Objects name before done last file bare =
     rw (bare_word (rules Objects) positional 1 file (state before done last).held bare, bare_fault (leaf Objects name) positional file (state before done last).held bare) refl
 file_turn Placed name before done last file bare =
     rw (bare_word (rules Placed) positional 1 file (state before done last).held bare, bare_fault (leaf Placed name) positional file (state before done last).held bare) refl
+file_turn Listed name before done last file bare =
+    rw (bare_word (rules Listed) positional 1 file (state before done last).held bare, bare_fault (leaf Listed name) positional file (state before done last).held bare) refl
 file_turn Located name before done last file bare =
     rw (bare_word (rules Located) positional 1 file (state before done last).held bare, bare_fault (leaf Located name) positional file (state before done last).held bare) refl
 file_turn Executed name before done last file bare =

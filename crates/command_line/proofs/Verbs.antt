@@ -1,11 +1,12 @@
 -- The commands, by the form of their arguments.
-use Rattle.command_line.proofs.Prelude.{List, [], codes, Row, Rule, Shape, Text, built_leaf, new_shape, Action, PlaceAction, Locate, Hex, Wanted, compile_app, compile_of, execute_app, execute_of, explain_app, explain_of, link_app, link_of, locate_app, located_of, name_of_action, name_of_place_action, hex_app, place_of, program_app, program_of, wants_compile, wants_execute, wants_explain, wants_link, wants_place, wants_program}
+use Rattle.command_line.proofs.Prelude.{List, [], codes, Row, Rule, Shape, Text, built_leaf, new_shape, Action, PlaceAction, Locate, Hex, Listing, Wanted, compile_app, compile_of, execute_app, execute_of, explain_app, explain_of, link_app, link_of, list_app, locate_app, located_of, name_of_action, name_of_place_action, hex_app, place_of, program_app, program_of, wants_compile, wants_execute, wants_explain, wants_link, wants_place, wants_program}
 
 -- what the files of a command are
 pub data Form : Type 0 where
   Sources : Form
   Objects : Form
   Placed : Form
+  Listed : Form
   Located : Form
   Executed : Form
 
@@ -14,6 +15,7 @@ abbrev pub rules : Form → List Rule
 rules Sources = (built_leaf (program_app []).top).rules
 rules Objects = (built_leaf (link_app []).top).rules
 rules Placed = (built_leaf (hex_app []).top).rules
+rules Listed = (built_leaf (list_app []).top).rules
 rules Located = (built_leaf (locate_app []).top).rules
 rules Executed = (built_leaf (execute_app []).top).rules
 
@@ -21,6 +23,7 @@ rules Executed = (built_leaf (execute_app []).top).rules
 abbrev pub form_of : PlaceAction → Form
 form_of Locate = Located
 form_of Hex = Placed
+form_of Listing = Listed
 
 -- a command that was built
 abbrev pub leaf : Form → Text → Shape
@@ -69,5 +72,6 @@ wanted_of (program action) rows = wants_program (program_of action rows)
 wanted_of link rows = wants_link (link_of rows)
 wanted_of (place Locate) rows = located_of rows
 wanted_of (place Hex) rows = wants_place (place_of Hex rows)
+wanted_of (place Listing) rows = wants_place (place_of Listing rows)
 wanted_of execute rows = wants_execute (execute_of rows)
 wanted_of explain rows = wants_explain (explain_of rows)

@@ -16,7 +16,7 @@ use Rattle.failure.specs.declared.Failure.TheVariants.{Memory}
 use Rattle.command_line.specs.declared.orders.Action.{Action}
 use Rattle.command_line.specs.declared.orders.Action.TheVariants.{Run, Interpret}
 use Rattle.command_line.specs.declared.orders.PlaceAction.{PlaceAction}
-use Rattle.command_line.specs.declared.orders.PlaceAction.TheVariants.{Locate, Hex}
+use Rattle.command_line.specs.declared.orders.PlaceAction.TheVariants.{Locate, Hex, Listing}
 use Rattle.command_line.specs.declared.orders.CompileOrder.{CompileOrder}
 use Rattle.command_line.specs.declared.orders.ExecuteOrder.{ExecuteOrder}
 use Rattle.command_line.specs.declared.orders.ExplainOrder.{ExplainOrder}
@@ -103,6 +103,10 @@ link_app name = with_rule (with_rule (new_app name) out_rule) files_rule
 abbrev pub hex_app : Text → App
 hex_app name = with_rule (with_rule (with_plan (new_app name)) (option_rule (codes "jump"))) files_rule
 
+-- the command `name [plan] FILE...`, which asks for one file when it is carried out
+abbrev pub list_app : Text → App
+list_app name = with_rule (with_plan (new_app name)) files_rule
+
 -- the command `name [plan] [--need] FILE...`, which asks for one file when it is carried out without the flag
 abbrev pub locate_app : Text → App
 locate_app name = with_rule (with_rule (with_plan (new_app name)) (flag_rule (codes "need"))) files_rule
@@ -133,10 +137,11 @@ programs_app =
 -- the program `plm` with its commands
 abbrev pub plm_app : App
 plm_app =
-    with_subcommand (with_subcommand (with_subcommand (with_subcommand (with_subcommand programs_app
+    with_subcommand (with_subcommand (with_subcommand (with_subcommand (with_subcommand (with_subcommand programs_app
     (link_app (codes "link")).top)
     (locate_app (codes "locate")).top)
     (hex_app (codes "hex")).top)
+    (list_app (codes "list")).top)
     (execute_app (codes "execute")).top)
     (explain_app (codes "explain")).top
 
@@ -299,8 +304,9 @@ wanted_of_match (name, rows) =
     else (if bytes_eq name (codes "link") then Some (wants_link (link_of rows))
     else (if bytes_eq name (codes "locate") then Some (located_of rows)
     else (if bytes_eq name (codes "hex") then Some (wants_place (place_of Hex rows))
+    else (if bytes_eq name (codes "list") then Some (wants_place (place_of Listing rows))
     else (if bytes_eq name (codes "execute") then Some (wants_execute (execute_of rows))
-    else (if bytes_eq name (codes "explain") then Some (wants_explain (explain_of rows)) else None)))))))
+    else (if bytes_eq name (codes "explain") then Some (wants_explain (explain_of rows)) else None))))))))
 
 -- what the words, with the program's name in front, want
 abbrev pub wanted_by : List Text → Option Wanted
@@ -380,6 +386,7 @@ name_of_action Interpret = codes "interpret"
 abbrev pub name_of_place_action : PlaceAction → Text
 name_of_place_action Locate = codes "locate"
 name_of_place_action Hex = codes "hex"
+name_of_place_action Listing = codes "list"
 
 -- a word that is no option: it doesn't begin with a hyphen (45)
 abbrev pub IsBare : Text → Type 0

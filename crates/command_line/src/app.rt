@@ -3,11 +3,11 @@
 ghost use Rattle.std.specs.Prelude.{◌≡◌, codes, false};
 ghost use Rattle.clap.specs.Words.{App, Rule, new_app, rule_of, with_rule, with_subcommand};
 ghost use Rattle.command_line.specs.internal.Building.{Builds, IsBuilt};
-ghost use Rattle.command_line.specs.Command.{bare_app, compile_app, default_rule, execute_app, file_rule, files_rule, flag_rule, hex_app, link_app, locate_app, option_rule, out_rule, plm_app, program_app, programs_app, with_limit_and_input, with_plan, with_run, with_memory, many_rule, explain_app};
+ghost use Rattle.command_line.specs.Command.{bare_app, compile_app, default_rule, execute_app, file_rule, files_rule, flag_rule, hex_app, link_app, locate_app, option_rule, out_rule, plm_app, program_app, programs_app, with_limit_and_input, with_plan, with_run, with_memory, many_rule, explain_app, list_app};
 
 use crate::help::{
-    ABOUT, COMPILE, EXECUTE, EXPLAIN, GUIDE, HEX, INTERPRET, INTERPRET_LIMIT, LINK, LOCATE, RUN,
-    RUN_LIMIT, Teaching, VERSION,
+    ABOUT, COMPILE, EXECUTE, EXPLAIN, GUIDE, HEX, INTERPRET, INTERPRET_LIMIT, LINK, LIST, LOCATE,
+    RUN, RUN_LIMIT, Teaching, VERSION,
 };
 use clap::{Arg, ArgAction, Command};
 use std::alloc::{AllocError, Global};
@@ -303,6 +303,14 @@ fn hex<'a>(alloc: Global) -> Built<'a>
     add(with_jump, files(alloc, "FILE", "The one object file"))
 }
 
+// The command that lists an object file that is placed.
+fn list<'a>(alloc: Global) -> Built<'a>
+    ensures { Builds (list_app (codes "list")) result }
+{
+    let planned = add_plan(alloc, named(alloc, "list", LIST));
+    add(planned, files(alloc, "FILE", "The one object file"))
+}
+
 // The command that tells where an object lies or, with its flag, how much of the stack sources need.
 fn locate<'a>(alloc: Global) -> Built<'a>
     ensures { Builds (locate_app (codes "locate")) result }
@@ -377,6 +385,7 @@ pub(crate) fn plm_command<'a>(alloc: Global) -> Result<Command<'a>, AllocError>
     let with_link = add_leaf(with_programs(alloc), link(alloc));
     let with_locate = add_leaf(with_link, locate(alloc));
     let with_hex = add_leaf(with_locate, hex(alloc));
-    let with_execute = add_leaf(with_hex, execute(alloc));
+    let with_list = add_leaf(with_hex, list(alloc));
+    let with_execute = add_leaf(with_list, execute(alloc));
     add_leaf(with_execute, explain(alloc))
 }

@@ -179,6 +179,11 @@ pub(crate) const HEX: Teaching = Teaching {
     printed: PRINTED_BY_HEX,
 };
 
+pub(crate) const LIST: Teaching = Teaching {
+    about: "Places an object file in memory, and prints its bytes with the instructions that they encode",
+    printed: PRINTED_BY_LIST,
+};
+
 pub(crate) const EXECUTE: Teaching = Teaching {
     about: "Merges object files, places the merge in memory, and runs it on a simulated 8080",
     printed: PRINTED_BY_EXECUTE,
@@ -388,6 +393,37 @@ Example: an object with the code cd 04 00 76 3e 08 d3 04 c9, whose bytes 04 00 a
 the code, prints
   :09010000CD0401763E08D304C9C8
   :00000001FF
+
+Numbers, where X is the name or the text that is printed with one:
+" OBJECTS PLACES IMAGES FILES VALUES MEMORY "\n\
+Read more in the folder docs: faults.md (each number with an example and its cure), commands.md");
+
+const PRINTED_BY_LIST: &str = text_of!([] "\
+The object is a main module without external names, such as `plm link` writes.
+
+Prints a line for each instruction, by rising addresses:
+  aaaa bb bb bb  text  the address, the bytes there, and the instruction that they encode
+  aaaa bb        DB bb  a byte that is shown alone
+  name:          the line before that of the address where a public name lies
+Addresses, bytes and numbers in a text are hexadecimal digits. The bytes of the data are shown alone,
+and in the code those that begin no whole instruction. Constants lie among the code too, so that
+lines may show them as instructions that the program never comes to.
+
+Exit status:
+  0  all was printed, or help was asked for
+  1  the object or its place was refused, memory ran out, or a file can't be read
+  2  the command line is wrong, or a value in it
+
+A refused object prints `number file 0` to standard error, a refused place `number - 0`, and a
+refused value or a second file `U4 text 0`.
+
+Example: an object with the code cd 04 00 76 3e 08 c9, whose bytes 04 00 are an address in the
+code, and a public name S at offset 4 prints
+  0100 CD 04 01  CALL 0104
+  0103 76        HLT
+  S:
+  0104 3E 08     MVI A,08
+  0106 C9        RET
 
 Numbers, where X is the name or the text that is printed with one:
 " OBJECTS PLACES IMAGES FILES VALUES MEMORY "\n\

@@ -16,6 +16,8 @@ pub enum PlaceAction {
     Locate,
     /// Its bytes, as Intel HEX.
     Hex,
+    /// Its bytes, with the instructions that they encode.
+    Listing,
 }
 
 /// The texts of the options that say where the parts of a program are to lie.

@@ -242,6 +242,7 @@ fn order_named<'a>(
         "link" => link(alloc, matches),
         "locate" => locate(alloc, matches),
         "hex" => place(alloc, PlaceAction::Hex, matches),
+        "list" => place(alloc, PlaceAction::Listing, matches),
         "execute" => execute(alloc, matches),
         "explain" => explain(matches),
         _ => Ok(None),

@@ -2,6 +2,7 @@ pub use Rattle.host.specs.Refusals
 pub use Rattle.command_line.specs.Command
 pub use Rattle.command_line.specs.Settings
 pub use Rattle.object_commands.specs.Linking
+pub use Rattle.object_commands.specs.Listing
 pub use Rattle.object_commands.specs.Placing
 pub use Rattle.commands.specs.Printing
 pub use Rattle.commands.specs.Compiling

@@ -11,8 +11,9 @@ use Rattle.command_line.specs.Command.{wants_link, wants_need, wants_place, want
 use Rattle.command_line.specs.Settings.{Read, ◌>>=◌, execute_read, jump_read, names_in, only_file, page_read}
 use Rattle.command_line.specs.Settings.{plan_read, values_read}
 use Rattle.command_line.specs.declared.orders.PlaceAction.{PlaceAction}
-use Rattle.command_line.specs.declared.orders.PlaceAction.TheVariants.{Locate, Hex}
+use Rattle.command_line.specs.declared.orders.PlaceAction.TheVariants.{Locate, Hex, Listing}
 use Rattle.object_commands.specs.Linking.{KeepsOthers, LinksFiles, StopsLinking}
+use Rattle.object_commands.specs.Listing.{PrintsListing, StopsListing}
 use Rattle.object_commands.specs.Placing.{PrintsHex, PrintsPlaces, StopsHex, StopsPlaces}
 use Rattle.commands.specs.Compiling.{CompilesFile, StopsCompiling}
 use Rattle.commands.specs.Executing.{PrintsExecution, RefusesExecution}
@@ -60,6 +61,7 @@ abbrev pub PrintsPlaced :
     → (old new : Option (List ℕ)) → Type 0
 PrintsPlaced Locate files name plan jump old new = PrintsPlaces files name plan old new
 PrintsPlaced Hex files name plan jump old new = PrintsHex files name plan jump old new
+PrintsPlaced Listing files name plan jump old new = PrintsListing files name plan old new
 
 -- the one file that is wanted, placed by the plan that the texts write, was printed
 pub record PrintsWanted (place : PlaceWanted) (files : Option Directory)
@@ -78,6 +80,7 @@ abbrev pub StopsPlaced :
     → (old new : Option (List ℕ)) → Type 0
 StopsPlaced Locate files name plan jump old new = StopsPlaces files name plan old new
 StopsPlaced Hex files name plan jump old new = StopsHex files name plan jump old new
+StopsPlaced Listing files name plan jump old new = StopsListing files name plan old new
 
 -- the need of the sources that are wanted, beside texts that write a plan, was printed
 pub record PrintsNeedWanted (need : NeedWanted) (files : Option Directory)

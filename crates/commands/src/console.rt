@@ -20,7 +20,7 @@ use crate::refusals::refuse_value;
 use command_line::{LineFault, Order, PlaceAction, PlaceOrder, ProgramOrder, command};
 use failure::Failure;
 use host::{Ending, Files, refuse_memory, refuse_write};
-use object_commands::{link_files, print_hex, print_places};
+use object_commands::{link_files, print_hex, print_list, print_places};
 use std::alloc::Global;
 use std::io::Write;
 
@@ -230,6 +230,7 @@ fn carry_out_place<F: Files, O: Write, E: Write>(
     match order.action {
         PlaceAction::Locate => print_places(alloc, file, &plan, files, out, err),
         PlaceAction::Hex => print_hex(alloc, file, &plan, jump, files, out, err),
+        PlaceAction::Listing => print_list(alloc, file, &plan, files, out, err),
     }
 }
 

@@ -2,6 +2,7 @@
 use Rattle.object_commands.proofs.Prelude.{◌≡◌, ◌⊎◌, ℕ, List, Option, None, Some, inl, inr, refl, subst, Appends, Keeps, AppendsBeginning, Directory, HasFile, Absolute, IsPlaced, plan_view, ObjectModule, Spells, PlacesFile, PrintsHex, PrintsPlaces, StopsHex, StopsPlaces, jump_refusal, pieces_with, places_text}
 use Rattle.hex80.specs.Texts.{BeginsText, WritesText}
 use Rattle.mem80.specs.declared.plan.Plan.{Plan}
+use Rattle.object_commands.specs.Listing.{ListsModule, PrintsListing, StopsListing}
 
 pub placed : (files : Option Directory) (name bytes : List ℕ) (plan : Plan) (object : ObjectModule) (absolute : Absolute) → HasFile files name bytes → Spells bytes object
     → IsPlaced (plan_view plan) object absolute → PlacesFile files name plan object absolute
@@ -39,3 +40,29 @@ pub begins_places : (files : Option Directory) (name : List ℕ) (plan : Plan) (
     → PlacesFile files name plan object absolute → lines ≡ places_text plan object absolute → AppendsBeginning old new lines → StopsPlaces files name plan old new
 begins_places files name plan object absolute lines old new of_file are printed =
     inr (record { object = object; absolute = absolute; of_file = of_file; printed = subst (λ (l : List ℕ). AppendsBeginning old new l) are printed })
+
+module _ (files : Option Directory) (name : List ℕ) (plan : Plan) where
+  pub no_listing : (known : Option (List ℕ)) → StopsListing files name plan known known
+  no_listing known = inl (stays_written known)
+
+  pub prints_listing : (object : ObjectModule) (absolute : Absolute) (text lines : List ℕ) (old new : Option (List ℕ)) → PlacesFile files name plan object absolute
+      → ListsModule plan object absolute text → lines ≡ text → Appends old new lines → PrintsListing files name plan old new
+  prints_listing object absolute text lines old new of_file listed are printed = record {
+    object = object;
+    absolute = absolute;
+    of_file = of_file;
+    text = text;
+    listed = listed;
+    printed = subst (λ (l : List ℕ). Appends old new l) are printed;
+  }
+
+  pub begins_listing : (object : ObjectModule) (absolute : Absolute) (text lines : List ℕ) (old new : Option (List ℕ)) → PlacesFile files name plan object absolute
+      → ListsModule plan object absolute text → lines ≡ text → AppendsBeginning old new lines → StopsListing files name plan old new
+  begins_listing object absolute text lines old new of_file listed are printed = inr (record {
+    object = object;
+    absolute = absolute;
+    of_file = of_file;
+    text = text;
+    listed = listed;
+    printed = subst (λ (l : List ℕ). AppendsBeginning old new l) are printed;
+  })

@@ -6,3 +6,4 @@ pub mod Merged
 pub mod Lines
 pub mod Lists
 pub mod Refused
+pub mod Listings

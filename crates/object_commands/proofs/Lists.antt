@@ -2,7 +2,7 @@
 use Rattle.object_commands.proofs.Prelude.{◌≡◌, ℕ, suc, zero, ◌+◌, ◌<◌, ◌≤◌, List, [], append-nil, arith, refl, ◌∷◌, ◌++◌, length, get_or, map, drop, sym, ap, ◌∙◌, add-one, flat_map, drop-cons, map-append, append_assoc}
 
 -- what is left of a list begins with this item
-left_is : {A : Type 0} (items : List A) (i : ℕ) (item : A) → i < length items → item ≡ get_or items i item → drop i items ≡ item ∷ drop (i + 1) items
+pub left_is : {A : Type 0} (items : List A) (i : ℕ) (item : A) → i < length items → item ≡ get_or items i item → drop i items ≡ item ∷ drop (i + 1) items
 left_is items i item within is =
     drop-cons items i item within
     ∙ ap (λ first. first ∷ drop (suc i) items) (sym is)
@@ -43,7 +43,7 @@ same_added total made new x ys i y rest within is same added =
     ∙ sym (ap (λ d. made ++ d) (left_is ys i y within is))
     ∙ rest
 
-nothing_left : {A : Type 0} (items : List A) (i : ℕ) → length items ≤ i → drop i items ≡ []
+pub nothing_left : {A : Type 0} (items : List A) (i : ℕ) → length items ≤ i → drop i items ≡ []
 nothing_left [] zero past = refl
 nothing_left [] (suc i) past = refl
 nothing_left (item ∷ others) zero past = absurd (omega arith)

@@ -7,4 +7,5 @@ pub use Rattle.locate.specs.Locating
 pub mod Linking
 pub mod Merging
 pub mod Placing
+pub mod Listing
 pub mod internal

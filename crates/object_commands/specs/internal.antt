@@ -1,3 +1,4 @@
 -- What only private functions and proofs cite.
+pub mod Listed
 pub mod Merges
 pub mod Rooms

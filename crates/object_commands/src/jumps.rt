@@ -18,8 +18,8 @@ use std::alloc::{AllocError, Global};
 // How many bytes a jump has.
 const JUMP_SIZE: u16 = 3;
 
-// So many addresses from a base on.
-fn range_from(base: u16, size: u16) -> Range
+/// So many addresses from a base on.
+pub(crate) fn range_from(base: u16, size: u16) -> Range
     ensures { result ≡ range_at base size }
 {
     Range {

@@ -3,6 +3,7 @@
 
 mod jumps;
 mod linking;
+mod listing;
 mod merges;
 mod places;
 mod placing;
@@ -11,5 +12,5 @@ mod writing_files;
 
 pub use linking::link_files;
 pub use merges::place_merge;
-pub use placing::{print_hex, print_places};
+pub use placing::{print_hex, print_list, print_places};
 pub use writing_files::write_file;

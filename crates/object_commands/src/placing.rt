@@ -6,9 +6,11 @@ ghost use Rattle.host.specs.Files.{KeepsFiles};
 ghost use Rattle.host.specs.Refusals.{TellsRefusal};
 ghost use Rattle.hex80.specs.Texts.{BeginsText, WritesText};
 ghost use Rattle.object_commands.specs.Placing.{PlacesFile, PrintsHex, PrintsPlaces, StopsHex, StopsPlaces, pieces_with};
+ghost use Rattle.object_commands.specs.Listing.{PrintsListing, StopsListing};
 ghost use Rattle.object_commands.specs.internal.Rooms.{LeavesRoom};
 
 use crate::jumps::{pieces_with_jump, refusal_of_jump};
+use crate::listing::listing_of;
 use crate::places::lines_of;
 use crate::refusals::{refuse_object, refuse_place};
 use failure::{Failure, WriteFault, write_bytes};
@@ -164,6 +166,45 @@ pub fn print_hex<F: Files, O: Write, E: Write>(
     let written = write_placed(alloc, &placed.absolute, jump, out);
     drop(placed);
     match written {
+        Ok(()) => Ending::Done,
+        Err(Failure::Fault(_)) => refuse_output(err),
+        Err(Failure::Memory) => refuse_memory(err),
+    }
+}
+
+/// Places an object file by a plan, and prints its bytes by rising addresses, with the instructions that they encode and
+/// the public names that lie there. After a write that failed a beginning of that was printed, and after any other
+/// refusal nothing.
+pub fn print_list<F: Files, O: Write, E: Write>(
+    alloc: Global,
+    file: &str,
+    plan: &Plan,
+    files: &mut F,
+    out: &mut O,
+    err: &mut E,
+) -> Ending
+    ensures kept { KeepsFiles (F.files files.old) (F.files files.new) }
+    ensures printed { result ≡ Ending.Done → PrintsListing (F.files files.old) file.now plan.now
+        (O.contents out.old) (O.contents out.new) }
+    ensures refused { (result ≡ Ending.Done → ⊥) → StopsListing (F.files files.old) file.now plan.now
+        (O.contents out.old) (O.contents out.new) }
+    ensures ending { (result ≡ Ending.Done) ⊎ (result ≡ Ending.Refused) }
+    ensures told { result ≡ Ending.Refused → TellsRefusal (F.files files.old) (file.now ∷ [])
+        (F.failures files.old) (F.failures files.new) (E.contents err.old) (E.contents err.new) }
+    ensures count { (result ≡ Ending.Refused → ⊥) → F.failures files.new ≡ F.failures files.old }
+    ensures quiet { (result ≡ Ending.Refused → ⊥) → E.contents err.new ≡ E.contents err.old }
+{
+    let placed = match place_file(alloc, file, plan, files, err) {
+        Ok(placed) => placed,
+        Err(ending) => return ending,
+    };
+    let printed = listing_of(alloc, &placed.object, &placed.absolute, plan);
+    drop(placed);
+    let lines = match printed {
+        Ok(lines) => lines,
+        Err(_) => return refuse_memory(err),
+    };
+    match write_bytes(out, lines.as_slice()) {
         Ok(()) => Ending::Done,
         Err(Failure::Fault(_)) => refuse_output(err),
         Err(Failure::Memory) => refuse_memory(err),

@@ -325,6 +325,15 @@ fn print_hex(page: &mut Page) {
     help.print(page, "hex");
 }
 
+// The help of the command that lists an object.
+fn print_list(page: &mut Page) {
+    let mut help = Help::of(page.alloc(), &["plm", "list", "--help"]);
+    help.seek_places();
+    help.seek_files();
+    help.seek_value();
+    help.print(page, "list");
+}
+
 // The help of the command that runs objects.
 fn print_execute(page: &mut Page, name: Name) {
     let mut help = Help::of(page.alloc(), &["plm", "execute", "--help"]);
@@ -355,6 +364,7 @@ pub fn print_sentences(page: &mut Page) {
     print_link(page, name);
     print_locate(page, name);
     print_hex(page);
+    print_list(page);
     print_execute(page, name);
     print_explain(page);
 }
