@@ -55,14 +55,17 @@ module _ (rules : List Rule) (controls : List Control) (name text : List ℕ) (o
   pub with_notes : (status : ℕ) (printed lines : List ℕ) (notes : List Note) → status ≡ 1 → 0 < length notes → Converts rules controls text printed notes → Appends out now printed
       → lines ≡ note_lines name notes → AppendsBeginning old new lines → ConvertsText rules controls name text status old new out now
   unfolding ConvertsText RefusesText
-  with_notes status printed lines notes one some converts appended same told = inr (one, inr (inl (record {
-    printed = printed;
-    notes = notes;
-    some = some;
-    converts = converts;
-    appended = appended;
-    told = subst (λ (l : List ℕ). AppendsBeginning old new l) same told;
-  })))
+  with_notes status printed lines notes one some converts appended same told = inr (
+    one,
+    inr (inl (record {
+      printed = printed;
+      notes = notes;
+      some = some;
+      converts = converts;
+      appended = appended;
+      told = subst (λ (l : List ℕ). AppendsBeginning old new l) same told;
+    })),
+  )
 
   pub without_notes : (status : ℕ) (printed : List ℕ) (notes : List Note) → status ≡ 0 → notes ≡ [] → Converts rules controls text printed notes → Appends out now printed
       → ConvertsText rules controls name text status old new out now
@@ -105,12 +108,16 @@ module _ (rules : List Rule) (controls : List Control) (name text : List ℕ) (o
 module _ (rules : List Rule) (controls : List Control) (wanted : ConvertWanted) (files : Option Directory) (before after : ℕ) (old new out now : Option (List ℕ)) where
   pub file_unread : (status : ℕ) → status ≡ 1 → CountsFailure before after → Tells (file_line wanted.file) old new → ConvertsFile rules controls wanted files status before after old new out out
   unfolding ConvertsFile
-  file_unread status one counted told = inl (one, stays_written out, record {
-    counted = counted;
-    name = wanted.file;
-    stopped = record { before = []; rest = []; texts = []; names_are = refl; read = tt };
-    told = told;
-  })
+  file_unread status one counted told = inl (
+    one,
+    stays_written out,
+    record {
+      counted = counted;
+      name = wanted.file;
+      stopped = record { before = []; rest = []; texts = []; names_are = refl; read = tt };
+      told = told;
+    },
+  )
 
   pub file_unheld : (status : ℕ) → status ≡ 1 → after ≡ before → Tells memory_line old new → ConvertsFile rules controls wanted files status before after old new out out
   unfolding ConvertsFile

@@ -197,9 +197,7 @@ fn carry_out<F: Files, O: Write, E: Write>(
         Order::Need(need) => tell_need(alloc, need, files, out, err),
         Order::Execute(execute) => execute_objects(alloc, execute, files, out, err),
         Order::Explain(explain) => explain_number(alloc, explain, out, err),
-        Order::Convert(convert) => {
-            convert_by_tables(alloc, convert, files, out, err)
-        }
+        Order::Convert(convert) => { convert_by_tables(alloc, convert, files, out, err) }
     }
 }
 

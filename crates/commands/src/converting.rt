@@ -63,7 +63,15 @@ fn convert_file<F: Files, O: Write, E: Write>(
         Err(Failure::Fault(fault)) => return refuse_file(fault, order.file, err),
         Err(Failure::Memory) => return refuse_memory(err),
     };
-    convert_text(alloc, rules, controls, order.file, text.as_slice(), out, err)
+    convert_text(
+        alloc,
+        rules,
+        controls,
+        order.file,
+        text.as_slice(),
+        out,
+        err,
+    )
 }
 
 // Converts the text of a file of this name.
