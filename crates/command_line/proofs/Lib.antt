@@ -8,6 +8,7 @@ pub mod Begins
 pub mod Lines
 pub mod Compiles
 pub mod Explains
+pub mod Converts
 pub mod Full
 pub mod PlmWords
 pub mod Given

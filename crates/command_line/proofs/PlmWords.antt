@@ -3,7 +3,7 @@ use Rattle.command_line.proofs.Prelude.{◌≡◌, ℕ, List, [], ◌∷◌, Opt
 use Rattle.command_line.specs.declared.orders.Action.TheVariants.{Run, Interpret}
 use Rattle.command_line.proofs.CommandLemmas.{same_text_of}
 use Rattle.command_line.proofs.Full.{some_file}
-use Rattle.command_line.proofs.Verbs.{Executed, Listed, Located, Objects, Placed, Sources, Verb, compile, execute, explain, leaf, leaf_of, link, name_of, place, program, rules, rules_of, wanted_of}
+use Rattle.command_line.proofs.Verbs.{Executed, Listed, Located, Objects, Placed, Sources, Verb, compile, execute, explain, leaf, leaf_of, link, name_of, place, program, rules, rules_of, wanted_of, convert}
 use Rattle.command_line.proofs.Levels.{level_passes_by, never, none_of_both}
 
 pub plm_is_simple : is_simple plm_app ≡ true
@@ -107,7 +107,7 @@ help_built = built_leaf help_shape
 abbrev plm_built : App
 plm_built = record {
   top = top_built;
-  subs = leaf_of compile ∷ leaf Sources (codes "run") ∷ leaf Sources (codes "interpret") ∷ leaf Objects (codes "link") ∷ leaf Located (codes "locate") ∷ leaf Placed (codes "hex") ∷ leaf Listed (codes "list") ∷ leaf Executed (codes "execute") ∷ leaf_of explain ∷ help_built ∷ [];
+  subs = leaf_of compile ∷ leaf Sources (codes "run") ∷ leaf Sources (codes "interpret") ∷ leaf Objects (codes "link") ∷ leaf Located (codes "locate") ∷ leaf Placed (codes "hex") ∷ leaf Listed (codes "list") ∷ leaf Executed (codes "execute") ∷ leaf_of explain ∷ leaf_of convert ∷ help_built ∷ [];
 }
 
 built_is : built plm_app ≡ plm_built
@@ -159,7 +159,10 @@ all_commands name other = (
               λ e rows missing. some_is_none _ missing,
               (
                 λ e rows missing. some_is_none _ missing,
-                (λ e rows missing. some_is_none _ missing, (λ e rows missing. help_named name e other, tt)),
+                (
+                  λ e rows missing. some_is_none _ missing,
+                  (λ e rows missing. some_is_none _ missing, (λ e rows missing. help_named name e other, tt)),
+                ),
               ),
             ),
           ),
@@ -207,6 +210,7 @@ command_met (place Hex) = refl
 command_met (place Listing) = refl
 command_met execute = refl
 command_met explain = refl
+command_met convert = refl
 
 command_walk : (verb : Verb) (rest : List Text)
     → walk top_built.rules (names_of plm_built) nothing_held (name_of verb ∷ rest) ≡ record (walk_from nothing_held) { stopped = Some (name_of verb, rest) }
@@ -225,6 +229,7 @@ command_turn (place Hex) = refl
 command_turn (place Listing) = refl
 command_turn execute = refl
 command_turn explain = refl
+command_turn convert = refl
 
 command_fault : (verb : Verb) (rest : List Text) → walk_fault top_built (names_of plm_built) (walk_from nothing_held) (name_of verb ∷ rest) ≡ []
 unfolding walk_fault
@@ -243,6 +248,7 @@ entered_is (place Hex) rest = refl
 entered_is (place Listing) rest = refl
 entered_is execute rest = refl
 entered_is explain rest = refl
+entered_is convert rest = refl
 
 entered_fine : (verb : Verb) (rest : List Text) → level_fault (leaf_of verb) [] nothing_held rest false [] ≡ [] → entered_fault plm_built (Some (name_of verb, rest)) ≡ []
 entered_fine compile rest fine = fine
@@ -254,6 +260,7 @@ entered_fine (place Hex) rest fine = fine
 entered_fine (place Listing) rest fine = fine
 entered_fine execute rest fine = fine
 entered_fine explain rest fine = fine
+entered_fine convert rest fine = fine
 
 top_level : (s : Shape) (names : Names) (words : List Text) (inside : Option (Text × List Text) → Bool) (below : Option (Text × List Text) → Kinds) (end : Walk)
     → walk_fault s names (walk_from nothing_held) words ≡ [] → walk s.rules names nothing_held words ≡ end → below end.stopped ≡ [] → settle_fault s.rules s.args_override_self end.held ≡ []
@@ -279,6 +286,7 @@ wanted_named (place Hex) rest = refl
 wanted_named (place Listing) rest = refl
 wanted_named execute rest = refl
 wanted_named explain rest = refl
+wanted_named convert rest = refl
 
 pub line_wanted : (name : Text) (verb : Verb) (rest : List Text) (wanted : Wanted) → wanted_of verb (rows_after (rules_of verb) [] rest) ≡ wanted
     → wanted_by (name ∷ name_of verb ∷ rest) ≡ Some wanted
@@ -316,6 +324,7 @@ verb_has_file verb rest wanted fine found = subst (λ (w : Wanted). 0 < length (
     has_file (place Listing) fine = some_file Listed (codes "list") rest fine
     has_file execute fine = some_file Executed (codes "execute") rest fine
     has_file explain fine = omega arith
+    has_file convert fine = omega arith
 
 all_have_files : (name : Text) → bytes_eq name (codes "help") ≡ false → AllByRecursion (λ s. answers_to name (label_of s) ≡ true → HasFile s) plm_built.subs
 all_have_files name other = (
@@ -334,7 +343,10 @@ all_have_files name other = (
               λ e. verb_has_file (place Listing),
               (
                 λ e. verb_has_file execute,
-                (λ e. verb_has_file explain, (λ e rest wanted fine found. absurd (help_named name e other), tt)),
+                (
+                  λ e. verb_has_file explain,
+                  (λ e. verb_has_file convert, (λ e rest wanted fine found. absurd (help_named name e other), tt)),
+                ),
               ),
             ),
           ),

@@ -1,5 +1,5 @@
 -- The commands, by the form of their arguments.
-use Rattle.command_line.proofs.Prelude.{List, [], codes, Row, Rule, Shape, Text, built_leaf, new_shape, Action, PlaceAction, Locate, Hex, Listing, Wanted, compile_app, compile_of, execute_app, execute_of, explain_app, explain_of, link_app, link_of, list_app, locate_app, located_of, name_of_action, name_of_place_action, hex_app, place_of, program_app, program_of, wants_compile, wants_execute, wants_explain, wants_link, wants_place, wants_program}
+use Rattle.command_line.proofs.Prelude.{List, [], codes, Row, Rule, Shape, Text, built_leaf, new_shape, Action, PlaceAction, Locate, Hex, Listing, Wanted, compile_app, compile_of, execute_app, execute_of, explain_app, explain_of, link_app, link_of, list_app, locate_app, located_of, name_of_action, name_of_place_action, hex_app, place_of, program_app, program_of, wants_compile, wants_execute, wants_explain, wants_link, wants_place, wants_program, convert_app, convert_of, wants_convert}
 
 -- what the files of a command are
 pub data Form : Type 0 where
@@ -37,6 +37,10 @@ compile_rules = (built_leaf (compile_app []).top).rules
 abbrev pub explain_rules : List Rule
 explain_rules = (built_leaf (explain_app []).top).rules
 
+-- those of the command that converts
+abbrev pub convert_rules : List Rule
+convert_rules = (built_leaf (convert_app []).top).rules
+
 pub data Verb : Type 0 where
   compile : Verb
   program : Action → Verb
@@ -44,6 +48,7 @@ pub data Verb : Type 0 where
   place : PlaceAction → Verb
   execute : Verb
   explain : Verb
+  convert : Verb
 
 abbrev pub name_of : Verb → Text
 name_of compile = codes "compile"
@@ -52,6 +57,7 @@ name_of link = codes "link"
 name_of (place action) = name_of_place_action action
 name_of execute = codes "execute"
 name_of explain = codes "explain"
+name_of convert = codes "convert"
 
 abbrev pub rules_of : Verb → List Rule
 rules_of compile = compile_rules
@@ -60,6 +66,7 @@ rules_of link = rules Objects
 rules_of (place action) = rules (form_of action)
 rules_of execute = rules Executed
 rules_of explain = explain_rules
+rules_of convert = convert_rules
 
 -- the command that was built
 abbrev pub leaf_of : Verb → Shape
@@ -75,3 +82,4 @@ wanted_of (place Hex) rows = wants_place (place_of Hex rows)
 wanted_of (place Listing) rows = wants_place (place_of Listing rows)
 wanted_of execute rows = wants_execute (execute_of rows)
 wanted_of explain rows = wants_explain (explain_of rows)
+wanted_of convert rows = wants_convert (convert_of rows)

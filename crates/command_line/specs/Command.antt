@@ -18,12 +18,13 @@ use Rattle.command_line.specs.declared.orders.Action.TheVariants.{Run, Interpret
 use Rattle.command_line.specs.declared.orders.PlaceAction.{PlaceAction}
 use Rattle.command_line.specs.declared.orders.PlaceAction.TheVariants.{Locate, Hex, Listing}
 use Rattle.command_line.specs.declared.orders.CompileOrder.{CompileOrder}
+use Rattle.command_line.specs.declared.orders.ConvertOrder.{ConvertOrder}
 use Rattle.command_line.specs.declared.orders.ExecuteOrder.{ExecuteOrder}
 use Rattle.command_line.specs.declared.orders.ExplainOrder.{ExplainOrder}
 use Rattle.command_line.specs.declared.orders.LinkOrder.{LinkOrder}
 use Rattle.command_line.specs.declared.orders.NeedOrder.{NeedOrder}
 use Rattle.command_line.specs.declared.orders.Order.{Order}
-use Rattle.command_line.specs.declared.orders.Order.TheVariants.{Compile, Execute, Explain, Link, Need, Place, Program}
+use Rattle.command_line.specs.declared.orders.Order.TheVariants.{Compile, Convert, Execute, Explain, Link, Need, Place, Program}
 use Rattle.command_line.specs.declared.orders.PlaceOrder.{PlaceOrder}
 use Rattle.command_line.specs.declared.orders.PlanTexts.{PlanTexts}
 use Rattle.command_line.specs.declared.orders.ProgramOrder.{ProgramOrder}
@@ -120,6 +121,10 @@ execute_app name =
 abbrev pub explain_app : Text → App
 explain_app name = with_rule (new_app name) (file_rule (codes "NUMBER"))
 
+-- the command `name FILE`
+abbrev pub convert_app : Text → App
+convert_app name = with_rule (new_app name) (file_rule (codes "FILE"))
+
 -- the program, which has to have a command, and which knows its version
 abbrev pub bare_app : App
 bare_app = record {
@@ -137,13 +142,14 @@ programs_app =
 -- the program `plm` with its commands
 abbrev pub plm_app : App
 plm_app =
-    with_subcommand (with_subcommand (with_subcommand (with_subcommand (with_subcommand (with_subcommand programs_app
+    with_subcommand (with_subcommand (with_subcommand (with_subcommand (with_subcommand (with_subcommand (with_subcommand programs_app
     (link_app (codes "link")).top)
     (locate_app (codes "locate")).top)
     (hex_app (codes "hex")).top)
     (list_app (codes "list")).top)
     (execute_app (codes "execute")).top)
-    (explain_app (codes "explain")).top
+    (explain_app (codes "explain")).top)
+    (convert_app (codes "convert")).top
 
 -- the texts of the options of a plan
 pub record PlanWanted : Type 0 where
@@ -200,6 +206,10 @@ pub record NeedWanted : Type 0 where
 pub record ExplainWanted : Type 0 where
   pub number : Text
 
+-- the source that is converted
+pub record ConvertWanted : Type 0 where
+  pub file : Text
+
 -- what the words want, as texts
 pub data Wanted : Type 0 where
   wants_compile : CompileWanted → Wanted
@@ -209,6 +219,7 @@ pub data Wanted : Type 0 where
   wants_need : NeedWanted → Wanted
   wants_execute : ExecuteWanted → Wanted
   wants_explain : ExplainWanted → Wanted
+  wants_convert : ConvertWanted → Wanted
 
 -- the files that are read, or the number that is explained
 abbrev pub named_in : Wanted → List Text
@@ -219,6 +230,7 @@ named_in (wants_place wanted) = wanted.files
 named_in (wants_need wanted) = wanted.files
 named_in (wants_execute wanted) = wanted.objects
 named_in (wants_explain wanted) = wanted.number ∷ []
+named_in (wants_convert wanted) = wanted.file ∷ []
 
 -- the text of an option that has a default
 abbrev pub text_of : Text → List Row → Text
@@ -290,6 +302,9 @@ execute_of rows = record {
 abbrev pub explain_of : List Row → ExplainWanted
 explain_of rows = record { number = text_of (codes "NUMBER") rows }
 
+abbrev pub convert_of : List Row → ConvertWanted
+convert_of rows = record { file = text_of (codes "FILE") rows }
+
 -- what `locate` wants: the places of an object or, with its flag, the need of sources
 abbrev pub located_of : List Row → Wanted
 located_of rows =
@@ -306,7 +321,8 @@ wanted_of_match (name, rows) =
     else (if bytes_eq name (codes "hex") then Some (wants_place (place_of Hex rows))
     else (if bytes_eq name (codes "list") then Some (wants_place (place_of Listing rows))
     else (if bytes_eq name (codes "execute") then Some (wants_execute (execute_of rows))
-    else (if bytes_eq name (codes "explain") then Some (wants_explain (explain_of rows)) else None))))))))
+    else (if bytes_eq name (codes "explain") then Some (wants_explain (explain_of rows))
+    else (if bytes_eq name (codes "convert") then Some (wants_convert (convert_of rows)) else None)))))))))
 
 -- what the words, with the program's name in front, want
 abbrev pub wanted_by : List Text → Option Wanted
@@ -365,6 +381,9 @@ execute_in order = record {
 abbrev pub explain_in : ExplainOrder → ExplainWanted
 explain_in order = record { number = order.number.now }
 
+abbrev pub convert_in : ConvertOrder → ConvertWanted
+convert_in order = record { file = order.file.now }
+
 abbrev pub wanted_in : Order → Wanted
 wanted_in (Compile order) = wants_compile (compile_in order)
 wanted_in (Program order) = wants_program (program_in order)
@@ -373,6 +392,7 @@ wanted_in (Place order) = wants_place (place_in order)
 wanted_in (Need order) = wants_need (need_in order)
 wanted_in (Execute order) = wants_execute (execute_in order)
 wanted_in (Explain order) = wants_explain (explain_in order)
+wanted_in (Convert order) = wants_convert (convert_in order)
 
 -- the words give this order
 abbrev pub Orders : List Text → Order → Type 0
@@ -579,6 +599,12 @@ abbrev pub OrdersExplain : List Text → Result Order (Failure LineFault) → Ty
 OrdersExplain words answer = (name number : Text)
     → Gives words name (codes "explain") [] (number ∷ [])
     → IsOrderOf (wants_explain (record { number = number })) answer
+
+-- `convert` with a bare word wants that file converted
+abbrev pub OrdersConvert : List Text → Result Order (Failure LineFault) → Type 0
+OrdersConvert words answer = (name file : Text)
+    → Gives words name (codes "convert") [] (file ∷ [])
+    → IsOrderOf (wants_convert (record { file = file })) answer
 
 -- a fault has one of the kinds that `clap` finds in the words, where Help stands for that of help alone, and Version for
 -- that of the version

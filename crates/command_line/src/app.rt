@@ -3,11 +3,11 @@
 ghost use Rattle.std.specs.Prelude.{◌≡◌, codes, false};
 ghost use Rattle.clap.specs.Words.{App, Rule, new_app, rule_of, with_rule, with_subcommand};
 ghost use Rattle.command_line.specs.internal.Building.{Builds, IsBuilt};
-ghost use Rattle.command_line.specs.Command.{bare_app, compile_app, default_rule, execute_app, file_rule, files_rule, flag_rule, hex_app, link_app, locate_app, option_rule, out_rule, plm_app, program_app, programs_app, with_limit_and_input, with_plan, with_run, with_memory, many_rule, explain_app, list_app};
+ghost use Rattle.command_line.specs.Command.{bare_app, compile_app, default_rule, execute_app, file_rule, files_rule, flag_rule, hex_app, link_app, locate_app, option_rule, out_rule, plm_app, program_app, programs_app, with_limit_and_input, with_plan, with_run, with_memory, many_rule, explain_app, list_app, convert_app};
 
 use crate::help::{
-    ABOUT, COMPILE, EXECUTE, EXPLAIN, GUIDE, HEX, INTERPRET, INTERPRET_LIMIT, LINK, LIST, LOCATE,
-    RUN, RUN_LIMIT, Teaching, VERSION,
+    ABOUT, COMPILE, CONVERT, EXECUTE, EXPLAIN, GUIDE, HEX, INTERPRET, INTERPRET_LIMIT, LINK, LIST,
+    LOCATE, RUN, RUN_LIMIT, Teaching, VERSION,
 };
 use clap::{Arg, ArgAction, Command};
 use std::alloc::{AllocError, Global};
@@ -355,6 +355,16 @@ fn explain<'a>(alloc: Global) -> Built<'a>
     )
 }
 
+// The command that converts an old source.
+fn convert<'a>(alloc: Global) -> Built<'a>
+    ensures { Builds (convert_app (codes "convert")) result }
+{
+    add(
+        named(alloc, "convert", CONVERT),
+        file(alloc, "FILE", "The source to convert"),
+    )
+}
+
 // The program `plm`, which has to have a command.
 fn bare_command<'a>(alloc: Global) -> Built<'a>
     ensures { Builds bare_app result }
@@ -387,5 +397,6 @@ pub(crate) fn plm_command<'a>(alloc: Global) -> Result<Command<'a>, AllocError>
     let with_hex = add_leaf(with_locate, hex(alloc));
     let with_list = add_leaf(with_hex, list(alloc));
     let with_execute = add_leaf(with_list, execute(alloc));
-    add_leaf(with_execute, explain(alloc))
+    let with_explain = add_leaf(with_execute, explain(alloc));
+    add_leaf(with_explain, convert(alloc))
 }

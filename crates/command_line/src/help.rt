@@ -7,15 +7,7 @@ macro_rules! text_of {
     ([$($done:literal)*]) => { concat!($($done),*) };
     // of the text of a source
     ([$($done:literal)*] TEXTS $($rest:tt)*) => {
-        text_of!([$($done)* "  C1      a character that is not valid here
-  C2      a string or a comment that is not closed
-  C3      a number over 65535, or a digit that its base does not have
-  C4      a name of more than 31 characters
-  C5      LITERALLY definitions within one another more than 16 deep
-  C5      more than 2097152 words with those of LITERALLY definitions
-  C6      a quote in the text of a LITERALLY definition
-  C6      a name that LITERALLY defines already
-  C7      a word that cannot stand here
+        text_of!([$($done)*] WORDS "  C7      a word that cannot stand here
   C8      nested more than 64 levels deep
   C9      a name after END that is not the name of what ends
   C11     a name that is not declared here
@@ -30,6 +22,18 @@ macro_rules! text_of {
   C18     constants of over 65535 bytes
   C19     a label that cannot stand here
   C20     a GOTO to a label that is not known here
+" $($rest)*)
+    };
+    // of the words of a source
+    ([$($done:literal)*] WORDS $($rest:tt)*) => {
+        text_of!([$($done)* "  C1      a character that is not valid here
+  C2      a string or a comment that is not closed
+  C3      a number over 65535, or a digit that its base does not have
+  C4      a name of more than 31 characters
+  C5      LITERALLY definitions within one another more than 16 deep
+  C5      more than 2097152 words with those of LITERALLY definitions
+  C6      a quote in the text of a LITERALLY definition
+  C6      a name that LITERALLY defines already
 "] $($rest)*)
     };
     // of the code of a module
@@ -187,6 +191,11 @@ pub(crate) const LIST: Teaching = Teaching {
 pub(crate) const EXECUTE: Teaching = Teaching {
     about: "Merges object files, places the merge in memory, and runs it on a simulated 8080",
     printed: PRINTED_BY_EXECUTE,
+};
+
+pub(crate) const CONVERT: Teaching = Teaching {
+    about: "Prints an old source in this language",
+    printed: PRINTED_BY_CONVERT,
 };
 
 pub(crate) const EXPLAIN: Teaching = Teaching {
@@ -486,3 +495,24 @@ Example: a run printed C7 prog.plm 4
 Numbers that can occur here, where X is the text that is printed with one:
 " FILES VALUES MEMORY "\n\
 Read more in the folder docs: faults.md (all numbers), commands.md");
+
+const PRINTED_BY_CONVERT: &str = text_of!([] "\
+Prints the source, which was written for a compiler of the time, in this language. Lines that begin
+with $ become empty, form feeds are taken away, words such as GO TO and LABEL are changed; all else
+stays as it is. A source that is a module of this language already is printed as it is.
+
+What has no cure is left, and told on standard error, a line each:
+  FILE LINE: what, and what to write
+
+Exit status:
+  0  it was printed with nothing told, or help was asked for
+  1  something was told, or the source was refused, or standard output can't be written
+  2  the command line is wrong
+
+Example: convert a source of the time, and run what comes out
+  plm convert old.src > new.plm
+  plm run new.plm
+
+Numbers that can occur here, where X is the name that is printed with one:
+" WORDS LENGTHS FILES MEMORY "\n\
+Read more in the folder docs: old-sources.md (from a listing to a run), convert.md (the rules)");

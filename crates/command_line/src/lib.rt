@@ -12,8 +12,8 @@ mod values;
 
 pub use mem80::Plan;
 pub use orders::{
-    Action, CompileOrder, ExecuteOrder, ExplainOrder, LinkOrder, NeedOrder, Order, PlaceAction,
-    PlaceOrder, PlanTexts, ProgramOrder,
+    Action, CompileOrder, ConvertOrder, ExecuteOrder, ExplainOrder, LinkOrder, NeedOrder, Order,
+    PlaceAction, PlaceOrder, PlanTexts, ProgramOrder,
 };
 pub use port_files::PortFile;
 pub use reading::{LineFault, command};

@@ -122,6 +122,13 @@ pub struct ExplainOrder<'a> {
     pub number: &'a str,
 }
 
+/// An order to convert an old source.
+#[derive(Clone, Copy)]
+pub struct ConvertOrder<'a> {
+    /// The name of its file.
+    pub file: &'a str,
+}
+
 /// What the command line asks for.
 #[derive(Drop)]
 pub enum Order<'a> {
@@ -139,4 +146,6 @@ pub enum Order<'a> {
     Execute(ExecuteOrder<'a>),
     /// Explain a number.
     Explain(ExplainOrder<'a>),
+    /// Convert an old source.
+    Convert(ConvertOrder<'a>),
 }

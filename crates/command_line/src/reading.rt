@@ -8,6 +8,7 @@ ghost use Rattle.failure.specs.Failure.{IfFault};
 ghost use Rattle.command_line.specs.Command.{IsFaultOf, Orders, OrdersCompile, OrdersFiles, OrdersJump, OrdersLink, OrdersMap};
 ghost use Rattle.command_line.specs.Command.{OrdersExecute, OrdersExecuteText, execute_of, wants_execute};
 ghost use Rattle.command_line.specs.Command.{OrdersExplain, explain_of, wants_explain};
+ghost use Rattle.command_line.specs.Command.{OrdersConvert, convert_of, wants_convert};
 ghost use Rattle.command_line.specs.Command.{OrdersNeed, OrdersPlace, OrdersPlaceText, OrdersText};
 ghost use Rattle.command_line.specs.Command.{is_set, link_of, located_of, need_of, place_of, plan_in, plan_of, files_of, named_in};
 ghost use Rattle.command_line.specs.Command.{plm_app, program_of, text_of, texts_of};
@@ -17,8 +18,8 @@ ghost use Rattle.command_line.specs.internal.Errors.{IsFailureFor};
 
 use crate::app::plm_command;
 use crate::orders::{
-    Action, CompileOrder, ExecuteOrder, ExplainOrder, LinkOrder, NeedOrder, Order, PlaceAction,
-    PlaceOrder, PlanTexts, ProgramOrder,
+    Action, CompileOrder, ConvertOrder, ExecuteOrder, ExplainOrder, LinkOrder, NeedOrder, Order,
+    PlaceAction, PlaceOrder, PlanTexts, ProgramOrder,
 };
 use clap::ArgMatches;
 use clap::error::ErrorKind;
@@ -214,6 +215,16 @@ fn explain<'a>(matches: &ArgMatches<'a>) -> Result<Option<Order<'a>>, AllocError
     })))
 }
 
+// The order to convert an old source, from the matches of its arguments. It is there in each answer, as that of `program`.
+fn convert<'a>(matches: &ArgMatches<'a>) -> Result<Option<Order<'a>>, AllocError>
+    ensures { IfOk result (λ order. option_map wanted_in order
+        ≡ Some (wants_convert (convert_of (rows_of (found_of matches.now))))) }
+{
+    Ok(Some(Order::Convert(ConvertOrder {
+        file: text(matches, "FILE"),
+    })))
+}
+
 // The order for the command that tells where an object lies or, with its flag, the need of sources.
 fn locate<'a>(alloc: Global, matches: &ArgMatches<'a>) -> Result<Option<Order<'a>>, AllocError>
     ensures { IfOk result (λ order. option_map wanted_in order
@@ -245,6 +256,7 @@ fn order_named<'a>(
         "list" => place(alloc, PlaceAction::Listing, matches),
         "execute" => execute(alloc, matches),
         "explain" => explain(matches),
+        "convert" => convert(matches),
         _ => Ok(None),
     }
 }
@@ -286,6 +298,7 @@ pub fn command<'a>(alloc: Global, words: &'a [&'a str]) -> Result<Order<'a>, Fai
     ensures execute { OrdersExecute (texts words.entry.now) result }
     ensures execute_option { OrdersExecuteText (texts words.entry.now) result }
     ensures explain { OrdersExplain (texts words.entry.now) result }
+    ensures convert { OrdersConvert (texts words.entry.now) result }
     ensures order { IfOk result (λ order. Orders (texts words.entry.now) order) }
     ensures some { IfOk result (λ order. 0 < length (named_in (wanted_in order))) }
     ensures ok { OnOk result (fault_of plm_app (texts words.entry.now) ≡ []) }

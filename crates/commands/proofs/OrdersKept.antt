@@ -1,5 +1,7 @@
 -- Files after a command line was carried out.
-use Rattle.commands.proofs.Prelude.{◌≡◌, ◌≤◌, ◌⊎◌, ℕ, List, [], ◌∷◌, Ok, Option, None, Some, inl, inr, refl, subst, arith, Directory, KeepsFiles, status_of, TellsRefusal, Ending, Done, Refused, WrongLine, Limit, Stopped, Outside, Wanted, wants_compile, wants_execute, wants_explain, wants_link, wants_need, wants_place, wants_program, only_file, kept_others, ChangesAsWanted, ChangesByWords, WritesAsWanted, WritesByWords, PrintsAsWanted, PrintsByWords, StopsAsWanted, StopsByWords, names_by_words, names_of}
+use Rattle.commands.proofs.Prelude.{◌≡◌, ◌≤◌, ◌⊎◌, ℕ, List, [], ◌∷◌, Ok, Option, None, Some, inl, inr, refl, subst, arith, Directory, KeepsFiles, status_of, TellsRefusal, Ending, Done, Refused, WrongLine, Limit, Stopped, Outside, Wanted, wants_compile, wants_convert, wants_execute, wants_explain, wants_link, wants_need, wants_place, wants_program, only_file, kept_others, ChangesAsWanted, ChangesByWords, WritesAsWanted, WritesByWords, PrintsAsWanted, PrintsByWords, StopsAsWanted, StopsByWords, names_by_words, names_of}
+use Rattle.commands.specs.Refusing.{RunsOut}
+use Rattle.commands.specs.Converting.{ConvertsAsWanted, ConvertsByWords, TellsAsWanted, TellsByWords}
 
 -- where no file changed, none changed but what was wanted
 pub kept_as_wanted : (wanted : Wanted) (old new : Option Directory) → KeepsFiles old new → ChangesAsWanted wanted old new
@@ -10,6 +12,7 @@ kept_as_wanted (wants_place place) old new kept = kept
 kept_as_wanted (wants_need need) old new kept = kept
 kept_as_wanted (wants_execute execute) old new kept = kept
 kept_as_wanted (wants_explain explain) old new kept = kept
+kept_as_wanted (wants_convert convert) old new kept = kept
 
 pub kept_by_words : (found : Option Wanted) (old new : Option Directory) → KeepsFiles old new → ChangesByWords found old new
 kept_by_words None old new kept = kept
@@ -31,6 +34,7 @@ stops_as_wanted (wants_place place) old new kept = kept
 stops_as_wanted (wants_need need) old new kept = kept
 stops_as_wanted (wants_execute execute) old new kept = kept
 stops_as_wanted (wants_explain explain) old new kept = kept
+stops_as_wanted (wants_convert convert) old new kept = kept
 
 pub kept_stops : (found : Option Wanted) (old new : Option Directory) → KeepsFiles old new → StopsByWords found old new
 kept_stops None old new kept = kept
@@ -47,6 +51,35 @@ prints_by_words found wanted files old new e prints = rw e prints
 pub told_by_words : (files : Option Directory) (found : Option Wanted) (wanted : Wanted) (before after : ℕ) (old new : Option (List ℕ)) → found ≡ Some wanted
     → TellsRefusal files (names_of wanted) before after old new → TellsRefusal files (names_by_words found) before after old new
 told_by_words files found wanted before after old new e told = rw e told
+
+-- what is told with status 1, and what converting prints
+pub tells_by_words : (found : Option Wanted) (wanted : Wanted) (files : Option Directory) (before after : ℕ) (old new : Option (List ℕ)) → found ≡ Some wanted
+    → TellsAsWanted wanted (TellsRefusal files (names_of wanted) before after old new) → TellsByWords found (TellsRefusal files (names_by_words found) before after old new)
+tells_by_words found wanted files before after old new e told = rw e told
+
+pub tells_any : (found : Option Wanted) (refusal : Type 0) → refusal → TellsByWords found refusal
+tells_any None refusal told = told
+tells_any (Some (wants_compile compile)) refusal told = told
+tells_any (Some (wants_program program)) refusal told = told
+tells_any (Some (wants_link link)) refusal told = told
+tells_any (Some (wants_place place)) refusal told = told
+tells_any (Some (wants_need need)) refusal told = told
+tells_any (Some (wants_execute execute)) refusal told = told
+tells_any (Some (wants_explain explain)) refusal told = told
+tells_any (Some (wants_convert convert)) refusal told = tt
+
+pub converts_by_words : (found : Option Wanted) (wanted : Wanted) (files : Option Directory) (status before after : ℕ) (old new out now : Option (List ℕ))
+    → found ≡ Some wanted → ConvertsAsWanted wanted files status before after old new out now → ConvertsByWords found files status before after old new out now
+converts_by_words found wanted files status before after old new out now e converts = rw e (inr converts)
+
+pub memory_converts : (found : Option Wanted) (files : Option Directory) (status before after : ℕ) (old new out now : Option (List ℕ)) → status ≡ 1 → RunsOut before after old new out now
+    → ConvertsByWords found files status before after old new out now
+memory_converts None files status before after old new out now one out_of = tt
+memory_converts (Some wanted) files status before after old new out now one out_of = inl (one, out_of)
+
+pub converts_with_status : (found : Option Wanted) (files : Option Directory) (status other before after : ℕ) (old new out now : Option (List ℕ)) → status ≡ other
+    → ConvertsByWords found files other before after old new out now → ConvertsByWords found files status before after old new out now
+converts_with_status found files status other before after old new out now same converts = rw same converts
 
 one_alone : (files : List (List ℕ)) (file : List ℕ) → only_file files ≡ Ok file → file ∷ [] ≡ files
 one_alone [] file e = cc

@@ -14,7 +14,7 @@ pub use Rattle.placing.specs.{Tables.{IsTableOf}, Views.{module_placement_view, 
 pub use Rattle.object_modules.specs.{Image.{placement_number}, Merge.{link_number}, Module.{ObjectModule}, Text.{text_of}}
 pub use Rattle.sources.specs.{Programs.{AreSourcesOf, IsProgramOf, program_modules, texts_of}, Reading.{IsSourceOf}, declared.read.ReadFault.{ReadFault}, declared.sources.TheConstants.{MOST_SOURCES}}
 pub use Rattle.tool.specs.{Construction.{Construction, IsConstruction}, Execution.{source_of, started}, Faults.{file_of, line_of, name_of, number_of}, Made.{IsCompiledTo}, Sources.{IsInOrder, IsRefusedAlone}, declared.fault.ToolFault.{ToolFault, TheVariants.{Code, Link, Locate, Program, TooManySources}}}
-pub use Rattle.command_line.specs.{Command.{CompileWanted, IsFaultOf, NeedWanted, PlaceWanted, ProgramWanted, Wanted, wants_compile, wants_execute, wants_explain, wants_link, wants_need, wants_place, wants_program}, Settings.{Read, Values, jump_read, only_file, plan_read, values_in, values_read, ◌>>=◌}, declared.orders.Action.{Action, TheVariants.{Interpret, Run as ToRun}}, declared.reading.LineFault.{LineFault, TheVariants.{Help, Version, Wrong}}, declared.values.InputByte.{InputByte}}
+pub use Rattle.command_line.specs.{Command.{CompileWanted, ConvertWanted, IsFaultOf, NeedWanted, PlaceWanted, ProgramWanted, Wanted, wants_compile, wants_convert, wants_execute, wants_explain, wants_link, wants_need, wants_place, wants_program}, Settings.{Read, Values, jump_read, only_file, plan_read, values_in, values_read, ◌>>=◌}, declared.orders.Action.{Action, TheVariants.{Interpret, Run as ToRun}}, declared.reading.LineFault.{LineFault, TheVariants.{Help, Version, Wrong}}, declared.values.InputByte.{InputByte}}
 pub use Rattle.host.proofs.{FilesRead.{stays, stays_on, stops_as}, LinesPrinted.{is_other, same_line, tells_file, tells_no_file, tells_other}}
 pub use Rattle.host.specs.{Endings.{status_of}, Files.{ChangesFiles, Directory, HasFile, KeepsFiles, with_file}, Reading.{HasFiles, StopsAt}, Refusals.{Tells, TellsOther, file_line, memory_line, output_line}, declared.endings.Ending.{Ending, TheVariants.{Done, Limit, Outside, Refused, Stopped, WrongLine}}}
 unfoldable pub use Rattle.host.specs.Refusals.{TellsRefusal, refusal_line}

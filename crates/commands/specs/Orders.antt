@@ -6,7 +6,7 @@ use Rattle.clap.specs.declared.error.ErrorKind.{ErrorKind}
 use Rattle.clap.specs.declared.error.ErrorKind.TheVariants.{DisplayHelp, DisplayVersion}
 use Rattle.host.specs.Files.{Directory, KeepsFiles}
 use Rattle.host.specs.Refusals.{Tells, TellsRefusal, refusal_line}
-use Rattle.command_line.specs.Command.{NeedWanted, PlaceWanted, Wanted, wants_compile, wants_execute, wants_explain}
+use Rattle.command_line.specs.Command.{NeedWanted, PlaceWanted, Wanted, wants_compile, wants_convert, wants_execute, wants_explain}
 use Rattle.command_line.specs.Command.{wants_link, wants_need, wants_place, wants_program}
 use Rattle.command_line.specs.Settings.{Read, ◌>>=◌, execute_read, jump_read, names_in, only_file, page_read}
 use Rattle.command_line.specs.Settings.{plan_read, values_read}
@@ -32,6 +32,7 @@ ChangesAsWanted (wants_place place) old new = KeepsFiles old new
 ChangesAsWanted (wants_need need) old new = KeepsFiles old new
 ChangesAsWanted (wants_execute execute) old new = KeepsFiles old new
 ChangesAsWanted (wants_explain explain) old new = KeepsFiles old new
+ChangesAsWanted (wants_convert convert) old new = KeepsFiles old new
 
 -- the objects that an order to link names are merged in its file, and the source of an order to compile is
 -- compiled to its object
@@ -43,6 +44,7 @@ WritesAsWanted (wants_place place) old new = Unit {0}
 WritesAsWanted (wants_need need) old new = Unit {0}
 WritesAsWanted (wants_execute execute) old new = Unit {0}
 WritesAsWanted (wants_explain explain) old new = Unit {0}
+WritesAsWanted (wants_convert convert) old new = Unit {0}
 
 -- where an order is not carried out, no file changes, but that of an order to compile or to link may have a
 -- beginning of its object
@@ -54,6 +56,7 @@ StopsAsWanted (wants_place place) old new = KeepsFiles old new
 StopsAsWanted (wants_need need) old new = KeepsFiles old new
 StopsAsWanted (wants_execute execute) old new = KeepsFiles old new
 StopsAsWanted (wants_explain explain) old new = KeepsFiles old new
+StopsAsWanted (wants_convert convert) old new = KeepsFiles old new
 
 -- what a command on an object file prints of the file of this name, placed by this plan, where a jump may be wanted
 abbrev pub PrintsPlaced :
@@ -91,7 +94,7 @@ pub record PrintsNeedWanted (need : NeedWanted) (files : Option Directory)
 
 -- what an order on an object file prints, one that tells a need, and one to explain a number; one to compile or to
 -- link prints nothing.
--- What one to run sources or objects or to interpret prints is said below
+-- What one to run sources or objects or to interpret prints is said below, and of one to convert in Converting
 abbrev pub PrintsAsWanted : Wanted → Option Directory → (old new : Option (List ℕ)) → Type 0
 PrintsAsWanted (wants_place place) files old new = PrintsWanted place files old new
 PrintsAsWanted (wants_need need) files old new = PrintsNeedWanted need files old new
@@ -100,6 +103,7 @@ PrintsAsWanted (wants_link link) files old new = Keeps old new
 PrintsAsWanted (wants_program program) files old new = Unit {0}
 PrintsAsWanted (wants_execute execute) files old new = Unit {0}
 PrintsAsWanted (wants_explain explain) files old new = PrintsPage explain old new
+PrintsAsWanted (wants_convert convert) files old new = Unit {0}
 
 -- what an order to run or to interpret sources, or to run objects, prints where it is not refused, and the status
 -- that it ends with; any other order ends with status 0 then
@@ -111,6 +115,7 @@ RunsAsWanted (wants_place place) files status old new = status ≡ 0
 RunsAsWanted (wants_need need) files status old new = status ≡ 0
 RunsAsWanted (wants_execute execute) files status old new = PrintsExecution execute files status old new
 RunsAsWanted (wants_explain explain) files status old new = status ≡ 0
+RunsAsWanted (wants_convert convert) files status old new = status ≡ 0
 
 -- Why an order on an object file is refused. Its plan is one, its jump has an address, and it has one file. What is told is the line of
 -- that file, where its failure was counted, or that of another fault, of which no cause is said. Nothing was
@@ -135,7 +140,7 @@ pub record RefusesNeed (need : NeedWanted) (files : Option Directory) (before af
       files need.files before after err_old err_new out_old out_new
 
 -- why an order is refused, what was told of it, and what was printed by then; of an order to link it is only
--- said that nothing was printed
+-- said that nothing was printed, and of one to convert Converting says all
 abbrev pub RefusesAsWanted :
     Wanted → Option Directory → (before after : ℕ)
     → (err_old err_new out_old out_new : Option (List ℕ)) → Type 0
@@ -152,6 +157,7 @@ RefusesAsWanted (wants_execute execute) files before after err_old err_new out_o
     RefusesExecution execute files before after err_old err_new out_old out_new
 RefusesAsWanted (wants_explain explain) files before after err_old err_new out_old out_new =
     (after ≡ before) × RefusesPage explain err_old err_new out_old out_new
+RefusesAsWanted (wants_convert convert) files before after err_old err_new out_old out_new = Unit {0}
 
 -- the files that an order reads, in their order, and then the one that it writes
 abbrev pub names_of : Wanted → List (List ℕ)
@@ -162,6 +168,7 @@ names_of (wants_place place) = place.files
 names_of (wants_need need) = need.files
 names_of (wants_execute execute) = execute.objects ++ names_in execute.input_files
 names_of (wants_explain explain) = []
+names_of (wants_convert convert) = convert.file ∷ []
 
 -- the same of what words want; those that give no order change no file
 abbrev pub ChangesByWords : Option Wanted → Option Directory → Option Directory → Type 0
@@ -218,6 +225,7 @@ RefusesText (wants_compile compile) text = ⊥
 RefusesText (wants_link link) text = ⊥
 RefusesText (wants_execute execute) text = execute_read execute ≡ Err text
 RefusesText (wants_explain explain) text = page_read explain ≡ Err text
+RefusesText (wants_convert convert) text = ⊥
 
 -- the line of a text that is refused was printed, or a beginning of it, which may be nothing
 pub record TellsText (wanted : Wanted) (old new : Option (List ℕ)) : Type 0 where

@@ -10,8 +10,10 @@ ghost use Rattle.command_line.specs.Command.{plm_app, place_in, program_in, want
 ghost use Rattle.commands.specs.Refusing.{RefusesProgram};
 ghost use Rattle.commands.specs.Running.{PrintsProgram};
 ghost use Rattle.commands.specs.Orders.{AsksHelpAtMost, ChangesAsWanted, ChangesByWords, PrintsAsWanted, PrintsByWords, PrintsWanted, RefusesAsWanted, RefusesByWords, RefusesNoText, RefusesPlaced, RunsAsWanted, RunsByWords, StopsAsWanted, StopsByWords, TellsText, TellsTextByWords, WritesAsWanted, WritesByWords, names_by_words, names_of};
+ghost use Rattle.commands.specs.Converting.{ConvertsAsWanted, ConvertsByWords, TellsAsWanted, TellsByWords};
 ghost use Rattle.commands.specs.internal.LineFaults.{IsWrong};
 
+use crate::converting::convert_by_tables;
 use crate::executing::execute_objects;
 use crate::explaining::explain_number;
 use crate::needing::tell_need;
@@ -61,9 +63,12 @@ pub fn run_command<F: Files, O: Write, E: Write>(
     ensures not_wrong { AsksHelpAtMost (fault_of plm_app (texts words.now)) →
         (fault_of plm_app (texts words.now) ≡ [] → RefusesNoText (wanted_by (texts words.now))) →
         result ≡ 2 → ⊥ }
-    ensures told { result ≡ 1 → TellsRefusal (F.files files.old)
+    ensures told { result ≡ 1 → TellsByWords (wanted_by (texts words.now)) (TellsRefusal (F.files files.old)
         (names_by_words (wanted_by (texts words.now)))
-        (F.failures files.old) (F.failures files.new) (E.contents err.old) (E.contents err.new) }
+        (F.failures files.old) (F.failures files.new) (E.contents err.old) (E.contents err.new)) }
+    ensures converted { fault_of plm_app (texts words.now) ≡ [] → ConvertsByWords
+        (wanted_by (texts words.now)) (F.files files.old) result (F.failures files.old) (F.failures files.new)
+        (E.contents err.old) (E.contents err.new) (O.contents out.old) (O.contents out.new) }
     ensures refused { fault_of plm_app (texts words.now) ≡ [] → result ≡ 1 → RefusesByWords
         (wanted_by (texts words.now)) (F.files files.old) (F.failures files.old) (F.failures files.new)
         (E.contents err.old) (E.contents err.new) (O.contents out.old) (O.contents out.new) }
@@ -79,7 +84,7 @@ pub fn run_command<F: Files, O: Write, E: Write>(
 }
 
 // Carries out the words of a command line.
-#[tactic(auto, using(crate::proofs::OrdersKept::by_words, crate::proofs::OrdersKept::written_by_words, crate::proofs::OrdersKept::prints_by_words, crate::proofs::OrdersKept::stops_by_words, crate::proofs::OrdersKept::told_by_words, crate::proofs::OrdersKept::refused_mild, crate::proofs::TextsTold::text_by_words))]
+#[tactic(auto, using(crate::proofs::OrdersKept::by_words, crate::proofs::OrdersKept::written_by_words, crate::proofs::OrdersKept::prints_by_words, crate::proofs::OrdersKept::stops_by_words, crate::proofs::OrdersKept::tells_by_words, crate::proofs::OrdersKept::converts_by_words, crate::proofs::OrdersKept::refused_mild, crate::proofs::TextsTold::text_by_words))]
 fn end_words<F: Files, O: Write, E: Write>(
     alloc: Global,
     words: &[&str],
@@ -104,9 +109,13 @@ fn end_words<F: Files, O: Write, E: Write>(
     ensures not_wrong { AsksHelpAtMost (fault_of plm_app (texts words.now)) →
         (fault_of plm_app (texts words.now) ≡ [] → RefusesNoText (wanted_by (texts words.now))) →
         result ≡ Ending.WrongLine → ⊥ }
-    ensures told { result ≡ Ending.Refused → TellsRefusal (F.files files.old)
-        (names_by_words (wanted_by (texts words.now)))
-        (F.failures files.old) (F.failures files.new) (E.contents err.old) (E.contents err.new) }
+    ensures told { result ≡ Ending.Refused → TellsByWords (wanted_by (texts words.now))
+        (TellsRefusal (F.files files.old) (names_by_words (wanted_by (texts words.now)))
+        (F.failures files.old) (F.failures files.new) (E.contents err.old) (E.contents err.new)) }
+    ensures converted { fault_of plm_app (texts words.now) ≡ [] → ConvertsByWords
+        (wanted_by (texts words.now)) (F.files files.old) (status_of result)
+        (F.failures files.old) (F.failures files.new)
+        (E.contents err.old) (E.contents err.new) (O.contents out.old) (O.contents out.new) }
     ensures refused { fault_of plm_app (texts words.now) ≡ [] → result ≡ Ending.Refused → RefusesByWords
         (wanted_by (texts words.now)) (F.files files.old) (F.failures files.old) (F.failures files.new)
         (E.contents err.old) (E.contents err.new) (O.contents out.old) (O.contents out.new) }
@@ -166,9 +175,12 @@ fn carry_out<F: Files, O: Write, E: Write>(
         StopsAsWanted (wanted_in order.now) (F.files files.old) (F.files files.new) }
     ensures refused_text { result ≡ Ending.WrongLine → TellsText (wanted_in order.now)
         (E.contents err.old) (E.contents err.new) }
-    ensures told { result ≡ Ending.Refused → TellsRefusal (F.files files.old)
-        (names_of (wanted_in order.now))
-        (F.failures files.old) (F.failures files.new) (E.contents err.old) (E.contents err.new) }
+    ensures told { result ≡ Ending.Refused → TellsAsWanted (wanted_in order.now)
+        (TellsRefusal (F.files files.old) (names_of (wanted_in order.now))
+        (F.failures files.old) (F.failures files.new) (E.contents err.old) (E.contents err.new)) }
+    ensures converted { ConvertsAsWanted (wanted_in order.now) (F.files files.old)
+        (status_of result) (F.failures files.old) (F.failures files.new)
+        (E.contents err.old) (E.contents err.new) (O.contents out.old) (O.contents out.new) }
     ensures refused { result ≡ Ending.Refused → RefusesAsWanted (wanted_in order.now) (F.files files.old)
         (F.failures files.old) (F.failures files.new)
         (E.contents err.old) (E.contents err.new) (O.contents out.old) (O.contents out.new) }
@@ -185,6 +197,7 @@ fn carry_out<F: Files, O: Write, E: Write>(
         Order::Need(need) => tell_need(alloc, need, files, out, err),
         Order::Execute(execute) => execute_objects(alloc, execute, files, out, err),
         Order::Explain(explain) => explain_number(alloc, explain, out, err),
+        Order::Convert(convert) => { convert_by_tables(alloc, convert, files, out, err) }
     }
 }
 

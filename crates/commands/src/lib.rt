@@ -2,6 +2,7 @@
 #![tactic(auto)]
 
 mod console;
+mod converting;
 mod executing;
 mod explaining;
 mod needing;

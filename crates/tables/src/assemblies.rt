@@ -6,7 +6,7 @@ use crate::runs::machine_with;
 use asm8080::{Code, CodeBytes, Fault, Label, WordForm};
 use failure::Failure;
 use isa8080::{Instr, Pair};
-use object_modules::{Segment, Target};
+use objmod::{Segment, Target};
 use std::alloc::Global;
 
 // Adds so many instructions of a byte, and a jump to the end, which is bound or not.

@@ -3,9 +3,8 @@
 use crate::page::Page;
 use crate::texts::Bytes;
 use failure::Failure;
-use link::{StreamFault, link_records};
-use link_modules::LinkFault;
-use object_modules::ObjectModule;
+use link::{LinkFault, StreamFault, link_records};
+use objmod::ObjectModule;
 use std::alloc::Global;
 
 // A main module that calls S, which the other one has.
@@ -161,13 +160,13 @@ fn print_fault(page: &mut Page, fault: LinkFault) {
 // Prints the merge of modules.
 fn print_merged(page: &mut Page, module: &ObjectModule) {
     let mut bytes = Vec::new(page.alloc());
-    page.note(object_writing::write(module, &mut bytes).is_ok());
+    page.note(objmod::write(module, &mut bytes).is_ok());
     print_bytes(page, bytes.as_slice());
 }
 
 // Prints the merge of modules, or why there is none.
 fn print_of_modules(page: &mut Page, modules: &[ObjectModule]) {
-    match link_modules::link(page.alloc(), modules) {
+    match link::link(page.alloc(), modules) {
         Ok(merged) => print_merged(page, merged.module()),
         Err(Failure::Fault(fault)) => print_fault(page, fault),
         Err(Failure::Memory) => page.note(false),
@@ -212,7 +211,7 @@ fn print_written(page: &mut Page, records: &[&str]) {
     let file = file_of(page.alloc(), records);
     let mut bytes = Vec::new(page.alloc());
     match objmod::read(page.alloc(), file.as_slice()) {
-        Ok(module) => page.note(object_writing::write(&module, &mut bytes).is_ok()),
+        Ok(module) => page.note(objmod::write(&module, &mut bytes).is_ok()),
         Err(_) => page.note(false),
     }
     page.text(if file.has(bytes.as_slice()) {

@@ -6,13 +6,13 @@ use command_line::ValueFault;
 use commands::run_command;
 use failure::Failure;
 use host::FileFault;
-use link_laws::LinkFault;
+use link::LinkFault;
 use locate::LocateFault;
+use objmod::Name;
 use sources::ReadFault;
 use std::alloc::Global;
 use std::fmt;
 use std::fmt::Write;
-use symbols::Name;
 use tool::ToolFault;
 use typing::Cause;
 
@@ -32,16 +32,16 @@ const CAUSES: [Cause; 10] = [
     Cause::UnknownLabel,
 ];
 
-const OBJECT_FAULTS: [object_modules::Fault; 9] = [
-    object_modules::Fault::Truncated,
-    object_modules::Fault::WrongSum,
-    object_modules::Fault::WrongLength,
-    object_modules::Fault::UnknownType,
-    object_modules::Fault::OutOfOrder,
-    object_modules::Fault::WrongBody,
-    object_modules::Fault::ContentMisplaced,
-    object_modules::Fault::FixMisplaced,
-    object_modules::Fault::WrongAlignment,
+const OBJECT_FAULTS: [objmod::Fault; 9] = [
+    objmod::Fault::Truncated,
+    objmod::Fault::WrongSum,
+    objmod::Fault::WrongLength,
+    objmod::Fault::UnknownType,
+    objmod::Fault::OutOfOrder,
+    objmod::Fault::WrongBody,
+    objmod::Fault::ContentMisplaced,
+    objmod::Fault::FixMisplaced,
+    objmod::Fault::WrongAlignment,
 ];
 
 const PLACE_FAULTS: [LocateFault; 6] = [
@@ -351,6 +351,15 @@ fn print_explain(page: &mut Page) {
     help.print(page, "explain");
 }
 
+// The help of the command that converts.
+fn print_convert(page: &mut Page) {
+    let mut help = Help::of(page.alloc(), &["plm", "convert", "--help"]);
+    help.seek_words();
+    help.seek("U2", &ReadFault::TooLong);
+    help.seek_files();
+    help.print(page, "convert");
+}
+
 /// Prints for the help of each command how many lines of faults it is to have, and how many of them it lacks.
 pub fn print_sentences(page: &mut Page) {
     let Some(name) = Name::from_text(b"X") else {
@@ -367,4 +376,5 @@ pub fn print_sentences(page: &mut Page) {
     print_list(page);
     print_execute(page, name);
     print_explain(page);
+    print_convert(page);
 }

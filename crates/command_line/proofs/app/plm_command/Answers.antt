@@ -3,6 +3,7 @@ use Rattle.command_line.proofs.app.plm_command.Goals as goal
 pub returns : goal.returns
 returns c =
     c.add_leaf.ensures _ _
+    (c.add_leaf-with_explain.ensures _ _
     (c.add_leaf-with_execute.ensures _ _
     (c.add_leaf-with_list.ensures _ _
     (c.add_leaf-with_hex.ensures _ _
@@ -10,4 +11,5 @@ returns c =
     c.hex.ensures)
     c.list.ensures)
     c.execute.ensures)
-    c.explain.ensures
+    c.explain.ensures)
+    c.convert.ensures

@@ -1,6 +1,6 @@
 use Rattle.command_line.proofs.Prelude.{◌≡◌, ◌∙◌, [], ap, sym, subst, ◌<◌, length, option_and_then, option_map, texts, is_simple_and_free, HasKind, App, fault_of, is_simple, subcommand_of, subcommand_rows_of, IsFaultOf, Orders, named_in, plm_app, wanted_by, wanted_in, wanted_of_match, Order}
 use Rattle.command_line.proofs.CommandLemmas.{fault_among, gives_none, out_of_memory, tells_none, wants_any}
-use Rattle.command_line.proofs.Given.{compile_failed, compile_ordered, execute_failed, execute_ordered, execute_text_failed, execute_text_ordered, explain_failed, explain_ordered, files_failed, files_ordered, link_failed, link_ordered, map_failed, map_ordered, jump_failed, jump_ordered, need_failed, need_ordered, place_failed, place_ordered, place_text_failed, place_text_ordered, text_failed, text_ordered}
+use Rattle.command_line.proofs.Given.{compile_failed, compile_ordered, convert_failed, convert_ordered, execute_failed, execute_ordered, execute_text_failed, execute_text_ordered, explain_failed, explain_ordered, files_failed, files_ordered, link_failed, link_ordered, map_failed, map_ordered, jump_failed, jump_ordered, need_failed, need_ordered, place_failed, place_ordered, place_text_failed, place_text_ordered, text_failed, text_ordered}
 use Rattle.command_line.proofs.PlmWords.{order_is_there, some_files, plm_is_free, plm_is_simple}
 use Rattle.command_line.proofs.reading.command.Goals as goal
 use Rattle.command_line.proofs.reading.command.Goals.{In-Ok}
@@ -37,6 +37,7 @@ returns c =
       execute = execute_ordered (texts c.args.words.now) c.in-Some.order order;
       execute_option = execute_text_ordered (texts c.args.words.now) c.in-Some.order order;
       explain = explain_ordered (texts c.args.words.now) c.in-Some.order order;
+      convert = convert_ordered (texts c.args.words.now) c.in-Some.order order;
       order = order;
       some = some_files (texts c.args.words.now) (wanted_in c.in-Some.order) (no_fault at) order;
       ok = no_fault at;
@@ -62,6 +63,7 @@ returns-in-Err c = record {
   execute = execute_failed (texts c.args.words.now) c.in-Err.error c.failure_of.result (has_kind c) c.failure_of.ensures;
   execute_option = execute_text_failed (texts c.args.words.now) c.in-Err.error c.failure_of.result (has_kind c) c.failure_of.ensures;
   explain = explain_failed (texts c.args.words.now) c.in-Err.error c.failure_of.result (has_kind c) c.failure_of.ensures;
+  convert = convert_failed (texts c.args.words.now) c.in-Err.error c.failure_of.result (has_kind c) c.failure_of.ensures;
   order = tt;
   some = tt;
   ok = tt;
@@ -86,6 +88,7 @@ returns-in_err-plm c =
       execute = λ name files given. wants_any _ answer is;
       execute_option = λ name files option text bare given. wants_any _ answer is;
       explain = λ name number given. wants_any _ answer is;
+      convert = λ name file given. wants_any _ answer is;
       order = gives_none (Orders words) answer is;
       some = gives_none (λ order. 0 < length (named_in (wanted_in order))) answer is;
       ok = gives_none (λ order. fault_of plm_app words ≡ []) answer is;
@@ -110,6 +113,7 @@ returns-in_err-order c =
       execute = λ name files given. wants_any _ answer is;
       execute_option = λ name files option text bare given. wants_any _ answer is;
       explain = λ name number given. wants_any _ answer is;
+      convert = λ name file given. wants_any _ answer is;
       order = gives_none (Orders words) answer is;
       some = gives_none (λ order. 0 < length (named_in (wanted_in order))) answer is;
       ok = gives_none (λ order. fault_of plm_app words ≡ []) answer is;

@@ -9,4 +9,7 @@ pub returns-in-Explain-clause-stopped : goal.returns-in-Explain-clause-stopped
 returns-in-Explain-clause-stopped g c = λ other. stops_as_wanted _ _ _ (stays _)
 
 pub returns-in-Explain-clause-told : goal.returns-in-Explain-clause-told
-returns-in-Explain-clause-told g c = λ refused. tells_no_file _ _ _ _ _ _ refl (c.explain_number.ensures.told refused)
+returns-in-Explain-clause-told g c = λ refused. rw c.in-Explain.is (tells_no_file _ _ _ _ _ _ refl (c.explain_number.ensures.told refused))
+
+pub returns-in-Explain-clause-refused : goal.returns-in-Explain-clause-refused
+returns-in-Explain-clause-refused g c = λ refused. rw c.in-Explain.is (refl, c.explain_number.ensures.refused refused)

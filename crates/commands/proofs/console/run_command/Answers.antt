@@ -1,6 +1,6 @@
 use Rattle.commands.proofs.Prelude.{◌≤◌, ℕ, subst, sym, ◌∙◌}
 use Rattle.commands.proofs.ProgramsTold.{runs_by_status}
-use Rattle.commands.proofs.OrdersKept.{refused_is}
+use Rattle.commands.proofs.OrdersKept.{converts_with_status, refused_is}
 use Rattle.commands.proofs.TextsTold.{wrong_is}
 use Rattle.commands.proofs.console.run_command.Goals as goal
 
@@ -18,3 +18,9 @@ returns-clause-silent g c = λ clean two. c.end_words-ending.ensures.silent clea
 
 pub returns-clause-faulty : goal.returns-clause-faulty
 returns-clause-faulty g c = λ fault. subst (λ (s : ℕ). s ≤ 2) (sym c.status.ensures) (c.end_words-ending.ensures.faulty fault)
+
+pub returns-clause-converted : goal.returns-clause-converted
+returns-clause-converted g c = λ clean. converts_with_status _ _ _ _ _ _ _ _ _ _ c.status.ensures (c.end_words-ending.ensures.converted clean)
+
+pub returns-clause-told : goal.returns-clause-told
+returns-clause-told g c = λ one. c.end_words-ending.ensures.told (refused_is _ (sym c.status.ensures ∙ one))

@@ -1,0 +1,15 @@
+use Rattle.commands.proofs.Prelude.{None, ap, status_of}
+use Rattle.commands.proofs.Converted.{file_converted, file_unheld, file_unread}
+use Rattle.commands.proofs.converting.convert_file.Goals as goal
+
+pub returns-in-Err-Fault-clause-converted : goal.returns-in-Err-Fault-clause-converted
+returns-in-Err-Fault-clause-converted g c = file_unread _ _ _ _ _ _ _ _ _ None _ (ap status_of c.refuse_file.ensures.ending)
+    (rw c.in-Err-Fault.field-0-is at c.in-Err-Fault.ensures.failed) c.refuse_file.ensures.told
+
+pub returns-in-Err-Memory-clause-converted : goal.returns-in-Err-Memory-clause-converted
+returns-in-Err-Memory-clause-converted g c = file_unheld _ _ _ _ _ _ _ _ _ None _ (ap status_of c.refuse_memory.ensures.ending)
+    (rw c.in-Err-Memory.field-0-is at c.in-Err-Memory.ensures.failed) c.refuse_memory.ensures.line
+
+pub returns-clause-converted : goal.returns-clause-converted
+returns-clause-converted g c = file_converted _ _ _ _ _ _ _ _ _ _ _ _ c.in-Ok.ensures.count c.in-Ok.ensures.bytes
+    (rw c.as_slice.ensures.value at c.convert_text.ensures.converted)

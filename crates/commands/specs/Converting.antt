@@ -1,0 +1,168 @@
+-- What is printed and told of a source that is converted.
+use Rattle.std.specs.Prelude.{◌≡◌, ◌⊎◌, ◌<◌, ℕ, List, [], ◌∷◌, length, map, Option, None, Some}
+use Rattle.std.specs.Io.KnownBytes.{Appends, Keeps}
+use Rattle.failure.specs.Writing.{AppendsBeginning}
+use Rattle.words.specs.declared.limits.TheConstants.{LONGEST_SOURCE}
+use Rattle.host.specs.Files.{Directory, HasFile}
+use Rattle.host.specs.Reading.{StopsAt}
+use Rattle.host.specs.Refusals.{Tells, memory_line, refusal_line}
+use Rattle.sources.specs.declared.read.ReadFault.{ReadFault}
+use Rattle.sources.specs.declared.read.ReadFault.TheVariants.{TooLong, Words, Expansion, Syntax, Typing, Storage}
+use Rattle.sources.specs.Causes.{HasReadCause}
+use Rattle.sources.specs.Faults.{line_of, number_of}
+use Rattle.sources.specs.Reading.{IsText}
+use Rattle.convert.specs.declared.controls.Control.{Control}
+use Rattle.convert.specs.declared.converting.Note.{Note}
+use Rattle.convert.specs.declared.rule.Rule.{Rule}
+use Rattle.convert.specs.Controls.{control_view, table_of_controls}
+use Rattle.convert.specs.Conversion.{IsRefused}
+use Rattle.convert.specs.Lines.{lined}
+use Rattle.convert.specs.Table.{rule_view, table_of_rules}
+use Rattle.convert.specs.Sources.{IsConverted, note_lines}
+use Rattle.command_line.specs.Command.{ConvertWanted, Wanted, wants_compile, wants_convert, wants_execute}
+use Rattle.command_line.specs.Command.{wants_explain, wants_link, wants_need, wants_place, wants_program}
+use Rattle.commands.specs.Refusing.{RunsOut, TellsFile, TellsUnwritten}
+
+-- a text is a module of this language, whether or not that has a fault of names or of types
+abbrev pub IsModule : (text : List ℕ) → Type 0
+IsModule text = (tree : _) × IsText text tree
+
+-- the faults of a text that is no module
+abbrev pub IsOfNoModule : ReadFault → Type 0
+IsOfNoModule TooLong = ⊥
+IsOfNoModule (Words fault) = Unit {0}
+IsOfNoModule (Expansion fault) = Unit {0}
+IsOfNoModule (Syntax fault) = Unit {0}
+IsOfNoModule (Typing fault) = ⊥
+IsOfNoModule (Storage fault) = ⊥
+
+-- a text is no module, with this fault
+pub record IsNoModule (text : List ℕ) : Type 0 where
+  pub fault : ReadFault
+  pub kind : IsOfNoModule fault
+  pub cause : HasReadCause fault text
+
+-- what a text is printed as, and what is told of it: a module stays as it is
+pub data Converts (rules : List Rule) (controls : List Control) (text : List ℕ) : List ℕ → List Note → Type 0 where
+  stays : IsModule text
+      → Converts rules controls text text []
+  changed : {printed : List ℕ} {notes : List Note}
+      → IsNoModule text
+      → IsConverted rules controls text printed notes
+      → Converts rules controls text printed notes
+
+-- the cause that a text is not converted: it is too long, or its words are refused once its lines were changed
+abbrev pub HasNoConversion : List ℕ → ReadFault → Type 0
+HasNoConversion text TooLong = LONGEST_SOURCE < length text
+HasNoConversion text (Words fault) = ⊥
+HasNoConversion text (Expansion fault) = IsNoModule text × IsRefused (lined text) fault
+HasNoConversion text (Syntax fault) = ⊥
+HasNoConversion text (Typing fault) = ⊥
+HasNoConversion text (Storage fault) = ⊥
+
+module _ (rules : List Rule) (controls : List Control) (name text : List ℕ) where
+  -- all was printed, with nothing to tell
+  pub record PrintsText (old new : Option (List ℕ)) : Type 0 where
+    pub printed : List ℕ
+    pub converts : Converts rules controls text printed []
+    pub appended : Appends old new printed
+
+  -- all was printed, and there are notes, which were told, or a beginning of them
+  pub record TellsNotes (err_old err_new out_old out_new : Option (List ℕ)) : Type 0 where
+    pub printed : List ℕ
+    pub notes : List Note
+    pub some : 0 < length notes
+    pub converts : Converts rules controls text printed notes
+    pub appended : Appends out_old out_new printed
+    pub told : AppendsBeginning err_old err_new (note_lines name notes)
+
+  -- memory ran out or standard output was not written, where a beginning was printed, which may be nothing or all
+  pub record StopsText (err_old err_new out_old out_new : Option (List ℕ)) : Type 0 where
+    pub printed : List ℕ
+    pub notes : List Note
+    pub converts : Converts rules controls text printed notes
+    pub told : TellsUnwritten err_old err_new
+    pub begun : AppendsBeginning out_old out_new printed
+
+  -- the text is not converted, and its fault was told
+  pub record TellsFault (old new : Option (List ℕ)) : Type 0 where
+    pub fault : ReadFault
+    pub cause : HasNoConversion text fault
+    pub told : Tells (refusal_line (number_of fault) name (line_of fault)) old new
+
+  -- why a text was not printed, or not without a word
+  unfoldable pub RefusesText : (err_old err_new out_old out_new : Option (List ℕ)) → Type 0
+  RefusesText err_old err_new out_old out_new =
+      (Keeps out_old out_new × (Tells memory_line err_old err_new ⊎ TellsFault err_old err_new))
+      ⊎ (TellsNotes err_old err_new out_old out_new ⊎ StopsText err_old err_new out_old out_new)
+
+  -- what converting a text prints and tells, and the status
+  unfoldable pub ConvertsText : (status : ℕ) → (err_old err_new out_old out_new : Option (List ℕ)) → Type 0
+  ConvertsText status err_old err_new out_old out_new =
+      ((status ≡ 0) × PrintsText out_old out_new)
+      ⊎ ((status ≡ 1) × RefusesText err_old err_new out_old out_new)
+
+-- the file that is wanted has a text, which was converted
+pub record ConvertsRead (rules : List Rule) (controls : List Control) (wanted : ConvertWanted) (files : Option Directory)
+    (status : ℕ) (err_old err_new out_old out_new : Option (List ℕ)) : Type 0 where
+  pub text : List ℕ
+  pub read : HasFile files wanted.file text
+  pub converted : ConvertsText rules controls wanted.file text status err_old err_new out_old out_new
+
+-- What converting a file prints and tells, and the status: 1 where it can't be read or memory ran out, with nothing
+-- printed, or else what converting its text does.
+unfoldable pub ConvertsFile :
+    List Rule → List Control → ConvertWanted → Option Directory → (status before after : ℕ)
+    → (err_old err_new out_old out_new : Option (List ℕ)) → Type 0
+ConvertsFile rules controls wanted files status before after err_old err_new out_old out_new =
+    ((status ≡ 1) × Keeps out_old out_new
+    × TellsFile (StopsAt files (wanted.file ∷ [])) before after err_old err_new)
+    ⊎ (((status ≡ 1) × RunsOut before after err_old err_new out_old out_new)
+    ⊎ ((after ≡ before) × ConvertsRead rules controls wanted files status err_old err_new out_old out_new))
+
+-- the same with the rules and the controls of their tables
+pub record ConvertsByTables (wanted : ConvertWanted) (files : Option Directory) (status before after : ℕ)
+    (err_old err_new out_old out_new : Option (List ℕ)) : Type 0 where
+  pub rules : List Rule
+  pub controls : List Control
+  pub rules_are : map rule_view rules ≡ table_of_rules
+  pub controls_are : map control_view controls ≡ table_of_controls
+  pub converts : ConvertsFile rules controls wanted files status before after err_old err_new out_old out_new
+
+-- what an order to convert prints and tells; of other orders that is said elsewhere
+abbrev pub ConvertsAsWanted :
+    Wanted → Option Directory → (status before after : ℕ)
+    → (err_old err_new out_old out_new : Option (List ℕ)) → Type 0
+ConvertsAsWanted (wants_convert convert) files status before after err_old err_new out_old out_new =
+    ConvertsByTables convert files status before after err_old err_new out_old out_new
+ConvertsAsWanted (wants_compile compile) files status before after err_old err_new out_old out_new = Unit {0}
+ConvertsAsWanted (wants_program program) files status before after err_old err_new out_old out_new = Unit {0}
+ConvertsAsWanted (wants_link link) files status before after err_old err_new out_old out_new = Unit {0}
+ConvertsAsWanted (wants_place place) files status before after err_old err_new out_old out_new = Unit {0}
+ConvertsAsWanted (wants_need need) files status before after err_old err_new out_old out_new = Unit {0}
+ConvertsAsWanted (wants_execute execute) files status before after err_old err_new out_old out_new = Unit {0}
+ConvertsAsWanted (wants_explain explain) files status before after err_old err_new out_old out_new = Unit {0}
+
+-- the same of what words want, or memory ran out before that was known
+abbrev pub ConvertsByWords :
+    Option Wanted → Option Directory → (status before after : ℕ)
+    → (err_old err_new out_old out_new : Option (List ℕ)) → Type 0
+ConvertsByWords None files status before after err_old err_new out_old out_new = Unit {0}
+ConvertsByWords (Some wanted) files status before after err_old err_new out_old out_new =
+    ((status ≡ 1) × RunsOut before after err_old err_new out_old out_new)
+    ⊎ ConvertsAsWanted wanted files status before after err_old err_new out_old out_new
+
+-- what is told with status 1 is a refusal, but of an order to convert, whose notes are told too: that is said above
+abbrev pub TellsAsWanted : Wanted → (refusal : Type 0) → Type 0
+TellsAsWanted (wants_convert convert) refusal = Unit {0}
+TellsAsWanted (wants_compile compile) refusal = refusal
+TellsAsWanted (wants_program program) refusal = refusal
+TellsAsWanted (wants_link link) refusal = refusal
+TellsAsWanted (wants_place place) refusal = refusal
+TellsAsWanted (wants_need need) refusal = refusal
+TellsAsWanted (wants_execute execute) refusal = refusal
+TellsAsWanted (wants_explain explain) refusal = refusal
+
+abbrev pub TellsByWords : Option Wanted → (refusal : Type 0) → Type 0
+TellsByWords None refusal = refusal
+TellsByWords (Some wanted) refusal = TellsAsWanted wanted refusal

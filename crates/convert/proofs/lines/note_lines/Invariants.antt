@@ -1,0 +1,14 @@
+use Rattle.std.proofs.Common.{◌≡◌, ◌++◌, ◌+◌, length, map}
+use Rattle.convert.specs.Lines.{notes_from}
+use Rattle.convert.proofs.lines.note_lines.Given as goal
+
+abbrev pub invariant-loop-rest : goal.invariant-loop-rest
+invariant-loop-rest l = record {
+  noted :
+      l.notes.items ++ notes_from l.controls l.number (map (λ line. line.now) l.rest)
+      ≡ l.initial.notes.items ++ notes_from l.controls 1 (map (λ line. line.now) l.lines);
+  count : l.number + length l.rest ≡ 1 + length l.lines;
+}
+
+abbrev pub decreases-loop-rest : goal.decreases-loop-rest
+decreases-loop-rest l = length l.rest

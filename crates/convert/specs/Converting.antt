@@ -1,0 +1,71 @@
+-- Which changes the rules make, and what they tell.
+use Rattle.std.specs.Prelude.{ℕ, zero, suc, ◌+◌, ◌-◌, ◌==◌, Option, None, Some, if◌then◌else◌}
+use Rattle.std.specs.Prelude.{List, [], ◌∷◌, ◌++◌, take}
+use Rattle.convert.specs.declared.class.Seen.{Seen}
+use Rattle.convert.specs.declared.converting.Note.{Note}
+use Rattle.convert.specs.declared.rule.Action.{Action}
+use Rattle.convert.specs.declared.rule.Action.TheVariants.{Write, Tell}
+use Rattle.convert.specs.declared.rule.Rule.{Rule}
+use Rattle.convert.specs.Edits.{Change}
+use Rattle.convert.specs.Groups.{commas}
+use Rattle.convert.specs.Matching.{held, length_of_parts}
+use Rattle.convert.specs.Texts.{start_of, end_after}
+use Rattle.convert.specs.Writing.{puts_text}
+
+-- how many commas the group at the front has in no further parentheses
+abbrev pub first_commas : List Seen → ℕ
+first_commas words = commas 0 (held words)
+
+-- how many words at the front a rule fits; 0 if it does not
+abbrev pub fit : Rule → List Seen → ℕ
+fit rule words = length_of_parts 0 rule.parts.now (first_commas words) words
+
+-- the first rule that fits at the front of words
+abbrev pub rule_at : List Rule → List Seen → Option Rule
+rule_at [] words = None
+rule_at (rule ∷ rules) words = if fit rule words == 0 then rule_at rules words else Some rule
+
+-- what a rule changes at the front of words
+abbrev pub change_by : List ℕ → List Seen → Rule → Action → List Change
+change_by source words rule (Write puts) =
+    record {
+      from = start_of (take (fit rule words) words);
+      to = end_after 0 (take (fit rule words) words);
+      text = puts_text source rule.parts.now (first_commas words) words puts.now;
+    } ∷ []
+change_by source words rule (Tell text) = []
+
+abbrev pub change_at : List ℕ → List Seen → Option Rule → List Change
+change_at source words None = []
+change_at source words (Some rule) = change_by source words rule rule.action
+
+-- what a rule tells of the words at the front, which begin on a line
+abbrev pub note_by : ℕ → Action → List Note
+note_by line (Write puts) = []
+note_by line (Tell text) = record { line = line; text = text } ∷ []
+
+abbrev pub note_at : ℕ → Option Rule → List Note
+note_at line None = []
+note_at line (Some rule) = note_by line rule.action
+
+-- how many words after the first a rule has found
+abbrev pub passed_by : List Seen → Option Rule → ℕ
+passed_by words None = 0
+passed_by words (Some rule) = fit rule words - 1
+
+-- The changes in words, of which this many at the front are passed over: at each other word the first rule that fits is
+-- taken, and what it found is passed over.
+abbrev pub changes_after : List Rule → List ℕ → ℕ → List Seen → List Change
+changes_after rules source passed [] = []
+changes_after rules source (suc passed) (seen ∷ words) = changes_after rules source passed words
+changes_after rules source zero (seen ∷ words) =
+    change_at source (seen ∷ words) (rule_at rules (seen ∷ words))
+    ++ changes_after rules source (passed_by (seen ∷ words) (rule_at rules (seen ∷ words))) words
+
+-- what is told of words, of which this many at the front are passed over
+abbrev pub notes_after : List Rule → ℕ → List Seen → List Note
+notes_after rules passed [] = []
+notes_after rules (suc passed) (seen ∷ words) = notes_after rules passed words
+notes_after rules zero (seen ∷ words) =
+    note_at seen.word.line (rule_at rules (seen ∷ words))
+    ++ notes_after rules (passed_by (seen ∷ words) (rule_at rules (seen ∷ words))) words

@@ -1,0 +1,15 @@
+pub mod Classes
+pub mod Groups
+pub mod Numbers
+pub mod Matching
+pub mod Texts
+pub mod Lists
+pub mod Wrapping
+pub mod Writing
+pub mod Edits
+pub mod Converting
+pub mod Conversion
+pub mod Table
+pub mod Controls
+pub mod Lines
+pub mod Sources
