@@ -1,9 +1,10 @@
-; A stand-in for CP/M: its first page, and a system with the calls that list.plm makes,
+; A stand-in for CP/M: its first page, and a system with the calls 0, 1, 2, 9, 10, 11, 12, 15 and 20,
 ; over the ports of SIMH's altairz80. The page is the data segment: --data 0 puts it there.
 
         NAME    SYSTEM
 
-SCREEN  EQU     11H
+STATUS  EQU     10H     ; bit 0: a key was pressed
+SCREEN  EQU     11H     ; and the keyboard
 TAPE    EQU     13H     ; the reader of paper tape, which gives the text of each file
 
         DSEG
@@ -20,10 +21,20 @@ TAPE    EQU     13H     ; the reader of paper tape, which gives the text of each
 WARM:   HLT
 
 BDOS:   MOV     A,C
+        CPI     0       ; ends the program
+        JZ      WARM
+        CPI     1       ; reads a character, and shows it
+        JZ      KEY
         CPI     2       ; shows the character E
         JZ      SHOW
         CPI     9       ; shows the text at DE, up to a dollar sign
         JZ      TEXT
+        CPI     10      ; reads a line into the buffer at DE: its room, its length, its characters
+        JZ      LINE
+        CPI     11      ; 0FFH if a key was pressed, else 0
+        JZ      PRESSED
+        CPI     12      ; the version
+        JZ      VERSION
         CPI     15      ; opens the file of the FCB at DE
         JZ      OPEN
         CPI     20      ; reads 128 bytes of it to 80H
@@ -68,5 +79,40 @@ BYTE:   IN      TAPE
         INR     H
         JMP     BYTE
 DONE:   XRA     A       ; 0: bytes were read
+        RET
+
+KEY:    IN      STATUS
+        RRC
+        JNC     KEY
+        IN      SCREEN
+        ANI     7FH
+        OUT     SCREEN
+        RET
+
+LINE:   LDAX    D
+        MOV     B,A     ; the room
+        INX     D
+        MOV     H,D
+        MOV     L,E     ; where the length is
+        MVI     M,0
+NEXT:   MOV     A,M
+        CMP     B
+        RZ              ; no more room
+        CALL    KEY
+        CPI     0DH
+        RZ              ; the end of the line
+        INX     D
+        STAX    D
+        INR     M
+        JMP     NEXT
+
+PRESSED:
+        IN      STATUS
+        RRC
+        SBB     A       ; 0FFH if the bit was 1
+        RET
+
+VERSION:
+        MVI     A,22H
         RET
         END
