@@ -1,5 +1,5 @@
 -- The contents of a segment, added piece by piece.
-use Rattle.treecode.proofs.Prelude.{◌≡◌, ℕ, List, [], ◌∷◌, ◌++◌, map, option_map, slice_get, Global, refl, ap, ◌∙◌, Vec, vec_items, slice_get-map, with_gap}
+use Rattle.treecode.proofs.Prelude.{◌≡◌, ℕ, List, [], ◌∷◌, ◌++◌, refl, ap, ◌∙◌, with_gap}
 use Rattle.treecode.specs.declared.module.Content.{Content}
 use Rattle.treecode.specs.declared.module.Content.TheVariants as contents
 
@@ -17,8 +17,3 @@ gap_added (first ∷ []) last count = gap_after first last [] count
 gap_added (first ∷ second ∷ front) last count =
     gap_after first second (front ++ last ∷ []) count
     ∙ ap (λ more. first ∷ more) (gap_added (second ∷ front) last count)
-
--- the constant list with this number, seen from that of the code
-pub list_at : (lists : List (Vec ℕ Global)) (number : ℕ)
-    → slice_get (map vec_items lists) number ≡ option_map vec_items (slice_get lists number)
-list_at lists number = slice_get-map vec_items lists number

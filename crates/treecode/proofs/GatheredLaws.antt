@@ -1,24 +1,6 @@
 -- The EXTERNAL names that are gathered are those of the module, and each is found by its number.
-use Rattle.treecode.proofs.Prelude.{◌≡◌, ◌⊎◌, ℕ, ◌+◌, ◌<◌, ◌≤◌, Bool, true, false, List, [], ◌∷◌, ◌++◌, length, drop, get_or, Option, Some, None, filter_map, ◌==◌, ◌≢◌, cond, inl, inr, refl, sym, ap, ◌∙◌, cons_option, eqb_tells, append_assoc, append-nil, GlobalItem, GlobalObject, GlobalProcedure, TypedModule, ExternalName, external_name, externals_of, latest, Gathered, all_gathered, none_gathered, with_external, with_external_object, with_external_procedure, number_in, with_number}
-use Rattle.treecode.proofs.Items.{at_item, at_end}
+use Rattle.treecode.proofs.Prelude.{◌≡◌, ◌⊎◌, ℕ, Bool, true, false, List, [], ◌∷◌, ◌++◌, Option, Some, None, filter_map, ◌==◌, ◌≢◌, cond, inl, inr, refl, sym, ap, ◌∙◌, cons_option, eqb_tells, append_assoc, append-nil, GlobalItem, GlobalObject, GlobalProcedure, TypedModule, ExternalName, external_name, externals_of, latest, Gathered, all_gathered, none_gathered, with_external, with_external_object, with_external_procedure, number_in, with_number}
 use Rattle.treecode.proofs.LabelNumbers.{same_number, same_or_other}
-
--- one more item, or none
-pub item_gathered : (typed : TypedModule) (now next total : Gathered) (items : List GlobalItem) (i : ℕ)
-    (item : GlobalItem)
-    → all_gathered typed now (drop i items) ≡ total
-    → i < length items → item ≡ get_or items i item
-    → next ≡ with_external typed now item
-    → all_gathered typed next (drop (i + 1) items) ≡ total
-item_gathered typed now next total items i item rest within is made =
-    ap (λ (one : Gathered). all_gathered typed one (drop (i + 1) items)) made
-    ∙ sym (at_item (λ all. all_gathered typed now all) items i item within is)
-    ∙ rest
-
-pub items_gathered : (typed : TypedModule) (now total : Gathered) (items : List GlobalItem) (i : ℕ)
-    → all_gathered typed now (drop i items) ≡ total → length items ≤ i → now ≡ total
-items_gathered typed now total items i rest past =
-    sym (at_end (λ all. all_gathered typed now all) items i past) ∙ rest
 
 -- a name, if there is one
 abbrev named : Option ExternalName → List ExternalName

@@ -19,7 +19,6 @@ pub mod StatementLoops
 pub mod StatementViews
 pub mod Bodies
 pub mod ModuleBodies
-pub mod PublicLoop
 pub mod GatheredLaws
 pub mod ContentLoops
 pub mod PlacedTables

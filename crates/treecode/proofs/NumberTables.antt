@@ -1,5 +1,5 @@
 -- A number that is put into a table.
-use Rattle.treecode.proofs.Prelude.{◌≡◌, ℕ, zero, suc, ◌+◌, ◌-◌, ◌<◌, ◌≤◌, List, [], ◌∷◌, ◌++◌, length, replicate, take, Option, Some, None, slice_set, refl, sym, ap, ◌∙◌, arith, append-nil, reaching, with_number}
+use Rattle.treecode.proofs.Prelude.{◌≡◌, ℕ, zero, suc, ◌+◌, ◌-◌, ◌≤◌, List, [], ◌∷◌, ◌++◌, length, replicate, take, Option, Some, None, slice_set, refl, ap, ◌∙◌, arith, append-nil, reaching, with_number}
 
 take_all : {A : Type 0} (xs : List A) (count : ℕ) → length xs ≤ count → take count xs ≡ xs
 take_all [] zero within = refl
@@ -21,12 +21,6 @@ reached entries now index count counted past is =
 
     same_gap : (count total : ℕ) → count ≡ total → index + 1 - count ≡ suc index - total
     same_gap count total e = omega arith
-
-pub reached_before : (entries : List (Option ℕ)) (index : ℕ) → index < length entries
-    → entries ≡ reaching entries index
-reached_before entries index within =
-    let none : 0 ≡ suc index - length entries = omega arith in
-    sym (append-nil entries) ∙ ap (λ (count : ℕ). entries ++ replicate count None) none
 
 first_put : (index number : ℕ) → slice_set (replicate (suc index) None) index (Some number) ≡ with_number [] index number
 first_put zero number = refl

@@ -158,7 +158,6 @@ fn add_static_object(
 }
 
 // Adds an object with DATA or a constant list.
-#[tactic(auto, using(crate::proofs::PublicLoop::object_at, crate::proofs::ContentLoops::list_at))]
 fn add_constant(
     tree: &TreeModule,
     typed: &Typed,

@@ -10,7 +10,7 @@ use trees::{BinaryOperator, ScalarType, UnaryOperator};
 use typed_trees::{ShiftFunction, UnaryFunction};
 
 /// The number of an expression in its module. Each part of an expression has a lower number than the whole.
-#[derive(Clone, Copy, PartialEq, Eq)]
+#[derive(Clone, Copy)]
 pub struct ExpressionNumber {
     pub index: u32,
 }

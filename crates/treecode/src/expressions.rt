@@ -18,7 +18,6 @@ use typed_trees::{TypedExpression, TypedReference, TypedSubscript, TypedTarget};
 impl Lowering {
     /// Adds an expression, after its parts.
     #[cycle(expression)]
-    #[tactic(auto, using(crate::proofs::PutNodes::expression_put, crate::proofs::PutNodes::beside_expressions))]
     pub(crate) fn expression(
         &mut self,
         storage: &Layout,

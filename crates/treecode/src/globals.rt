@@ -1,11 +1,11 @@
 //! The PUBLIC and EXTERNAL names of a module.
 
-ghost use Rattle.std.specs.Prelude.{◌≡◌, IfOk};
+ghost use Rattle.std.specs.Prelude.{◌≡◌, IfOk, OnOk};
 ghost use Rattle.typed_trees.specs.Views.{module_view, object_view, procedure_view};
 ghost use Rattle.treecode.specs.Contents.{public_item, public_object, public_procedure, publics_of, static_place};
 ghost use Rattle.treecode.specs.Homes.{external_object, external_procedure};
 ghost use Rattle.treecode.specs.Nodes.{nodes_of};
-ghost use Rattle.treecode.specs.internal.Gathered.{all_gathered, gathered_view, none_gathered};
+ghost use Rattle.treecode.specs.internal.Gathered.{all_gathered, gathered_view, none_gathered, with_index_of_name, with_name};
 
 use crate::module::{ExternalName, PublicName, PublicPlace, TreeModule, next_index};
 use crate::numbers::Numbers;
@@ -49,10 +49,29 @@ fn external_procedure(procedure: &TypedProcedure) -> Option<ExternalName>
     }
 }
 
+// Adds a name, if there is one, and its index to the numbers of the objects or the procedures.
+fn add_name(
+    names: &mut Vec<ExternalName>,
+    numbers: &mut Numbers,
+    number: u32,
+    name: Option<ExternalName>,
+) -> Result<(), AllocError>
+    ensures names { OnOk result (names.new.items ≡ with_name names.old.items name) }
+    ensures numbers { OnOk result (numbers.new.entries.items
+        ≡ with_index_of_name numbers.old.entries.items number names.old.items name) }
+{
+    if let Some(name) = name {
+        let index = next_index(names.len())?;
+        names.push(name)?;
+        numbers.insert(number, index)?;
+    }
+    Ok(())
+}
+
 impl Externals {
     ghost use Rattle.std.specs.Prelude.{◌≡◌, OnOk};
     ghost use Rattle.typed_trees.specs.Views.{module_view};
-    ghost use Rattle.treecode.specs.internal.Gathered.{gathered_view, none_gathered, with_external, with_external_object, with_external_procedure};
+    ghost use Rattle.treecode.specs.internal.Gathered.{gathered_view, none_gathered, with_external};
 
     // No names.
     fn new(alloc: Global) -> Externals
@@ -65,45 +84,24 @@ impl Externals {
         }
     }
 
-    // Adds the name of an object, if it is EXTERNAL.
-    fn add_object(&mut self, number: u32, name: Option<ExternalName>) -> Result<(), AllocError>
-        ensures { OnOk result (gathered_view self.new
-            ≡ with_external_object (gathered_view self.old) number name) }
-    {
-        if let Some(name) = name {
-            let index = next_index(self.names.len())?;
-            self.names.push(name)?;
-            self.objects.insert(number, index)?;
-        }
-        Ok(())
-    }
-
-    // Adds the name of a procedure, if it is EXTERNAL.
-    fn add_procedure(&mut self, number: u32, name: Option<ExternalName>) -> Result<(), AllocError>
-        ensures { OnOk result (gathered_view self.new
-            ≡ with_external_procedure (gathered_view self.old) number name) }
-    {
-        if let Some(name) = name {
-            let index = next_index(self.names.len())?;
-            self.names.push(name)?;
-            self.procedures.insert(number, index)?;
-        }
-        Ok(())
-    }
-
     // Adds an object or a procedure, if it is EXTERNAL.
-    #[tactic(auto, using(crate::proofs::PublicLoop::object_at, crate::proofs::PublicLoop::procedure_at))]
     fn add_item(&mut self, typed: &Typed, item: GlobalItem) -> Result<(), AllocError>
         ensures { OnOk result (gathered_view self.new
             ≡ with_external (module_view typed.now) (gathered_view self.old) item) }
     {
         match item {
             GlobalItem::GlobalObject(number) => match typed.objects.get(number as usize) {
-                Some(object) => self.add_object(number, external_object(object)),
+                Some(object) => {
+                    let name = external_object(object);
+                    add_name(&mut self.names, &mut self.objects, number, name)
+                }
                 None => Ok(()),
             },
             GlobalItem::GlobalProcedure(number) => match typed.procedures.get(number as usize) {
-                Some(procedure) => self.add_procedure(number, external_procedure(procedure)),
+                Some(procedure) => {
+                    let name = external_procedure(procedure);
+                    add_name(&mut self.names, &mut self.procedures, number, name)
+                }
                 None => Ok(()),
             },
         }
@@ -111,14 +109,15 @@ impl Externals {
 }
 
 /// The EXTERNAL names of a module.
-#[tactic(auto, using(crate::proofs::GatheredLaws::item_gathered, crate::proofs::GatheredLaws::items_gathered))]
 pub(crate) fn externals_of(alloc: Global, typed: &Typed) -> Result<Externals, AllocError>
     ensures { IfOk result (λ externals. gathered_view externals
         ≡ all_gathered (module_view typed.now) none_gathered typed.now.globals.items) }
 {
     let mut externals = Externals::new(alloc);
-    for item in &typed.globals {
+    let mut rest = typed.globals.as_slice();
+    while let [item, more @ ..] = rest {
         externals.add_item(typed, *item)?;
+        rest = more;
     }
     Ok(externals)
 }
@@ -165,7 +164,6 @@ fn public_procedure(number: u32, procedure: &TypedProcedure) -> Option<PublicNam
 }
 
 // The PUBLIC name of an object or a procedure and its place, if it is PUBLIC.
-#[tactic(auto, using(crate::proofs::PublicLoop::object_at, crate::proofs::PublicLoop::procedure_at))]
 fn public_item(tree: &TreeModule, typed: &Typed, item: GlobalItem) -> Option<PublicName>
     ensures { result ≡ public_item (module_view typed.now) (nodes_of tree.now).homes item }
 {
@@ -192,10 +190,12 @@ pub(crate) fn publics_of(
         ≡ publics_of (module_view typed.now) (nodes_of tree.now).homes) }
 {
     let mut publics = Vec::new(alloc);
-    for item in &typed.globals {
+    let mut rest = typed.globals.as_slice();
+    while let [item, more @ ..] = rest {
         if let Some(public) = public_item(tree, typed, *item) {
             publics.push(public)?;
         }
+        rest = more;
     }
     Ok(publics)
 }

@@ -1,9 +1,9 @@
 //! Shows that tree code places objects at 16-bit numbers.
 #![tactic(auto)]
 
-ghost use Rattle.std.specs.Prelude.{◌<◌};
 ghost use Rattle.treecode.specs.HomeWords.{HomeIsWord, HomesAreWords};
 
+use crate::stored::hold_word;
 use crate::{Home, Place, TreeModule};
 
 /// Shows that the numbers at which a module's objects are placed have 16 bits. It does nothing.
@@ -24,11 +24,4 @@ fn hold_home(home: Home)
     if let Home::Static(Place::Number(number)) = home {
         hold_word(number);
     }
-}
-
-// Shows that a `u16` has 16 bits.
-fn hold_word(number: u16)
-    ensures { number < 65536 }
-{
-    let _ = number;
 }

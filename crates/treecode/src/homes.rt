@@ -1,6 +1,6 @@
 //! The places where the objects of a module begin.
 
-ghost use Rattle.std.specs.Prelude.{◌≡◌, [], map, Some, None, slice_index_or, IfOk, OnOk};
+ghost use Rattle.std.specs.Prelude.{◌≡◌, [], map, None, slice_index_or, IfOk, OnOk};
 ghost use Rattle.typed_trees.specs.Views.{module_view, object_view, procedure_view};
 ghost use Rattle.layout.specs.Views.{layout_view};
 ghost use Rattle.treecode.specs.Homes.{external_place, home_after, location_of, place_of_slot};
@@ -13,19 +13,9 @@ use crate::module::TreeModule;
 use crate::numbers::Numbers;
 use crate::place::{Home, Location, Place};
 use crate::procedure::{FrameVariable, TreeProcedure};
-use layout::{Layout, Segment, Slot};
+use layout::{Layout, Segment};
 use std::alloc::{AllocError, Global};
 use typed_trees::{AtAddress, Home as TypedHome, Typed, TypedObject, TypedProcedure};
-
-// The place of a slot.
-fn place_of_slot(slot: Slot) -> Place
-    ensures { result ≡ place_of_slot (Some slot) }
-{
-    match slot.segment {
-        Segment::Code => Place::Code(wrapped(slot.offset)),
-        Segment::Data => Place::Data(wrapped(slot.offset)),
-    }
-}
 
 // The home of an object `distance` bytes further on. A BASED object has no place of its own.
 fn home_after(home: Home, distance: u16) -> Home
@@ -110,8 +100,7 @@ impl TreeProcedure {
 
 impl TreeModule {
     ghost use Rattle.std.specs.Prelude.{◌≡◌, IfOk, OnOk};
-    ghost use Rattle.treecode.specs.internal.Placed.{headings_of, home_at_address, variable_number, with_variable_in};
-    ghost use Rattle.treecode.specs.Nodes.{nodes_of};
+    ghost use Rattle.treecode.specs.internal.Placed.{headings_of, variable_number, with_variable_in};
 
     // Adds a variable to the frame of a procedure, and returns its number there.
     fn add_frame_variable(
@@ -127,16 +116,6 @@ impl TreeModule {
         match self.procedures.get_mut(procedure as usize) {
             Some(procedure) => procedure.add_variable(variable),
             None => Ok(0),
-        }
-    }
-
-    // The home of an object with AT. Objects that AT names come before.
-    fn home_at(&self, at: AtAddress) -> Home
-        ensures { result ≡ home_at_address (nodes_of self.now).homes at }
-    {
-        match at {
-            AtAddress::AtNumber(number) => Home::Static(Place::Number(number)),
-            AtAddress::AtObject { object, offset } => home_after(self.home(object), offset),
         }
     }
 }
@@ -156,7 +135,10 @@ fn place_in_segment(storage: &Layout, number: u32) -> Place
     ensures { result ≡ place_of_slot (slice_index_or (layout_view storage.now).objects number None) }
 {
     match storage.objects.get(number as usize) {
-        Some(Some(slot)) => place_of_slot(*slot),
+        Some(Some(slot)) => match slot.segment {
+            Segment::Code => Place::Code(wrapped(slot.offset)),
+            Segment::Data => Place::Data(wrapped(slot.offset)),
+        },
         Some(None) | None => Place::Number(0),
     }
 }
@@ -180,7 +162,11 @@ fn home_of(
         TypedHome::Data(_) | TypedHome::Constant(_) => {
             Ok(Home::Static(place_in_segment(storage, number)))
         }
-        TypedHome::At(at) => Ok(tree.home_at(*at)),
+        TypedHome::At(AtAddress::AtNumber(number)) => Ok(Home::Static(Place::Number(*number))),
+        // Objects that AT names come before.
+        TypedHome::At(AtAddress::AtObject { object, offset }) => {
+            Ok(home_after(tree.home(*object), *offset))
+        }
         TypedHome::Based(base) => Ok(Home::Based(location_of(tree.home(*base)))),
         TypedHome::External => Ok(Home::Static(external_place(externals, number))),
         TypedHome::Absent => Ok(Home::Static(Place::Number(0))),

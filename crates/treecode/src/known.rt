@@ -1,12 +1,10 @@
 //! Values that are known as numbers or relocatable addresses.
 
-ghost use Rattle.std.specs.Prelude.{◌≡◌, option_map};
+ghost use Rattle.std.specs.Prelude.{◌≡◌};
 ghost use Rattle.std.specs.Option.{option_and_then};
-ghost use Rattle.meaning.specs.Values.{result_of};
 ghost use Rattle.treecode.specs.Known.{converted_place, function_of_place, result_of_known, result_of_place};
 ghost use Rattle.treecode.specs.Nodes.{nodes_of};
 ghost use Rattle.treecode.specs.Traits.{distance_of, known_at, known_of, place_of_reference};
-ghost use Rattle.treecode.specs.declared.place.Place.TheVariants.{Number};
 
 use crate::expression::{ExpressionForm, ExpressionNumber};
 use crate::module::TreeModule;
@@ -63,19 +61,6 @@ fn function_value(function: UnaryFunction, known: Option<Place>) -> Option<Place
     }
 }
 
-// The result of an operator on two numbers.
-fn number_value(
-    operands: ScalarType,
-    operator: BinaryOperator,
-    left: u16,
-    right: u16,
-) -> Option<Place>
-    ensures { result ≡ option_map Number (result_of operands operator left right) }
-{
-    let number = binary(operands, operator, left, right)?;
-    Some(Place::Number(number))
-}
-
 // The result of an operator on two known ADDRESS values.
 fn place_value(operator: BinaryOperator, left: Place, right: Place) -> Option<Place>
     ensures { result ≡ result_of_place operator left right }
@@ -101,7 +86,8 @@ fn binary_value(
 {
     match (left?, right?) {
         (Place::Number(left), Place::Number(right)) => {
-            number_value(operands, operator, left, right)
+            let number = binary(operands, operator, left, right)?;
+            Some(Place::Number(number))
         }
         (left, right) => place_value(operator, left, right),
     }

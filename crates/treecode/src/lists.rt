@@ -1,7 +1,7 @@
 //! Lists of numbers, each in a table of its module.
 
 /// Consecutive entries of a table.
-#[derive(Clone, Copy, PartialEq, Eq)]
+#[derive(Clone, Copy)]
 pub struct Range {
     /// The index of the first entry.
     pub first: u32,

@@ -32,7 +32,6 @@ impl Numbers {
     }
 
     // Adds entries without a number up to this index.
-    #[tactic(auto, using(crate::proofs::NumberTables::reached, crate::proofs::NumberTables::reached_before))]
     fn reach(&mut self, index: u32) -> Result<(), AllocError>
         ensures { OnOk result (self.new.entries.items ≡ reaching self.old.entries.items index) }
     {

@@ -24,7 +24,7 @@ pub enum Location {
 }
 
 /// The start of an object.
-#[derive(Clone, Copy, PartialEq, Eq)]
+#[derive(Clone, Copy)]
 pub enum Home {
     /// In memory.
     Static(Place),

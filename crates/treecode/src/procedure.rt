@@ -21,7 +21,7 @@ pub struct FrameVariable {
 }
 
 /// The kind of a procedure.
-#[derive(Clone, Copy, PartialEq, Eq)]
+#[derive(Clone, Copy)]
 pub enum ProcedureKind {
     /// Its parameters and variables are static.
     Static,

@@ -82,7 +82,6 @@ fn parameter_at(tree: &TreeModule, scalar: ScalarType, object: u32) -> Parameter
 }
 
 // The parameters of a procedure, each with the home of its object.
-#[tactic(auto, using(std::proofs::lemmas::List::append_assoc))]
 fn parameters_of(
     alloc: Global,
     tree: &TreeModule,
@@ -130,27 +129,18 @@ impl TreeProcedure {
 }
 
 impl Lowering {
-    // The parameters of a procedure.
-    fn parameters(&self, typed: &TypedProcedure) -> Result<Vec<Parameter>, AllocError>
-        ensures { IfOk result (λ parameters. parameters.items
-            ≡ map (parameter_at (nodes_of self.now.tree).homes)
-            (zip typed.now.parameter_types.items typed.now.parameters.items)) }
-    {
-        parameters_of(
-            self.alloc,
-            &self.tree,
-            typed.parameter_types.as_slice(),
-            typed.parameters.as_slice(),
-        )
-    }
-
     // Adds the body of a procedure.
     fn body(&mut self, storage: &Layout, typed: &TypedProcedure) -> Result<Body, AllocError>
         ensures kept { OnOk result (outside self.new ≡ outside self.old) }
         ensures ok { IfOk result (λ body. IsBody (layout_view storage.now) (walk_of self.old)
             (walk_of self.new) body (procedure_view typed.now)) }
     {
-        let parameters = self.parameters(typed)?;
+        let parameters = parameters_of(
+            self.alloc,
+            &self.tree,
+            typed.parameter_types.as_slice(),
+            typed.parameters.as_slice(),
+        )?;
         self.begin_body();
         let list = self.list(storage, &typed.body)?;
         Ok(Body {

@@ -1,7 +1,7 @@
 //! References to objects and parts of objects, and targets of assignments.
 
 ghost use Rattle.std.specs.Prelude.{◌≡◌};
-ghost use Rattle.treecode.specs.Queries.{number_bound, reference_bound, source, subscript_bound, target_bound};
+ghost use Rattle.treecode.specs.Queries.{reference_bound, source, subscript_bound, target_bound};
 
 use crate::expression::ExpressionNumber;
 use trees::ScalarType;
@@ -41,21 +41,12 @@ pub enum Target {
     },
 }
 
-impl Subscript {
-    // The number of its index plus 1.
-    fn bound(self) -> u32
-        ensures { result ≡ number_bound self.index }
-    {
-        self.index.index.saturating_add(1)
-    }
-}
-
 // The number of the index of a subscript plus 1; 0 if absent.
 fn subscript_bound(subscript: Option<Subscript>) -> u32
     ensures { result ≡ subscript_bound subscript }
 {
     match subscript {
-        Some(subscript) => subscript.bound(),
+        Some(subscript) => subscript.index.bound(),
         None => 0,
     }
 }

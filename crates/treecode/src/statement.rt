@@ -5,7 +5,7 @@ use crate::lists::Range;
 use trees::ScalarType;
 
 /// The number of a statement in its module. Each part of a statement has a lower number than the whole.
-#[derive(Clone, Copy, PartialEq, Eq)]
+#[derive(Clone, Copy)]
 pub struct StatementNumber {
     pub index: u32,
 }

@@ -6,7 +6,7 @@ ghost use Rattle.typed_trees.specs.Views.{arguments_view, else_view, expression_
 ghost use Rattle.layout.specs.Views.{layout_view};
 ghost use Rattle.treecode.specs.Lowered.{ends_by};
 ghost use Rattle.treecode.specs.Nodes.{nodes_of};
-ghost use Rattle.treecode.specs.Traits.{height_of_call, height_of_target, number_at};
+ghost use Rattle.treecode.specs.Traits.{number_at};
 ghost use Rattle.treecode.specs.internal.Adding.{target_in};
 ghost use Rattle.treecode.specs.internal.Beside.{outside, walk_of};
 ghost use Rattle.treecode.specs.internal.Walking.{assigned_in, call_in, else_in, goal_with, goals_in, iteration_in, list_in, moved_in, optional_in, put_statement, returned_in, statement_in, statements_in, targets_in, value_in};
@@ -92,20 +92,6 @@ impl Lowering {
         })
     }
 
-    // The height of a target that was added.
-    fn target_height(&self, target: &Target) -> u16
-        ensures { result ≡ height_of_target (nodes_of self.now.tree) target.now }
-    {
-        height_of_target(&self.tree, target)
-    }
-
-    // The height of a call with arguments that were added.
-    fn call_height(&self, arguments: Range) -> u16
-        ensures { result ≡ height_of_call (nodes_of self.now.tree) arguments }
-    {
-        height_of_call(&self.tree, arguments)
-    }
-
     // Adds the parts of a target.
     fn goal(&mut self, storage: &Layout, target: &TypedTarget) -> Result<Target, AllocError>
         ensures kept { OnOk result (outside self.new ≡ outside self.old) }
@@ -114,7 +100,7 @@ impl Lowering {
             ≡ (walk_of self.new, added)) }
     {
         let target = self.target(storage, target)?;
-        let height = self.target_height(&target);
+        let height = height_of_target(&self.tree, &target);
         self.note_height(height);
         Ok(target)
     }
@@ -179,7 +165,7 @@ impl Lowering {
             ≡ (walk_of self.new, added)) }
     {
         let arguments = self.arguments(storage, arguments)?;
-        let height = self.call_height(arguments);
+        let height = height_of_call(&self.tree, arguments);
         self.note_height(height);
         let statement = Statement::Call {
             procedure,
@@ -262,7 +248,6 @@ impl Lowering {
 
     // Adds a statement, after its parts.
     #[cycle(statement)]
-    #[tactic(auto, using(typed_trees::specs::declared::statement::TypedStatement::the_lemmas, typed_trees::proofs::Views::statement_rows_are))]
     fn statement(
         &mut self,
         storage: &Layout,

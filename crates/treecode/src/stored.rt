@@ -251,8 +251,8 @@ fn stored_assignment(target: Target, value: ExpressionNumber) -> StoredForm
     }
 }
 
-// Shows that a `u16` has 16 bits.
-fn hold_word(number: u16)
+/// Shows that a `u16` has 16 bits. It does nothing.
+pub(crate) fn hold_word(number: u16)
     ensures { number < 65536 }
 {
     let _ = number;

@@ -16,7 +16,7 @@ use trees::ScalarType;
 
 /// The registers that code keeps while it puts a value, or the address of an object, into HL. A register that is not
 /// kept may hold anything afterwards.
-#[derive(Clone, Copy, PartialEq, Eq)]
+#[derive(Clone, Copy)]
 pub struct Keeps {
     pub a: bool,
     pub de: bool,

@@ -24,19 +24,28 @@ gathered_view externals = record {
 abbrev pub none_gathered : Gathered
 none_gathered = record { names = []; objects = []; procedures = [] }
 
+-- adds a name, if there is one
+abbrev pub with_name : List ExternalName → Option ExternalName → List ExternalName
+with_name names None = names
+with_name names (Some name) = names ++ name ∷ []
+
+-- adds the index of a name that follows these names, if there is one
+abbrev pub with_index_of_name :
+    (entries : List (Option ℕ)) → (number : ℕ) → List ExternalName → Option ExternalName → List (Option ℕ)
+with_index_of_name entries number names None = entries
+with_index_of_name entries number names (Some name) = with_number entries number (length names)
+
 -- adds an object, or a procedure, with its name if it is EXTERNAL
 abbrev pub with_external_object : Gathered → (number : ℕ) → Option ExternalName → Gathered
-with_external_object before number None = before
-with_external_object before number (Some name) = record before {
-  names = before.names ++ name ∷ [];
-  objects = with_number before.objects number (length before.names);
+with_external_object before number name = record before {
+  names = with_name before.names name;
+  objects = with_index_of_name before.objects number before.names name;
 }
 
 abbrev pub with_external_procedure : Gathered → (number : ℕ) → Option ExternalName → Gathered
-with_external_procedure before number None = before
-with_external_procedure before number (Some name) = record before {
-  names = before.names ++ name ∷ [];
-  procedures = with_number before.procedures number (length before.names);
+with_external_procedure before number name = record before {
+  names = with_name before.names name;
+  procedures = with_index_of_name before.procedures number before.names name;
 }
 
 abbrev pub with_external : TypedModule → Gathered → GlobalItem → Gathered
