@@ -17,16 +17,18 @@ class_of_kind (kinds.Number value) first = if first then classes.FirstNumber els
 class_of_kind kinds.String first = classes.String
 class_of_kind (kinds.Mark mark) first = classes.Mark mark
 
--- whether a word is a string
-abbrev pub is_string : Kind → Bool
-is_string kinds.String = true
-is_string kind = false
+-- whether a word is a number or a string
+abbrev pub is_value : Kind → Bool
+is_value (kinds.Number value) = true
+is_value kinds.String = true
+is_value kind = false
 
--- what a word of a kind is, for which these words stand, and whether the text begins with it
+-- What a word of a kind is, for which these words stand, and whether the text begins with it. A name that stands for a number
+-- or a string is none of these to the rules: where its definition has ended, it is an object.
 abbrev pub class_of : List Word → Kind → Bool → Class
 class_of [] kind first = classes.Several
 class_of (word ∷ []) kind first =
-    if is_string word.kind && not (is_string kind) then classes.Several else class_of_kind word.kind first
+    if is_value word.kind && not (is_value kind) then classes.Several else class_of_kind word.kind first
 class_of (word ∷ other ∷ words) kind first = classes.Several
 
 -- how many words at the front have this start

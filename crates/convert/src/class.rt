@@ -1,7 +1,7 @@
 //! What words are to the rules.
 
 ghost use Rattle.std.specs.Prelude.{◌≡◌, ◌≤◌, ◌+◌, true, [], ◌∷◌, ◌++◌, length, IfOk};
-ghost use Rattle.convert.specs.Classes.{seen, seen_in, class_here, count_at, class_of, class_of_kind, class_at_end, is_inner, closed, opened};
+ghost use Rattle.convert.specs.Classes.{seen, seen_in, class_here, count_at, class_of, class_of_kind, is_value, class_at_end, is_inner, closed, opened};
 
 use std::alloc::{AllocError, Global};
 use words::{Kind, Mark, ReservedWord, Word};
@@ -112,14 +112,19 @@ fn count_at(start: u32, words: &[Word]) -> usize
     count
 }
 
+// Whether a word is a number or a string.
+fn is_value(kind: Kind) -> bool
+    ensures { result ≡ is_value kind }
+{
+    matches!(kind, Kind::Number(_) | Kind::String)
+}
+
 // What a word of a kind is, for which these words stand.
 fn class_of(words: &[Word], kind: Kind, first: bool) -> Class
     ensures { result ≡ class_of words.now kind first }
 {
     match words {
-        [word] if word.kind != Kind::String || kind == Kind::String => {
-            class_of_kind(word.kind, first)
-        }
+        [word] if !is_value(word.kind) || is_value(kind) => class_of_kind(word.kind, first),
         _ => Class::Several,
     }
 }
