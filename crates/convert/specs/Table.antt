@@ -49,6 +49,9 @@ table_of_rules =
     record { parts = (parts.Is (classes.Reserved words.Go)) ∷ (parts.Is (classes.Reserved words.To)) ∷ []; action = Writes ((PutsText (codes "GOTO")) ∷ []) }
     ∷ record { parts = (parts.Is classes.FirstNumber) ∷ (parts.Is (classes.Mark marks.Colon)) ∷ []; action = Writes [] }
     ∷ record { parts = (parts.Is (classes.Reserved words.Eof)) ∷ []; action = Writes [] }
+    ∷ record { parts = (parts.Is (classes.Mark marks.Colon)) ∷ (parts.Is classes.EndOfDo) ∷ (parts.Is classes.Name) ∷ []; action = Writes ((PutsCopy 0) ∷ (PutsText (codes " ; ")) ∷ (PutsCopy 1) ∷ []) }
+    ∷ record { parts = (parts.Is (classes.Mark marks.Colon)) ∷ (parts.Is classes.EndOfDo) ∷ []; action = Writes ((PutsCopy 0) ∷ (PutsText (codes " ; ")) ∷ (PutsCopy 1) ∷ []) }
+    ∷ record { parts = (parts.Is (classes.Mark marks.Colon)) ∷ (parts.Is (classes.Reserved words.End)) ∷ []; action = Writes ((PutsCopy 0) ∷ (PutsText (codes " ; ")) ∷ (PutsCopy 1) ∷ []) }
     ∷ record { parts = (parts.Is classes.EndOfDo) ∷ (parts.Is classes.Name) ∷ []; action = Writes ((PutsCopy 0) ∷ []) }
     ∷ record { parts = (parts.Is (classes.Mark marks.Period)) ∷ (parts.Is classes.String) ∷ []; action = Writes ((PutsText (codes ".(")) ∷ (PutsCopy 1) ∷ (PutsText (codes ")")) ∷ []) }
     ∷ record { parts = (parts.Is (classes.Mark marks.Period)) ∷ (parts.Is classes.Number) ∷ []; action = Writes ((PutsText (codes ".(")) ∷ (PutsCopy 1) ∷ (PutsText (codes ")")) ∷ []) }
@@ -70,6 +73,8 @@ table_of_rules =
     ∷ record { parts = (parts.Is (classes.Reserved words.External)) ∷ (parts.Is (classes.Reserved words.Data)) ∷ []; action = Writes ((PutsCopy 0) ∷ []) }
     ∷ record { parts = (parts.Is classes.Name) ∷ (parts.Is (classes.Reserved words.Data)) ∷ []; action = Writes ((PutsCopy 0) ∷ (PutsText (codes "(*) BYTE ")) ∷ (PutsCopy 1) ∷ []) }
     ∷ record { parts = parts.BasedOne ∷ []; action = Writes ((PutsInner 0) ∷ []) }
+    ∷ record { parts = parts.BasedList ∷ parts.Type ∷ parts.Scope ∷ []; action = Tells (codes "a list with BASED: write each name with its own attributes") }
+    ∷ record { parts = parts.BasedList ∷ parts.Type ∷ parts.Values ∷ []; action = Tells (codes "a list with BASED: write each name with its own attributes") }
     ∷ record { parts = parts.BasedList ∷ parts.Type ∷ []; action = Writes ((PutsEach 1 1 values.Nothing) ∷ []) }
     ∷ record { parts = parts.BasedList ∷ (parts.Is (classes.Reserved words.Structure)) ∷ parts.Group ∷ []; action = Writes ((PutsEach 1 2 values.Nothing) ∷ []) }
     ∷ record { parts = parts.BasedList ∷ parts.Group ∷ parts.Type ∷ []; action = Writes ((PutsEach 1 2 values.Nothing) ∷ []) }
@@ -77,12 +82,18 @@ table_of_rules =
     ∷ record { parts = parts.List ∷ parts.Type ∷ parts.Values ∷ parts.Group ∷ parts.Scope ∷ []; action = Tells (codes "values for several names: write each name with its own, after PUBLIC") }
     ∷ record { parts = parts.List ∷ parts.Type ∷ parts.Scope ∷ parts.Values ∷ parts.ItemsFor ∷ []; action = Writes ((PutsEach 1 3 (values.Item 4)) ∷ []) }
     ∷ record { parts = parts.List ∷ parts.Type ∷ parts.Values ∷ parts.ItemsFor ∷ []; action = Writes ((PutsEach 1 2 (values.Item 3)) ∷ []) }
+    ∷ record { parts = parts.List ∷ parts.Type ∷ (parts.Is (classes.Reserved words.At)) ∷ parts.Group ∷ parts.Scope ∷ []; action = Tells (codes "AT for several names: write PUBLIC or EXTERNAL before AT") }
+    ∷ record { parts = parts.List ∷ parts.Type ∷ (parts.Is (classes.Reserved words.At)) ∷ parts.Group ∷ parts.Values ∷ []; action = Tells (codes "AT with a value: write an assignment at the beginning of the program") }
     ∷ record { parts = parts.List ∷ (parts.Is (classes.Reserved words.Byte)) ∷ (parts.Is (classes.Reserved words.At)) ∷ parts.Group ∷ []; action = Writes ((PutsEach 1 2 (values.Address 3 1)) ∷ []) }
     ∷ record { parts = parts.List ∷ (parts.Is (classes.Reserved words.Byte)) ∷ parts.Scope ∷ (parts.Is (classes.Reserved words.At)) ∷ parts.Group ∷ []; action = Writes ((PutsEach 1 3 (values.Address 4 1)) ∷ []) }
     ∷ record { parts = parts.List ∷ (parts.Is (classes.Reserved words.Address)) ∷ (parts.Is (classes.Reserved words.At)) ∷ parts.Group ∷ []; action = Writes ((PutsEach 1 2 (values.Address 3 2)) ∷ []) }
     ∷ record { parts = parts.List ∷ (parts.Is (classes.Reserved words.Address)) ∷ parts.Scope ∷ (parts.Is (classes.Reserved words.At)) ∷ parts.Group ∷ []; action = Writes ((PutsEach 1 3 (values.Address 4 2)) ∷ []) }
     ∷ record { parts = parts.List ∷ parts.Type ∷ parts.Values ∷ []; action = Tells (codes "values for several names: write each name with its own") }
+    ∷ record { parts = parts.List ∷ parts.Type ∷ parts.Scope ∷ parts.Values ∷ []; action = Tells (codes "values for several names: write each name with its own") }
     ∷ record { parts = parts.List ∷ parts.Group ∷ parts.Type ∷ parts.Values ∷ []; action = Tells (codes "values for several arrays: write each array with its own") }
+    ∷ record { parts = parts.List ∷ parts.Group ∷ parts.Type ∷ parts.Scope ∷ parts.Values ∷ []; action = Tells (codes "values for several arrays: write each array with its own") }
+    ∷ record { parts = parts.List ∷ parts.Group ∷ parts.Type ∷ (parts.Is (classes.Reserved words.At)) ∷ []; action = Tells (codes "AT for several arrays: write each array with its own") }
+    ∷ record { parts = parts.List ∷ parts.Group ∷ parts.Type ∷ parts.Scope ∷ (parts.Is (classes.Reserved words.At)) ∷ []; action = Tells (codes "AT for several arrays: write each array with its own") }
     ∷ record { parts = (parts.Is (classes.Reserved words.At)) ∷ parts.Group ∷ parts.Values ∷ []; action = Tells (codes "AT with a value: write an assignment at the beginning of the program") }
     ∷ record { parts = parts.Values ∷ parts.Group ∷ parts.Scope ∷ []; action = Writes ((PutsCopy 2) ∷ (PutsText (codes " ")) ∷ (PutsCopy 0) ∷ (PutsText (codes " ")) ∷ (PutsCopy 1) ∷ []) }
     ∷ record { parts = (parts.Is (classes.Reserved words.At)) ∷ parts.Group ∷ parts.Scope ∷ []; action = Writes ((PutsCopy 2) ∷ (PutsText (codes " ")) ∷ (PutsCopy 0) ∷ (PutsText (codes " ")) ∷ (PutsCopy 1) ∷ []) }

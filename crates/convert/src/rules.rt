@@ -29,6 +29,8 @@ const ADDRESS: Part = Part::Is(Class::Reserved(ReservedWord::Address));
 
 const COMMA: Part = Part::Is(Class::Mark(Mark::Comma));
 
+const COLON: Part = Part::Is(Class::Mark(Mark::Colon));
+
 const SEMICOLON: Part = Part::Is(Class::Mark(Mark::Semicolon));
 
 const PERIOD: Part = Part::Is(Class::Mark(Mark::Period));
@@ -38,7 +40,7 @@ const NAME: Part = Part::Is(Class::Name);
 const SPACE: Put = Put::Text(b" ");
 
 /// The rules.
-pub static RULES: [Rule; 45] = [
+pub static RULES: [Rule; 56] = [
     // words
     Rule {
         parts: &[
@@ -48,15 +50,24 @@ pub static RULES: [Rule; 45] = [
         action: Action::Write(&[Put::Text(b"GOTO")]),
     },
     Rule {
-        parts: &[
-            Part::Is(Class::FirstNumber),
-            Part::Is(Class::Mark(Mark::Colon)),
-        ],
+        parts: &[Part::Is(Class::FirstNumber), COLON],
         action: Action::Write(&[]),
     },
     Rule {
         parts: &[Part::Is(Class::Reserved(ReservedWord::Eof))],
         action: Action::Write(&[]),
+    },
+    Rule {
+        parts: &[COLON, Part::Is(Class::EndOfDo), NAME],
+        action: Action::Write(&[Put::Copy(0), Put::Text(b" ; "), Put::Copy(1)]),
+    },
+    Rule {
+        parts: &[COLON, Part::Is(Class::EndOfDo)],
+        action: Action::Write(&[Put::Copy(0), Put::Text(b" ; "), Put::Copy(1)]),
+    },
+    Rule {
+        parts: &[COLON, Part::Is(Class::Reserved(ReservedWord::End))],
+        action: Action::Write(&[Put::Copy(0), Put::Text(b" ; "), Put::Copy(1)]),
     },
     Rule {
         parts: &[Part::Is(Class::EndOfDo), NAME],
@@ -155,6 +166,14 @@ pub static RULES: [Rule; 45] = [
         action: Action::Write(&[Put::Inner(0)]),
     },
     Rule {
+        parts: &[Part::BasedList, Part::Type, Part::Scope],
+        action: Action::Tell("a list with BASED: write each name with its own attributes"),
+    },
+    Rule {
+        parts: &[Part::BasedList, Part::Type, Part::Values],
+        action: Action::Tell("a list with BASED: write each name with its own attributes"),
+    },
+    Rule {
         parts: &[Part::BasedList, Part::Type],
         action: Action::Write(&[Put::Each {
             first: 1,
@@ -222,6 +241,16 @@ pub static RULES: [Rule; 45] = [
         }]),
     },
     Rule {
+        parts: &[Part::List, Part::Type, AT, Part::Group, Part::Scope],
+        action: Action::Tell("AT for several names: write PUBLIC or EXTERNAL before AT"),
+    },
+    Rule {
+        parts: &[Part::List, Part::Type, AT, Part::Group, Part::Values],
+        action: Action::Tell(
+            "AT with a value: write an assignment at the beginning of the program",
+        ),
+    },
+    Rule {
         parts: &[Part::List, BYTE, AT, Part::Group],
         action: Action::Write(&[Put::Each {
             first: 1,
@@ -258,8 +287,30 @@ pub static RULES: [Rule; 45] = [
         action: Action::Tell("values for several names: write each name with its own"),
     },
     Rule {
+        parts: &[Part::List, Part::Type, Part::Scope, Part::Values],
+        action: Action::Tell("values for several names: write each name with its own"),
+    },
+    Rule {
         parts: &[Part::List, Part::Group, Part::Type, Part::Values],
         action: Action::Tell("values for several arrays: write each array with its own"),
+    },
+    Rule {
+        parts: &[
+            Part::List,
+            Part::Group,
+            Part::Type,
+            Part::Scope,
+            Part::Values,
+        ],
+        action: Action::Tell("values for several arrays: write each array with its own"),
+    },
+    Rule {
+        parts: &[Part::List, Part::Group, Part::Type, AT],
+        action: Action::Tell("AT for several arrays: write each array with its own"),
+    },
+    Rule {
+        parts: &[Part::List, Part::Group, Part::Type, Part::Scope, AT],
+        action: Action::Tell("AT for several arrays: write each array with its own"),
     },
     // places and values before PUBLIC
     Rule {
