@@ -55,7 +55,8 @@ fn write_gap(before: u8, after: u8, text: &mut Vec<u8>) -> Result<(), AllocError
 
 // Adds the text of a change, apart from the words that stand before and after it.
 fn write_apart(source: &[u8], edit: &Edit, text: &mut Vec<u8>) -> Result<(), AllocError>
-    ensures { IfOk result (λ _. text.new.items ≡ text.old.items ++ set_apart source.now (change_of edit.now)) }
+    ensures { IfOk result (λ _. text.new.items
+        ≡ text.old.items ++ set_apart source.now (change_of edit.now)) }
 {
     let own = edit.text.as_slice();
     let before = byte_before(source, edit.from);
