@@ -24,11 +24,11 @@ is_value kinds.String = true
 is_value kind = false
 
 -- What a word of a kind is, for which these words stand, and whether the text begins with it. A name that stands for a number
--- or a string is none of these to the rules: where its definition has ended, it is an object.
+-- is a class of its own: where its definition has ended, it is an object.
 abbrev pub class_of : List Word → Kind → Bool → Class
 class_of [] kind first = classes.Several
 class_of (word ∷ []) kind first =
-    if is_value word.kind && not (is_value kind) then classes.Several else class_of_kind word.kind first
+    if is_value word.kind && not (is_value kind) then classes.Constant else class_of_kind word.kind first
 class_of (word ∷ other ∷ words) kind first = classes.Several
 
 -- how many words at the front have this start

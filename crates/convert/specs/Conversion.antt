@@ -17,7 +17,7 @@ pub record IsChanged (rules : List Rule) (source : List ℕ) (words expanded : L
     (text : List ℕ) (changes : List Change) (notes : List Note) : Type 0 where
   pub changed : changes ≡ changes_after rules source 0 (seen words expanded)
   pub noted : notes ≡ notes_after rules 0 (seen words expanded)
-  pub spliced_is : text ≡ spliced 0 source changes
+  pub spliced_is : text ≡ spliced source changes
 
 -- a text is changed by rules to another
 pub record IsConversion (rules : List Rule) (source text : List ℕ) (changes : List Change) (notes : List Note) : Type 0 where

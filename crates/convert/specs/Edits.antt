@@ -1,5 +1,5 @@
 -- Changes of a text.
-use Rattle.std.specs.Prelude.{ℕ, ◌-◌, ◌==◌, ◌&&◌, if◌then◌else◌, List, [], ◌∷◌, ◌++◌, length, map, get_or}
+use Rattle.std.specs.Prelude.{ℕ, ◌-◌, ◌&&◌, if◌then◌else◌, List, [], ◌∷◌, ◌++◌, length, map, get_or}
 use Rattle.words.specs.Characters.{is_word_byte}
 use Rattle.convert.specs.declared.edit.Edit.{Edit}
 use Rattle.convert.specs.Texts.{between}
@@ -20,21 +20,26 @@ changes_of edits = map change_of edits
 abbrev pub gap : ℕ → ℕ → List ℕ
 gap before after = if is_word_byte before && is_word_byte after then 32 ∷ [] else []
 
--- the byte before a place of a text, and that at a place, or a blank
-abbrev pub byte_before : List ℕ → ℕ → ℕ
-byte_before source place = if place == 0 then 32 else get_or source (place - 1) 32
+-- a piece of a text after a byte, apart from that if both would be of one word
+abbrev pub apart : ℕ → List ℕ → List ℕ
+apart last [] = []
+apart last (c ∷ piece) = gap last c ++ (c ∷ piece)
 
-abbrev pub byte_at : List ℕ → ℕ → ℕ
-byte_at source place = get_or source place 32
+-- the last byte of a piece, or the one before it if it has none
+abbrev pub last_after : ℕ → List ℕ → ℕ
+last_after last piece = get_or piece (length piece - 1) last
 
--- the text of a change, apart from the words that stand before and after it
-abbrev pub set_apart : List ℕ → Change → List ℕ
-set_apart source change =
-    gap (byte_before source change.from) (get_or change.text 0 (byte_at source change.to))
-    ++ (change.text ++ gap (byte_before change.text (length change.text)) (byte_at source change.to))
+-- pieces of a text, one after another, after a byte
+abbrev pub joined : ℕ → List (List ℕ) → List ℕ
+joined last [] = []
+joined last (piece ∷ pieces) = apart last piece ++ joined (last_after last piece) pieces
 
--- the text from a place on, with the changes made: all else stays, in its order
-abbrev pub spliced : ℕ → List ℕ → List Change → List ℕ
-spliced place source [] = between source place (length source)
-spliced place source (change ∷ changes) =
-    between source place change.from ++ (set_apart source change ++ spliced change.to source changes)
+-- the pieces of a text from a place on: what the changes write, and what stays before, between and after these
+abbrev pub pieces : ℕ → List ℕ → List Change → List (List ℕ)
+pieces place source [] = between source place (length source) ∷ []
+pieces place source (change ∷ changes) =
+    between source place change.from ∷ change.text ∷ pieces change.to source changes
+
+-- a text with the changes made: all else stays, in its order
+abbrev pub spliced : List ℕ → List Change → List ℕ
+spliced source changes = joined 32 (pieces 0 source changes)

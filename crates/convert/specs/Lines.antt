@@ -37,6 +37,25 @@ lined source = join_with_byte 10 (map emptied (lines_of (plain source)))
 abbrev pub words_of : List ℕ → List (List ℕ)
 words_of line = slice_split (λ c. not (is_ascii_alphabetic c)) line
 
+-- whether what comes after a byte is in quotes (39)
+abbrev pub quoted_after : Bool → ℕ → Bool
+quoted_after quoted c = if c == 39 then not quoted else quoted
+
+-- whether what comes after a byte is in parentheses: from `(` (40) up to the next `)` (41) that is not in quotes
+abbrev pub enclosed_after : (quoted enclosed : Bool) → ℕ → Bool
+enclosed_after quoted enclosed c =
+    if quoted then enclosed else (if c == 40 then true else (if c == 41 then false else enclosed))
+
+-- a byte, or a blank (32) for one in quotes or in parentheses
+abbrev pub bare_byte : (quoted enclosed : Bool) → ℕ → ℕ
+bare_byte quoted enclosed c = if quoted then 32 else (if enclosed then 32 else c)
+
+-- a line, with a blank for each byte in quotes or in parentheses
+abbrev pub bare : (quoted enclosed : Bool) → List ℕ → List ℕ
+bare quoted enclosed [] = []
+bare quoted enclosed (c ∷ line) =
+    bare_byte quoted enclosed c ∷ bare (quoted_after quoted c) (enclosed_after quoted enclosed c) line
+
 -- whether a word is among others, where the case of letters does not count
 abbrev pub is_among : List ℕ → List (List ℕ) → Bool
 is_among word [] = false
@@ -55,7 +74,7 @@ note_on number (Some control) = record { line = number; text = control.text } �
 
 -- what is told of the line of a number, if it has controls
 abbrev pub line_notes : List Control → ℕ → List ℕ → List Note
-line_notes controls number line = if is_control line then note_on number (control_in controls (words_of line)) else []
+line_notes controls number line = if is_control line then note_on number (control_in controls (words_of (bare false false line))) else []
 
 -- what is told of lines, of which the first has a number
 abbrev pub notes_from : List Control → ℕ → List (List ℕ) → List Note

@@ -1,11 +1,13 @@
 -- Where rules fit.
 use Rattle.std.specs.Prelude.{ℕ, ◌+◌, nat_lt, Bool, true, false, not, ◌==◌, ◌&&◌, if◌then◌else◌}
 use Rattle.std.specs.Prelude.{List, [], ◌∷◌, take, drop}
+use Rattle.words.specs.declared.vocabulary.ReservedWord.TheVariants.{Eof}
 use Rattle.convert.specs.declared.class.Class.{Class}
+use Rattle.convert.specs.declared.class.Class.TheVariants as classes
 use Rattle.convert.specs.declared.class.Seen.{Seen}
 use Rattle.convert.specs.declared.rule.Part.{Part}
 use Rattle.convert.specs.declared.rule.Part.TheVariants as parts
-use Rattle.convert.specs.Numbers.{class_number, is_type, is_scope, is_values, is_name}
+use Rattle.convert.specs.Numbers.{class_number, is_attribute, is_type, is_scope, is_values, is_name}
 use Rattle.convert.specs.Groups.{group_length, inner, commas, has_outside, is_based, is_assign, has_text}
 
 -- one word, if it passes a test
@@ -48,6 +50,12 @@ abbrev pub items_length : ℕ → List Seen → ℕ
 items_length first words =
     if not (has_text (held words)) && (commas 0 (held words) == first) then group_length words else 0
 
+-- EOF, if no word comes after it
+abbrev pub end_length : List Seen → ℕ
+end_length [] = 0
+end_length (seen ∷ []) = class_length (classes.Reserved Eof) (seen ∷ [])
+end_length (seen ∷ other ∷ words) = 0
+
 -- How many words at the front are a part; 0 if it does not fit there. The first part of the rule has this many commas.
 abbrev pub part_length : Part → ℕ → List Seen → ℕ
 part_length (parts.Is class) first words = class_length class words
@@ -61,6 +69,8 @@ part_length parts.BasedList first words = based_length true words
 part_length parts.List first words = list_length words
 part_length parts.Assigning first words = assigning_length words
 part_length parts.ItemsFor first words = items_length first words
+part_length parts.Attribute first words = one is_attribute words
+part_length parts.EndOfText first words = end_length words
 
 -- How many words at the front are the parts of a rule, after this many words; 0 if one does not fit there.
 abbrev pub length_of_parts : ℕ → List Part → ℕ → List Seen → ℕ

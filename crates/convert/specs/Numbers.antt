@@ -1,5 +1,5 @@
 -- Numbers of classes, by which they are compared, and tests of a class.
-use Rattle.std.specs.Prelude.{ℕ, ◌+◌, Bool, true, false}
+use Rattle.std.specs.Prelude.{ℕ, ◌+◌, Bool, true, false, ◌||◌}
 use Rattle.words.specs.declared.vocabulary.Mark.{Mark}
 use Rattle.words.specs.declared.vocabulary.Mark.TheVariants as marks
 use Rattle.words.specs.declared.vocabulary.ReservedWord.{ReservedWord}
@@ -77,8 +77,9 @@ class_number classes.FirstNumber = 2
 class_number classes.String = 3
 class_number classes.EndOfDo = 4
 class_number classes.Several = 5
-class_number (classes.Mark mark) = 6 + mark_number mark
-class_number (classes.Reserved word) = 23 + word_number word
+class_number classes.Constant = 6
+class_number (classes.Mark mark) = 7 + mark_number mark
+class_number (classes.Reserved word) = 24 + word_number word
 
 -- tests of a class
 abbrev pub is_name : Class → Bool
@@ -99,3 +100,7 @@ abbrev pub is_values : Class → Bool
 is_values (classes.Reserved words.Initial) = true
 is_values (classes.Reserved words.Data) = true
 is_values class = false
+
+abbrev pub is_attribute : Class → Bool
+is_attribute (classes.Reserved words.At) = true
+is_attribute class = is_scope class || is_values class

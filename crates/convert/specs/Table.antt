@@ -16,6 +16,7 @@ use Rattle.convert.specs.declared.rule.Value.TheVariants as values
 -- what a rule writes or tells, without where its bytes lie in memory
 pub data PutView : Type 0 where
   PutsCopy : ℕ → PutView
+  PutsAfter : (part last : ℕ) → PutView
   PutsText : List ℕ → PutView
   PutsInner : ℕ → PutView
   PutsWrapped : ℕ → PutView
@@ -31,6 +32,7 @@ pub record RuleView : Type 0 where
 
 abbrev pub put_view : Put → PutView
 put_view (puts.Copy number) = PutsCopy number
+put_view (puts.After part last) = PutsAfter part last
 put_view (puts.Text bytes) = PutsText bytes.now
 put_view (puts.Inner number) = PutsInner number
 put_view (puts.Wrapped number) = PutsWrapped number
@@ -48,13 +50,15 @@ abbrev pub table_of_rules : List RuleView
 table_of_rules =
     record { parts = (parts.Is (classes.Reserved words.Go)) ∷ (parts.Is (classes.Reserved words.To)) ∷ []; action = Writes ((PutsText (codes "GOTO")) ∷ []) }
     ∷ record { parts = (parts.Is classes.FirstNumber) ∷ (parts.Is (classes.Mark marks.Colon)) ∷ []; action = Writes [] }
-    ∷ record { parts = (parts.Is (classes.Reserved words.Eof)) ∷ []; action = Writes [] }
-    ∷ record { parts = (parts.Is (classes.Mark marks.Colon)) ∷ (parts.Is classes.EndOfDo) ∷ (parts.Is classes.Name) ∷ []; action = Writes ((PutsCopy 0) ∷ (PutsText (codes " ; ")) ∷ (PutsCopy 1) ∷ []) }
-    ∷ record { parts = (parts.Is (classes.Mark marks.Colon)) ∷ (parts.Is classes.EndOfDo) ∷ []; action = Writes ((PutsCopy 0) ∷ (PutsText (codes " ; ")) ∷ (PutsCopy 1) ∷ []) }
-    ∷ record { parts = (parts.Is (classes.Mark marks.Colon)) ∷ (parts.Is (classes.Reserved words.End)) ∷ []; action = Writes ((PutsCopy 0) ∷ (PutsText (codes " ; ")) ∷ (PutsCopy 1) ∷ []) }
+    ∷ record { parts = parts.EndOfText ∷ []; action = Writes [] }
+    ∷ record { parts = (parts.Is (classes.Reserved words.Eof)) ∷ []; action = Tells (codes "EOF: delete it and what follows it, or write another name") }
+    ∷ record { parts = (parts.Is (classes.Mark marks.Colon)) ∷ (parts.Is classes.EndOfDo) ∷ (parts.Is classes.Name) ∷ []; action = Writes ((PutsCopy 0) ∷ (PutsText (codes " ;")) ∷ (PutsAfter 0 1) ∷ []) }
+    ∷ record { parts = (parts.Is (classes.Mark marks.Colon)) ∷ (parts.Is classes.EndOfDo) ∷ []; action = Writes ((PutsCopy 0) ∷ (PutsText (codes " ;")) ∷ (PutsAfter 0 1) ∷ []) }
+    ∷ record { parts = (parts.Is (classes.Mark marks.Colon)) ∷ (parts.Is (classes.Reserved words.End)) ∷ []; action = Writes ((PutsCopy 0) ∷ (PutsText (codes " ;")) ∷ (PutsAfter 0 1) ∷ []) }
     ∷ record { parts = (parts.Is classes.EndOfDo) ∷ (parts.Is classes.Name) ∷ []; action = Writes ((PutsCopy 0) ∷ []) }
     ∷ record { parts = (parts.Is (classes.Mark marks.Period)) ∷ (parts.Is classes.String) ∷ []; action = Writes ((PutsText (codes ".(")) ∷ (PutsCopy 1) ∷ (PutsText (codes ")")) ∷ []) }
     ∷ record { parts = (parts.Is (classes.Mark marks.Period)) ∷ (parts.Is classes.Number) ∷ []; action = Writes ((PutsText (codes ".(")) ∷ (PutsCopy 1) ∷ (PutsText (codes ")")) ∷ []) }
+    ∷ record { parts = (parts.Is (classes.Mark marks.Period)) ∷ (parts.Is classes.Constant) ∷ []; action = Tells (codes "a dot before a name for a number: write .(N), or another name") }
     ∷ record { parts = (parts.Is classes.Name) ∷ parts.Assigning ∷ []; action = Writes ((PutsCopy 0) ∷ (PutsWrapped 1) ∷ []) }
     ∷ record { parts = (parts.Is (classes.Reserved words.Declare)) ∷ parts.Names ∷ (parts.Is (classes.Reserved words.Label)) ∷ parts.Scope ∷ []; action = Tells (codes "a label of several modules: write a procedure, PUBLIC and EXTERNAL") }
     ∷ record { parts = (parts.Is (classes.Mark marks.Comma)) ∷ parts.Names ∷ (parts.Is (classes.Reserved words.Label)) ∷ parts.Scope ∷ []; action = Tells (codes "a label of several modules: write a procedure, PUBLIC and EXTERNAL") }
@@ -73,25 +77,28 @@ table_of_rules =
     ∷ record { parts = (parts.Is (classes.Reserved words.External)) ∷ (parts.Is (classes.Reserved words.Data)) ∷ []; action = Writes ((PutsCopy 0) ∷ []) }
     ∷ record { parts = (parts.Is classes.Name) ∷ (parts.Is (classes.Reserved words.Data)) ∷ []; action = Writes ((PutsCopy 0) ∷ (PutsText (codes "(*) BYTE ")) ∷ (PutsCopy 1) ∷ []) }
     ∷ record { parts = parts.BasedOne ∷ []; action = Writes ((PutsInner 0) ∷ []) }
-    ∷ record { parts = parts.BasedList ∷ parts.Type ∷ parts.Scope ∷ []; action = Tells (codes "a list with BASED: write each name with its own attributes") }
-    ∷ record { parts = parts.BasedList ∷ parts.Type ∷ parts.Values ∷ []; action = Tells (codes "a list with BASED: write each name with its own attributes") }
+    ∷ record { parts = parts.BasedList ∷ parts.Type ∷ parts.Attribute ∷ []; action = Tells (codes "a list with BASED: write each name with its own attributes") }
     ∷ record { parts = parts.BasedList ∷ parts.Type ∷ []; action = Writes ((PutsEach 1 1 values.Nothing) ∷ []) }
+    ∷ record { parts = parts.BasedList ∷ (parts.Is (classes.Reserved words.Structure)) ∷ parts.Group ∷ parts.Attribute ∷ []; action = Tells (codes "a list with BASED: write each name with its own attributes") }
     ∷ record { parts = parts.BasedList ∷ (parts.Is (classes.Reserved words.Structure)) ∷ parts.Group ∷ []; action = Writes ((PutsEach 1 2 values.Nothing) ∷ []) }
+    ∷ record { parts = parts.BasedList ∷ parts.Group ∷ parts.Type ∷ parts.Attribute ∷ []; action = Tells (codes "a list with BASED: write each name with its own attributes") }
     ∷ record { parts = parts.BasedList ∷ parts.Group ∷ parts.Type ∷ []; action = Writes ((PutsEach 1 2 values.Nothing) ∷ []) }
+    ∷ record { parts = parts.BasedList ∷ parts.Group ∷ (parts.Is (classes.Reserved words.Structure)) ∷ parts.Group ∷ parts.Attribute ∷ []; action = Tells (codes "a list with BASED: write each name with its own attributes") }
     ∷ record { parts = parts.BasedList ∷ parts.Group ∷ (parts.Is (classes.Reserved words.Structure)) ∷ parts.Group ∷ []; action = Writes ((PutsEach 1 3 values.Nothing) ∷ []) }
     ∷ record { parts = parts.List ∷ parts.Type ∷ parts.Values ∷ parts.Group ∷ parts.Scope ∷ []; action = Tells (codes "values for several names: write each name with its own, after PUBLIC") }
-    ∷ record { parts = parts.List ∷ parts.Type ∷ parts.Scope ∷ parts.Values ∷ parts.ItemsFor ∷ []; action = Writes ((PutsEach 1 3 (values.Item 4)) ∷ []) }
+    ∷ record { parts = parts.List ∷ parts.Type ∷ (parts.Is (classes.Reserved words.Public)) ∷ parts.Values ∷ parts.ItemsFor ∷ []; action = Writes ((PutsEach 1 3 (values.Item 4)) ∷ []) }
     ∷ record { parts = parts.List ∷ parts.Type ∷ parts.Values ∷ parts.ItemsFor ∷ []; action = Writes ((PutsEach 1 2 (values.Item 3)) ∷ []) }
     ∷ record { parts = parts.List ∷ parts.Type ∷ (parts.Is (classes.Reserved words.At)) ∷ parts.Group ∷ parts.Scope ∷ []; action = Tells (codes "AT for several names: write PUBLIC or EXTERNAL before AT") }
     ∷ record { parts = parts.List ∷ parts.Type ∷ (parts.Is (classes.Reserved words.At)) ∷ parts.Group ∷ parts.Values ∷ []; action = Tells (codes "AT with a value: write an assignment at the beginning of the program") }
+    ∷ record { parts = parts.List ∷ parts.Type ∷ parts.Scope ∷ (parts.Is (classes.Reserved words.At)) ∷ parts.Group ∷ parts.Values ∷ []; action = Tells (codes "AT with a value: write an assignment at the beginning of the program") }
     ∷ record { parts = parts.List ∷ (parts.Is (classes.Reserved words.Byte)) ∷ (parts.Is (classes.Reserved words.At)) ∷ parts.Group ∷ []; action = Writes ((PutsEach 1 2 (values.Address 3 1)) ∷ []) }
     ∷ record { parts = parts.List ∷ (parts.Is (classes.Reserved words.Byte)) ∷ parts.Scope ∷ (parts.Is (classes.Reserved words.At)) ∷ parts.Group ∷ []; action = Writes ((PutsEach 1 3 (values.Address 4 1)) ∷ []) }
     ∷ record { parts = parts.List ∷ (parts.Is (classes.Reserved words.Address)) ∷ (parts.Is (classes.Reserved words.At)) ∷ parts.Group ∷ []; action = Writes ((PutsEach 1 2 (values.Address 3 2)) ∷ []) }
     ∷ record { parts = parts.List ∷ (parts.Is (classes.Reserved words.Address)) ∷ parts.Scope ∷ (parts.Is (classes.Reserved words.At)) ∷ parts.Group ∷ []; action = Writes ((PutsEach 1 3 (values.Address 4 2)) ∷ []) }
     ∷ record { parts = parts.List ∷ parts.Type ∷ parts.Values ∷ []; action = Tells (codes "values for several names: write each name with its own") }
-    ∷ record { parts = parts.List ∷ parts.Type ∷ parts.Scope ∷ parts.Values ∷ []; action = Tells (codes "values for several names: write each name with its own") }
+    ∷ record { parts = parts.List ∷ parts.Type ∷ (parts.Is (classes.Reserved words.Public)) ∷ parts.Values ∷ []; action = Tells (codes "values for several names: write each name with its own") }
     ∷ record { parts = parts.List ∷ parts.Group ∷ parts.Type ∷ parts.Values ∷ []; action = Tells (codes "values for several arrays: write each array with its own") }
-    ∷ record { parts = parts.List ∷ parts.Group ∷ parts.Type ∷ parts.Scope ∷ parts.Values ∷ []; action = Tells (codes "values for several arrays: write each array with its own") }
+    ∷ record { parts = parts.List ∷ parts.Group ∷ parts.Type ∷ (parts.Is (classes.Reserved words.Public)) ∷ parts.Values ∷ []; action = Tells (codes "values for several arrays: write each array with its own") }
     ∷ record { parts = parts.List ∷ parts.Group ∷ parts.Type ∷ (parts.Is (classes.Reserved words.At)) ∷ []; action = Tells (codes "AT for several arrays: write each array with its own") }
     ∷ record { parts = parts.List ∷ parts.Group ∷ parts.Type ∷ parts.Scope ∷ (parts.Is (classes.Reserved words.At)) ∷ []; action = Tells (codes "AT for several arrays: write each array with its own") }
     ∷ record { parts = (parts.Is (classes.Reserved words.At)) ∷ parts.Group ∷ parts.Values ∷ []; action = Tells (codes "AT with a value: write an assignment at the beginning of the program") }

@@ -26,6 +26,11 @@ abbrev pub attributes_of : List ℕ → List Part → ℕ → List Seen → ℕ 
 attributes_of source parts first words from last =
     between source (start_of (words_of_part parts from first words)) (end_after 0 (words_of_part parts last first words))
 
+-- what comes after a part, up to the end of another
+abbrev pub text_after : List ℕ → List Part → ℕ → List Seen → ℕ → ℕ → List ℕ
+text_after source parts first words part last =
+    between source (end_after 0 (words_of_part parts part first words)) (end_after 0 (words_of_part parts last first words))
+
 -- the words of the group that has the values
 abbrev pub values_of : List Part → ℕ → List Seen → Value → List Seen
 values_of parts first words values.Nothing = []
@@ -44,6 +49,7 @@ divided source attributes value values names =
 -- what a rule with these parts writes for one of its pieces
 abbrev pub put_text : List ℕ → List Part → ℕ → List Seen → Put → List ℕ
 put_text source parts first words (puts.Copy number) = text_of source (words_of_part parts number first words)
+put_text source parts first words (puts.After part last) = text_after source parts first words part last
 put_text source parts first words (puts.Text bytes) = bytes.now
 put_text source parts first words (puts.Inner number) = text_of source (inner (words_of_part parts number first words))
 put_text source parts first words (puts.Wrapped number) = wrapped source (inner (words_of_part parts number first words))

@@ -23,7 +23,9 @@ pub enum Class {
     Mark(Mark),
     /// The END of a DO that is in a block.
     EndOfDo,
-    /// A name that LITERALLY defines as a string, as no word, or as several.
+    /// A name that LITERALLY defines as a number.
+    Constant,
+    /// A name that LITERALLY defines as no word, or as several.
     Several,
 }
 
@@ -125,6 +127,7 @@ fn class_of(words: &[Word], kind: Kind, first: bool) -> Class
 {
     match words {
         [word] if !is_value(word.kind) || is_value(kind) => class_of_kind(word.kind, first),
+        [_] => Class::Constant,
         _ => Class::Several,
     }
 }

@@ -2,7 +2,7 @@
 
 ghost use Rattle.std.specs.Prelude.{◌≡◌, ◌++◌, IfOk};
 ghost use Rattle.words.specs.Characters.{is_word_byte};
-ghost use Rattle.convert.specs.Edits.{byte_at, byte_before, change_of, changes_of, gap, set_apart, spliced};
+ghost use Rattle.convert.specs.Edits.{apart, changes_of, gap, last_after, spliced};
 
 use crate::texts::between;
 use std::alloc::{AllocError, Global};
@@ -22,27 +22,6 @@ fn is_word_byte(b: u8) -> bool
     b.is_ascii_alphabetic() || b.is_ascii_digit() || b == b'$'
 }
 
-// The byte before a place of a text, or a blank.
-fn byte_before(source: &[u8], place: usize) -> u8
-    ensures { result ≡ byte_before source.now place }
-{
-    if place == 0 {
-        b' '
-    } else {
-        byte_at(source, place - 1)
-    }
-}
-
-// The byte at a place of a text, or a blank.
-fn byte_at(source: &[u8], place: usize) -> u8
-    ensures { result ≡ byte_at source.now place }
-{
-    match source.get(place) {
-        Some(byte) => *byte,
-        None => b' ',
-    }
-}
-
 // Adds a blank between two bytes that would be of one word.
 fn write_gap(before: u8, after: u8, text: &mut Vec<u8>) -> Result<(), AllocError>
     ensures { IfOk result (λ _. text.new.items ≡ text.old.items ++ gap before after) }
@@ -53,37 +32,45 @@ fn write_gap(before: u8, after: u8, text: &mut Vec<u8>) -> Result<(), AllocError
     Ok(())
 }
 
-// Adds the text of a change, apart from the words that stand before and after it.
-fn write_apart(source: &[u8], edit: &Edit, text: &mut Vec<u8>) -> Result<(), AllocError>
-    ensures { IfOk result (λ _. text.new.items
-        ≡ text.old.items ++ set_apart source.now (change_of edit.now)) }
+// Adds a piece after a byte, apart from it if both would be of one word.
+fn write_piece(last: u8, piece: &[u8], text: &mut Vec<u8>) -> Result<(), AllocError>
+    ensures { IfOk result (λ _. text.new.items ≡ text.old.items ++ apart last piece.now) }
 {
-    let own = edit.text.as_slice();
-    let before = byte_before(source, edit.from);
-    let after = byte_at(source, edit.to);
-    let first = match own.get(0) {
-        Some(byte) => *byte,
-        None => after,
-    };
-    write_gap(before, first, text)?;
-    text.extend_from_slice(own)?;
-    write_gap(byte_before(own, own.len()), after, text)?;
+    if let [first, ..] = piece {
+        write_gap(last, *first, text)?;
+    }
+    text.extend_from_slice(piece)?;
     Ok(())
 }
 
-/// A text with changes made. A change of which the text would run into the word before or after it is set apart by a blank.
+// The last byte of a piece, or the one before it.
+fn last_after(last: u8, piece: &[u8]) -> u8
+    ensures { result ≡ last_after last piece.now }
+{
+    if piece.is_empty() {
+        last
+    } else {
+        piece[piece.len() - 1]
+    }
+}
+
+/// A text with changes made. Where two pieces of it would run into one word, they are set apart by a blank.
 pub(crate) fn splice(alloc: Global, source: &[u8], edits: &[Edit]) -> Result<Vec<u8>, AllocError>
-    ensures { IfOk result (λ text. text.items ≡ spliced 0 source.now (changes_of edits.now)) }
+    ensures { IfOk result (λ text. text.items ≡ spliced source.now (changes_of edits.now)) }
 {
     let mut text = Vec::new(alloc);
+    let mut last = b' ';
     let mut place = 0;
     let mut rest = edits;
     while let [edit, more @ ..] = rest {
-        text.extend_from_slice(between(source, place, edit.from))?;
-        write_apart(source, edit, &mut text)?;
+        let kept = between(source, place, edit.from);
+        write_piece(last, kept, &mut text)?;
+        last = last_after(last, kept);
+        write_piece(last, edit.text.as_slice(), &mut text)?;
+        last = last_after(last, edit.text.as_slice());
         place = edit.to;
         rest = more;
     }
-    text.extend_from_slice(between(source, place, source.len()))?;
+    write_piece(last, between(source, place, source.len()), &mut text)?;
     Ok(text)
 }

@@ -1,9 +1,9 @@
 //! Lines of old sources.
 
-ghost use Rattle.std.specs.Prelude.{◌≡◌, ◌≤◌, ◌++◌, ◌==◌, ◌||◌, ◌-◌, get_or, length, map, IfOk};
+ghost use Rattle.std.specs.Prelude.{◌≡◌, ◌≤◌, ◌++◌, ◌==◌, ◌||◌, ◌-◌, false, get_or, length, map, IfOk};
 ghost use Rattle.std.specs.List.{join_with_byte};
 ghost use Rattle.std.specs.Str.{str_eq_ignore_ascii_case};
-ghost use Rattle.convert.specs.Lines.{control_in, emptied, is_among, is_control, line_notes, lines_of, note_on, notes_from, plain, return_of, words_of};
+ghost use Rattle.convert.specs.Lines.{bare, bare_byte, control_in, emptied, enclosed_after, is_among, is_control, line_notes, lines_of, note_on, notes_from, plain, quoted_after, return_of, words_of};
 
 use crate::controls::Control;
 use crate::converting::Note;
@@ -132,10 +132,64 @@ fn note_line(
     if !is_control(line) {
         return Ok(());
     }
-    let words = words_of(alloc, line)?;
-    let found = control_in(controls, words.as_slice());
-    drop(words);
+    let found = control_of(alloc, controls, line)?;
     note_on(number, found, notes)
+}
+
+// The first of controls of which the word is in a line, but not in quotes or in parentheses.
+fn control_of(
+    alloc: Global,
+    controls: &[Control],
+    line: &[u8],
+) -> Result<Option<Control>, AllocError>
+    ensures { IfOk result
+        (λ found. found ≡ control_in controls.now (words_of (bare false false line.now))) }
+{
+    let text = bare(alloc, line)?;
+    let words = words_of(alloc, text.as_slice())?;
+    Ok(control_in(controls, words.as_slice()))
+}
+
+// A line, with a blank for each byte in quotes or in parentheses.
+fn bare(alloc: Global, line: &[u8]) -> Result<Vec<u8>, AllocError>
+    ensures { IfOk result (λ text. text.items ≡ bare false false line.now) }
+{
+    let mut text = Vec::new(alloc);
+    let mut quoted = false;
+    let mut enclosed = false;
+    let mut rest = line;
+    while let [byte, more @ ..] = rest {
+        text.push(bare_byte(quoted, enclosed, *byte))?;
+        enclosed = enclosed_after(quoted, enclosed, *byte);
+        quoted = quoted_after(quoted, *byte);
+        rest = more;
+    }
+    Ok(text)
+}
+
+// A byte, or a blank for one in quotes or in parentheses.
+fn bare_byte(quoted: bool, enclosed: bool, byte: u8) -> u8
+    ensures { result ≡ bare_byte quoted enclosed byte }
+{
+    if quoted || enclosed { b' ' } else { byte }
+}
+
+// Whether what comes after a byte is in parentheses.
+fn enclosed_after(quoted: bool, enclosed: bool, byte: u8) -> bool
+    ensures { result ≡ enclosed_after quoted enclosed byte }
+{
+    match byte {
+        b'(' if !quoted => true,
+        b')' if !quoted => false,
+        _ => enclosed,
+    }
+}
+
+// Whether what comes after a byte is in quotes.
+fn quoted_after(quoted: bool, byte: u8) -> bool
+    ensures { result ≡ quoted_after quoted byte }
+{
+    if byte == b'\'' { !quoted } else { quoted }
 }
 
 // The words of a line.

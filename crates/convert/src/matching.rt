@@ -1,8 +1,8 @@
 //! Where rules fit.
 
 ghost use Rattle.std.specs.Prelude.{◌≡◌, ◌≤◌, ◌+◌, length};
-ghost use Rattle.convert.specs.Numbers.{is_name, is_scope, is_type, is_values};
-ghost use Rattle.convert.specs.Matching.{based_length, part_length, length_of_parts, list_length, class_length, name_length, one, assigning_length, items_length};
+ghost use Rattle.convert.specs.Numbers.{is_attribute, is_name, is_scope, is_type, is_values};
+ghost use Rattle.convert.specs.Matching.{based_length, part_length, length_of_parts, list_length, class_length, name_length, one, assigning_length, items_length, end_length};
 
 use crate::class::{Class, Seen};
 use crate::groups::{commas, group_length, has_assignment, has_based, has_text, inner};
@@ -50,6 +50,8 @@ pub(crate) fn part_length(part: Part, first: usize, words: &[Seen]) -> usize
         Part::List => list_length(words),
         Part::Assigning => assigning_length(words),
         Part::ItemsFor => items_length(first, words),
+        Part::Attribute => attribute_length(words),
+        Part::EndOfText => end_length(words),
     }
 }
 
@@ -89,6 +91,27 @@ fn values_length(words: &[Seen]) -> usize
 {
     match words {
         [seen, ..] if is_values(seen.class) => 1,
+        _ => 0,
+    }
+}
+
+fn attribute_length(words: &[Seen]) -> usize
+    ensures length { result ≡ one is_attribute words.now }
+    ensures within { result ≤ length words.now }
+{
+    match words {
+        [seen, ..] if is_attribute(seen.class) => 1,
+        _ => 0,
+    }
+}
+
+// EOF, if it is the last word.
+fn end_length(words: &[Seen]) -> usize
+    ensures length { result ≡ end_length words.now }
+    ensures within { result ≤ length words.now }
+{
+    match words {
+        [_] => class_length(Class::Reserved(ReservedWord::Eof), words),
         _ => 0,
     }
 }
@@ -195,5 +218,14 @@ fn is_values(class: Class) -> bool
         Class::Reserved(ReservedWord::Initial) => true,
         Class::Reserved(ReservedWord::Data) => true,
         _ => false,
+    }
+}
+
+fn is_attribute(class: Class) -> bool
+    ensures { result ≡ is_attribute class }
+{
+    match class {
+        Class::Reserved(ReservedWord::At) => true,
+        _ => is_scope(class) || is_values(class),
     }
 }

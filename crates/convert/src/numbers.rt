@@ -17,8 +17,9 @@ pub(crate) fn class_number(class: Class) -> u8
         Class::String => 3,
         Class::EndOfDo => 4,
         Class::Several => 5,
-        Class::Mark(mark) => 6 + mark_number(mark),
-        Class::Reserved(word) => 23 + word_number(word),
+        Class::Constant => 6,
+        Class::Mark(mark) => 7 + mark_number(mark),
+        Class::Reserved(word) => 24 + word_number(word),
     }
 }
 

@@ -27,6 +27,10 @@ pub enum Part {
     Assigning,
     /// A group with as many items as the rule's first part, and no string of several characters.
     ItemsFor,
+    /// PUBLIC, EXTERNAL, AT, INITIAL or DATA.
+    Attribute,
+    /// EOF, if it is the last word of the text.
+    EndOfText,
 }
 
 /// A piece of what a rule writes. A part is given by its number, from 0.
@@ -34,6 +38,8 @@ pub enum Part {
 pub enum Put {
     /// The text of a part.
     Copy(u8),
+    /// What comes after a part, up to the end of another.
+    After(u8, u8),
     /// These bytes.
     Text(&'static [u8]),
     /// The text of a group without its parentheses.

@@ -19,6 +19,8 @@ const AT: Part = Part::Is(Class::Reserved(ReservedWord::At));
 
 const EXTERNAL: Part = Part::Is(Class::Reserved(ReservedWord::External));
 
+const PUBLIC: Part = Part::Is(Class::Reserved(ReservedWord::Public));
+
 const REENTRANT: Part = Part::Is(Class::Reserved(ReservedWord::Reentrant));
 
 const STRUCTURE: Part = Part::Is(Class::Reserved(ReservedWord::Structure));
@@ -40,7 +42,7 @@ const NAME: Part = Part::Is(Class::Name);
 const SPACE: Put = Put::Text(b" ");
 
 /// The rules.
-pub static RULES: [Rule; 56] = [
+pub static RULES: [Rule; 61] = [
     // words
     Rule {
         parts: &[
@@ -54,20 +56,24 @@ pub static RULES: [Rule; 56] = [
         action: Action::Write(&[]),
     },
     Rule {
-        parts: &[Part::Is(Class::Reserved(ReservedWord::Eof))],
+        parts: &[Part::EndOfText],
         action: Action::Write(&[]),
     },
     Rule {
+        parts: &[Part::Is(Class::Reserved(ReservedWord::Eof))],
+        action: Action::Tell("EOF: delete it and what follows it, or write another name"),
+    },
+    Rule {
         parts: &[COLON, Part::Is(Class::EndOfDo), NAME],
-        action: Action::Write(&[Put::Copy(0), Put::Text(b" ; "), Put::Copy(1)]),
+        action: Action::Write(&[Put::Copy(0), Put::Text(b" ;"), Put::After(0, 1)]),
     },
     Rule {
         parts: &[COLON, Part::Is(Class::EndOfDo)],
-        action: Action::Write(&[Put::Copy(0), Put::Text(b" ; "), Put::Copy(1)]),
+        action: Action::Write(&[Put::Copy(0), Put::Text(b" ;"), Put::After(0, 1)]),
     },
     Rule {
         parts: &[COLON, Part::Is(Class::Reserved(ReservedWord::End))],
-        action: Action::Write(&[Put::Copy(0), Put::Text(b" ; "), Put::Copy(1)]),
+        action: Action::Write(&[Put::Copy(0), Put::Text(b" ;"), Put::After(0, 1)]),
     },
     Rule {
         parts: &[Part::Is(Class::EndOfDo), NAME],
@@ -80,6 +86,10 @@ pub static RULES: [Rule; 56] = [
     Rule {
         parts: &[PERIOD, Part::Is(Class::Number)],
         action: Action::Write(&[Put::Text(b".("), Put::Copy(1), Put::Text(b")")]),
+    },
+    Rule {
+        parts: &[PERIOD, Part::Is(Class::Constant)],
+        action: Action::Tell("a dot before a name for a number: write .(N), or another name"),
     },
     Rule {
         parts: &[NAME, Part::Assigning],
@@ -166,11 +176,7 @@ pub static RULES: [Rule; 56] = [
         action: Action::Write(&[Put::Inner(0)]),
     },
     Rule {
-        parts: &[Part::BasedList, Part::Type, Part::Scope],
-        action: Action::Tell("a list with BASED: write each name with its own attributes"),
-    },
-    Rule {
-        parts: &[Part::BasedList, Part::Type, Part::Values],
+        parts: &[Part::BasedList, Part::Type, Part::Attribute],
         action: Action::Tell("a list with BASED: write each name with its own attributes"),
     },
     Rule {
@@ -182,6 +188,10 @@ pub static RULES: [Rule; 56] = [
         }]),
     },
     Rule {
+        parts: &[Part::BasedList, STRUCTURE, Part::Group, Part::Attribute],
+        action: Action::Tell("a list with BASED: write each name with its own attributes"),
+    },
+    Rule {
         parts: &[Part::BasedList, STRUCTURE, Part::Group],
         action: Action::Write(&[Put::Each {
             first: 1,
@@ -190,12 +200,26 @@ pub static RULES: [Rule; 56] = [
         }]),
     },
     Rule {
+        parts: &[Part::BasedList, Part::Group, Part::Type, Part::Attribute],
+        action: Action::Tell("a list with BASED: write each name with its own attributes"),
+    },
+    Rule {
         parts: &[Part::BasedList, Part::Group, Part::Type],
         action: Action::Write(&[Put::Each {
             first: 1,
             last: 2,
             value: Value::Nothing,
         }]),
+    },
+    Rule {
+        parts: &[
+            Part::BasedList,
+            Part::Group,
+            STRUCTURE,
+            Part::Group,
+            Part::Attribute,
+        ],
+        action: Action::Tell("a list with BASED: write each name with its own attributes"),
     },
     Rule {
         parts: &[Part::BasedList, Part::Group, STRUCTURE, Part::Group],
@@ -219,13 +243,7 @@ pub static RULES: [Rule; 56] = [
         ),
     },
     Rule {
-        parts: &[
-            Part::List,
-            Part::Type,
-            Part::Scope,
-            Part::Values,
-            Part::ItemsFor,
-        ],
+        parts: &[Part::List, Part::Type, PUBLIC, Part::Values, Part::ItemsFor],
         action: Action::Write(&[Put::Each {
             first: 1,
             last: 3,
@@ -246,6 +264,19 @@ pub static RULES: [Rule; 56] = [
     },
     Rule {
         parts: &[Part::List, Part::Type, AT, Part::Group, Part::Values],
+        action: Action::Tell(
+            "AT with a value: write an assignment at the beginning of the program",
+        ),
+    },
+    Rule {
+        parts: &[
+            Part::List,
+            Part::Type,
+            Part::Scope,
+            AT,
+            Part::Group,
+            Part::Values,
+        ],
         action: Action::Tell(
             "AT with a value: write an assignment at the beginning of the program",
         ),
@@ -287,7 +318,7 @@ pub static RULES: [Rule; 56] = [
         action: Action::Tell("values for several names: write each name with its own"),
     },
     Rule {
-        parts: &[Part::List, Part::Type, Part::Scope, Part::Values],
+        parts: &[Part::List, Part::Type, PUBLIC, Part::Values],
         action: Action::Tell("values for several names: write each name with its own"),
     },
     Rule {
@@ -295,13 +326,7 @@ pub static RULES: [Rule; 56] = [
         action: Action::Tell("values for several arrays: write each array with its own"),
     },
     Rule {
-        parts: &[
-            Part::List,
-            Part::Group,
-            Part::Type,
-            Part::Scope,
-            Part::Values,
-        ],
+        parts: &[Part::List, Part::Group, Part::Type, PUBLIC, Part::Values],
         action: Action::Tell("values for several arrays: write each array with its own"),
     },
     Rule {

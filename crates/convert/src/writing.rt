@@ -78,6 +78,12 @@ fn write_put(
             text.extend_from_slice(text_of(source, part))?;
             Ok(())
         }
+        Put::After(part, last) => {
+            let from = end_of(words_of_part(parts, part, first, words));
+            let to = end_of(words_of_part(parts, last, first, words));
+            text.extend_from_slice(between(source, from, to))?;
+            Ok(())
+        }
         Put::Text(bytes) => {
             text.extend_from_slice(bytes)?;
             Ok(())
