@@ -1,6 +1,6 @@
 //! Calls of procedures and of built-in functions.
 
-ghost use Rattle.std.specs.Prelude.{◌≡◌, IfOk, slice_get};
+ghost use Rattle.std.specs.Prelude.{◌≡◌, IfOk, Ok, slice_get};
 ghost use Rattle.trees.specs.Views.{argument_trees};
 ghost use Rattle.typed_trees.specs.Views.{arguments_view, expression_view, procedure_view};
 ghost use Rattle.typing.specs.Expressions.{arguments};
@@ -8,7 +8,7 @@ ghost use Rattle.typing.specs.Functions.{built_in_value, call_arguments, call_of
 ghost use Rattle.typing.specs.Functions.{shift_function, unary_function};
 ghost use Rattle.typing.specs.Nodes.{arguments_as as converted};
 ghost use Rattle.typed_expressions.specs.internal.Given.{as_given, given};
-ghost use Rattle.typing.specs.Results.{Gives};
+ghost use Rattle.typing.specs.Results.{Answers, Gives};
 ghost use Rattle.typed_expressions.specs.Views.{constants_view, known_view};
 
 use crate::checks::{refuse, require};
@@ -54,9 +54,9 @@ fn arguments_as(
     alloc: Global,
     scalars: &[ScalarType],
     values: Vec<TypedExpression>,
-) -> Result<Vec<TypedExpression>, AllocError>
-    ensures { IfOk result (λ made. arguments_view made.items
-        ≡ converted scalars.now (arguments_view values.items)) }
+) -> Result<Vec<TypedExpression>, Failure<Fault>>
+    ensures { Answers (λ made. arguments_view made.items) result
+        (Ok (converted scalars.now (arguments_view values.items))) }
 {
     let mut made = Vec::with_capacity(alloc, values.len())?;
     for value in values {
@@ -91,7 +91,7 @@ impl Known {
             line,
         )?;
         let typed = self.arguments(trees, constants)?;
-        Ok(arguments_as(self.alloc, scalars, typed)?)
+        arguments_as(self.alloc, scalars, typed)
     }
 
     /// A call of a typed procedure.

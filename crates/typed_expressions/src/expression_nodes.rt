@@ -1,6 +1,6 @@
 //! Making nodes of typed expressions, with the conversions that they need.
 
-ghost use Rattle.std.specs.Prelude.{◌≡◌};
+ghost use Rattle.std.specs.Prelude.{◌≡◌, IfOk, Ok};
 ghost use Rattle.typed_trees.specs.TypedTrees.{NumberNode, ValueNode, LocationNode, ListNode, AssignmentNode, CallNode};
 ghost use Rattle.typed_trees.specs.TypedTrees.{FunctionNode, InputNode};
 ghost use Rattle.typing.specs.Nodes.{as_type as converted_to, unary_node, binary_node, shift_node};
@@ -8,14 +8,17 @@ ghost use Rattle.typed_trees.specs.Views.{Makes, expression_view, reference_view
 ghost use Rattle.typing.specs.Constants.{type_of_number as number_type};
 ghost use Rattle.typing.specs.Nodes.{target_of as target_for};
 ghost use Rattle.typed_expressions.specs.Views.{destination_view};
+ghost use Rattle.typing.specs.Results.{Answers};
 ghost use Rattle.typing.specs.Nodes.{common_type as common, type_of_operands as operand_type, type_of_shift as shift_type};
 
 use crate::known::Destination;
+use failure::Failure;
 use std::alloc::{AllocError, Global};
 use trees::{BinaryOperator, ScalarType, UnaryOperator};
 use typed_trees::{
     NumberOrigin, ShiftFunction, TypedExpression, TypedReference, TypedTarget, UnaryFunction,
 };
+use typing::Fault;
 
 /// The type of a number.
 pub(crate) fn type_of_number(value: u16) -> ScalarType
@@ -76,8 +79,8 @@ pub(crate) fn value(
     alloc: Global,
     scalar: ScalarType,
     reference: TypedReference,
-) -> Result<TypedExpression, AllocError>
-    ensures view { Makes result (ValueNode scalar (reference_view reference)) }
+) -> Result<TypedExpression, Failure<Fault>>
+    ensures view { Answers expression_view result (Ok (ValueNode scalar (reference_view reference))) }
 {
     let reference = Box::new(alloc, reference)?;
     Ok(TypedExpression::Value { scalar, reference })
@@ -87,8 +90,8 @@ pub(crate) fn value(
 pub(crate) fn location(
     alloc: Global,
     reference: TypedReference,
-) -> Result<TypedExpression, AllocError>
-    ensures view { Makes result (LocationNode (reference_view reference)) }
+) -> Result<TypedExpression, Failure<Fault>>
+    ensures view { Answers expression_view result (Ok (LocationNode (reference_view reference))) }
 {
     Ok(TypedExpression::Location(Box::new(alloc, reference)?))
 }
@@ -118,13 +121,26 @@ pub fn as_type(
     }
 }
 
+/// The same value as one of a type, in a box.
+pub(crate) fn boxed_as_type(
+    alloc: Global,
+    expression: TypedExpression,
+    scalar: ScalarType,
+) -> Result<Box<TypedExpression>, AllocError>
+    ensures view { IfOk result
+        (λ made. expression_view made.value ≡ converted_to scalar (expression_view expression)) }
+{
+    let typed = as_type(alloc, expression, scalar)?;
+    Ok(Box::new(alloc, typed)?)
+}
+
 /// `(target := value)`
 pub(crate) fn assignment(
     alloc: Global,
     target: TypedTarget,
     value: TypedExpression,
-) -> Result<TypedExpression, AllocError>
-    ensures view { Makes result (AssignmentNode (target_view target) (expression_view value)) }
+) -> Result<TypedExpression, Failure<Fault>>
+    ensures view { Answers expression_view result (Ok (AssignmentNode (target_view target) (expression_view value))) }
 {
     let target = Box::new(alloc, target)?;
     let value = Box::new(alloc, value)?;
@@ -136,8 +152,8 @@ pub(crate) fn unary(
     alloc: Global,
     operator: UnaryOperator,
     operand: TypedExpression,
-) -> Result<TypedExpression, AllocError>
-    ensures view { Makes result (unary_node operator (expression_view operand)) }
+) -> Result<TypedExpression, Failure<Fault>>
+    ensures view { Answers expression_view result (Ok (unary_node operator (expression_view operand))) }
 {
     let scalar = operand.scalar();
     let operand = Box::new(alloc, operand)?;
@@ -154,14 +170,12 @@ pub(crate) fn binary(
     operator: BinaryOperator,
     left: TypedExpression,
     right: TypedExpression,
-) -> Result<TypedExpression, AllocError>
-    ensures view { Makes result (binary_node operator (expression_view left) (expression_view right)) }
+) -> Result<TypedExpression, Failure<Fault>>
+    ensures view { Answers expression_view result (Ok (binary_node operator (expression_view left) (expression_view right))) }
 {
     let operands = type_of_operands(operator, left.scalar(), right.scalar());
-    let left = as_type(alloc, left, operands)?;
-    let right = as_type(alloc, right, operands)?;
-    let left = Box::new(alloc, left)?;
-    let right = Box::new(alloc, right)?;
+    let left = boxed_as_type(alloc, left, operands)?;
+    let right = boxed_as_type(alloc, right, operands)?;
     Ok(TypedExpression::Binary {
         operands,
         operator,
@@ -191,8 +205,8 @@ pub(crate) fn function(
     alloc: Global,
     function: UnaryFunction,
     operand: TypedExpression,
-) -> Result<TypedExpression, AllocError>
-    ensures view { Makes result (FunctionNode function (expression_view operand)) }
+) -> Result<TypedExpression, Failure<Fault>>
+    ensures view { Answers expression_view result (Ok (FunctionNode function (expression_view operand))) }
 {
     let operand = Box::new(alloc, operand)?;
     Ok(TypedExpression::Function { function, operand })
@@ -204,14 +218,12 @@ pub(crate) fn shift(
     function: ShiftFunction,
     value: TypedExpression,
     count: TypedExpression,
-) -> Result<TypedExpression, AllocError>
-    ensures view { Makes result (shift_node function (expression_view value) (expression_view count)) }
+) -> Result<TypedExpression, Failure<Fault>>
+    ensures view { Answers expression_view result (Ok (shift_node function (expression_view value) (expression_view count))) }
 {
     let scalar = type_of_shift(function, value.scalar());
-    let value = as_type(alloc, value, scalar)?;
-    let count = as_type(alloc, count, ScalarType::Byte)?;
-    let value = Box::new(alloc, value)?;
-    let count = Box::new(alloc, count)?;
+    let value = boxed_as_type(alloc, value, scalar)?;
+    let count = boxed_as_type(alloc, count, ScalarType::Byte)?;
     Ok(TypedExpression::Shift {
         scalar,
         function,

@@ -83,16 +83,16 @@ impl Known {
                 let destination = self.destination(target, constants)?;
                 let value = self.expression(value, constants)?;
                 let target = target_of(destination, value.scalar());
-                Ok(expression_nodes::assignment(self.alloc, target, value)?)
+                expression_nodes::assignment(self.alloc, target, value)
             }
             Expression::Unary(operator, operand) => {
                 let operand = self.expression(operand, constants)?;
-                Ok(expression_nodes::unary(self.alloc, *operator, operand)?)
+                expression_nodes::unary(self.alloc, *operator, operand)
             }
             Expression::Binary(operator, left, right) => {
                 let left = self.expression(left, constants)?;
                 let right = self.expression(right, constants)?;
-                Ok(expression_nodes::binary(self.alloc, *operator, left, right)?)
+                expression_nodes::binary(self.alloc, *operator, left, right)
             }
         }
     }
@@ -143,7 +143,7 @@ impl Known {
             line,
         )?;
         let indices = self.arguments(arguments, constants)?;
-        Ok(part_of_member(self.alloc, object, subscript, place, indices)?)
+        part_of_member(self.alloc, object, subscript, place, indices)
     }
 
     // What a reference to an object means.
@@ -230,7 +230,7 @@ impl Known {
                     Extent::AlsoTheWhole,
                     constants,
                 )?;
-                Ok(expression_nodes::location(self.alloc, part.reference)?)
+                expression_nodes::location(self.alloc, part.reference)
             }
             Binding::Declared(Entity::Procedure(_)) => Err(refuse(Cause::NoLocation, line)),
             _ => Err(refuse(Cause::WrongUse, line)),
@@ -280,7 +280,7 @@ impl Known {
             Binding::Declared(Entity::Object(number)) => {
                 let object = self.object(reference.name, number)?;
                 let found = self.scalar_part(reference, number, object, constants)?;
-                Ok(expression_nodes::value(self.alloc, found.scalar, found.reference)?)
+                expression_nodes::value(self.alloc, found.scalar, found.reference)
             }
             Binding::Declared(Entity::Procedure(number)) => {
                 let procedure = self.procedure(reference.name, number)?;

@@ -130,7 +130,7 @@ pub(crate) fn function_of(
     let Some(operand) = values.pop() else {
         return Err(Failure::Memory);
     };
-    Ok(expression_nodes::function(alloc, function, operand)?)
+    expression_nodes::function(alloc, function, operand)
 }
 
 /// SHL, SHR, ROL or ROR of a value and a count.
@@ -153,7 +153,7 @@ pub(crate) fn shift_of(
     let Some(value) = values.pop() else {
         return Err(Failure::Memory);
     };
-    Ok(expression_nodes::shift(alloc, function, value, count)?)
+    expression_nodes::shift(alloc, function, value, count)
 }
 
 impl Known {

@@ -1,6 +1,6 @@
 //! What references to objects mean.
 
-ghost use Rattle.std.specs.Prelude.{◌≡◌, None, IfOk, IfSome, IfNone};
+ghost use Rattle.std.specs.Prelude.{◌≡◌, None, Ok, IfOk, IfSome, IfNone};
 ghost use Rattle.trees.specs.Trees.{MoreArguments, NoArguments};
 ghost use Rattle.trees.specs.Views.{argument_trees, expression_tree};
 ghost use Rattle.typed_trees.specs.Views.{arguments_view, home_view, object_view, subscript_view, type_view};
@@ -11,7 +11,7 @@ ghost use Rattle.typed_expressions.specs.internal.Given.{extent_view, given_sele
 ghost use Rattle.typing.specs.Results.{Answers};
 
 use crate::checks::{refuse, require};
-use crate::expression_nodes::as_type;
+use crate::expression_nodes::boxed_as_type;
 use crate::known::Known;
 use crate::members::MemberPlace;
 use failure::Failure;
@@ -73,11 +73,11 @@ pub(crate) fn subscript_of(
     let Some(index) = indices.pop() else {
         return Ok(TypedSubscript::Absent);
     };
-    let index = as_type(alloc, index, ScalarType::Address)?;
+    let index = boxed_as_type(alloc, index, ScalarType::Address)?;
     Ok(TypedSubscript::Present {
         stride,
         count: u32::from(count),
-        index: Box::new(alloc, index)?,
+        index,
     })
 }
 
@@ -118,9 +118,9 @@ pub(crate) fn part_of_member(
     subscript: TypedSubscript,
     place: MemberPlace,
     indices: Vec<TypedExpression>,
-) -> Result<FoundPart, AllocError>
-    ensures { IfOk result (λ made. part_view made ≡ member_part object (subscript_view subscript)
-        (place_view place) (arguments_view indices.items)) }
+) -> Result<FoundPart, Failure<Fault>>
+    ensures { Answers part_view result (Ok (member_part object (subscript_view subscript)
+        (place_view place) (arguments_view indices.items))) }
 {
     let stride = match place.member.scalar {
         ScalarType::Byte => 1,

@@ -1,4 +1,4 @@
-use Rattle.typed_expressions.proofs.Prelude.{◌≡◌, ◌∷◌, ◌∙◌, length, refl, ap, arith, into_iter_items, into_iter_len, arguments_view, arguments_as}
+use Rattle.typed_expressions.proofs.Prelude.{◌≡◌, ◌∷◌, ◌∙◌, Ok, length, refl, ap, sym, arith, into_iter_items, into_iter_len, arguments_view, arguments_as}
 use Rattle.typed_expressions.proofs.ArgumentLoops.{converts_on, converts_no_more}
 use Rattle.typed_expressions.proofs.calls.arguments_as.Goals as goal
 
@@ -15,6 +15,6 @@ loop-value-preserved c =
 
 pub returns : goal.returns
 returns c =
-    converts_no_more c.args.scalars.now c.loop-value.made.items (into_iter_items c.loop-value.value-iterator) (into_iter_len c.loop-value.value-iterator) _
+    ap (λ made. Ok made) (sym (converts_no_more c.args.scalars.now c.loop-value.made.items (into_iter_items c.loop-value.value-iterator) (into_iter_len c.loop-value.value-iterator) _
     c.loop-value.invariant.counted c.in-None.ensures.steps.0 c.loop-value.invariant.left
-    ∙ ap (λ items. arguments_as c.args.scalars.now (arguments_view items)) c.into_iter-value-iterator.ensures.into_iter_gives.0
+    ∙ ap (λ items. arguments_as c.args.scalars.now (arguments_view items)) c.into_iter-value-iterator.ensures.into_iter_gives.0))

@@ -26,8 +26,8 @@ expression-returns-in_err-destination-in-Assignment t c = search (rules, given_i
 pub expression-returns-in_err-value-in-Assignment : goal.expression-returns-in_err-value-in-Assignment
 expression-returns-in_err-value-in-Assignment t c = search (rules, given_is)
 
-pub expression-returns-in_ok-assignment-in-Assignment : goal.expression-returns-in_ok-assignment-in-Assignment
-expression-returns-in_ok-assignment-in-Assignment t c = search (rules, given_is)
+pub expression-returns-in_ok-value-in-Assignment : goal.expression-returns-in_ok-value-in-Assignment
+expression-returns-in_ok-value-in-Assignment t c = search (rules, given_is)
 
 pub arguments-returns-in_err-argument : goal.arguments-returns-in_err-argument
 arguments-returns-in_err-argument t c =
