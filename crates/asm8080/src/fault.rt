@@ -3,7 +3,7 @@
 use thiserror::Error;
 
 /// Why code can't be assembled. If both causes hold, it is the first.
-#[derive(Clone, Copy, Debug, PartialEq, Eq, Error)]
+#[derive(Clone, Copy, Debug, Error)]
 pub enum Fault {
     /// A1: a label is not bound.
     #[error("a label that is not bound")]

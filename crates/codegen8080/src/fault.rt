@@ -3,7 +3,7 @@
 use thiserror::Error;
 
 /// A fault of code generation.
-#[derive(Clone, Copy, Debug, PartialEq, Eq, Error)]
+#[derive(Clone, Copy, Debug, Error)]
 pub enum Fault {
     /// G1: its code segment would have more than 65535 bytes.
     #[error("a code segment of more than 65535 bytes")]

@@ -53,7 +53,7 @@ pub struct Settings<'a> {
 }
 
 /// U4: an option has a text that is none of its values, or no fault has this number.
-#[derive(Clone, Copy, Debug, PartialEq, Eq, Error)]
+#[derive(Clone, Copy, Debug, Error)]
 #[error("`{text}` is not a value of its option")]
 pub struct ValueFault<'a> {
     /// The text.

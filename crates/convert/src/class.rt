@@ -7,7 +7,7 @@ use std::alloc::{AllocError, Global};
 use words::{Kind, Mark, ReservedWord, Word};
 
 /// What a word is to the rules. A name that LITERALLY defines as one word is what that word is.
-#[derive(Clone, Copy, PartialEq, Eq)]
+#[derive(Clone, Copy)]
 pub enum Class {
     /// A name.
     Name,

@@ -9,7 +9,7 @@ pub use writing::{WriteFault, write_bytes, write_some};
 
 /// Why a call that takes memory gave no value. Each crate has faults of its own, `F`, with a number and a line, and
 /// none of them speaks of memory.
-#[derive(Clone, Copy, Debug, PartialEq, Eq, Drop)]
+#[derive(Clone, Copy, Debug, Drop)]
 pub enum Failure<F> {
     /// What the call was handed has a fault.
     Fault(F),

@@ -11,7 +11,7 @@ use std::io::Write;
 use thiserror::Error;
 
 /// A writer did not take all that it was given.
-#[derive(Clone, Copy, Debug, PartialEq, Eq, Error)]
+#[derive(Clone, Copy, Debug, Error)]
 #[error("a write failed")]
 pub struct WriteFault;
 

@@ -6,7 +6,7 @@ use thiserror::Error;
 pub const BYTES_IN_LINE: usize = 16;
 
 /// Why a text is not a HEX text: the first fault in it.
-#[derive(Clone, Copy, Debug, PartialEq, Eq, Error)]
+#[derive(Clone, Copy, Debug, Error)]
 pub enum Fault {
     /// H1: neither a data line nor the end line, or text after the end line.
     #[error("a line that is neither a data line nor the last one")]

@@ -14,7 +14,7 @@ use std::io;
 use std::io::{ErrorKind, Write};
 
 /// How a command ended.
-#[derive(Clone, Copy, PartialEq, Eq)]
+#[derive(Clone, Copy)]
 pub enum Ending {
     /// All was done, the program ended, or help was printed.
     Done,

@@ -10,7 +10,7 @@ use std::{fs, io, rt};
 use thiserror::Error;
 
 /// There is no such file, or the device failed.
-#[derive(Clone, Copy, Debug, PartialEq, Eq, Error)]
+#[derive(Clone, Copy, Debug, Error)]
 #[error("a file can't be read or written")]
 pub struct FileFault;
 

@@ -2,7 +2,7 @@
 //! Manual, chapter 2).
 
 /// One of the seven registers of a byte.
-#[derive(Clone, Copy, PartialEq, Eq)]
+#[derive(Clone, Copy)]
 pub enum Register {
     B,
     C,
@@ -14,14 +14,14 @@ pub enum Register {
 }
 
 /// A register, or the byte of memory at the address in H and L, which is written M.
-#[derive(Clone, Copy, PartialEq, Eq)]
+#[derive(Clone, Copy)]
 pub enum Operand {
     Of(Register),
     M,
 }
 
 /// A pair of registers that holds a 16-bit value, or the stack pointer.
-#[derive(Clone, Copy, PartialEq, Eq)]
+#[derive(Clone, Copy)]
 pub enum Pair {
     Bc,
     De,
@@ -30,14 +30,14 @@ pub enum Pair {
 }
 
 /// A pair that holds the address of STAX and LDAX.
-#[derive(Clone, Copy, PartialEq, Eq)]
+#[derive(Clone, Copy)]
 pub enum IndexPair {
     IndexBc,
     IndexDe,
 }
 
 /// What PUSH and POP move: a pair of registers, or A and the flag byte.
-#[derive(Clone, Copy, PartialEq, Eq)]
+#[derive(Clone, Copy)]
 pub enum StackPair {
     StackBc,
     StackDe,
@@ -46,7 +46,7 @@ pub enum StackPair {
 }
 
 /// A condition of a jump, a call or a return.
-#[derive(Clone, Copy, PartialEq, Eq)]
+#[derive(Clone, Copy)]
 pub enum Condition {
     NotZero,
     Zero,
@@ -59,7 +59,7 @@ pub enum Condition {
 }
 
 /// An operation of a byte with the accumulator.
-#[derive(Clone, Copy, PartialEq, Eq)]
+#[derive(Clone, Copy)]
 pub enum Operation {
     Add,
     AddWithCarry,
@@ -72,7 +72,7 @@ pub enum Operation {
 }
 
 /// The number of a restart, from 0 to 7.
-#[derive(Clone, Copy, PartialEq, Eq)]
+#[derive(Clone, Copy)]
 pub enum Restart {
     N0,
     N1,
@@ -85,7 +85,7 @@ pub enum Restart {
 }
 
 /// An instruction with its operands.
-#[derive(Clone, Copy, PartialEq, Eq)]
+#[derive(Clone, Copy)]
 pub enum Instr {
     /// NOP: does nothing.
     Nop,

@@ -4,7 +4,7 @@ use thiserror::Error;
 use trees::Name;
 
 /// Why modules make no program. The names are those of the first EXTERNAL or PUBLIC with the fault; no fault has a line.
-#[derive(Clone, Copy, Debug, PartialEq, Eq, Error)]
+#[derive(Clone, Copy, Debug, Error)]
 pub enum Fault {
     /// J1: an EXTERNAL name that no module has as PUBLIC.
     #[error("{name} is EXTERNAL, and no module has it as PUBLIC")]

@@ -3,7 +3,7 @@
 use thiserror::Error;
 
 /// Why a module has no storage. Both faults are C18, and have no line.
-#[derive(Clone, Copy, Debug, PartialEq, Eq, Error)]
+#[derive(Clone, Copy, Debug, Error)]
 pub enum Fault {
     /// The data segment has over 65535 bytes.
     #[error("a data segment of over 65535 bytes")]

@@ -4,14 +4,14 @@
 pub const SEGMENT_LIMIT: u32 = 65_535;
 
 /// A segment that holds objects. The code segment begins with the constants of the module.
-#[derive(Clone, Copy, PartialEq, Eq)]
+#[derive(Clone, Copy)]
 pub enum Segment {
     Code,
     Data,
 }
 
 /// Where something lies in its segment, and how many bytes it takes.
-#[derive(Clone, Copy, PartialEq, Eq)]
+#[derive(Clone, Copy)]
 pub struct Slot {
     pub segment: Segment,
     pub offset: u32,

@@ -4,7 +4,7 @@ use object_modules::Name;
 use thiserror::Error;
 
 /// Why modules can't be merged: the first cause in this order.
-#[derive(Clone, Copy, Debug, PartialEq, Eq, Error)]
+#[derive(Clone, Copy, Debug, Error)]
 pub enum LinkFault {
     /// L1: a public name that a public before it has; the first such, module by module.
     #[error("the public name {name} stands in the modules twice")]

@@ -8,7 +8,7 @@ use thiserror::Error;
 
 /// Why a list of words has no expansion. `line` is that of the word of the list at which the fault is found,
 /// counted from 1.
-#[derive(Clone, Copy, Debug, PartialEq, Eq, Error)]
+#[derive(Clone, Copy, Debug, Error)]
 pub enum Fault {
     /// The text of a definition is not a list of words. Its line is that of the string.
     #[error("{0}, in the text of a LITERALLY definition")]

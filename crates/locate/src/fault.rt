@@ -3,7 +3,7 @@
 use thiserror::Error;
 
 /// Why a module can't be placed by a plan. If several causes hold, it is the first in this order.
-#[derive(Clone, Copy, Debug, PartialEq, Eq, Error)]
+#[derive(Clone, Copy, Debug, Error)]
 pub enum LocateFault {
     /// P3: an external name is left.
     #[error("an external name is left")]

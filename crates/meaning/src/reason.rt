@@ -1,7 +1,7 @@
 //! Why a run goes outside.
 
 /// Why a run goes outside what the language defines.
-#[derive(Clone, Copy, Debug, PartialEq, Eq)]
+#[derive(Clone, Copy, Debug)]
 pub enum Reason {
     /// A division by 0.
     Divide,

@@ -6,7 +6,7 @@ ghost use Rattle.mem80.specs.Range.{Meets};
 use std::marker::Model;
 
 /// The addresses from `start` on, `len` of them; with `len` 0 none.
-#[derive(Clone, Copy, Debug, PartialEq, Eq)]
+#[derive(Clone, Copy, Debug)]
 pub struct Range {
     pub start: u32,
     pub len: u32,

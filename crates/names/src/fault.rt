@@ -3,7 +3,7 @@
 use thiserror::Error;
 
 /// What is wrong with a name. Lines are counted from 1.
-#[derive(Clone, Copy, Debug, PartialEq, Eq, Error)]
+#[derive(Clone, Copy, Debug, Error)]
 pub enum Fault {
     /// A name is used where no declaration of it is known.
     #[error("line {line}: a name that is not declared here")]

@@ -3,7 +3,7 @@
 use thiserror::Error;
 
 /// Why bytes are not an object file: the first fault in them.
-#[derive(Clone, Copy, Debug, PartialEq, Eq, Error)]
+#[derive(Clone, Copy, Debug, Error)]
 pub enum Fault {
     /// O1: the bytes end within a record, or before an end-of-file record.
     #[error("the file ends within a record, or without an end-of-file record")]

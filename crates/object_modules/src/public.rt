@@ -5,7 +5,7 @@ use symbols::Name;
 
 /// A public name of a module: a place that other modules may refer to by the name (Public Declarations
 /// Record).
-#[derive(Clone, Copy, Debug, PartialEq, Eq)]
+#[derive(Clone, Copy, Debug)]
 pub struct OwnedPublic {
     /// The segment that the place is counted from; the stack has none in a valid module.
     pub segment: Segment,
@@ -15,7 +15,7 @@ pub struct OwnedPublic {
 }
 
 /// A public name, whose characters stand elsewhere.
-#[derive(Clone, Copy, Debug, PartialEq, Eq)]
+#[derive(Clone, Copy, Debug)]
 pub struct PublicName<'a> {
     pub segment: Segment,
     /// The place, from the start of the segment, 0 to 65535.

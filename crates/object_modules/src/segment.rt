@@ -4,7 +4,7 @@
 pub const SEGMENT_LIMIT: u32 = 65_535;
 
 /// What an offset is counted from.
-#[derive(Clone, Copy, Debug, PartialEq, Eq)]
+#[derive(Clone, Copy, Debug)]
 pub enum Segment {
     /// Segment 0: addresses that stay as they are.
     Absolute,
@@ -17,7 +17,7 @@ pub enum Segment {
 }
 
 /// Where a segment may begin.
-#[derive(Clone, Copy, Debug, PartialEq, Eq)]
+#[derive(Clone, Copy, Debug)]
 pub enum Alignment {
     /// Anywhere.
     Byte,
@@ -26,7 +26,7 @@ pub enum Alignment {
 }
 
 /// Which part of an address stands at a fixed place.
-#[derive(Clone, Copy, Debug, PartialEq, Eq)]
+#[derive(Clone, Copy, Debug)]
 pub enum FixKind {
     /// Kind 1: its low byte.
     Low,
@@ -37,7 +37,7 @@ pub enum FixKind {
 }
 
 /// What the address at a fixed place is counted from.
-#[derive(Clone, Copy, Debug, PartialEq, Eq)]
+#[derive(Clone, Copy, Debug)]
 pub enum Target {
     /// A segment of the module.
     InSegment(Segment),
@@ -46,7 +46,7 @@ pub enum Target {
 }
 
 /// A place that depends on where its target lies.
-#[derive(Clone, Copy, Debug, PartialEq, Eq)]
+#[derive(Clone, Copy, Debug)]
 pub struct Fix {
     pub kind: FixKind,
     pub target: Target,

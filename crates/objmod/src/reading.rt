@@ -19,7 +19,7 @@ use std::io::Read;
 use thiserror::Error;
 
 /// Why nothing was read from a reader.
-#[derive(Clone, Copy, Debug, PartialEq, Eq, Error)]
+#[derive(Clone, Copy, Debug, Error)]
 pub enum ReadFault {
     /// The reader failed.
     #[error("a file can't be read")]

@@ -3,7 +3,7 @@
 use thiserror::Error;
 
 /// Why bytes begin with no record.
-#[derive(Clone, Copy, Debug, PartialEq, Eq, Error)]
+#[derive(Clone, Copy, Debug, Error)]
 pub enum Fault {
     /// O1: the bytes end before the record does.
     #[error("the file ends within a record, or without an end-of-file record")]

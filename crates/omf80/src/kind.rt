@@ -12,7 +12,7 @@ pub const LENGTH_LIMIT: usize = 1028;
 pub const BODY_LIMIT: usize = 1027;
 
 /// The types of records that object files of this profile have.
-#[derive(Clone, Copy, Debug, PartialEq, Eq)]
+#[derive(Clone, Copy, Debug)]
 pub enum RecordKind {
     /// Type 02H: the name of the module, and its segments.
     Header,

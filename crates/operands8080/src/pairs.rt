@@ -11,7 +11,7 @@ use steps8080::{Site, Steps, Task, copy, set};
 use treecode::{ExpressionNumber, Place};
 
 /// The operand in HL. The other one is in DE.
-#[derive(Clone, Copy, PartialEq, Eq)]
+#[derive(Clone, Copy)]
 pub enum PairOrder {
     LeftInHl,
     RightInHl,

@@ -4,7 +4,7 @@ use thiserror::Error;
 use trees::Name;
 
 /// Why a program can't be placed by a plan. No fault has a line.
-#[derive(Clone, Copy, Debug, PartialEq, Eq, Error)]
+#[derive(Clone, Copy, Debug, Error)]
 pub enum Fault {
     /// L3: the code or the data of all modules have more than 65535 bytes.
     #[error("code or data of more than 65535 bytes")]

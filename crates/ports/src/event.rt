@@ -8,7 +8,7 @@ ghost use Rattle.ports.specs.Input.{IsScript, input_value};
 use thiserror::Error;
 
 /// A read or a write of a port, with the byte that went through.
-#[derive(Clone, Copy, Debug, PartialEq, Eq)]
+#[derive(Clone, Copy, Debug)]
 pub struct Event {
     /// Whether the machine wrote the byte, and did not read it.
     pub write: bool,

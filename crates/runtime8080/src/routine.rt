@@ -1,7 +1,7 @@
 //! The routines that code may call.
 
 /// What the 8080 can't do in one instruction.
-#[derive(Clone, Copy, PartialEq, Eq)]
+#[derive(Clone, Copy)]
 pub enum Routine {
     /// HL becomes HL times DE, modulo 65536.
     Multiply,

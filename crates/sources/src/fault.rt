@@ -4,7 +4,7 @@ use thiserror::Error;
 use trees::Name;
 
 /// Why modules do not make a program, or one that can't lie as planned. No fault has a line.
-#[derive(Clone, Copy, Debug, PartialEq, Eq, Error)]
+#[derive(Clone, Copy, Debug, Error)]
 pub enum ProgramFault {
     /// The modules do not make a program.
     #[error("{0}")]

@@ -29,7 +29,7 @@ use typed_trees::Typed;
 use words::{LONGEST_SOURCE, Word};
 
 /// Why a source text is refused.
-#[derive(Clone, Copy, Debug, PartialEq, Eq, Error)]
+#[derive(Clone, Copy, Debug, Error)]
 pub enum ReadFault {
     /// It is longer than a source may be.
     #[error("a source of more than {most} bytes", most = LONGEST_SOURCE)]

@@ -4,7 +4,7 @@ use meaning::Reason;
 use thiserror::Error;
 
 /// How a program stopped.
-#[derive(Clone, Copy, Debug, PartialEq, Eq)]
+#[derive(Clone, Copy, Debug)]
 pub enum SourceEnd {
     /// It came to its end.
     Ended,
@@ -15,7 +15,7 @@ pub enum SourceEnd {
 }
 
 /// Why a run was given up before the program stopped.
-#[derive(Clone, Copy, Debug, PartialEq, Eq, Error)]
+#[derive(Clone, Copy, Debug, Error)]
 pub enum RunFault {
     #[error("a port failed")]
     Port,

@@ -11,7 +11,7 @@ use treecode::{Location, Place};
 
 /// Facts about the registers at a point of the code: each relates a register to the bytes that memory or the frame
 /// holds at that point.
-#[derive(Clone, Copy, PartialEq, Eq)]
+#[derive(Clone, Copy)]
 pub struct Facts {
     /// A holds the byte at this location.
     pub byte_in_a: Option<Location>,

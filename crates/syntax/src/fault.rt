@@ -3,7 +3,7 @@
 use thiserror::Error;
 
 /// Why words are not a module. Lines are counted from 1.
-#[derive(Clone, Copy, Debug, PartialEq, Eq, Error)]
+#[derive(Clone, Copy, Debug, Error)]
 pub enum Fault {
     /// A word that no module has there, or the end of the words, with the line of the last one, or 1.
     #[error("line {line}: a word that cannot stand here")]

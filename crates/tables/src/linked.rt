@@ -16,7 +16,7 @@ use tool::{Built, Plan, Source, build};
 const MERGE: &str = "merge.obj";
 
 /// The image of a program by way of object files.
-#[derive(Clone, Copy, PartialEq, Eq)]
+#[derive(Clone, Copy)]
 pub enum Linked {
     /// The command line runs nothing, or there is no image of its sources.
     Missing,

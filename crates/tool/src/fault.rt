@@ -7,7 +7,7 @@ use thiserror::Error;
 use trees::Name;
 
 /// Why sources are refused. A file is given by its place among the sources, from 0.
-#[derive(Clone, Copy, Debug, PartialEq, Eq, Error)]
+#[derive(Clone, Copy, Debug, Error)]
 pub enum ToolFault {
     /// There are too many sources.
     #[error("more than {most} sources", most = MOST_SOURCES)]

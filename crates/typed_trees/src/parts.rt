@@ -77,7 +77,7 @@ pub enum InitialValue {
 }
 
 /// Where AT puts an object.
-#[derive(Clone, Copy, PartialEq, Eq)]
+#[derive(Clone, Copy)]
 pub enum AtAddress {
     /// At an address.
     AtNumber(u16),
@@ -95,7 +95,7 @@ pub enum ConstantItem {
 }
 
 /// An object or a procedure that is PUBLIC or EXTERNAL in a module, by its number.
-#[derive(Clone, Copy, PartialEq, Eq)]
+#[derive(Clone, Copy)]
 pub enum GlobalItem {
     GlobalObject(u32),
     GlobalProcedure(u32),

@@ -3,7 +3,7 @@
 use thiserror::Error;
 
 /// The cause of a fault. The documentation and the command line know each cause by a number.
-#[derive(Clone, Copy, Debug, PartialEq, Eq, Error)]
+#[derive(Clone, Copy, Debug, Error)]
 pub enum Cause {
     /// C11: no declaration makes the name known there.
     #[error("a name that is not declared here")]
@@ -38,7 +38,7 @@ pub enum Cause {
 }
 
 /// A cause with the line where it is found. Lines are counted from 1.
-#[derive(Clone, Copy, Debug, PartialEq, Eq, Error)]
+#[derive(Clone, Copy, Debug, Error)]
 #[error("line {line}: {cause}")]
 pub struct Fault {
     pub cause: Cause,

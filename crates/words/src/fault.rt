@@ -9,7 +9,7 @@ use thiserror::Error;
 
 /// Why a source text is not a list of words. `line` is the line on which the word or comment at fault begins, counted
 /// from 1.
-#[derive(Clone, Copy, Debug, PartialEq, Eq, Error)]
+#[derive(Clone, Copy, Debug, Error)]
 pub enum Fault {
     /// A character that begins no word, or that a string or a comment may not have.
     #[error("line {line}: a character that is not valid here")]
