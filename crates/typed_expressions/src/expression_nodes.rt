@@ -140,7 +140,8 @@ pub(crate) fn assignment(
     target: TypedTarget,
     value: TypedExpression,
 ) -> Result<TypedExpression, Failure<Fault>>
-    ensures view { Answers expression_view result (Ok (AssignmentNode (target_view target) (expression_view value))) }
+    ensures view { Answers expression_view result
+        (Ok (AssignmentNode (target_view target) (expression_view value))) }
 {
     let target = Box::new(alloc, target)?;
     let value = Box::new(alloc, value)?;
@@ -171,7 +172,8 @@ pub(crate) fn binary(
     left: TypedExpression,
     right: TypedExpression,
 ) -> Result<TypedExpression, Failure<Fault>>
-    ensures view { Answers expression_view result (Ok (binary_node operator (expression_view left) (expression_view right))) }
+    ensures view { Answers expression_view result
+        (Ok (binary_node operator (expression_view left) (expression_view right))) }
 {
     let operands = type_of_operands(operator, left.scalar(), right.scalar());
     let left = boxed_as_type(alloc, left, operands)?;
@@ -219,7 +221,8 @@ pub(crate) fn shift(
     value: TypedExpression,
     count: TypedExpression,
 ) -> Result<TypedExpression, Failure<Fault>>
-    ensures view { Answers expression_view result (Ok (shift_node function (expression_view value) (expression_view count))) }
+    ensures view { Answers expression_view result
+        (Ok (shift_node function (expression_view value) (expression_view count))) }
 {
     let scalar = type_of_shift(function, value.scalar());
     let value = boxed_as_type(alloc, value, scalar)?;
