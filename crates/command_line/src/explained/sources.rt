@@ -1,7 +1,7 @@
 //! What is printed of the numbers of faults of a source, and of its code. `tools/faults --write` makes it of docs/faults.md.
 
 /// The pages, with form feeds between them. Each begins with its number, on a line of its own.
-pub const SOURCES: [u8; 17277] = *b"\
+pub const SOURCES: [u8; 17469] = *b"\
 C1
 
 A character that is not allowed there, or a string that is not closed on its
@@ -306,13 +306,21 @@ a base that is a BYTE, an array, a   an ADDRESS variable of its own
 `LENGTH(A)` of a scalar              `SIZE(A)`
 \x0cC14
 
-An attribute or a declaration that is not allowed there: AT with INITIAL or
-DATA; EXTERNAL with any of the three; names in parentheses with any of the three
-or with `(*)`. Others are PUBLIC or EXTERNAL below the level of the module;
-INITIAL or DATA for a parameter, or in a REENTRANT procedure; and a procedure in
-a REENTRANT one. In old sources it is usually something that Intel's compiler
-accepted and this one does not: INITIAL or DATA after names in parentheses, AT
-with INITIAL, EXTERNAL with DATA.
+An attribute or a declaration that is not allowed there:
+
+- PUBLIC or EXTERNAL below the level of the module, or with BASED; EXTERNAL with
+  AT, INITIAL or DATA.
+- AT with INITIAL, DATA or BASED; INITIAL or DATA with BASED.
+- BASED, AT, INITIAL or DATA for a parameter; AT, INITIAL or DATA for a variable
+  of a REENTRANT procedure.
+- For names in parentheses AT, INITIAL, DATA or `(*)`.
+- A procedure in a REENTRANT one.
+- An EXTERNAL procedure that is REENTRANT, has a statement, or declares more
+  than its parameters.
+
+In old sources it is usually something that Intel's compiler accepted and this
+one does not: INITIAL or DATA after names in parentheses, AT with INITIAL,
+EXTERNAL with DATA.
 
 wrong.plm:
 
