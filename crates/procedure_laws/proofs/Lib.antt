@@ -1,7 +1,6 @@
 mod Prelude
 pub mod Trees
 pub mod Ways
-pub mod Labels
 pub mod Callees
 pub mod CallInstructions
 pub mod Ends

@@ -6,7 +6,7 @@ use Rattle.code_meaning.proofs.Standing.{after_word}
 use Rattle.procedure_laws.specs.Main.{EndsAs}
 use Rattle.procedure_laws.proofs.Trees.{lies_anywhere}
 use Rattle.procedure_laws.proofs.CallInstructions.{charged_does}
-use Rattle.procedure_laws.proofs.Labels.{main_labels_differ}
+use Rattle.treecode_laws.proofs.Labels.{main_labels_differ}
 use Rattle.procedure_laws.proofs.ProcedureCalls.{charge_is}
 use Rattle.procedure_laws.proofs.Soundness.{body_sound, context_sound, main_planned, static_lies, there_in}
 use Rattle.procedure_laws.proofs.Ways.{IsLeftBy, LeavesBy, body_left, no_jump}

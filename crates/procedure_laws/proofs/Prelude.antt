@@ -26,7 +26,7 @@ pub use Rattle.code_meaning.proofs.{Facts.After.{facts_after, facts_after_word},
 pub use Rattle.code_meaning.specs.{Activations.{Activation, Arrives, FrameLies, IsReady, IsThere, IsVariable, LiesWell, Owns, PlacementLies, Shares}, Asking.{Asks, WordAsks}, Holding.{AddressHolds, ByteHolds, Distances, FactsHold, IsByteAt, IsSteady, IsWordAt, WordHolds, ZeroHolds, location_at, place_at}, Landing.{Does, IsLeft, Lands, at_place}}
 pub use Rattle.task_laws.proofs.{CarriedOut.{carry_out}, Machine.Rules.{bytes_at_place, popped_bytes, ready_with_registers, word_acts}, Machine.SiteNodes.{have_operands, place_of_number}, Machine.Stages.{does_same, gives_then, then_does_where}, Ranges.NumbersOfTrees.{IsTypedCode, has_types}, Ranges.RangesOfCalls.{calls_fit}}
 pub use Rattle.task_laws.specs.{Contexts.{ArgumentsLie, CallsDo, CallsFit, Context, FrameIsPlanned, InRegister, InWord, IsSound, ResultLies, RoutineIsAt, bytes_pushed, distances_in, nodes_in}, ProgramTypes.{HasTypes}, Tasks.{Know}}
-pub use Rattle.statement_laws.proofs.{Lists.{same_number}, Together.{statements_do}, Written.{list_stands}}
+pub use Rattle.statement_laws.proofs.{Together.{statements_do}, Written.{list_stands}}
 pub use Rattle.statement_laws.specs.{Bodies.{BodyContext, ComesToReturn, GoesOn, IsSoundBody, IsWithin, Leaves, ReturnStands}, Statements.{ListDoes}}
 pub use Rattle.procedure_laws.specs.Calls.{CallsAreKnown, ComesBack, Entries, EntryDoes, IsEntered, IsOfCall, ReturnLies}
 pub use Rattle.procedure_laws.specs.Contexts.{Shape, activation_in, body_in, context_in, frame_shape, main_shape, size_in_frame, static_shape}

@@ -2,6 +2,7 @@
 use Rattle.statement_laws.proofs.Prelude.{◌≡◌, ◌≢◌, ℕ, zero, suc, ◌+◌, ◌*◌, ◌<◌, ◌≤◌, ◌⊎◌, inl, inr, max, true, List, [], ◌∷◌, length, slice_get, slice_index_or, AllPairs, Option, Some, None, refl, sym, ap, subst, ◌∙◌, arith, cases_lt, same_Some, height_of_statement, height_of_statements, ListStands, ListsStandInStatements, TypedStatement, LabelStatement, TypedStatements, NoStatements, MoreStatements, ListOf, TypesHoldInStatements, Later, caught_in, done_all, dropped, going_on, later_by, rest_from, rest_of, SourceState, Outcome, then_do, Flow, Onward, Returned, Jumped, onto_is, rest_at, Registers, State, Range, Statement, StatementNumber, AreStatements, AreNoStatements, AreMoreStatements, IsListOf, IsStatement, IsStatementNode, IsLabel, HasRoom, IsReady, Does, at_place, gives, then_does, no_facts_hold, Facts, no_facts, body_label, Here, nodes_in, Know, does_same, has_less_room, script_of, BodyContext, ComesToLabel, IsSoundBody, LabelLies, Leaves, ListDoes, StatementDoes}
 use Rattle.meaning.specs.Meaning.{landed}
 use Rattle.treecode.specs.declared.statement.Statement.TheVariants as statements
+use Rattle.treecode_laws.proofs.Labels.{same_number}
 use Rattle.statement_laws.proofs.Outcomes.{Between, does_later}
 use Rattle.statement_laws.proofs.FirstSteps.{going}
 
@@ -42,14 +43,6 @@ goes_then at base middle place last to before go Onward t end less leaves rest =
     (rest comes.r comes.memory leaves.goes_on comes.ready comes.holds)
 goes_then at base middle place last to before go (Returned value) t end less leaves rest = gives leaves
 goes_then at base middle place last to before go (Jumped label) t end less leaves rest = gives leaves
-
-three_ways : (one other : ℕ) → (one < other) ⊎ ((other < one) ⊎ (one ≡ other))
-three_ways one other = by (cases_lt one other) (cases_lt other one)
-  where
-    by : (one < other) ⊎ (other ≤ one) → (other < one) ⊎ (one ≤ other) → (one < other) ⊎ ((other < one) ⊎ (one ≡ other))
-    by (inl less) second = inl less
-    by (inr first) (inl more) = inr (inl more)
-    by (inr first) (inr second) = inr (inr (omega (arith, first, second)))
 
 less_left : (one other need : ℕ) → 2 + 2 * max one other ≤ need → (2 + 2 * one ≤ need) × (2 + 2 * other ≤ need)
 less_left one other need enough = (omega (arith, enough), omega (arith, enough))
@@ -169,42 +162,7 @@ from_label at {last = last} {to = to} {bound = bound} zero label height others (
 from_label at (suc skipped) label height others (MoreDo listed node does mark rest) (AreMoreStatements named is are) types lists fits same =
     from_label at skipped label height others rest are types.1 lists.1 (omega (arith, fits)) same
 
--- no two labels of a body are the same
-label_differs :
-    (labels : List ℕ) (one other label : ℕ)
-    → AllPairs (λ (a b : ℕ). a ≢ b) labels
-    → slice_get labels one ≡ Some label
-    → slice_get labels other ≡ Some label
-    → one < other
-    → ⊥
-label_differs labels one other label differ first second less =
-    differ one other 0 less (position labels other label second)
-    (at_position labels one label first ∙ sym (at_position labels other label second))
-  where
-    position : (xs : List ℕ) (i x : ℕ) → slice_get xs i ≡ Some x → i < length xs
-    position [] i x is = let never : ⊥ = cc in absurd never
-    position (y ∷ xs) zero x is = omega arith
-    position (y ∷ xs) (suc i) x is = let rest = position xs i x is in omega (arith, rest)
-
-    at_position : (xs : List ℕ) (i x : ℕ) → slice_get xs i ≡ Some x → slice_index_or xs i 0 ≡ x
-    at_position [] i x is = let never : ⊥ = cc in absurd never
-    at_position (y ∷ xs) zero x is = same_Some y x is
-    at_position (y ∷ xs) (suc i) x is = at_position xs i x is
-
-pub same_number :
-    (labels : List ℕ) (one other label : ℕ)
-    → AllPairs (λ (a b : ℕ). a ≢ b) labels
-    → slice_get labels one ≡ Some label
-    → slice_get labels other ≡ Some label
-    → one ≡ other
-same_number labels one other label differ first second = by (three_ways one other)
-  where
-    by : (one < other) ⊎ ((other < one) ⊎ (one ≡ other)) → one ≡ other
-    by (inl less) = absurd (label_differs labels one other label differ first second less)
-    by (inr (inl more)) = absurd (label_differs labels other one label differ second first more)
-    by (inr (inr same)) = same
-
--- so a label has one place
+-- a label has one place
 pub same_place :
     (at : BodyContext) (label one other : ℕ)
     → IsSoundBody at

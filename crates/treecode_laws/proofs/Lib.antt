@@ -2,6 +2,7 @@ mod Prelude
 pub mod Externals
 pub mod Slots
 pub mod Homes
+pub mod Labels
 pub mod Publics
 pub mod Contents
 pub mod Lowered

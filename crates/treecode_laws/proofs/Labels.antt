@@ -1,5 +1,9 @@
 -- The labels of a body have numbers of their own: those of its lists are those that stand in its statements.
-use Rattle.procedure_laws.proofs.Prelude.{◌≡◌, ◌≢◌, ℕ, zero, suc, ◌+◌, ◌<◌, ◌≤◌, ◌==◌, Bool, true, false, List, [], ◌∷◌, ◌++◌, length, slice_get, slice_index_or, Some, AllPairs, arith, refl, sym, ap, subst, ◌∙◌, eqb-true, eq-eqb, ne_eqb, flat_map, AllPairs-cons, IsNoLabel, JumpsAreSound, LabelsStand, ListStands, ListsStand, ListsStandInCases, ListsStandInElse, ListsStandInStatements, labels_in, labels_in_else, labels_in_list, labels_in_module, labels_in_procedure, labels_in_statements, TypedModule, TypedProcedure, TypedStatement, LabelStatement, NullStatement, AssignmentStatement, CallStatement, MoveStatement, ReturnStatement, HaltStatement, GotoStatement, IfStatement, DoStatement, WhileStatement, IterateStatement, CaseStatement, TypedElse, NoElse, ElseStatement, TypedStatements, NoStatements, MoreStatements, TypedList, ListOf, labels_numbered, labels_numbered_in_else, labels_numbered_in_list, labels_numbered_in_statements, numbers_from, same_number}
+use Rattle.std.proofs.{Common.{◌≡◌, ◌≢◌, ◌⊎◌, inl, inr, ℕ, zero, suc, ◌+◌, ◌<◌, ◌≤◌, ◌==◌, Bool, true, false, List, [], ◌∷◌, ◌++◌, length, slice_get, slice_index_or, Some, arith, refl, sym, ap, subst, ◌∙◌, eq-eqb, ne_eqb}, lemmas.Bool.{cases_lt, eqb-true}, lemmas.List.Kept.{AllPairs-cons}, lemmas.Option.{same_Some}}
+use Rattle.std.specs.Prelude.{AllPairs, flat_map}
+use Rattle.typed_trees.specs.Jumps.{IsNoLabel, JumpsAreSound, LabelsStand, ListStands, ListsStand, ListsStandInCases, ListsStandInElse, ListsStandInStatements, labels_in, labels_in_else, labels_in_list, labels_in_module, labels_in_procedure, labels_in_statements}
+use Rattle.typed_trees.specs.TypedTrees.{TypedModule, TypedProcedure, TypedStatement, LabelStatement, NullStatement, AssignmentStatement, CallStatement, MoveStatement, ReturnStatement, HaltStatement, GotoStatement, IfStatement, DoStatement, WhileStatement, IterateStatement, CaseStatement, TypedElse, NoElse, ElseStatement, TypedStatements, NoStatements, MoreStatements, TypedList, ListOf}
+use Rattle.treecode.specs.Lowered.{labels_numbered, labels_numbered_in_else, labels_numbered_in_list, labels_numbered_in_statements, numbers_from}
 
 -- how often a number stands in a list
 abbrev once : Bool → ℕ
@@ -190,6 +194,49 @@ main_labels_differ typed jumps =
     times_both number (flat_map labels_in_procedure typed.procedures) (labels_in_procedure typed.main) in
     let same = list_same number typed.main.body jumps.main.stands in
     omega (arith, all, both, same))
+
+three_ways : (one other : ℕ) → (one < other) ⊎ ((other < one) ⊎ (one ≡ other))
+three_ways one other = by (cases_lt one other) (cases_lt other one)
+  where
+    by : (one < other) ⊎ (other ≤ one) → (other < one) ⊎ (one ≤ other) → (one < other) ⊎ ((other < one) ⊎ (one ≡ other))
+    by (inl less) second = inl less
+    by (inr first) (inl more) = inr (inl more)
+    by (inr first) (inr second) = inr (inr (omega (arith, first, second)))
+
+-- numbers that differ: one number stands at one index
+label_differs :
+    (labels : List ℕ) (one other label : ℕ)
+    → AllPairs (λ (a b : ℕ). a ≢ b) labels
+    → slice_get labels one ≡ Some label
+    → slice_get labels other ≡ Some label
+    → one < other
+    → ⊥
+label_differs labels one other label differ first second less =
+    differ one other 0 less (position labels other label second)
+    (at_position labels one label first ∙ sym (at_position labels other label second))
+  where
+    position : (xs : List ℕ) (i x : ℕ) → slice_get xs i ≡ Some x → i < length xs
+    position [] i x is = let never : ⊥ = cc in absurd never
+    position (y ∷ xs) zero x is = omega arith
+    position (y ∷ xs) (suc i) x is = let rest = position xs i x is in omega (arith, rest)
+
+    at_position : (xs : List ℕ) (i x : ℕ) → slice_get xs i ≡ Some x → slice_index_or xs i 0 ≡ x
+    at_position [] i x is = let never : ⊥ = cc in absurd never
+    at_position (y ∷ xs) zero x is = same_Some y x is
+    at_position (y ∷ xs) (suc i) x is = at_position xs i x is
+
+pub same_number :
+    (labels : List ℕ) (one other label : ℕ)
+    → AllPairs (λ (a b : ℕ). a ≢ b) labels
+    → slice_get labels one ≡ Some label
+    → slice_get labels other ≡ Some label
+    → one ≡ other
+same_number labels one other label differ first second = by (three_ways one other)
+  where
+    by : (one < other) ⊎ ((other < one) ⊎ (one ≡ other)) → one ≡ other
+    by (inl less) = absurd (label_differs labels one other label differ first second less)
+    by (inr (inl more)) = absurd (label_differs labels other one label differ second first more)
+    by (inr (inr same)) = same
 
 -- so no label of a body has two numbers
 pub procedure_label_has_one_number : (typed : TypedModule) (index : ℕ) (procedure : TypedProcedure)
