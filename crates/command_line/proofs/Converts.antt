@@ -1,5 +1,5 @@
 -- The word of the command that converts a source: it has no fault, and gives what is wanted.
-use Rattle.command_line.proofs.Prelude.{◌≡◌, ◌∙◌, List, [], ◌∷◌, Some, None, false, refl, ap, codes, Kinds, Row, Text, Walk, idle, reading_by, walked, defaults_fault, turn_fault, walk_fault, or_else, CommandLine, IsBare, wants_convert}
+use Rattle.command_line.proofs.Prelude.{◌≡◌, ◌∙◌, List, [], ◌∷◌, Some, None, false, refl, ap, codes, Kinds, Row, Text, Walk, idle, reading_by, walked, defaults_fault, turn_fault, walk_fault, or_else, CommandLine, IsBare, usual_convert, wants_convert}
 use Rattle.command_line.proofs.Files.{bare_fault, bare_word, files_filled}
 use Rattle.command_line.proofs.Begins.{Ends, found_walk}
 use Rattle.command_line.proofs.Lines.{Line, line_of}
@@ -39,7 +39,7 @@ convert_ends file bare = record {
   settles = refl;
 }
 
-pub convert_line : (file : Text) → IsBare file → Line convert (file ∷ []) (wants_convert (record { file = file }))
+pub convert_line : (file : Text) → IsBare file → Line convert (file ∷ []) (wants_convert (usual_convert file))
 unfolding defaults_fault
 convert_line file bare =
-    line_of convert (file ∷ []) (file_row file ∷ []) (wants_convert (record { file = file })) (convert_ends file bare) refl refl refl
+    line_of convert (file ∷ []) (file_row file ∷ []) (wants_convert (usual_convert file)) (convert_ends file bare) refl refl refl

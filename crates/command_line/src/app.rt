@@ -359,10 +359,16 @@ fn explain<'a>(alloc: Global) -> Built<'a>
 fn convert<'a>(alloc: Global) -> Built<'a>
     ensures { Builds (convert_app (codes "convert")) result }
 {
-    add(
-        named(alloc, "convert", CONVERT),
-        file(alloc, "FILE", "The source to convert"),
-    )
+    let folder = option_again(
+        alloc,
+        "folder",
+        "DIR",
+        "A folder in which files of INCLUDE are looked for",
+    );
+    let with_folder = add(named(alloc, "convert", CONVERT), folder);
+    let set = option_again(alloc, "set", "NAME", "A switch of IF that is set");
+    let with_set = add(with_folder, set);
+    add(with_set, file(alloc, "FILE", "The source to convert"))
 }
 
 // The program `plm`, which has to have a command.

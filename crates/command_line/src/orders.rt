@@ -123,10 +123,14 @@ pub struct ExplainOrder<'a> {
 }
 
 /// An order to convert an old source.
-#[derive(Clone, Copy)]
+#[derive(Drop)]
 pub struct ConvertOrder<'a> {
     /// The name of its file.
     pub file: &'a str,
+    /// The folders in which files that it includes are looked for, in their order.
+    pub folders: Vec<&'a str>,
+    /// The switches that are set.
+    pub sets: Vec<&'a str>,
 }
 
 /// What the command line asks for.

@@ -10,6 +10,12 @@ pub mod Edits
 pub mod Converting
 pub mod Conversion
 pub mod Table
-pub mod Controls
 pub mod Lines
+pub mod Controls
+pub mod Switches
+pub mod Blocks
+pub mod Includes
+pub mod Advice
+pub mod Assembly
 pub mod Sources
+pub mod internal

@@ -1,0 +1,38 @@
+-- What is told of lines with controls.
+use Rattle.std.specs.Prelude.{ℕ, List, codes}
+use Rattle.convert.specs.declared.advice.Advice.{Advice}
+
+-- the texts, without where their bytes lie in memory
+pub record AdviceView : Type 0 where
+  pub no_name : List ℕ
+  pub no_file : List ℕ
+  pub too_deep : List ℕ
+  pub too_many : List ℕ
+  pub no_condition : List ℕ
+  pub no_if : List ℕ
+  pub no_end : List ℕ
+  pub no_names : List ℕ
+
+abbrev pub advice_view : Advice → AdviceView
+advice_view advice = record {
+  no_name = advice.no_name.now;
+  no_file = advice.no_file.now;
+  too_deep = advice.too_deep.now;
+  too_many = advice.too_many.now;
+  no_condition = advice.no_condition.now;
+  no_if = advice.no_if.now;
+  no_end = advice.no_end.now;
+  no_names = advice.no_names.now;
+}
+
+abbrev pub usual_advice : AdviceView
+usual_advice = record {
+  no_name = codes "INCLUDE: no name of a file: write the text of the file here";
+  no_file = codes "INCLUDE: no such file: give its folder by --folder, or write the text of the file here";
+  too_deep = codes "INCLUDE: files more than 8 deep: write the text of the file here";
+  too_many = codes "INCLUDE: more than 255 names of files: write the text of the file here";
+  no_condition = codes "IF: a condition of other than names, NOT, AND and OR: delete the lines, up to its ENDIF, that are not wanted";
+  no_if = codes "ELSEIF, ELSE or ENDIF: no IF for it in its file: delete it, or write the IF";
+  no_end = codes "IF: no ENDIF for it in its file: write one";
+  no_names = codes "SET or RESET: other than names: write names with commas between them";
+}

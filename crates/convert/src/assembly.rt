@@ -1,0 +1,428 @@
+//! A source with its files put in.
+
+ghost use Rattle.std.specs.Prelude.{◌≡◌, ◌≤◌, ◌+◌, ◌++◌, ◌∷◌, [], true, length, map, IfOk};
+ghost use Rattle.convert.specs.Assembly.{assembled, conditioned, controlled, blocks_controlled, blocks_put, file_put, included, line_controlled, line_put, lines_put, note_open, notes_on, parts_of, parts_with, plain_line, switched, switched_by, switched_if, value_at, with_line, with_names, with_notes, with_told, with_wanted};
+ghost use Rattle.convert.specs.Blocks.{blocks_after};
+ghost use Rattle.convert.specs.Switches.{switch_view};
+
+use crate::advice::Advice;
+use crate::blocks::{Block, Concern, applies, change_blocks, concern_at};
+use crate::controls::{
+    ControlKind, after_word, argument_of, is_last, kind_at, last_control, step_at,
+};
+use crate::includes::{Answer, Entry, answer, file_name};
+use crate::lines::{is_control, lines_of, lines_of_file, return_of};
+use crate::switches::{Switch, add_switches, all_names, condition_value, items_of, set_switches};
+use std::alloc::{AllocError, Global};
+
+/// How deep files may include others: the source may include one that includes one, and so on.
+pub const DEEPEST_FILE: usize = 8;
+
+/// Where a line stands: in the file of this number, the source being 0, and there on this line, counted from 1.
+#[derive(Clone, Copy)]
+pub struct Place {
+    pub file: usize,
+    pub line: usize,
+}
+
+/// What could not be carried out or changed at a place, and what to write.
+#[derive(Clone, Copy)]
+pub struct PlacedNote {
+    pub place: Place,
+    pub text: &'static str,
+}
+
+/// A text that is put together: where each of its lines stands, what is told, the switches that were set and reset, and the
+/// names of files that were not looked for.
+#[derive(Drop)]
+pub struct Assembly<'a> {
+    pub text: Vec<u8>,
+    pub places: Vec<Place>,
+    pub notes: Vec<PlacedNote>,
+    pub switches: Vec<Switch<'a>>,
+    pub wanted: Vec<Vec<u8>>,
+}
+
+// Adds a line to the text.
+fn add_line(place: Place, line: &[u8], assembly: &mut Assembly) -> Result<(), AllocError>
+    ensures { IfOk result (λ _. parts_of assembly.new ≡ with_line place line.now (parts_of assembly.old)) }
+{
+    if !assembly.places.is_empty() {
+        assembly.text.push(b'\n')?;
+    }
+    assembly.text.extend_from_slice(line)?;
+    assembly.places.push(place)?;
+    Ok(())
+}
+
+// Adds what is told at a place.
+fn tell(place: Place, text: &'static str, assembly: &mut Assembly) -> Result<(), AllocError>
+    ensures { IfOk result (λ _. parts_of assembly.new
+        ≡ with_notes (record { place = place; text = text } ∷ []) (parts_of assembly.old)) }
+{
+    assembly.notes.push(PlacedNote { place, text })?;
+    Ok(())
+}
+
+// The same, of a line that comes out empty.
+fn tell_line(
+    place: Place,
+    line: &[u8],
+    text: &'static str,
+    assembly: &mut Assembly,
+) -> Result<(), AllocError>
+    ensures { IfOk result (λ _. parts_of assembly.new
+        ≡ with_told place line.now (record { place = place; text = text } ∷ []) (parts_of assembly.old)) }
+{
+    tell(place, text, assembly)?;
+    add_line(place, return_of(line), assembly)
+}
+
+// Adds what is told of a control of an IF.
+fn tell_concern(
+    advice: &Advice,
+    place: Place,
+    concern: Concern,
+    assembly: &mut Assembly,
+) -> Result<(), AllocError>
+    ensures { IfOk result (λ _. parts_of assembly.new
+        ≡ with_notes (notes_on advice.now place concern) (parts_of assembly.old)) }
+{
+    match concern {
+        Concern::Fine => Ok(()),
+        Concern::NoCondition => tell(place, advice.no_condition, assembly),
+        Concern::NoIf => tell(place, advice.no_if, assembly),
+    }
+}
+
+// Adds what is told of IFs that are open at the end of their file.
+fn tell_open(
+    advice: &Advice,
+    file: usize,
+    blocks: &[Block],
+    assembly: &mut Assembly,
+) -> Result<(), AllocError>
+    ensures { IfOk result (λ _. parts_of assembly.new
+        ≡ with_notes (map (note_open advice.now file) blocks.now) (parts_of assembly.old)) }
+{
+    let mut rest = blocks;
+    while let [block, more @ ..] = rest {
+        let place = Place {
+            file,
+            line: block.line,
+        };
+        tell(place, advice.no_end, assembly)?;
+        rest = more;
+    }
+    Ok(())
+}
+
+// Adds the name of a file that was not looked for.
+fn want(alloc: Global, name: &[u8], assembly: &mut Assembly) -> Result<(), AllocError>
+    ensures { IfOk result (λ _. parts_of assembly.new ≡ with_wanted name.now (parts_of assembly.old)) }
+{
+    let copy = Vec::from_slice(alloc, name)?;
+    assembly.wanted.push(copy)?;
+    Ok(())
+}
+
+// Sets or resets the switches of a group.
+fn add_names<'a>(
+    advice: &Advice,
+    place: Place,
+    on: bool,
+    items: &[&'a [u8]],
+    assembly: &mut Assembly<'a>,
+) -> Result<(), AllocError>
+    ensures { IfOk result (λ _. parts_of assembly.new
+        ≡ with_names advice.now place on (map (λ item. item.now) items.now) (parts_of assembly.old)) }
+{
+    if all_names(items) {
+        add_switches(on, items, &mut assembly.switches)
+    } else {
+        tell(place, advice.no_names, assembly)
+    }
+}
+
+// Sets or resets the switches of the control at the front of a line, if it has any.
+fn switch_by<'a>(
+    alloc: Global,
+    advice: &Advice,
+    place: Place,
+    line: &'a [u8],
+    assembly: &mut Assembly<'a>,
+) -> Result<(), AllocError>
+    ensures { IfOk result (λ _. parts_of assembly.new
+        ≡ switched_by advice.now place line.now (kind_at line.now) (parts_of assembly.old)) }
+{
+    let on = match kind_at(line) {
+        ControlKind::Set => true,
+        ControlKind::Reset => false,
+        _ => return Ok(()),
+    };
+    let items = items_of(alloc, argument_of(line))?;
+    add_names(advice, place, on, items.as_slice(), assembly)
+}
+
+// Sets and resets the switches of a line, up to a control that ends it.
+fn switch_line<'a>(
+    alloc: Global,
+    advice: &Advice,
+    place: Place,
+    line: &'a [u8],
+    assembly: &mut Assembly<'a>,
+) -> Result<(), AllocError>
+    ensures { IfOk result (λ _. parts_of assembly.new
+        ≡ switched advice.now place 0 line.now (parts_of assembly.old)) }
+{
+    let mut passed = 0;
+    let mut rest = line;
+    while let [_, more @ ..] = rest {
+        if passed > 0 {
+            passed -= 1;
+            rest = more;
+            continue;
+        }
+        if is_last(kind_at(rest)) {
+            return Ok(());
+        }
+        switch_by(alloc, advice, place, rest, assembly)?;
+        passed = step_at(rest).saturating_sub(1);
+        rest = more;
+    }
+    Ok(())
+}
+
+// The same if the line applies.
+fn switch_if<'a>(
+    alloc: Global,
+    applying: bool,
+    advice: &Advice,
+    place: Place,
+    line: &'a [u8],
+    assembly: &mut Assembly<'a>,
+) -> Result<(), AllocError>
+    ensures { IfOk result (λ _. parts_of assembly.new
+        ≡ switched_if applying advice.now place line.now (parts_of assembly.old)) }
+{
+    if applying {
+        switch_line(alloc, advice, place, line, assembly)
+    } else {
+        Ok(())
+    }
+}
+
+// What a condition says after the word of its control.
+fn value_at(
+    alloc: Global,
+    switches: &[Switch],
+    control: &[u8],
+) -> Result<Option<bool>, AllocError>
+    ensures { IfOk result (λ value. value ≡ value_at (map switch_view switches.now) control.now) }
+{
+    condition_value(alloc, switches, after_word(control))
+}
+
+// A line with a control of an IF, or without one that ends it.
+fn put_condition(
+    alloc: Global,
+    advice: &Advice,
+    place: Place,
+    line: &[u8],
+    control: &[u8],
+    kind: ControlKind,
+    blocks: &mut Vec<Block>,
+    assembly: &mut Assembly,
+) -> Result<(), AllocError>
+    ensures parts { IfOk result (λ _. parts_of assembly.new
+        ≡ conditioned advice.now place line.now control.now kind blocks.old.items (parts_of assembly.old)) }
+    ensures blocks { IfOk result (λ _. blocks.new.items
+        ≡ blocks_after (value_at (parts_of assembly.old).switches control.now) kind place.line blocks.old.items) }
+{
+    let value = value_at(alloc, assembly.switches.as_slice(), control)?;
+    let concern = concern_at(value, kind, blocks.as_slice());
+    tell_concern(advice, place, concern, assembly)?;
+    add_line(place, return_of(line), assembly)?;
+    change_blocks(value, kind, place.line, blocks)
+}
+
+// The lines of a file that is included, and of those that it includes, where files may be so deep.
+#[cycle(putting)]
+fn put_file<'a>(
+    alloc: Global,
+    advice: &Advice,
+    entries: &'a [Entry],
+    depth: usize,
+    place: Place,
+    line: &[u8],
+    file: usize,
+    text: &'a [u8],
+    assembly: &mut Assembly<'a>,
+) -> Result<(), AllocError>
+    ensures { IfOk result (λ _. parts_of assembly.new
+        ≡ file_put advice.now entries.now depth place line.now file (lines_of_file text.now) (parts_of assembly.old)) }
+{
+    if depth == 0 {
+        return tell_line(place, line, advice.too_deep, assembly);
+    }
+    let lines = lines_of_file(alloc, text)?;
+    put_lines(alloc, advice, entries, depth - 1, file, lines.as_slice(), assembly)
+}
+
+// A line with an INCLUDE.
+#[cycle(putting)]
+fn put_include<'a>(
+    alloc: Global,
+    advice: &Advice,
+    entries: &'a [Entry],
+    depth: usize,
+    place: Place,
+    line: &[u8],
+    argument: &[u8],
+    assembly: &mut Assembly<'a>,
+) -> Result<(), AllocError>
+    ensures { IfOk result (λ _. parts_of assembly.new
+        ≡ included advice.now entries.now (file_put advice.now entries.now depth) place line.now argument.now
+        (parts_of assembly.old)) }
+{
+    let name = file_name(argument);
+    match answer(entries, name) {
+        Answer::NoName => tell_line(place, line, advice.no_name, assembly),
+        Answer::Unknown => {
+            want(alloc, name, assembly)?;
+            tell_line(place, line, advice.too_many, assembly)
+        }
+        Answer::Absent => tell_line(place, line, advice.no_file, assembly),
+        Answer::Present(file, text) => {
+            put_file(alloc, advice, entries, depth, place, line, file, text, assembly)
+        }
+    }
+}
+
+// A line with controls, of which the switches are set and reset.
+#[cycle(putting)]
+fn put_control<'a>(
+    alloc: Global,
+    advice: &Advice,
+    entries: &'a [Entry],
+    depth: usize,
+    place: Place,
+    line: &'a [u8],
+    control: &'a [u8],
+    blocks: &mut Vec<Block>,
+    assembly: &mut Assembly<'a>,
+) -> Result<(), AllocError>
+    ensures parts { IfOk result (λ _. parts_of assembly.new
+        ≡ controlled advice.now entries.now (file_put advice.now entries.now depth) place line.now control.now
+        (kind_at control.now) blocks.old.items (parts_of assembly.old)) }
+    ensures blocks { IfOk result (λ _. blocks.new.items
+        ≡ blocks_after (value_at (parts_of assembly.old).switches control.now) (kind_at control.now) place.line
+        blocks.old.items) }
+{
+    let kind = kind_at(control);
+    match kind {
+        ControlKind::Include => {
+            if applies(blocks.as_slice()) {
+                let argument = argument_of(control);
+                put_include(alloc, advice, entries, depth, place, line, argument, assembly)
+            } else {
+                add_line(place, return_of(line), assembly)
+            }
+        }
+        _ => put_condition(alloc, advice, place, line, control, kind, blocks, assembly),
+    }
+}
+
+// A line of a file.
+#[cycle(putting)]
+fn put_line<'a>(
+    alloc: Global,
+    advice: &Advice,
+    entries: &'a [Entry],
+    depth: usize,
+    place: Place,
+    line: &'a [u8],
+    blocks: &mut Vec<Block>,
+    assembly: &mut Assembly<'a>,
+) -> Result<(), AllocError>
+    ensures parts { IfOk result (λ _. parts_of assembly.new
+        ≡ line_put advice.now entries.now (file_put advice.now entries.now depth) place line.now blocks.old.items
+        (parts_of assembly.old)) }
+    ensures blocks { IfOk result (λ _. blocks.new.items
+        ≡ blocks_put advice.now place line.now blocks.old.items (parts_of assembly.old)) }
+{
+    let applying = applies(blocks.as_slice());
+    if !is_control(line) {
+        return add_line(place, plain_line(applying, line), assembly);
+    }
+    switch_if(alloc, applying, advice, place, line, assembly)?;
+    let control = last_control(line);
+    put_control(alloc, advice, entries, depth, place, line, control, blocks, assembly)
+}
+
+// A line that applies, or what is left of one that does not.
+fn plain_line(applying: bool, line: &[u8]) -> &[u8]
+    ensures { result.now ≡ plain_line applying line.now }
+{
+    if applying { line } else { return_of(line) }
+}
+
+// The lines of a file.
+#[cycle(putting)]
+fn put_lines<'a>(
+    alloc: Global,
+    advice: &Advice,
+    entries: &'a [Entry],
+    depth: usize,
+    file: usize,
+    lines: &[&'a [u8]],
+    assembly: &mut Assembly<'a>,
+) -> Result<(), AllocError>
+    ensures { IfOk result (λ _. parts_of assembly.new
+        ≡ lines_put advice.now entries.now (file_put advice.now entries.now depth) file 1
+        (map (λ line. line.now) lines.now) [] (parts_of assembly.old)) }
+{
+    let mut blocks = Vec::new(alloc);
+    let mut number = 1;
+    let mut rest = lines;
+    while let [line, more @ ..] = rest {
+        let place = Place { file, line: number };
+        put_line(alloc, advice, entries, depth, place, line, &mut blocks, assembly)?;
+        number += 1;
+        rest = more;
+    }
+    tell_open(advice, file, blocks.as_slice(), assembly)
+}
+
+// Nothing but switches that are set.
+fn begin<'a>(alloc: Global, sets: &[&'a str]) -> Result<Assembly<'a>, AllocError>
+    ensures { IfOk result (λ assembly. parts_of assembly ≡ parts_with (map (λ name. name.now) sets.now)) }
+{
+    let mut switches = Vec::new(alloc);
+    set_switches(sets, &mut switches)?;
+    Ok(Assembly {
+        text: Vec::new(alloc),
+        places: Vec::new(alloc),
+        notes: Vec::new(alloc),
+        switches,
+        wanted: Vec::new(alloc),
+    })
+}
+
+/// A source, which is plain, with its files put in, with these files and with these switches set. Lines with controls come out
+/// empty, and so do those that do not apply. Takes memory and time that grow with the text.
+pub fn assemble<'a>(
+    alloc: Global,
+    advice: &Advice,
+    entries: &'a [Entry],
+    sets: &[&'a str],
+    source: &'a [u8],
+) -> Result<Assembly<'a>, AllocError>
+    ensures { IfOk result (λ assembly. parts_of assembly
+        ≡ assembled advice.now entries.now (map (λ name. name.now) sets.now) source.now) }
+{
+    let mut assembly = begin(alloc, sets)?;
+    let lines = lines_of(alloc, source)?;
+    put_lines(alloc, advice, entries, DEEPEST_FILE, 0, lines.as_slice(), &mut assembly)?;
+    Ok(assembly)
+}
