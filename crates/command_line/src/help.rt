@@ -499,7 +499,9 @@ Read more in the folder docs: faults.md (all numbers), commands.md");
 const PRINTED_BY_CONVERT: &str = text_of!([] "\
 Prints the source, which was written for a compiler of the time, in this language. Lines that begin
 with $ become empty, form feeds are taken away, words such as GO TO and LABEL are changed; all else
-stays as it is. A source that is a module of this language already is printed as it is.
+stays as it is. The file of an INCLUDE is put in: it is looked for in each DIR and then beside FILE,
+as written, in capital and in small letters. Lines of an IF that do not apply become empty; switches
+are set by --set and by SET. A source that is a module of this language already is printed as it is.
 
 What has no cure is left, and told on standard error, a line each:
   FILE LINE: what, and what to write

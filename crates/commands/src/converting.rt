@@ -11,12 +11,13 @@ ghost use Rattle.command_line.specs.Command.{convert_in};
 ghost use Rattle.convert.specs.Assembly.{parts_of};
 ghost use Rattle.convert.specs.Sources.{IsConverted, place_at};
 ghost use Rattle.sources.specs.Faults.{line_of};
-ghost use Rattle.commands.specs.Converting.{Converts, ConvertsByTables, ConvertsFile, ConvertsText, HasNoConversion, IsModule, IsNoModule, IsPutTogether, fault_line_at};
+ghost use Rattle.commands.specs.Converting.{ConvertsByTables, ConvertsFile, HasNoConversion, IsModule, IsNoModule, fault_line_at};
+ghost use Rattle.commands.specs.internal.Converting.{ConvertsHeld, ConvertsParts, PrintsNoted, is_fault_of_module};
 
 use crate::including::included_files;
 use command_line::ConvertOrder;
 use convert::{
-    Advice, Assembly, Converted, Entry, Place, PlacedNote, Rule, all_advice, all_rules, assemble,
+    Advice, Assembly, Converted, Entry, PlacedNote, Rule, all_advice, all_rules, assemble,
     convert_source, name_of_file, note_lines, place_at, plain,
 };
 use failure::{Failure, write_bytes};
@@ -82,18 +83,26 @@ fn convert_text<F: Files, O: Write, E: Write>(
     out: &mut O,
     err: &mut E,
 ) -> Ending
+    ensures unchanged { KeepsFiles (F.files files.old) (F.files files.new) }
+    ensures converted { ConvertsHeld rules.now advice.now (convert_in order.now) (F.files files.old) text.now
+        (status_of result) (F.failures files.old) (F.failures files.new)
+        (E.contents err.old) (E.contents err.new) (O.contents out.old) (O.contents out.new) }
+    ensures ending { (result ≡ Ending.Done) ⊎ (result ≡ Ending.Refused) }
+    ensures count { (result ≡ Ending.Refused → ⊥) → F.failures files.new ≡ F.failures files.old }
+    ensures quiet { (result ≡ Ending.Refused → ⊥) → E.contents err.new ≡ E.contents err.old }
 {
     if text.len() > LONGEST_SOURCE {
         return refuse(ReadFault::TooLong.number(), order.file, 0, err);
     }
     match is_module(alloc, text) {
-        Ok(true) => print_module(text, out, err),
+        Ok(true) => print_noted(alloc, order.file, &[], text, &[], out, err),
         Ok(false) => convert_old(alloc, rules, advice, order, text, files, out, err),
         Err(_) => refuse_memory(err),
     }
 }
 
 // Whether a text is a module of this language, whether or not that has a fault of names or of types.
+#[tactic(auto, using(crate::proofs::Converted::source_is_module))]
 fn is_module(alloc: Global, text: &[u8]) -> Result<bool, AllocError>
     requires { length text.now ≤ LONGEST_SOURCE }
     ensures module { IfOk result (λ is. is ≡ true → IsModule text.now) }
@@ -101,19 +110,21 @@ fn is_module(alloc: Global, text: &[u8]) -> Result<bool, AllocError>
 {
     match read_source(alloc, text) {
         Ok(_) => Ok(true),
-        Err(Failure::Fault(ReadFault::Typing(_))) => Ok(true),
-        Err(Failure::Fault(ReadFault::Storage(_))) => Ok(true),
-        Err(Failure::Fault(_)) => Ok(false),
+        Err(Failure::Fault(fault)) => Ok(is_fault_of_module(fault)),
         Err(Failure::Memory) => Err(AllocError),
     }
 }
 
-// Prints a module as it is.
-fn print_module<O: Write, E: Write>(text: &[u8], out: &mut O, err: &mut E) -> Ending {
-    match write_bytes(out, text) {
-        Ok(()) => Ending::Done,
-        Err(Failure::Fault(_)) => refuse_output(err),
-        Err(Failure::Memory) => refuse_memory(err),
+// Whether a text with this fault is a module.
+fn is_fault_of_module(fault: ReadFault) -> bool
+    ensures { result ≡ is_fault_of_module fault }
+{
+    match fault {
+        ReadFault::Typing(_) | ReadFault::Storage(_) => true,
+        ReadFault::TooLong
+        | ReadFault::Words(_)
+        | ReadFault::Expansion(_)
+        | ReadFault::Syntax(_) => false,
     }
 }
 
@@ -127,7 +138,16 @@ fn convert_old<F: Files, O: Write, E: Write>(
     files: &mut F,
     out: &mut O,
     err: &mut E,
-) -> Ending {
+) -> Ending
+    requires { IsNoModule text.now }
+    ensures unchanged { KeepsFiles (F.files files.old) (F.files files.new) }
+    ensures converted { ConvertsHeld rules.now advice.now (convert_in order.now) (F.files files.old) text.now
+        (status_of result) (F.failures files.old) (F.failures files.new)
+        (E.contents err.old) (E.contents err.new) (O.contents out.old) (O.contents out.new) }
+    ensures ending { (result ≡ Ending.Done) ⊎ (result ≡ Ending.Refused) }
+    ensures count { (result ≡ Ending.Refused → ⊥) → F.failures files.new ≡ F.failures files.old }
+    ensures quiet { (result ≡ Ending.Refused → ⊥) → E.contents err.new ≡ E.contents err.old }
+{
     let Ok(source) = plain(alloc, text) else {
         return refuse_memory(err);
     };
@@ -152,13 +172,18 @@ fn print_assembly<O: Write, E: Write>(
     assembly: &Assembly,
     out: &mut O,
     err: &mut E,
-) -> Ending {
+) -> Ending
+    ensures converted { ConvertsParts name.now entries.now rules.now (parts_of assembly.now) (status_of result)
+        (E.contents err.old) (E.contents err.new) (O.contents out.old) (O.contents out.new) }
+    ensures ending { (result ≡ Ending.Done) ⊎ (result ≡ Ending.Refused) }
+    ensures quiet { (result ≡ Ending.Refused → ⊥) → E.contents err.new ≡ E.contents err.old }
+{
     match converted_text(alloc, rules, assembly) {
-        Ok(converted) => print_converted(alloc, name, entries, &converted, out, err),
-        Err(Failure::Fault(fault)) => {
-            let place = place_at(assembly.places.as_slice(), fault.line() as usize);
-            refuse_at(fault.number(), name, entries, place, err)
+        Ok(converted) => {
+            let notes = converted.notes.as_slice();
+            print_noted(alloc, name, entries, converted.text.as_slice(), notes, out, err)
         }
+        Err(Failure::Fault(fault)) => refuse_fault(name, entries, assembly, &fault, err),
         Err(Failure::Memory) => refuse_memory(err),
     }
 }
@@ -183,32 +208,45 @@ fn converted_text(
     }
 }
 
-// Prints a number, and the place where a fault was found.
-fn refuse_at<E: Write>(
-    number: &str,
+// Prints the number of a fault, and where it was found.
+fn refuse_fault<E: Write>(
     name: &str,
     entries: &[Entry],
-    place: Place,
+    assembly: &Assembly,
+    fault: &ReadFault,
     err: &mut E,
-) -> Ending {
+) -> Ending
+    ensures ending { result ≡ Ending.Refused }
+    ensures told { Tells (fault_line_at name.now entries.now
+        (place_at (parts_of assembly.now).places (line_of fault.now)) fault.now)
+        (E.contents err.old) (E.contents err.new) }
+{
+    let place = place_at(assembly.places.as_slice(), fault.line() as usize);
+    let file = name_of_file(name.as_bytes(), entries, place.file);
     let line = place.line.min(4_294_967_295) as u32;
-    refuse_name(number, name_of_file(name.as_bytes(), entries, place.file), line, err)
+    refuse_name(fault.number(), file, line, err)
 }
 
-// Prints a converted text, and tells its notes.
-fn print_converted<O: Write, E: Write>(
+// Prints a text, and tells its notes.
+fn print_noted<O: Write, E: Write>(
     alloc: Global,
     name: &str,
     entries: &[Entry],
-    converted: &Converted,
+    text: &[u8],
+    notes: &[PlacedNote],
     out: &mut O,
     err: &mut E,
-) -> Ending {
-    let Ok(lines) = note_lines(alloc, name, entries, converted.notes.as_slice()) else {
+) -> Ending
+    ensures printed { PrintsNoted name.now entries.now text.now notes.now (status_of result)
+        (E.contents err.old) (E.contents err.new) (O.contents out.old) (O.contents out.new) }
+    ensures ending { (result ≡ Ending.Done) ⊎ (result ≡ Ending.Refused) }
+    ensures quiet { (result ≡ Ending.Refused → ⊥) → E.contents err.new ≡ E.contents err.old }
+{
+    let Ok(lines) = note_lines(alloc, name, entries, notes) else {
         return refuse_memory(err);
     };
-    match write_bytes(out, converted.text.as_slice()) {
-        Ok(()) => tell_notes(converted.notes.as_slice(), lines.as_slice(), err),
+    match write_bytes(out, text) {
+        Ok(()) => tell_notes(notes, lines.as_slice(), err),
         Err(Failure::Fault(_)) => refuse_output(err),
         Err(Failure::Memory) => refuse_memory(err),
     }
