@@ -216,10 +216,7 @@ fn explain<'a>(matches: &ArgMatches<'a>) -> Result<Option<Order<'a>>, AllocError
 }
 
 // The order to convert an old source, from the matches of its arguments. It is there in each answer, as that of `program`.
-fn convert<'a>(
-    alloc: Global,
-    matches: &ArgMatches<'a>,
-) -> Result<Option<Order<'a>>, AllocError>
+fn convert<'a>(alloc: Global, matches: &ArgMatches<'a>) -> Result<Option<Order<'a>>, AllocError>
     ensures { IfOk result (λ order. option_map wanted_in order
         ≡ Some (wants_convert (convert_of (rows_of (found_of matches.now))))) }
 {

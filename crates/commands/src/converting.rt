@@ -69,7 +69,16 @@ fn convert_file<F: Files, O: Write, E: Write>(
         Err(Failure::Fault(fault)) => return refuse_file(fault, order.file, err),
         Err(Failure::Memory) => return refuse_memory(err),
     };
-    convert_text(alloc, rules, advice, order, text.as_slice(), files, out, err)
+    convert_text(
+        alloc,
+        rules,
+        advice,
+        order,
+        text.as_slice(),
+        files,
+        out,
+        err,
+    )
 }
 
 // Converts the text of the file of an order.
@@ -121,10 +130,8 @@ fn is_fault_of_module(fault: ReadFault) -> bool
 {
     match fault {
         ReadFault::Typing(_) | ReadFault::Storage(_) => true,
-        ReadFault::TooLong
-        | ReadFault::Words(_)
-        | ReadFault::Expansion(_)
-        | ReadFault::Syntax(_) => false,
+        ReadFault::TooLong | ReadFault::Words(_) | ReadFault::Expansion(_) | ReadFault::Syntax(_) =>
+            false,
     }
 }
 
@@ -158,7 +165,15 @@ fn convert_old<F: Files, O: Write, E: Write>(
     };
     let sets = order.sets.as_slice();
     match assemble(alloc, advice, entries.as_slice(), sets, source.as_slice()) {
-        Ok(assembly) => print_assembly(alloc, rules, order.file, entries.as_slice(), &assembly, out, err),
+        Ok(assembly) => print_assembly(
+            alloc,
+            rules,
+            order.file,
+            entries.as_slice(),
+            &assembly,
+            out,
+            err,
+        ),
         Err(_) => refuse_memory(err),
     }
 }
@@ -181,7 +196,15 @@ fn print_assembly<O: Write, E: Write>(
     match converted_text(alloc, rules, assembly) {
         Ok(converted) => {
             let notes = converted.notes.as_slice();
-            print_noted(alloc, name, entries, converted.text.as_slice(), notes, out, err)
+            print_noted(
+                alloc,
+                name,
+                entries,
+                converted.text.as_slice(),
+                notes,
+                out,
+                err,
+            )
         }
         Err(Failure::Fault(fault)) => refuse_fault(name, entries, assembly, &fault, err),
         Err(Failure::Memory) => refuse_memory(err),

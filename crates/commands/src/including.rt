@@ -146,7 +146,13 @@ pub(crate) fn included_files<F: Files>(
         let Some(name) = next_name(alloc, advice, entries.as_slice(), sets, source)? else {
             return Ok(entries);
         };
-        let found = look_up(alloc, order.folders.as_slice(), order.file, name.as_slice(), files)?;
+        let found = look_up(
+            alloc,
+            order.folders.as_slice(),
+            order.file,
+            name.as_slice(),
+            files,
+        )?;
         entries.push(Entry { name, found })?;
     }
     Ok(entries)

@@ -213,11 +213,7 @@ fn switch_if<'a>(
 }
 
 // What a condition says after the word of its control.
-fn value_at(
-    alloc: Global,
-    switches: &[Switch],
-    control: &[u8],
-) -> Result<Option<bool>, AllocError>
+fn value_at(alloc: Global, switches: &[Switch], control: &[u8]) -> Result<Option<bool>, AllocError>
     ensures { IfOk result (λ value. value ≡ value_at (map switch_view switches.now) control.now) }
 {
     condition_value(alloc, switches, after_word(control))
@@ -266,7 +262,15 @@ fn put_file<'a>(
         return tell_line(place, line, advice.too_deep, assembly);
     }
     let lines = lines_of_file(alloc, text)?;
-    put_lines(alloc, advice, entries, depth - 1, file, lines.as_slice(), assembly)
+    put_lines(
+        alloc,
+        advice,
+        entries,
+        depth - 1,
+        file,
+        lines.as_slice(),
+        assembly,
+    )
 }
 
 // A line with an INCLUDE.
@@ -294,7 +298,9 @@ fn put_include<'a>(
         }
         Answer::Absent => tell_line(place, line, advice.no_file, assembly),
         Answer::Present(file, text) => {
-            put_file(alloc, advice, entries, depth, place, line, file, text, assembly)
+            put_file(
+                alloc, advice, entries, depth, place, line, file, text, assembly,
+            )
         }
     }
 }
@@ -324,7 +330,9 @@ fn put_control<'a>(
         ControlKind::Include => {
             if applies(blocks.as_slice()) {
                 let argument = argument_of(control);
-                put_include(alloc, advice, entries, depth, place, line, argument, assembly)
+                put_include(
+                    alloc, advice, entries, depth, place, line, argument, assembly,
+                )
             } else {
                 add_line(place, return_of(line), assembly)
             }
@@ -357,7 +365,9 @@ fn put_line<'a>(
     }
     switch_if(alloc, applying, advice, place, line, assembly)?;
     let control = last_control(line);
-    put_control(alloc, advice, entries, depth, place, line, control, blocks, assembly)
+    put_control(
+        alloc, advice, entries, depth, place, line, control, blocks, assembly,
+    )
 }
 
 // A line that applies, or what is left of one that does not.
@@ -387,7 +397,16 @@ fn put_lines<'a>(
     let mut rest = lines;
     while let [line, more @ ..] = rest {
         let place = Place { file, line: number };
-        put_line(alloc, advice, entries, depth, place, line, &mut blocks, assembly)?;
+        put_line(
+            alloc,
+            advice,
+            entries,
+            depth,
+            place,
+            line,
+            &mut blocks,
+            assembly,
+        )?;
         number += 1;
         rest = more;
     }
@@ -423,6 +442,14 @@ pub fn assemble<'a>(
 {
     let mut assembly = begin(alloc, sets)?;
     let lines = lines_of(alloc, source)?;
-    put_lines(alloc, advice, entries, DEEPEST_FILE, 0, lines.as_slice(), &mut assembly)?;
+    put_lines(
+        alloc,
+        advice,
+        entries,
+        DEEPEST_FILE,
+        0,
+        lines.as_slice(),
+        &mut assembly,
+    )?;
     Ok(assembly)
 }

@@ -81,11 +81,7 @@ fn join_notes(
 }
 
 // Adds notes at the places of their lines.
-fn add_notes(
-    places: &[Place],
-    notes: &[Note],
-    all: &mut Vec<PlacedNote>,
-) -> Result<(), AllocError>
+fn add_notes(places: &[Place], notes: &[Note], all: &mut Vec<PlacedNote>) -> Result<(), AllocError>
     ensures { IfOk result (λ _. all.new.items ≡ all.old.items ++ map (placed places.now) notes.now) }
 {
     let mut rest = notes;

@@ -4,7 +4,7 @@ use Rattle.convert.specs.Includes.{forms_in, with_slash}
 use Rattle.convert.proofs.includes.add_candidates.Given as goal
 
 abbrev pub invariant-loop-rest : goal.invariant-loop-rest
-invariant-loop-rest l = 
+invariant-loop-rest l =
     map (λ one. one.items) l.names.items
     ++ flat_map (forms_in l.name) (map with_slash (map (λ folder. folder.now) l.rest))
     ≡ map (λ one. one.items) l.initial.names.items

@@ -3,7 +3,7 @@ use Rattle.convert.specs.Switches.{switch_view, switches_of}
 use Rattle.convert.proofs.switches.set_switches.Given as goal
 
 abbrev pub invariant-loop-rest : goal.invariant-loop-rest
-invariant-loop-rest l = 
+invariant-loop-rest l =
     map switch_view l.switches.items ++ switches_of true (map (λ name. name.now) l.rest)
     ≡ map switch_view l.initial.switches.items ++ switches_of true (map (λ name. name.now) l.names)
 
