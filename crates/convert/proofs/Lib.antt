@@ -1,1 +1,2 @@
 pub mod Short
+pub mod Deeper

@@ -39,8 +39,7 @@ parts_of assembly = record {
 
 -- a text with one more line, after a line feed (10) if it is not the first
 abbrev pub with_text : List Place → List ℕ → List ℕ → List ℕ
-with_text [] text line = text ++ line
-with_text (place ∷ places) text line = text ++ 10 ∷ line
+with_text places text line = if length places == 0 then text ++ line else text ++ 10 ∷ line
 
 abbrev pub with_line : Place → List ℕ → Parts → Parts
 with_line place line parts = record parts {
@@ -48,27 +47,32 @@ with_line place line parts = record parts {
   places = parts.places ++ place ∷ [];
 }
 
-abbrev pub with_notes : List PlacedNote → Parts → Parts
-with_notes notes parts = record parts { notes = parts.notes ++ notes }
+abbrev pub with_note : PlacedNote → Parts → Parts
+with_note note parts = record parts { notes = parts.notes ++ note ∷ [] }
 
 abbrev pub with_wanted : List ℕ → Parts → Parts
 with_wanted name parts = record parts { wanted = parts.wanted ++ name ∷ [] }
 
 -- what is told of a control of an IF
-abbrev pub notes_on : Advice → Place → Concern → List PlacedNote
-notes_on advice place Fine = []
-notes_on advice place NoCondition = record { place = place; text = advice.no_condition } ∷ []
-notes_on advice place NoIf = record { place = place; text = advice.no_if } ∷ []
+abbrev pub told_on : Advice → Place → Concern → Parts → Parts
+told_on advice place Fine parts = parts
+told_on advice place NoCondition parts = with_note (record { place = place; text = advice.no_condition }) parts
+told_on advice place NoIf parts = with_note (record { place = place; text = advice.no_if }) parts
 
 -- what is told of an IF that is open at the end of its file
 abbrev pub note_open : Advice → ℕ → Block → PlacedNote
 note_open advice file block = record { place = record { file = file; line = block.line }; text = advice.no_end }
 
+abbrev pub told_open : Advice → ℕ → List Block → Parts → Parts
+told_open advice file [] parts = parts
+told_open advice file (block ∷ blocks) parts =
+    told_open advice file blocks (with_note (note_open advice file block) parts)
+
 -- the switches of a group are set or reset, if all are names
 abbrev pub with_names : Advice → Place → Bool → List (List ℕ) → Parts → Parts
 with_names advice place on items parts =
     if all_names items then record parts { switches = parts.switches ++ switches_of on items }
-    else with_notes (record { place = place; text = advice.no_names } ∷ []) parts
+    else with_note (record { place = place; text = advice.no_names }) parts
 
 -- a line at which a control begins that sets or resets switches, or another
 abbrev pub switched_by : Advice → Place → List ℕ → ControlKind → Parts → Parts
@@ -95,8 +99,8 @@ abbrev pub switched_if : Bool → Advice → Place → List ℕ → Parts → Pa
 switched_if applying advice place line parts = if applying then switched advice place 0 line parts else parts
 
 -- what is told of a line, which comes out empty
-abbrev pub with_told : Place → List ℕ → List PlacedNote → Parts → Parts
-with_told place line notes parts = with_line place (return_of line) (with_notes notes parts)
+abbrev pub with_told : Place → List ℕ → PlacedNote → Parts → Parts
+with_told place line note parts = with_line place (return_of line) (with_note note parts)
 
 -- how the file of a number is put in, by its lines
 abbrev pub Puts : Type 0
@@ -105,11 +109,11 @@ Puts = Place → List ℕ → ℕ → List (List ℕ) → Parts → Parts
 -- a line with an INCLUDE of this name, by what is known of its file
 abbrev pub included_by : Advice → Puts → Place → List ℕ → List ℕ → Answer → Parts → Parts
 included_by advice puts place line name no_name parts =
-    with_told place line (record { place = place; text = advice.no_name } ∷ []) parts
+    with_told place line (record { place = place; text = advice.no_name }) parts
 included_by advice puts place line name unknown parts =
-    with_told place line (record { place = place; text = advice.too_many } ∷ []) (with_wanted name parts)
+    with_told place line (record { place = place; text = advice.too_many }) (with_wanted name parts)
 included_by advice puts place line name absent parts =
-    with_told place line (record { place = place; text = advice.no_file } ∷ []) parts
+    with_told place line (record { place = place; text = advice.no_file }) parts
 included_by advice puts place line name (present file text) parts = puts place line file (lines_of_file text) parts
 
 -- the same, by what was looked for
@@ -124,7 +128,8 @@ value_at switches control = condition_value switches (drop (word_length control)
 -- a line with a control of an IF, or without one that ends it
 abbrev pub conditioned : Advice → Place → List ℕ → List ℕ → ControlKind → List Block → Parts → Parts
 conditioned advice place line control kind blocks parts =
-    with_told place line (notes_on advice place (concern_at (value_at parts.switches control) kind blocks)) parts
+    with_line place (return_of line)
+    (told_on advice place (concern_at (value_at parts.switches control) kind blocks) parts)
 
 -- a line with controls, of which the last is this, and of which the switches are set and reset
 abbrev pub controlled : Advice → List Entry → Puts → Place → List ℕ → List ℕ → ControlKind → List Block → Parts → Parts
@@ -175,7 +180,7 @@ blocks_put advice place line blocks parts =
 
 -- the lines of a file, of which the first has a number, where these IFs are open
 abbrev pub lines_put : Advice → List Entry → Puts → ℕ → ℕ → List (List ℕ) → List Block → Parts → Parts
-lines_put advice entries puts file number [] blocks parts = with_notes (map (note_open advice file) blocks) parts
+lines_put advice entries puts file number [] blocks parts = told_open advice file blocks parts
 lines_put advice entries puts file number (line ∷ lines) blocks parts =
     let place = record { file = file; line = number } in
     lines_put advice entries puts file (number + 1) lines (blocks_put advice place line blocks parts)
@@ -184,7 +189,7 @@ lines_put advice entries puts file number (line ∷ lines) blocks parts =
 -- the lines of a file that is included, and of those that it includes, where files may be so deep
 abbrev pub file_put : Advice → List Entry → ℕ → Puts
 file_put advice entries zero place line file lines parts =
-    with_told place line (record { place = place; text = advice.too_deep } ∷ []) parts
+    with_told place line (record { place = place; text = advice.too_deep }) parts
 file_put advice entries (suc depth) place line file lines parts =
     lines_put advice entries (file_put advice entries depth) file 1 lines [] parts
 

@@ -56,7 +56,7 @@ after_else ElsePassed = ElsePassed
 -- the open IFs, of which the innermost comes to another part
 abbrev pub with_part : Branch → List Block → List Block
 with_part branch blocks =
-    if length blocks == 0 then [] else
+    if length blocks == 0 then blocks else
     take (length blocks - 1) blocks ++ record { branch = branch; line = (innermost blocks).line } ∷ []
 
 -- the open IFs after a control on a line of this number, with what its condition says

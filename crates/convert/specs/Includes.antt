@@ -1,5 +1,5 @@
 -- The files that INCLUDE names.
-use Rattle.std.specs.Prelude.{◌≡◌, ◌⊎◌, ℕ, zero, suc, ◌+◌, ◌-◌, ◌==◌, if◌then◌else◌, Option, None, Some}
+use Rattle.std.specs.Prelude.{ℕ, ◌+◌, ◌-◌, Bool, ◌==◌, if◌then◌else◌, Option, None, Some}
 use Rattle.std.specs.Prelude.{List, [], ◌∷◌, ◌++◌, length, map, take, get_or}
 use Rattle.std.specs.List.{flat_map}
 use Rattle.std.specs.Char.{to_ascii_uppercase, to_ascii_lowercase}
@@ -24,11 +24,13 @@ file_name argument =
     let name = after_blanks (after_device argument argument) in
     take (blank_at name) name
 
--- a folder with a slash (47) at its end
+-- whether a slash (47) ends the name of a folder, or it has none
+abbrev pub ends_folder : List ℕ → Bool
+ends_folder folder = get_or folder (length folder - 1) 47 == 47
+
+-- a folder with a slash at its end
 abbrev pub with_slash : List ℕ → List ℕ
-with_slash [] = []
-with_slash (c ∷ folder) =
-    if get_or (c ∷ folder) (length (c ∷ folder) - 1) 0 == 47 then c ∷ folder else (c ∷ folder) ++ 47 ∷ []
+with_slash folder = if ends_folder folder then folder else folder ++ 47 ∷ []
 
 -- how many bytes of a file's name are its folder's: those up to the last slash. Of those before, this many are, and this
 -- many were looked at
@@ -40,18 +42,16 @@ folder_length found seen (c ∷ name) = folder_length (if c == 47 then seen + 1 
 abbrev pub folder_of : List ℕ → List ℕ
 folder_of name = take (folder_length 0 0 name) name
 
--- where a file is looked for that a source in this file names: in the folders, and then beside the source
-abbrev pub places_for : (folders : List (List ℕ)) → (file : List ℕ) → List (List ℕ)
-places_for folders file = map with_slash folders ++ folder_of file ∷ []
-
 -- the names under which a file is looked for in a folder: as written, in capital letters and in small letters
 abbrev pub forms_in : (name folder : List ℕ) → List (List ℕ)
 forms_in name folder =
     (folder ++ name) ∷ (folder ++ map to_ascii_uppercase name) ∷ (folder ++ map to_ascii_lowercase name) ∷ []
 
--- all names under which a file is looked for, in their order
+-- all names under which a file is looked for that a source in this file includes, in their order: in the folders, and then
+-- beside the source
 abbrev pub candidates : (folders : List (List ℕ)) → (file name : List ℕ) → List (List ℕ)
-candidates folders file name = flat_map (forms_in name) (places_for folders file)
+candidates folders file name =
+    flat_map (forms_in name) (map with_slash folders) ++ forms_in name (folder_of file)
 
 -- what is known of the file of a name: it is no name; it was not looked for; there is none; or its number and its text
 pub data Answer : Type 0 where
@@ -72,8 +72,7 @@ answer_from file name (entry ∷ entries) =
 
 -- what is known of a file; those that were looked for have the numbers from 1
 abbrev pub answer : List Entry → List ℕ → Answer
-answer entries [] = no_name
-answer entries (c ∷ name) = answer_from 1 (c ∷ name) entries
+answer entries name = if length name == 0 then no_name else answer_from 1 name entries
 
 abbrev pub opened_in : Option Found → List ℕ
 opened_in None = []

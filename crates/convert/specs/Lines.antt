@@ -21,10 +21,10 @@ is_control (c ∷ line) = c == 36
 abbrev pub return_of : List ℕ → List ℕ
 return_of line = if get_or line (length line - 1) 0 == 13 then 13 ∷ [] else []
 
--- lines but for an empty one at the end
-abbrev pub without_end : List (List ℕ) → List (List ℕ)
-without_end lines = if length (get_or lines (length lines - 1) []) == 0 then take (length lines - 1) lines else lines
+-- a text without a line feed at its end
+abbrev pub without_end : List ℕ → List ℕ
+without_end text = if get_or text (length text - 1) 0 == 10 then take (length text - 1) text else text
 
--- the lines of a file that is included, of which the last may end with a line feed
+-- the lines of a file that is included: a line feed at its end ends the last one
 abbrev pub lines_of_file : List ℕ → List (List ℕ)
-lines_of_file text = without_end (lines_of text)
+lines_of_file text = lines_of (without_end text)

@@ -1,5 +1,5 @@
 -- The conversion of a source.
-use Rattle.std.specs.Prelude.{◌≡◌, ℕ, ◌-◌, ◌==◌, if◌then◌else◌, List, [], ◌∷◌, ◌++◌, codes, decimal, get_or, map}
+use Rattle.std.specs.Prelude.{◌≡◌, ℕ, ◌-◌, nat_le, ◌&&◌, if◌then◌else◌, List, [], ◌∷◌, ◌++◌, codes, decimal, get_or, length, map}
 use Rattle.std.specs.List.{flat_map}
 use Rattle.convert.specs.declared.assembly.Place.{Place}
 use Rattle.convert.specs.declared.assembly.PlacedNote.{PlacedNote}
@@ -11,11 +11,14 @@ use Rattle.convert.specs.Conversion.{IsConversion}
 use Rattle.convert.specs.Edits.{Change}
 use Rattle.convert.specs.Includes.{name_of_file}
 
--- where a line stands, counted from 1, of a text whose lines stand at these places; 0 is no line, of the source
+-- no line, of the source
+abbrev pub nowhere : Place
+nowhere = record { file = 0; line = 0 }
+
+-- where a line stands, counted from 1, of a text whose lines stand at these places
 abbrev pub place_at : List Place → ℕ → Place
 place_at places line =
-    if line == 0 then record { file = 0; line = 0 }
-    else get_or places (line - 1) (record { file = 0; line = line })
+    if nat_le 1 line && nat_le line (length places) then get_or places (line - 1) nowhere else nowhere
 
 -- a note at the place of its line
 abbrev pub placed : List Place → Note → PlacedNote

@@ -1,7 +1,7 @@
 //! A source with its files put in.
 
 ghost use Rattle.std.specs.Prelude.{◌≡◌, ◌≤◌, ◌+◌, ◌++◌, ◌∷◌, [], true, length, map, IfOk};
-ghost use Rattle.convert.specs.Assembly.{assembled, conditioned, controlled, blocks_controlled, blocks_put, file_put, included, line_controlled, line_put, lines_put, note_open, notes_on, parts_of, parts_with, plain_line, switched, switched_by, switched_if, value_at, with_line, with_names, with_notes, with_told, with_wanted};
+ghost use Rattle.convert.specs.Assembly.{assembled, conditioned, controlled, blocks_controlled, blocks_put, file_put, included, line_controlled, line_put, lines_put, note_open, parts_of, parts_with, plain_line, switched, switched_by, switched_if, told_on, told_open, value_at, with_line, with_names, with_note, with_told, with_wanted};
 ghost use Rattle.convert.specs.Blocks.{blocks_after};
 ghost use Rattle.convert.specs.Switches.{switch_view};
 
@@ -58,7 +58,7 @@ fn add_line(place: Place, line: &[u8], assembly: &mut Assembly) -> Result<(), Al
 // Adds what is told at a place.
 fn tell(place: Place, text: &'static str, assembly: &mut Assembly) -> Result<(), AllocError>
     ensures { IfOk result (λ _. parts_of assembly.new
-        ≡ with_notes (record { place = place; text = text } ∷ []) (parts_of assembly.old)) }
+        ≡ with_note (record { place = place; text = text }) (parts_of assembly.old)) }
 {
     assembly.notes.push(PlacedNote { place, text })?;
     Ok(())
@@ -72,7 +72,7 @@ fn tell_line(
     assembly: &mut Assembly,
 ) -> Result<(), AllocError>
     ensures { IfOk result (λ _. parts_of assembly.new
-        ≡ with_told place line.now (record { place = place; text = text } ∷ []) (parts_of assembly.old)) }
+        ≡ with_told place line.now (record { place = place; text = text }) (parts_of assembly.old)) }
 {
     tell(place, text, assembly)?;
     add_line(place, return_of(line), assembly)
@@ -86,7 +86,7 @@ fn tell_concern(
     assembly: &mut Assembly,
 ) -> Result<(), AllocError>
     ensures { IfOk result (λ _. parts_of assembly.new
-        ≡ with_notes (notes_on advice.now place concern) (parts_of assembly.old)) }
+        ≡ told_on advice.now place concern (parts_of assembly.old)) }
 {
     match concern {
         Concern::Fine => Ok(()),
@@ -103,7 +103,7 @@ fn tell_open(
     assembly: &mut Assembly,
 ) -> Result<(), AllocError>
     ensures { IfOk result (λ _. parts_of assembly.new
-        ≡ with_notes (map (note_open advice.now file) blocks.now) (parts_of assembly.old)) }
+        ≡ told_open advice.now file blocks.now (parts_of assembly.old)) }
 {
     let mut rest = blocks;
     while let [block, more @ ..] = rest {
@@ -158,7 +158,12 @@ fn switch_by<'a>(
     let on = match kind_at(line) {
         ControlKind::Set => true,
         ControlKind::Reset => false,
-        _ => return Ok(()),
+        ControlKind::Include
+        | ControlKind::If
+        | ControlKind::ElseIf
+        | ControlKind::Else
+        | ControlKind::EndIf
+        | ControlKind::Other => return Ok(()),
     };
     let items = items_of(alloc, argument_of(line))?;
     add_names(advice, place, on, items.as_slice(), assembly)
@@ -337,7 +342,15 @@ fn put_control<'a>(
                 add_line(place, return_of(line), assembly)
             }
         }
-        _ => put_condition(alloc, advice, place, line, control, kind, blocks, assembly),
+        ControlKind::If
+        | ControlKind::ElseIf
+        | ControlKind::Else
+        | ControlKind::EndIf
+        | ControlKind::Set
+        | ControlKind::Reset
+        | ControlKind::Other => put_condition(
+            alloc, advice, place, line, control, kind, blocks, assembly,
+        ),
     }
 }
 

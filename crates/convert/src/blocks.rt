@@ -101,7 +101,10 @@ fn after_elseif(value: Option<bool>, branch: Branch) -> Branch
     match branch {
         Branch::Applies => Branch::Passed,
         Branch::Waits => part_of(value),
-        other => other,
+        Branch::Passed => Branch::Passed,
+        Branch::Stays => Branch::Stays,
+        Branch::ElseApplies => Branch::ElseApplies,
+        Branch::ElsePassed => Branch::ElsePassed,
     }
 }
 
@@ -110,9 +113,9 @@ fn after_else(branch: Branch) -> Branch
     ensures { result ≡ after_else branch }
 {
     match branch {
-        Branch::Applies | Branch::Passed => Branch::ElsePassed,
-        Branch::Waits => Branch::ElseApplies,
-        other => other,
+        Branch::Applies | Branch::Passed | Branch::ElsePassed => Branch::ElsePassed,
+        Branch::Waits | Branch::ElseApplies => Branch::ElseApplies,
+        Branch::Stays => Branch::Stays,
     }
 }
 
@@ -196,12 +199,36 @@ pub(crate) fn concern_at(value: Option<bool>, kind: ControlKind, blocks: &[Block
     ensures { result ≡ concern_at value kind blocks.now }
 {
     match kind {
-        ControlKind::If if applies(blocks) => concern_of(value),
-        ControlKind::ElseIf | ControlKind::Else | ControlKind::EndIf if blocks.is_empty() => {
-            Concern::NoIf
+        ControlKind::If => {
+            if applies(blocks) {
+                concern_of(value)
+            } else {
+                Concern::Fine
+            }
         }
-        ControlKind::ElseIf => concern_at_elseif(value, innermost(blocks).branch),
-        ControlKind::Else => concern_at_else(innermost(blocks).branch),
-        _ => Concern::Fine,
+        ControlKind::ElseIf => {
+            if blocks.is_empty() {
+                Concern::NoIf
+            } else {
+                concern_at_elseif(value, innermost(blocks).branch)
+            }
+        }
+        ControlKind::Else => {
+            if blocks.is_empty() {
+                Concern::NoIf
+            } else {
+                concern_at_else(innermost(blocks).branch)
+            }
+        }
+        ControlKind::EndIf => {
+            if blocks.is_empty() {
+                Concern::NoIf
+            } else {
+                Concern::Fine
+            }
+        }
+        ControlKind::Include | ControlKind::Set | ControlKind::Reset | ControlKind::Other => {
+            Concern::Fine
+        }
     }
 }

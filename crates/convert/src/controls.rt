@@ -155,10 +155,18 @@ pub(crate) fn step_at(line: &[u8]) -> usize
     ensures { result ≡ step_at line.now }
 {
     match line {
-        [first, ..] if first.is_ascii_alphabetic() => word_length(line),
-        [b'(', rest @ ..] => close_at(rest) + 2,
-        [b'\'', rest @ ..] => quote_at(rest) + 2,
-        _ => 1,
+        [first, rest @ ..] => {
+            if first.is_ascii_alphabetic() {
+                word_length(line)
+            } else if *first == b'(' {
+                close_at(rest) + 2
+            } else if *first == b'\'' {
+                quote_at(rest) + 2
+            } else {
+                1
+            }
+        }
+        [] => 1,
     }
 }
 
@@ -167,8 +175,14 @@ fn group_text(line: &[u8]) -> &[u8]
     ensures { result.now ≡ group_text line.now }
 {
     match line {
-        [b'(', rest @ ..] => &rest[..close_at(rest)],
-        _ => &[],
+        [first, rest @ ..] => {
+            if *first == b'(' {
+                &rest[..close_at(rest)]
+            } else {
+                &[]
+            }
+        }
+        [] => &[],
     }
 }
 

@@ -2,7 +2,7 @@
 
 ghost use Rattle.std.specs.Prelude.{◌≡◌, ◌≤◌, ◌++◌, ◌∷◌, [], length, map, IfOk};
 ghost use Rattle.std.specs.Str.{bytes_eq};
-ghost use Rattle.convert.specs.Includes.{after_device, answer, answer_from, answer_in, blank_at, candidates, file_name, folder_length, folder_of, forms_in, name_of_file, opened_after, opened_in, places_for, with_slash};
+ghost use Rattle.convert.specs.Includes.{after_device, answer, answer_from, answer_in, blank_at, candidates, ends_folder, file_name, folder_length, folder_of, forms_in, name_of_file, opened_after, opened_in, with_slash};
 ghost use Rattle.convert.specs.internal.Answers.{answer_view};
 
 use crate::controls::{after_blanks, is_blank};
@@ -75,12 +75,19 @@ pub(crate) fn file_name(argument: &[u8]) -> &[u8]
     &name[..blank_at(name)]
 }
 
+// Whether a slash ends the name of a folder, or it has none.
+fn ends_folder(folder: &[u8]) -> bool
+    ensures { result ≡ ends_folder folder.now }
+{
+    folder.is_empty() || folder[folder.len() - 1] == b'/'
+}
+
 // Adds a folder with a slash at its end.
 fn add_folder(folder: &[u8], text: &mut Vec<u8>) -> Result<(), AllocError>
     ensures { IfOk result (λ _. text.new.items ≡ text.old.items ++ with_slash folder.now) }
 {
     text.extend_from_slice(folder)?;
-    if !folder.is_empty() && folder[folder.len() - 1] != b'/' {
+    if !ends_folder(folder) {
         text.push(b'/')?;
     }
     Ok(())

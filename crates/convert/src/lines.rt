@@ -1,7 +1,7 @@
 //! Lines of old sources.
 
 ghost use Rattle.std.specs.Prelude.{◌≡◌, ◌≤◌, ◌==◌, ◌||◌, ◌-◌, get_or, length, map, IfOk};
-ghost use Rattle.convert.specs.Lines.{is_control, lines_of, lines_of_file, plain, return_of};
+ghost use Rattle.convert.specs.Lines.{is_control, lines_of, lines_of_file, plain, return_of, without_end};
 
 use std::alloc::{AllocError, Global};
 
@@ -43,22 +43,22 @@ pub(crate) fn lines_of(alloc: Global, text: &[u8]) -> Result<Vec<&[u8]>, AllocEr
     text.split(|byte| *byte == b'\n').collect(alloc)
 }
 
-// Whether the last of lines is empty.
-fn ends_empty(lines: &[&[u8]]) -> bool
-    ensures { result ≡ (length (get_or (map (λ line. line.now) lines.now) (length lines.now - 1) []) == 0) }
+// A text without a line feed at its end.
+fn without_end(text: &[u8]) -> &[u8]
+    ensures { result.now ≡ without_end text.now }
 {
-    lines.is_empty() || lines[lines.len() - 1].is_empty()
+    if !text.is_empty() && text[text.len() - 1] == b'\n' {
+        &text[..text.len() - 1]
+    } else {
+        text
+    }
 }
 
-/// The lines of a file that is included: the last may end with a line feed.
+/// The lines of a file that is included: a line feed at its end ends the last one.
 pub(crate) fn lines_of_file(alloc: Global, text: &[u8]) -> Result<Vec<&[u8]>, AllocError>
     ensures { IfOk result (λ lines. map (λ line. line.now) lines.items ≡ lines_of_file text.now) }
 {
-    let mut lines = lines_of(alloc, text)?;
-    if ends_empty(lines.as_slice()) {
-        let _ = lines.pop();
-    }
-    Ok(lines)
+    lines_of(alloc, without_end(text))
 }
 
 /// Whether a line has controls.

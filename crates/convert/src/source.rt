@@ -25,16 +25,14 @@ pub struct Converted {
     pub notes: Vec<PlacedNote>,
 }
 
-/// Where a line stands, counted from 1, of a text whose lines stand at these places; 0 is no line, of the source.
+/// Where a line stands, counted from 1, of a text whose lines stand at these places; for another number line 0 of the source.
 pub fn place_at(places: &[Place], line: usize) -> Place
     ensures { result ≡ place_at places.now line }
 {
-    if line == 0 {
-        Place { file: 0, line: 0 }
-    } else if line <= places.len() {
+    if 1 <= line && line <= places.len() {
         places[line - 1]
     } else {
-        Place { file: 0, line }
+        Place { file: 0, line: 0 }
     }
 }
 

@@ -1,4 +1,4 @@
-use Rattle.std.proofs.Common.{◌≡◌, ◌+◌, [], length, map}
+use Rattle.std.proofs.Common.{◌≡◌, ◌+◌, ◌*◌, [], length, map}
 use Rattle.convert.specs.Assembly.{file_put, lines_put, parts_of}
 use Rattle.convert.proofs.assembly.+putting.Given as goal
 
