@@ -1,5 +1,5 @@
 -- The files that a source includes: what is known of files stays known where they stayed.
-use Rattle.commands.proofs.Prelude.{◌≡◌, ℕ, ◌≤◌, ◌-◌, List, [], ◌∷◌, ◌++◌, Bor, length, take, drop, map, get_or, Option, None, Some, inl, inr, refl, sym, ap, subst, ◌∙◌, ◌⊎◌, arith, Directory, HasFile, KeepsFiles, stays_on, ConvertWanted}
+use Rattle.commands.proofs.Prelude.{◌≡◌, ℕ, ◌≤◌, ◌<◌, ◌-◌, List, [], ◌∷◌, ◌++◌, Bor, length, take, drop, map, get_or, Option, None, Some, inl, inr, refl, sym, ap, subst, ◌∙◌, ◌⊎◌, arith, Directory, HasFile, KeepsFiles, stays_on, ConvertWanted}
 use Rattle.std.proofs.Common.{take-length}
 use Rattle.std.specs.Prelude.{option_map}
 use Rattle.std.specs.List.{AllByRecursion}
@@ -56,6 +56,37 @@ looks_step files whole names name missing on = record {
   found = λ found looks. on.found found (elsewhere missing looks);
   stops = λ stop stops. on.stops stop (after_name missing stops);
 }
+
+left_is : {A : Type 0} (v : A) (more : List A) → take (length (v ∷ more) - 1) (drop 1 (v ∷ more)) ≡ more
+left_is v more =
+    let count : length (v ∷ more) - 1 ≡ length more = omega arith in
+    ap (λ (k : ℕ). take k more) count ∙ take-length more
+
+module _ {A : Type 0} (f : A → List ℕ) (files : Option Directory) (whole : List (List ℕ)) where
+  -- there is no file of the next name
+  pub looks_on : (name : List ℕ) (d : A) (rest : List A) → 1 ≤ length rest → name ≡ f (get_or rest 0 d) → IsMissing files name → LooksOn files whole (map f rest)
+      → LooksOn files whole (map f (take (length rest - 1) (drop 1 rest)))
+  looks_on name d [] one is missing on = absurd (omega (arith, one))
+  looks_on name d (v ∷ more) one is missing on =
+      subst (λ (l : List A). LooksOn files whole (map f l)) (sym (left_is v more)) (looks_step files whole (map f more) (f v) (subst (IsMissing files) is missing) on)
+
+  -- there is one
+  pub found_next : (name : List ℕ) (found : List ℕ × List ℕ) (d : A) (rest : List A) → 1 ≤ length rest → name ≡ f (get_or rest 0 d) → FindsText files name (Some found) → LooksOn files whole (map f rest)
+      → LooksUp files whole (Some found)
+  found_next name found d [] one is there on = absurd (omega (arith, one))
+  found_next name found d (v ∷ more) one is (text, there, found_is) on =
+      subst (λ (one : List ℕ × List ℕ). LooksUp files whole (Some one)) (sym found_is)
+      (on.found (Some (name, plain text)) (subst (λ (n : List ℕ). LooksUp files (n ∷ map f more) (Some (name, plain text))) is (here there)))
+
+  -- it can't be read
+  pub stops_next : (name : List ℕ) (d : A) (rest : List A) → 1 ≤ length rest → name ≡ f (get_or rest 0 d) → LooksOn files whole (map f rest) → StopsLooking files whole name
+  stops_next name d [] one is on = absurd (omega (arith, one))
+  stops_next name d (v ∷ more) one is on = on.stops name (subst (λ (n : List ℕ). StopsLooking files (n ∷ map f more) name) is at_name)
+
+  -- no name is left
+  pub none_left : (rest : List A) → length rest < 1 → LooksOn files whole (map f rest) → LooksUp files whole None
+  none_left [] none on = on.found None nowhere
+  none_left (v ∷ more) none on = absurd (omega (arith, none))
 
 -- one more entry
 pub all_with : (P : Entry → Type 0) (entries : List Entry) (entry : Entry) → AllByRecursion P entries → P entry → AllByRecursion P (entries ++ entry ∷ [])

@@ -141,7 +141,7 @@ pub(crate) fn included_files<F: Files>(
     ensures failed { IfErr result (λ failure. Counts failure (F.failures files.old) (F.failures files.new)) }
 {
     let mut entries = Vec::new(alloc);
-    while entries.len() < MOST_NAMES {
+    'names: while entries.len() < MOST_NAMES {
         let sets = order.sets.as_slice();
         let Some(name) = next_name(alloc, advice, entries.as_slice(), sets, source)? else {
             return Ok(entries);

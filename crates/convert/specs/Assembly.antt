@@ -15,7 +15,7 @@ use Rattle.convert.specs.declared.controls.ControlKind.TheVariants.{Include, If,
 use Rattle.convert.specs.declared.includes.Entry.{Entry}
 use Rattle.convert.specs.Blocks.{applies, blocks_after, concern_at}
 use Rattle.convert.specs.Controls.{argument_of, is_last, kind_at, last_control, step_at, word_length}
-use Rattle.convert.specs.Includes.{Answer, absent, answer, file_name, no_name, present, unknown}
+use Rattle.convert.specs.Includes.{Answer, absent, answer_of, file_name, no_name, present, unknown}
 use Rattle.convert.specs.Lines.{is_control, lines_of, lines_of_file, return_of}
 use Rattle.convert.specs.Switches.{SwitchView, all_names, condition_value, items_of, switch_view, switches_of}
 
@@ -119,7 +119,7 @@ included_by advice puts place line name (present file text) parts = puts place l
 -- the same, by what was looked for
 abbrev pub included : Advice → List Entry → Puts → Place → List ℕ → List ℕ → Parts → Parts
 included advice entries puts place line argument parts =
-    included_by advice puts place line (file_name argument) (answer entries (file_name argument)) parts
+    included_by advice puts place line (file_name argument) (answer_of entries (file_name argument)) parts
 
 -- what a condition says after the word of its control
 abbrev pub value_at : List SwitchView → List ℕ → Option Bool

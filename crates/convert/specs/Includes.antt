@@ -71,8 +71,8 @@ answer_from file name (entry ∷ entries) =
     if bytes_eq entry.name.items name then answer_in file entry.found else answer_from (file + 1) name entries
 
 -- what is known of a file; those that were looked for have the numbers from 1
-abbrev pub answer : List Entry → List ℕ → Answer
-answer entries name = if length name == 0 then no_name else answer_from 1 name entries
+abbrev pub answer_of : List Entry → List ℕ → Answer
+answer_of entries name = if length name == 0 then no_name else answer_from 1 name entries
 
 abbrev pub opened_in : Option Found → List ℕ
 opened_in None = []

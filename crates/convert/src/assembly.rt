@@ -10,7 +10,7 @@ use crate::blocks::{Block, Concern, applies, change_blocks, concern_at};
 use crate::controls::{
     ControlKind, after_word, argument_of, is_last, kind_at, last_control, step_at,
 };
-use crate::includes::{Answer, Entry, answer, file_name};
+use crate::includes::{Answer, Entry, answer_of, file_name};
 use crate::lines::{is_control, lines_of, lines_of_file, return_of};
 use crate::switches::{Switch, add_switches, all_names, condition_value, items_of, set_switches};
 use std::alloc::{AllocError, Global};
@@ -295,7 +295,7 @@ fn put_include<'a>(
         (parts_of assembly.old)) }
 {
     let name = file_name(argument);
-    match answer(entries, name) {
+    match answer_of(entries, name) {
         Answer::NoName => tell_line(place, line, advice.no_name, assembly),
         Answer::Unknown => {
             want(alloc, name, assembly)?;

@@ -2,7 +2,7 @@
 
 ghost use Rattle.std.specs.Prelude.{◌≡◌, ◌≤◌, ◌++◌, ◌∷◌, [], length, map, IfOk};
 ghost use Rattle.std.specs.Str.{bytes_eq};
-ghost use Rattle.convert.specs.Includes.{after_device, answer, answer_from, answer_in, blank_at, candidates, ends_folder, file_name, folder_length, folder_of, forms_in, name_of_file, opened_after, opened_in, with_slash};
+ghost use Rattle.convert.specs.Includes.{after_device, answer_of, answer_from, answer_in, blank_at, candidates, ends_folder, file_name, folder_length, folder_of, forms_in, name_of_file, opened_after, opened_in, with_slash};
 ghost use Rattle.convert.specs.internal.Answers.{answer_view};
 
 use crate::controls::{after_blanks, is_blank};
@@ -218,8 +218,8 @@ fn answer_from<'a>(entries: &'a [Entry], name: &[u8]) -> Answer<'a>
 }
 
 /// What is known of the file of a name.
-pub(crate) fn answer<'a>(entries: &'a [Entry], name: &[u8]) -> Answer<'a>
-    ensures { answer_view result ≡ answer entries.now name.now }
+pub(crate) fn answer_of<'a>(entries: &'a [Entry], name: &[u8]) -> Answer<'a>
+    ensures { answer_view result ≡ answer_of entries.now name.now }
 {
     if name.is_empty() {
         Answer::NoName

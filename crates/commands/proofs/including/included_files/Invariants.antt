@@ -1,0 +1,15 @@
+use Rattle.commands.proofs.Prelude.{◌≡◌, ◌-◌, length, KeepsFiles}
+use Rattle.std.specs.List.{AllByRecursion}
+use Rattle.command_line.specs.Command.{convert_in}
+use Rattle.commands.specs.Including.{IsLookedUp}
+use Rattle.commands.proofs.including.included_files.Given as goal
+
+abbrev pub invariant-names : goal.invariant-names
+invariant-names g l = record {
+  kept : KeepsFiles (g.F.Files.files l.initial.files) (g.F.Files.files l.files);
+  count : g.F.Files.failures l.files ≡ g.F.Files.failures l.initial.files;
+  looked : AllByRecursion (IsLookedUp (convert_in l.order) (g.F.Files.files l.initial.files)) l.entries.items;
+}
+
+abbrev pub decreases-names : goal.decreases-names
+decreases-names g l = 255 - length l.entries.items
