@@ -1,13 +1,13 @@
 -- Sources that were converted, or not.
-use Rattle.commands.proofs.Prelude.{◌≡◌, ◌<◌, ◌≤◌, ℕ, List, [], ◌∷◌, length, map, Option, Some, inl, inr, refl, sym, ap, subst, ◌∙◌, ◌⊎◌, arith, true, false, true≢false, Ending, Done, Refused, status_of, AppendsBeginning, Appends, Keeps, Directory, HasFile, KeepsFiles, Tells, memory_line, refusal_line, file_line, CountsFailure, RunsOut, TellsUnwritten, ConvertWanted}
-use Rattle.std.specs.Prelude.{min}
+use Rattle.commands.proofs.Prelude.{◌≡◌, ◌<◌, ◌≤◌, ℕ, List, [], length, map, Option, inl, inr, refl, sym, ap, subst, ◌∙◌, ◌⊎◌, arith, true, false, Ending, Done, Refused, status_of, AppendsBeginning, Appends, Directory, HasFile, KeepsFiles, Tells, memory_line, refusal_line, file_line, CountsFailure, TellsUnwritten, ConvertWanted}
+use Rattle.std.proofs.Common.{true≢false}
 use Rattle.words.specs.declared.limits.TheConstants.{LONGEST_SOURCE}
 use Rattle.typed_trees.specs.TypedTrees.{TypedModule}
 use Rattle.sources.specs.{Causes.{HasReadCause}, Faults.{line_of, number_of}, Reading.{IsSourceOf}, declared.read.ReadFault.{ReadFault, TheVariants.{Expansion, Storage, Syntax, TooLong, Typing, Words}}}
 use Rattle.convert.specs.{Advice.{advice_view, usual_advice}, Assembly.{Parts}, Table.{rule_view, table_of_rules}, Sources.{IsConverted, note_lines, place_at}, declared.advice.Advice.{Advice}, declared.assembly.PlacedNote.{PlacedNote}, declared.includes.Entry.{Entry}, declared.rule.Rule.{Rule}}
-use Rattle.commands.specs.Converting.{Converts, ConvertsByTables, ConvertsRead, HasNoConversion, IsModule, IsNoModule, IsPutTogether, PrintsText, StopsText, TellsFault, TellsNotes, changed, fault_line_at, stays}
-use Rattle.commands.specs.Including.{IsIncluded, StopsLookingForSome, put_together}
-use Rattle.commands.specs.internal.Converting.{PrintsParts, TellsOfParts, is_fault_of_module}
+use Rattle.commands.specs.Converting.{Converts, ConvertsByTables, HasNoConversion, IsModule, IsNoModule, IsPutTogether, changed, fault_line_at, stays}
+use Rattle.commands.specs.Including.{StopsLookingForSome}
+use Rattle.commands.specs.internal.Converting.{is_fault_of_module}
 unfoldable use Rattle.commands.specs.Converting.{ConvertsFile, ConvertsText, RefusesText}
 unfoldable use Rattle.commands.specs.internal.Converting.{ConvertsHeld, ConvertsParts, PrintsNoted}
 use Rattle.commands.proofs.Printed.{stays_written}

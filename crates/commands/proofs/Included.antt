@@ -1,16 +1,13 @@
 -- The files that a source includes: what is known of files stays known where they stayed.
-use Rattle.commands.proofs.Prelude.{◌≡◌, ℕ, ◌≤◌, ◌<◌, ◌-◌, List, [], ◌∷◌, ◌++◌, Bor, length, take, drop, map, get_or, Option, None, Some, inl, inr, refl, sym, ap, subst, ◌∙◌, ◌⊎◌, arith, Directory, HasFile, KeepsFiles, stays_on, ConvertWanted}
-use Rattle.std.proofs.Common.{take-length}
-use Rattle.std.specs.Prelude.{option_map}
+use Rattle.commands.proofs.Prelude.{◌≡◌, ℕ, ◌≤◌, ◌<◌, ◌-◌, List, [], ◌∷◌, ◌++◌, length, drop, map, get_or, Option, None, Some, sym, ap, subst, ◌∙◌, arith, Directory, KeepsFiles, ConvertWanted}
+use Rattle.std.proofs.Common.{take, take-length}
 use Rattle.std.specs.List.{AllByRecursion}
 use Rattle.host.specs.Files.{FindsFile}
 use Rattle.host.proofs.FilesRead.{was_there}
 use Rattle.convert.specs.declared.advice.Advice.{Advice}
 use Rattle.convert.specs.declared.includes.Entry.{Entry}
-use Rattle.convert.specs.declared.includes.Found.{Found}
-use Rattle.convert.specs.Includes.{candidates}
 use Rattle.convert.specs.Lines.{plain}
-use Rattle.commands.specs.Including.{FindsText, IsIncluded, IsLookedUp, IsMissing, LooksUp, StopsLooking, StopsLookingForSome, after_name, at_name, elsewhere, found_view, here, nowhere}
+use Rattle.commands.specs.Including.{FindsText, IsIncluded, IsLookedUp, IsMissing, LooksUp, StopsLooking, StopsLookingForSome, after_name, at_name, elsewhere, here, nowhere}
 
 module _ (was files : Option Directory) (kept : KeepsFiles was files) where
   was_found : (name : List ℕ) (found : Option (List ℕ)) → FindsFile files name found → FindsFile was name found

@@ -1,6 +1,6 @@
 //! Orders to convert an old source, carried out.
 
-ghost use Rattle.std.specs.Prelude.{◌≡◌, ◌⊎◌, ◌<◌, ◌≤◌, [], length, min, IfOk, true, false};
+ghost use Rattle.std.specs.Prelude.{◌≡◌, ◌⊎◌, ◌<◌, ◌≤◌, [], length, IfOk, true, false};
 ghost use Rattle.failure.specs.Failure.{IfFault};
 ghost use Rattle.failure.specs.Writing.{AppendsBeginning};
 ghost use Rattle.words.specs.declared.limits.TheConstants.{LONGEST_SOURCE};

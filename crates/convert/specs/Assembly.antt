@@ -1,7 +1,6 @@
 -- The text of a source with its files put in, and what is told of its lines with controls.
-use Rattle.std.specs.Prelude.{ℕ, zero, suc, ◌+◌, ◌-◌, Bool, true, false, ◌==◌, if◌then◌else◌, Option, None, Some}
-use Rattle.std.specs.Prelude.{List, [], ◌∷◌, ◌++◌, length, map, take, drop, get_or}
-use Rattle.std.specs.List.{flat_map}
+use Rattle.std.specs.Prelude.{ℕ, zero, suc, ◌+◌, ◌-◌, Bool, true, false, ◌==◌, if◌then◌else◌, Option}
+use Rattle.std.specs.Prelude.{List, [], ◌∷◌, ◌++◌, length, map, drop}
 use Rattle.convert.specs.declared.advice.Advice.{Advice}
 use Rattle.convert.specs.declared.assembly.Assembly.{Assembly}
 use Rattle.convert.specs.declared.assembly.Place.{Place}
@@ -182,12 +181,12 @@ blocks_put advice place line blocks parts =
 abbrev pub lines_put : Advice → List Entry → Puts → ℕ → ℕ → List (List ℕ) → List Block → Parts → Parts
 lines_put advice entries puts file number [] blocks parts = told_open advice file blocks parts
 lines_put advice entries puts file number (line ∷ lines) blocks parts =
-    let place = record { file = file; line = number } in
+    let place : Place = record { file = file; line = number } in
     lines_put advice entries puts file (number + 1) lines (blocks_put advice place line blocks parts)
     (line_put advice entries puts place line blocks parts)
 
 -- the lines of a file that is included, and of those that it includes, where files may be so deep
-abbrev pub file_put : Advice → List Entry → ℕ → Puts
+abbrev pub file_put : Advice → List Entry → (depth : ℕ) → Place → List ℕ → ℕ → List (List ℕ) → Parts → Parts
 file_put advice entries zero place line file lines parts =
     with_told place line (record { place = place; text = advice.too_deep }) parts
 file_put advice entries (suc depth) place line file lines parts =

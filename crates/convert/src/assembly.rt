@@ -1,7 +1,9 @@
 //! A source with its files put in.
 
-ghost use Rattle.std.specs.Prelude.{◌≡◌, ◌≤◌, ◌+◌, ◌++◌, ◌∷◌, [], true, length, map, IfOk};
-ghost use Rattle.convert.specs.Assembly.{assembled, conditioned, controlled, blocks_controlled, blocks_put, file_put, included, line_controlled, line_put, lines_put, note_open, parts_of, parts_with, plain_line, switched, switched_by, switched_if, told_on, told_open, value_at, with_line, with_names, with_note, with_told, with_wanted};
+ghost use Rattle.std.specs.Prelude.{◌≡◌, [], map, IfOk};
+ghost use Rattle.convert.specs.Assembly.{assembled, conditioned, controlled, blocks_put, file_put, included, line_put, lines_put, parts_of, parts_with, plain_line, switched, switched_by, switched_if, told_on, told_open, value_at, with_line, with_names, with_note, with_told, with_wanted};
+ghost use Rattle.convert.specs.Controls.{kind_at};
+ghost use Rattle.convert.specs.Lines.{lines_of_file};
 ghost use Rattle.convert.specs.Blocks.{blocks_after};
 ghost use Rattle.convert.specs.Switches.{switch_view};
 

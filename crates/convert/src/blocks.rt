@@ -1,6 +1,6 @@
 //! The parts of IF: which of them apply.
 
-ghost use Rattle.std.specs.Prelude.{◌≡◌, IfOk, option_map};
+ghost use Rattle.std.specs.Prelude.{◌≡◌, IfOk};
 ghost use Rattle.convert.specs.Blocks.{after_else, after_elseif, after_if, applies, blocks_after, concern_at, concern_at_else, concern_at_elseif, concern_of, does_apply, innermost, part_of, with_part};
 
 use crate::controls::ControlKind;

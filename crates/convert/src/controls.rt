@@ -1,6 +1,6 @@
 //! Controls on a line of an old source: words, each with a group in parentheses or without.
 
-ghost use Rattle.std.specs.Prelude.{◌≡◌, ◌≤◌, false, length};
+ghost use Rattle.std.specs.Prelude.{◌≡◌, ◌≤◌, false, drop, length};
 ghost use Rattle.std.specs.Str.{str_eq_ignore_ascii_case};
 ghost use Rattle.convert.specs.Controls.{after_blanks, argument_of, close_at, group_text, is_blank, is_last, kind_at, kind_of, last_control, quote_at, quoted_after, step_at, word_length};
 

@@ -1,7 +1,7 @@
 //! The files that INCLUDE names.
 
-ghost use Rattle.std.specs.Prelude.{◌≡◌, ◌≤◌, ◌++◌, ◌∷◌, [], length, map, IfOk};
-ghost use Rattle.std.specs.Str.{bytes_eq};
+ghost use Rattle.std.specs.Prelude.{◌≡◌, ◌≤◌, ◌++◌, length, map, IfOk};
+ghost use Rattle.std.specs.List.{flat_map};
 ghost use Rattle.convert.specs.Includes.{after_device, answer_of, answer_from, answer_in, blank_at, candidates, ends_folder, file_name, folder_length, folder_of, forms_in, name_of_file, opened_after, opened_in, with_slash};
 ghost use Rattle.convert.specs.internal.Answers.{answer_view};
 

@@ -1,9 +1,9 @@
 //! Switches, which SET and RESET change, and conditions of them.
 
-ghost use Rattle.std.specs.Prelude.{◌≡◌, ◌++◌, map, IfOk};
-ghost use Rattle.std.specs.List.{list_all};
-ghost use Rattle.convert.specs.Switches.{all_names, begins_name, condition_value, failed, is_between_names, is_name, is_name_byte, is_on, is_operator, items_of, no_words, said_by, switch_view, switches_of, with_expected, with_operand, with_operator, with_value, with_word, with_words};
-ghost use Rattle.words.specs.Characters.{is_word_byte};
+ghost use Rattle.std.specs.Prelude.{◌≡◌, ◌++◌, map, true, IfOk};
+ghost use Rattle.std.specs.List.{list_all, slice_split};
+ghost use Rattle.convert.specs.Controls.{is_blank};
+ghost use Rattle.convert.specs.Switches.{all_names, begins_name, condition_value, failed, is_between_names, is_name, is_name_byte, is_on, is_operator, items_of, no_words, said_by, switch_view, switches_of, with_operand, with_operator, with_value, with_word, with_words};
 
 use crate::controls::{is_blank, is_same};
 use crate::edit::is_word_byte;

@@ -16,7 +16,7 @@ use Rattle.convert.specs.Sources.{IsConverted, note_lines, place_at}
 use Rattle.command_line.specs.Command.{ConvertWanted}
 use Rattle.commands.specs.Converting.{ConvertsText, HasNoConversion, fault_line_at}
 use Rattle.commands.specs.Including.{StopsLookingForSome}
-use Rattle.commands.specs.Refusing.{RunsOut, TellsFile, TellsUnwritten}
+use Rattle.commands.specs.Refusing.{TellsFile, TellsUnwritten}
 
 -- the faults of a text that is a module
 abbrev pub is_fault_of_module : ReadFault → Bool
