@@ -98,8 +98,8 @@ abbrev pub switched_if : Bool → Advice → Place → List ℕ → Parts → Pa
 switched_if applying advice place line parts = if applying then switched advice place 0 line parts else parts
 
 -- what is told of a line, which comes out empty
-abbrev pub with_told : Place → List ℕ → PlacedNote → Parts → Parts
-with_told place line note parts = with_line place (return_of line) (with_note note parts)
+abbrev pub with_told : List ℕ → PlacedNote → Parts → Parts
+with_told line note parts = with_line note.place (return_of line) (with_note note parts)
 
 -- how the file of a number is put in, by its lines
 abbrev pub Puts : Type 0
@@ -108,11 +108,11 @@ Puts = Place → List ℕ → ℕ → List (List ℕ) → Parts → Parts
 -- a line with an INCLUDE of this name, by what is known of its file
 abbrev pub included_by : Advice → Puts → Place → List ℕ → List ℕ → Answer → Parts → Parts
 included_by advice puts place line name no_name parts =
-    with_told place line (record { place = place; text = advice.no_name }) parts
+    with_told line (record { place = place; text = advice.no_name }) parts
 included_by advice puts place line name unknown parts =
-    with_told place line (record { place = place; text = advice.too_many }) (with_wanted name parts)
+    with_told line (record { place = place; text = advice.too_many }) (with_wanted name parts)
 included_by advice puts place line name absent parts =
-    with_told place line (record { place = place; text = advice.no_file }) parts
+    with_told line (record { place = place; text = advice.no_file }) parts
 included_by advice puts place line name (present file text) parts = puts place line file (lines_of_file text) parts
 
 -- the same, by what was looked for
@@ -188,7 +188,7 @@ lines_put advice entries puts file number (line ∷ lines) blocks parts =
 -- the lines of a file that is included, and of those that it includes, where files may be so deep
 abbrev pub file_put : Advice → List Entry → (depth : ℕ) → Place → List ℕ → ℕ → List (List ℕ) → Parts → Parts
 file_put advice entries zero place line file lines parts =
-    with_told place line (record { place = place; text = advice.too_deep }) parts
+    with_told line (record { place = place; text = advice.too_deep }) parts
 file_put advice entries (suc depth) place line file lines parts =
     lines_put advice entries (file_put advice entries depth) file 1 lines [] parts
 

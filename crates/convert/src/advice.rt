@@ -25,7 +25,7 @@ pub struct Advice {
 }
 
 /// What is told by `plm convert`.
-pub static ADVICE: Advice = Advice {
+pub static USUAL_ADVICE: Advice = Advice {
     no_name: "INCLUDE: no name of a file: write the text of the file here",
     no_file: "INCLUDE: no such file: give its folder by --folder, or write the text of the file here",
     too_deep: "INCLUDE: files more than 8 deep: write the text of the file here",
@@ -40,5 +40,5 @@ pub static ADVICE: Advice = Advice {
 pub fn all_advice() -> &'static Advice
     ensures { advice_view result.now ≡ usual_advice }
 {
-    &ADVICE
+    &USUAL_ADVICE
 }

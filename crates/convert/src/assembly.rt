@@ -1,7 +1,7 @@
 //! A source with its files put in.
 
 ghost use Rattle.std.specs.Prelude.{◌≡◌, [], map, IfOk};
-ghost use Rattle.convert.specs.Assembly.{assembled, conditioned, controlled, blocks_put, file_put, included, line_put, lines_put, parts_of, parts_with, plain_line, switched, switched_by, switched_if, told_on, told_open, value_at, with_line, with_names, with_note, with_told, with_wanted};
+ghost use Rattle.convert.specs.Assembly.{assembled, conditioned, controlled, blocks_put, file_put, included, line_put, lines_put, note_open, parts_of, parts_with, plain_line, switched, switched_by, switched_if, told_on, told_open, value_at, with_line, with_names, with_note, with_told, with_wanted};
 ghost use Rattle.convert.specs.Controls.{kind_at};
 ghost use Rattle.convert.specs.Lines.{lines_of_file};
 ghost use Rattle.convert.specs.Blocks.{blocks_after};
@@ -57,27 +57,20 @@ fn add_line(place: Place, line: &[u8], assembly: &mut Assembly) -> Result<(), Al
     Ok(())
 }
 
-// Adds what is told at a place.
-fn tell(place: Place, text: &'static str, assembly: &mut Assembly) -> Result<(), AllocError>
-    ensures { IfOk result (λ _. parts_of assembly.new
-        ≡ with_note (record { place = place; text = text }) (parts_of assembly.old)) }
+// Adds what is told.
+fn tell(note: PlacedNote, assembly: &mut Assembly) -> Result<(), AllocError>
+    ensures { IfOk result (λ _. parts_of assembly.new ≡ with_note note (parts_of assembly.old)) }
 {
-    assembly.notes.push(PlacedNote { place, text })?;
+    assembly.notes.push(note)?;
     Ok(())
 }
 
 // The same, of a line that comes out empty.
-fn tell_line(
-    place: Place,
-    line: &[u8],
-    text: &'static str,
-    assembly: &mut Assembly,
-) -> Result<(), AllocError>
-    ensures { IfOk result (λ _. parts_of assembly.new
-        ≡ with_told place line.now (record { place = place; text = text }) (parts_of assembly.old)) }
+fn tell_line(line: &[u8], note: PlacedNote, assembly: &mut Assembly) -> Result<(), AllocError>
+    ensures { IfOk result (λ _. parts_of assembly.new ≡ with_told line.now note (parts_of assembly.old)) }
 {
-    tell(place, text, assembly)?;
-    add_line(place, return_of(line), assembly)
+    tell(note, assembly)?;
+    add_line(note.place, return_of(line), assembly)
 }
 
 // Adds what is told of a control of an IF.
@@ -92,8 +85,27 @@ fn tell_concern(
 {
     match concern {
         Concern::Fine => Ok(()),
-        Concern::NoCondition => tell(place, advice.no_condition, assembly),
-        Concern::NoIf => tell(place, advice.no_if, assembly),
+        Concern::NoCondition => {
+            let text = advice.no_condition;
+            tell(PlacedNote { place, text }, assembly)
+        }
+        Concern::NoIf => {
+            let text = advice.no_if;
+            tell(PlacedNote { place, text }, assembly)
+        }
+    }
+}
+
+// What is told of an IF that is open at the end of its file.
+fn note_open(advice: &Advice, file: usize, block: Block) -> PlacedNote
+    ensures { result ≡ note_open advice.now file block }
+{
+    PlacedNote {
+        place: Place {
+            file,
+            line: block.line,
+        },
+        text: advice.no_end,
     }
 }
 
@@ -109,11 +121,7 @@ fn tell_open(
 {
     let mut rest = blocks;
     while let [block, more @ ..] = rest {
-        let place = Place {
-            file,
-            line: block.line,
-        };
-        tell(place, advice.no_end, assembly)?;
+        tell(note_open(advice, file, *block), assembly)?;
         rest = more;
     }
     Ok(())
@@ -142,7 +150,8 @@ fn add_names<'a>(
     if all_names(items) {
         add_switches(on, items, &mut assembly.switches)
     } else {
-        tell(place, advice.no_names, assembly)
+        let text = advice.no_names;
+        tell(PlacedNote { place, text }, assembly)
     }
 }
 
@@ -266,7 +275,8 @@ fn put_file<'a>(
         ≡ file_put advice.now entries.now depth place line.now file (lines_of_file text.now) (parts_of assembly.old)) }
 {
     if depth == 0 {
-        return tell_line(place, line, advice.too_deep, assembly);
+        let text = advice.too_deep;
+        return tell_line(line, PlacedNote { place, text }, assembly);
     }
     let lines = lines_of_file(alloc, text)?;
     put_lines(
@@ -298,12 +308,19 @@ fn put_include<'a>(
 {
     let name = file_name(argument);
     match answer_of(entries, name) {
-        Answer::NoName => tell_line(place, line, advice.no_name, assembly),
+        Answer::NoName => {
+            let text = advice.no_name;
+            tell_line(line, PlacedNote { place, text }, assembly)
+        }
         Answer::Unknown => {
             want(alloc, name, assembly)?;
-            tell_line(place, line, advice.too_many, assembly)
+            let text = advice.too_many;
+            tell_line(line, PlacedNote { place, text }, assembly)
         }
-        Answer::Absent => tell_line(place, line, advice.no_file, assembly),
+        Answer::Absent => {
+            let text = advice.no_file;
+            tell_line(line, PlacedNote { place, text }, assembly)
+        }
         Answer::Present(file, text) => {
             put_file(
                 alloc, advice, entries, depth, place, line, file, text, assembly,

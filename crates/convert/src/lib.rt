@@ -23,7 +23,7 @@ mod texts;
 mod wrapping;
 mod writing;
 
-pub use advice::{ADVICE, Advice, all_advice};
+pub use advice::{Advice, USUAL_ADVICE, all_advice};
 pub use assembly::{Assembly, DEEPEST_FILE, Place, PlacedNote, assemble};
 pub use blocks::{Block, Branch, Concern};
 pub use class::{Class, Seen};
