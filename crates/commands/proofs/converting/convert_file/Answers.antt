@@ -1,4 +1,4 @@
-use Rattle.commands.proofs.Prelude.{None, ap, status_of}
+use Rattle.commands.proofs.Prelude.{None, ap, status_of, stays_on}
 use Rattle.commands.proofs.Converted.{file_converted, file_unheld, file_unread}
 use Rattle.commands.proofs.converting.convert_file.Goals as goal
 
@@ -11,5 +11,8 @@ returns-in-Err-Memory-clause-converted g c = file_unheld _ _ _ _ _ _ _ _ _ None 
     (rw c.in-Err-Memory.field-0-is at c.in-Err-Memory.ensures.failed) c.refuse_memory.ensures.line
 
 pub returns-clause-converted : goal.returns-clause-converted
-returns-clause-converted g c = file_converted _ _ _ _ _ _ _ _ _ _ _ _ c.in-Ok.ensures.count c.in-Ok.ensures.bytes
+returns-clause-converted g c = file_converted _ _ _ _ _ _ _ _ _ _ _ _ _ _ c.in-Ok.ensures.kept c.in-Ok.ensures.count c.in-Ok.ensures.bytes
     (rw c.as_slice.ensures.value at c.convert_text.ensures.converted)
+
+pub returns-clause-unchanged : goal.returns-clause-unchanged
+returns-clause-unchanged g c = stays_on _ _ _ c.in-Ok.ensures.kept c.convert_text.ensures.unchanged
