@@ -24,7 +24,7 @@ is_printed line =
     || begins (codes "*** ") line))))
 
 -- a line from which on there is no source
-abbrev pub is_end : List ℕ → Bool
+unfoldable pub is_end : List ℕ → Bool
 is_end line =
     begins (codes "MODULE INFORMATION:") line
     || (begins (codes "CROSS-REFERENCE LISTING") line
@@ -60,7 +60,7 @@ listed_body Printed line = []
 listed_body Unknown line = line
 
 -- what comes out of a line
-abbrev pub listed : List ℕ → List ℕ
+unfoldable pub listed : List ℕ → List ℕ
 listed line = listed_body (form_of (body line)) (body line) ++ return_of line
 
 -- what comes out of lines, with line feeds (10) between them: nothing from the first on that ends the source

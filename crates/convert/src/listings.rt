@@ -2,7 +2,7 @@
 
 ghost use Rattle.std.specs.Prelude.{◌≡◌, ◌∷◌, ◌++◌, [], false, map, IfOk};
 ghost use Rattle.std.specs.List.{list_all};
-ghost use Rattle.convert.specs.Listings.{begins, form_of, has_columns, has_marks, is_end, is_mark, is_number, is_printed, listed_body, listed_text, listing_note, listing_notes_from, note_view};
+ghost use Rattle.convert.specs.Listings.{begins, form_of, has_columns, has_marks, is_end, is_mark, is_number, is_printed, listed, listed_body, listed_text, listing_note, listing_notes_from, note_view};
 
 use crate::columns::{after, body, front};
 use crate::converting::Note;
@@ -36,14 +36,23 @@ pub(crate) fn join_listed(alloc: Global, lines: &[&[u8]]) -> Result<Vec<u8>, All
         if is_end(line) {
             return Ok(text);
         }
-        text.extend_from_slice(listed_body(body(line)))?;
-        text.extend_from_slice(return_of(line))?;
+        add_listed(line, &mut text)?;
         if !more.is_empty() {
             text.push(b'\n')?;
         }
         rest = more;
     }
     Ok(text)
+}
+
+// Adds what comes out of a line.
+#[tactic(auto, unfolding(crate::specs::Listings::listed))]
+fn add_listed(line: &[u8], text: &mut Vec<u8>) -> Result<(), AllocError>
+    ensures { IfOk result (λ _. text.new.items ≡ text.old.items ++ listed line.now) }
+{
+    text.extend_from_slice(listed_body(body(line)))?;
+    text.extend_from_slice(return_of(line))?;
+    Ok(())
 }
 
 /// Adds what is told of the lines of a listing, of which the first is line 1.
@@ -142,6 +151,7 @@ fn is_printed(line: &[u8]) -> bool
 }
 
 // Whether no source comes from a line on.
+#[tactic(auto, unfolding(crate::specs::Listings::is_end))]
 fn is_end(line: &[u8]) -> bool
     ensures { result ≡ is_end line.now }
 {
