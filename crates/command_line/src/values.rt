@@ -15,7 +15,9 @@ ghost use Rattle.command_line.specs.Settings.{Reads, ReadsFile};
 ghost use Rattle.command_line.specs.internal.Reads.{if_read, in_front};
 
 use crate::explained::page;
-use crate::orders::{ExecuteOrder, ExplainOrder, NeedOrder, PlaceOrder, PlanTexts, ProgramOrder};
+use crate::orders::{
+    ExecuteOrder, ExplainOrder, NeedOrder, PlaceOrder, PlanTexts, ProgramOrder, Watch,
+};
 use crate::port_files::{PortFile, port_files};
 use crate::start_memory::{MemoryByte, fill, memory};
 use failure::Failure;
@@ -50,6 +52,8 @@ pub struct Settings<'a> {
     pub memory: Vec<MemoryByte>,
     /// The files from which the bytes of ports come, one of a port at most, none of a port that the input names.
     pub input_files: Vec<PortFile<'a>>,
+    /// What is watched while the program runs.
+    pub watch: Watch,
 }
 
 /// U4: an option has a text that is none of its values, or no fault has this number.
@@ -243,10 +247,11 @@ fn settings_of<'a>(
     fill_text: &'a str,
     memory_text: Option<&'a str>,
     input_file_texts: &[&'a str],
+    watch: Watch,
 ) -> Result<Settings<'a>, Failure<ValueFault<'a>>>
     ensures values { IsSettingsOf (texts_read (plan_in plan_texts.now) limit_text.entry.now
         (option_map (λ text. text.now) input_text.entry) fill_text.entry.now
-        (option_map (λ text. text.now) memory_text.entry) (texts input_file_texts.now)) result }
+        (option_map (λ text. text.now) memory_text.entry) (texts input_file_texts.now) watch) result }
     ensures names { HasNames (texts input_file_texts.now) result }
     ensures memory { input_text.entry ≡ None → memory_text.entry ≡ None →
         input_file_texts.now ≡ [] → HasMemory result }
@@ -273,6 +278,7 @@ fn settings_of<'a>(
         fill,
         memory,
         input_files,
+        watch,
     })
 }
 
@@ -328,6 +334,7 @@ impl<'a> ExecuteOrder<'a> {
             self.fill,
             self.memory,
             self.input_files.as_slice(),
+            self.watch,
         )
     }
 }
@@ -373,6 +380,7 @@ impl<'a> ProgramOrder<'a> {
             self.fill,
             self.memory,
             self.input_files.as_slice(),
+            self.watch,
         )
     }
 }
