@@ -1,20 +1,20 @@
 -- Merges of objects that were run, or not.
-use Rattle.commands.proofs.Prelude.{◌≡◌, ℕ, List, [], Ok, Option, inl, inr, refl, sym, ap, subst, ◌∙◌, ◌++◌, Event, Session, Directory, KeepsFiles, TellsRefusal, RefusesFor, RunsOut, started, IsStart, Values}
+use Rattle.commands.proofs.Prelude.{◌≡◌, ℕ, Bool, false, List, [], Ok, Option, inl, inr, refl, sym, ap, subst, ◌∙◌, ◌++◌, Event, Session, Directory, KeepsFiles, TellsRefusal, RefusesFor, RunsOut, started, IsStart, Values}
 use Rattle.printing.specs.Printing.{BeginsRun, PrintsRun}
 use Rattle.cpu8080.specs.{Machine.{Machine}, declared.machine.End.{End}}
 use Rattle.locate.specs.Locating.{Absolute}
 use Rattle.command_line.specs.{Command.{ExecuteWanted}, Settings.{execute_read}}
 use Rattle.object_commands.specs.Merging.{PlacesMerge, RefusesPlacing}
-use Rattle.commands.specs.Executing.{PrintsExecution, PrintsImage, PrintsMerge, PrintsRead, StopsImage, StopsRead}
+use Rattle.commands.specs.Executing.{PrintsExecution, PrintsImageRun, PrintsMerge, PrintsPlaced, PrintsRead, StopsImage, StopsImageRun, StopsRead}
 use Rattle.commands.specs.InputFiles.{HasInput, input_names, quiet_ports}
 unfoldable use Rattle.commands.specs.Executing.{RefusesExecution, RefusesObjects}
 use Rattle.commands.specs.Refusing.{TellsUnwritten}
-use Rattle.commands.specs.Running.{GivesInput, end_status}
+use Rattle.commands.specs.Ends.{GivesInput, end_status}
 use Rattle.commands.proofs.InputFiles.{input_there, refused_after, told_after}
 use Rattle.commands.proofs.Printed.{stays_written}
 
-pub no_image : (values : Values) (image : Absolute) (known : Option (List ℕ)) → StopsImage values image known known
-no_image values image known = inl (stays_written known)
+pub no_image : (watched : Bool) (values : Values) (image : Absolute) (known : Option (List ℕ)) → StopsImageRun watched values image known known
+no_image watched values image known = inl (stays_written known)
 
 -- a run of an image that was printed, or a beginning of it
 module _ (values : Values) (image : Absolute) (memory : List ℕ) (script : Session) (from : Machine) (old new : Option (List ℕ)) (start : IsStart values memory)
@@ -25,7 +25,7 @@ module _ (values : Values) (image : Absolute) (memory : List ℕ) (script : Sess
       starts ∙ ap (λ (es : List Event). started image memory script.script es script.failures) none
       ∙ ap (λ (n : ℕ). started image memory script.script [] n) unfailed
 
-  pub prints_image : (end : End) (machine : Machine) → PrintsRun quiet values.limit from end machine old new → PrintsImage values image (end_status end) old new
+  pub prints_image : (end : End) (machine : Machine) → PrintsRun quiet values.limit from end machine old new → PrintsImageRun false values image (end_status end) old new
   prints_image end machine ran = record {
     memory = memory;
     start = start;
@@ -38,7 +38,7 @@ module _ (values : Values) (image : Absolute) (memory : List ℕ) (script : Sess
     ended = refl;
   }
 
-  pub begins_image : BeginsRun quiet values.limit from old new → StopsImage values image old new
+  pub begins_image : BeginsRun quiet values.limit from old new → StopsImageRun false values image old new
   begins_image ran = inr (record {
     memory = memory;
     start = start;
@@ -49,12 +49,12 @@ module _ (values : Values) (image : Absolute) (memory : List ℕ) (script : Sess
   })
 
 -- the status of the ending is that of the end
-pub image_status : (values : Values) (image : Absolute) (old new : Option (List ℕ)) (status of_end : ℕ) → status ≡ of_end → PrintsImage values image of_end old new → PrintsImage values image status old new
-image_status values image old new status of_end same printed = subst (λ (s : ℕ). PrintsImage values image s old new) (sym same) printed
+pub image_status : (values : Values) (image : Absolute) (old new : Option (List ℕ)) (status of_end : ℕ) → status ≡ of_end → PrintsPlaced values image of_end old new → PrintsPlaced values image status old new
+image_status values image old new status of_end same printed = subst (λ (s : ℕ). PrintsPlaced values image s old new) (sym same) printed
 
 -- the files of the input were read, and the image was run, or not whole
 module _ (values full : Values) (files : Option Directory) (image : Absolute) (old new : Option (List ℕ)) (input : HasInput files values full) where
-  pub prints_read : (status : ℕ) → PrintsImage full image status old new → PrintsRead values files image status old new
+  pub prints_read : (status : ℕ) → PrintsPlaced full image status old new → PrintsRead values files image status old new
   prints_read status printed = record { full = full; input = input; printed = printed }
 
   pub stops_read : (told was : Option (List ℕ)) → TellsUnwritten was told → StopsImage full image old new → StopsRead values files image was told old new

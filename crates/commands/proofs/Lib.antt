@@ -12,6 +12,11 @@ pub mod InputFiles
 pub mod Names
 pub mod Refused
 pub mod Printed
+pub mod Dry
+pub mod Scripts
+pub mod Steps
+pub mod Budgets
+pub mod Watched
 pub mod Untold
 pub mod Executed
 pub mod Explained

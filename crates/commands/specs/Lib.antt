@@ -20,6 +20,8 @@ pub mod Compiling
 pub mod InputFiles
 pub mod Map
 pub mod Starting
+pub mod Ends
+pub mod Watching
 pub mod Running
 pub mod ProgramFaults
 pub mod Refusing

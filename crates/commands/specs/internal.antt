@@ -1,2 +1,6 @@
 pub mod LineFaults
 pub mod Reading
+pub mod Dry
+pub mod Scripts
+pub mod Sent
+pub mod Budgets

@@ -3,13 +3,16 @@
 
 mod console;
 mod converting;
+mod dry;
 mod executing;
 mod explaining;
+mod input_ports;
 mod needing;
 mod needs;
 mod port_inputs;
 mod printed_needs;
 mod programs;
 mod refusals;
+mod watching;
 
 pub use console::run_command;
