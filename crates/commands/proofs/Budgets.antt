@@ -1,7 +1,11 @@
 -- Runs of a source with one budget and with another.
-use Rattle.commands.proofs.Prelude.{◌≡◌, ℕ, suc, ◌+◌, ◌-◌, ◌<◌, ◌≤◌, Bool, true, false, List, [], ◌++◌, length, take, Option, Some, None, inl, inr, refl, sym, ap, subst, ◌∙◌, arith, cases_lt, Event, Values, Construction, source_of, IsStart, DoesAs, program_modules, append-nil, ◌∷◌}
+use Rattle.commands.proofs.Prelude.{◌≡◌, ℕ, suc, ◌+◌, ◌-◌, ◌<◌, ◌≤◌, Bool, true, false, List, [], ◌++◌, length, IfSome, Option, Some, None, inl, inr, refl, sym, ap, subst, ◌∙◌, arith, cases_lt, Event, Values, Construction, source_of, IsStart, DoesAs, program_modules, append-nil, ◌∷◌}
+use Rattle.std.proofs.Common.{take}
 use Rattle.std.proofs.lemmas.Grind.{same_number_lists}
-use Rattle.ports.specs.Events.{IsBeginning}
+use Rattle.ports.specs.{Events.{IsBeginning}, Input.{queue_of, reads_of}}
+use Rattle.command_line.specs.declared.values.InputByte.{InputByte}
+use Rattle.commands.specs.Ends.{bytes_to}
+use Rattle.commands.specs.internal.Dry.{IsDryAt, IsLeft, left_at}
 use Rattle.isa8080.proofs.Growing.{begins_on}
 use Rattle.meaning.specs.{Outcomes.{Stop, Ended, More, Outside}, Run.{Run}}
 use Rattle.meaning.proofs.Runs.{LastsAs, runs_last}
@@ -9,7 +13,8 @@ use Rattle.mem80.specs.declared.memory.TheConstants.{MEMORY_SIZE}
 use Rattle.commands.specs.Watching.{ComesBeforeDry, DoesAsSource, IsLeastWithout, IsWithinIf, IsWithinInput, UsesBudget, WantsMore}
 use Rattle.commands.specs.internal.Budgets.{DryIn, IsLeastBudget, RunsSource, Uses, WantsAt, asks_more, has_failed, shown_in, stop_in}
 use Rattle.commands.specs.internal.Scripts.{script_in}
-use Rattle.commands.proofs.Dry.{within_beginning}
+use Rattle.commands.proofs.Dry.{dry_found, left_after, left_within, within_beginning}
+use Rattle.commands.proofs.Scripts.{gives_input}
 
 -- the memory at the start is determined
 pub one_start : (values : Values) (one other : List ℕ) → IsStart values one → IsStart values other → one ≡ other
@@ -83,10 +88,10 @@ module _ (values : Values) (built : Construction) (budget : ℕ) (end : Option S
       by (Some More) None asks does dry =
           subst (λ (m : List ℕ). WantsMore values.watch.until_dry script (source_of built m script [] budget)) (one_start values ran.memory memory ran.start start)
           (ap (λ (r : Run). r.end) does, λ watched. subst (λ (r : Run). IsWithinInput script r.events) (sym does) (dry watched))
-      by end (Some count) asks does dry = cc
-      by None None asks does dry = cc
-      by (Some Ended) None asks does dry = cc
-      by (Some (Outside reason)) None asks does dry = cc
+      by end (Some count) asks does dry = let bad : false ≡ true = asks in cc
+      by None None asks does dry = let bad : false ≡ true = asks in cc
+      by (Some Ended) None asks does dry = let bad : false ≡ true = asks in cc
+      by (Some (Outside reason)) None asks does dry = let bad : false ≡ true = asks in cc
 
   -- and one that does not
   pub not_asked : asks_more end shown ≡ false → has_failed end shown ≡ false → WantsAt values built budget → ⊥
@@ -96,8 +101,8 @@ module _ (values : Values) (built : Construction) (budget : ℕ) (end : Option S
           → WantsMore values.watch.until_dry script (runs budget) → ⊥
       by end (Some count) asks fails does dry wants =
           dry.1.1.past (within_beginning script _ events dry.1.1.begins (within_beginning script events (runs budget).events (begun end does) (wants.1 dry.0)))
-      by (Some More) None asks fails does dry wants = cc
-      by None None asks fails does dry wants = cc
+      by (Some More) None asks fails does dry wants = let bad : true ≡ false = asks in cc
+      by None None asks fails does dry wants = let bad : true ≡ false = fails in cc
       by (Some Ended) None asks fails does dry wants = let bad : Ended ≡ More = ap (λ (r : Run). r.end) (sym does) ∙ wants.0 in cc
       by (Some (Outside reason)) None asks fails does dry wants = let bad : Outside reason ≡ More = ap (λ (r : Run). r.end) (sym does) ∙ wants.0 in cc
 
@@ -151,17 +156,96 @@ pub record Between (values : Values) (built : Construction) (enough low high : �
 pub between_all : (values : Values) (built : Construction) (enough : ℕ) → (WantsAt values built enough → ⊥) → Between values built enough 0 enough
 between_all values built enough above = record { low_high = omega arith; most = omega arith; below = λ budget less. absurd (omega (arith, less)); above = above }
 
-module _ (values : Values) (built : Construction) (enough low high middle : ℕ) (between : Between values built enough low high) (from : low ≤ middle) (to : middle < high) where
-  pub more_needed : (next : ℕ) → next ≡ middle + 1 → WantsAt values built middle → Between values built enough next high
-  more_needed next is wants = record {
+module _ (values : Values) (built : Construction) (enough low high middle : ℕ) (between : Between values built enough low high) (from : low ≤ middle) (to : middle < high)
+    (end : Option Stop) (shown : Option ℕ) (events : List Event) (ran : RunsSource values built middle end shown events) (asks : Bool) (says : asks ≡ asks_more end shown) where
+  pub more_needed : (next : ℕ) → next ≡ middle + 1 → asks ≡ true → Between values built enough next high
+  more_needed next is more = record {
     low_high = omega (arith, is, to);
     most = between.most;
-    below = λ budget less. wants_below values built middle budget (omega (arith, less, is)) wants;
+    below = λ budget less. wants_below values built middle budget (omega (arith, less, is)) (asked values built middle end shown events ran (sym says ∙ more));
     above = between.above;
   }
 
-  pub less_needed : (WantsAt values built middle → ⊥) → Between values built enough low middle
-  less_needed above = record { low_high = from; most = omega (arith, to, between.most); below = between.below; above = above }
+  pub less_needed : (failed : Bool) → failed ≡ has_failed end shown → failed ≡ false → asks ≡ false → Between values built enough low middle
+  less_needed failed tells fine enough_so = record {
+    low_high = from;
+    most = omega (arith, to, between.most);
+    below = between.below;
+    above = not_asked values built middle end shown events ran (sym says ∙ enough_so) (sym tells ∙ fine);
+  }
 
 pub least_found : (values : Values) (built : Construction) (enough low high : ℕ) → Between values built enough low high → high ≤ low → IsLeastBudget values built high
 least_found values built enough low high between done = record { fails = between.above; below = λ budget less. between.below budget (omega (arith, less, done)) }
+
+-- how much of its budget a run used
+module _ (values : Values) (built : Construction) (budget : ℕ) (end : Option Stop) (shown : Option ℕ) (events : List Event) (ran : RunsSource values built budget end shown events) where
+  pub uses_asked : (asks : Bool) → asks ≡ asks_more end shown → asks ≡ true → Uses values built budget end shown budget
+  uses_asked asks says more = by end shown (sym says ∙ more)
+    where
+      by : (end : Option Stop) (shown : Option ℕ) → asks_more end shown ≡ true → Uses values built budget end shown budget
+      by (Some More) None asks = refl
+      by end (Some count) asks = let bad : false ≡ true = asks in cc
+      by None None asks = let bad : false ≡ true = asks in cc
+      by (Some Ended) None asks = let bad : false ≡ true = asks in cc
+      by (Some (Outside reason)) None asks = let bad : false ≡ true = asks in cc
+
+  pub uses_failed : (failed : Bool) → failed ≡ has_failed end shown → failed ≡ true → Uses values built budget end shown budget
+  uses_failed failed says fault = by end shown (sym says ∙ fault)
+    where
+      by : (end : Option Stop) (shown : Option ℕ) → has_failed end shown ≡ true → Uses values built budget end shown budget
+      by None None fails = refl
+      by end (Some count) fails = let bad : false ≡ true = fails in cc
+      by (Some stop) None fails = let bad : false ≡ true = fails in cc
+
+  module _ (asks failed : Bool) (says : asks ≡ asks_more end shown) (tells : failed ≡ has_failed end shown) (enough : asks ≡ false) (fine : failed ≡ false) where
+    pub is_enough : WantsAt values built budget → ⊥
+    is_enough = not_asked values built budget end shown events ran (sym says ∙ enough) (sym tells ∙ fine)
+
+    pub uses_least : (steps : ℕ) → steps ≤ budget → IsLeastBudget values built steps → Uses values built budget end shown steps
+    uses_least steps most least = by end shown (sym says ∙ enough) (sym tells ∙ fine)
+      where
+        by : (end : Option Stop) (shown : Option ℕ) → asks_more end shown ≡ false → has_failed end shown ≡ false → Uses values built budget end shown steps
+        by end (Some count) asks fails = (most, least)
+        by None None asks fails = let bad : true ≡ false = fails in cc
+        by (Some More) None asks fails = let bad : true ≡ false = asks in cc
+        by (Some Ended) None asks fails = (most, least)
+        by (Some (Outside reason)) None asks fails = (most, least)
+
+  -- what comes before a read past the input is among the events
+  pub shown_fits : IfSome shown (λ count. count ≤ length events)
+  shown_fits = by shown ran.dry
+    where
+      by : (shown : Option ℕ) → DryIn values.watch.until_dry (script_in values.input) events shown → IfSome shown (λ count. count ≤ length events)
+      by None dry = tt
+      by (Some count) dry = dry.1.0
+
+-- a run as it was made
+pub runs_source : (values : Values) (built : Construction) (budget : ℕ) (memory : List ℕ) (script : List (List ℕ)) (before : List Event) (end : Option Stop) (shown : Option ℕ) (events : List Event)
+    → IsStart values memory → script ≡ script_in values.input → before ≡ [] → DoesAs (source_of built memory script before budget) end events
+    → DryIn values.watch.until_dry (script_in values.input) events shown → RunsSource values built budget end shown events
+runs_source values built budget memory script before end shown events start is none does dry = record {
+  memory = memory;
+  start = start;
+  does = subst (λ (es : List Event). DoesAs (source_of built memory (script_in values.input) es budget) end events) none
+      (subst (λ (queues : List (List ℕ)). DoesAs (source_of built memory queues before budget) end events) is does);
+  dry = dry;
+}
+
+-- what was found of a read past the input
+pub dry_in : (until_dry : Bool) (input : List InputByte) (left new : List ℕ) (events : List Event) (answer : Option ℕ) → until_dry ≡ true
+    → ((port : ℕ) → left_at left port ≡ length (bytes_to port input))
+    → (answer ≡ None → (port : ℕ) → left_at new port + reads_of events port ≡ left_at left port) → IfSome answer (IsDryAt left events)
+    → DryIn until_dry (script_in input) events answer
+dry_in until_dry input left new events answer dry counts none some = by answer none some
+  where
+    first_left : IsLeft (script_in input) (take 0 events) left
+    first_left port =
+        let size : length (queue_of (script_in input) port) ≡ length (bytes_to port input) = ap (λ (q : List ℕ). length q) (gives_input input port) in
+        omega (arith, counts port, size)
+
+    by : (answer : Option ℕ) → (answer ≡ None → (port : ℕ) → left_at new port + reads_of events port ≡ left_at left port) → IfSome answer (IsDryAt left events) → DryIn until_dry (script_in input) events answer
+    by None none some = λ watched. left_within (script_in input) events new (left_after (script_in input) events 0 left first_left new (none refl))
+    by (Some at) none some = (dry, dry_found (script_in input) events 0 left (omega arith) first_left at at some (omega arith))
+
+pub not_dry : (until_dry : Bool) (input : List InputByte) (events : List Event) → until_dry ≡ false → DryIn until_dry (script_in input) events None
+not_dry until_dry input events off on = let bad : false ≡ true = sym off ∙ on in cc

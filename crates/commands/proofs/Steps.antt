@@ -1,5 +1,6 @@
 -- Steps of a machine whose run is watched.
-use Rattle.commands.proofs.Prelude.{◌≡◌, ℕ, suc, zero, ◌+◌, ◌-◌, ◌<◌, ◌≤◌, Bool, true, List, [], ◌++◌, length, take, Option, Some, None, refl, sym, ap, subst, ◌∙◌, arith, Event}
+use Rattle.commands.proofs.Prelude.{◌≡◌, ℕ, suc, zero, ◌+◌, ◌-◌, ◌<◌, ◌≤◌, Bool, true, List, [], ◌++◌, ◌∷◌, length, Option, Some, None, refl, sym, ap, subst, ◌∙◌, arith, Event}
+use Rattle.std.proofs.Common.{take}
 use Rattle.std.proofs.Math.Seq.{take-append_seam, take-length}
 use Rattle.ports.specs.Events.{IsBeginning}
 use Rattle.isa8080.specs.{State.{State}, declared.registers.Status.{Status}}
@@ -44,6 +45,10 @@ run_state n start new ends.Halted run = (n, omega arith, run.state)
 run_state n start new ends.Illegal run = (n, omega arith, run.state)
 run_state n start new ends.PortFault run = (run.0, omega (arith, run.1), run.2.state)
 
+none_after : (m : Machine) → state_from m 0 ≡ m.state
+unfolding state_after
+none_after m = refl
+
 -- no events that are within the input pass it
 not_within : (script : List (List ℕ)) (events all : List Event) → ComesBeforeDry script events all → IsWithinInput script all → ⊥
 not_within script events all dry within = dry.past (within_beginning script _ all dry.begins within)
@@ -53,10 +58,10 @@ pub record SoFar (until_dry : Bool) (limit : ℕ) (start : Machine) (done : ℕ)
   pub within : done ≤ limit
   pub made : Made start done here
   pub runs : here.state.status ≡ status.Running
-  pub left : IsLeftIf until_dry here.script here.state.events left
+  pub kept : IsLeftIf until_dry here.script here.state.events left
 
 pub begins : (until_dry : Bool) (limit : ℕ) (start : Machine) (left : List ℕ) → start.state.status ≡ status.Running → IsLeftIf until_dry start.script start.state.events left → SoFar until_dry limit start 0 start left
-begins until_dry limit start left runs is_left = record { within = omega arith; made = none_made start; runs = runs; left = is_left }
+begins until_dry limit start left runs is_left = record { within = omega arith; made = none_made start; runs = runs; kept = is_left }
 
 module _ (until_dry : Bool) (limit : ℕ) (start : Machine) (done : ℕ) (here : Machine) (left : List ℕ) (so_far : SoFar until_dry limit start done here left) where
   -- the state after some of these steps, and the others after it
@@ -75,7 +80,7 @@ module _ (until_dry : Bool) (limit : ℕ) (start : Machine) (done : ℕ) (here :
   goes_on k within = (
     runs_before start.script start.state k (done - k) (ap (λ (s : State). s.status) (split k within) ∙ so_far.runs),
     λ dry. within_beginning start.script (state_from start k).events here.state.events (grown k within)
-    (subst (λ (script : List (List ℕ)). IsWithinInput script here.state.events) so_far.made.script (left_within here.script here.state.events left (so_far.left dry))),
+    (subst (λ (script : List (List ℕ)). IsWithinInput script here.state.events) so_far.made.script (left_within here.script here.state.events left (so_far.kept dry))),
   )
 
   below_next : (k : ℕ) → k < suc done → GoesOn until_dry start k
@@ -91,7 +96,7 @@ module _ (until_dry : Bool) (limit : ℕ) (start : Machine) (done : ℕ) (here :
           within = omega (arith, count, fits);
           made = rw count (made_on start here done so_far.made n new on same);
           runs = on.status_is;
-          left = is_left;
+          kept = is_left;
         }
 
     script_is : new.script ≡ start.script
@@ -115,7 +120,7 @@ module _ (until_dry : Bool) (limit : ℕ) (start : Machine) (done : ℕ) (here :
         here_past e =
             not_within new.script (take shown new.state.events) new.state.events is_shown.1
             (subst (λ (es : List Event). IsWithinInput new.script es) (sym e)
-            (subst (λ (script : List (List ℕ)). IsWithinInput script here.state.events) (sym same) (left_within here.script here.state.events left (so_far.left dry))))
+            (subst (λ (script : List (List ℕ)). IsWithinInput script here.state.events) (sym same) (left_within here.script here.state.events left (so_far.kept dry))))
 
         next_past : new.state ≡ state_from start (n + done) → GoesOn until_dry start (suc done) → ⊥
         next_past e on =
@@ -130,7 +135,7 @@ module _ (until_dry : Bool) (limit : ℕ) (start : Machine) (done : ℕ) (here :
         past ends.Illegal first all on = next_past all.state on
         past ends.PortFault first all on =
             let none : first.0 ≡ 0 = omega (arith, first.1, one) in
-            here_past (ap (λ (s : State). s.events) (first.2.state ∙ ap (λ k. state_from here k) none))
+            here_past (ap (λ (s : State). s.events) (first.2.state ∙ ap (λ k. state_from here k) none ∙ none_after here))
 
     -- the run ended
     pub end_does : (end : Option End) (shown : ℕ) → (why ≡ ends.Limit → ⊥) → end ≡ Some why → shown ≡ length new.state.events → IsWithinIf until_dry new.script new.state.events
@@ -175,7 +180,7 @@ module _ (until_dry : Bool) (limit : ℕ) (start : Machine) (done : ℕ) (here :
       let taken : take shown here.state.events ≡ here.state.events = ap (λ k. take k here.state.events) many ∙ take-length here.state.events in
       rw is (here, record { state = so_far.made.state ∙ ap (λ k. state_from start k) all; status_is = so_far.runs; failures = so_far.made.failures }, taken,
       λ dry. subst (λ (script : List (List ℕ)). IsWithinInput script (take shown here.state.events)) so_far.made.script
-      (subst (λ (es : List Event). IsWithinInput here.script es) (sym taken) (left_within here.script here.state.events left (so_far.left dry))))
+      (subst (λ (es : List Event). IsWithinInput here.script es) (sym taken) (left_within here.script here.state.events left (so_far.kept dry))))
 
   pub limit_counted : (end : Option End) (steps : ℕ) → done ≡ limit → end ≡ Some ends.Limit → steps ≡ done → CarriesOut until_dry limit start end steps
   limit_counted end steps all is count = rw is (count ∙ all)

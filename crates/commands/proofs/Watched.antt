@@ -1,5 +1,5 @@
 -- What was printed of runs that are watched, and of those that are not.
-use Rattle.commands.proofs.Prelude.{◌≡◌, ℕ, ◌≤◌, Bool, true, false, List, [], ◌++◌, Option, None, Some, Result, IfOk, OnErr, inl, inr, refl, sym, ap, subst, ◌∙◌, append-nil, Appends, Keeps, AppendsBeginning, Event, Session, Action, ToRun, Interpret, Values, Construction, IsStart, GivesInput, source_of, started, PrintsAction, PrintsBuilt, StopsBuilt, end_status}
+use Rattle.commands.proofs.Prelude.{◌≡◌, ℕ, ◌≤◌, Bool, true, false, List, [], ◌++◌, Option, None, Some, inl, inr, refl, sym, ap, subst, ◌∙◌, append-nil, Appends, Keeps, AppendsBeginning, Event, Session, Action, ToRun, Interpret, Values, Construction, IsStart, GivesInput, source_of, started, PrintsAction, PrintsBuilt, StopsBuilt, end_status}
 unfoldable use Rattle.commands.specs.Running.{StopsAction}
 use Rattle.printing.specs.Report.{report_of}
 use Rattle.cpu8080.specs.{Machine.{Machine}, declared.machine.End.{End}}

@@ -86,6 +86,7 @@ impl<'a> SourceRun<'a> {
 }
 
 // How many events come before a read of a port past its input, where there is one and a run is to end there.
+#[tactic(auto, using(crate::proofs::Budgets::dry_in, crate::proofs::Budgets::not_dry))]
 fn shown_of(values: &Settings, events: &[Event]) -> Option<usize>
     ensures { DryIn (values_in values.now).watch.until_dry (script_in (values_in values.now).input) events.now result }
 {
@@ -98,6 +99,7 @@ fn shown_of(values: &Settings, events: &[Event]) -> Option<usize>
 }
 
 // Interprets a program that was built, with so much budget.
+#[tactic(auto, using(crate::proofs::Budgets::runs_source))]
 fn run_source<'a>(
     alloc: Global,
     values: &'a Settings,
@@ -170,6 +172,7 @@ fn whole_run<'a>(
 }
 
 // The least budget with which the program comes to an end or to a read past the input, as it does with this one.
+#[tactic(auto, using(crate::proofs::Budgets::between_all, crate::proofs::Budgets::more_needed, crate::proofs::Budgets::less_needed, crate::proofs::Budgets::least_found))]
 fn least_budget(
     alloc: Global,
     values: &Settings,
@@ -198,6 +201,7 @@ fn least_budget(
 }
 
 // How much of the budget a run used, where that is counted.
+#[tactic(auto, using(crate::proofs::Budgets::uses_asked, crate::proofs::Budgets::uses_failed, crate::proofs::Budgets::is_enough, crate::proofs::Budgets::uses_least))]
 fn budget_used(
     alloc: Global,
     values: &Settings,
@@ -209,11 +213,17 @@ fn budget_used(
     ensures { IfOk result (λ steps. values.now.watch.count ≡ true → Uses (values_in values.now) built.now
         run.now.budget (option_map stop_of run.now.end) run.now.shown steps) }
 {
-    if !values.watch.count || run.wants_more() || run.is_failed() {
-        Ok(run.budget)
-    } else {
-        least_budget(alloc, values, built, run.budget)
+    if !values.watch.count {
+        return Ok(run.budget);
     }
+    if run.wants_more() {
+        return Ok(run.budget);
+    }
+    if run.is_failed() {
+        return Ok(run.budget);
+    }
+    let steps = least_budget(alloc, values, built, run.budget)?;
+    Ok(steps)
 }
 
 // The last word of a run.
@@ -228,6 +238,7 @@ fn watched_word(end: Option<Option<SourceEnd>>) -> &'static str
 
 /// Prints what a program does from a memory as values start it, watched as they say. The answer is how it ended, or None where
 /// it came to a read of a port past its input. After a failure a beginning of that was printed.
+#[tactic(auto, using(crate::proofs::Budgets::shown_fits, crate::proofs::Watched::prints_meant, crate::proofs::Watched::begins_meant, crate::proofs::Printed::nothing_stops))]
 pub(crate) fn print_watched_meaning<O: Write>(
     alloc: Global,
     values: &Settings,
