@@ -116,12 +116,15 @@ module _ (values : Values) (built : Construction) (budget : ℕ) (end : Option S
       where
         by : (end : Option Stop) (shown : Option ℕ) → (asks_more end shown ≡ true → budget ≡ limit) → DoesAs (runs budget) end events → DryIn values.watch.until_dry script events shown
             → DoesAsSource values.watch.until_dry script (runs limit) (stop_in end shown) (shown_in events shown)
-        by end (Some count) all does dry = (dry.0, record {
-          within = dry.1.1.within;
-          next = dry.1.1.next;
-          begins = begins_on (take count events ++ dry.1.1.next ∷ []) events (runs limit).events dry.1.1.begins (begins_on events (runs budget).events (runs limit).events (begun end does) grows);
-          past = dry.1.1.past;
-        })
+        by end (Some count) all does dry = (
+          dry.0,
+          record {
+            within = dry.1.1.within;
+            next = dry.1.1.next;
+            begins = begins_on (take count events ++ dry.1.1.next ∷ []) events (runs limit).events dry.1.1.begins (begins_on events (runs budget).events (runs limit).events (begun end does) grows);
+            past = dry.1.1.past;
+          },
+        )
         by None None all does dry = (begins_on events (runs budget).events (runs limit).events does grows, dry)
         by (Some More) None all does dry = (subst (λ n. runs n ≡ record { end = More; events = events }) (all refl) does, dry)
         by (Some Ended) None all does dry = (same_end built ran.memory script budget limit within Ended (ap (λ (r : Run). r.end) does) (λ h. cc) ∙ does, dry)

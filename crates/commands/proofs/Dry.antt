@@ -1,6 +1,6 @@
 -- Reads of ports: how many there are, and where they pass the input.
-use Rattle.std.proofs.Common.{◌≡◌, ℕ, ◌+◌, ◌-◌, ◌^◌, ◌<◌, ◌≤◌, Bool, true, false, cond, not, List, [], ◌∷◌, ◌++◌, length, get_or, set, replicate, drop, take, refl, sym, ap, subst, ◌∙◌, append_assoc, append-nil, arith, suc, add-one}
-use Rattle.std.proofs.lemmas.Bool.{eqb-true, eqb-false}
+use Rattle.std.proofs.Common.{◌≡◌, ℕ, ◌+◌, ◌-◌, ◌<◌, ◌≤◌, Bool, true, false, cond, List, [], ◌∷◌, ◌++◌, length, get_or, set, replicate, drop, take, refl, sym, ap, subst, ◌∙◌, append_assoc, arith, suc, add-one}
+use Rattle.std.proofs.lemmas.Bool.{eq-eqb, eqb-true, eqb-false}
 use Rattle.std.proofs.lemmas.Grind.{common_steps, get_or-set_at}
 use Rattle.std.proofs.lemmas.List.{get_or-set_other, length-drop, length-map, length-set, take-append-drop}
 use Rattle.std.proofs.lemmas.List.Sums.{sum_by-append, sum_by-cons, length-filter, count_by-le-length, count_by_more_no, count_by_more_yes}
@@ -40,16 +40,13 @@ module _ (input more : List InputByte) (one : InputByte) (old : List ℕ) (so_fa
   -- there is room for one more
   pub room_for_one : get_or old one.port 0 + 1 ≤ length input
   room_for_one =
-      let same : (one.port == one.port) ≡ true = eqb_self one.port in
+      let same : (one.port == one.port) ≡ true = eq-eqb one.port one.port refl in
       let first : bytes_to one.port (one ∷ more) ≡ one.byte ∷ bytes_to one.port more = rw same refl in
       let all : get_or old one.port 0 + (1 + length (bytes_to one.port more)) ≡ length (bytes_to one.port input) =
       ap (λ (l : List ℕ). get_or old one.port 0 + length l) (sym first) ∙ so_far.counts one.port in
       let few : length (bytes_to one.port input) ≤ length input = bytes_fit one.port input in
       omega (arith, all, few)
     where
-      eqb_self : (n : ℕ) → (n == n) ≡ true
-      eqb_self n = grind (arith)
-
       bytes_fit : (port : ℕ) (bytes : List InputByte) → length (bytes_to port bytes) ≤ length bytes
       bytes_fit port bytes =
           let kept : length (filter (λ (b : InputByte). port == b.port) bytes) ≡ count_by (λ (b : InputByte). port == b.port) bytes = length-filter (λ (b : InputByte). port == b.port) bytes in
@@ -81,7 +78,7 @@ pub one_counted : (input rest : List InputByte) (one : InputByte) (old new : Lis
     → new ≡ set old one.port (get_or old one.port 0 + 1) → CountedSoFar input (drop 1 rest) new
 one_counted input [] one old new some is inside so_far added = absurd (omega arith)
 one_counted input (first ∷ more) one old new some is inside so_far added =
-    rw added (one_more input more one old (rw (sym is) at so_far) inside)
+    rw added (one_more input more one old (subst (λ (b : InputByte). CountedSoFar input (b ∷ more) old) (sym is) so_far) inside)
 
 -- where none is left to be counted, all are counted
 pub all_counted : (input rest : List InputByte) (left : List ℕ) → length rest < 1 → CountedSoFar input rest left → (port : ℕ) → left_at left port ≡ length (bytes_to port input)
@@ -94,7 +91,7 @@ pub record TakenSoFar (before : List ℕ) (events : List Event) (at : ℕ) (left
   pub taken : (port : ℕ) → left_at left port + reads_of (take at events) port ≡ left_at before port
 
 pub none_taken : (before : List ℕ) (events : List Event) → TakenSoFar before events 0 before
-none_taken before events = record { size = refl; taken = λ port. omega arith }
+none_taken before events = record { size = refl; taken = λ port. let none : reads_of (take 0 events) port ≡ 0 = refl in omega (arith, none) }
 
 module _ (before : List ℕ) (events : List Event) (at : ℕ) (left : List ℕ) (so_far : TakenSoFar before events at left) (event : Event) (inside : at < length events) (is : event ≡ get_or events at event) where
   is_read : (port : ℕ) → (found : Bool) → is_read_of port event ≡ found → is_read_of port (get_or events at event) ≡ found
@@ -145,13 +142,11 @@ module _ (before : List ℕ) (events : List Event) (at : ℕ) (left : List ℕ) 
       past = λ within.
           let port = event.port in
           let more : reads_of (take at events ++ event ∷ []) port ≡ reads_of (take at events) port + reads_of (event ∷ []) port = reads_append (take at events) (event ∷ []) port in
-          let one : reads_of (event ∷ []) port ≡ 1 = ap (λ b. cond b 1 0) (reads port true (eqb_self port)) in
-          omega (arith, more, one, none, so_far.taken port, within port);
+          let one : reads_of (event ∷ []) port ≡ cond (is_read_of port event) 1 0 + reads_of [] port = sum_by-cons (λ (e : Event). cond (is_read_of port e) 1 0) event [] in
+          let yes : cond (is_read_of port event) 1 0 ≡ 1 = ap (λ b. cond b 1 0) (reads port true (eq-eqb port port refl)) in
+          omega (arith, more, one, yes, none, so_far.taken port, within port);
     }
       where
-        eqb_self : (n : ℕ) → (n == n) ≡ true
-        eqb_self n = grind (arith)
-
         left_over : drop at events ≡ event ∷ drop (at + 1) events
         left_over = drop-cons events at event inside ∙ ap (λ (e : Event). e ∷ drop (suc at) events) (sym is) ∙ ap (λ n. event ∷ drop n events) (sym (add-one at))
 

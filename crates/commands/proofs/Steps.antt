@@ -80,7 +80,7 @@ module _ (until_dry : Bool) (limit : ℕ) (start : Machine) (done : ℕ) (here :
   goes_on k within = (
     runs_before start.script start.state k (done - k) (ap (λ (s : State). s.status) (split k within) ∙ so_far.runs),
     λ dry. within_beginning start.script (state_from start k).events here.state.events (grown k within)
-    (subst (λ (script : List (List ℕ)). IsWithinInput script here.state.events) so_far.made.script (left_within here.script here.state.events left (so_far.kept dry))),
+        (subst (λ (script : List (List ℕ)). IsWithinInput script here.state.events) so_far.made.script (left_within here.script here.state.events left (so_far.kept dry))),
   )
 
   below_next : (k : ℕ) → k < suc done → GoesOn until_dry start k
@@ -141,10 +141,13 @@ module _ (until_dry : Bool) (limit : ℕ) (start : Machine) (done : ℕ) (here :
     pub end_does : (end : Option End) (shown : ℕ) → (why ≡ ends.Limit → ⊥) → end ≡ Some why → shown ≡ length new.state.events → IsWithinIf until_dry new.script new.state.events
         → DoesOnMachine until_dry limit start end (take shown new.state.events)
     end_does end shown other is all within =
-        rw is (new, slice_ends start here new done n why so_far.made run limit fits other,
-        ap (λ k. take k new.state.events) all ∙ take-length new.state.events,
-        λ dry. subst (λ (script : List (List ℕ)). IsWithinInput script (take shown new.state.events)) script_is
-        (subst (λ (es : List Event). IsWithinInput new.script es) (sym (ap (λ k. take k new.state.events) all ∙ take-length new.state.events)) (within dry)))
+        rw is (
+          new,
+          slice_ends start here new done n why so_far.made run limit fits other,
+          ap (λ k. take k new.state.events) all ∙ take-length new.state.events,
+          λ dry. subst (λ (script : List (List ℕ)). IsWithinInput script (take shown new.state.events)) script_is
+              (subst (λ (es : List Event). IsWithinInput new.script es) (sym (ap (λ k. take k new.state.events) all ∙ take-length new.state.events)) (within dry)),
+        )
 
   module _ (new : Machine) where
     stopped_by : (found : Status) → (found ≡ status.Running → ⊥) → new.state ≡ state_from start (1 + done) → new.state.status ≡ found → GoesOn until_dry start (suc done) → ⊥
@@ -178,9 +181,13 @@ module _ (until_dry : Bool) (limit : ℕ) (start : Machine) (done : ℕ) (here :
   pub limit_does : (end : Option End) (shown : ℕ) → done ≡ limit → end ≡ Some ends.Limit → shown ≡ length here.state.events → DoesOnMachine until_dry limit start end (take shown here.state.events)
   limit_does end shown all is many =
       let taken : take shown here.state.events ≡ here.state.events = ap (λ k. take k here.state.events) many ∙ take-length here.state.events in
-      rw is (here, record { state = so_far.made.state ∙ ap (λ k. state_from start k) all; status_is = so_far.runs; failures = so_far.made.failures }, taken,
-      λ dry. subst (λ (script : List (List ℕ)). IsWithinInput script (take shown here.state.events)) so_far.made.script
-      (subst (λ (es : List Event). IsWithinInput here.script es) (sym taken) (left_within here.script here.state.events left (so_far.kept dry))))
+      rw is (
+        here,
+        record { state = so_far.made.state ∙ ap (λ k. state_from start k) all; status_is = so_far.runs; failures = so_far.made.failures },
+        taken,
+        λ dry. subst (λ (script : List (List ℕ)). IsWithinInput script (take shown here.state.events)) so_far.made.script
+            (subst (λ (es : List Event). IsWithinInput here.script es) (sym taken) (left_within here.script here.state.events left (so_far.kept dry))),
+      )
 
   pub limit_counted : (end : Option End) (steps : ℕ) → done ≡ limit → end ≡ Some ends.Limit → steps ≡ done → CarriesOut until_dry limit start end steps
   limit_counted end steps all is count = rw is (count ∙ all)

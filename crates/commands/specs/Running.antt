@@ -24,7 +24,8 @@ use Rattle.commands.specs.Ends.{DoesAs, GivesInput, end_status, source_status, s
 use Rattle.commands.specs.InputFiles.{HasInput, quiet_ports}
 use Rattle.commands.specs.Map.{map_if}
 use Rattle.commands.specs.Starting.{IsStart}
-use Rattle.commands.specs.Watching.{BeginsWatched, BeginsWatchedMeaning, PrintsWatched, PrintsWatchedMeaning, is_watched}
+use Rattle.commands.specs.Watching.{BeginsWatched, BeginsWatchedMeaning, PrintsWatched, PrintsWatchedMeaning}
+use Rattle.commands.specs.Watching.{is_watched}
 
 -- after this text what the image of a program does on a memory as these values start it, with their input and
 -- their limit, was printed

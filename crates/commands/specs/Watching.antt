@@ -1,6 +1,6 @@
--- What is printed of a run that is watched: that is counted, or that ends before it reads a port past its input.
-use Rattle.std.specs.Prelude.{◌≡◌, ℕ, suc, ◌<◌, ◌≤◌, Bool, true, false, ◌||◌, List, [], ◌∷◌, ◌++◌, codes, length}
-use Rattle.std.specs.Prelude.{Option, Some, None}
+-- What is printed of a run that is watched: that is counted, or that ends before it reads past its input.
+use Rattle.std.specs.Prelude.{◌≡◌, ℕ, suc, ◌<◌, ◌≤◌, Bool, true, false, ◌||◌, List, [], ◌∷◌, ◌++◌}
+use Rattle.std.specs.Prelude.{codes, length, Option, Some, None}
 use Rattle.std.specs.Fmt.{decimal}
 use Rattle.std.specs.Io.KnownBytes.{Appends}
 use Rattle.failure.specs.Writing.{AppendsBeginning}
@@ -38,8 +38,8 @@ IsWithinInput script events = (port : ℕ) → reads_of events port ≤ length (
 abbrev pub IsWithinIf : (until_dry : Bool) → (script : List (List ℕ)) → List Event → Type 0
 IsWithinIf until_dry script events = until_dry ≡ true → IsWithinInput script events
 
--- some events are those before the first read of a port past its input: with the next one, a port was read more often
--- than it has bytes
+-- some events are those before the first read of a port past its input: with the next one, a port was read
+-- more often than it has bytes
 pub record ComesBeforeDry (script : List (List ℕ)) (events all : List Event) : Type 0 where
   pub within : IsWithinInput script events
   pub next : Event
@@ -69,8 +69,8 @@ watched_status None = 3
 abbrev pub state_from : Machine → (steps : ℕ) → State
 state_from start steps = state_after start.script steps start.state
 
--- a run on the machine, of at most so many steps, ended so, with these events; or they are those before the first read
--- past the input
+-- a run on the machine, of at most so many steps, ended so, with these events; or they are those before the
+-- first read past the input
 abbrev pub DoesOnMachine :
     (until_dry : Bool) → (limit : ℕ) → (start : Machine) → Option End → (events : List Event) → Type 0
 DoesOnMachine until_dry limit start (Some end) events =
@@ -83,20 +83,25 @@ DoesOnMachine until_dry limit start None events =
 -- after so many steps the machine runs, and has not read past the input where that ends a run
 abbrev pub GoesOn : (until_dry : Bool) → (start : Machine) → (steps : ℕ) → Type 0
 GoesOn until_dry start steps =
-    ((state_from start steps).status ≡ Running) × IsWithinIf until_dry start.script (state_from start steps).events
+    ((state_from start steps).status ≡ Running)
+    × IsWithinIf until_dry start.script (state_from start steps).events
 
--- So many instructions were carried out: as many as the limit; up to HLT, with that; or those before the illegal code, the
--- instruction whose port failed, or the read past the input.
+-- So many instructions were carried out: as many as the limit; up to HLT, with that; or those before the
+-- illegal code, the instruction whose port failed, or the read past the input.
 abbrev pub CarriesOut :
     (until_dry : Bool) → (limit : ℕ) → (start : Machine) → Option End → (steps : ℕ) → Type 0
 CarriesOut until_dry limit start (Some ends.Limit) steps = steps ≡ limit
 CarriesOut until_dry limit start (Some ends.Halted) steps = IsLeastWithout (GoesOn until_dry start) steps
-CarriesOut until_dry limit start (Some ends.Illegal) steps = IsLeastWithout (GoesOn until_dry start) (suc steps)
-CarriesOut until_dry limit start (Some ends.PortFault) steps = (machine : Machine) × FailsAfter start steps machine
+CarriesOut until_dry limit start (Some ends.Illegal) steps =
+    IsLeastWithout (GoesOn until_dry start) (suc steps)
+CarriesOut until_dry limit start (Some ends.PortFault) steps =
+    (machine : Machine) × FailsAfter start steps machine
 CarriesOut until_dry limit start None steps = IsLeastWithout (GoesOn until_dry start) (suc steps)
 
--- the text of what an image does on a memory as these values start it, with their input and their limit, was sent
-pub record WatchesMachine (sends : List ℕ → Type 0) (values : Values) (image : Absolute) (status : ℕ) : Type 0 where
+-- the text of what an image does on a memory as these values start it, with their input and their limit, was
+-- sent
+pub record WatchesMachine (sends : List ℕ → Type 0) (values : Values) (image : Absolute) (status : ℕ) :
+    Type 0 where
   pub memory : List ℕ
   pub start : IsStart values memory
   pub script : List (List ℕ)
@@ -108,7 +113,8 @@ pub record WatchesMachine (sends : List ℕ → Type 0) (values : Values) (image
   pub counted : values.watch.count ≡ true
       → CarriesOut values.watch.until_dry values.limit (started image memory script [] 0) end steps
   pub ended : status ≡ watched_status end
-  pub printed : sends (report_of (quiet_ports values) events (last_words values.watch.count steps (watched_word end)))
+  pub printed :
+      sends (report_of (quiet_ports values) events (last_words values.watch.count steps (watched_word end)))
 
 -- it was printed after this text
 abbrev pub PrintsWatched :
@@ -141,8 +147,8 @@ DoesAsSource until_dry script run None events =
 abbrev pub WantsMore : (until_dry : Bool) → (script : List (List ℕ)) → Run → Type 0
 WantsMore until_dry script run = (run.end ≡ More) × IsWithinIf until_dry script run.events
 
--- So much of the budget was used: all of it; or the least budget with which the source comes to its end, or to the read past
--- the input. If a port failed, the events are a beginning of what the source does with so much.
+-- So much of the budget was used: all of it; or the least budget with which the source comes to its end, or to
+-- the read past the input. If a port failed, the events are a beginning of what the source does with so much.
 abbrev pub UsesBudget :
     (until_dry : Bool) → (script : List (List ℕ)) → (limit : ℕ) → (runs : ℕ → Run) → Option (Option Stop)
     → (events : List Event) → (steps : ℕ) → Type 0
@@ -152,8 +158,10 @@ UsesBudget until_dry script limit runs (Some None) events steps =
 UsesBudget until_dry script limit runs end events steps =
     (steps ≤ limit) × IsLeastWithout (λ budget. WantsMore until_dry script (runs budget)) steps
 
--- the text of what a program means, from a memory as these values start it, with their input and their budget, was sent
-pub record WatchesMeaning (sends : List ℕ → Type 0) (values : Values) (built : Construction) (status : ℕ) : Type 0 where
+-- the text of what a program means, from a memory as these values start it, with their input and their budget,
+-- was sent
+pub record WatchesMeaning (sends : List ℕ → Type 0) (values : Values) (built : Construction) (status : ℕ) :
+    Type 0 where
   pub memory : List ℕ
   pub start : IsStart values memory
   pub script : List (List ℕ)
@@ -163,10 +171,11 @@ pub record WatchesMeaning (sends : List ℕ → Type 0) (values : Values) (built
   pub does : DoesAsSource values.watch.until_dry script (source_of built memory script [] values.limit) end events
   pub steps : ℕ
   pub counted : values.watch.count ≡ true
-      → UsesBudget values.watch.until_dry script values.limit (source_of built memory script []) end events steps
+      → UsesBudget values.watch.until_dry script values.limit (source_of built memory script []) end events
+      steps
   pub ended : status ≡ watched_source_status end
-  pub printed :
-      sends (report_of (quiet_ports values) events (last_words values.watch.count steps (watched_source_word end)))
+  pub printed : sends (report_of (quiet_ports values) events
+      (last_words values.watch.count steps (watched_source_word end)))
 
 -- it was printed after this text
 abbrev pub PrintsWatchedMeaning :

@@ -168,7 +168,8 @@ fn print_placed<O: Write>(
         (StopsImage (values_in values.now) image.now (O.contents out.old) (O.contents out.new)) }
 {
     if watches(values) {
-        return print_watched(alloc, image, values, out);
+        let end = print_watched(alloc, image, values, out)?;
+        return Ok(end);
     }
     let end = print_plain(alloc, image, values, out)?;
     Ok(Some(end))

@@ -124,7 +124,8 @@ fn print_meaning<O: Write>(
         (O.contents out.old) (O.contents out.new)) }
 {
     if watches(settings) {
-        return print_watched_meaning(alloc, settings, built, out);
+        let end = print_watched_meaning(alloc, settings, built, out)?;
+        return Ok(end);
     }
     let end = print_plain(alloc, settings, built, out)?;
     Ok(Some(end))

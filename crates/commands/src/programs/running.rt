@@ -117,7 +117,8 @@ fn print_image<O: Write>(
         (O.contents out.old) (O.contents out.new)) }
 {
     if watches(settings) {
-        return print_watched(alloc, built.image(), settings, out);
+        let end = print_watched(alloc, built.image(), settings, out)?;
+        return Ok(end);
     }
     let end = print_plain(alloc, settings, built, out)?;
     Ok(Some(end))

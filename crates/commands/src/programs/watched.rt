@@ -133,7 +133,11 @@ fn grown(budget: u64, limit: u64) -> u64
     ensures more { budget < result }
     ensures most { result ≤ limit }
 {
-    if budget < limit / 4 { budget * 4 } else { limit }
+    if budget < limit / 4 {
+        budget * 4
+    } else {
+        limit
+    }
 }
 
 // The budget of the first run.
