@@ -13,7 +13,7 @@ use Rattle.mem80.specs.declared.memory.TheConstants.{MEMORY_SIZE}
 use Rattle.commands.specs.Watching.{ComesBeforeDry, DoesAsSource, IsLeastWithout, IsWithinIf, IsWithinInput, UsesBudget, WantsMore}
 use Rattle.commands.specs.internal.Budgets.{DryIn, IsLeastBudget, RunsSource, Uses, WantsAt, asks_more, has_failed, shown_in, stop_in}
 use Rattle.commands.specs.internal.Scripts.{script_in}
-use Rattle.commands.proofs.Dry.{dry_found, left_after, left_within, within_beginning}
+use Rattle.commands.proofs.PortReads.{dry_found, left_after, left_within, within_beginning}
 use Rattle.commands.proofs.Scripts.{gives_input}
 
 -- the memory at the start is determined
@@ -244,11 +244,12 @@ dry_in until_dry input left new events answer dry counts none some = by answer n
     first_left : IsLeft (script_in input) (take 0 events) left
     first_left port =
         let size : length (queue_of (script_in input) port) ≡ length (bytes_to port input) = ap (λ (q : List ℕ). length q) (gives_input input port) in
-        omega (arith, counts port, size)
+        let none_read : reads_of (take 0 events) port ≡ 0 = refl in
+        omega (arith, counts port, size, none_read)
 
     by : (answer : Option ℕ) → (answer ≡ None → (port : ℕ) → left_at new port + reads_of events port ≡ left_at left port) → IfSome answer (IsDryAt left events) → DryIn until_dry (script_in input) events answer
     by None none some = λ watched. left_within (script_in input) events new (left_after (script_in input) events 0 left first_left new (none refl))
     by (Some at) none some = (dry, dry_found (script_in input) events 0 left (omega arith) first_left at at some (omega arith))
 
 pub not_dry : (until_dry : Bool) (input : List InputByte) (events : List Event) → until_dry ≡ false → DryIn until_dry (script_in input) events None
-not_dry until_dry input events off on = let bad : false ≡ true = sym off ∙ on in cc
+not_dry until_dry input events off on port = let bad : false ≡ true = sym off ∙ on in cc

@@ -12,7 +12,7 @@ pub mod InputFiles
 pub mod Names
 pub mod Refused
 pub mod Printed
-pub mod Dry
+pub mod PortReads
 pub mod Scripts
 pub mod Steps
 pub mod Budgets

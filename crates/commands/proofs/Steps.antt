@@ -2,17 +2,17 @@
 use Rattle.commands.proofs.Prelude.{◌≡◌, ℕ, suc, zero, ◌+◌, ◌-◌, ◌<◌, ◌≤◌, Bool, true, List, [], ◌++◌, ◌∷◌, length, Option, Some, None, refl, sym, ap, subst, ◌∙◌, arith, Event}
 use Rattle.std.proofs.Common.{take}
 use Rattle.std.proofs.Math.Seq.{take-append_seam, take-length}
-use Rattle.ports.specs.Events.{IsBeginning}
+use Rattle.ports.specs.Events.{AddsEvent, CountsFailure, IsBeginning}
 use Rattle.isa8080.specs.{State.{State}, declared.registers.Status.{Status}}
 use Rattle.isa8080.specs.declared.registers.Status.TheVariants as status
-unfoldable use Rattle.isa8080.specs.Step.{state_after}
+unfoldable use Rattle.isa8080.specs.Step.{state_after, step_of}
 use Rattle.isa8080.proofs.{Endings.{state_after_sum, stays_state}, Growing.{run_adds}}
 use Rattle.cpu8080.specs.{Machine.{Machine}, Runs.{FailsAfter, IsRun}, declared.machine.End.{End}}
 use Rattle.cpu8080.specs.declared.machine.End.TheVariants as ends
 use Rattle.printing.proofs.RunLemmas.{Made, made_on, none_made, run_grows, run_on, slice_ends}
 use Rattle.commands.specs.Watching.{CarriesOut, ComesBeforeDry, DoesOnMachine, GoesOn, IsLeastWithout, IsWithinIf, IsWithinInput, state_from}
 use Rattle.commands.specs.internal.Dry.{IsLeft, IsLeftIf, IsShown}
-use Rattle.commands.proofs.Dry.{left_within, within_beginning}
+use Rattle.commands.proofs.PortReads.{left_within, within_beginning}
 
 -- what ports have left is known of the first of the events that a run has added to
 pub left_before : (until_dry : Bool) (n : ℕ) (old new : Machine) (why : End) (left : List ℕ) (first : ℕ) → IsRun n old why new → new.script ≡ old.script → IsLeftIf until_dry old.script old.state.events left
@@ -138,44 +138,65 @@ module _ (until_dry : Bool) (limit : ℕ) (start : Machine) (done : ℕ) (here :
             here_past (ap (λ (s : State). s.events) (first.2.state ∙ ap (λ k. state_from here k) none ∙ none_after here))
 
     -- the run ended
-    pub end_does : (end : Option End) (shown : ℕ) → (why ≡ ends.Limit → ⊥) → end ≡ Some why → shown ≡ length new.state.events → IsWithinIf until_dry new.script new.state.events
+    end_does : (end : Option End) (shown : ℕ) (rest : List ℕ) → (why ≡ ends.Limit → ⊥) → end ≡ Some why → shown ≡ length new.state.events → IsLeftIf until_dry new.script new.state.events rest
         → DoesOnMachine until_dry limit start end (take shown new.state.events)
-    end_does end shown other is all within =
+    end_does end shown rest other is all is_left =
+        let taken : take shown new.state.events ≡ new.state.events = ap (λ k. take k new.state.events) all ∙ take-length new.state.events in
         rw is (
           new,
           slice_ends start here new done n why so_far.made run limit fits other,
-          ap (λ k. take k new.state.events) all ∙ take-length new.state.events,
+          taken,
           λ dry. subst (λ (script : List (List ℕ)). IsWithinInput script (take shown new.state.events)) script_is
-              (subst (λ (es : List Event). IsWithinInput new.script es) (sym (ap (λ k. take k new.state.events) all ∙ take-length new.state.events)) (within dry)),
+              (subst (λ (es : List Event). IsWithinInput new.script es) (sym taken) (left_within new.script new.state.events rest (is_left dry))),
         )
 
-  module _ (new : Machine) where
-    stopped_by : (found : Status) → (found ≡ status.Running → ⊥) → new.state ≡ state_from start (1 + done) → new.state.status ≡ found → GoesOn until_dry start (suc done) → ⊥
-    stopped_by found other e is on =
-        let count : suc done ≡ 1 + done = omega arith in
+    pub halt_does : (end : Option End) (shown : ℕ) (rest : List ℕ) → why ≡ ends.Halted → end ≡ Some ends.Halted → shown ≡ length new.state.events → IsLeftIf until_dry new.script new.state.events rest
+        → DoesOnMachine until_dry limit start end (take shown new.state.events)
+    halt_does end shown rest found is all is_left =
+        end_does end shown rest (λ h. let bad : ends.Halted ≡ ends.Limit = sym found ∙ h in cc) (is ∙ ap (λ (e : End). Some e) (sym found)) all is_left
+
+    pub illegal_does : (end : Option End) (shown : ℕ) (rest : List ℕ) → why ≡ ends.Illegal → end ≡ Some ends.Illegal → shown ≡ length new.state.events → IsLeftIf until_dry new.script new.state.events rest
+        → DoesOnMachine until_dry limit start end (take shown new.state.events)
+    illegal_does end shown rest found is all is_left =
+        end_does end shown rest (λ h. let bad : ends.Illegal ≡ ends.Limit = sym found ∙ h in cc) (is ∙ ap (λ (e : End). Some e) (sym found)) all is_left
+
+    pub fault_does : (end : Option End) (shown : ℕ) (rest : List ℕ) → why ≡ ends.PortFault → end ≡ Some ends.PortFault → shown ≡ length new.state.events → IsLeftIf until_dry new.script new.state.events rest
+        → DoesOnMachine until_dry limit start end (take shown new.state.events)
+    fault_does end shown rest found is all is_left =
+        end_does end shown rest (λ h. let bad : ends.PortFault ≡ ends.Limit = sym found ∙ h in cc) (is ∙ ap (λ (e : End). Some e) (sym found)) all is_left
+
+    -- and it was the next step that ended it
+    stopped_by : (found : Status) → (found ≡ status.Running → ⊥) → n ≡ 1 → new.state ≡ state_from start (n + done) → new.state.status ≡ found → GoesOn until_dry start (suc done) → ⊥
+    stopped_by found other one e is on =
+        let count : suc done ≡ n + done = omega (arith, one) in
         let runs : new.state.status ≡ status.Running = ap (λ (s : State). s.status) (e ∙ ap (λ k. state_from start k) (sym count)) ∙ on.0 in
         other (sym is ∙ runs)
 
-    pub halt_counted : (n : ℕ) (end : Option End) (steps : ℕ) → n ≡ 1 → IsRun n here ends.Halted new → end ≡ Some ends.Halted → steps ≡ done + 1 → CarriesOut until_dry limit start end steps
-    halt_counted n end steps one run is count =
-        let first : IsRun 1 here ends.Halted new = subst (λ k. IsRun k here ends.Halted new) one run in
-        let all : IsRun (1 + done) start ends.Halted new = run_on start here done so_far.made 1 ends.Halted new first in
-        let least : IsLeastWithout (GoesOn until_dry start) (suc done) = record { fails = stopped_by status.Halted (λ h. cc) all.state all.status_is; below = below_next } in
+    pub halt_counted : (end : Option End) (steps : ℕ) → n ≡ 1 → why ≡ ends.Halted → end ≡ Some ends.Halted → steps ≡ done + 1 → CarriesOut until_dry limit start end steps
+    halt_counted end steps one found is count =
+        let all : IsRun (n + done) start ends.Halted new = subst (λ (e : End). IsRun (n + done) start e new) found all_run in
+        let least : IsLeastWithout (GoesOn until_dry start) (suc done) = record { fails = stopped_by status.Halted (λ h. cc) one all.state all.status_is; below = below_next } in
         let same : steps ≡ suc done = omega (arith, count) in
         rw (is, same) least
 
-    pub illegal_counted : (n : ℕ) (end : Option End) (steps : ℕ) → n ≡ 1 → IsRun n here ends.Illegal new → end ≡ Some ends.Illegal → steps ≡ done → CarriesOut until_dry limit start end steps
-    illegal_counted n end steps one run is count =
-        let first : IsRun 1 here ends.Illegal new = subst (λ k. IsRun k here ends.Illegal new) one run in
-        let all : IsRun (1 + done) start ends.Illegal new = run_on start here done so_far.made 1 ends.Illegal new first in
-        let least : IsLeastWithout (GoesOn until_dry start) (suc done) = record { fails = stopped_by status.Illegal (λ h. cc) all.state all.status_is; below = below_next } in
+    pub illegal_counted : (end : Option End) (steps : ℕ) → n ≡ 1 → why ≡ ends.Illegal → end ≡ Some ends.Illegal → steps ≡ done → CarriesOut until_dry limit start end steps
+    illegal_counted end steps one found is count =
+        let all : IsRun (n + done) start ends.Illegal new = subst (λ (e : End). IsRun (n + done) start e new) found all_run in
+        let least : IsLeastWithout (GoesOn until_dry start) (suc done) = record { fails = stopped_by status.Illegal (λ h. cc) one all.state all.status_is; below = below_next } in
         rw (is, count) least
 
-    pub fault_counted : (n : ℕ) (end : Option End) (steps : ℕ) → n ≡ 1 → IsRun n here ends.PortFault new → end ≡ Some ends.PortFault → steps ≡ done → CarriesOut until_dry limit start end steps
-    fault_counted n end steps one run is count =
-        let all : IsRun (n + done) start ends.PortFault new = run_on start here done so_far.made n ends.PortFault new run in
-        let at : all.0 ≡ done = omega (arith, run.1, one) in
-        rw (is, count) (new, subst (λ k. FailsAfter start k new) at all.2)
+    pub fault_counted : (end : Option End) (steps : ℕ) → n ≡ 1 → why ≡ ends.PortFault → end ≡ Some ends.PortFault → steps ≡ done → CarriesOut until_dry limit start end steps
+    fault_counted end steps one found is count =
+        let first : IsRun n here ends.PortFault new = subst (λ (e : End). IsRun n here e new) found run in
+        let none : first.0 ≡ 0 = omega (arith, first.1, one) in
+        let state : new.state ≡ here.state = first.2.state ∙ ap (λ k. state_from here k) none ∙ none_after here in
+        let fails : FailsAfter start done new = record {
+          state = state ∙ so_far.made.state;
+          status_is = first.2.status_is;
+          next = subst (λ (script : List (List ℕ)). (event : Event) × AddsEvent new.state.events (step_of script new.state).events event) so_far.made.script first.2.next;
+          failures = subst (λ k. CountsFailure k new.failures) so_far.made.failures first.2.failures;
+        } in
+        rw (is, count) (new, fails)
 
   -- all steps of the limit were made
   pub limit_does : (end : Option End) (shown : ℕ) → done ≡ limit → end ≡ Some ends.Limit → shown ≡ length here.state.events → DoesOnMachine until_dry limit start end (take shown here.state.events)

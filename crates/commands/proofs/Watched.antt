@@ -1,6 +1,7 @@
 -- What was printed of runs that are watched, and of those that are not.
 use Rattle.commands.proofs.Prelude.{◌≡◌, ℕ, ◌≤◌, Bool, true, false, List, [], ◌++◌, Option, None, Some, inl, inr, refl, sym, ap, subst, ◌∙◌, append-nil, Appends, Keeps, AppendsBeginning, Event, Session, Action, ToRun, Interpret, Values, Construction, IsStart, GivesInput, source_of, started, PrintsAction, PrintsBuilt, StopsBuilt, end_status}
 unfoldable use Rattle.commands.specs.Running.{StopsAction}
+use Rattle.std.proofs.Common.{take}
 use Rattle.printing.specs.Report.{report_of}
 use Rattle.cpu8080.specs.{Machine.{Machine}, declared.machine.End.{End}}
 use Rattle.locate.specs.Locating.{Absolute}
@@ -12,7 +13,7 @@ use Rattle.commands.specs.internal.Budgets.{RunsSource, Uses, asks_more, shown_i
 use Rattle.commands.specs.internal.Scripts.{script_in}
 use Rattle.commands.specs.internal.Sent.{SendsRun, StopsRun}
 use Rattle.commands.proofs.Budgets.{does_at_limit, used_of_limit}
-use Rattle.commands.proofs.Printed.{nothing_begun, stays_written}
+use Rattle.commands.proofs.Printed.{stays_written}
 use Rattle.commands.proofs.Scripts.{gives_input}
 
 -- what was printed of a run that is watched, or not, as its values say
@@ -43,10 +44,9 @@ module _ (flag : Bool) (values : Values) (image : Absolute) (old new : Option (L
   watched_stops is stops = subst (λ (watched : Bool). StopsImageRun watched values image old new) (sym is ∙ says) stops
 
 kept_begun : (old new : Option (List ℕ)) → Keeps old new → AppendsBeginning old new []
-kept_begun None None kept = nothing_begun None []
-kept_begun (Some one) (Some other) kept = subst (λ (bytes : List ℕ). AppendsBeginning (Some one) (Some bytes) []) (sym kept) (nothing_begun (Some one) [])
-kept_begun None (Some other) kept = cc
-kept_begun (Some one) None kept = cc
+kept_begun None new kept = ([], ([], refl), tt)
+kept_begun (Some one) None kept = absurd kept
+kept_begun (Some one) (Some other) kept = ([], ([], refl), kept ∙ sym (append-nil one))
 
 -- the image of a program is the one that was run
 module _ (values : Values) (built : Construction) (image : Absolute) (old new : Option (List ℕ)) (same : image ≡ built.image) where
@@ -59,26 +59,28 @@ module _ (values : Values) (built : Construction) (image : Absolute) (old new : 
   image_stopped (inr begun) = inr (subst (λ (one : Absolute). (status : ℕ) × WatchesMachine (λ text. AppendsBeginning old new text) values one status) same begun)
 
 -- what a machine does, as it was sent
-module _ (values : Values) (quiet : List ℕ) (start : Machine) (end : Option End) (events : List Event) (steps : ℕ) (does : DoesOnMachine values.watch.until_dry values.limit start end events)
+module _ (values : Values) (quiet : List ℕ) (start : Machine) (end : Option End) (shown steps : ℕ) (all seen : List Event) (same : seen ≡ all) (does : DoesOnMachine values.watch.until_dry values.limit start end (take shown all))
     (counted : values.watch.count ≡ true → CarriesOut values.watch.until_dry values.limit start end steps) (word words : List ℕ) (last : word ≡ watched_word end) (are : words ≡ last_words values.watch.count steps word) where
-  words_are : words ≡ last_words values.watch.count steps (watched_word end)
-  words_are = are ∙ ap (last_words values.watch.count steps) last
+  text_sent : report_of quiet (take shown seen) words ≡ report_of quiet (take shown all) (last_words values.watch.count steps (watched_word end))
+  text_sent =
+      ap (λ (es : List Event). report_of quiet (take shown es) words) same
+      ∙ ap (report_of quiet (take shown all)) (are ∙ ap (last_words values.watch.count steps) last)
 
-  sent : (P : List ℕ → Type 0) → P (report_of quiet events words) → SendsRun P values quiet start (watched_status end)
+  sent : (P : List ℕ → Type 0) → P (report_of quiet (take shown seen) words) → SendsRun P values quiet start (watched_status end)
   sent P printed = record {
     end = end;
-    events = events;
+    events = take shown all;
     does = does;
     steps = steps;
     counted = counted;
     ended = refl;
-    printed = subst (λ (l : List ℕ). P (report_of quiet events l)) words_are printed;
+    printed = subst P text_sent printed;
   }
 
-  pub prints_run : (old new : Option (List ℕ)) → Appends old new (report_of quiet events words) → SendsRun (Appends old new) values quiet start (watched_status end)
+  pub prints_run : (old new : Option (List ℕ)) → Appends old new (report_of quiet (take shown seen) words) → SendsRun (Appends old new) values quiet start (watched_status end)
   prints_run old new printed = sent (Appends old new) printed
 
-  pub begins_run : (old new : Option (List ℕ)) → AppendsBeginning old new (report_of quiet events words) → StopsRun old new values quiet start
+  pub begins_run : (old new : Option (List ℕ)) → AppendsBeginning old new (report_of quiet (take shown seen) words) → StopsRun old new values quiet start
   begins_run old new begun = inr (watched_status end, sent (AppendsBeginning old new) begun)
 
 pub no_run : (values : Values) (quiet : List ℕ) (start : Machine) (known : Option (List ℕ)) → StopsRun known known values quiet start

@@ -11,7 +11,7 @@ use ports::Event;
 /// How many ports a machine has.
 pub(crate) const PORTS: usize = 256;
 
-#[tactic(auto, using(crate::proofs::Dry::none_counted, crate::proofs::Dry::one_counted, crate::proofs::Dry::all_counted))]
+#[tactic(auto, using(crate::proofs::PortReads::none_counted, crate::proofs::PortReads::one_counted, crate::proofs::PortReads::all_counted))]
 /// How many bytes of an input each port gives.
 pub(crate) fn bytes_left(input: &[InputByte]) -> [u64; PORTS]
     ensures { (port : ℕ) → left_at result port ≡ length (bytes_to port input.now) }
@@ -27,7 +27,7 @@ pub(crate) fn bytes_left(input: &[InputByte]) -> [u64; PORTS]
 
 /// Takes the reads of events from the bytes that ports have left, up to the first read of a port that has none, and answers
 /// the number of that event.
-#[tactic(auto, using(crate::proofs::Dry::none_taken, crate::proofs::Dry::write_taken, crate::proofs::Dry::read_taken, crate::proofs::Dry::dry_here, crate::proofs::Dry::all_taken))]
+#[tactic(auto, using(crate::proofs::PortReads::none_taken, crate::proofs::PortReads::write_taken, crate::proofs::PortReads::read_taken, crate::proofs::PortReads::dry_here, crate::proofs::PortReads::all_taken))]
 pub(crate) fn first_dry(left: &mut [u64; PORTS], events: &[Event]) -> Option<usize>
     ensures none { result ≡ None →
         (port : ℕ) → left_at left.new port + reads_of events.now port ≡ left_at left.old port }

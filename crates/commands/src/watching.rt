@@ -41,7 +41,7 @@ pub(crate) fn ending_words(
     steps: u64,
     word: &str,
 ) -> Result<String, AllocError>
-    ensures { IfOk result (λ words. words.bytes ≡ last_words count steps word.now) }
+    ensures { IfOk result (λ words. words.bytes.items ≡ last_words count steps word.now) }
 {
     if count {
         format!(in alloc; "STEPS {steps}\n{word}")
@@ -67,7 +67,7 @@ struct Slice {
 }
 
 // The events from one of them on are looked through for a read past the input, which is answered by its number among all.
-#[tactic(auto, using(crate::proofs::Dry::left_after, crate::proofs::Dry::dry_found))]
+#[tactic(auto, using(crate::proofs::PortReads::left_after, crate::proofs::PortReads::dry_found))]
 fn dry_from(machine: &Machine<Script>, first: usize, left: &mut [u64; PORTS]) -> Option<usize>
     requires fits { first ≤ length machine.now.state.events }
     requires left { IsLeft machine.now.script (take first machine.now.state.events) left.old }
@@ -130,7 +130,7 @@ fn ended(machine: &Machine<Script>, end: End, steps: u64) -> WatchedRun
 }
 
 // Runs a machine for at most so many steps. Where they are counted, they are made one by one.
-#[tactic(auto, using(crate::proofs::Steps::begins, crate::proofs::Steps::goes_further, crate::proofs::Steps::dry_does, crate::proofs::Steps::dry_counted, crate::proofs::Steps::end_does, crate::proofs::Steps::halt_counted, crate::proofs::Steps::illegal_counted, crate::proofs::Steps::fault_counted, crate::proofs::Steps::limit_does, crate::proofs::Steps::limit_counted))]
+#[tactic(auto, using(crate::proofs::Steps::begins, crate::proofs::Steps::goes_further, crate::proofs::Steps::dry_does, crate::proofs::Steps::dry_counted, crate::proofs::Steps::halt_does, crate::proofs::Steps::illegal_does, crate::proofs::Steps::fault_does, crate::proofs::Steps::halt_counted, crate::proofs::Steps::illegal_counted, crate::proofs::Steps::fault_counted, crate::proofs::Steps::limit_does, crate::proofs::Steps::limit_counted))]
 fn run_watched(
     machine: &mut Machine<Script>,
     limit: u64,

@@ -1,5 +1,5 @@
 use Rattle.std.proofs.Common.{length}
-use Rattle.commands.proofs.Dry.{CountedSoFar}
+use Rattle.commands.proofs.PortReads.{CountedSoFar}
 use Rattle.commands.proofs.dry.bytes_left.Given as goal
 
 -- the bytes that were counted, and then those that are left to be counted, are all

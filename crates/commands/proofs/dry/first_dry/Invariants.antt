@@ -1,4 +1,4 @@
-use Rattle.commands.proofs.Dry.{TakenSoFar}
+use Rattle.commands.proofs.PortReads.{TakenSoFar}
 use Rattle.commands.proofs.dry.first_dry.Given as goal
 
 -- the reads of the events so far were taken

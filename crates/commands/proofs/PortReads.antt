@@ -38,7 +38,7 @@ none_counted input left zeros = record {
 
 module _ (input more : List InputByte) (one : InputByte) (old : List ℕ) (so_far : CountedSoFar input (one ∷ more) old) where
   -- there is room for one more
-  pub room_for_one : get_or old one.port 0 + 1 ≤ length input
+  room_for_one : get_or old one.port 0 + 1 ≤ length input
   room_for_one =
       let same : (one.port == one.port) ≡ true = eq-eqb one.port one.port refl in
       let first : bytes_to one.port (one ∷ more) ≡ one.byte ∷ bytes_to one.port more = rw same refl in
@@ -79,6 +79,11 @@ pub one_counted : (input rest : List InputByte) (one : InputByte) (old new : Lis
 one_counted input [] one old new some is inside so_far added = absurd (omega arith)
 one_counted input (first ∷ more) one old new some is inside so_far added =
     rw added (one_more input more one old (subst (λ (b : InputByte). CountedSoFar input (b ∷ more) old) (sym is) so_far) inside)
+
+-- there is room for it
+pub room : (input rest : List InputByte) (one : InputByte) (old : List ℕ) → 1 ≤ length rest → one ≡ get_or rest 0 one → CountedSoFar input rest old → get_or old one.port 0 + 1 ≤ length input
+room input [] one old some is so_far = absurd (omega arith)
+room input (first ∷ more) one old some is so_far = room_for_one input more one old (subst (λ (b : InputByte). CountedSoFar input (b ∷ more) old) (sym is) so_far)
 
 -- where none is left to be counted, all are counted
 pub all_counted : (input rest : List InputByte) (left : List ℕ) → length rest < 1 → CountedSoFar input rest left → (port : ℕ) → left_at left port ≡ length (bytes_to port input)
