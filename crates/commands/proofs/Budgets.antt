@@ -223,10 +223,10 @@ module _ (values : Values) (built : Construction) (budget : ℕ) (end : Option S
       by (Some count) dry = dry.1.0
 
 -- a run as it was made
-pub runs_source : (values : Values) (built : Construction) (budget : ℕ) (memory : List ℕ) (script : List (List ℕ)) (before : List Event) (end : Option Stop) (shown : Option ℕ) (events : List Event)
-    → IsStart values memory → script ≡ script_in values.input → before ≡ [] → DoesAs (source_of built memory script before budget) end events
+pub runs_source : (values : Values) (built : Construction) (budget : ℕ) (memory : List ℕ) (given : List (List ℕ)) (before : List Event) (end : Option Stop) (shown : Option ℕ) (events : List Event)
+    → IsStart values memory → given ≡ script_in values.input → before ≡ [] → DoesAs (source_of built memory given before budget) end events
     → DryIn values.watch.until_dry (script_in values.input) events shown → RunsSource values built budget end shown events
-runs_source values built budget memory script before end shown events start is none does dry = record {
+runs_source values built budget memory given before end shown events start is none does dry = record {
   memory = memory;
   start = start;
   does = subst (λ (es : List Event). DoesAs (source_of built memory (script_in values.input) es budget) end events) none

@@ -1,5 +1,5 @@
 -- Reads of ports: how many there are, and where they pass the input.
-use Rattle.std.proofs.Common.{◌≡◌, ℕ, ◌+◌, ◌-◌, ◌<◌, ◌≤◌, Bool, true, false, cond, List, [], ◌∷◌, ◌++◌, length, get_or, set, replicate, drop, take, refl, sym, ap, subst, ◌∙◌, append_assoc, arith, suc, add-one}
+use Rattle.std.proofs.Common.{◌≡◌, ℕ, ◌+◌, ◌-◌, ◌<◌, ◌≤◌, Bool, true, false, cond, not, zero, Option, None, Some, IfSome, List, [], ◌∷◌, ◌++◌, length, get_or, set, replicate, drop, take, refl, sym, ap, subst, ◌∙◌, append_assoc, arith, suc, add-one}
 use Rattle.std.proofs.lemmas.Bool.{eq-eqb, eqb-true, eqb-false}
 use Rattle.std.proofs.lemmas.Grind.{common_steps, get_or-set_at}
 use Rattle.std.proofs.lemmas.List.{get_or-set_other, length-drop, length-map, length-set, take-append-drop}
@@ -27,13 +27,15 @@ pub record CountedSoFar (input rest : List InputByte) (left : List ℕ) : Type 0
   pub size : length left ≡ 256
   pub counts : (port : ℕ) → left_at left port + length (bytes_to port rest) ≡ length (bytes_to port input)
 
-at_zeros : (count port : ℕ) → get_or (replicate count 0) port 0 ≡ 0
+at_zeros : (count port : ℕ) → ◌≡◌ {A = ℕ} (get_or (replicate count 0) port 0) 0
 at_zeros count port = grind (arith, common_steps)
 
 pub none_counted : (input : List InputByte) (left : List ℕ) → left ≡ replicate 256 0 → CountedSoFar input input left
 none_counted input left zeros = record {
   size = ap length zeros;
-  counts = λ port. ap (λ (l : List ℕ). left_at l port + length (bytes_to port input)) zeros ∙ ap (λ n. n + length (bytes_to port input)) (at_zeros 256 port);
+  counts = λ port.
+      let none : left_at left port ≡ 0 = ap (λ (l : List ℕ). left_at l port) zeros ∙ at_zeros 256 port in
+      omega (arith, none);
 }
 
 module _ (input more : List InputByte) (one : InputByte) (old : List ℕ) (so_far : CountedSoFar input (one ∷ more) old) where
@@ -42,7 +44,7 @@ module _ (input more : List InputByte) (one : InputByte) (old : List ℕ) (so_fa
   room_for_one =
       let same : (one.port == one.port) ≡ true = eq-eqb one.port one.port refl in
       let first : bytes_to one.port (one ∷ more) ≡ one.byte ∷ bytes_to one.port more = rw same refl in
-      let all : get_or old one.port 0 + (1 + length (bytes_to one.port more)) ≡ length (bytes_to one.port input) =
+      let all : get_or old one.port 0 + suc (length (bytes_to one.port more)) ≡ length (bytes_to one.port input) =
       ap (λ (l : List ℕ). get_or old one.port 0 + length l) (sym first) ∙ so_far.counts one.port in
       let few : length (bytes_to one.port input) ≤ length input = bytes_fit one.port input in
       omega (arith, all, few)
@@ -50,7 +52,7 @@ module _ (input more : List InputByte) (one : InputByte) (old : List ℕ) (so_fa
       bytes_fit : (port : ℕ) (bytes : List InputByte) → length (bytes_to port bytes) ≤ length bytes
       bytes_fit port bytes =
           let kept : length (filter (λ (b : InputByte). port == b.port) bytes) ≡ count_by (λ (b : InputByte). port == b.port) bytes = length-filter (λ (b : InputByte). port == b.port) bytes in
-          let seen : length (bytes_to port bytes) ≡ length (filter (λ (b : InputByte). port == b.port) bytes) = length-map (λ (b : InputByte). b.byte) (filter (λ (b : InputByte). port == b.port) bytes) in
+          let seen : length (bytes_to port bytes) ≡ length (filter (λ (b : InputByte). port == b.port) bytes) = rw length-map refl in
           omega (arith, kept, seen, count_by-le-length (λ (b : InputByte). port == b.port) bytes)
 
   counted_at : one.port < 256 → (port : ℕ) (here : Bool) → (port == one.port) ≡ here
@@ -58,7 +60,7 @@ module _ (input more : List InputByte) (one : InputByte) (old : List ℕ) (so_fa
   counted_at inside port true e =
       let is : port ≡ one.port = eqb-true port one.port e in
       let first : bytes_to port (one ∷ more) ≡ one.byte ∷ bytes_to port more = rw e refl in
-      let all : get_or old port 0 + (1 + length (bytes_to port more)) ≡ length (bytes_to port input) = ap (λ (l : List ℕ). get_or old port 0 + length l) (sym first) ∙ so_far.counts port in
+      let all : get_or old port 0 + suc (length (bytes_to port more)) ≡ length (bytes_to port input) = ap (λ (l : List ℕ). get_or old port 0 + length l) (sym first) ∙ so_far.counts port in
       let now : get_or (set old one.port (get_or old one.port 0 + 1)) port 0 ≡ get_or old one.port 0 + 1 = get_or-set_at old one.port port (get_or old one.port 0 + 1) 0 is (omega (arith, so_far.size, inside)) in
       let was : get_or old one.port 0 ≡ get_or old port 0 = ap (λ n. get_or old n 0) (sym is) in
       omega (arith, all, now, was)
@@ -81,9 +83,9 @@ one_counted input (first ∷ more) one old new some is inside so_far added =
     rw added (one_more input more one old (subst (λ (b : InputByte). CountedSoFar input (b ∷ more) old) (sym is) so_far) inside)
 
 -- there is room for it
-pub room : (input rest : List InputByte) (one : InputByte) (old : List ℕ) → 1 ≤ length rest → one ≡ get_or rest 0 one → CountedSoFar input rest old → get_or old one.port 0 + 1 ≤ length input
-room input [] one old some is so_far = absurd (omega arith)
-room input (first ∷ more) one old some is so_far = room_for_one input more one old (subst (λ (b : InputByte). CountedSoFar input (b ∷ more) old) (sym is) so_far)
+pub room : (input rest : List InputByte) (other : InputByte) (old : List ℕ) → 1 ≤ length rest → CountedSoFar input rest old → get_or old (get_or rest 0 other).port 0 + 1 ≤ length input
+room input [] other old some so_far = absurd (omega arith)
+room input (first ∷ more) other old some so_far = room_for_one input more first old so_far
 
 -- where none is left to be counted, all are counted
 pub all_counted : (input rest : List InputByte) (left : List ℕ) → length rest < 1 → CountedSoFar input rest left → (port : ℕ) → left_at left port ≡ length (bytes_to port input)
@@ -109,19 +111,19 @@ module _ (before : List ℕ) (events : List Event) (at : ℕ) (left : List ℕ) 
     taken = λ port. ap (λ n. left_at left port + n) (count_by_more_no (is_read_of port) events at event inside (is_read port false (rw written refl))) ∙ so_far.taken port;
   }
 
-  module _ (read : event.write ≡ false) (known : event.port < length left) where
+  module _ (read : event.write ≡ false) where
     reads : (port : ℕ) (here : Bool) → (event.port == port) ≡ here → is_read_of port event ≡ here
     reads port here e = rw (read, e) refl
 
-    read_taken_at : 0 < get_or left event.port 0 → (port : ℕ) (here : Bool) → (event.port == port) ≡ here
+    read_taken_at : event.port < length left → 0 < get_or left event.port 0 → (port : ℕ) (here : Bool) → (event.port == port) ≡ here
         → left_at (set left event.port (get_or left event.port 0 - 1)) port + reads_of (take (at + 1) events) port ≡ left_at before port
-    read_taken_at some port true e =
+    read_taken_at known some port true e =
         let same : event.port ≡ port = eqb-true event.port port e in
         let now : get_or (set left event.port (get_or left event.port 0 - 1)) port 0 ≡ get_or left event.port 0 - 1 = get_or-set_at left event.port port (get_or left event.port 0 - 1) 0 (sym same) known in
         let was : get_or left event.port 0 ≡ get_or left port 0 = ap (λ n. get_or left n 0) same in
         let more : reads_of (take (at + 1) events) port ≡ reads_of (take at events) port + 1 = count_by_more_yes (is_read_of port) events at event inside (is_read port true (reads port true e)) in
         omega (arith, now, was, more, some, so_far.taken port)
-    read_taken_at some port false e =
+    read_taken_at known some port false e =
         let now : get_or (set left event.port (get_or left event.port 0 - 1)) port 0 ≡ get_or left port 0 = get_or-set_other left event.port port (get_or left event.port 0 - 1) 0 (other port e) in
         let more : reads_of (take (at + 1) events) port ≡ reads_of (take at events) port = count_by_more_no (is_read_of port) events at event inside (is_read port false (reads port false e)) in
         omega (arith, now, more, so_far.taken port)
@@ -130,10 +132,10 @@ module _ (before : List ℕ) (events : List Event) (at : ℕ) (left : List ℕ) 
         other port e same = eqb-false event.port port e (sym same)
 
     -- a read takes one byte
-    pub read_taken : (new : List ℕ) → 0 < get_or left event.port 0 → new ≡ set left event.port (get_or left event.port 0 - 1) → TakenSoFar before events (at + 1) new
-    read_taken new some added = rw added record {
+    pub read_taken : (new : List ℕ) → event.port < length left → 0 < get_or left event.port 0 → new ≡ set left event.port (get_or left event.port 0 - 1) → TakenSoFar before events (at + 1) new
+    read_taken new known some added = rw added record {
       size = length-set left event.port (get_or left event.port 0 - 1) ∙ so_far.size;
-      taken = λ port. read_taken_at some port (event.port == port) refl;
+      taken = λ port. read_taken_at known some port (event.port == port) refl;
     }
 
     -- or there is none
@@ -148,12 +150,22 @@ module _ (before : List ℕ) (events : List Event) (at : ℕ) (left : List ℕ) 
           let port = event.port in
           let more : reads_of (take at events ++ event ∷ []) port ≡ reads_of (take at events) port + reads_of (event ∷ []) port = reads_append (take at events) (event ∷ []) port in
           let one : reads_of (event ∷ []) port ≡ cond (is_read_of port event) 1 0 + reads_of [] port = sum_by-cons (λ (e : Event). cond (is_read_of port e) 1 0) event [] in
-          let yes : cond (is_read_of port event) 1 0 ≡ 1 = ap (λ b. cond b 1 0) (reads port true (eq-eqb port port refl)) in
+          let yes : ◌≡◌ {A = ℕ} (cond (is_read_of port event) 1 0) 1 = ap (λ b. cond b 1 0) (reads port true (eq-eqb port port refl)) in
           omega (arith, more, one, yes, none, so_far.taken port, within port);
     }
       where
         left_over : drop at events ≡ event ∷ drop (at + 1) events
         left_over = drop-cons events at event inside ∙ ap (λ (e : Event). e ∷ drop (suc at) events) (sym is) ∙ ap (λ n. event ∷ drop n events) (sym (add-one at))
+
+-- an event, whatever stands for one that is not there
+pub same_event : (events : List Event) (at : ℕ) (one other : Event) → at < length events → get_or events at one ≡ get_or events at other
+same_event [] at one other inside = absurd (omega (arith, inside))
+same_event (event ∷ events) zero one other inside = refl
+same_event (event ∷ events) (suc at) one other inside = same_event events at one other (omega (arith, inside))
+
+pub is_no_write : (write : Bool) → not write ≡ true → write ≡ false
+is_no_write false is = refl
+is_no_write true is = let bad : false ≡ true = is in cc
 
 -- all were taken
 pub all_taken : (before : List ℕ) (events : List Event) (left : List ℕ) → TakenSoFar before events (length events) left → (port : ℕ) → left_at left port + reads_of events port ≡ left_at before port
@@ -204,3 +216,15 @@ dry_found script events first left fits before found answer dry is =
 -- what is left says that the events are within the input
 pub left_within : (script : List (List ℕ)) (events : List Event) (left : List ℕ) → IsLeft script events left → IsWithinInput script events
 left_within script events left is_left port = omega (arith, is_left port)
+
+-- what was found in the events from one on, which are these
+module _ (script : List (List ℕ)) (events seen : List Event) (first : ℕ) (left : List ℕ) (same : seen ≡ events) (fits : first ≤ length events) (before : IsLeft script (take first events) left) (answer : Option ℕ) where
+  pub shown_found : (found : ℕ) → answer ≡ Some found → IfSome answer (IsDryAt left (drop first seen)) → IsShown script events (first + found)
+  shown_found found is some =
+      let dry : IsDryAt left (drop first seen) found = subst (λ (o : Option ℕ). IfSome o (IsDryAt left (drop first seen))) is some in
+      dry_found script events first left fits before found (first + found) (subst (λ (es : List Event). IsDryAt left (drop first es) found) same dry) refl
+
+  pub none_found : (new : List ℕ) → answer ≡ None → (answer ≡ None → (port : ℕ) → left_at new port + reads_of (drop first seen) port ≡ left_at left port) → IsLeft script events new
+  none_found new is none =
+      left_after script events first left before new
+      (subst (λ (es : List Event). (port : ℕ) → left_at new port + reads_of (drop first es) port ≡ left_at left port) same (none is))

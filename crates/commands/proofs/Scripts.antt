@@ -1,5 +1,5 @@
 -- The script of an input, queue by queue.
-use Rattle.std.proofs.Common.{◌≡◌, ◌≢◌, ◌<◌, ℕ, zero, suc, Bool, true, false, All, List, [], ◌∷◌, refl, sym, ap, subst, ◌∙◌}
+use Rattle.std.proofs.Common.{◌≡◌, ◌≢◌, ◌<◌, ℕ, zero, suc, Bool, true, false, All, Err, IfOk, Ok, Result, List, [], ◌∷◌, refl, sym, ap, subst, ◌∙◌}
 use Rattle.std.proofs.lemmas.Bool.{eqb-true, eqb-false}
 use Rattle.std.specs.Prelude.{◌==◌, slice_index_or}
 use Rattle.ports.specs.{declared.event.Event.{Event}, Input.{IsScript, input_value, queue_of, reads_of}}
@@ -38,17 +38,17 @@ at_other (suc port) byte (queue ∷ queues) (suc other) differs = at_other port 
 pub gives_input : (input : List InputByte) → GivesInput input (script_in input)
 gives_input [] zero = refl
 gives_input [] (suc port) = refl
-gives_input (one ∷ input) port = go (port == one.port) refl
+gives_input (one ∷ input) port = go (port == one.port) refl (gives_input input port)
   where
-    go : (here : Bool) → (port == one.port) ≡ here → queue_of (script_in (one ∷ input)) port ≡ bytes_to port (one ∷ input)
-    go true e =
+    go : (here : Bool) → (port == one.port) ≡ here → queue_of (script_in input) port ≡ bytes_to port input → queue_of (script_in (one ∷ input)) port ≡ bytes_to port (one ∷ input)
+    go true e rest =
         let is : port ≡ one.port = eqb-true port one.port e in
         let first : bytes_to port (one ∷ input) ≡ one.byte ∷ bytes_to port input = rw e refl in
         ap (λ n. queue_of (with_first n one.byte (script_in input)) port) (sym is) ∙ at_port port one.byte (script_in input)
-        ∙ ap (λ (q : List ℕ). one.byte ∷ q) (gives_input input port) ∙ sym first
-    go false e =
+        ∙ ap (λ (q : List ℕ). one.byte ∷ q) rest ∙ sym first
+    go false e rest =
         let first : bytes_to port (one ∷ input) ≡ bytes_to port input = rw e refl in
-        at_other one.port one.byte (script_in input) port (eqb-false port one.port e) ∙ gives_input input port ∙ sym first
+        at_other one.port one.byte (script_in input) port (eqb-false port one.port e) ∙ rest ∙ sym first
 
 module _ (input : List InputByte) (script : List (List ℕ)) (gives : GivesInput input script) where
   same_queue : (port : ℕ) → queue_of script port ≡ queue_of (script_in input) port
@@ -60,3 +60,8 @@ module _ (input : List InputByte) (script : List (List ℕ)) (gives : GivesInput
 
   pub holds_bytes : IsScript script → IsScript (script_in input)
   holds_bytes holds port = subst (λ (q : List ℕ). All (λ byte. byte < 256) q) (same_queue port) (holds port)
+
+  -- the same of an answer
+  pub read_value : {E : Type 0} (answer : Result ℕ E) (events : List Event) (port : ℕ) → IfOk answer (λ v. v ≡ input_value script events port) → IfOk answer (λ v. v ≡ input_value (script_in input) events port)
+  read_value (Ok value) events port is = same_value value events port is
+  read_value (Err error) events port is = tt

@@ -1,6 +1,6 @@
 -- Steps of a machine whose run is watched.
 use Rattle.commands.proofs.Prelude.{◌≡◌, ℕ, suc, zero, ◌+◌, ◌-◌, ◌<◌, ◌≤◌, Bool, true, List, [], ◌++◌, ◌∷◌, length, Option, Some, None, refl, sym, ap, subst, ◌∙◌, arith, Event}
-use Rattle.std.proofs.Common.{take}
+use Rattle.std.proofs.Common.{IfSome, take}
 use Rattle.std.proofs.Math.Seq.{take-append_seam, take-length}
 use Rattle.ports.specs.Events.{AddsEvent, CountsFailure, IsBeginning}
 use Rattle.isa8080.specs.{State.{State}, declared.registers.Status.{Status}}
@@ -136,6 +136,18 @@ module _ (until_dry : Bool) (limit : ℕ) (start : Machine) (done : ℕ) (here :
         past ends.PortFault first all on =
             let none : first.0 ≡ 0 = omega (arith, first.1, one) in
             here_past (ap (λ (s : State). s.events) (first.2.state ∙ ap (λ k. state_from here k) none ∙ none_after here))
+
+    -- the same of what was answered
+    met_dry : (answer : Option ℕ) (shown : ℕ) → answer ≡ Some shown → IfSome answer (λ count. (until_dry ≡ true) × IsShown new.script new.state.events count) → (until_dry ≡ true) × IsShown new.script new.state.events shown
+    met_dry answer shown is some = subst (λ (o : Option ℕ). IfSome o (λ count. (until_dry ≡ true) × IsShown new.script new.state.events count)) is some
+
+    pub dry_exit : (answer : Option ℕ) (shown : ℕ) → answer ≡ Some shown → IfSome answer (λ count. (until_dry ≡ true) × IsShown new.script new.state.events count)
+        → DoesOnMachine until_dry limit start None (take shown new.state.events)
+    dry_exit answer shown is some = let met = met_dry answer shown is some in dry_does shown met.0 met.1
+
+    pub dry_exit_counted : (answer : Option ℕ) (shown : ℕ) → n ≡ 1 → answer ≡ Some shown → IfSome answer (λ count. (until_dry ≡ true) × IsShown new.script new.state.events count)
+        → CarriesOut until_dry limit start None done
+    dry_exit_counted answer shown one is some = let met = met_dry answer shown is some in dry_counted shown one met.0 met.1
 
     -- the run ended
     end_does : (end : Option End) (shown : ℕ) (rest : List ℕ) → (why ≡ ends.Limit → ⊥) → end ≡ Some why → shown ≡ length new.state.events → IsLeftIf until_dry new.script new.state.events rest

@@ -201,8 +201,12 @@ fn print_run<O: Write>(
     let Ok(words) = ending_words(alloc, values.watch.count, run.steps, word_of(run.end)) else {
         return Err(Failure::Memory);
     };
-    let events = machine.ports().events();
-    report(&events[..run.shown], quiet, words.as_str(), out)?;
+    report(
+        &machine.ports().events()[..run.shown],
+        quiet,
+        words.as_str(),
+        out,
+    )?;
     Ok(run.end)
 }
 
