@@ -1,5 +1,5 @@
 -- The names that the proofs of this crate cite, passed on from one place. Declares nothing.
-pub use Rattle.std.proofs.{Common.{Bool, IsSomeAnd, List, None, Ok, Option, Some, [], ap, arith, cond, eqb-true, false, filter_map, find, flat_map, if◌then◌else◌, length, map, nat_le, nat_lt, one-mul, refl, replicate, slice_get, subst, suc, sym, true, zero, zip, ℕ, ◌%◌, ◌&&◌, ◌*◌, ◌++◌, ◌+◌, ◌-◌, ◌<◌, ◌==◌, ◌||◌, ◌∙◌, ◌∷◌, ◌≡◌, ◌≢◌, ◌≤◌}, lemmas.Bool.{eq-eqb, ltb-true}, lemmas.Iterator.Adapters.{position_from-zero}, lemmas.List.{length-replicate}, lemmas.List.Elements.{All-append, All-cons, All-from_recursion, All-map, All-nil, All-replicate, All-weaker, recursion_from_All}, lemmas.List.Folds.{list_any-append}, lemmas.List.Sums.{sum_by-cons}, lemmas.Option.{get_or_from_slice_get, none-some, slice_get-map, slice_get_within}}
+pub use Rattle.std.proofs.{Common.{Bool, IsSomeAnd, List, None, Ok, Option, Some, [], ap, arith, cond, eqb-true, false, filter_map, find, flat_map, if◌then◌else◌, length, map, nat_le, nat_lt, one-mul, refl, replicate, slice_get, subst, suc, sym, true, zero, zero-add, zip, ℕ, ◌%◌, ◌&&◌, ◌*◌, ◌++◌, ◌+◌, ◌-◌, ◌<◌, ◌==◌, ◌||◌, ◌∙◌, ◌∷◌, ◌≡◌, ◌≢◌, ◌≤◌}, lemmas.Bool.{and_parts, eq-eqb, ltb-true, or_right}, lemmas.Iterator.Adapters.{position_from-zero}, lemmas.List.{length-replicate}, lemmas.List.Elements.{All-append, All-cons, All-from_recursion, All-map, All-nil, All-replicate, All-weaker, recursion_from_All}, lemmas.List.Folds.{list_any-append}, lemmas.List.Sums.{sum_by-cons}, lemmas.Option.{get_or_from_slice_get, none-some, slice_get-map, slice_get_within}}
 pub use Rattle.std.specs.{List.{AllByRecursion, cons_option, enumerate_from, list_any, position_from}, Option.{option_and_then, option_map_or, option_or}, Prelude.{All, IfSome, count_by, is_none, is_some, not, option_map, slice_index}}
 pub use Rattle.mem80.specs.declared.memory.TheConstants.{MEMORY_SIZE}
 pub use Rattle.trees.specs.{Trees.{ConstantOrigin, DeclarationTree, DeclarationTrees, DeclareTree, ElementTree, ElseTree, ItemElement, ItemTree, LiterallyElement, LocationOrigin, ModuleTree, MoreDeclarations, NoDeclarations, OffsetTree, OriginTree, ProcedureTree, RestrictedTree, StatementKindTree, StatementTree, StatementTrees, StringConstant, StringTree, SubjectTree, ValueListTree}, declared.declaration.Linkage.{Linkage, TheVariants.{External, Public}}, declared.declaration.ScalarType.{ScalarType, TheVariants.{Address, Byte}}, declared.identifier.Identifier.{Identifier}}

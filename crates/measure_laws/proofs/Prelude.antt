@@ -1,5 +1,5 @@
 -- The names that the proofs of this crate cite, passed on from one place. Declares nothing.
-pub use Rattle.std.proofs.{Common.{Any, Bool, IfSome, IsSomeAnd, List, None, Ok, Option, Some, [], ap, append_assoc, arith, drop, drop-cons, false, get_or, if◌then◌else◌, inl, inr, is_some, length, length-take, map, min, nat_eq, nat_le, nat_lt, not, option_and_then, option_map, refl, replicate, slice_get, subst, suc, sum_by, sym, take, true, true≢false, unwrap_or, zero, ℕ, ◌%◌, ◌&&◌, ◌*◌, ◌++◌, ◌+◌, ◌-◌, ◌/◌, ◌<◌, ◌==◌, ◌^◌, ◌||◌, ◌∙◌, ◌∷◌, ◌≡◌, ◌≤◌, ◌⊎◌}, lemmas.Bool.{cases_lt, eq-eqb, eqb-false, eqb-true, false≢true, leb-false, leb-true, lt-ltb, ltb-true}, lemmas.List.Elements.{recursion_from_All}, lemmas.List.Sums.{sum_by-append, sum_by-cons}, lemmas.Option.{get_or_from_slice_get, none-some, same_Some, slice_get_cases, slice_get_within}}
+pub use Rattle.std.proofs.{Common.{Any, Bool, IfSome, IsSomeAnd, List, None, Ok, Option, Some, [], ap, append_assoc, arith, drop, drop-cons, false, get_or, if◌then◌else◌, inl, inr, is_some, length, length-take, map, min, nat_eq, nat_le, nat_lt, not, option_and_then, option_map, refl, replicate, slice_get, subst, suc, sum_by, sym, take, true, true≢false, unwrap_or, zero, ℕ, ◌%◌, ◌&&◌, ◌*◌, ◌++◌, ◌+◌, ◌-◌, ◌/◌, ◌<◌, ◌==◌, ◌^◌, ◌||◌, ◌∙◌, ◌∷◌, ◌≡◌, ◌≤◌, ◌⊎◌}, lemmas.Bool.{cases_lt, eq-eqb, eqb-false, eqb-true, false≢true, leb-false, leb-true, lt-ltb, ltb-true, or_parts}, lemmas.List.Elements.{recursion_from_All}, lemmas.List.Sums.{sum_by-append, sum_by-cons}, lemmas.Option.{get_or_from_slice_get, none-some, same_Some, slice_get_cases, slice_get_within}}
 pub use Rattle.std.specs.{List.{AllByRecursion, cons_option, enumerate_from}, Option.{option_map_or}, Prelude.{All, filter_map}}
 pub use Rattle.trees.specs.{declared.declaration.ScalarType.{ScalarType, TheVariants.{Address, Byte}}, declared.expression.BinaryOperator.{BinaryOperator}, declared.expression.UnaryOperator.{UnaryOperator, TheVariants.{Negate, Not}}}
 pub use Rattle.typed_trees.specs.{Charge.{count_of_arguments, height_of, height_of_arguments, height_of_else, height_of_list, height_of_optional, height_of_reference, height_of_statement, height_of_statements, height_of_subscript, height_of_target, height_of_targets}, ExpressionTypes.{type_of}, Frames.{AreParameters, FramesFit, HasParameters, ParametersFit, home_of_parameters}, Jumps.{BodyIsSound, IsAmongLabels, IsNoLabel, JumpsAreSound, JumpsStay, JumpsStayInElse, JumpsStayInList, JumpsStayInStatements, LabelsOf, LabelsStand, ListStands, ListsStand, ListsStandInCases, ListsStandInElse, ListsStandInStatements, labels_of_list}, Sizes.{size_of_object}, Storable.{IsStorable, bytes_filled, constant_number, numbered_constant, object_in, size_of_value}, TypedTrees.{AssignmentStatement, BasedOn, CallStatement, CaseStatement, DoStatement, Elsewhere, GotoStatement, HaltStatement, Home as TypedHome, IfStatement, InConstants, InData, InFrame, IterateStatement, LabelStatement, MoreArguments, MoreStatements, MoveStatement, NoArguments, NoStatements, NoSubscript, Nowhere, NullStatement, PartOf, Placed, ReturnStatement, SentTo, StoredIn, Subscript as TypedSubscript, TypedArguments, TypedElse, TypedExpression, TypedIteration, TypedList, TypedModule, TypedObject, TypedProcedure, TypedReference, TypedStatement, TypedStatements, TypedTarget, WhileStatement}, Weight.{constant_bytes, size_of_constant, weight_of_arguments, weight_of_else, weight_of_expression, weight_of_iteration, weight_of_list, weight_of_optional, weight_of_reference, weight_of_statement, weight_of_statements, weight_of_storing, weight_of_subscript, weight_of_target}, WellTyped.{IsReturned, IsWellTyped, Takes, TypesHold, TypesHoldIn, TypesHoldInArguments, TypesHoldInElse, TypesHoldInList, TypesHoldInProcedure, TypesHoldInReference, TypesHoldInStatements, TypesHoldInSubscript, TypesHoldInTarget, TypesHoldInTargets, Within, WithinMain, WithinProcedure, types_of}, declared.limits.TheConstants.{FRAME_LIMIT}, declared.parts.ConstantItem.{ConstantItem, TheVariants.{ConstantList, ConstantObject}}, declared.parts.InitialValue.{InitialValue, TheVariants.{ByteValue, LocationValue, WordValue}}, declared.parts.ShiftFunction.{ShiftFunction, TheVariants.{RotateLeft, RotateRight, ShiftLeft, ShiftRight}}, declared.parts.UnaryFunction.TheVariants.{Double, High, Low}}
@@ -7,13 +7,13 @@ unfoldable pub use Rattle.typed_trees.specs.{Charge.{charge_of}, Weight.{code_bo
 pub use Rattle.layout.specs.Storage.{Storage, bytes_in_constants, bytes_in_data, data_bytes}
 unfoldable pub use Rattle.layout.specs.Storage.{storage_of}
 pub use Rattle.object_modules.specs.{Module.{ObjectModule, length_of}, declared.segment.Segment.TheVariants.{Code}, declared.segment.TheConstants.{SEGMENT_LIMIT}}
-pub use Rattle.isa8080.specs.{Act.{act, with_operand}, Arithmetic.{decrement_of, increment_of}, State.{Registers, State, register_of, two_less, wrap}, declared.instr.Condition.{Condition, TheVariants.{Carry, NoCarry, NotZero, Zero}}, declared.instr.Instr.{Instr, TheVariants.{Accumulate, AccumulateImmediate, Call, CallIf, Cma, Cmc, Daa, Dad, Dcr, Dcx, Di, Ei, Hlt, In, Inr, Inx, Jmp, JumpIf, Lda, Ldax, Lhld, Lxi, Mov, MovToMemory, Mvi, Nop, Out, Pchl, Pop, Push, Ral, Rar, Ret, ReturnIf, Rlc, Rrc, Rst, Shld, Sphl, Sta, Stax, Stc, Xchg, Xthl}}, declared.instr.Operand.{Operand, TheVariants.{M, Of}}, declared.instr.Operation.{Operation, TheVariants.{Add, AddWithCarry, And, Compare, ExclusiveOr, Or, Subtract, SubtractWithBorrow}}, declared.instr.Pair.TheVariants.{Bc, De, Hl, Sp}, declared.instr.Register.{Register, TheVariants.{A, B, C, D, E, H, L}}, declared.instr.StackPair.{StackPair, TheVariants.{Psw, StackBc, StackDe, StackHl}}}
+pub use Rattle.isa8080.specs.{Act.{act, with_operand}, Arithmetic.{decrement_of, increment_of}, State.{Registers, State, register_of, two_less, wrap}, declared.instr.Condition.{Condition, TheVariants.{Carry, NoCarry, NotZero, Zero}}, declared.instr.Instr.{Instr, TheVariants.{AccumulateImmediate, Cma, Dad, Dcr, Dcx, Hlt, Inr, Inx, Lxi, MovToMemory, Mvi, Nop, Pchl, Pop, Push, Ret, Rlc, Rrc, Sphl, Xchg, Xthl}}, declared.instr.Operand.{Operand, TheVariants.{M, Of}}, declared.instr.Operation.{Operation, TheVariants.{Add, AddWithCarry, And, Compare, ExclusiveOr, Or, Subtract, SubtractWithBorrow}}, declared.instr.Pair.TheVariants.{Bc, De, Hl, Sp}, declared.instr.Register.{Register, TheVariants.{A, B, C, D, E, H, L}}, declared.instr.StackPair.{StackPair, TheVariants.{Psw, StackBc, StackDe, StackHl}}}
 pub use Rattle.asm8080.proofs.{Parts.{size_in_parts}, Segments.{places_length, set_length}}
 pub use Rattle.asm8080.specs.{Assembled.{set_bytes}, Items.{instruction_with, size_of, size_of_items}, Standing.{size_of_instruction}, declared.item.Item.{Item, TheVariants.{Plain, WithWord}}, declared.item.WordForm.{WordForm, TheVariants.{Jump, JumpWhere, LoadA, LoadHl, LoadPair, StoreA, StoreHl}}}
 pub use Rattle.runtime8080.specs.{Routines.{size_of_routine}, declared.routine.Routine.{Routine, TheVariants.{Move}}}
 pub use Rattle.treecode.specs.{Contents.{constant_object, constants_from, content_of, size_of_value as bytes_of_value, static_object, variables_from, with_constant, with_gap, with_gap_if_any, with_object}, Homes.{location_after, place_after}, Lowered.{AreArguments, AreMore, AreMoreStatements, AreNoStatements, AreNone, AreStatements, AreTargets, HasBody, IsAbsent, IsAssignment, IsBinary, IsCall, IsCallOf, IsCase, IsConstantList, IsConversion, IsDo, IsElse, IsEmbedded, IsExpression, IsExpressionIn, IsForm, IsFunction, IsGoto, IsHalt, IsIf, IsIndex, IsInput, IsIterate, IsIteration, IsLabel, IsList, IsListOf, IsLocation, IsLowered, IsMove, IsNoElse, IsNoValue, IsNode, IsNull, IsNumber, IsOptional, IsPart, IsProcedure, IsReference, IsReturn, IsSent, IsShift, IsSomeElse, IsSomeValue, IsStatement, IsStatementForm, IsStatementNode, IsStored, IsSubscript, IsTarget, IsUnary, IsValue, IsWhile, MoreTargets, NoTargets, labels_numbered_in_list}, Nodes.{Nodes, item_of, nodes_of}, Queries.{argument, home, inside, item, place_number, source, source as source_of, statement, target as target_at}, Traits.{no_traits, traits_at}, declared.expression.Expression.{Expression}, declared.expression.ExpressionForm.{ExpressionForm, TheVariants.{Binary}}, declared.expression.ExpressionNumber.{ExpressionNumber}, declared.lists.Range.{Range}, declared.module.Content.{Content, TheVariants.{Gap, Word}}, declared.module.TreeModule.{TreeModule}, declared.place.Home.{Home}, declared.place.Location.{Location, TheVariants.{Frame, Static}}, declared.place.Place.{Place, TheVariants.{Data, External, Number}}, declared.procedure.Parameter.{Parameter}, declared.procedure.ProcedureKind.{ProcedureKind}, declared.procedure.TreeProcedure.{TreeProcedure}, declared.reference.Reference.{Reference}, declared.reference.Subscript.{Subscript as IndexNode, Subscript}, declared.reference.Target.{Target, TheVariants.{Sent, Stored}}, declared.statement.Iteration.{Iteration}, declared.statement.Statement.{Statement as TreeStatement}, declared.statement.StatementNumber.{StatementNumber}}
 unfoldable pub use Rattle.treecode.specs.Contents.{constants_of, variables_of}
-pub use Rattle.treecode_laws.proofs.Slots.{constant_small, stored}
+pub use Rattle.treecode_laws.proofs.{Contents.{same_sizes}, Slots.{constant_small, stored}}
 pub use Rattle.frames.proofs.{Frames.{has_frame, parameter_count}, Parameters.{frame_fits, has_parameters, numbered_at}}
 pub use Rattle.steps8080.specs.{Externals.{entry}, Facts.{before, byte_for_l, byte_from_hl, is_at, no_facts}, Instructions.{clear_a, copy, high, load, low, set, with_memory, with_register}, Queries.{base_after, base_of, form_in_memory, high_of, located_at, reference_after, split_form, split_sum, split_whole}, Questions.{agree, mirrored, question_of, relation_by, relation_of_form, relation_with_number}, Step.{extension_steps, label_of, repeat_steps}, Widths.{power_from, unknown, word_of}, Writer.{Written, address_items, in_front, jump_item, numbered, numbered_item, numbered_reference, word_item}, declared.facts.Facts.{Facts}, declared.sites.queries.Base.{Base}, declared.sites.queries.Located.{Located}, declared.sites.queries.Split.{Split}, declared.sites.questions.Comparison.{Comparison}, declared.sites.questions.Inquiry.{Inquiry, TheVariants.{Between, WithNumber}}, declared.sites.questions.NumberQuestion.{NumberQuestion, TheVariants.{Below, Is, Never}}, declared.sites.questions.Question.{Question, TheVariants.{Equal, LeftBelow, RightBelow}}, declared.sites.questions.Relation.{Relation}, declared.sites.site.Site.{Site}, declared.step.LabelNumber.{LabelNumber}, declared.step.Part.{Part}, declared.step.Step.{Step, TheVariants.{CallRoutine}}, declared.step.Task.{Task}}
 unfoldable pub use Rattle.steps8080.specs.{Queries.{direct, high_in_memory, is_free, is_quiet, keeps, keeps_of_address, known, located, location_of, may_exchange, memory, number, number as number_of, plain_in_memory, same_low_byte, split, split_computed}, Questions.{relation_between, relation_of}, Site.{distance, expression, scalar}, Widths.{direct_word, fits_byte, high_byte_in_memory, is_byte_in_register, is_word_in_hl, low_number, operand_in_memory, power, power_of_two, word_in_memory}}

@@ -1,5 +1,5 @@
 -- The names that the proofs of this crate cite, passed on from one place. Declares nothing.
-pub use Rattle.std.proofs.{Common.{All, Bool, Err, IfSome, List, None, Ok, Option, Result, Some, [], ap, arith, cond, drop, false, filter_map, find, flat_map, get_or, le_refl, le_trans, length, map, nat_le, nat_lt, not, option_and_then, option_map, refl, replicate, reverse, slice_get, slice_index, slice_set, subst, suc, sum_by, sym, take, take_while, true, true≢false, zero, ℕ, ⊎_elim, ◌%◌, ◌&&◌, ◌*◌, ◌++◌, ◌+◌, ◌-◌, ◌/◌, ◌<◌, ◌==◌, ◌||◌, ◌∙◌, ◌∷◌, ◌≡◌, ◌≤◌}, lemmas.Bool.{and_from, and_left, and_parts, and_right, cases_Bool, cases_lt, cond-false, cond-true, cond_both, eq-eqb, eqb-true, false_from_ne_true, le-leb, le-ltb, leb-true, lt-leb, lt-ltb, ltb-false, ltb-true, ne_eqb, not-true, not_from_false, not_from_true, or_cases, or_left, or_parts, or_right}, lemmas.Grind.{flat_map-append}, lemmas.List.{append-nil, append_assoc, drop_at, length-append, length-drop, length-map, length-replicate, map-append, reverse-append, reverse-reverse, take_at}, lemmas.List.Elements.{filter_map-append}, lemmas.List.Folds.{find-append, list_all-append, list_any-append}, lemmas.List.FromFn.{length-map-range_with_len}, lemmas.List.Sums.{take_while-cons}, lemmas.Option.{cond_some, get_or_from_slice_get, none-some, option_and_then_some, same_Some, slice_get-map, some_pair_parts}, lemmas.Slice.Eq.{bytes_eq-Decides}}
+pub use Rattle.std.proofs.{Common.{All, Bool, Err, IfSome, List, None, Ok, Option, Result, Some, [], ap, arith, cond, drop, false, filter_map, find, flat_map, get_or, le_refl, le_trans, length, map, nat_le, nat_lt, not, option_and_then, option_map, refl, replicate, reverse, slice_get, slice_index, slice_set, subst, suc, sum_by, sym, take, take_while, true, true≢false, zero, ℕ, ⊎_elim, ◌%◌, ◌&&◌, ◌*◌, ◌++◌, ◌+◌, ◌-◌, ◌/◌, ◌<◌, ◌==◌, ◌||◌, ◌∙◌, ◌∷◌, ◌≡◌, ◌≤◌}, lemmas.Bool.{and_from, and_left, and_parts, and_right, cases_Bool, cases_lt, cond-false, cond-true, cond_both, eq-eqb, eqb-true, false_from_ne_true, le-leb, le-ltb, leb-true, lt-leb, lt-ltb, ltb-false, ltb-true, ne_eqb, not-false, not-true, not_from_false, not_from_true, or_cases, or_left, or_parts, or_right}, lemmas.Grind.{flat_map-append}, lemmas.List.{append-nil, append_assoc, drop_at, length-append, length-drop, length-map, length-replicate, map-append, reverse-append, reverse-reverse, take_at}, lemmas.List.Elements.{filter_map-append}, lemmas.List.Folds.{find-append, list_all-append, list_any-append}, lemmas.List.FromFn.{length-map-range_with_len}, lemmas.List.Sums.{take_while-cons}, lemmas.Option.{cond_some, get_or_from_slice_get, none-some, option_and_then_some, same_Some, slice_get-map, some_pair_parts}, lemmas.Slice.Eq.{bytes_eq-Decides}}
 pub use Rattle.std.specs.{Char.{is_ascii_uppercase}, List.{AllByRecursion, cons_option, list_all, list_any, onto_first, prefix_len, range_with_len}, Option.{option_flatten, option_map_or, option_or}, Str.{bytes_eq}}
 pub use Rattle.symbols.specs.Names.{is_name, is_name_character}
 pub use Rattle.omf80.proofs.{Conditions.{IsBytes, find_passes, none_holds}, RecordLaws.{Begins, begins}, RecordsAgain.{ReadAgain, read_again}}

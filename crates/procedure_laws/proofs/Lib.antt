@@ -1,4 +1,5 @@
 mod Prelude
+pub mod Numbers
 pub mod Trees
 pub mod Ways
 pub mod Labels

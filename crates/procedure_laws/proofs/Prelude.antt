@@ -1,5 +1,5 @@
 -- The names that the proofs of this crate cite, passed on from one place. Declares nothing.
-pub use Rattle.std.proofs.{Common.{All, Any, Bool, List, None, Option, Some, [], ap, arith, bit_xor, cond, eq-eqb, false, get_or, if◌then◌else◌, inl, inr, le-leb, length, ltb-false, ltb-true, map, min, mod-eq_of_lt, nat_eq, nat_le, nat_lt, ne_eqb, not, option_map, refl, replicate, slice_get, slice_index_or, slice_set, subst, suc, sym, true, zero, zip, ℕ, ◌%◌, ◌*◌, ◌++◌, ◌+◌, ◌-◌, ◌/◌, ◌<◌, ◌==◌, ◌||◌, ◌∙◌, ◌∷◌, ◌≡◌, ◌≢◌, ◌≤◌, ◌⊎◌}, lemmas.Bool.{cases_lt, eqb-false, eqb-true, leb-false, true≢false}, lemmas.List.{append_assoc, get_or-replicate, get_or-set_other, get_or-set_same, length-replicate, length-set, set_comm}, lemmas.List.Kept.{AllPairs-cons}, lemmas.Option.{get_or_from_slice_get, none-some, same_Some, slice_get-map, slice_get_cases, slice_get_within}}
+pub use Rattle.std.proofs.{Common.{All, Any, Bool, List, None, Option, Some, [], add-zero, ap, arith, bit_xor, cond, eq-eqb, false, get_or, if◌then◌else◌, inl, inr, le-leb, length, ltb-false, map, min, mod-eq_of_lt, nat_eq, nat_le, nat_lt, ne_eqb, not, option_map, refl, replicate, slice_get, slice_index_or, slice_set, subst, suc, sym, true, zero, zero-add, zip, ℕ, ◌%◌, ◌*◌, ◌++◌, ◌+◌, ◌-◌, ◌/◌, ◌<◌, ◌==◌, ◌∙◌, ◌∷◌, ◌≡◌, ◌≢◌, ◌≤◌, ◌⊎◌}, lemmas.Bool.{cases_lt, eqb-false, eqb-true, leb-false, or_left, or_right, true≢false}, lemmas.List.{append_assoc, get_or-replicate, get_or-set_other, get_or-set_same, length-replicate, length-set, set_comm}, lemmas.List.Kept.{AllPairs-cons}, lemmas.Option.{none-some, same_Some, slice_get-map, slice_get_cases, slice_get_within}}
 pub use Rattle.std.specs.{Borrow.{Bor}, Int.Bits.{xor_self}, Option.{option_and_then, option_map_or, unwrap_or}, Prelude.{AllPairs, IsSomeAnd, flat_map, take}}
 pub use Rattle.mem80.proofs.MemoryLemmas.{byte_small}
 pub use Rattle.mem80.specs.{Memory.{IsMemory, byte_at, word_at}, declared.memory.TheConstants.{MEMORY_SIZE}}
@@ -22,9 +22,9 @@ pub use Rattle.exprgen8080.specs.Emission.{AreWritten, HoldsWritten, JumpWritten
 pub use Rattle.statements8080.specs.{Plans.{holds, jump, mark, plain}, declared.body.Body.{Body}, declared.plan.Planned.{Planned}}
 pub use Rattle.codegen8080.specs.{Generated.{AreCarriedOut, IsListCarriedOut, NoneCarriedOut, StepCarriedOut, site_of}, Modules.{IsEndCode}, Procedures.{argument_facts, argument_step, entry_steps, is_address, pair_of, popped_argument_steps, return_steps, store_argument, with_argument}, declared.meeting.Here.{Here}}
 unfoldable pub use Rattle.codegen8080.specs.{Generated.{carried_steps, here_after, waiting_after}, Procedures.{below_return_steps, drop_steps, end_steps, entry_steps_by, exchanged_steps, frame_entry_steps, kept_steps, known_at, known_from, last_argument_facts, last_argument_steps, odd_byte_steps, popped_at, popped_from, pops_steps, push_loop_steps, pushed_arguments_steps, pushes_steps, return_of_frame_steps, return_over_any_steps, return_over_steps, return_steps_by, static_entry_steps, stores_steps, zero_result_steps, zeros_steps}}
-pub use Rattle.code_meaning.proofs.{Facts.After.{facts_after, facts_after_word}, Facts.Changes.{no_facts_hold, with_facts_hold}, Facts.Steady.{declared_is_steady, push_asks}, FirstItems.{jump_passed, jump_taken, plain_first, plain_step, word_first, word_step}, Landing.{after_paid_step, after_step, gives, landed, then_does}, Owning.{keeps_all, keeps_both, keeps_wider, owns_more}, Pushes.{ready_after_push}, Sequences.{AreThere, both_there}, Standing.{after_mark, after_plain, mark_lies}, Stores.{keeps_put, ready_with_variable}}
+pub use Rattle.code_meaning.proofs.{Facts.After.{facts_after, facts_after_word}, Facts.Changes.{no_facts_hold, with_facts_hold}, Facts.Steady.{declared_is_steady, push_asks}, FirstItems.{jump_passed, jump_taken, plain_first, plain_step, word_first, word_step}, Landing.{after_paid_step, after_step, gives, landed, then_does}, Numbers.{byte_as_low, differs_from_next, high_of_sum, high_of_two, low_of_sum, low_of_two}, Owning.{keeps_all, keeps_both, keeps_wider, owns_more}, Pushes.{push_keeps, ready_after_push}, Sequences.{AreThere, both_there}, Standing.{after_mark, after_plain, mark_lies}, Stores.{keeps_put, ready_with_variable}}
 pub use Rattle.code_meaning.specs.{Activations.{Activation, Arrives, FrameLies, IsReady, IsThere, IsVariable, LiesWell, Owns, PlacementLies, Shares}, Asking.{Asks, WordAsks}, Holding.{AddressHolds, ByteHolds, Distances, FactsHold, IsByteAt, IsSteady, IsWordAt, WordHolds, ZeroHolds, location_at, place_at}, Landing.{Does, IsLeft, Lands, at_place}}
-pub use Rattle.task_laws.proofs.{CarriedOut.{carry_out}, Machine.Rules.{bytes_at_place, popped_bytes, ready_with_registers, word_acts}, Machine.SiteNodes.{have_operands, place_of_number}, Machine.Stages.{does_same, gives_then, then_does_where}, Ranges.NumbersOfTrees.{IsTypedCode, has_types}, Ranges.RangesOfCalls.{calls_fit}}
+pub use Rattle.task_laws.proofs.{CarriedOut.{carry_out}, Machine.Rules.{bytes_at_place, popped_bytes, ready_with_registers, word_acts}, Machine.SiteNodes.{have_operands, place_of_number}, Machine.Stages.{does_same, gives_then, then_does_where}, Ranges.NumbersOfTrees.{IsTypedCode, has_types}, Ranges.RangesOfCalls.{calls_fit}, Ranges.RangesOfStatements.{dropped_types}, Stores.Writing.{past}}
 pub use Rattle.task_laws.specs.{Contexts.{ArgumentsLie, CallsDo, CallsFit, Context, FrameIsPlanned, InRegister, InWord, IsSound, ResultLies, RoutineIsAt, bytes_pushed, distances_in, nodes_in}, ProgramTypes.{HasTypes}, Tasks.{Know}}
 pub use Rattle.statement_laws.proofs.{Lists.{same_number}, Together.{statements_do}, Written.{list_stands}}
 pub use Rattle.statement_laws.specs.{Bodies.{BodyContext, ComesToReturn, GoesOn, IsSoundBody, IsWithin, Leaves, ReturnStands}, Statements.{ListDoes}}

@@ -1,5 +1,5 @@
 -- The names that the proofs of this crate cite, passed on from one place. Declares nothing.
-pub use Rattle.std.proofs.{Common.{Bool, List, None, Ok, Option, Some, [], ap, append-nil, ap₂, arith, cond, false, find, get_or, inl, inr, is_some, length, map, min, not, option_map, refl, replicate, subst, suc, sum, sym, take, true, zero, zip, ℕ, ⊎_elim, ◌%◌, ◌&&◌, ◌++◌, ◌+◌, ◌-◌, ◌/◌, ◌<◌, ◌||◌, ◌∙◌, ◌∷◌, ◌≡◌, ◌≢◌, ◌≤◌, ◌⊎◌}, lemmas.Bool.{cases_lt, eq-eqb, eqb-true, false≢true, leb-true, lt-ltb, ltb-true}, lemmas.Iterator.Adapters.{position_from-zero}, lemmas.List.{get_or_append_left, get_or_push, length-append, length-map, length-replicate, length_push}, lemmas.List.Elements.{All-from_recursion, recursion_from_All}, lemmas.List.Folds.{find_at}, lemmas.List.FromFn.{length-enumerate_from}, lemmas.List.Sums.{sum_by-cons}, lemmas.Option.{get_or_from_slice_get, none-some, same_Some, slice_get-get_or, slice_get-map, slice_get_cases, slice_get_past, slice_get_within}, lemmas.Slice.Eq.{bytes_eq-Decides}}
+pub use Rattle.std.proofs.{Common.{Bool, List, None, Ok, Option, Some, [], ap, append-nil, ap₂, arith, cond, false, find, get_or, inl, inr, is_some, length, map, min, not, option_map, refl, replicate, subst, suc, sum, sym, take, true, zero, zero-add, zip, ℕ, ⊎_elim, ◌%◌, ◌&&◌, ◌++◌, ◌+◌, ◌-◌, ◌/◌, ◌<◌, ◌||◌, ◌∙◌, ◌∷◌, ◌≡◌, ◌≢◌, ◌≤◌, ◌⊎◌}, lemmas.Bool.{and_parts, cases_lt, eq-eqb, eqb-true, false≢true, leb-true, lt-ltb, ltb-true, or_left, or_right}, lemmas.Iterator.Adapters.{position_from-zero}, lemmas.List.{get_or_append_left, get_or_push, length-append, length-map, length-replicate, length_push}, lemmas.List.Elements.{All-from_recursion, recursion_from_All}, lemmas.List.Folds.{find_at}, lemmas.List.FromFn.{length-enumerate_from}, lemmas.List.Sums.{sum_by-cons}, lemmas.Option.{get_or_from_slice_get, none-some, same_Some, slice_get-get_or, slice_get-map, slice_get_cases, slice_get_past, slice_get_within}, lemmas.Slice.Eq.{bytes_eq-Decides}}
 pub use Rattle.std.specs.{List.{AllByRecursion, cons_option, enumerate_from, list_all, list_any, position_or_len}, Option.{option_and_then, option_map_or, option_or}, Prelude.{All, IfSome, IsTrue, bytes_eq, count_by, filter, filter_map, if◌then◌else◌, nat_le, nat_lt, slice_get, slice_index, sum_by, unwrap_or, ◌==◌}}
 pub use Rattle.mem80.specs.{Memory.{IsMemory, byte_at}, Pieces.{IsLoaded}, declared.memory.TheConstants.{MEMORY_SIZE}}
 pub use Rattle.ports.specs.{Events.{IsBeginning}, Input.{IsScript}, declared.event.Event.{Event}}
@@ -11,7 +11,7 @@ pub use Rattle.meaning.specs.{Access.{InMemory, Surroundings, address_of as obje
 unfoldable pub use Rattle.meaning.specs.Run.{source_run}
 pub use Rattle.object_modules.specs.{Displacements.{linked_modules, public_named}, Image.{Image, image_of}, Module.{Fixup, IsObjectModule, ObjectModule, Places as ObjectPlaces, Public, SetByte, is_among, is_page, is_target, is_valid_byte, is_valid_segment, words_are_whole}, Moving.{after_fixup, bytes_resolved, first_byte_moved, moved_after, value_after, value_moved}, Runs.{fixup_at}, declared.segment.Fix.{Fix}, declared.segment.FixKind.{FixKind, TheVariants.{Both, High, Low}}, declared.segment.Segment.{Segment}, declared.segment.Target.{Target, TheVariants.{External, InSegment}}, declared.segment.TheConstants.{SEGMENT_LIMIT}}
 unfoldable pub use Rattle.object_modules.specs.Merge.{merge_of}
-pub use Rattle.image_laws.proofs.{Images.NoHighs.{NoHighs, assembled_highs, no_high_targets}, Images.Retargeted.{resolved_retargeted}, Images.Starts.{main_starts}, Memory.Addresses.{IsHere, locations_length}, Memory.Lists.{got_both, got_numbered, some_within}, Memory.Meanings.{address_meant, both_hold, first_position, found_place, public_lies}, Memory.Modules.{bases_found, is_linked, lies_at}, Memory.Starting.{starts_as_its_source}, Merges.Names.{program_has_image}}
+pub use Rattle.image_laws.proofs.{Images.NoHighs.{NoHighs, assembled_highs, no_high_targets}, Images.Retargeted.{resolved_retargeted}, Images.Starts.{main_starts}, Memory.Addresses.{IsHere, locations_length}, Memory.Lists.{got_both, got_numbered, some_within}, Memory.Meanings.{address_meant, first_position, found_place, public_lies}, Memory.Modules.{bases_found, begin_length, is_linked, lies_at}, Memory.Starting.{starts_as_its_source}, Merges.Names.{program_has_image}}
 pub use Rattle.image_laws.specs.{Names.{HasNames, external_names_in, public_names_in}, Objects.{IsObjectOf}, Segments.{BeginWith, HasPublic, HasSegments, IsPublicAt, IsTarget}, internal.AtPlans.{AreObjectsOf, bases_of, code_lengths_of, plan_of}, internal.InMemory.{StartsAt, address_of_public, piece_base}, internal.Linked.{placed_by}, internal.Names.{HaveImage, HaveNames}, internal.ProgramInMemory.{HaveSegments, IsInMemory, placement_of}}
 pub use Rattle.isa8080.specs.{Code.{bytes_of}, State.{HoldBytes, Registers, State, high_byte, low_byte, wrap}, Step.{running}, declared.instr.Instr.TheVariants.{Hlt}, declared.instr.Pair.TheVariants.{Sp}, declared.registers.Status.{Status, TheVariants.{Halted, Illegal, Running}}}
 unfoldable pub use Rattle.isa8080.specs.Step.{state_after}

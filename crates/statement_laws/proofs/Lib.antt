@@ -1,4 +1,5 @@
 mod Prelude
+pub mod Numbers
 pub mod FirstSteps
 pub mod Outcomes
 pub mod Lists

@@ -65,7 +65,7 @@ targets_alike plan merged linked (ExternalName name) (External number) is =
 targets_alike plan merged linked (ExternalName name) (InSegment segment) is = absurd is
 
 -- what begins with bytes has no fewer
-begin_length :
+pub begin_length :
     (object : ObjectModule) (bytes : Places) (places : List (Option SetByte))
     → BeginWith object bytes places
     → length bytes ≤ length places

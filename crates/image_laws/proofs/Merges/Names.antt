@@ -1,5 +1,5 @@
 -- Names of the object modules of a program are found, stand once, and one of the modules is the main one.
-use Rattle.image_laws.proofs.Prelude.{◌≡◌, ℕ, ◌+◌, Bool, true, false, ◌%◌, ◌||◌, ◌==◌, cond, List, [], ◌∷◌, ◌++◌, length, map, Option, Some, None, option_map, is_some, if◌then◌else◌, refl, ap, ap₂, sym, subst, ◌∙◌, arith, count_by, filter, find, flat_map, not, AllByRecursion, cons_option, list_any, option_and_then, option_map_or, option_or, bytes_eq, eqb-true, map-append, filter-append, recursion_from_All, sum_by-cons, none-some, bytes_eq-Decides, TypedModule, Global, IsJoined, declared_otherwise, externals_of, first_repeated, globals_of, is_main, join_refusal, lacks_public, not_one_main, public_twice, publics_of, without_public, Linked, code_end, data_end, linked_after, linked_from, linked_modules, placed, placement_refusal, main_modules, public_names, repeated_after, unless_refused, unresolved, ObjectModule, is_among, SegmentTooLarge, plan_of, refusal_of_merge}
+use Rattle.image_laws.proofs.Prelude.{◌≡◌, ℕ, ◌+◌, Bool, true, false, ◌%◌, ◌||◌, ◌==◌, cond, List, [], ◌∷◌, ◌++◌, length, map, Option, Some, None, option_map, is_some, if◌then◌else◌, refl, ap, ap₂, sym, subst, ◌∙◌, arith, count_by, filter, find, flat_map, not, AllByRecursion, cons_option, list_any, option_and_then, option_map_or, option_or, bytes_eq, eqb-true, map-append, filter-append, recursion_from_All, sum_by-cons, none-some, bytes_eq-Decides, TypedModule, Global, IsJoined, declared_otherwise, externals_of, first_repeated, globals_of, is_main, join_refusal, lacks_public, not_one_main, public_twice, publics_of, without_public, Linked, code_end, data_end, linked_after, linked_from, linked_modules, placed, placement_refusal, main_modules, public_names, repeated_after, unless_refused, unresolved, ObjectModule, is_among, SegmentTooLarge, plan_of, refusal_of_merge, or_right}
 use Rattle.layout.specs.Joined.{NotOneMain, public_named}
 use Rattle.image_laws.proofs.Programs.Made.{merge_made}
 use Rattle.image_laws.proofs.Programs.Refusals.{ranges_refused}
@@ -53,10 +53,6 @@ found_among (global ∷ publics) name some =
     equal : bytes_eq global.name name ≡ true → bytes_eq name global.name ≡ true
     equal same = (bytes_eq-Decides name global.name).1 (sym ((bytes_eq-Decides global.name name).0 same))
 
-    later : (one other : Bool) → other ≡ true → (one || other) ≡ true
-    later true other is = refl
-    later false other is = is
-
     by : (same : Bool)
         → bytes_eq global.name name ≡ same
         → is_some (if same then Some global else public_named publics name) ≡ true
@@ -64,7 +60,7 @@ found_among (global ∷ publics) name some =
         → (bytes_eq name global.name || is_among name (map name_of publics)) ≡ true
     by true e some rest =
         ap (λ (test : Bool). test || is_among name (map name_of publics)) (equal e)
-    by false e some rest = later (bytes_eq name global.name) (is_among name (map name_of publics)) (rest some)
+    by false e some rest = or_right (bytes_eq name global.name) (is_among name (map name_of publics)) (rest some)
 
 -- each of these externals has a public
 has_public :

@@ -1,6 +1,6 @@
 -- The constants of a module take as many bytes as its objects with DATA and its constant lists, and its data as many as
 -- its objects without AT and DATA.
-use Rattle.measure_laws.proofs.Prelude.{◌≡◌, ℕ, zero, suc, ◌+◌, ◌-◌, ◌≤◌, ◌==◌, Bool, true, false, ◌&&◌, min, if◌then◌else◌, nat_le, nat_lt, List, [], ◌∷◌, ◌++◌, length, map, slice_get, sum_by, Option, Some, None, refl, subst, arith, All, option_map_or, eqb-true, sum_by-cons, ConstantItem, ConstantObject, ConstantList, InitialValue, ByteValue, WordValue, LocationValue, size_of_object, IsStorable, bytes_filled, size_of_value, TypedHome, InData, InConstants, Placed, BasedOn, Elsewhere, Nowhere, InFrame, TypedObject, TypedModule, constant_bytes, size_of_constant, bytes_in_data, data_bytes, size_of_items, Content, Word, Gap, Home, constant_object, constants_from, constants_of, content_of, bytes_of_value, with_constant, with_gap, with_gap_if_any, with_object, static_object, variables_from, variables_of, contents_items}
+use Rattle.measure_laws.proofs.Prelude.{◌≡◌, ℕ, zero, suc, ◌+◌, ◌-◌, ◌≤◌, ◌==◌, Bool, true, false, ◌&&◌, min, if◌then◌else◌, nat_le, nat_lt, List, [], ◌∷◌, ◌++◌, length, map, slice_get, sum_by, Option, Some, None, refl, subst, arith, All, option_map_or, eqb-true, sum_by-cons, ConstantItem, ConstantObject, ConstantList, InitialValue, ByteValue, WordValue, LocationValue, size_of_object, IsStorable, bytes_filled, size_of_value, TypedHome, InData, InConstants, Placed, BasedOn, Elsewhere, Nowhere, InFrame, TypedObject, TypedModule, constant_bytes, size_of_constant, bytes_in_data, data_bytes, size_of_items, Content, Word, Gap, Home, constant_object, constants_from, constants_of, content_of, bytes_of_value, with_constant, with_gap, with_gap_if_any, with_object, static_object, variables_from, variables_of, contents_items, same_sizes}
 use Rattle.treecode.specs.declared.module.Content.TheVariants.{Byte}
 use Rattle.treecode.specs.declared.place.Place.TheVariants as places
 
@@ -76,22 +76,6 @@ values_take :
 values_take starts [] = refl
 values_take starts (value ∷ values) =
     omega (arith, value_takes starts value, values_take starts values, sum_by-cons size_of_value value values)
-
-same_size : (value : InitialValue) → bytes_of_value value ≡ size_of_value value
-same_size (ByteValue byte) = refl
-same_size (WordValue word) = refl
-same_size (LocationValue object offset) = refl
-
-same_sizes : (values : List InitialValue) → sum_by bytes_of_value values ≡ sum_by size_of_value values
-same_sizes [] = refl
-same_sizes (value ∷ values) =
-    omega (
-      arith,
-      same_size value,
-      same_sizes values,
-      sum_by-cons bytes_of_value value values,
-      sum_by-cons size_of_value value values,
-    )
 
 -- an object with DATA; its values fill no more bytes than it has
 object_takes :

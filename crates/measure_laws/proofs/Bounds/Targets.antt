@@ -1,5 +1,5 @@
 -- Targets that get a value, one after another.
-use Rattle.measure_laws.proofs.Prelude.{◌≡◌, ℕ, zero, suc, ◌+◌, ◌<◌, ◌≤◌, Bool, true, false, ◌||◌, nat_eq, List, sum_by, Option, Some, None, refl, sym, ap, ◌∙◌, arith, sum_by-cons, eqb-false, eqb-true, ScalarType, TypedModule, TypedTarget, TypesHoldInTarget, TypesHoldInTargets, Within, weight_of_target, Storage, Range, Target, AreTargets, IsTarget, MoreTargets, NoTargets, nodes_of, target_at, Body, Planned, any_target, steps_from, bytes_for, StepsFit}
+use Rattle.measure_laws.proofs.Prelude.{◌≡◌, ℕ, zero, suc, ◌+◌, ◌<◌, ◌≤◌, Bool, true, false, nat_eq, List, sum_by, Option, Some, None, refl, sym, ap, ◌∙◌, arith, sum_by-cons, eqb-false, eqb-true, ScalarType, TypedModule, TypedTarget, TypesHoldInTarget, TypesHoldInTargets, Within, weight_of_target, Storage, Range, Target, AreTargets, IsTarget, MoreTargets, NoTargets, nodes_of, target_at, Body, Planned, any_target, steps_from, bytes_for, StepsFit, or_parts}
 use Rattle.measure_laws.proofs.Bounds.Ranges.{item_there}
 use Rattle.measure_laws.proofs.Bounds.Fitting.{both_fit, less_fits, none_fit}
 
@@ -36,10 +36,6 @@ targets_fit {body = body} typed within scalar targets each fit index place count
     (targets_fit typed within scalar targets each fit (suc index) (omega (arith, place)) (omega (arith, count)) others types.1))
     (omega (arith, sum))
 
-either_false : (one other : Bool) → (one || other) ≡ false → (one ≡ false) × (other ≡ false)
-either_false true other is = let never : ⊥ = cc in absurd never
-either_false false other is = (refl, is)
-
 -- no target passes a test
 pub none_passes :
     (test : Target → Bool) (body : Body) (targets : Range) (index left place : ℕ) (target : Target)
@@ -51,11 +47,11 @@ pub none_passes :
 none_passes test body targets index zero place target none low high is = absurd (omega (arith, low, high))
 none_passes test body targets index (suc left) place target none low high is =
     by (nat_eq index place) refl
-    (λ more fewer. none_passes test body targets (suc index) left place target (either_false _ _ none).1 more fewer is)
+    (λ more fewer. none_passes test body targets (suc index) left place target (or_parts _ _ none).1 more fewer is)
   where
     parts : ((elim (target_at body.tree.now targets index) as (λ (given : Option Target). Bool) [ Some found ↦ test found | None ↦ false ]) ≡ false)
         × (any_target test body targets (suc index) left ≡ false)
-    parts = either_false _ _ none
+    parts = or_parts _ _ none
 
     here : index ≡ place → test target ≡ false
     here same =

@@ -25,7 +25,7 @@ abbrev pub LabelsDiffer : (labels : List ℕ) → Type 0
 LabelsDiffer labels =
     (one other label : ℕ) → slice_get labels one ≡ Some label → slice_get labels other ≡ Some label → one ≡ other
 
-cases_stand : (trees : TypedStatements) → ListsStandInCases trees → ListsStandInStatements trees
+pub cases_stand : (trees : TypedStatements) → ListsStandInCases trees → ListsStandInStatements trees
 cases_stand NoStatements stand = tt
 cases_stand (MoreStatements first others) stand = (stand.1, cases_stand others stand.2)
 

@@ -1,7 +1,8 @@
 -- A file with parts is judged as these, and one with a first fault as that: so there is one answer for each file.
-use Rattle.object_laws.proofs.Prelude.{◌≡◌, ℕ, zero, suc, ◌+◌, ◌<◌, ◌≤◌, true, false, cond, ◌==◌, ◌&&◌, nat_le, List, [], ◌∷◌, ◌++◌, length, drop, flat_map, reverse, slice_index, Option, Some, None, option_map, option_and_then, Ok, Err, refl, ap, sym, ◌∙◌, arith, option_or, option_map_or, leb-true, append_assoc, append-nil, reverse-append, reverse-reverse, length-append, BODY_LIMIT, RecordKind, kind_of_type, record_end, first_body, record_bytes, record_fault, ReadAgain, read_again, Fault, OutOfOrder, WrongBody, rank_of, may_come_after, is_empty, is_ended, may_follow, Part, kind_of_part, body_of, part_bytes, part_in, first_part, part_fault, is_accepted, are_accepted, fault_from_record, fault_of_record, fault_at, IsFileOf, HasFirstFault, judged_by, judged_after, parts_of, both}
+use Rattle.object_laws.proofs.Prelude.{◌≡◌, ℕ, zero, suc, ◌+◌, ◌<◌, ◌≤◌, true, false, cond, ◌==◌, ◌&&◌, nat_le, List, [], ◌∷◌, ◌++◌, length, drop, flat_map, reverse, slice_index, Some, None, option_map, option_and_then, Ok, Err, refl, ap, sym, ◌∙◌, arith, option_or, option_map_or, leb-true, append_assoc, append-nil, reverse-append, reverse-reverse, length-append, BODY_LIMIT, RecordKind, kind_of_type, record_end, first_body, record_bytes, record_fault, ReadAgain, read_again, Fault, OutOfOrder, WrongBody, rank_of, may_come_after, is_empty, is_ended, may_follow, Part, kind_of_part, body_of, part_bytes, part_in, first_part, part_fault, is_accepted, are_accepted, fault_from_record, fault_of_record, fault_at, IsFileOf, HasFirstFault, judged_by, judged_after, parts_of, both}
 use Rattle.omf80.specs.declared.kind.RecordKind.TheVariants as kinds
 use Rattle.object_laws.proofs.Files.PartsAgain.{part_again}
+use Rattle.object_laws.proofs.Files.Accepted.{no_fault_there}
 
 -- nothing follows the end of the file
 open_after : (latest kind : RecordKind) → may_come_after latest kind ≡ true → (rank_of latest == 5) ≡ false
@@ -26,10 +27,6 @@ open_after kinds.EndOfFile kinds.EndOfFile h = absurd (let bad : false ≡ true 
 not_ended_before : (before : List Part) (kind : RecordKind) → may_follow before kind ≡ true → is_ended before ≡ false
 not_ended_before [] kind h = refl
 not_ended_before (latest ∷ others) kind h = open_after (kind_of_part latest) kind h
-
-no_fault_there : (fault : Option Fault) → option_map_or (λ (_ : Fault). false) fault true ≡ true → fault ≡ None
-no_fault_there None h = refl
-no_fault_there (Some fault) h = absurd (let bad : false ≡ true = h in cc)
 
 -- a part that may stand after others, with bytes after it: it is read, and judged without a fault
 pub record JudgedAgain (before : List Part) (part : Part) (rest bytes : List ℕ) : Type 0 where

@@ -51,7 +51,7 @@ fixes_within offset end (here ∷ others) h =
     (before_below offset end here.fixup (fixes_from (offset + 1) others) (omega (arith, h))
     (fixes_within (offset + 1) end others (omega (arith, h))))
 
-past_append : (end : ℕ) (xs ys : List Fix) → AllPast end xs → AllPast end ys → AllPast end (xs ++ ys)
+pub past_append : (end : ℕ) (xs ys : List Fix) → AllPast end xs → AllPast end ys → AllPast end (xs ++ ys)
 past_append end [] ys x y = y
 past_append end (fix ∷ others) ys x y = (x.0, past_append end others ys x.1 y)
 

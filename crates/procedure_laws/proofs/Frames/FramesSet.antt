@@ -1,6 +1,6 @@
 -- The parameters are set in a new frame: beside the memory that the machine has in the end, in which each argument lies in
 -- the word of its parameter.
-use Rattle.procedure_laws.proofs.Prelude.{◌≡◌, ◌≢◌, ℕ, zero, suc, ◌+◌, ◌-◌, ◌/◌, ◌%◌, ◌<◌, ◌≤◌, ◌==◌, ◌⊎◌, inl, inr, Bool, true, false, List, [], ◌∷◌, length, slice_set, refl, sym, ap, subst, ◌∙◌, arith, cases_lt, eqb-true, eqb-false, length-set, get_or-set_same, get_or-set_other, IsMemory, byte_at, byte_small, ScalarType, Byte, Address, size_of_scalar, InTheFrame, Surroundings, frame_bytes, place_of, write_scalar, parameters_set, Gave, Outcome, SourceState, then_do, byte_kept, byte_put, parameter_distance, word_distance, Activation, FrameLies, InWord}
+use Rattle.procedure_laws.proofs.Prelude.{◌≡◌, ◌≢◌, ℕ, ◌+◌, ◌-◌, ◌/◌, ◌%◌, ◌<◌, ◌≤◌, ◌==◌, ◌⊎◌, inl, inr, Bool, true, false, List, [], ◌∷◌, length, slice_set, refl, sym, ap, subst, ◌∙◌, arith, cases_lt, eqb-true, eqb-false, length-set, get_or-set_same, get_or-set_other, IsMemory, byte_at, byte_small, ScalarType, Byte, Address, size_of_scalar, InTheFrame, Surroundings, frame_bytes, place_of, write_scalar, parameters_set, Gave, Outcome, SourceState, then_do, byte_kept, byte_put, parameter_distance, word_distance, Activation, FrameLies, InWord, past}
 use Rattle.meaning.specs.Access.{Place}
 
 -- a frame lies in a memory, but for some of its bytes
@@ -26,11 +26,6 @@ opens wider lies = record {
 -- a frame with another byte
 abbrev with_byte : List (List ℕ) → (object offset byte : ℕ) → List (List ℕ)
 with_byte frame object offset byte = slice_set frame object (slice_set (frame_bytes frame object) offset byte)
-
-past : (frame : List (List ℕ)) (object : ℕ) → length frame ≤ object → frame_bytes frame object ≡ []
-past [] object less = refl
-past (first ∷ frame) zero less = absurd (omega (arith, less))
-past (first ∷ frame) (suc object) less = past frame object (omega (arith, less))
 
 -- an open byte that is put is closed
 byte_set :

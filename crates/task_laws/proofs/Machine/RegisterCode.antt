@@ -1,5 +1,5 @@
 -- Steps that change only registers, one after another.
-use Rattle.task_laws.proofs.Prelude.{◌≡◌, ℕ, ◌+◌, ◌*◌, ◌/◌, ◌%◌, ◌<◌, ◌≤◌, Bool, true, false, List, [], ◌∷◌, ◌++◌, bit_and, refl, sym, ap, ◌∙◌, arith, subst, and_le_l, or_of_8, xor_of_8, IsMemory, byte_at, byte_small, Event, SourceState, Outcome, Instr, Accumulate, AccumulateImmediate, Cma, Dad, Dcx, Inx, Lxi, Mov, Mvi, Rar, Rlc, Rrc, Ral, Xchg, Of, Operation, Add, AddWithCarry, Subtract, SubtractWithBorrow, And, ExclusiveOr, Or, Compare, Bc, De, Hl, Register, A, B, C, D, E, H, L, Flags, bit, HoldBytes, Registers, State, register_of, wrap, operate, act, running, InstructionStands, size_of_instruction, Does, at_place, plain_first, stands_now, Asks, FactsHold, facts_after, Facts, Part, Step, after, plain, Context, IsSound, distances_in, StepsStand, PlainThere, Know}
+use Rattle.task_laws.proofs.Prelude.{◌≡◌, ℕ, ◌+◌, ◌*◌, ◌/◌, ◌%◌, ◌<◌, ◌≤◌, Bool, true, false, List, [], ◌∷◌, ◌++◌, bit_and, refl, sym, ap, ◌∙◌, arith, subst, and_le_l, or_of_8, xor_of_8, IsMemory, byte_at, byte_small, Event, SourceState, Outcome, Instr, Accumulate, AccumulateImmediate, Cma, Dad, Dcx, Inx, Lxi, Mov, Mvi, Rar, Rlc, Rrc, Ral, Xchg, Of, Operation, Add, AddWithCarry, Subtract, SubtractWithBorrow, And, ExclusiveOr, Or, Compare, Bc, De, Hl, Register, A, B, C, D, E, H, L, Flags, bit, HoldBytes, Registers, State, register_of, wrap, operate, act, running, InstructionStands, size_of_instruction, Does, at_place, plain_first, stands_now, Asks, FactsHold, facts_after, Facts, Part, Step, after, plain, Context, IsSound, distances_in, StepsStand, PlainThere, Know, high_is_byte}
 use Rattle.isa8080.specs.State.{with_register}
 use Rattle.asm8080.specs.declared.item.Item.TheVariants as items
 use Rattle.task_laws.proofs.Machine.Rules.{GoesOn, ready_with_registers}
@@ -202,14 +202,11 @@ wrapped_high n = omega arith
 low_small : (n : ℕ) → n % 256 < 256
 low_small n = omega arith
 
-high_small : (n : ℕ) → n < 65536 → n / 256 < 256
-high_small n small = omega (arith, small)
-
 -- and the others hold bytes
 bytes_after : (i : Instr) (r : Registers) → IsOnRegisters i → NumbersFit i → HoldBytes r → HoldBytes (does_to i r)
-bytes_after (Lxi Bc word) r is fit bytes = record { a = bytes.a; b = high_small word fit; c = low_small word; d = bytes.d; e = bytes.e; h = bytes.h; l = bytes.l }
-bytes_after (Lxi De word) r is fit bytes = record { a = bytes.a; b = bytes.b; c = bytes.c; d = high_small word fit; e = low_small word; h = bytes.h; l = bytes.l }
-bytes_after (Lxi Hl word) r is fit bytes = record { a = bytes.a; b = bytes.b; c = bytes.c; d = bytes.d; e = bytes.e; h = high_small word fit; l = low_small word }
+bytes_after (Lxi Bc word) r is fit bytes = record { a = bytes.a; b = high_is_byte word fit; c = low_small word; d = bytes.d; e = bytes.e; h = bytes.h; l = bytes.l }
+bytes_after (Lxi De word) r is fit bytes = record { a = bytes.a; b = bytes.b; c = bytes.c; d = high_is_byte word fit; e = low_small word; h = bytes.h; l = bytes.l }
+bytes_after (Lxi Hl word) r is fit bytes = record { a = bytes.a; b = bytes.b; c = bytes.c; d = bytes.d; e = bytes.e; h = high_is_byte word fit; l = low_small word }
 bytes_after (Inx Bc) r is fit bytes = record { a = bytes.a; b = wrapped_high _; c = low_small _; d = bytes.d; e = bytes.e; h = bytes.h; l = bytes.l }
 bytes_after (Inx De) r is fit bytes = record { a = bytes.a; b = bytes.b; c = bytes.c; d = wrapped_high _; e = low_small _; h = bytes.h; l = bytes.l }
 bytes_after (Inx Hl) r is fit bytes = record { a = bytes.a; b = bytes.b; c = bytes.c; d = bytes.d; e = bytes.e; h = wrapped_high _; l = low_small _ }

@@ -1,5 +1,5 @@
 -- The code of the address of an object or a part of it puts the address of its place into HL.
-use Rattle.task_laws.proofs.Prelude.{◌≡◌, ℕ, ◌+◌, ◌*◌, ◌%◌, ◌<◌, ◌≤◌, Bool, true, false, not, ◌&&◌, ◌||◌, List, ◌++◌, Option, Some, None, is_some, max, refl, sym, ap, subst, ◌∙◌, arith, IsSomeAnd, slice_get, height_of, height_of_reference, height_of_subscript, PartOf, Subscript, TypedObject, TypedReference, IsSeen, SourcePlace, home_of, Displacement, based_place, displacement, value, SourceState, Outcome, Gave, Stopped, then_do, Registers, word, wrap, left_true, right_true, Home, Reference, IndexNode, Keeps, IsPart, home_at, home, is_static_location, keeps_of_part, keeps_of_subscript, keeps_of_sum, Does, at_place, Arrives, HasRoom, gives, Facts, Base, base_after, base_of, keeps_of_address, located_at, address_steps, base_added_steps, located_steps, second_steps, product_steps, knowing, Context, IsSound, nodes_in, StepsStand, AddressDoes, AddressIsGiven, PartDoes}
+use Rattle.task_laws.proofs.Prelude.{◌≡◌, ℕ, ◌+◌, ◌*◌, ◌%◌, ◌<◌, ◌≤◌, Bool, true, false, not, ◌&&◌, ◌||◌, List, ◌++◌, Option, Some, None, is_some, max, refl, sym, ap, subst, ◌∙◌, arith, IsSomeAnd, slice_get, height_of, height_of_reference, height_of_subscript, PartOf, Subscript, TypedObject, TypedReference, IsSeen, SourcePlace, home_of, Displacement, based_place, displacement, value, SourceState, Outcome, Gave, Stopped, then_do, Registers, word, wrap, left_true, right_true, Home, Reference, IndexNode, Keeps, IsPart, home_at, home, is_static_location, keeps_of_part, keeps_of_subscript, keeps_of_sum, Does, at_place, Arrives, HasRoom, gives, Facts, Base, base_after, base_of, keeps_of_address, located_at, address_steps, base_added_steps, located_steps, second_steps, product_steps, knowing, Context, IsSound, nodes_in, StepsStand, AddressDoes, AddressIsGiven, PartDoes, false≢true}
 use Rattle.treecode.specs.declared.place.Home.TheVariants as homes
 use Rattle.steps8080.specs.Queries.{located}
 use Rattle.task_laws.proofs.Machine.Rules.{GoesOn, split as split_steps}
@@ -327,15 +327,12 @@ located_goes {context = context} {facts = facts} {last = last} {pushed = pushed}
             ∙ given.a (keeps_less.a (left_true of.a of_too.a both.0));
         d = λ kept.
             let both = home_keeps_de start (offset % 65536) one_known two_known (Some of) (Some of_too) (ap (λ (of : Keeps). of.de) (sym whole) ∙ kept) in
-            never both.0;
+            absurd (false≢true both.0);
         e = λ kept.
             let both = home_keeps_de start (offset % 65536) one_known two_known (Some of) (Some of_too) (ap (λ (of : Keeps). of.de) (sym whole) ∙ kept) in
-            never both.0;
+            absurd (false≢true both.0);
       };
     }))))))
-  where
-    never : {A : Type 0} → false ≡ true → A
-    never is = absurd cc
 
 -- The code of the address of an object or a part of it.
 pub address_law :

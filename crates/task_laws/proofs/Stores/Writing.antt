@@ -17,7 +17,7 @@ set_there (first ∷ xs) zero (suc other) x d differ = refl
 set_there (first ∷ xs) (suc i) zero x d differ = refl
 set_there (first ∷ xs) (suc i) (suc other) x d differ = set_there xs i other x d (λ same. differ (ap suc same))
 
-past : (frame : List (List ℕ)) (object : ℕ) → length frame ≤ object → frame_bytes frame object ≡ []
+pub past : (frame : List (List ℕ)) (object : ℕ) → length frame ≤ object → frame_bytes frame object ≡ []
 past [] object less = refl
 past (first ∷ frame) zero less = absurd (omega (arith, less))
 past (first ∷ frame) (suc object) less = past frame object (omega (arith, less))

@@ -11,6 +11,7 @@ use Rattle.task_laws.proofs.Machine.SiteNodes.{value_in}
 use Rattle.task_laws.proofs.Machine.Stages.{Stage, at_byte, at_carried, at_effects, at_end, at_instructions, script_of}
 use Rattle.task_laws.proofs.Machine.Values.{HasWord, word_given}
 use Rattle.task_laws.proofs.Bytes.Zeros.{low_mask}
+use Rattle.task_laws.proofs.Numbers.{byte_is_word, no_high_byte}
 
 -- the high byte of a value, 0 for a BYTE, is put into A
 abbrev pub HighHalvesGiven : Context → Type 0
@@ -28,9 +29,6 @@ nothing_left x n small none = ap (bit_and x) (zero_is n small none) ∙ and_zero
     zero_is : (n : ℕ) → n < 256 → n % 256 ≡ 0 → n ≡ 0
     zero_is n small none = omega (arith, small, none)
 
-no_high : (n : ℕ) → n < 256 → 0 ≡ n / 256
-no_high n small = omega (arith, small)
-
 all_low : (n : ℕ) → n < 256 → n ≡ n % 256
 all_low n small = omega (arith, small)
 
@@ -39,7 +37,7 @@ and_under x n limit small = let less : bit_and x n ≤ n = and_le_r x n in omega
 
 -- a byte in A is put into HL
 pub extended : (n : ℕ) (now : Registers) → n < 256 → now.a ≡ n → HasWord n (effect (copy L A ∷ set H 0 ∷ []) now)
-extended n now small same = record { h = no_high n small; l = same ∙ all_low n small }
+extended n now small same = record { h = no_high_byte n small; l = same ∙ all_low n small }
 
 module _
     {context : Context} {top pushed need to : ℕ} {base : List ℕ} {last : Facts} (number : ExpressionNumber)
@@ -56,11 +54,8 @@ module _
   extended_then n t r now memory ended small same stand stage =
       at_instructions (copy L A ∷ set H 0 ∷ []) [] sound (tt, (tt, tt)) stand stage
       (λ middle found ends next. at_end ends next
-      (λ final. word_given t (below n small) (extended n now small same) (kept_none context number r _ none)
+      (λ final. word_given t (byte_is_word n small) (extended n now small same) (kept_none context number r _ none)
       (record { ready = final.ready; known = final.known })))
-    where
-      below : (n : ℕ) → n < 256 → n < 65536
-      below n small = omega (arith, small)
 
   module _ {facts : Facts} {other : ExpressionNumber} {tree : TypedExpression} (operand : IsOperand context other tree) where
     -- the low byte AND a number below 256
