@@ -1,6 +1,6 @@
 -- The loop over modules that finds where their pieces begin, and whether a segment is too long.
-use Rattle.link_laws.proofs.Prelude.{◌≡◌, ℕ, ◌+◌, ◌<◌, ◌≤◌, true, false, ◌||◌, List, [], ◌∷◌, ◌++◌, All, length, drop, get_or, sum_by, fold, refl, ap, sym, subst, ◌∙◌, arith, AllByRecursion, or_left, or_right, or_from, lt-ltb, le-ltb, All-from_recursion, append_assoc, append-nil, Start, Linked, code_end, data_end, start_after, linked_after, linked_from, linked_modules, last_end, is_too_long, some_segment_is_too_long, ObjectModule, IsObjectModule, code_after, data_after, later_start}
-use Rattle.link_laws.proofs.NameLoops.{at_item, at_end}
+use Rattle.link_laws.proofs.Prelude.{◌≡◌, ℕ, ◌+◌, ◌<◌, ◌≤◌, true, false, ◌||◌, List, [], ◌∷◌, ◌++◌, All, length, drop, get_or, sum_by, fold, refl, ap, sym, subst, ◌∙◌, arith, AllByRecursion, or_left, or_right, or_from, lt-ltb, le-ltb, All-from_recursion, append_assoc, append-nil, Start, Linked, code_end, data_end, start_after, linked_after, linked_from, linked_modules, last_end, is_too_long, some_segment_is_too_long, ObjectModule, IsObjectModule, code_after, data_after, later_start, at_drop_all}
+use Rattle.link_laws.proofs.NameLoops.{at_item}
 
 -- where the last pieces end
 last_code :
@@ -180,7 +180,7 @@ module _ (code data_before stack : ℕ) (placed : List Linked) (modules : List O
 -- at the end
 module _ (code data_before stack : ℕ) (placed : List Linked) (modules : List ObjectModule) (i : ℕ) (known : SoFar code data_before stack placed (drop i modules) modules) (past : length modules ≤ i) where
   none_left : drop i modules ≡ []
-  none_left = at_end (λ (left : List ObjectModule). left) modules i past
+  none_left = at_drop_all (λ (left : List ObjectModule). left) modules i past
 
   pub all_placed : placed ≡ linked_modules modules
   all_placed =

@@ -1,5 +1,5 @@
 -- Targets that get a value that is in a register, one after another.
-use Rattle.statement_laws.proofs.Prelude.{◌≡◌, ℕ, zero, suc, ◌+◌, ◌-◌, ◌*◌, ◌%◌, ◌<◌, ◌≤◌, Bool, true, false, if◌then◌else◌, nat_eq, nat_lt, List, [], ◌∷◌, ◌++◌, slice_get, Option, Some, None, refl, sym, ap, subst, ◌∙◌, arith, option_and_then, eqb-false, eqb-true, lt-ltb, ScalarType, Byte, Address, height_of, height_of_target, height_of_targets, type_of, TypedExpression, TypedTarget, StoredIn, SentTo, TypesHold, TypesHoldInTarget, TypesHoldInTargets, write_scalar, located, stored, stored_in_each, value, SourceState, Outcome, Gave, then_do, Onward, as_type, values_of, Registers, State, write_event, ExpressionNumber, Range, Target, AreTargets, IsExpression, IsSent, IsStored, IsTarget, MoreTargets, NoTargets, target_at, Does, at_place, Facts, Site, value_task, Planned, any_target, from_type, store_at, takes_word, part, steps_from, Here, InRegister, nodes_in, ByteIsGiven, StoreDoes, TaskDoes, WordIsGiven, then_again, at_byte, at_word, does_same, script_of, at_store, BodyContext, IsSoundBody, Leaves, low_of_byte, or_parts, value_is_word}
+use Rattle.statement_laws.proofs.Prelude.{◌≡◌, ℕ, suc, ◌+◌, ◌-◌, ◌*◌, ◌%◌, ◌<◌, ◌≤◌, Bool, true, false, if◌then◌else◌, nat_lt, List, [], ◌∷◌, ◌++◌, slice_get, Option, Some, None, refl, sym, ap, subst, ◌∙◌, arith, option_and_then, lt-ltb, ScalarType, Byte, Address, height_of, height_of_target, height_of_targets, type_of, TypedExpression, TypedTarget, StoredIn, SentTo, TypesHold, TypesHoldInTarget, TypesHoldInTargets, write_scalar, located, stored, stored_in_each, value, SourceState, Outcome, Gave, then_do, Onward, as_type, values_of, Registers, State, write_event, ExpressionNumber, Range, Target, AreTargets, IsExpression, IsSent, IsStored, IsTarget, MoreTargets, NoTargets, target_at, Does, at_place, Facts, Site, value_task, Planned, from_type, store_at, takes_word, part, steps_from, Here, InRegister, nodes_in, ByteIsGiven, StoreDoes, TaskDoes, WordIsGiven, then_again, at_byte, at_word, does_same, script_of, at_store, BodyContext, IsSoundBody, Leaves, low_of_byte, value_is_word}
 use Rattle.steps8080.specs.declared.step.Task.TheVariants as tasks
 use Rattle.statement_laws.proofs.FirstSteps.{Stand, ended, going, part_first}
 use Rattle.statement_laws.proofs.Outcomes.{Between, ends_onward}
@@ -185,33 +185,3 @@ targets_stored {at = at} {need = need} {base = base} {to = to} {before = before}
     targets_stored scalar there targets number other are (suc index) (going here.goes_on store.known) store.middle u now memory_now sound
     (omega (arith, place)) (omega (arith, count)) types.1 suits small (omega (arith, fits))
     (λ some. wanted (lt-ltb index (targets.count - 1) (omega (arith, some, count)))) goes store.rest next))
-
--- no target passes a test
-pub none_passes :
-    (test : Target → Bool) (at : BodyContext) (targets : Range) (index left place : ℕ) (target : Target)
-    → any_target test at.body targets index left ≡ false
-    → index ≤ place
-    → place < index + left
-    → target_at at.body.tree.now targets place ≡ Some target
-    → test target ≡ false
-none_passes test at targets index zero place target none low high is = absurd (omega (arith, low, high))
-none_passes test at targets index (suc left) place target none low high is =
-    by (nat_eq index place) refl
-    (λ more fewer. none_passes test at targets (suc index) left place target (or_parts _ _ none).1 more fewer is)
-  where
-    parts : ((elim (target_at at.body.tree.now targets index) as (λ (given : Option Target). Bool) [ Some found ↦ test found | None ↦ false ]) ≡ false)
-        × (any_target test at.body targets (suc index) left ≡ false)
-    parts = or_parts _ _ none
-
-    here : index ≡ place → test target ≡ false
-    here same =
-        sym (ap (λ (given : Option Target). elim given as (λ (one : Option Target). Bool) [ Some found ↦ test found | None ↦ false ])
-        (ap (λ (n : ℕ). target_at at.body.tree.now targets n) same ∙ is))
-        ∙ parts.0
-
-    by : (same : Bool) → nat_eq index place ≡ same
-        → (suc index ≤ place → place < suc index + left → test target ≡ false)
-        → test target ≡ false
-    by true same further = here (eqb-true index place same)
-    by false differ further =
-        let other = eqb-false index place differ in further (omega (arith, low, other)) (omega (arith, high))

@@ -1,5 +1,5 @@
 -- Known and free nodes store nothing.
-use Rattle.treecode_laws.proofs.Prelude.{◌≡◌, ◌⊎◌, inl, inr, ℕ, ◌+◌, ◌%◌, true, false, Option, Some, None, is_some, option_map, slice_get, refl, sym, ap, ◌∙◌, option_map_or, option_and_then, and_from, and_parts, ScalarType, Byte, Address, Low, High, Double, TypedExpression, TypedReference, Subscript, Storage, Expression, ExpressionForm, ExpressionNumber, Home, Place, Reference, IndexNode, Traits, place_of_part, IsExpression, IsNode, IsForm, IsNumber, IsValue, IsLocation, IsConstantList, IsConversion, IsEmbedded, IsUnary, IsBinary, IsCallOf, IsFunction, IsShift, IsInput, IsReference, IsPart, IsSubscript, IsAbsent, IsIndex, Nodes, home_at, KeepTraits, byte_after, distance_of, free_at, has_immediate, is_direct, is_free_form, is_free_of, is_free_with, is_of_low_byte, known_at, known_of, number_at, place_of_reference, traits_of, node_traits, stores_nothing, part_stores_nothing, index_stores_nothing, false≢true}
+use Rattle.treecode_laws.proofs.Prelude.{◌≡◌, ◌⊎◌, inl, inr, ℕ, ◌+◌, ◌%◌, true, false, Option, Some, None, is_some, option_map, slice_get, refl, sym, ap, ◌∙◌, option_map_or, option_and_then, and_from, and_parts, ScalarType, Byte, Address, Low, High, Double, TypedExpression, TypedReference, Subscript, Storage, Expression, ExpressionForm, ExpressionNumber, Home, Place, Reference, IndexNode, Traits, place_of_part, IsExpression, IsNode, IsForm, IsNumber, IsValue, IsLocation, IsConstantList, IsConversion, IsEmbedded, IsUnary, IsBinary, IsCallOf, IsFunction, IsShift, IsInput, IsReference, IsPart, IsSubscript, IsAbsent, IsIndex, Nodes, home_at, KeepTraits, byte_after, distance_of, free_at, has_immediate, is_direct, is_free_form, is_free_of, is_free_with, is_of_low_byte, known_at, known_of, number_at, place_of_reference, traits_of, node_traits, stores_nothing, part_stores_nothing, index_stores_nothing, false≢true, known_of_node}
 use Rattle.treecode.specs.declared.expression.ExpressionForm.TheVariants as forms
 use Rattle.treecode.specs.declared.place.Home.TheVariants as homes
 
@@ -34,13 +34,6 @@ from_part : (home : Home) (offset : ℕ) (one other : Option ℕ)
 from_part (homes.Static place) offset one other is = from_numbers _ one other is
 from_part (homes.Based base) offset one other is = absurd (false≢true is)
 from_part (homes.Frame variable) offset one other is = absurd (false≢true is)
-
-known_of_node : (nodes : Nodes) (number : ℕ) (expression : Expression) → KeepTraits nodes
-    → slice_get nodes.expressions number ≡ Some expression
-    → known_at nodes (record { index = number }) ≡ known_of nodes expression.traits.scalar expression.form
-unfolding traits_of
-known_of_node nodes number expression keeps at =
-    ap (λ (traits : Traits). traits.known) (node_traits nodes number expression keeps at)
 
 free_of_node : (nodes : Nodes) (number : ℕ) (expression : Expression) → KeepTraits nodes
     → slice_get nodes.expressions number ≡ Some expression

@@ -1,12 +1,8 @@
 -- The contents of registers after bytes and words were loaded and stored.
-use Rattle.code_meaning.proofs.Prelude.{◌≡◌, ℕ, ◌+◌, ◌/◌, ◌%◌, ◌<◌, List, length, slice_set, Option, Some, None, option_map, sym, ap, ◌∙◌, arith, length-set, MEMORY_SIZE, IsMemory, byte_at, word_at, high_byte, low_byte, one_less, two_less, word, wrap, byte_kept, byte_put, Location, location_after, Activation, AddressAsks, IsSteadyByte, PushAsks, AddressHolds, ByteHolds, Distances, IsByteAt, IsSteady, IsWordAt, WordHolds, location_at}
+use Rattle.code_meaning.proofs.Prelude.{◌≡◌, ℕ, ◌+◌, ◌<◌, List, length, slice_set, Option, Some, None, option_map, sym, ap, ◌∙◌, arith, length-set, MEMORY_SIZE, IsMemory, byte_at, word_at, high_byte, low_byte, one_less, two_less, word, wrap, byte_kept, byte_put, Location, location_after, Activation, AddressAsks, IsSteadyByte, PushAsks, AddressHolds, ByteHolds, Distances, IsByteAt, IsSteady, IsWordAt, WordHolds, location_at, word_in_memory}
 use Rattle.mem80.proofs.MemoryLemmas.{byte_small}
 use Rattle.code_meaning.proofs.Facts.Places.{location_after_is}
 use Rattle.code_meaning.proofs.Numbers.{differs_from_next, high_of_sum, low_of_sum, word_high_byte, word_low_byte}
-
--- a word from its halves
-pub halves : (number : ℕ) → word (number / 256) (number % 256) ≡ number
-halves number = omega arith
 
 -- a word that was loaded
 pub loaded_word :
@@ -69,9 +65,6 @@ pub loaded_byte :
 loaded_byte activation distance None h l memory asks holds = tt
 loaded_byte activation distance (Some location) h l memory asks holds = (ap (byte_at memory) holds, asks)
 
-word_inside : (high low : ℕ) → high < 256 → low < 256 → word high low < MEMORY_SIZE
-word_inside high low one two = omega (arith, one, two)
-
 -- a byte that was stored there
 pub put_byte :
     (activation : Activation) (distance : Distances) (held : Option Location) (a h l : ℕ) (memory : List ℕ)
@@ -84,7 +77,7 @@ pub put_byte :
 put_byte activation distance None a h l memory is one two asks holds = tt
 put_byte activation distance (Some location) a h l memory is one two asks holds =
     let size = is.size in
-    let inside : word h l < MEMORY_SIZE = word_inside h l one two in (
+    let inside : word h l < MEMORY_SIZE = word_in_memory h l one two in (
       sym (byte_put memory (word h l) a (omega (arith, size, inside)))
           ∙ ap (byte_at (slice_set memory (word h l) a)) holds,
       asks,

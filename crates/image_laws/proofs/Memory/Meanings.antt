@@ -1,6 +1,6 @@
 -- The addresses that a run of the source has for objects are those that the targets of the object modules have: an
 -- EXTERNAL object lies where the public of its name does.
-use Rattle.image_laws.proofs.Prelude.{◌≡◌, ℕ, zero, suc, ◌+◌, ◌-◌, ◌%◌, ◌<◌, ◌≤◌, Bool, true, false, cond, List, [], ◌∷◌, ◌++◌, length, replicate, flat_map, Option, Some, None, unwrap_or, refl, ap, ap₂, sym, subst, ◌∙◌, arith, All, IsSomeAnd, ◌&&◌, nat_lt, slice_get, slice_index, list_all, position_from, option_and_then, option_map_or, option_or, bytes_eq, ltb-true, position_from-zero, recursion_from_All, none-some, slice_get_past, bytes_eq-Decides, MEMORY_SIZE, InitialValue, ByteValue, WordValue, LocationValue, IsHereIfPublic, ListsGlobals, size_of_object, bytes_filled, Home, InData, InConstants, Placed, BasedOn, Elsewhere, Nowhere, InFrame, TypedObject, TypedModule, InProgram, first_found, in_module, object_meant, public_object_in, ModulePlacement, PlacingPlan, Location, After, SegmentStart, ExternalName, address_of_location, location_by_home, location_of, locations_after, AtNumber, address_in, address_of_object, bytes_of_value, bytes_of_word, values_in, location_is, MeansObject, external_object_meant, addresses, set, starting_bytes, of_all, Linked, linked_modules, public_named, Plan, Image, IsObjectModule, ObjectModule, Public, is_valid_public, may_have_publics, PublicLies, address_of_public, piece_base, plan_of, IsInMemory, placement_of, IsLinked, HasPublic, IsPublicAt, and_parts}
+use Rattle.image_laws.proofs.Prelude.{◌≡◌, ℕ, zero, suc, ◌+◌, ◌-◌, ◌%◌, ◌<◌, ◌≤◌, Bool, true, List, [], ◌∷◌, ◌++◌, length, replicate, flat_map, Option, Some, None, unwrap_or, refl, ap, ap₂, sym, subst, ◌∙◌, arith, All, IsSomeAnd, ◌&&◌, nat_lt, slice_get, slice_index, list_all, option_and_then, option_map_or, option_or, bytes_eq, ltb-true, position_from-zero, recursion_from_All, none-some, slice_get_past, bytes_eq-Decides, MEMORY_SIZE, InitialValue, ByteValue, WordValue, LocationValue, IsHereIfPublic, ListsGlobals, size_of_object, bytes_filled, Home, InData, InConstants, Placed, BasedOn, Elsewhere, Nowhere, InFrame, TypedObject, TypedModule, InProgram, first_found, in_module, object_meant, public_object_in, ModulePlacement, PlacingPlan, Location, After, SegmentStart, ExternalName, address_of_location, location_by_home, location_of, locations_after, AtNumber, address_in, address_of_object, bytes_of_value, bytes_of_word, values_in, location_is, MeansObject, external_object_meant, addresses, set, starting_bytes, of_all, Linked, linked_modules, public_named, Plan, Image, IsObjectModule, ObjectModule, Public, is_valid_public, may_have_publics, PublicLies, address_of_public, piece_base, plan_of, IsInMemory, placement_of, IsLinked, HasPublic, IsPublicAt, and_parts, first_position}
 use Rattle.layout.specs.declared.slot.Segment.TheVariants as slots
 use Rattle.image_laws.proofs.Images.Publics.{publics_lie}
 use Rattle.image_laws.proofs.Memory.Addresses.{IsHere, locations_length}
@@ -15,23 +15,6 @@ here_if_public (BasedOn base) is = tt
 here_if_public Nowhere is = tt
 here_if_public (InFrame procedure) is = tt
 here_if_public Elsewhere is = absurd is
-
--- the position of the first that passes a test
-pub first_position : {X : Type 0} {A : Type 0} (p : X → Bool) (from : ℕ) (all : List X) (number : ℕ)
-    → position_from p from all ≡ Some number
-    → ((at : ℕ) (x : X) → number ≡ from + at → slice_get all at ≡ Some x → p x ≡ true → A) → A
-first_position p from [] number e then_is = absurd (none-some number e)
-first_position {X} {A} p from (first ∷ all) number e then_is =
-    by (p first) refl e
-    (λ later. first_position p (from + 1) all number later
-    (λ at x same there holds. then_is (suc at) x (omega (arith, same)) there holds))
-  where
-    by : (test : Bool) → p first ≡ test → cond test (Some from) (position_from p (from + 1) all) ≡ Some number
-        → (position_from p (from + 1) all ≡ Some number → A) → A
-    by true is e rest =
-        let same : from ≡ number = ap (λ (found : Option ℕ). unwrap_or found from) e in
-        then_is 0 first (omega (arith, same)) refl is
-    by false is e rest = rest e
 
 -- what is found in modules is found in one of them
 pub found_place : {A : Type 0} (from : ℕ) (in_one : TypedModule → Option ℕ) (modules : List TypedModule)

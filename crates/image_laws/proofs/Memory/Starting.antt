@@ -1,9 +1,8 @@
 -- Where it is declared the memory is the one that a run of the source starts with.
-use Rattle.image_laws.proofs.Prelude.{◌≡◌, ℕ, suc, ◌+◌, ◌-◌, ◌%◌, ◌<◌, ◌≤◌, ◌⊎◌, inl, inr, Bool, true, false, ◌&&◌, List, [], ◌∷◌, length, map, flat_map, take, Some, None, option_map, refl, ap, sym, subst, ◌∙◌, ⊎_elim, arith, filter_map, slice_get, slice_index, sum, zip, AllByRecursion, enumerate_from, list_any, cases_lt, All-from_recursion, recursion_from_All, sum_by-cons, none-some, slice_get-get_or, slice_get_within, get_or_from_slice_get, byte_at, IsIn, size_of_object, Home, InData, InConstants, Placed, BasedOn, Elsewhere, Nowhere, InFrame, TypedObject, TypedModule, Slot, Bases, StaticPiece, ConstantPiece, AtPiece, ModulePlacement, PlacedPiece, EndsInMemory, kind_of, piece_of, range_of, holds_byte, is_constant, is_constant_piece, is_declared, list_piece, object_piece, pieces_of, pieces_of_module, PlacingPlan, bases_from, placement_by, Contents, Covers, IsAmong, StartsAs, address_of_object, bytes_of_value, values_in, contents_of, contents_of_list, contents_of_module, contents_of_object, starting_memory, data_bytes, slot_of_object, Decides-declared, Decides-holds, writable_not_in_code, of_all, starts_as, merge_is, Code, Data, linked_modules, Image, joined, ObjectModule, length_of, AreObjectsOf, bases_of, code_lengths_of, plan_of, IsInMemory, StartsAsItsSource, placement_of, IsLinked, placed_by, and_parts, same_Some}
+use Rattle.image_laws.proofs.Prelude.{◌≡◌, ℕ, suc, ◌+◌, ◌-◌, ◌%◌, ◌<◌, ◌≤◌, ◌⊎◌, inl, inr, Bool, true, false, ◌&&◌, List, [], ◌∷◌, length, map, flat_map, take, Some, None, option_map, refl, ap, sym, subst, ◌∙◌, ⊎_elim, arith, filter_map, slice_get, slice_index, sum, zip, AllByRecursion, enumerate_from, list_any, cases_lt, All-from_recursion, recursion_from_All, sum_by-cons, none-some, slice_get-get_or, slice_get_within, get_or_from_slice_get, byte_at, IsIn, size_of_object, Home, InData, InConstants, Placed, BasedOn, Elsewhere, Nowhere, InFrame, TypedObject, TypedModule, Slot, Bases, StaticPiece, ConstantPiece, AtPiece, ModulePlacement, PlacedPiece, EndsInMemory, kind_of, piece_of, range_of, holds_byte, is_constant, is_constant_piece, is_declared, list_piece, object_piece, pieces_of, pieces_of_module, PlacingPlan, bases_from, placement_by, Contents, Covers, IsAmong, StartsAs, address_of_object, bytes_of_value, values_in, contents_of, contents_of_list, contents_of_module, contents_of_object, starting_memory, data_bytes, slot_of_object, Decides-declared, Decides-holds, writable_not_in_code, of_all, starts_as, merge_is, Code, Data, linked_modules, Image, joined, ObjectModule, length_of, AreObjectsOf, bases_of, code_lengths_of, plan_of, IsInMemory, StartsAsItsSource, placement_of, IsLinked, placed_by, and_parts, same_Some, got_both}
 use Rattle.image_laws.proofs.Images.Objects.{others_stay}
 use Rattle.image_laws.proofs.Programs.Lengths.{code_length_is, data_length_is, data_sum}
 use Rattle.image_laws.proofs.Memory.Among.{any_either, any_of_filter, any_of_filter_map, any_of_flat_map, any_of_map, among_back, among_either, among_front, in_flat_map, in_map, numbered, of_among, of_any, of_flat_map, of_map, of_numbered, of_zip}
-use Rattle.image_laws.proofs.Memory.Lists.{got_both}
 use Rattle.image_laws.proofs.Memory.Modules.{bases_found, in_slot, is_linked}
 use Rattle.image_laws.proofs.Memory.Objects.{empty_byte, filled_byte, filling, in_an_object, list_byte, object_byte}
 

@@ -1,19 +1,5 @@
 -- Where the variables and the parameters in the frame of a procedure lie by the plan of its frame.
-use Rattle.procedure_laws.proofs.Prelude.{◌≡◌, ℕ, zero, suc, [], ◌∷◌, ◌+◌, ◌-◌, ◌%◌, ◌<◌, ◌≤◌, min, false, List, length, take, slice_get, Option, Some, None, refl, ap, sym, ◌∙◌, subst, arith, mod-eq_of_lt, option_map, unwrap_or, true≢false, none-some, slice_get-map, slice_get_within, ScalarType, FramesFit, HasParameters, ParametersFit, IsScalar, size_of_object, size_of_scalar, InFrame, TypedModule, TypedObject, TypedProcedure, Storage, FrameVariable, TreeProcedure, frame_number, frame_variable, parameter_number, IsProcedure, Nodes, FramePlan, IsPlanOf, bytes_by_parameter, distance_by_parameter, distance_in, distance_of, parameter_distance, variable_bytes, TakeBytes, bytes_are, object_fits, scalar_size, entries, parameter_count, entry_is, frame_fits, framed, has_parameters, none_found, same_number}
-
--- the variables before one, and that one, are among all
-ends_within :
-    (frame : List FrameVariable) (number : ℕ) (variable : FrameVariable)
-    → slice_get frame number ≡ Some variable
-    → variable_bytes (take number frame) + bytes_by_parameter variable.size variable.parameter
-    ≤ variable_bytes frame
-ends_within [] number variable found = absurd (none-some variable found)
-ends_within (first ∷ others) zero variable found =
-    subst (λ (variable : FrameVariable).
-    0 + bytes_by_parameter variable.size variable.parameter ≤ variable_bytes (first ∷ others))
-    (ap (λ (found : Option FrameVariable). unwrap_or found first) found) (omega arith)
-ends_within (first ∷ others) (suc number) variable found =
-    omega (arith, ends_within others number variable found)
+use Rattle.procedure_laws.proofs.Prelude.{◌≡◌, ℕ, ◌+◌, ◌-◌, ◌%◌, ◌<◌, ◌≤◌, min, false, List, length, take, slice_get, Option, Some, None, refl, ap, sym, ◌∙◌, subst, arith, mod-eq_of_lt, option_map, true≢false, slice_get-map, slice_get_within, ScalarType, FramesFit, HasParameters, ParametersFit, IsScalar, size_of_object, size_of_scalar, InFrame, TypedModule, TypedObject, TypedProcedure, Storage, FrameVariable, TreeProcedure, frame_number, frame_variable, parameter_number, IsProcedure, Nodes, FramePlan, IsPlanOf, bytes_by_parameter, distance_by_parameter, distance_in, distance_of, parameter_distance, variable_bytes, TakeBytes, bytes_are, object_fits, scalar_size, entries, parameter_count, entry_is, frame_fits, framed, has_parameters, none_found, same_number, ends_within}
 
 module _ (typed : TypedModule) (nodes : Nodes) (storage : Storage) (index : ℕ) (procedure : TreeProcedure)
     (heading : TypedProcedure) (plan : FramePlan) (sized : TakeBytes typed) (fit : ParametersFit typed)

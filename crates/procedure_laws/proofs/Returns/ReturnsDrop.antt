@@ -1,5 +1,5 @@
 -- Bytes are dropped from the stack before a return; the result stays where it is.
-use Rattle.procedure_laws.proofs.Prelude.{◌≡◌, ℕ, zero, suc, ◌+◌, ◌*◌, ◌/◌, ◌%◌, ◌<◌, ◌≤◌, nat_le, Bool, true, false, if◌then◌else◌, List, [], ◌∷◌, ◌++◌, replicate, Option, Some, None, refl, sym, ap, subst, ◌∙◌, arith, append_assoc, MEMORY_SIZE, IsMemory, byte_at, byte_small, Event, ScalarType, Byte, Address, SourceState, Outcome, Dad, Inx, Lxi, Pop, Sphl, Xchg, Hl, Sp, StackPair, StackBc, act, HoldBytes, Registers, State, word, wrap, with_popped, AgreesIn, IsPushed, pop_does, LiesWell, Does, at_place, Planned, plain, Here, drop_steps, kept_steps, pops_steps, ResultLies, BodyContext, high_of_two, low_of_two}
+use Rattle.procedure_laws.proofs.Prelude.{◌≡◌, ℕ, zero, suc, ◌+◌, ◌*◌, ◌/◌, ◌%◌, ◌<◌, ◌≤◌, nat_le, Bool, true, false, if◌then◌else◌, List, [], ◌∷◌, ◌++◌, replicate, Option, Some, None, refl, sym, ap, subst, ◌∙◌, arith, append_assoc, MEMORY_SIZE, IsMemory, byte_at, byte_small, Event, ScalarType, Byte, Address, SourceState, Outcome, Dad, Inx, Lxi, Pop, Sphl, Xchg, Hl, Sp, StackPair, StackBc, act, HoldBytes, Registers, State, word, wrap, with_popped, AgreesIn, IsPushed, pop_does, LiesWell, Does, at_place, Planned, plain, Here, drop_steps, kept_steps, pops_steps, ResultLies, BodyContext, high_of_two, low_of_two, wrapped_next}
 use Rattle.procedure_laws.proofs.Frames.FramesSteps.{StepsLie, plain_goes}
 use Rattle.procedure_laws.proofs.Returns.StaticReturns.{result_kept}
 use Rattle.procedure_laws.proofs.Zeros.{same_steps}
@@ -136,7 +136,7 @@ module _ {A : Type 0} {budget : ℕ} {outcome : Outcome A} {Good : A → SourceS
         e = is.e;
         h = is.h;
         l = is.l;
-        pointer = ap (λ (sp : ℕ). wrap (sp + 1)) is.pointer ∙ over top;
+        pointer = ap (λ (sp : ℕ). wrap (sp + 1)) is.pointer ∙ wrapped_next top;
         registers = record {
           a = is.registers.a;
           b = is.registers.b;
@@ -149,9 +149,6 @@ module _ {A : Type 0} {budget : ℕ} {outcome : Outcome A} {Good : A → SourceS
       })
       (subst (λ (end : ℕ). GoesOnAt at last others budget outcome Good events end to kept memory) (up bytes top) rest))
     where
-      over : (top : ℕ) → wrap (wrap top + 1) ≡ wrap (top + 1)
-      over top = omega arith
-
       up : (bytes top : ℕ) → top + suc bytes ≡ top + 1 + bytes
       up bytes top = omega arith
 

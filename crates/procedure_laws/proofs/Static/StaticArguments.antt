@@ -1,5 +1,5 @@
 -- The arguments that a procedure which is not REENTRANT finds on the stack, under the return address.
-use Rattle.procedure_laws.proofs.Prelude.{◌≡◌, ℕ, ◌+◌, ◌-◌, ◌*◌, ◌<◌, ◌≤◌, Bool, true, false, if◌then◌else◌, List, [], ◌∷◌, ◌++◌, length, slice_get, Some, None, refl, sym, ap, subst, ◌∙◌, arith, append_assoc, same_Some, MEMORY_SIZE, byte_at, byte_small, Event, ScalarType, Byte, Address, frame_bytes, Outcome, SourceState, Pop, Push, Xthl, StackDe, StackHl, HoldBytes, Registers, State, high_byte, low_byte, wrap, Item, pushed, pushed_is_pushed, Static, Parameter, IsThere, Does, at_place, Facts, after, after_word, word_item, Planned, plain, Here, AreCarriedOut, argument_facts, argument_step, below_return_steps, exchanged_steps, is_address, known_at, known_from, popped_from, pushed_arguments_steps, InRegister, InWord, IsSound, BodyContext, ReturnLies, high_of_sum, low_of_sum}
+use Rattle.procedure_laws.proofs.Prelude.{◌≡◌, ℕ, ◌+◌, ◌-◌, ◌*◌, ◌<◌, ◌≤◌, Bool, true, false, if◌then◌else◌, List, [], ◌∷◌, ◌++◌, length, slice_get, Some, None, refl, sym, ap, subst, ◌∙◌, arith, append_assoc, same_Some, MEMORY_SIZE, byte_at, byte_small, Event, ScalarType, Byte, Address, frame_bytes, Outcome, SourceState, Pop, Push, Xthl, StackDe, StackHl, HoldBytes, Registers, State, high_byte, low_byte, wrap, Item, pushed, pushed_is_pushed, Static, Parameter, IsThere, Does, at_place, Facts, after, after_word, word_item, Planned, plain, Here, AreCarriedOut, argument_facts, argument_step, below_return_steps, exchanged_steps, is_address, known_at, known_from, popped_from, pushed_arguments_steps, InRegister, InWord, IsSound, BodyContext, ReturnLies, high_of_sum, low_of_sum, wrapped_small}
 use Rattle.asm8080.specs.declared.item.Item.TheVariants as items
 use Rattle.statements8080.specs.Plans.{word}
 use Rattle.procedure_laws.proofs.Planned.{IsBehind, plain_behind, word_behind}
@@ -7,9 +7,6 @@ use Rattle.procedure_laws.proofs.Puts.{Slot, put, put_down}
 use Rattle.procedure_laws.proofs.Static.StaticLoops.{Held, IsTaken, PartedThere, held_then, loop_does, nth_is, plain_parted, store_is, word_parted}
 use Rattle.procedure_laws.proofs.Static.StaticStages.{Underway, exchange_goes, pop_goes, push_goes, store_form, store_goes}
 use Rattle.procedure_laws.proofs.Numbers.{two_more_less}
-
-back_small : (back : ℕ) → wrap back < MEMORY_SIZE
-back_small back = omega arith
 
 joined : (word : ℕ) → 256 * high_byte word + low_byte word ≡ word
 joined word = omega arith
@@ -76,7 +73,7 @@ module _ (at : BodyContext) (sound : IsSound at.context)
       → Does at.context.activation.around.program.script budget 0 (at_place from r memory events) outcome Good
   unfolding pushed_arguments_steps limit
   pushed_does rest facts here last list from to source memory r written there on held go =
-      pop_goes at sound no_frame (top + 2 + 2 * length others) entered frame none StackDe (wrap back) r (back_small back)
+      pop_goes at sound no_frame (top + 2 + 2 * length others) entered frame none StackDe (wrap back) r (wrapped_small back)
       (on.stack top start (omega (arith, high)) ∙ return_lies.low)
       (on.stack (top + 1) (omega (arith, start)) (omega (arith, high)) ∙ return_lies.high) (omega (arith, limit))
       first_parts.one on
@@ -172,7 +169,7 @@ module _ (at : BodyContext) (sound : IsSound at.context)
       → Does at.context.activation.around.program.script budget 0 (at_place from r memory events) outcome Good
   unfolding exchanged_steps known_from known_at limit
   exchanged_does only rest facts here last list from to source memory r alone address written there on held go =
-      pop_goes at sound no_frame (top + 2 + 2 * length others) entered frame none StackHl (wrap back) r (back_small back)
+      pop_goes at sound no_frame (top + 2 + 2 * length others) entered frame none StackHl (wrap back) r (wrapped_small back)
       (on.stack top start (omega (arith, high)) ∙ return_lies.low)
       (on.stack (top + 1) (omega (arith, start)) (omega (arith, high)) ∙ return_lies.high) (omega (arith, limit))
       first_parts.one on

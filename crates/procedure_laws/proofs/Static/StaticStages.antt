@@ -1,6 +1,6 @@
 -- A machine within the code by which a procedure that is not REENTRANT takes its arguments, and what it does that comes
 -- to an instruction of it.
-use Rattle.procedure_laws.proofs.Prelude.{◌≡◌, ◌≢◌, ℕ, ◌+◌, ◌-◌, ◌*◌, ◌/◌, ◌%◌, ◌<◌, ◌≤◌, inl, inr, List, [], ◌∷◌, Option, Some, None, length, slice_set, refl, sym, ap, subst, ◌∙◌, arith, length-set, set_comm, MEMORY_SIZE, byte_at, word_at, Event, ScalarType, Byte, Address, frame_bytes, Outcome, SourceState, Instr, Pop, Push, Xthl, StackPair, Psw, StackBc, StackDe, StackHl, act, HoldBytes, Registers, State, high_byte, low_byte, with_popped, wrap, WordForm, StoreA, StoreHl, instruction_with, Keeps, size_of_instruction, pushed, pushed_is_memory, pushed_keeps, pop_does, push_does, Location, Frame, Static, Place, Activation, FrameLies, IsReady, IsThere, IsVariable, LiesWell, Owns, Shares, Does, at_place, plain_first, keeps_all, keeps_put, ready_with_variable, Asks, WordAsks, AddressHolds, ByteHolds, Distances, FactsHold, IsByteAt, IsSteady, IsWordAt, WordHolds, location_at, place_at, facts_after, facts_after_word, declared_is_steady, push_asks, Facts, after, after_word, word_item, Context, InRegister, IsSound, distances_in, Know, bytes_at_place, popped_bytes, word_acts, BodyContext, IsOfCall, byte_as_low}
+use Rattle.procedure_laws.proofs.Prelude.{◌≡◌, ◌≢◌, ℕ, ◌+◌, ◌-◌, ◌*◌, ◌/◌, ◌%◌, ◌<◌, ◌≤◌, inl, inr, List, [], ◌∷◌, Option, Some, None, length, slice_set, refl, sym, ap, subst, ◌∙◌, arith, length-set, set_comm, MEMORY_SIZE, byte_at, word_at, Event, ScalarType, Byte, Address, frame_bytes, Outcome, SourceState, Instr, Pop, Push, Xthl, StackPair, Psw, StackBc, StackDe, StackHl, act, HoldBytes, Registers, State, high_byte, low_byte, with_popped, wrap, WordForm, StoreA, StoreHl, instruction_with, Keeps, size_of_instruction, pushed, pushed_is_memory, pushed_keeps, pop_does, push_does, Location, Frame, Static, Place, Activation, FrameLies, IsReady, IsThere, IsVariable, LiesWell, Owns, Shares, Does, at_place, plain_first, keeps_all, keeps_put, ready_with_variable, Asks, WordAsks, AddressHolds, ByteHolds, Distances, FactsHold, IsByteAt, IsSteady, IsWordAt, WordHolds, location_at, place_at, facts_after, facts_after_word, declared_is_steady, push_asks, Facts, after, after_word, word_item, Context, InRegister, IsSound, distances_in, Know, bytes_at_place, popped_bytes, word_acts, BodyContext, IsOfCall, byte_as_low, word_of_two}
 use Rattle.asm8080.specs.declared.item.Item.TheVariants as items
 use Rattle.procedure_laws.proofs.Puts.{IsPart, Slot, put, put_kept}
 use Rattle.procedure_laws.proofs.Numbers.{two_less_again, two_more_one, wrapped_two_more}
@@ -480,13 +480,10 @@ module _ (at : BodyContext) (sound : IsSound at.context)
       is_next : (top : ℕ) → top + 2 ≤ MEMORY_SIZE → (top + 1) % MEMORY_SIZE ≡ top + 1
       is_next top limit = omega (arith, limit)
 
-      joined : (low high word : ℕ) → low ≡ low_byte word → high ≡ high_byte word → low + 256 * high ≡ word
-      joined low high word one other = omega (arith, one, other)
-
       word_is : word_at memory (top + 2 - 2) ≡ word
       word_is =
           ap (λ (address : ℕ). word_at memory address) (two_less_again top)
-          ∙ joined (byte_at memory top) (byte_at memory ((top + 1) % MEMORY_SIZE)) word low_byte_is
+          ∙ word_of_two (byte_at memory top) (byte_at memory ((top + 1) % MEMORY_SIZE)) word low_byte_is
           (ap (byte_at memory) (is_next top limit) ∙ high_byte_is)
 
       acts : act at.context.activation.around.program.script Xthl (at_place (from + 1) r memory events)

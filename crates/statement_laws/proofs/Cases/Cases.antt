@@ -1,5 +1,5 @@
 -- Code of DO CASE does what it says.
-use Rattle.statement_laws.proofs.Prelude.{◌≡◌, ℕ, ◌+◌, ◌*◌, ◌<◌, ◌≤◌, true, nat_lt, List, [], ◌∷◌, ◌++◌, map, Option, None, refl, sym, ap, subst, ◌∙◌, arith, ltb-true, ltb-false, height_of_statements, ListsStandInCases, TypedStatements, TypesHoldInStatements, done_case, SourceState, Outcome, Gave, Flow, Onward, NoCarry, Dad, Pchl, De, Hl, Registers, State, high_byte, low_byte, word, wrap, running, AtLabel, Jump, JumpWhere, LoadPair, Range, AreStatements, Does, at_place, plain_step, word_step, after_step, no_facts_hold, Facts, LabelNumber, Step, no_facts, plain, cases_end_steps, entry_of, into_table_steps, statements_steps, table_at, table_steps, Instr, label_at, Here, Context, nodes_in, JumpThere, MarkThere, NoneThere, PlainThere, AreOnRegisters, effect, ready_with_registers, Stage, at_instructions, does_same, script_of, BodyContext, IsSoundBody, Leaves, IsThere, jump_item, not-false, not-true}
+use Rattle.statement_laws.proofs.Prelude.{◌≡◌, ℕ, ◌+◌, ◌*◌, ◌<◌, ◌≤◌, true, nat_lt, List, [], ◌∷◌, ◌++◌, map, Option, None, refl, sym, ap, subst, ◌∙◌, arith, ltb-true, ltb-false, height_of_statements, ListsStandInCases, TypedStatements, TypesHoldInStatements, done_case, SourceState, Outcome, Gave, Flow, Onward, NoCarry, Dad, Pchl, De, Hl, Registers, State, high_byte, low_byte, word, wrap, running, AtLabel, Jump, JumpWhere, LoadPair, Range, AreStatements, Does, at_place, plain_step, word_step, after_step, no_facts_hold, Facts, LabelNumber, Step, no_facts, plain, cases_end_steps, entry_of, into_table_steps, statements_steps, table_at, table_steps, Instr, label_at, Here, Context, nodes_in, JumpThere, MarkThere, NoneThere, PlainThere, AreOnRegisters, effect, ready_with_registers, Stage, at_instructions, does_same, script_of, BodyContext, IsSoundBody, Leaves, IsThere, jump_item, not-false, not-true, word_of_bytes}
 use Rattle.steps8080.specs.declared.step.Step.TheVariants as steps
 use Rattle.statements8080.specs.declared.plan.Planned.TheVariants as planned
 use Rattle.statement_laws.proofs.Cases.CaseChoices.{IsNth, enters, from_none, nth_is, past_all}
@@ -11,9 +11,6 @@ use Rattle.statement_laws.proofs.Loops.LoopCode.{Steps, jump_then, knowing_nothi
 -- three times a number after an address
 three_times : (table n : ℕ) → wrap (wrap (wrap (wrap table + n) + n) + n) ≡ wrap (table + 3 * n)
 three_times table n = omega arith
-
-halves : (n : ℕ) → word (high_byte n) (low_byte n) ≡ n
-halves n = omega arith
 
 small_high : (n : ℕ) → high_byte (wrap n) < 256
 small_high n = omega arith
@@ -81,11 +78,11 @@ into_table_goes {at = at} {base = base} {need = need} {from = from} {facts = fac
     (loaded start refl refl refl refl stage place)
     (λ middle found steps_left added.
     pchl_then (place + 3 * number) u (effect (Dad De ∷ Dad De ∷ Dad De ∷ []) start) memory sound
-    (halves (wrap (word (high_byte (wrap (word (high_byte (wrap (word start.h start.l + n))) (low_byte (wrap (word start.h start.l + n))) + n)))
+    (word_of_bytes (wrap (word (high_byte (wrap (word (high_byte (wrap (word start.h start.l + n))) (low_byte (wrap (word start.h start.l + n))) + n)))
     (low_byte (wrap (word (high_byte (wrap (word start.h start.l + n))) (low_byte (wrap (word start.h start.l + n))) + n))) + n))
-    ∙ ap (λ (x : ℕ). wrap (x + n)) (halves (wrap (word (high_byte (wrap (word start.h start.l + n))) (low_byte (wrap (word start.h start.l + n))) + n))
-    ∙ ap (λ (x : ℕ). wrap (x + n)) (halves (wrap (word start.h start.l + n))
-    ∙ ap (λ (x : ℕ). wrap (x + n)) (halves (wrap place))))
+    ∙ ap (λ (x : ℕ). wrap (x + n)) (word_of_bytes (wrap (word (high_byte (wrap (word start.h start.l + n))) (low_byte (wrap (word start.h start.l + n))) + n))
+    ∙ ap (λ (x : ℕ). wrap (x + n)) (word_of_bytes (wrap (word start.h start.l + n))
+    ∙ ap (λ (x : ℕ). wrap (x + n)) (word_of_bytes (wrap place))))
     ∙ three_times place n
     ∙ ap (λ (x : ℕ). wrap (place + 3 * x)) de)
     steps_left added

@@ -1,5 +1,5 @@
 -- Code of CALL MOVE does what it says.
-use Rattle.statement_laws.proofs.Prelude.{◌≡◌, ℕ, ◌+◌, ◌-◌, ◌*◌, ◌/◌, ◌%◌, ◌<◌, ◌≤◌, min, max, Bool, true, false, if◌then◌else◌, List, [], ◌∷◌, ◌++◌, map, slice_get, Option, Some, None, refl, sym, ap, subst, ◌∙◌, arith, same_Some, ScalarType, Address, height_of, height_of_statement, type_of, TypedExpression, TypedStatement, MoveStatement, HasType, TypesHoldIn, done, moved, SourceState, Outcome, Gave, then_do, Flow, Onward, values_of, Pop, Push, Xchg, Bc, De, StackBc, StackDe, StackHl, Registers, State, high_byte, low_byte, with_popped, word, wrap, LoadPair, Move, ExpressionNumber, Place, Statement, StatementNumber, IsExpressionIn, IsMove, IsStatementForm, IsStatementNode, pushed_word, Does, at_place, gives, place_at, Facts, Step, Site, keeps, known, expression, knowing, Planned, ends_steps, move_steps, Here, statement_steps, Context, IsSound, nodes_in, PartThere, PlainThere, WordThere, NoneThere, WordIsGiven, known_small, ready_with_registers, word_goes, known_means, value_in, Stage, at_instructions, at_pop, at_push, at_word, does_same, script_of, BodyContext, IsSoundBody, Leaves, StatementDoes, StatementStands, word_from_halves}
+use Rattle.statement_laws.proofs.Prelude.{◌≡◌, ℕ, ◌+◌, ◌-◌, ◌*◌, ◌/◌, ◌%◌, ◌<◌, ◌≤◌, min, max, Bool, true, false, if◌then◌else◌, List, [], ◌∷◌, ◌++◌, map, slice_get, Option, Some, None, refl, sym, ap, subst, ◌∙◌, arith, same_Some, ScalarType, Address, height_of, height_of_statement, type_of, TypedExpression, TypedStatement, MoveStatement, HasType, TypesHoldIn, done, moved, SourceState, Outcome, Gave, then_do, Flow, Onward, values_of, Pop, Push, Xchg, Bc, De, StackBc, StackDe, StackHl, Registers, State, high_byte, low_byte, with_popped, word, wrap, LoadPair, Move, ExpressionNumber, Place, Statement, StatementNumber, IsExpressionIn, IsMove, IsStatementForm, IsStatementNode, pushed_word, Does, at_place, gives, place_at, Facts, Step, Site, keeps, known, expression, knowing, Planned, ends_steps, move_steps, Here, statement_steps, Context, IsSound, nodes_in, PartThere, PlainThere, WordThere, NoneThere, WordIsGiven, known_small, ready_with_registers, word_goes, known_means, value_in, Stage, at_instructions, at_pop, at_push, at_word, does_same, script_of, BodyContext, IsSoundBody, Leaves, StatementDoes, StatementStands, word_from_halves, low_byte_small}
 use Rattle.treecode.specs.declared.statement.Statement.TheVariants as statements
 use Rattle.steps8080.specs.declared.step.Step.TheVariants as steps
 use Rattle.steps8080.specs.declared.step.Task.TheVariants as tasks
@@ -140,9 +140,6 @@ pop_bc value sound small enough start (PlainThere there rest) stage next =
 known_word : (n : ℕ) → n < 65536 → high_byte n < 256
 known_word n small = omega (arith, small)
 
-low_is_byte : (n : ℕ) → low_byte n < 256
-low_is_byte n = omega arith
-
 -- a known word comes into DE
 de_loaded :
     {A : Type 0} {context : Context} {top pushed need from to : ℕ} {base : List ℕ} {t : SourceState} {facts last : Facts}
@@ -165,7 +162,7 @@ de_loaded {context = context} {r = r} {memory = memory} place sound small (WordT
       below = stage.below;
       room = stage.room;
       ready = ready_with_registers refl
-          (record { a = held.a; b = held.b; c = held.c; d = known_word number small; e = low_is_byte number; h = held.h; l = held.l }) stage.ready;
+          (record { a = held.a; b = held.b; c = held.c; d = known_word number small; e = low_byte_small number; h = held.h; l = held.l }) stage.ready;
       known = known;
     }))
 
@@ -192,7 +189,7 @@ bc_loaded {context = context} {r = r} {memory = memory} place sound small (WordT
       below = stage.below;
       room = stage.room;
       ready = ready_with_registers refl
-          (record { a = held.a; b = known_word number small; c = low_is_byte number; d = held.d; e = held.e; h = held.h; l = held.l }) stage.ready;
+          (record { a = held.a; b = known_word number small; c = low_byte_small number; d = held.d; e = held.e; h = held.h; l = held.l }) stage.ready;
       known = known;
     }))
 

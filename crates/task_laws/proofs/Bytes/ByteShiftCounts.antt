@@ -1,5 +1,5 @@
 -- Shifts and rotations of a BYTE by a count that is not known: by routines.
-use Rattle.task_laws.proofs.Prelude.{◌≡◌, ℕ, ◌+◌, ◌*◌, ◌/◌, ◌%◌, ◌<◌, ◌≤◌, ◌&&◌, ◌||◌, Bool, true, false, List, [], ◌∷◌, ◌++◌, Option, Some, None, is_some, refl, sym, ap, ◌∙◌, subst, arith, if◌then◌else◌, and_parts, false≢true, byte_at, ScalarType, ShiftFunction, RotateLeft, RotateRight, ShiftLeft, ShiftRight, height_of, type_of, TypedExpression, ShiftNode, ShiftsIn, SourceState, Gave, shifted, values_of, Pop, Push, A, E, Psw, flag_byte, Registers, with_popped, word, wrap, ExpressionNumber, Place, Reference, Arrives, Does, at_place, Facts, CallRoutine, Plain, copy, load, part, is_free, known, may_exchange, operand_in_memory, byte_routine, count_in_memory_steps, operands_steps, knowing, Context, IsSound, StepsStand, PartThere, PlainThere, ByteIsGiven, PartDoes, low_of_byte}
+use Rattle.task_laws.proofs.Prelude.{◌≡◌, ℕ, ◌+◌, ◌*◌, ◌%◌, ◌<◌, ◌≤◌, ◌&&◌, ◌||◌, Bool, true, false, List, [], ◌∷◌, ◌++◌, Option, Some, None, is_some, refl, sym, ap, ◌∙◌, subst, arith, if◌then◌else◌, and_parts, false≢true, byte_at, ScalarType, ShiftFunction, RotateLeft, RotateRight, ShiftLeft, ShiftRight, height_of, type_of, TypedExpression, ShiftNode, ShiftsIn, SourceState, Gave, shifted, values_of, Pop, Push, A, E, Psw, flag_byte, Registers, with_popped, word, wrap, ExpressionNumber, Place, Reference, Arrives, Does, at_place, Facts, CallRoutine, Plain, copy, load, part, is_free, known, may_exchange, operand_in_memory, byte_routine, count_in_memory_steps, operands_steps, knowing, Context, IsSound, StepsStand, PartThere, PlainThere, ByteIsGiven, PartDoes, low_of_byte, flag_byte_small, high_of_pair}
 use Rattle.trees.specs.declared.declaration.ScalarType.TheVariants as scalars
 use Rattle.runtime8080.specs.declared.routine.Routine.TheVariants as routines
 use Rattle.steps8080.specs.declared.step.Task.TheVariants as tasks
@@ -12,7 +12,7 @@ use Rattle.task_laws.proofs.Machine.KnownOperands.{shift_fits}
 use Rattle.task_laws.proofs.Words.Pairs.{IsOperand}
 use Rattle.task_laws.proofs.Machine.RoutineCalls.{routine_then}
 use Rattle.task_laws.proofs.Machine.SiteNodes.{does_exchanged, free_is}
-use Rattle.task_laws.proofs.Machine.Stages.{Stage, at_byte, at_carried, at_end, at_pop, at_push, at_registers, flag_byte_is_small, pushed_is_small, script_of}
+use Rattle.task_laws.proofs.Machine.Stages.{Stage, at_byte, at_carried, at_end, at_pop, at_push, at_registers, pushed_is_small, script_of}
 use Rattle.task_laws.proofs.Numbers.{equals_byte}
 use Rattle.task_laws.proofs.Heights.{some_height}
 
@@ -78,9 +78,6 @@ routine_ends {r = r} RotateRight v k number sound in_type not_free two small a e
     (λ now ended rest going computes leaves.
     routine_done RotateRight v k number r in_type not_free small a e computes rest
     (record { below = stage.below; room = stage.room; ready = going.ready; known = going.known }))
-
-high_of_pair : (high low : ℕ) → low < 256 → (256 * high + low) / 256 ≡ high
-high_of_pair high low small = omega (arith, small)
 
 as_byte : (scalar : ScalarType) (v : ℕ) → scalar ≡ scalars.Byte → v < values_of scalar → v < 256
 as_byte scalar v same small = subst (λ (of : ScalarType). v < values_of of) same small
@@ -164,7 +161,7 @@ module _
       at_byte _ _ _ does one.is one.types (omega arith) (record { below = below; room = room; ready = ready; known = known_before })
       (λ v u now memory_now is given next.
       let held = next.ready.registers in
-      let flags_small = flag_byte_is_small now.flags in
+      let flags_small = flag_byte_small now.flags in
       let small : v < 256 = as_byte (type_of first) v is_byte given.small in
       at_push (word now.a (flag_byte now.flags)) refl sound (omega (arith, some)) next pushes
       (λ pushed_stage.

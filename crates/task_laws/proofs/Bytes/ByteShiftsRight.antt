@@ -1,5 +1,5 @@
 -- The low byte of any value shifted right by a number.
-use Rattle.task_laws.proofs.Prelude.{◌≡◌, ℕ, zero, suc, ◌+◌, ◌-◌, ◌*◌, ◌/◌, ◌%◌, ◌^◌, ◌<◌, ◌≤◌, ◌==◌, Bool, true, false, nat_le, List, [], ◌∷◌, ◌++◌, replicate, pow-add, refl, sym, ap, ◌∙◌, subst, arith, if◌then◌else◌, eqb-true, eqb-false, leb-true, leb-false, false≢true, div-div-eq-div-mul, div-eq_of_lt, pow-le-pow_right, ScalarType, type_of, TypedExpression, values_of, Instr, Dad, Rar, Or, Hl, A, H, L, bit, Registers, ExpressionNumber, Facts, Plain, clear_a, copy, with_register, part, plain, repeat_steps, is_free, fits_byte, byte_shifted_right_steps, low_byte_shifted_right_steps, middle_byte_steps, right_shift_steps, zero_steps, knowing, high_byte_steps, Context, IsSound, StepsStand, PartDoes, halves_joined, high_is_byte, value_is_word}
+use Rattle.task_laws.proofs.Prelude.{◌≡◌, ℕ, zero, suc, ◌+◌, ◌-◌, ◌*◌, ◌/◌, ◌%◌, ◌^◌, ◌<◌, ◌≤◌, ◌==◌, Bool, true, false, nat_le, List, [], ◌∷◌, ◌++◌, replicate, pow-add, refl, sym, ap, ◌∙◌, subst, arith, if◌then◌else◌, eqb-true, eqb-false, leb-true, leb-false, false≢true, div-div-eq-div-mul, ScalarType, type_of, TypedExpression, values_of, Instr, Dad, Rar, Or, Hl, A, H, L, bit, Registers, ExpressionNumber, Facts, Plain, clear_a, copy, with_register, part, plain, repeat_steps, is_free, fits_byte, byte_shifted_right_steps, low_byte_shifted_right_steps, middle_byte_steps, right_shift_steps, zero_steps, knowing, high_byte_steps, Context, IsSound, StepsStand, PartDoes, halves_joined, high_is_byte, value_is_word, none_left}
 use Rattle.trees.specs.declared.declaration.ScalarType.TheVariants as scalars
 use Rattle.steps8080.specs.declared.step.Task.TheVariants as tasks
 use Rattle.task_laws.proofs.Bytes.ByteCode.{ByteCarried, OfOne, all_straight, at_last_instructions, beside_itself, byte_makes, byte_of_word}
@@ -19,11 +19,6 @@ by_high v count most =
     div-div-eq-div-mul v 256 (2 ^ (count - 8))
     ∙ ap (λ p. v / p) (sym (pow-add 2 8 (count - 8)))
     ∙ ap (λ n. v / 2 ^ n) (omega (arith, most))
-
-past_word : (v count : ℕ) → 16 ≤ count → v < 65536 → v / 2 ^ count ≡ 0
-past_word v count most small =
-    let more : 2 ^ 16 ≤ 2 ^ count = pow-le-pow_right (omega arith) most in
-    div-eq_of_lt (omega (arith, more, small))
 
 first_half : (v h l : ℕ) → h ≡ v / 256 → l ≡ v % 256 → l / 2 + 128 * (h % 2) ≡ v / 2 % 256
 first_half v h l one two = omega (arith, one, two)
@@ -174,7 +169,7 @@ module _
           → ByteCarried context facts number tree pushed from last to
       by_word true is wide given =
           zero_after context sound one
-          (λ v fits. sym (ap (λ n. n % 256) (past_word v count (leb-true 16 count is) (value_is_word (type_of inside) v fits)))) given
+          (λ v fits. sym (ap (λ n. n % 256) (none_left v count (leb-true 16 count is) (value_is_word (type_of inside) v fits)))) given
       by_word false is wide given = by_byte (nat_le 8 count) refl wide given is
 
       by_fits : (fits : Bool) → fits_byte (knowing context.site facts) inner ≡ fits

@@ -1,10 +1,10 @@
 -- The high byte of a value is put into A.
-use Rattle.task_laws.proofs.Prelude.{◌≡◌, ℕ, ◌+◌, ◌*◌, ◌/◌, ◌%◌, ◌<◌, ◌≤◌, ◌&&◌, Bool, true, List, [], ◌∷◌, Option, Some, None, refl, sym, ap, ◌∙◌, subst, arith, MEMORY_SIZE, byte_at, byte_small, Address, height_of_reference, InData, InConstants, Placed, BasedOn, Elsewhere, Nowhere, InFrame, PartOf, TypedReference, RefersToScalar, TypesHoldInReference, InMemory, InTheFrame, SourcePlace, Surroundings, home_of, next_place, place_of, read_scalar, Displacement, based_place, displacement, SourceState, Ended, More, Outside, Outcome, Gave, Stopped, then_do, Registers, State, wrap, Location, Reference, IsReference, is_static_location, Activation, Arrives, HasRoom, Does, Lands, at_place, gives, told_on, IsSteady, location_at, Facts, Plain, load, part, location_of, reference_after, byte_in_memory_steps, location_byte_steps, knowing, Context, IsSound, distances_in, nodes_in, StepsStand, PartThere, AddressIsGiven, Carries, ChangesAOnly, IsReferred, Know, Nothing, PartDoes, address_on_machine, high_of_two, same_Some, two_bytes_fit}
+use Rattle.task_laws.proofs.Prelude.{◌≡◌, ℕ, ◌+◌, ◌*◌, ◌/◌, ◌%◌, ◌<◌, ◌≤◌, ◌&&◌, Bool, true, List, [], ◌∷◌, Option, Some, None, refl, sym, ap, ◌∙◌, subst, arith, MEMORY_SIZE, byte_at, byte_small, Address, height_of_reference, InData, InConstants, Placed, BasedOn, Elsewhere, Nowhere, InFrame, PartOf, TypedReference, RefersToScalar, TypesHoldInReference, InMemory, InTheFrame, SourcePlace, Surroundings, home_of, next_place, place_of, read_scalar, Displacement, based_place, displacement, SourceState, Ended, More, Outside, Outcome, Gave, Stopped, then_do, Registers, State, wrap, Location, Reference, IsReference, is_static_location, Activation, Arrives, HasRoom, Does, Lands, at_place, gives, told_on, IsSteady, location_at, Facts, Plain, load, part, location_of, reference_after, byte_in_memory_steps, location_byte_steps, knowing, Context, IsSound, distances_in, nodes_in, StepsStand, PartThere, AddressIsGiven, Carries, ChangesAOnly, IsReferred, Know, Nothing, PartDoes, address_on_machine, high_of_two, same_Some, two_bytes_fit, given_again}
 use Rattle.typed_trees.specs.TypedTrees.{Home}
 use Rattle.isa8080.specs.declared.instr.Register.TheVariants as registers
 use Rattle.steps8080.specs.declared.step.Task.TheVariants as tasks
 use Rattle.task_laws.proofs.Places.Fitting.{located_fits, refers_is_referred}
-use Rattle.task_laws.proofs.Loads.Loads.{LiesThere, given_last, lies_there, static_only}
+use Rattle.task_laws.proofs.Loads.Loads.{LiesThere, lies_there, static_only}
 use Rattle.task_laws.proofs.Places.Located.{located_in}
 use Rattle.task_laws.proofs.Places.LocationBytes.{load_a_goes, location_byte_goes}
 use Rattle.task_laws.proofs.Stores.NextBytes.{next_part, reference_next}
@@ -216,7 +216,7 @@ high_in_memory_law {context = context} {facts = facts} {last = last} {reference 
             (Arrives context.activation top base to (HighIsLoaded context facts last reference r memory))) (sym state_is)
             (subst (λ (given : Outcome ℕ). Does context.activation.around.program.script s.budget 0 (at_place from r memory s.events) given
             (Arrives context.activation top base to (HighIsLoaded context facts last reference r memory)))
-            (given_last (read_scalar context.activation.around.program Address place s))
+            (given_again (read_scalar context.activation.around.program Address place s))
             (word_read place s (λ n u. Gave n u) sound ready fits
             (λ low_steady high_steady.
             let steady = subst (λ (n : ℕ). IsSteady context.activation n) is_at high_steady in
@@ -243,7 +243,7 @@ high_in_memory_law {context = context} {facts = facts} {last = last} {reference 
         (Arrives context.activation top base to (HighIsLoaded context facts last reference r memory))) (sym given.is_at)
         (subst (λ (outcome : Outcome ℕ). Does context.activation.around.program.script t.budget 0 (at_place middle there ended t.events) outcome
         (Arrives context.activation top base to (HighIsLoaded context facts last reference r memory)))
-        (given_last (read_scalar context.activation.around.program Address place t))
+        (given_again (read_scalar context.activation.around.program Address place t))
         (word_read place t (λ n u. Gave n u) sound given.ready fits
         (λ low_steady high_steady.
         load_a_goes (wrap (address_on_machine context.activation place + 1)) there sound high_steady hl stand

@@ -1,5 +1,5 @@
 -- The low byte of values that are computed through HL, of calls and of ports.
-use Rattle.task_laws.proofs.Prelude.{◌≡◌, ℕ, ◌*◌, ◌%◌, ◌<◌, true, List, [], ◌∷◌, ◌++◌, Some, refl, sym, subst, arith, ScalarType, height_of, type_of, CallNode, InputNode, TypedArguments, TypedExpression, Takes, TypesHold, TypesHoldInArguments, SourceState, Outcome, Gave, values_of, In, A, L, Registers, State, ExpressionNumber, Range, AreArguments, IsExpression, Arrives, IsReady, Does, at_place, gives, Facts, Plain, copy, is_free, low_of_value_steps, call_steps, knowing, low_of_word_steps, Context, InRegister, IsSound, nodes_in, StepsStand, PlainThere, ByteIsGiven, Know, PartDoes, byte_as_low}
+use Rattle.task_laws.proofs.Prelude.{◌≡◌, ℕ, ◌*◌, ◌%◌, true, List, [], ◌∷◌, ◌++◌, Some, refl, sym, subst, arith, ScalarType, height_of, type_of, CallNode, InputNode, TypedArguments, TypedExpression, Takes, TypesHold, TypesHoldInArguments, SourceState, Outcome, Gave, values_of, In, A, L, Registers, State, ExpressionNumber, Range, AreArguments, IsExpression, Arrives, IsReady, Does, at_place, gives, Facts, Plain, copy, is_free, low_of_value_steps, call_steps, knowing, low_of_word_steps, Context, InRegister, IsSound, nodes_in, StepsStand, PlainThere, ByteIsGiven, Know, PartDoes, byte_as_low, byte_is_low}
 use Rattle.trees.specs.declared.declaration.ScalarType.TheVariants as scalars
 use Rattle.task_laws.proofs.Branches.Branches.{given_itself}
 use Rattle.task_laws.proofs.Bytes.ByteCode.{ByteCarried, OfOne, at_last_instructions, byte_of_word, with_outcome}
@@ -84,11 +84,8 @@ input_law {to = to} number port pushed sound (PlainThere there rest) top base s 
     (λ small next.
     at_end rest next
     (λ final.
-    byte_given to number _ (byte_itself _ small) small
+    byte_given to number _ (byte_is_low _ small) small
     (λ free. record { b = refl; c = refl; d = refl; e = refl; h = refl; l = refl; same_memory = refl }) final))
-  where
-    byte_itself : (n : ℕ) → n < 256 → n ≡ n % 256
-    byte_itself n small = omega (arith, small)
 
 -- the low byte of a value that is in A or HL, by its type
 low_of_value :

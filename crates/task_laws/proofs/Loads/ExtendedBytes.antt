@@ -1,5 +1,5 @@
 -- Bytes in memory that are put into HL, zero-extended.
-use Rattle.task_laws.proofs.Prelude.{◌≡◌, ℕ, ◌+◌, ◌*◌, ◌%◌, ◌<◌, ◌==◌, ◌&&◌, ◌⊎◌, inl, inr, Bool, true, false, if◌then◌else◌, List, [], ◌∷◌, ◌++◌, Option, Some, None, refl, sym, ap, ◌∙◌, subst, arith, option_map_or, eqb-true, MEMORY_SIZE, byte_at, word_at, byte_small, Event, ScalarType, Address, Byte, height_of_reference, type_of, TypedHome, InData, InConstants, Placed, BasedOn, Elsewhere, Nowhere, InFrame, PartOf, TypedExpression, TypedReference, TypesHold, SourcePlace, InMemory, home_of, place_of, read_scalar, based_place, displacement, SourceState, Outcome, Gave, then_do, values_of, Instr, H, L, Registers, State, high_byte, low_byte, word, wrap, LoadHl, ExpressionForm, ExpressionNumber, Location, Place, Reference, Keeps, IsExpression, IsForm, IsNumber, IsValue, IsLocation, IsConstantList, IsConversion, IsEmbedded, IsUnary, IsBinary, IsCallOf, IsFunction, IsShift, IsInput, keeps_none, keeps_of_form, memory_of_form, Does, at_place, Arrives, HasRoom, plain_first, location_at, place_at, without_hl_holds, address_in_hl_is, byte_in_a_is, byte_in_h_is, word_in_hl_is, GoesOutside, Facts, Part, Step, Plain, Word, before, is_at, copy, load, set, part_of, plain, keeps, keeps_at_site, location_of, memory_of, distance, location_address_steps, byte_to_l_steps, extended_byte_in_memory_steps, frame_byte_to_l_steps, top_word_steps, knowing, Context, IsSound, distances_in, nodes_in, StepsStand, NoneThere, PartThere, PlainThere, WordThere, Know, PartDoes, WordIsGiven, address_on_machine, same_given}
+use Rattle.task_laws.proofs.Prelude.{◌≡◌, ℕ, ◌+◌, ◌*◌, ◌%◌, ◌<◌, ◌==◌, ◌&&◌, ◌⊎◌, inl, inr, Bool, true, false, if◌then◌else◌, List, [], ◌∷◌, ◌++◌, Option, Some, None, refl, sym, ap, ◌∙◌, subst, arith, option_map_or, eqb-true, MEMORY_SIZE, byte_at, word_at, byte_small, Event, ScalarType, Address, Byte, height_of_reference, type_of, TypedHome, InData, InConstants, Placed, BasedOn, Elsewhere, Nowhere, InFrame, PartOf, TypedExpression, TypedReference, TypesHold, SourcePlace, InMemory, home_of, place_of, read_scalar, based_place, displacement, SourceState, Outcome, Gave, then_do, values_of, Instr, H, L, Registers, State, high_byte, low_byte, word, wrap, LoadHl, ExpressionForm, ExpressionNumber, Location, Place, Reference, Keeps, IsExpression, IsForm, IsNumber, IsValue, IsLocation, IsConstantList, IsConversion, IsEmbedded, IsUnary, IsBinary, IsCallOf, IsFunction, IsShift, IsInput, keeps_none, keeps_of_form, memory_of_form, Does, at_place, Arrives, HasRoom, plain_first, location_at, place_at, without_hl_holds, address_in_hl_is, byte_in_a_is, byte_in_h_is, word_in_hl_is, GoesOutside, Facts, Part, Step, Plain, Word, before, is_at, copy, load, set, part_of, plain, keeps, keeps_at_site, location_of, memory_of, distance, location_address_steps, byte_to_l_steps, extended_byte_in_memory_steps, frame_byte_to_l_steps, top_word_steps, knowing, Context, IsSound, distances_in, nodes_in, StepsStand, NoneThere, PartThere, PlainThere, WordThere, Know, PartDoes, WordIsGiven, address_on_machine, same_given, remainder_in_memory}
 use Rattle.isa8080.specs.declared.instr.Register.TheVariants as registers
 use Rattle.treecode.specs.declared.expression.ExpressionForm.TheVariants as forms
 use Rattle.treecode.specs.declared.place.Location.TheVariants as locations
@@ -288,10 +288,7 @@ based_small context home object bytes is_inside place s u same = by home same
   where
     in_memory : (address : ℕ) → InMemory (address % MEMORY_SIZE) ≡ place → address_on_machine context.activation place < MEMORY_SIZE
     in_memory address is_there =
-        subst (λ (p : SourcePlace). address_on_machine context.activation p < MEMORY_SIZE) is_there (wrapped address)
-      where
-        wrapped : (n : ℕ) → n % MEMORY_SIZE < MEMORY_SIZE
-        wrapped n = omega arith
+        subst (λ (p : SourcePlace). address_on_machine context.activation p < MEMORY_SIZE) is_there (remainder_in_memory address)
 
     by : (kind : TypedHome) → based_place kind context.activation.around object bytes is_inside s ≡ Gave place u
         → address_on_machine context.activation place < MEMORY_SIZE

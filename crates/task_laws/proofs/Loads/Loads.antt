@@ -1,5 +1,5 @@
 -- The code of values in memory.
-use Rattle.task_laws.proofs.Prelude.{◌≡◌, ℕ, ◌&&◌, ◌+◌, ◌*◌, ◌/◌, ◌%◌, ◌<◌, Bool, true, List, ◌∷◌, Option, Some, None, refl, sym, ap, subst, ◌∙◌, arith, IsSomeAnd, slice_get, byte_at, byte_small, Address, height_of_reference, PartOf, Subscript, TypedObject, TypedReference, IsSeen, RefersToScalar, TypesHoldInReference, SourcePlace, InMemory, InTheFrame, home_of, read_scalar, Displacement, based_place, displacement, SourceState, Outcome, Gave, Stopped, then_do, Registers, State, wrap, Location, Reference, IndexNode, IsPart, IsReference, home, is_static_location, Does, at_place, Arrives, gives, IsSteady, location_at, place_at, Facts, part, Base, base_after, base_of, keeps_of_address, location_of, base_location, located_at, location_word_steps, word_at_hl_steps, word_in_memory_steps, knowing, Context, IsSound, distances_in, nodes_in, StepsStand, PartThere, Carries, IsReferred, Know, Left, Nothing, PartDoes, address_on_machine, none-some, same_Some, two_bytes_fit}
+use Rattle.task_laws.proofs.Prelude.{◌≡◌, ℕ, ◌&&◌, ◌+◌, ◌*◌, ◌/◌, ◌%◌, ◌<◌, Bool, true, List, ◌∷◌, Option, Some, None, refl, sym, ap, subst, ◌∙◌, arith, IsSomeAnd, slice_get, byte_at, byte_small, Address, height_of_reference, PartOf, Subscript, TypedObject, TypedReference, IsSeen, RefersToScalar, TypesHoldInReference, SourcePlace, InMemory, InTheFrame, home_of, read_scalar, Displacement, based_place, displacement, SourceState, Outcome, Gave, then_do, Registers, State, wrap, Location, Reference, IndexNode, IsPart, IsReference, home, is_static_location, Does, at_place, Arrives, gives, IsSteady, location_at, place_at, Facts, part, Base, base_after, base_of, keeps_of_address, location_of, base_location, located_at, location_word_steps, word_at_hl_steps, word_in_memory_steps, knowing, Context, IsSound, distances_in, nodes_in, StepsStand, PartThere, Carries, IsReferred, Know, Left, Nothing, PartDoes, address_on_machine, none-some, same_Some, two_bytes_fit, given_again}
 use Rattle.steps8080.specs.declared.step.Task.TheVariants as tasks
 use Rattle.steps8080.specs.declared.sites.queries.Base.TheVariants as bases
 use Rattle.steps8080.specs.Queries.{located}
@@ -109,11 +109,6 @@ lies_there facts location sound
     lies_by_split object offset first second subscript member_subscript member _ _ _ _ location sound referred
     (is_split facts sound one types.0) (is_split facts sound two types.1) same
 
--- the value at the end is passed on
-pub given_last : {A : Type 0} (outcome : Outcome A) → then_do outcome (λ found t. Gave found t) ≡ outcome
-given_last (Gave found t) = refl
-given_last (Stopped why t) = refl
-
 -- a word of memory is in HL
 pub record WordIsLoaded
     (context : Context) (before after : Facts) (reference : Reference)
@@ -168,7 +163,7 @@ word_in_memory_law {context = context} {facts = facts} {last = last} {reference 
         let high_small = byte_small memory (wrap (address + 1)) ready.shares.is_memory in
         subst (λ (outcome : Outcome ℕ). Does context.activation.around.program.script s.budget 0 (at_place from r memory s.events) outcome
         (Arrives context.activation top base to (WordIsLoaded context facts last reference r memory)))
-        (given_last (read_scalar context.activation.around.program Address lies.place s)
+        (given_again (read_scalar context.activation.around.program Address lies.place s)
         ∙ sym (ap (λ (outcome : Outcome SourcePlace). then_do outcome (λ place t. read_scalar context.activation.around.program Address place t)) (lies.means s)))
         (word_read lies.place s (λ n t. Gave n t) sound ready (located_fits context Address tree lies.place s s sound refers (lies.means s))
         (λ steady next.
@@ -207,7 +202,7 @@ word_in_memory_law {context = context} {facts = facts} {last = last} {reference 
         (Arrives context.activation top base to (WordIsLoaded context facts last reference r memory))) (sym given.is_at)
         (subst (λ (outcome : Outcome ℕ). Does context.activation.around.program.script t.budget 0 (at_place middle there ended t.events) outcome
         (Arrives context.activation top base to (WordIsLoaded context facts last reference r memory)))
-        (given_last (read_scalar context.activation.around.program Address place t))
+        (given_again (read_scalar context.activation.around.program Address place t))
         (word_read place t (λ n u. Gave n u) sound given.ready (located_fits context Address tree place s t sound refers same)
         (λ steady next.
         word_at_hl_goes address there sound steady (given.holds).hl stand (record { ready = given.ready; known = (given.holds).known })

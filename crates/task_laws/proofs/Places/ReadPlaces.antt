@@ -1,5 +1,5 @@
 -- Reads at places, on both sides: the bytes of the machine's memory, or the read goes outside the language.
-use Rattle.task_laws.proofs.Prelude.{◌≡◌, ℕ, ◌+◌, ◌*◌, ◌/◌, ◌%◌, ◌<◌, ◌≤◌, ◌⊎◌, inl, inr, Bool, true, false, if◌then◌else◌, List, refl, sym, ap, ◌∙◌, arith, byte_at, byte_small, ScalarType, Byte, Address, size_of_scalar, UndeclaredByte, SourceState, Ended, More, Outside, Outcome, Gave, Stopped, then_do, InMemory, InTheFrame, is_declared, next_place, read_byte, read_scalar, values_of, Registers, State, wrap, Does, IsReady, IsSteady, declared_is_steady, GoesOutside, Context, IsSound, address_on_machine, high_of_two, low_of_two, two_bytes_fit}
+use Rattle.task_laws.proofs.Prelude.{◌≡◌, ℕ, ◌+◌, ◌*◌, ◌/◌, ◌%◌, ◌<◌, ◌≤◌, ◌⊎◌, inl, inr, Bool, true, false, if◌then◌else◌, List, refl, sym, ap, ◌∙◌, arith, byte_at, byte_small, ScalarType, Byte, Address, size_of_scalar, UndeclaredByte, SourceState, Ended, More, Outside, Outcome, Gave, Stopped, then_do, InMemory, InTheFrame, is_declared, next_place, read_byte, read_scalar, values_of, Registers, State, wrap, Does, IsReady, IsSteady, declared_is_steady, GoesOutside, Context, IsSound, address_on_machine, high_of_two, low_of_two, two_bytes_fit, byte_is_low}
 use Rattle.meaning.specs.Access.{Place}
 use Rattle.task_laws.proofs.Places.Reading.{FitsIn, frame_is, of_frame}
 use Rattle.task_laws.proofs.Stores.WordWriting.{first_fits, second_fits}
@@ -74,9 +74,6 @@ byte_found {context = context} {memory = memory} (InTheFrame object offset true)
       ap (λ (n : ℕ). Gave n t) (sym (ap (byte_at memory) is ∙ ready.frame_lies.bytes object offset less)),
     )
 byte_found (InTheFrame object offset false) t sound ready fits = inr tt
-
-itself : (n : ℕ) → n < 256 → n ≡ n % 256
-itself n small = omega (arith, small)
 
 -- an ADDRESS that is read; both its bytes are steady
 pub record WordIsAt
@@ -161,7 +158,7 @@ scalar_found {context = context} {memory = memory} Byte place t sound ready fits
     by (inr outside) = inr outside
     by (inl first) =
         let small = byte_small memory here ready.shares.is_memory in
-        inl (record { found = byte_at memory here; is = first.1; low = itself (byte_at memory here) small; small = small; steady = first.0 })
+        inl (record { found = byte_at memory here; is = first.1; low = byte_is_low (byte_at memory here) small; small = small; steady = first.0 })
 scalar_found {context = context} {memory = memory} Address place t sound ready fits =
     by (word_found place t sound ready fits)
   where

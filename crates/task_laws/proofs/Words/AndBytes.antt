@@ -1,12 +1,11 @@
 -- AND of two ADDRESSes, one of them below 256: the result fits a byte.
-use Rattle.task_laws.proofs.Prelude.{◌≡◌, ℕ, ◌+◌, ◌*◌, ◌<◌, ◌≤◌, ◌⊎◌, inl, inr, max, true, false, List, ◌++◌, Option, Some, None, option_map, length, bit_and, refl, ap, subst, arith, slice_get_past, and_le_l, and_le_r, Address, height_of, BinaryNode, TypedExpression, SourceState, Gave, then_do, And, Registers, Expression, ExpressionNumber, IsExpression, IsNode, keeps_none, Does, at_place, Arrives, HasRoom, Facts, low, extension_steps, expression, is_free, keeps, number_of, fits_byte, low_number, Operands, knowing, byte_operation_steps, form_of, from_number_steps, in_form_steps, with_number_steps, is_of_bytes, Context, IsSound, nodes_in, StepsStand, ByteIsGiven, PartDoes, WordIsGiven, or_cases, same_given}
+use Rattle.task_laws.proofs.Prelude.{◌≡◌, ℕ, ◌+◌, ◌*◌, ◌<◌, ◌≤◌, ◌⊎◌, inl, inr, max, true, false, List, ◌++◌, Option, Some, None, option_map, length, bit_and, refl, ap, subst, arith, slice_get_past, and_le_l, and_le_r, Address, height_of, BinaryNode, TypedExpression, SourceState, Gave, then_do, And, Registers, Expression, ExpressionNumber, IsExpression, IsNode, keeps_none, Does, at_place, Arrives, HasRoom, Facts, low, extension_steps, expression, is_free, keeps, number_of, fits_byte, low_number, Operands, knowing, byte_operation_steps, form_of, from_number_steps, in_form_steps, with_number_steps, is_of_bytes, Context, IsSound, nodes_in, StepsStand, ByteIsGiven, PartDoes, WordIsGiven, or_cases, same_given, given_again}
 use Rattle.trees.specs.declared.expression.BinaryOperator.TheVariants as operators
 use Rattle.task_laws.proofs.Words.AndNumbers.{extended_then}
 use Rattle.task_laws.proofs.Bytes.BytesAsked.{BytesAsked}
 use Rattle.task_laws.proofs.Places.Fitting.{gave_first}
 use Rattle.task_laws.proofs.Words.LogicPairs.{LogicGiven}
 use Rattle.task_laws.proofs.Ranges.Ranges.{bytes_fit_after, fits_means, ready_fits}
-use Rattle.task_laws.proofs.Loads.Loads.{given_last}
 use Rattle.task_laws.proofs.Machine.Rules.{GoesOn, Parted, split}
 use Rattle.task_laws.proofs.Machine.SiteNodes.{value_in}
 use Rattle.task_laws.proofs.Machine.Stages.{at_carried, script_of}
@@ -68,7 +67,7 @@ unfolding byte_operation_steps low_number is_of_bytes
 of_bytes_does {context = context} {pushed = pushed} {top = top} {need = need} {to = to} {base = base} {facts = facts} {last = last} {first = first} {second = second} operands number from s r memory sound asked words bytes right_none left_none none less room height stand going =
     subst (λ outcome. Does (script_of context) s.budget 0 (at_place from r memory s.events) outcome
     (Arrives context.activation top base to (WordIsGiven context last number Address r memory)))
-    (given_last (value_in context (BinaryNode Address operators.And first second) s))
+    (given_again (value_in context (BinaryNode Address operators.And first second) s))
     (at_carried from parts.middle parts.found
     (two_bytes context facts parts.found from parts.middle pushed (max words.one.bound words.two.bound) (no_expression context)
     operands.left operands.right Address first second And (BinaryNode Address operators.And first second) asked sound

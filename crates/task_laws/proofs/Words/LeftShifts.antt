@@ -1,5 +1,5 @@
 -- Shifts of an ADDRESS left by a number.
-use Rattle.task_laws.proofs.Prelude.{◌≡◌, ℕ, ◌+◌, ◌-◌, ◌*◌, ◌/◌, ◌%◌, ◌^◌, ◌<◌, ◌≤◌, Bool, true, false, nat_le, if◌then◌else◌, List, [], ◌∷◌, ◌++◌, replicate, Some, pow-add, refl, sym, ap, ◌∙◌, subst, arith, leb-true, leb-false, lt-ltb, le-ltb, Address, ShiftLeft, height_of, TypedExpression, value, SourceState, Gave, then_do, shifted, Instr, Dad, Hl, A, H, L, Registers, LoadPair, ExpressionNumber, Number, keeps_at, keeps_none, keeps_of_shift, Does, at_place, Arrives, HasRoom, Facts, Step, copy, set, part_of, plain, repeat_steps, keeps, Context, IsSound, nodes_in, StepsStand, PartThere, WordThere, PartDoes, WordIsGiven}
+use Rattle.task_laws.proofs.Prelude.{◌≡◌, ℕ, ◌+◌, ◌-◌, ◌*◌, ◌/◌, ◌%◌, ◌^◌, ◌<◌, ◌≤◌, Bool, true, false, nat_le, if◌then◌else◌, List, [], ◌∷◌, ◌++◌, replicate, Some, pow-add, refl, sym, ap, ◌∙◌, subst, arith, leb-true, leb-false, lt-ltb, le-ltb, Address, ShiftLeft, height_of, TypedExpression, value, SourceState, Gave, then_do, shifted, Instr, Dad, Hl, A, H, L, Registers, LoadPair, ExpressionNumber, Number, keeps_at, keeps_none, keeps_of_shift, Does, at_place, Arrives, HasRoom, Facts, Step, copy, set, part_of, plain, repeat_steps, keeps, Context, IsSound, nodes_in, StepsStand, PartThere, WordThere, PartDoes, WordIsGiven, left_far_number}
 use Rattle.steps8080.specs.declared.step.Task.TheVariants as tasks
 use Rattle.exprgen8080.specs.WordShifts.{shifted_left_steps, zero_steps}
 use Rattle.task_laws.proofs.Machine.Addresses.{registers_end}
@@ -12,16 +12,6 @@ use Rattle.task_laws.proofs.Words.WordArithmetic.{word_below}
 use Rattle.task_laws.proofs.Words.WordSums.{kept_as, kept_beside}
 use Rattle.task_laws.proofs.Words.Multiples.{by_high_byte, doubled_is, low_word_small, repeated, repeated_on}
 use Rattle.task_laws.proofs.Numbers.{high_of_shifted, low_of_shifted, product_is_word}
-
-past_a_word : (x p : ℕ) → (x * (65536 * p)) % 65536 ≡ 0
-past_a_word x p = omega arith
-
--- by 16 bits or more nothing is left
-pub none_left : (x count : ℕ) → 16 ≤ count → (x * 2 ^ count) % 65536 ≡ 0
-none_left x count most =
-    let more : count ≡ 16 + (count - 16) = omega (arith, most) in
-    ap (λ n. (x * 2 ^ n) % 65536) more ∙ ap (λ p. (x * p) % 65536) (pow-add 2 16 (count - 16))
-    ∙ past_a_word x (2 ^ (count - 16))
 
 by_eight_bits : (x count : ℕ) → 8 ≤ count
     → (256 * (x % 256) * 2 ^ (count - 8)) % 65536 ≡ (x * 2 ^ count) % 65536
@@ -141,6 +131,6 @@ left_does {context = context} {pushed = pushed} {top = top} {need = need} {to = 
         (Arrives context.activation top base to (WordIsGiven context last number Address r memory))
     by_word true is given =
         let most = leb-true 16 count is in
-        zero_does (λ x. (x * 2 ^ count) % 65536) number from s r memory sound (λ x t same. none_left x count most) operand
+        zero_does (λ x. (x * 2 ^ count) % 65536) number from s r memory sound (λ x t same. left_far_number x count most) operand
         (none_kept (omega (arith, most))) less room height given going
     by_word false is given = by_byte (nat_le 8 count) refl given

@@ -1,5 +1,5 @@
 -- Shifts of an ADDRESS right by a number, in HL.
-use Rattle.task_laws.proofs.Prelude.{◌≡◌, ℕ, ◌+◌, ◌-◌, ◌*◌, ◌/◌, ◌%◌, ◌^◌, ◌<◌, ◌≤◌, ◌==◌, nat_le, Bool, true, false, if◌then◌else◌, List, [], ◌∷◌, ◌++◌, refl, sym, ap, ◌∙◌, subst, arith, eqb-true, leb-true, leb-false, append_assoc, xor_self, Address, ShiftRight, height_of, type_of, TypedExpression, SourceState, Gave, then_do, Instr, AccumulateImmediate, Rar, Rrc, And, ExclusiveOr, Or, A, H, L, Registers, by_eight, half_small, halves, none_left, quarter_high_small, quarter_low_small, quarters, none_right, ExpressionNumber, keeps_none, Does, at_place, Arrives, HasRoom, Facts, Step, CallRoutine, Plain, clear_a, copy, set, with_register, extension_steps, part_of, plain, keeps, fits_byte, byte_shifted_right_steps, right_shift_steps, byte_zero_steps, knowing, high_byte_steps, quarter_steps, shifted_right_little_steps, word_routine, word_shifted_right_steps, Context, IsSound, StepsStand, PartThere, PartDoes, WordIsGiven, word_from_halves}
+use Rattle.task_laws.proofs.Prelude.{◌≡◌, ℕ, ◌+◌, ◌-◌, ◌*◌, ◌/◌, ◌%◌, ◌^◌, ◌<◌, ◌≤◌, ◌==◌, nat_le, Bool, true, false, if◌then◌else◌, List, [], ◌∷◌, ◌++◌, refl, sym, ap, ◌∙◌, subst, arith, eqb-true, leb-true, leb-false, append_assoc, xor_self, Address, ShiftRight, height_of, type_of, TypedExpression, SourceState, Gave, then_do, Instr, AccumulateImmediate, Rar, Rrc, And, ExclusiveOr, Or, A, H, L, Registers, by_eight, half_small, halves, none_left, quarter_high_small, quarter_low_small, quarters, none_right, ExpressionNumber, keeps_none, Does, at_place, Arrives, HasRoom, Facts, Step, CallRoutine, Plain, clear_a, copy, set, with_register, extension_steps, part_of, plain, keeps, fits_byte, byte_shifted_right_steps, right_shift_steps, byte_zero_steps, knowing, high_byte_steps, quarter_steps, shifted_right_little_steps, word_routine, word_shifted_right_steps, Context, IsSound, StepsStand, PartThere, PartDoes, WordIsGiven, word_from_halves, low_is_byte}
 use Rattle.runtime8080.specs.declared.routine.Routine.TheVariants as routines
 use Rattle.steps8080.specs.declared.step.Task.TheVariants as tasks
 use Rattle.exprgen8080.specs.WordShifts.{half_steps, zero_steps}
@@ -65,14 +65,11 @@ quarter_instructions =
     ∷ copy A H ∷ AccumulateImmediate And 0xfc
     ∷ Rrc ∷ Rrc ∷ copy H A ∷ []
 
-low_small : (l x : ℕ) → l ≡ x % 256 → l < 256
-low_small l x same = omega (arith, same)
-
 half_makes : (x : ℕ) (now : Registers) → x < 65536 → HasWord x now → HasWord (x / 2) (effect half_instructions now)
 half_makes x now small has =
     let after : Registers = effect half_instructions now in
     let h_small = half_is_byte now.h x has.h small in
-    let l_small = low_small now.l x has.l in
+    let l_small = low_is_byte now.l x has.l in
     let is = has_word (x / 2) after.h after.l (half_small now.h false h_small) (half_small now.l (now.h % 2 == 1) l_small)
     (halves now.h now.l false refl ∙ ap (λ n. n / 2) (word_from_halves x now.h now.l has.h has.l)) in
     record { h = is.0; l = is.1 }
@@ -81,7 +78,7 @@ quarter_makes : (x : ℕ) (now : Registers) → x < 65536 → HasWord x now → 
 quarter_makes x now small has =
     let after : Registers = effect quarter_instructions now in
     let h_small = half_is_byte now.h x has.h small in
-    let l_small = low_small now.l x has.l in
+    let l_small = low_is_byte now.l x has.l in
     let is = has_word (x / 4) after.h after.l (quarter_high_small now.h h_small) (quarter_low_small now.h now.l h_small l_small)
     (quarters now.h now.l h_small l_small ∙ ap (λ n. n / 4) (word_from_halves x now.h now.l has.h has.l)) in
     record { h = is.0; l = is.1 }

@@ -1,5 +1,5 @@
 -- AND, OR and XOR of an operand in HL and one with code that does not change HL.
-use Rattle.task_laws.proofs.Prelude.{◌≡◌, ℕ, ◌+◌, ◌*◌, ◌/◌, ◌%◌, ◌<◌, ◌≤◌, max, Bool, true, false, ◌&&◌, List, [], ◌∷◌, Option, Some, None, if◌then◌else◌, refl, sym, ap, ◌∙◌, subst, arith, Address, height_of, type_of, TypedExpression, SourceState, Gave, then_do, Operation, ExclusiveOr, Or, A, L, Registers, ExpressionNumber, Place, keeps_none, Does, at_place, Arrives, HasRoom, Facts, copy, with_register, Site, is_free, keeps, may_exchange, direct_word, fits_byte, is_word_in_hl, Operands, Simple, knowing, exchanged_operand, first_and_simple, logic_with_byte_steps, logic_with_simple_steps, simple_operand, with_simple, Context, IsSound, StepsStand, PartThere, PartDoes, WordIsGiven, high_is_byte}
+use Rattle.task_laws.proofs.Prelude.{◌≡◌, ℕ, ◌+◌, ◌*◌, ◌/◌, ◌%◌, ◌<◌, ◌≤◌, max, Bool, true, false, ◌&&◌, List, [], ◌∷◌, Option, Some, None, if◌then◌else◌, refl, sym, ap, ◌∙◌, subst, arith, Address, height_of, type_of, TypedExpression, SourceState, Gave, then_do, Operation, ExclusiveOr, Or, A, L, Registers, ExpressionNumber, Place, keeps_none, Does, at_place, Arrives, HasRoom, Facts, copy, with_register, Site, is_free, keeps, may_exchange, direct_word, fits_byte, is_word_in_hl, Operands, Simple, knowing, exchanged_operand, first_and_simple, logic_with_byte_steps, logic_with_simple_steps, simple_operand, with_simple, Context, IsSound, StepsStand, PartThere, PartDoes, WordIsGiven, high_is_byte, byte_is_low}
 use Rattle.exprgen8080.specs.declared.word_operators.Simple.TheVariants as simple
 use Rattle.task_laws.proofs.Bytes.BytesAsked.{WordAtPlace, WordsAtPlaces}
 use Rattle.task_laws.proofs.Loads.DirectWords.{with_word_then}
@@ -27,9 +27,6 @@ nothing_more Or h is small = or_none h small
 nothing_more ExclusiveOr h is small = xor_none h small
 nothing_more operation h is small = absurd is
 
-all_low : (y : ℕ) → y < 256 → y ≡ y % 256
-all_low y small = omega (arith, small)
-
 high_stays : (operation : Operation) (h x y : ℕ) → IsEither operation → h ≡ x / 256 → x < 65536 → y < 256
     → h ≡ bits operation x y / 256
 high_stays operation h x y is same small byte =
@@ -39,7 +36,7 @@ high_stays operation h x y is same small byte =
 low_made : (operation : Operation) (a l x y : ℕ) → IsEither operation → a ≡ y → l ≡ x % 256 → y < 256
     → bits operation a l ≡ bits operation x y % 256
 low_made operation a l x y is same low byte =
-    ap (λ m. bits operation m l) (same ∙ all_low y byte) ∙ ap (bits operation (y % 256)) low
+    ap (λ m. bits operation m l) (same ∙ byte_is_low y byte) ∙ ap (bits operation (y % 256)) low
     ∙ bits_turned operation (y % 256) (x % 256) ∙ bits_low operation x y (either_logic operation is)
 
 byte_makes :
@@ -85,7 +82,7 @@ simple_then {context = context} {need = need} {facts = facts} {other = other} {f
     (λ end end_found ends going_last.
     word_ends u ends (bits_small operation x y logic x_small (address_is_word y (type_of second) two_is byte.small))
     (byte_makes operation x y after (either fits) x_small y_small
-    (record { h = only.h ∙ given.h; l = only.l ∙ given.l }) (byte.a ∙ sym (all_low y y_small)))
+    (record { h = only.h ∙ given.h; l = only.l ∙ given.l }) (byte.a ∙ sym (byte_is_low y y_small)))
     (kept_none context number r _ none) going_last)))
 simple_then {context = context} {top = top} {need = need} {to = to} {base = base} {facts = facts} {last = last} {other = other} {first = first} {second = second} operation number from s r memory sound places logic either (IsDirectWord {place = place} direct) one two one_is two_is none less room high higher (PartThere {middle = middle} part rest) going =
     word_then from s r memory part one.is one.types less room high going

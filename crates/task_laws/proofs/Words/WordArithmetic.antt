@@ -54,6 +54,3 @@ sum_high h l d e x y one two three four = omega (arith, one, two, three, four)
 pub sum_low : (h l d e x y : ℕ) → h ≡ x / 256 → l ≡ x % 256 → d ≡ y / 256 → e ≡ y % 256
     → low_byte (wrap (word h l + word d e)) ≡ ((x + y) % 65536) % 256
 sum_low h l d e x y one two three four = omega (arith, one, two, three, four)
-
-pub sum_turned : (x y : ℕ) → (y + x) % 65536 ≡ (x + y) % 65536
-sum_turned x y = omega arith
