@@ -1,7 +1,7 @@
 -- Lines of old sources.
-use Rattle.std.specs.Prelude.{ℕ, ◌+◌, ◌-◌, Bool, true, false, not, ◌==◌, ◌||◌, if◌then◌else◌, Option, None, Some}
+use Rattle.std.specs.Prelude.{ℕ, ◌+◌, ◌-◌, Bool, true, false, not, ◌==◌, ◌&&◌, ◌||◌, if◌then◌else◌, Option, None, Some}
 use Rattle.std.specs.Prelude.{List, [], ◌∷◌, ◌++◌, length, map, get_or}
-use Rattle.std.specs.List.{join_with_byte, slice_split}
+use Rattle.std.specs.List.{join_with_byte, list_any, slice_split}
 use Rattle.std.specs.Char.{is_ascii_alphabetic}
 use Rattle.std.specs.Str.{str_eq_ignore_ascii_case}
 use Rattle.convert.specs.declared.controls.Control.{Control}
@@ -37,24 +37,21 @@ lined source = join_with_byte 10 (map emptied (lines_of (plain source)))
 abbrev pub words_of : List ℕ → List (List ℕ)
 words_of line = slice_split (λ c. not (is_ascii_alphabetic c)) line
 
--- whether what comes after a byte is in quotes (39)
-abbrev pub quoted_after : Bool → ℕ → Bool
-quoted_after quoted c = if c == 39 then not quoted else quoted
+-- whether what comes after a byte is hidden: after the opening byte, if a closing byte comes later, up to that one
+abbrev pub hidden_after : (opening closing : ℕ) → Bool → ℕ → List ℕ → Bool
+hidden_after opening closing hidden c line =
+    if hidden then not (c == closing) else ((c == opening) && list_any (λ d. d == closing) line)
 
--- whether what comes after a byte is in parentheses: from `(` (40) up to the next `)` (41) that is not in quotes
-abbrev pub enclosed_after : (quoted enclosed : Bool) → ℕ → Bool
-enclosed_after quoted enclosed c =
-    if quoted then enclosed else (if c == 40 then true else (if c == 41 then false else enclosed))
+-- a line, with a blank (32) for each byte that is hidden
+abbrev pub unhidden : (opening closing : ℕ) → Bool → List ℕ → List ℕ
+unhidden opening closing hidden [] = []
+unhidden opening closing hidden (c ∷ line) =
+    (if hidden then 32 else c) ∷ unhidden opening closing (hidden_after opening closing hidden c line) line
 
--- a byte, or a blank (32) for one in quotes or in parentheses
-abbrev pub bare_byte : (quoted enclosed : Bool) → ℕ → ℕ
-bare_byte quoted enclosed c = if quoted then 32 else (if enclosed then 32 else c)
-
--- a line, with a blank for each byte in quotes or in parentheses
-abbrev pub bare : (quoted enclosed : Bool) → List ℕ → List ℕ
-bare quoted enclosed [] = []
-bare quoted enclosed (c ∷ line) =
-    bare_byte quoted enclosed c ∷ bare (quoted_after quoted c) (enclosed_after quoted enclosed c) line
+-- A line without what is in quotes (39), nor, in what is left, from a `(` (40) up to the next `)` (41). One that is not
+-- closed hides nothing.
+abbrev pub bare : List ℕ → List ℕ
+bare line = unhidden 40 41 false (unhidden 39 39 false line)
 
 -- whether a word is among others, where the case of letters does not count
 abbrev pub is_among : List ℕ → List (List ℕ) → Bool
@@ -74,7 +71,7 @@ note_on number (Some control) = record { line = number; text = control.text } �
 
 -- what is told of the line of a number, if it has controls
 abbrev pub line_notes : List Control → ℕ → List ℕ → List Note
-line_notes controls number line = if is_control line then note_on number (control_in controls (words_of (bare false false line))) else []
+line_notes controls number line = if is_control line then note_on number (control_in controls (words_of (bare line))) else []
 
 -- what is told of lines, of which the first has a number
 abbrev pub notes_from : List Control → ℕ → List (List ℕ) → List Note

@@ -51,7 +51,7 @@ table_of_rules =
     record { parts = (parts.Is (classes.Reserved words.Go)) ∷ (parts.Is (classes.Reserved words.To)) ∷ []; action = Writes ((PutsText (codes "GOTO")) ∷ []) }
     ∷ record { parts = (parts.Is classes.FirstNumber) ∷ (parts.Is (classes.Mark marks.Colon)) ∷ []; action = Writes [] }
     ∷ record { parts = parts.EndOfText ∷ []; action = Writes [] }
-    ∷ record { parts = (parts.Is (classes.Reserved words.Eof)) ∷ []; action = Tells (codes "EOF: delete it and what follows it, or write another name") }
+    ∷ record { parts = (parts.Is (classes.Reserved words.Eof)) ∷ []; action = Tells (codes "EOF: delete it, and what follows if that is no part of the program, or write another name") }
     ∷ record { parts = (parts.Is (classes.Mark marks.Colon)) ∷ (parts.Is classes.EndOfDo) ∷ (parts.Is classes.Name) ∷ []; action = Writes ((PutsCopy 0) ∷ (PutsText (codes " ;")) ∷ (PutsAfter 0 1) ∷ []) }
     ∷ record { parts = (parts.Is (classes.Mark marks.Colon)) ∷ (parts.Is classes.EndOfDo) ∷ []; action = Writes ((PutsCopy 0) ∷ (PutsText (codes " ;")) ∷ (PutsAfter 0 1) ∷ []) }
     ∷ record { parts = (parts.Is (classes.Mark marks.Colon)) ∷ (parts.Is (classes.Reserved words.End)) ∷ []; action = Writes ((PutsCopy 0) ∷ (PutsText (codes " ;")) ∷ (PutsAfter 0 1) ∷ []) }
@@ -75,6 +75,8 @@ table_of_rules =
     ∷ record { parts = parts.Scope ∷ parts.Type ∷ []; action = Writes ((PutsCopy 1) ∷ (PutsText (codes " ")) ∷ (PutsCopy 0) ∷ []) }
     ∷ record { parts = (parts.Is (classes.Reserved words.External)) ∷ (parts.Is (classes.Reserved words.Data)) ∷ parts.Group ∷ []; action = Writes ((PutsCopy 0) ∷ []) }
     ∷ record { parts = (parts.Is (classes.Reserved words.External)) ∷ (parts.Is (classes.Reserved words.Data)) ∷ []; action = Writes ((PutsCopy 0) ∷ []) }
+    ∷ record { parts = (parts.Is (classes.Reserved words.External)) ∷ (parts.Is (classes.Reserved words.Initial)) ∷ []; action = Tells (codes "EXTERNAL with INITIAL: write the values where the name is PUBLIC") }
+    ∷ record { parts = (parts.Is (classes.Reserved words.Initial)) ∷ parts.Group ∷ (parts.Is (classes.Reserved words.External)) ∷ []; action = Tells (codes "EXTERNAL with INITIAL: write the values where the name is PUBLIC") }
     ∷ record { parts = (parts.Is classes.Name) ∷ (parts.Is (classes.Reserved words.Data)) ∷ []; action = Writes ((PutsCopy 0) ∷ (PutsText (codes "(*) BYTE ")) ∷ (PutsCopy 1) ∷ []) }
     ∷ record { parts = parts.BasedOne ∷ []; action = Writes ((PutsInner 0) ∷ []) }
     ∷ record { parts = parts.BasedList ∷ parts.Type ∷ parts.Attribute ∷ []; action = Tells (codes "a list with BASED: write each name with its own attributes") }

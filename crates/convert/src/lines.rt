@@ -1,9 +1,9 @@
 //! Lines of old sources.
 
 ghost use Rattle.std.specs.Prelude.{◌≡◌, ◌≤◌, ◌++◌, ◌==◌, ◌||◌, ◌-◌, false, get_or, length, map, IfOk};
-ghost use Rattle.std.specs.List.{join_with_byte};
+ghost use Rattle.std.specs.List.{join_with_byte, list_any};
 ghost use Rattle.std.specs.Str.{str_eq_ignore_ascii_case};
-ghost use Rattle.convert.specs.Lines.{bare, bare_byte, control_in, emptied, enclosed_after, is_among, is_control, line_notes, lines_of, note_on, notes_from, plain, quoted_after, return_of, words_of};
+ghost use Rattle.convert.specs.Lines.{bare, control_in, emptied, is_among, is_control, line_notes, lines_of, note_on, notes_from, plain, return_of, unhidden, words_of};
 
 use crate::controls::Control;
 use crate::converting::Note;
@@ -85,14 +85,15 @@ fn is_control(line: &[u8]) -> bool
     }
 }
 
-// The return at the end of a line, if there is one.
-fn return_of(line: &[u8]) -> &'static [u8]
+/// The return at the end of a line, if there is one.
+pub(crate) fn return_of(line: &[u8]) -> &'static [u8]
     ensures { result.now ≡ return_of line.now }
 {
     if ends_with_return(line) { b"\r" } else { &[] }
 }
 
-fn ends_with_return(line: &[u8]) -> bool
+/// Whether a line has a return at its end.
+pub(crate) fn ends_with_return(line: &[u8]) -> bool
     ensures { result ≡ (get_or line.now (length line.now - 1) 0 == 13) }
 {
     !line.is_empty() && line[line.len() - 1] == b'\r'
@@ -143,53 +144,53 @@ fn control_of(
     line: &[u8],
 ) -> Result<Option<Control>, AllocError>
     ensures { IfOk result
-        (λ found. found ≡ control_in controls.now (words_of (bare false false line.now))) }
+        (λ found. found ≡ control_in controls.now (words_of (bare line.now))) }
 {
     let text = bare(alloc, line)?;
     let words = words_of(alloc, text.as_slice())?;
     Ok(control_in(controls, words.as_slice()))
 }
 
-// A line, with a blank for each byte in quotes or in parentheses.
+// A line without what is in quotes or, after that, in parentheses.
 fn bare(alloc: Global, line: &[u8]) -> Result<Vec<u8>, AllocError>
-    ensures { IfOk result (λ text. text.items ≡ bare false false line.now) }
+    ensures { IfOk result (λ text. text.items ≡ bare line.now) }
+{
+    let unquoted = unhidden(alloc, b'\'', b'\'', line)?;
+    unhidden(alloc, b'(', b')', unquoted.as_slice())
+}
+
+// A line, with a blank for each byte from an opening byte up to the next closing one. One that is not closed hides nothing,
+// nor does any after it.
+fn unhidden(alloc: Global, opening: u8, closing: u8, line: &[u8]) -> Result<Vec<u8>, AllocError>
+    ensures { IfOk result (λ text. text.items ≡ unhidden opening closing false line.now) }
 {
     let mut text = Vec::new(alloc);
-    let mut quoted = false;
-    let mut enclosed = false;
+    let mut hidden = false;
     let mut rest = line;
     while let [byte, more @ ..] = rest {
-        text.push(bare_byte(quoted, enclosed, *byte))?;
-        enclosed = enclosed_after(quoted, enclosed, *byte);
-        quoted = quoted_after(quoted, *byte);
+        text.push(if hidden { b' ' } else { *byte })?;
+        if !hidden && *byte == opening && !more.contains(&closing) {
+            add_bare(opening, closing, more, &mut text)?;
+            return Ok(text);
+        }
+        hidden = if hidden {
+            *byte != closing
+        } else {
+            *byte == opening
+        };
         rest = more;
     }
     Ok(text)
 }
 
-// A byte, or a blank for one in quotes or in parentheses.
-fn bare_byte(quoted: bool, enclosed: bool, byte: u8) -> u8
-    ensures { result ≡ bare_byte quoted enclosed byte }
+// Adds the rest of a line in which nothing is closed.
+#[tactic(auto, using(crate::proofs::Hiding::added))]
+fn add_bare(opening: u8, closing: u8, line: &[u8], text: &mut Vec<u8>) -> Result<(), AllocError>
+    requires { list_any (λ c. c == closing) line.now ≡ false }
+    ensures { IfOk result (λ _. text.new.items
+        ≡ text.old.items ++ unhidden opening closing false line.now) }
 {
-    if quoted || enclosed { b' ' } else { byte }
-}
-
-// Whether what comes after a byte is in parentheses.
-fn enclosed_after(quoted: bool, enclosed: bool, byte: u8) -> bool
-    ensures { result ≡ enclosed_after quoted enclosed byte }
-{
-    match byte {
-        b'(' if !quoted => true,
-        b')' if !quoted => false,
-        _ => enclosed,
-    }
-}
-
-// Whether what comes after a byte is in quotes.
-fn quoted_after(quoted: bool, byte: u8) -> bool
-    ensures { result ≡ quoted_after quoted byte }
-{
-    if byte == b'\'' { !quoted } else { quoted }
+    text.extend_from_slice(line)
 }
 
 // The words of a line.

@@ -42,7 +42,7 @@ const NAME: Part = Part::Is(Class::Name);
 const SPACE: Put = Put::Text(b" ");
 
 /// The rules.
-pub static RULES: [Rule; 61] = [
+pub static RULES: [Rule; 63] = [
     // words
     Rule {
         parts: &[
@@ -61,7 +61,9 @@ pub static RULES: [Rule; 61] = [
     },
     Rule {
         parts: &[Part::Is(Class::Reserved(ReservedWord::Eof))],
-        action: Action::Tell("EOF: delete it and what follows it, or write another name"),
+        action: Action::Tell(
+            "EOF: delete it, and what follows if that is no part of the program, or write another name",
+        ),
     },
     Rule {
         parts: &[COLON, Part::Is(Class::EndOfDo), NAME],
@@ -165,6 +167,14 @@ pub static RULES: [Rule; 61] = [
     Rule {
         parts: &[EXTERNAL, DATA],
         action: Action::Write(&[Put::Copy(0)]),
+    },
+    Rule {
+        parts: &[EXTERNAL, INITIAL],
+        action: Action::Tell("EXTERNAL with INITIAL: write the values where the name is PUBLIC"),
+    },
+    Rule {
+        parts: &[INITIAL, Part::Group, EXTERNAL],
+        action: Action::Tell("EXTERNAL with INITIAL: write the values where the name is PUBLIC"),
     },
     Rule {
         parts: &[NAME, DATA],
