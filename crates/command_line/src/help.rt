@@ -249,6 +249,9 @@ Input is groups joined by `/`, each a port, a colon and the bytes that the port 
 hexadecimal digits: 01:0904/02:FF gives 09 and then 04 at port 01, and FF at port 02.
 With --input-file 00:text.txt port 00 gives the bytes of the file text.txt, and its events are not
 printed; 00:- is standard input. A port has one file, or bytes of --input.
+With --output-file 01:out.bin the bytes that go to port 01 are written to the file out.bin when the
+run has ended, and its events are not printed. With 01:- they are all that standard output has, and
+the lines go to standard error. No port and no file is named twice.
 
 Each byte of memory is what --fill says at the start, but for the bytes of --memory: groups joined
 by `/`, each an address of four hexadecimal digits, a colon and the bytes from there on, so that
@@ -295,6 +298,9 @@ Input is groups joined by `/`, each a port, a colon and the bytes that the port 
 hexadecimal digits: 01:0904/02:FF gives 09 and then 04 at port 01, and FF at port 02.
 With --input-file 00:text.txt port 00 gives the bytes of the file text.txt, and its events are not
 printed; 00:- is standard input. A port has one file, or bytes of --input.
+With --output-file 01:out.bin the bytes that go to port 01 are written to the file out.bin when the
+run has ended, and its events are not printed. With 01:- they are all that standard output has, and
+the lines go to standard error. No port and no file is named twice.
 
 Each byte of memory is what --fill says at the start, but for the bytes of --memory: groups joined
 by `/`, each an address of four hexadecimal digits, a colon and the bytes from there on, so that
@@ -454,6 +460,9 @@ Input is groups joined by `/`, each a port, a colon and the bytes that the port 
 hexadecimal digits: 01:0904/02:FF gives 09 and then 04 at port 01, and FF at port 02.
 With --input-file 00:text.txt port 00 gives the bytes of the file text.txt, and its events are not
 printed; 00:- is standard input. A port has one file, or bytes of --input.
+With --output-file 01:out.bin the bytes that go to port 01 are written to the file out.bin when the
+run has ended, and its events are not printed. With 01:- they are all that standard output has, and
+the lines go to standard error. No port and no file is named twice.
 
 Each byte of memory is what --fill says at the start, but for the bytes of --memory: groups joined
 by `/`, each an address of four hexadecimal digits, a colon and the bytes from there on, so that
