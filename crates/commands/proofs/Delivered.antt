@@ -1,0 +1,89 @@
+-- Runs with files of ports, or without.
+use Rattle.commands.proofs.Prelude.{◌≡◌, ◌⊎◌, ℕ, ◌==◌, Bool, true, false, List, [], ◌∷◌, ◌++◌, length, map, arith, Bor, Option, None, Some, Ok, inl, inr, refl, sym, ap, subst, ◌∙◌, CountsFailure, Directory, KeepsFiles, status_of, TellsRefusal, TellsOther, Ending, Refused, texts, ProgramWanted, Values, values_read, PrintsFiles, PrintsProgram, tells_no_file, Action, ToRun, Interpret, Construction, map_if}
+use Rattle.command_line.specs.Command.{ExecuteWanted}
+use Rattle.command_line.specs.Settings.{NamedPort, execute_read, file_names, outputs_in}
+use Rattle.commands.specs.Converting.{TellsOutput, TellsRun}
+use Rattle.commands.specs.OutputFiles.{ByOutputs, ChangesOutputs, Delivers, DeliversRun, KeepsAllBut, Shows, dash_bytes, output_names, outputs_for}
+use Rattle.commands.specs.Executing.{PrintsExecution, PrintsMerge}
+use Rattle.commands.specs.Running.{PrintsBuilt}
+use Rattle.commands.proofs.OutputFiles.{but_then, kept_then_outputs}
+pub use Rattle.commands.proofs.OutputFiles.{kept_but}
+
+-- what holds without files of ports and with them
+pub by_any : (words : List (List ℕ)) {P Q : Type 0} → P → Q → ByOutputs words P Q
+by_any [] p q = p
+by_any (text ∷ words) p q = q
+
+pub without : (words : List (List ℕ)) {P Q : Type 0} → words ≡ [] → P → ByOutputs words P Q
+without words none p = rw none p
+
+pub with_files : (words : List (List ℕ)) {P Q : Type 0} → (words ≡ [] → ⊥) → Q → ByOutputs words P Q
+with_files [] some q = absurd (some refl)
+with_files (text ∷ words) some q = q
+
+-- whether there are texts, as the count of words says
+pub no_words : (words : List (Bor (List ℕ))) → (length words == 0) ≡ true → texts words ≡ []
+no_words [] none = refl
+no_words (word ∷ words) none = cc
+
+pub some_words : (words : List (Bor (List ℕ))) → (length words == 0) ≡ false → texts words ≡ [] → ⊥
+some_words [] some none = cc
+some_words (word ∷ words) some none = cc
+
+-- the files that change
+pub but_changes : (names : List (List ℕ)) (old new : Option Directory) → KeepsAllBut names old new → ChangesOutputs names old new
+but_changes [] None new changes = tt
+but_changes [] (Some old) None changes = absurd changes
+but_changes [] (Some old) (Some new) changes = λ other. changes other refl
+but_changes (name ∷ names) old new changes = changes
+
+pub kept_changes : (names : List (List ℕ)) (old new : Option Directory) → KeepsFiles old new → ChangesOutputs names old new
+kept_changes names old new kept = but_changes names old new (kept_but names old new kept)
+
+-- without files of ports there are no bytes for them
+no_files : (files : List NamedPort) → file_names files ≡ [] → files ≡ []
+no_files [] none = refl
+no_files (file ∷ files) none = cc
+
+no_outputs : (texts : List (List ℕ)) (files : List NamedPort) → texts ≡ [] → file_names files ≡ outputs_in texts → files ≡ []
+no_outputs texts files none named = no_files files (named ∙ ap outputs_in none)
+
+none_built : (action : Action) (before : List ℕ) (values : Values) (built : Construction) (status : ℕ) (outputs : List (List ℕ)) (old new : Option (List ℕ)) → values.output_files ≡ []
+    → PrintsBuilt action before values built status outputs old new → outputs ≡ []
+none_built ToRun before values built status outputs old new none printed =
+    printed.gathered ∙ ap (λ (files : List NamedPort). outputs_for files printed.machine.state.events) none
+none_built Interpret before values built status outputs old new none printed = printed.gathered ∙ ap (λ (files : List NamedPort). outputs_for files printed.events) none
+
+pub plain_program : (wanted : ProgramWanted) (values : Values) (files : Option Directory) (status : ℕ) (outputs : List (List ℕ)) (old new : Option (List ℕ)) → wanted.output_files ≡ []
+    → file_names values.output_files ≡ outputs_in wanted.output_files → values_read wanted ≡ Ok values → PrintsFiles wanted values files status outputs old new
+    → PrintsProgram wanted files status [] old new
+plain_program wanted values files status outputs old new none named written printed =
+    let read = printed.printed in
+    let texts = read.printed in
+    let same : read.full.output_files ≡ values.output_files = ap (λ (v : Values). v.output_files) read.input.full_is in
+    let empty : outputs ≡ [] =
+    none_built wanted.action (map_if wanted.map texts.built) read.full texts.built status outputs old new (same ∙ no_outputs wanted.output_files values.output_files none named) texts.printed in
+    record { values = values; written = written; printed = subst (λ (l : List (List ℕ)). PrintsFiles wanted values files status l old new) empty printed }
+
+pub plain_execution : (wanted : ExecuteWanted) (values : Values) (files : Option Directory) (status : ℕ) (outputs : List (List ℕ)) (old new : Option (List ℕ)) → wanted.output_files ≡ []
+    → file_names values.output_files ≡ outputs_in wanted.output_files → execute_read wanted ≡ Ok values → PrintsMerge wanted values files status outputs old new
+    → PrintsExecution wanted files status [] old new
+plain_execution wanted values files status outputs old new none named written printed =
+    let read = printed.printed in
+    let same : read.full.output_files ≡ values.output_files = ap (λ (v : Values). v.output_files) read.input.full_is in
+    let empty : outputs ≡ [] =
+    read.printed.gathered
+    ∙ ap (λ (of : List NamedPort). outputs_for of read.printed.machine.state.events) (same ∙ no_outputs wanted.output_files values.output_files none named) in
+    record { values = values; written = written; printed = subst (λ (l : List (List ℕ)). PrintsMerge wanted values files status l old new) empty printed }
+
+-- an ending that is not a refusal, and one that is
+pub not_refused : (ending result : Ending) → (ending ≡ Refused → ⊥) → result ≡ ending → result ≡ Refused → ⊥
+not_refused ending result other same refused = other (sym same ∙ refused)
+
+-- what was told where a run was refused, or not delivered
+module _ (files mid : Option Directory) (names outputs : List (List ℕ)) (before now after : ℕ) (old new : Option (List ℕ)) where
+  pub not_delivered : now ≡ before → (TellsOutput now after old new outputs) ⊎ ((after ≡ now) × TellsOther old new)
+      → (TellsRefusal files names before after old new) ⊎ (TellsOutput before after old new outputs)
+  not_delivered same (inl told) =
+      inr (record { counted = subst (λ (n : ℕ). CountsFailure n after) same told.counted; name = told.name; stopped = told.stopped; told = told.told })
+  not_delivered same (inr (count, other)) = inl (tells_no_file _ _ _ _ _ _ (count ∙ same) other)
