@@ -259,7 +259,7 @@ by `/`, each an address of four hexadecimal digits, a colon and the bytes from t
 
 Exit status:
   0  the program halted, or help was asked for
-  1  a source was refused, memory ran out, or a file can't be read
+  1  a source was refused, memory ran out, or a file can't be read or written
   2  the command line is wrong, or a value in it
   3  LIMIT
   4  ILLEGAL or PORT
@@ -309,7 +309,7 @@ over that.
 
 Exit status:
   0  the program ended, or help was asked for
-  1  a source was refused, memory ran out, or a file can't be read
+  1  a source was refused, memory ran out, or a file can't be read or written
   2  the command line is wrong, or a value in it
   3  LIMIT
   4  PORT
@@ -471,6 +471,7 @@ by `/`, each an address of four hexadecimal digits, a colon and the bytes from t
 Exit status:
   0  the program halted, or help was asked for
   1  an object, the merge or its place was refused, memory ran out, or a file can't be read
+     or written
   2  the command line is wrong, or a value in it
   3  LIMIT
   4  ILLEGAL or PORT

@@ -87,3 +87,62 @@ module _ (files mid : Option Directory) (names outputs : List (List ℕ)) (befor
   not_delivered same (inl told) =
       inr (record { counted = subst (λ (n : ℕ). CountsFailure n after) same told.counted; name = told.name; stopped = told.stopped; told = told.told })
   not_delivered same (inr (count, other)) = inl (tells_no_file _ _ _ _ _ _ (count ∙ same) other)
+
+-- what was told of files of ports and of others, by the names that texts write
+pub told_as_written : (files : Option Directory) (first held written of_values of_texts : List (List ℕ)) (before after : ℕ) (old new : Option (List ℕ)) → held ≡ written → of_values ≡ of_texts
+    → (TellsRefusal files (first ++ held) before after old new) ⊎ (TellsOutput before after old new of_values)
+    → (TellsRefusal files (first ++ written) before after old new) ⊎ (TellsOutput before after old new of_texts)
+told_as_written files first held written of_values of_texts before after old new same named (inl told) =
+    inl (subst (λ (l : List (List ℕ)). TellsRefusal files (first ++ l) before after old new) same told)
+told_as_written files first held written of_values of_texts before after old new same named (inr told) =
+    inr (subst (λ (l : List (List ℕ)). TellsOutput before after old new l) named told)
+
+-- a run that was kept, and then delivered
+module _ (prints : ℕ → (outputs : List (List ℕ)) → (old new : Option (List ℕ)) → Type 0) (names outputs : List (List ℕ)) (lines : List ℕ) (old mid new : Option Directory)
+    (err_old err_mid err_new out_old out_new : Option (List ℕ)) where
+  pub kept_then_delivered : (ending result : Ending) (held : List (List ℕ)) → result ≡ ending → held ≡ names → KeepsFiles old mid → err_mid ≡ err_old
+      → prints (status_of ending) outputs (Some []) (Some lines) → Delivers held outputs lines mid new err_mid err_new out_old out_new
+      → DeliversRun (prints (status_of result)) names old new err_old err_new out_old out_new
+  kept_then_delivered ending result held same named kept silent printed delivered =
+      let of_names : Delivers names outputs lines mid new err_mid err_new out_old out_new =
+      subst (λ (l : List (List ℕ)). Delivers l outputs lines mid new err_mid err_new out_old out_new) named delivered in
+      record {
+        outputs = outputs;
+        lines = lines;
+        printed = subst (λ (e : Ending). prints (status_of e) outputs (Some []) (Some lines)) (sym same) printed;
+        delivered = record {
+          changed = kept_then_outputs old mid new names outputs kept of_names.changed;
+          shown = subst (λ (o : Option (List ℕ)). Shows (dash_bytes names outputs) lines o err_new out_old out_new) silent of_names.shown;
+        };
+      }
+
+-- the files that change, by equal names, after files that stayed
+pub kept_then_but : (held names : List (List ℕ)) (old mid new : Option Directory) → held ≡ names → KeepsFiles old mid → KeepsAllBut held mid new → KeepsAllBut names old new
+kept_then_but held names old mid new named kept changes =
+    but_then names old mid new (kept_but names old mid kept) (subst (λ (l : List (List ℕ)). KeepsAllBut l mid new) named changes)
+
+-- the names are those that texts write
+pub but_written : (held names : List (List ℕ)) (old new : Option Directory) → held ≡ names → KeepsAllBut held old new → KeepsAllBut names old new
+but_written held names old new named changes = subst (λ (l : List (List ℕ)). KeepsAllBut l old new) named changes
+
+-- the values are those that are written
+module _ (files new : Option Directory) (status : ℕ) (err_old err_new out_old out_new : Option (List ℕ)) (values : Values) where
+  pub program_delivered : (wanted : ProgramWanted) → values_read wanted ≡ Ok values → output_names values ≡ outputs_in wanted.output_files
+      → DeliversRun (PrintsFiles wanted values files status) (output_names values) files new err_old err_new out_old out_new
+      → DeliversRun (PrintsProgram wanted files status) (outputs_in wanted.output_files) files new err_old err_new out_old out_new
+  program_delivered wanted written named run = record {
+    outputs = run.outputs;
+    lines = run.lines;
+    printed = record { values = values; written = written; printed = run.printed };
+    delivered = subst (λ (l : List (List ℕ)). Delivers l run.outputs run.lines files new err_old err_new out_old out_new) named run.delivered;
+  }
+
+  pub execution_delivered : (wanted : ExecuteWanted) → execute_read wanted ≡ Ok values → output_names values ≡ outputs_in wanted.output_files
+      → DeliversRun (PrintsMerge wanted values files status) (output_names values) files new err_old err_new out_old out_new
+      → DeliversRun (PrintsExecution wanted files status) (outputs_in wanted.output_files) files new err_old err_new out_old out_new
+  execution_delivered wanted written named run = record {
+    outputs = run.outputs;
+    lines = run.lines;
+    printed = record { values = values; written = written; printed = run.printed };
+    delivered = subst (λ (l : List (List ℕ)). Delivers l run.outputs run.lines files new err_old err_new out_old out_new) named run.delivered;
+  }
