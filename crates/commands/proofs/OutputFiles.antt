@@ -1,11 +1,12 @@
 -- The files to which the bytes of ports go.
-use Rattle.commands.proofs.Prelude.{◌≡◌, ℕ, ◌<◌, ◌≤◌, Bool, true, false, List, [], ◌∷◌, ◌++◌, length, get_or, drop, map, append-nil, append_assoc, arith, Option, None, Some, OnOk, Result, Ok, Err, refl, sym, ap, subst, ◌∙◌, Appends, AppendsBeginning, Event, ChangesFiles, Directory, KeepsFiles, with_file, stays, kept_then_stopped, written_others, StopsWriting}
+use Rattle.commands.proofs.Prelude.{◌≡◌, ℕ, ◌<◌, ◌≤◌, Bool, true, false, List, [], ◌∷◌, ◌++◌, length, get_or, drop, map, append-nil, append_assoc, arith, Option, None, Some, OnOk, Result, Ok, Err, refl, sym, ap, subst, ◌∙◌, Appends, AppendsBeginning, Event, ChangesFiles, Directory, KeepsFiles, with_file, stays, kept_others, kept_then_stopped, written_others, StopsWriting, CountsFailure, Tells, TellsOther, file_line, inl, inr, ◌⊎◌, Bor}
 use Rattle.std.specs.Prelude.{OnErr, ◌||◌, if◌then◌else◌}
 use Rattle.std.specs.Bool.{Decides}
 use Rattle.std.specs.Str.{bytes_eq}
 use Rattle.std.proofs.lemmas.Slice.Eq.{bytes_eq-Decides}
 use Rattle.object_commands.specs.Linking.{KeepsOthers}
 use Rattle.command_line.specs.Settings.{NamedPort, file_names}
+use Rattle.commands.specs.Converting.{TellsOutput}
 use Rattle.commands.specs.OutputFiles.{KeepsAllBut, byte_written, bytes_written, dash_bytes, is_dash, is_output, with_output, with_outputs}
 use Rattle.commands.proofs.InputFiles.{seen_put}
 use Rattle.commands.proofs.Printed.{whole_begins}
@@ -122,8 +123,16 @@ pub dash_left : (files : Option Directory) (name bytes : List ℕ) → is_dash n
 dash_left None name bytes dash = tt
 dash_left (Some files) name bytes dash = λ other. rw dash refl
 
-pub file_written : (old new : Option Directory) (name bytes : List ℕ) → is_dash name ≡ false → ChangesFiles old new (with_file name bytes) → ChangesFiles old new (with_output name bytes)
+file_written : (old new : Option Directory) (name bytes : List ℕ) → is_dash name ≡ false → ChangesFiles old new (with_file name bytes) → ChangesFiles old new (with_output name bytes)
 file_written old new name bytes file written = rw file written
+
+pub written_as_output : {T E : Type 0} (result : Result T E) (old new : Option Directory) (name bytes : List ℕ) → is_dash name ≡ false → OnOk result (ChangesFiles old new (with_file name bytes))
+    → OnOk result (ChangesFiles old new (with_output name bytes))
+written_as_output (Ok done) old new name bytes file written = file_written old new name bytes file written
+written_as_output (Err failure) old new name bytes file written = tt
+
+pub no_others : (files : Option Directory) (name : List ℕ) → KeepsOthers files files name
+no_others files name = kept_others files files name (stays files)
 
 pub others_of : {T E : Type 0} (result : Result T E) (old new : Option Directory) (name bytes : List ℕ) → OnOk result (ChangesFiles old new (with_file name bytes))
     → OnErr result (StopsWriting old new name bytes) → KeepsOthers old new name
@@ -211,3 +220,14 @@ pub begun_of : {T E : Type 0} (result : Result T E) (old new : Option (List ℕ)
     → AppendsBeginning old new bytes
 begun_of (Ok done) old new bytes whole begun = whole_begins old new bytes whole
 begun_of (Err failure) old new bytes whole begun = begun
+
+-- one of the files was told
+pub output_told : (names : List (List ℕ)) (before after : ℕ) (old new : Option (List ℕ)) (name was : Bor (List ℕ)) → CountsFailure before after → name ≡ was → is_output names was.now ≡ true
+    → Tells (file_line name.now) old new → TellsOutput before after old new names
+output_told names before after old new name was counted same named told =
+    record { counted = counted; name = name.now; stopped = subst (λ (n : Bor (List ℕ)). is_output names n.now ≡ true) (sym same) named; told = told }
+
+-- it ended so, or something else than a file was told
+pub ended_or_told : {A B C D : Type 0} → A ⊎ D → C → A ⊎ (B ⊎ (C × D))
+ended_or_told (inl ended) count = inl ended
+ended_or_told (inr told) count = inr (inr (count, told))

@@ -74,6 +74,7 @@ pub(crate) fn put_outputs(
 }
 
 // Writes a file whole, but for standard output, which is left.
+#[tactic(auto, using(crate::proofs::OutputFiles::dash_left, crate::proofs::OutputFiles::no_others, crate::proofs::OutputFiles::written_as_output, crate::proofs::OutputFiles::others_of))]
 fn write_output<F: Files>(name: &str, bytes: &[u8], files: &mut F) -> Result<(), Failure<FileFault>>
     ensures ok { OnOk result
         (ChangesFiles (F.files files.old) (F.files files.new) (with_output name.now bytes.now)) }
@@ -89,6 +90,7 @@ fn write_output<F: Files>(name: &str, bytes: &[u8], files: &mut F) -> Result<(),
 
 // Writes each file whole, in the order of the options, but for standard output. A fault comes with the name of its file, and
 // is one failure that was counted.
+#[tactic(auto, using(crate::proofs::OutputFiles::none_written, crate::proofs::OutputFiles::next_named, crate::proofs::OutputFiles::others_kept, crate::proofs::OutputFiles::names_ended, crate::proofs::OutputFiles::outputs_ended))]
 fn write_outputs<'a, F: Files>(
     ports: &[PortFile<'a>],
     outputs: &[Vec<u8>],
@@ -121,6 +123,7 @@ fn write_outputs<'a, F: Files>(
 }
 
 // The bytes for standard output, where it has a port.
+#[tactic(auto, using(crate::proofs::OutputFiles::dash_there, crate::proofs::OutputFiles::dash_later, crate::proofs::OutputFiles::no_dash, crate::proofs::OutputFiles::no_bytes))]
 fn bytes_for_output<'a>(ports: &[PortFile], outputs: &'a [Vec<u8>]) -> Option<&'a [u8]>
     ensures { option_map (λ bytes. bytes.now) result
         ≡ dash_bytes (file_names (map port_file_in ports.now)) (map (λ output. output.items) outputs.now) }
@@ -141,6 +144,7 @@ fn bytes_for_output<'a>(ports: &[PortFile], outputs: &'a [Vec<u8>]) -> Option<&'
 }
 
 // Writes lines to standard error. A failure there is passed over.
+#[tactic(auto, using(crate::proofs::OutputFiles::begun_of))]
 fn write_aside<E: Write>(lines: &[u8], err: &mut E)
     ensures { AppendsBeginning (E.contents err.old) (E.contents err.new) lines.now }
 {
@@ -164,7 +168,10 @@ fn show<O: Write, E: Write>(
             write_aside(lines, err);
             Ok(())
         }
-        None => write_bytes(out, lines),
+        None => {
+            write_bytes(out, lines)?;
+            Ok(())
+        }
     }
 }
 
