@@ -1,5 +1,6 @@
 -- Runs with files of ports, or without.
-use Rattle.commands.proofs.Prelude.{◌≡◌, ◌⊎◌, ℕ, ◌==◌, Bool, true, false, List, [], ◌∷◌, ◌++◌, length, map, arith, Bor, Option, None, Some, Ok, inl, inr, refl, sym, ap, subst, ◌∙◌, CountsFailure, Directory, KeepsFiles, status_of, TellsRefusal, TellsOther, Ending, Refused, texts, ProgramWanted, Values, values_read, PrintsFiles, PrintsProgram, tells_no_file, Action, ToRun, Interpret, Construction, map_if}
+use Rattle.commands.proofs.Prelude.{◌≡◌, ◌⊎◌, ℕ, ◌==◌, Bool, true, false, List, [], ◌∷◌, ◌++◌, length, map, arith, Bor, Option, None, Some, Ok, inl, inr, refl, sym, ap, subst, ◌∙◌, CountsFailure, Directory, KeepsFiles, status_of, TellsRefusal, TellsOther, Ending, Refused, texts, ProgramWanted, Values, values_read, PrintsFiles, PrintsProgram, stays, tells_no_file, Action, ToRun, Interpret, Construction, map_if}
+use Rattle.std.proofs.lemmas.Bool.Decides.{nat_tests}
 use Rattle.command_line.specs.Command.{ExecuteWanted}
 use Rattle.command_line.specs.Settings.{NamedPort, execute_read, file_names, outputs_in}
 use Rattle.commands.specs.Converting.{TellsOutput, TellsRun}
@@ -24,7 +25,9 @@ with_files (text ∷ words) some q = q
 -- whether there are texts, as the count of words says
 pub no_words : (words : List (Bor (List ℕ))) → (length words == 0) ≡ true → texts words ≡ []
 no_words [] none = refl
-no_words (word ∷ words) none = cc
+no_words (word ∷ words) none =
+    let some : (length (word ∷ words) == 0) ≡ false = grind (arith, nat_tests) in
+    cc
 
 pub some_words : (words : List (Bor (List ℕ))) → (length words == 0) ≡ false → texts words ≡ [] → ⊥
 some_words [] some none = cc
@@ -59,10 +62,10 @@ pub plain_program : (wanted : ProgramWanted) (values : Values) (files : Option D
     → PrintsProgram wanted files status [] old new
 plain_program wanted values files status outputs old new none named written printed =
     let read = printed.printed in
-    let texts = read.printed in
+    let done = read.printed in
     let same : read.full.output_files ≡ values.output_files = ap (λ (v : Values). v.output_files) read.input.full_is in
     let empty : outputs ≡ [] =
-    none_built wanted.action (map_if wanted.map texts.built) read.full texts.built status outputs old new (same ∙ no_outputs wanted.output_files values.output_files none named) texts.printed in
+    none_built wanted.action (map_if wanted.map done.built) read.full done.built status outputs old new (same ∙ no_outputs wanted.output_files values.output_files none named) done.printed in
     record { values = values; written = written; printed = subst (λ (l : List (List ℕ)). PrintsFiles wanted values files status l old new) empty printed }
 
 pub plain_execution : (wanted : ExecuteWanted) (values : Values) (files : Option Directory) (status : ℕ) (outputs : List (List ℕ)) (old new : Option (List ℕ)) → wanted.output_files ≡ []
@@ -73,7 +76,7 @@ plain_execution wanted values files status outputs old new none named written pr
     let same : read.full.output_files ≡ values.output_files = ap (λ (v : Values). v.output_files) read.input.full_is in
     let empty : outputs ≡ [] =
     read.printed.gathered
-    ∙ ap (λ (of : List NamedPort). outputs_for of read.printed.machine.state.events) (same ∙ no_outputs wanted.output_files values.output_files none named) in
+    ∙ ap (λ (held : List NamedPort). outputs_for held read.printed.machine.state.events) (same ∙ no_outputs wanted.output_files values.output_files none named) in
     record { values = values; written = written; printed = subst (λ (l : List (List ℕ)). PrintsMerge wanted values files status l old new) empty printed }
 
 -- an ending that is not a refusal, and one that is
@@ -81,7 +84,7 @@ pub not_refused : (ending result : Ending) → (ending ≡ Refused → ⊥) → 
 not_refused ending result other same refused = other (sym same ∙ refused)
 
 -- what was told where a run was refused, or not delivered
-module _ (files mid : Option Directory) (names outputs : List (List ℕ)) (before now after : ℕ) (old new : Option (List ℕ)) where
+module _ (files : Option Directory) (names outputs : List (List ℕ)) (before now after : ℕ) (old new : Option (List ℕ)) where
   pub not_delivered : now ≡ before → (TellsOutput now after old new outputs) ⊎ ((after ≡ now) × TellsOther old new)
       → (TellsRefusal files names before after old new) ⊎ (TellsOutput before after old new outputs)
   not_delivered same (inl told) =
@@ -121,28 +124,21 @@ pub kept_then_but : (held names : List (List ℕ)) (old mid new : Option Directo
 kept_then_but held names old mid new named kept changes =
     but_then names old mid new (kept_but names old mid kept) (subst (λ (l : List (List ℕ)). KeepsAllBut l mid new) named changes)
 
+-- files that are the same
+pub same_but : (names : List (List ℕ)) (files : Option Directory) → KeepsAllBut names files files
+same_but names files = kept_but names files files (stays files)
+
 -- the names are those that texts write
 pub but_written : (held names : List (List ℕ)) (old new : Option Directory) → held ≡ names → KeepsAllBut held old new → KeepsAllBut names old new
 but_written held names old new named changes = subst (λ (l : List (List ℕ)). KeepsAllBut l old new) named changes
 
--- the values are those that are written
-module _ (files new : Option Directory) (status : ℕ) (err_old err_new out_old out_new : Option (List ℕ)) (values : Values) where
-  pub program_delivered : (wanted : ProgramWanted) → values_read wanted ≡ Ok values → output_names values ≡ outputs_in wanted.output_files
-      → DeliversRun (PrintsFiles wanted values files status) (output_names values) files new err_old err_new out_old out_new
-      → DeliversRun (PrintsProgram wanted files status) (outputs_in wanted.output_files) files new err_old err_new out_old out_new
-  program_delivered wanted written named run = record {
-    outputs = run.outputs;
-    lines = run.lines;
-    printed = record { values = values; written = written; printed = run.printed };
-    delivered = subst (λ (l : List (List ℕ)). Delivers l run.outputs run.lines files new err_old err_new out_old out_new) named run.delivered;
-  }
-
-  pub execution_delivered : (wanted : ExecuteWanted) → execute_read wanted ≡ Ok values → output_names values ≡ outputs_in wanted.output_files
-      → DeliversRun (PrintsMerge wanted values files status) (output_names values) files new err_old err_new out_old out_new
-      → DeliversRun (PrintsExecution wanted files status) (outputs_in wanted.output_files) files new err_old err_new out_old out_new
-  execution_delivered wanted written named run = record {
-    outputs = run.outputs;
-    lines = run.lines;
-    printed = record { values = values; written = written; printed = run.printed };
-    delivered = subst (λ (l : List (List ℕ)). Delivers l run.outputs run.lines files new err_old err_new out_old out_new) named run.delivered;
-  }
+-- a run that was delivered, by other words
+pub delivered_as : (prints all : (outputs : List (List ℕ)) → (old new : Option (List ℕ)) → Type 0) (held names : List (List ℕ)) (files new : Option Directory)
+    (err_old err_new out_old out_new : Option (List ℕ)) → ((outputs : List (List ℕ)) (first last : Option (List ℕ)) → prints outputs first last → all outputs first last) → held ≡ names
+    → DeliversRun prints held files new err_old err_new out_old out_new → DeliversRun all names files new err_old err_new out_old out_new
+delivered_as prints all held names files new err_old err_new out_old out_new so named run = record {
+  outputs = run.outputs;
+  lines = run.lines;
+  printed = so run.outputs (Some []) (Some run.lines) run.printed;
+  delivered = subst (λ (l : List (List ℕ)). Delivers l run.outputs run.lines files new err_old err_new out_old out_new) named run.delivered;
+}

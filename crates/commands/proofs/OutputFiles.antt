@@ -1,7 +1,6 @@
 -- The files to which the bytes of ports go.
 use Rattle.commands.proofs.Prelude.{◌≡◌, ℕ, ◌<◌, ◌≤◌, Bool, true, false, List, [], ◌∷◌, ◌++◌, length, get_or, drop, map, append-nil, append_assoc, arith, Option, None, Some, OnOk, Result, Ok, Err, refl, sym, ap, subst, ◌∙◌, Appends, AppendsBeginning, Event, ChangesFiles, Directory, KeepsFiles, with_file, stays, kept_others, kept_then_stopped, written_others, StopsWriting, CountsFailure, Tells, TellsOther, file_line, inl, inr, ◌⊎◌, Bor}
 use Rattle.std.specs.Prelude.{OnErr, ◌||◌, if◌then◌else◌}
-use Rattle.std.specs.Bool.{Decides}
 use Rattle.std.specs.Str.{bytes_eq}
 use Rattle.std.proofs.lemmas.Slice.Eq.{bytes_eq-Decides}
 use Rattle.object_commands.specs.Linking.{KeepsOthers}
@@ -30,16 +29,13 @@ looked_more look (v ∷ made) one = ap (λ (l : List (List ℕ)). look v ∷ l) 
 
 pub output_put : {A B V : Type 0} (see : A → B) (h : B → List ℕ) (look : V → List ℕ) (total : List (List ℕ)) (made new : List V) (one : V) (xs : List A) (x : A) → 1 ≤ length xs
     → x ≡ get_or xs 0 x → look one ≡ h (see x) → map look made ++ map h (map see xs) ≡ total → new ≡ made ++ one ∷ [] → map look new ++ map h (map see (drop 1 xs)) ≡ total
-output_put {V = V} see h look total made new one xs x some is same rest added =
+output_put {A} {B} {V} see h look total made new one xs x some is same rest added =
     seen_put see h total (map look made) (map look new) xs x some is rest
     (ap (λ (l : List V). map look l) added ∙ looked_more look made one ∙ ap (λ (n : List ℕ). map look made ++ n ∷ []) same)
 
 -- a name is among names
-decided : (t : Bool) (P : Type 0) → Decides t P → P → t ≡ true
-decided t P h p = h.1 p
-
 eq_itself : (xs : List ℕ) → bytes_eq xs xs ≡ true
-eq_itself xs = decided (bytes_eq xs xs) (xs ≡ xs) (bytes_eq-Decides xs xs) refl
+eq_itself xs = (bytes_eq-Decides xs xs).1 refl
 
 or_true : (b : Bool) → (b || true) ≡ true
 or_true true = refl
@@ -124,7 +120,9 @@ dash_left None name bytes dash = tt
 dash_left (Some files) name bytes dash = λ other. rw dash refl
 
 file_written : (old new : Option Directory) (name bytes : List ℕ) → is_dash name ≡ false → ChangesFiles old new (with_file name bytes) → ChangesFiles old new (with_output name bytes)
-file_written old new name bytes file written = rw file written
+file_written None new name bytes file written = tt
+file_written (Some old) None name bytes file written = absurd written
+file_written (Some old) (Some new) name bytes file written = λ other. rw file (written other)
 
 pub written_as_output : {T E : Type 0} (result : Result T E) (old new : Option Directory) (name bytes : List ℕ) → is_dash name ≡ false → OnOk result (ChangesFiles old new (with_file name bytes))
     → OnOk result (ChangesFiles old new (with_output name bytes))
@@ -167,12 +165,12 @@ module _ {A B : Type 0} (see : A → NamedPort) (look : B → List ℕ) (start n
       → ChangesFiles now next (with_output (see x).name (look y)) → KeepsOthers now next (see x).name
       → WrittenSoFar start now names outputs (file_names (map see xs)) (map look ys)
       → WrittenSoFar start next names outputs (file_names (map see (drop 1 xs))) (map look (drop 1 ys))
-  one_written next [] ys x y some more is as changes others so_far = absurd (omega arith)
-  one_written next (a ∷ xs) [] x y some more is as changes others so_far = absurd (omega arith)
-  one_written next (a ∷ xs) (b ∷ ys) x y some more is as changes others so_far =
+  one_written next [] ys x y some more is also changes others so_far = absurd (omega arith)
+  one_written next (a ∷ xs) [] x y some more is also changes others so_far = absurd (omega arith)
+  one_written next (a ∷ xs) (b ∷ ys) x y some more is also changes others so_far =
       let written : ChangesFiles now next (with_output (see a).name (look b)) =
       subst (λ (v : A). ChangesFiles now next (with_output (see v).name (look b))) is
-      (subst (λ (w : B). ChangesFiles now next (with_output (see x).name (look w))) as changes) in
+      (subst (λ (w : B). ChangesFiles now next (with_output (see x).name (look w))) also changes) in
       record {
         goes_on = λ new after. so_far.goes_on new (changes_then now next new (see a).name (look b) (file_names (map see xs)) (map look ys) written after);
         others = others_kept next (a ∷ xs) (b ∷ ys) x some is others so_far;
@@ -192,11 +190,12 @@ module _ {A B : Type 0} (see : A → NamedPort) (look : B → List ℕ) (start n
 module _ {A B : Type 0} (see : A → NamedPort) (look : B → List ℕ) (total : Option (List ℕ)) where
   pub dash_there : (xs : List A) (ys : List B) (x : A) (y : B) → 1 ≤ length xs → 1 ≤ length ys → x ≡ get_or xs 0 x → y ≡ get_or ys 0 y → is_dash (see x).name ≡ true
       → dash_bytes (file_names (map see xs)) (map look ys) ≡ total → Some (look y) ≡ total
-  dash_there [] ys x y some more is as dash rest = absurd (omega arith)
-  dash_there (a ∷ xs) [] x y some more is as dash rest = absurd (omega arith)
-  dash_there (a ∷ xs) (b ∷ ys) x y some more is as dash rest =
+  dash_there [] ys x y some more is also dash rest = absurd (omega arith)
+  dash_there (a ∷ xs) [] x y some more is also dash rest = absurd (omega arith)
+  dash_there (a ∷ xs) (b ∷ ys) x y some more is also dash rest =
       let here : is_dash (see a).name ≡ true = subst (λ (v : A). is_dash (see v).name ≡ true) is dash in
-      ap (λ (w : B). Some (look w)) as ∙ sym (rw here refl) ∙ rest
+      let first : dash_bytes (file_names (map see (a ∷ xs))) (map look (b ∷ ys)) ≡ Some (look b) = rw here refl in
+      ap (λ (w : B). Some (look w)) also ∙ sym first ∙ rest
 
   pub dash_later : (xs : List A) (ys : List B) (x : A) → 1 ≤ length xs → 1 ≤ length ys → x ≡ get_or xs 0 x → is_dash (see x).name ≡ false
       → dash_bytes (file_names (map see xs)) (map look ys) ≡ total → dash_bytes (file_names (map see (drop 1 xs))) (map look (drop 1 ys)) ≡ total
@@ -204,7 +203,8 @@ module _ {A B : Type 0} (see : A → NamedPort) (look : B → List ℕ) (total :
   dash_later (a ∷ xs) [] x some more is other rest = absurd (omega arith)
   dash_later (a ∷ xs) (b ∷ ys) x some more is other rest =
       let here : is_dash (see a).name ≡ false = subst (λ (v : A). is_dash (see v).name ≡ false) is other in
-      sym (rw here refl) ∙ rest
+      let later : dash_bytes (file_names (map see (a ∷ xs))) (map look (b ∷ ys)) ≡ dash_bytes (file_names (map see xs)) (map look ys) = rw here refl in
+      sym later ∙ rest
 
   pub no_dash : (xs : List A) (ys : List B) → length xs < 1 → dash_bytes (file_names (map see xs)) (map look ys) ≡ total → None ≡ total
   no_dash [] ys none rest = rest

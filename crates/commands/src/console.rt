@@ -161,7 +161,7 @@ fn end_line<O: Write, E: Write>(fault: &LineFault, out: &mut O, err: &mut E) -> 
 }
 
 // Carries out an order.
-#[tactic(auto, using(crate::proofs::OrdersKept::kept_as_wanted, crate::proofs::OrdersKept::done_status, crate::proofs::OrdersKept::other_status, crate::proofs::ProgramsTold::refuses_compile, crate::proofs::Explained::refuses_explain, crate::proofs::Printed::stays_written))]
+#[tactic(auto, using(crate::proofs::OrdersKept::kept_as_wanted, crate::proofs::OrdersKept::done_status, crate::proofs::OrdersKept::other_status, crate::proofs::ProgramsTold::refuses_compile, crate::proofs::Explained::refuses_explain, crate::proofs::Printed::stays_written, crate::proofs::ProgramsTold::quiet_as_wanted))]
 fn carry_out<F: Files, O: Write, E: Write>(
     alloc: Global,
     order: &Order,

@@ -103,7 +103,7 @@ fn execute_plainly<F: Files, O: Write, E: Write>(
 }
 
 // The same with files of ports: first the run, whose lines and bytes are kept, and then all that is written.
-#[tactic(auto, using(crate::proofs::Delivered::kept_but))]
+#[tactic(auto, using(crate::proofs::Delivered::same_but))]
 fn execute_to_files<F: Files, O: Write, E: Write>(
     alloc: Global,
     order: &ExecuteOrder,
@@ -135,7 +135,7 @@ fn execute_to_files<F: Files, O: Write, E: Write>(
 }
 
 // The same with these values.
-#[tactic(auto, using(crate::proofs::Delivered::kept_but))]
+#[tactic(auto, using(crate::proofs::Delivered::same_but))]
 fn deliver_objects<F: Files, O: Write, E: Write>(
     alloc: Global,
     order: &ExecuteOrder,
