@@ -158,7 +158,7 @@ fn show<O: Write, E: Write>(
     out: &mut O,
     err: &mut E,
 ) -> Result<(), Failure<WriteFault>>
-    ensures shown { OnOk result (Shows (option_map (λ bytes. bytes.now) bytes) lines.now
+    ensures shown { OnOk result (Shows (option_map (λ bytes. bytes.now) bytes.entry) lines.now
         (E.contents err.old) (E.contents err.new) (O.contents out.old) (O.contents out.new)) }
     ensures silent { OnErr result (E.contents err.new ≡ E.contents err.old) }
 {
@@ -215,7 +215,7 @@ fn show_run<O: Write, E: Write>(
 ) -> Ending
     ensures same { (result ≡ Ending.Refused → ⊥) → result ≡ ending }
     ensures told { result ≡ ending ⊎ TellsOther (E.contents err.old) (E.contents err.new) }
-    ensures shown { (result ≡ Ending.Refused → ⊥) → Shows (option_map (λ bytes. bytes.now) bytes) lines.now
+    ensures shown { (result ≡ Ending.Refused → ⊥) → Shows (option_map (λ bytes. bytes.now) bytes.entry) lines.now
         (E.contents err.old) (E.contents err.new) (O.contents out.old) (O.contents out.new) }
 {
     match show(bytes, lines, out, err) {
