@@ -79,17 +79,22 @@ plain_execution wanted values files status outputs old new none named written pr
     ∙ ap (λ (held : List NamedPort). outputs_for held read.printed.machine.state.events) (same ∙ no_outputs wanted.output_files values.output_files none named) in
     record { values = values; written = written; printed = subst (λ (l : List (List ℕ)). PrintsMerge wanted values files status l old new) empty printed }
 
--- an ending that is not a refusal, and one that is
-pub not_refused : (ending result : Ending) → (ending ≡ Refused → ⊥) → result ≡ ending → result ≡ Refused → ⊥
-not_refused ending result other same refused = other (sym same ∙ refused)
-
--- what was told where a run was refused, or not delivered
-module _ (files : Option Directory) (names outputs : List (List ℕ)) (before now after : ℕ) (old new : Option (List ℕ)) where
-  pub not_delivered : now ≡ before → (TellsOutput now after old new outputs) ⊎ ((after ≡ now) × TellsOther old new)
+-- what was told where a run that was kept was not delivered
+module _ (files : Option Directory) (names held outputs : List (List ℕ)) (before now after : ℕ) (old mid new : Option (List ℕ)) where
+  not_delivered : held ≡ outputs → now ≡ before → mid ≡ old → (TellsOutput now after mid new held) ⊎ ((after ≡ now) × TellsOther mid new)
       → (TellsRefusal files names before after old new) ⊎ (TellsOutput before after old new outputs)
-  not_delivered same (inl told) =
-      inr (record { counted = subst (λ (n : ℕ). CountsFailure n after) same told.counted; name = told.name; stopped = told.stopped; told = told.told })
-  not_delivered same (inr (count, other)) = inl (tells_no_file _ _ _ _ _ _ (count ∙ same) other)
+  not_delivered named same silent (inl told) =
+      let of_names : TellsOutput now after mid new outputs = subst (λ (l : List (List ℕ)). TellsOutput now after mid new l) named told in
+      let of_count : TellsOutput before after mid new outputs = subst (λ (n : ℕ). TellsOutput n after mid new outputs) same of_names in
+      inr (subst (λ (o : Option (List ℕ)). TellsOutput before after o new outputs) silent of_count)
+  not_delivered named same silent (inr (count, other)) =
+      inl (tells_no_file files names before after old new (count ∙ same) (subst (λ (o : Option (List ℕ)). TellsOther o new) silent other))
+
+  pub told_instead : (ending result : Ending) → (ending ≡ Refused → ⊥) → result ≡ Refused → held ≡ outputs → now ≡ before → mid ≡ old
+      → (result ≡ ending) ⊎ ((TellsOutput now after mid new held) ⊎ ((after ≡ now) × TellsOther mid new))
+      → (TellsRefusal files names before after old new) ⊎ (TellsOutput before after old new outputs)
+  told_instead ending result other refused named same silent (inl ended) = absurd (other (sym ended ∙ refused))
+  told_instead ending result other refused named same silent (inr told) = not_delivered named same silent told
 
 -- what was told of files of ports and of others, by the names that texts write
 pub told_as_written : (files : Option Directory) (first held written of_values of_texts : List (List ℕ)) (before after : ℕ) (old new : Option (List ℕ)) → held ≡ written → of_values ≡ of_texts
