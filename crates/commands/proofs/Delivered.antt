@@ -1,5 +1,5 @@
 -- Runs with files of ports, or without.
-use Rattle.commands.proofs.Prelude.{◌≡◌, ◌⊎◌, ℕ, ◌==◌, Bool, true, false, List, [], ◌∷◌, ◌++◌, length, map, arith, Bor, Option, None, Some, Ok, inl, inr, refl, sym, ap, subst, ◌∙◌, CountsFailure, Directory, KeepsFiles, status_of, TellsRefusal, TellsOther, Ending, Refused, texts, ProgramWanted, Values, values_read, PrintsFiles, PrintsProgram, stays, tells_no_file, Action, ToRun, Interpret, Construction, map_if}
+use Rattle.commands.proofs.Prelude.{◌≡◌, ◌⊎◌, ℕ, ◌==◌, Bool, true, false, List, [], ◌∷◌, ◌++◌, length, map, arith, Bor, Option, None, Some, Ok, inl, inr, refl, sym, ap, subst, ◌∙◌, CountsFailure, Directory, KeepsFiles, status_of, TellsRefusal, TellsOther, Ending, Refused, WrongLine, texts, ProgramWanted, Values, values_read, PrintsFiles, PrintsProgram, stays, tells_no_file, Action, ToRun, Interpret, Construction, map_if}
 use Rattle.std.proofs.lemmas.Bool.Decides.{nat_tests}
 use Rattle.command_line.specs.Command.{ExecuteWanted}
 use Rattle.command_line.specs.Settings.{NamedPort, execute_read, file_names, outputs_in}
@@ -95,6 +95,18 @@ module _ (files : Option Directory) (names held outputs : List (List ℕ)) (befo
       → (TellsRefusal files names before after old new) ⊎ (TellsOutput before after old new outputs)
   told_instead ending result other refused named same silent (inl ended) = absurd (other (sym ended ∙ refused))
   told_instead ending result other refused named same silent (inr told) = not_delivered named same silent told
+
+-- another fault than that of a file was told
+pub other_told : (files : Option Directory) (names outputs : List (List ℕ)) (before after : ℕ) (old new : Option (List ℕ)) → after ≡ before → TellsOther old new
+    → (TellsRefusal files names before after old new) ⊎ (TellsOutput before after old new outputs)
+other_told files names outputs before after old new count told = inl (tells_no_file files names before after old new count told)
+
+-- a run that was delivered ended as it did before that
+pub not_wrong_after : (ending result : Ending) → (ending ≡ WrongLine → ⊥) → ((result ≡ Refused → ⊥) → result ≡ ending) → result ≡ WrongLine → ⊥
+not_wrong_after ending result other same wrong = other (sym (same (λ refused. clash (sym wrong ∙ refused))) ∙ wrong)
+  where
+    clash : WrongLine ≡ Refused → ⊥
+    clash e = cc
 
 -- what was told of files of ports and of others, by the names that texts write
 pub told_as_written : (files : Option Directory) (first held written of_values of_texts : List (List ℕ)) (before after : ℕ) (old new : Option (List ℕ)) → held ≡ written → of_values ≡ of_texts

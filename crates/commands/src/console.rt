@@ -255,7 +255,6 @@ fn carry_out_place<F: Files, O: Write, E: Write>(
 }
 
 // Carries out an order on sources, with files of ports or without.
-#[tactic(auto, using(crate::proofs::Delivered::without, crate::proofs::Delivered::with_files))]
 fn carry_out_program<F: Files, O: Write, E: Write>(
     alloc: Global,
     order: &ProgramOrder,

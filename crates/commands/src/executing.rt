@@ -33,7 +33,6 @@ use std::io::Write;
 
 /// Merges the objects of an order, places the merge and runs it on a memory as values start it, with files of ports or
 /// without, once the values of its options are known.
-#[tactic(auto, using(crate::proofs::Delivered::without, crate::proofs::Delivered::with_files))]
 pub(crate) fn execute_objects<F: Files, O: Write, E: Write>(
     alloc: Global,
     order: &ExecuteOrder,
@@ -103,7 +102,7 @@ fn execute_plainly<F: Files, O: Write, E: Write>(
 }
 
 // The same with files of ports: first the run, whose lines and bytes are kept, and then all that is written.
-#[tactic(auto, using(crate::proofs::Delivered::same_but))]
+#[tactic(auto, using(crate::proofs::Delivered::same_but, crate::proofs::Delivered::other_told))]
 fn execute_to_files<F: Files, O: Write, E: Write>(
     alloc: Global,
     order: &ExecuteOrder,
@@ -135,7 +134,7 @@ fn execute_to_files<F: Files, O: Write, E: Write>(
 }
 
 // The same with these values.
-#[tactic(auto, using(crate::proofs::Delivered::same_but))]
+#[tactic(auto, using(crate::proofs::Delivered::same_but, crate::proofs::Delivered::other_told))]
 fn deliver_objects<F: Files, O: Write, E: Write>(
     alloc: Global,
     order: &ExecuteOrder,

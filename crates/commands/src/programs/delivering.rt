@@ -22,7 +22,7 @@ use std::io::Write;
 
 /// Carries out an order on sources with files of ports, once the values of its options are known: first the run, whose lines
 /// and bytes are kept, and then all that is written.
-#[tactic(auto, using(crate::proofs::Delivered::same_but))]
+#[tactic(auto, using(crate::proofs::Delivered::same_but, crate::proofs::Delivered::other_told))]
 pub fn carry_out_to_files<F: Files, O: Write, E: Write>(
     alloc: Global,
     order: &ProgramOrder,
@@ -54,7 +54,7 @@ pub fn carry_out_to_files<F: Files, O: Write, E: Write>(
 }
 
 // The same with these values.
-#[tactic(auto, using(crate::proofs::Delivered::same_but))]
+#[tactic(auto, using(crate::proofs::Delivered::same_but, crate::proofs::Delivered::other_told))]
 fn deliver_program<F: Files, O: Write, E: Write>(
     alloc: Global,
     order: &ProgramOrder,
