@@ -92,19 +92,19 @@ fn interpret_program<O: Write, E: Write>(
 #[tactic(auto, using(crate::proofs::Printed::meaning_with_map, crate::proofs::Printed::meaning_alone, crate::proofs::Printed::map_stops, crate::proofs::Printed::stops_with_map, crate::proofs::Printed::stops_alone))]
 fn print_program<O: Write>(
     alloc: Global,
-    map: bool,
+    with_map: bool,
     settings: &Settings,
     built: &Built,
     outputs: &mut Vec<Vec<u8>>,
     out: &mut O,
 ) -> Result<Option<SourceEnd>, Failure<WriteFault>>
-    ensures ok { IfOk result (λ end. PrintsMeaning (map_if map built.now) (values_in settings.now) built.now
+    ensures ok { IfOk result (λ end. PrintsMeaning (map_if with_map built.now) (values_in settings.now) built.now
         (source_status (option_map stop_of end)) (map (λ output. output.items) outputs.new.items)
         (O.contents out.old) (O.contents out.new)) }
-    ensures err { OnErr result (StopsBuilt Interpret (map_if map built.now) (values_in settings.now) built.now
+    ensures err { OnErr result (StopsBuilt Interpret (map_if with_map built.now) (values_in settings.now) built.now
         (O.contents out.old) (O.contents out.new)) }
 {
-    if map {
+    if with_map {
         print_map(alloc, built, out)?;
     }
     let end = print_meaning(alloc, settings, built, outputs, out)?;

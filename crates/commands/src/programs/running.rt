@@ -86,19 +86,19 @@ fn run_built<O: Write, E: Write>(
 #[tactic(auto, using(crate::proofs::Printed::machine_with_map, crate::proofs::Printed::machine_alone, crate::proofs::Printed::map_stops, crate::proofs::Printed::stops_with_map, crate::proofs::Printed::stops_alone))]
 fn print_built<O: Write>(
     alloc: Global,
-    map: bool,
+    with_map: bool,
     settings: &Settings,
     built: &Built,
     outputs: &mut Vec<Vec<u8>>,
     out: &mut O,
 ) -> Result<End, Failure<WriteFault>>
-    ensures ok { IfOk result (λ end. PrintsMachine (map_if map built.now) (values_in settings.now) built.now
+    ensures ok { IfOk result (λ end. PrintsMachine (map_if with_map built.now) (values_in settings.now) built.now
         (end_status end) (map (λ output. output.items) outputs.new.items)
         (O.contents out.old) (O.contents out.new)) }
-    ensures err { OnErr result (StopsBuilt Run (map_if map built.now) (values_in settings.now) built.now
+    ensures err { OnErr result (StopsBuilt Run (map_if with_map built.now) (values_in settings.now) built.now
         (O.contents out.old) (O.contents out.new)) }
 {
-    if map {
+    if with_map {
         print_map(alloc, built, out)?;
     }
     let end = print_image(alloc, settings, built, outputs, out)?;
