@@ -129,8 +129,8 @@ fn end_words<F: Files, O: Write, E: Write>(
         O.contents out.new ≡ O.contents out.old }
     ensures faulty { (fault_of plm_app (texts words.now) ≡ [] → ⊥) → status_of result ≤ 2 }
     ensures count { (result ≡ Ending.Refused → ⊥) → F.failures files.new ≡ F.failures files.old }
-    ensures quiet { (result ≡ Ending.Refused → ⊥) → (result ≡ Ending.WrongLine → ⊥) → QuietByWords
-        (wanted_by (texts words.now)) (E.contents err.old) (E.contents err.new) }
+    ensures quiet { (result ≡ Ending.Refused → ⊥) → (result ≡ Ending.WrongLine → ⊥)
+        → QuietByWords (wanted_by (texts words.now)) (E.contents err.old) (E.contents err.new) }
 {
     match command(alloc, words) {
         Ok(order) => carry_out(alloc, &order, files, out, err),

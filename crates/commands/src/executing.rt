@@ -143,7 +143,8 @@ fn deliver_objects<F: Files, O: Write, E: Write>(
     out: &mut O,
     err: &mut E,
 ) -> Ending
-    ensures unchanged { KeepsAllBut (output_names (values_in values.old)) (F.files files.old) (F.files files.new) }
+    ensures unchanged { KeepsAllBut (output_names (values_in values.old))
+        (F.files files.old) (F.files files.new) }
     ensures not_wrong { result ≡ Ending.WrongLine → ⊥ }
     ensures told { result ≡ Ending.Refused → TellsRefusal (F.files files.old)
         ((execute_in order.now).objects ++ input_names (values_in values.old))

@@ -215,7 +215,8 @@ fn show_run<O: Write, E: Write>(
 ) -> Ending
     ensures same { (result ≡ Ending.Refused → ⊥) → result ≡ ending }
     ensures told { result ≡ ending ⊎ TellsOther (E.contents err.old) (E.contents err.new) }
-    ensures shown { (result ≡ Ending.Refused → ⊥) → Shows (option_map (λ bytes. bytes.now) bytes.entry) lines.now
+    ensures shown { (result ≡ Ending.Refused → ⊥)
+        → Shows (option_map (λ bytes. bytes.now) bytes.entry) lines.now
         (E.contents err.old) (E.contents err.new) (O.contents out.old) (O.contents out.new) }
 {
     match show(bytes, lines, out, err) {

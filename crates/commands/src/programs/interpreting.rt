@@ -98,10 +98,12 @@ fn print_program<O: Write>(
     outputs: &mut Vec<Vec<u8>>,
     out: &mut O,
 ) -> Result<Option<SourceEnd>, Failure<WriteFault>>
-    ensures ok { IfOk result (λ end. PrintsMeaning (map_if with_map built.now) (values_in settings.now) built.now
+    ensures ok { IfOk result (λ end. PrintsMeaning
+        (map_if with_map built.now) (values_in settings.now) built.now
         (source_status (option_map stop_of end)) (map (λ output. output.items) outputs.new.items)
         (O.contents out.old) (O.contents out.new)) }
-    ensures err { OnErr result (StopsBuilt Interpret (map_if with_map built.now) (values_in settings.now) built.now
+    ensures err { OnErr result (StopsBuilt Interpret
+        (map_if with_map built.now) (values_in settings.now) built.now
         (O.contents out.old) (O.contents out.new)) }
 {
     if with_map {

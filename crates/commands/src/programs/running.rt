@@ -92,7 +92,8 @@ fn print_built<O: Write>(
     outputs: &mut Vec<Vec<u8>>,
     out: &mut O,
 ) -> Result<End, Failure<WriteFault>>
-    ensures ok { IfOk result (λ end. PrintsMachine (map_if with_map built.now) (values_in settings.now) built.now
+    ensures ok { IfOk result (λ end. PrintsMachine
+        (map_if with_map built.now) (values_in settings.now) built.now
         (end_status end) (map (λ output. output.items) outputs.new.items)
         (O.contents out.old) (O.contents out.new)) }
     ensures err { OnErr result (StopsBuilt Run (map_if with_map built.now) (values_in settings.now) built.now
