@@ -15,13 +15,6 @@ pub by_any : (words : List (List ℕ)) {P Q : Type 0} → P → Q → ByOutputs 
 by_any [] p q = p
 by_any (text ∷ words) p q = q
 
-pub without : (words : List (List ℕ)) {P Q : Type 0} → words ≡ [] → P → ByOutputs words P Q
-without words none p = rw none p
-
-pub with_files : (words : List (List ℕ)) {P Q : Type 0} → (words ≡ [] → ⊥) → Q → ByOutputs words P Q
-with_files [] some q = absurd (some refl)
-with_files (text ∷ words) some q = q
-
 -- whether there are texts, as the count of words says
 pub no_words : (words : List (Bor (List ℕ))) → (length words == 0) ≡ true → texts words ≡ []
 no_words [] none = refl
@@ -29,9 +22,9 @@ no_words (word ∷ words) none =
     let some : (length (word ∷ words) == 0) ≡ false = grind (arith, nat_tests) in
     cc
 
-pub some_words : (words : List (Bor (List ℕ))) → (length words == 0) ≡ false → texts words ≡ [] → ⊥
-some_words [] some none = cc
-some_words (word ∷ words) some none = cc
+pub some_words : (words : List (Bor (List ℕ))) → (length words == 0) ≡ false → (first : List ℕ) × ((rest : List (List ℕ)) × (texts words ≡ first ∷ rest))
+some_words [] some = cc
+some_words (word ∷ words) some = (word.now, (texts words, refl))
 
 -- the files that change
 pub but_changes : (names : List (List ℕ)) (old new : Option Directory) → KeepsAllBut names old new → ChangesOutputs names old new
