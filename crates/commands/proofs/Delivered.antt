@@ -16,15 +16,21 @@ by_any [] p q = p
 by_any (text ∷ words) p q = q
 
 -- whether there are texts, as the count of words says
-pub no_words : (words : List (Bor (List ℕ))) → (length words == 0) ≡ true → texts words ≡ []
-no_words [] none = refl
-no_words (word ∷ words) none =
+no_texts : (words : List (Bor (List ℕ))) → (length words == 0) ≡ true → texts words ≡ []
+no_texts [] none = refl
+no_texts (word ∷ words) none =
     let some : (length (word ∷ words) == 0) ≡ false = grind (arith, nat_tests) in
     cc
 
-pub some_words : (words : List (Bor (List ℕ))) → (length words == 0) ≡ false → (first : List ℕ) × ((rest : List (List ℕ)) × (texts words ≡ first ∷ rest))
-some_words [] some = cc
-some_words (word ∷ words) some = (word.now, (texts words, refl))
+pub no_words : (held words : List (Bor (List ℕ))) → held ≡ words → (length held == 0) ≡ true → texts words ≡ []
+no_words held words same none = no_texts words (subst (λ (l : List (Bor (List ℕ))). (length l == 0) ≡ true) same none)
+
+some_texts : (words : List (Bor (List ℕ))) → (length words == 0) ≡ false → (first : List ℕ) × ((rest : List (List ℕ)) × (texts words ≡ first ∷ rest))
+some_texts [] some = cc
+some_texts (word ∷ words) some = (word.now, (texts words, refl))
+
+pub some_words : (held words : List (Bor (List ℕ))) → held ≡ words → (length held == 0) ≡ false → (first : List ℕ) × ((rest : List (List ℕ)) × (texts words ≡ first ∷ rest))
+some_words held words same some = some_texts words (subst (λ (l : List (Bor (List ℕ))). (length l == 0) ≡ false) same some)
 
 -- the files that change
 pub but_changes : (names : List (List ℕ)) (old new : Option Directory) → KeepsAllBut names old new → ChangesOutputs names old new
