@@ -25,12 +25,18 @@ no_texts (word ∷ words) none =
 pub no_words : (held words : List (Bor (List ℕ))) → held ≡ words → (length held == 0) ≡ true → texts words ≡ []
 no_words held words same none = no_texts words (subst (λ (l : List (Bor (List ℕ))). (length l == 0) ≡ true) same none)
 
-some_texts : (words : List (Bor (List ℕ))) → (length words == 0) ≡ false → (first : List ℕ) × ((rest : List (List ℕ)) × (texts words ≡ first ∷ rest))
-some_texts [] some = cc
-some_texts (word ∷ words) some = (word.now, (texts words, refl))
+-- what holds without files of ports, where there are none, and what holds with them, where there are some
+pub without_words : (held words : List (Bor (List ℕ))) (without with_files : Type 0) → held ≡ words → (length held == 0) ≡ true → without → ByOutputs (texts words) without with_files
+without_words held words without with_files same none holds =
+    subst (λ (l : List (List ℕ)). ByOutputs l without with_files) (sym (no_words held words same none)) holds
 
-pub some_words : (held words : List (Bor (List ℕ))) → held ≡ words → (length held == 0) ≡ false → (first : List ℕ) × ((rest : List (List ℕ)) × (texts words ≡ first ∷ rest))
-some_words held words same some = some_texts words (subst (λ (l : List (Bor (List ℕ))). (length l == 0) ≡ false) same some)
+by_texts : (words : List (Bor (List ℕ))) (without with_files : Type 0) → (length words == 0) ≡ false → with_files → ByOutputs (texts words) without with_files
+by_texts [] without with_files some holds = cc
+by_texts (word ∷ words) without with_files some holds = holds
+
+pub with_words : (held words : List (Bor (List ℕ))) (without with_files : Type 0) → held ≡ words → (length held == 0) ≡ false → with_files → ByOutputs (texts words) without with_files
+with_words held words without with_files same some holds =
+    by_texts words without with_files (subst (λ (l : List (Bor (List ℕ))). (length l == 0) ≡ false) same some) holds
 
 -- the files that change
 pub but_changes : (names : List (List ℕ)) (old new : Option Directory) → KeepsAllBut names old new → ChangesOutputs names old new
