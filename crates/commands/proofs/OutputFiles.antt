@@ -175,6 +175,10 @@ module _ {A B : Type 0} (see : A → NamedPort) (look : B → List ℕ) (start n
   others_kept next xs ys x some is others so_far =
       but_then names start now next so_far.others (others_but names (see x).name now next (next_named xs ys x some is so_far) others)
 
+  pub others_left : (next : Option Directory) (xs : List A) (ys : List B) (x no_x : A) → 1 ≤ length xs → x ≡ get_or xs 0 no_x → KeepsOthers now next (see x).name
+      → WrittenSoFar start now names outputs (file_names (map see xs)) (map look ys) → KeepsAllBut names start next
+  others_left next xs ys x no_x some is others so_far = others_kept next xs ys x some (first_any xs x no_x some is) others so_far
+
   pub one_written : (next : Option Directory) (xs : List A) (ys : List B) (x : A) (y : B) → 1 ≤ length xs → 1 ≤ length ys → x ≡ get_or xs 0 x → y ≡ get_or ys 0 y
       → ChangesFiles now next (with_output (see x).name (look y)) → KeepsOthers now next (see x).name
       → WrittenSoFar start now names outputs (file_names (map see xs)) (map look ys)
