@@ -15,23 +15,28 @@ pub by_any : (words : List (List ℕ)) {P Q : Type 0} → P → Q → ByOutputs 
 by_any [] p q = p
 by_any (text ∷ words) p q = q
 
-pub without : (words : List (List ℕ)) {P Q : Type 0} → words ≡ [] → P → ByOutputs words P Q
-without words none p = rw none p
-
-pub with_files : (words : List (List ℕ)) {P Q : Type 0} → (words ≡ [] → ⊥) → Q → ByOutputs words P Q
-with_files [] some q = absurd (some refl)
-with_files (text ∷ words) some q = q
-
 -- whether there are texts, as the count of words says
-pub no_words : (words : List (Bor (List ℕ))) → (length words == 0) ≡ true → texts words ≡ []
-no_words [] none = refl
-no_words (word ∷ words) none =
+no_texts : (words : List (Bor (List ℕ))) → (length words == 0) ≡ true → texts words ≡ []
+no_texts [] none = refl
+no_texts (word ∷ words) none =
     let some : (length (word ∷ words) == 0) ≡ false = grind (arith, nat_tests) in
     cc
 
-pub some_words : (words : List (Bor (List ℕ))) → (length words == 0) ≡ false → texts words ≡ [] → ⊥
-some_words [] some none = cc
-some_words (word ∷ words) some none = cc
+pub no_words : (held words : List (Bor (List ℕ))) → held ≡ words → (length held == 0) ≡ true → texts words ≡ []
+no_words held words same none = no_texts words (subst (λ (l : List (Bor (List ℕ))). (length l == 0) ≡ true) same none)
+
+-- what holds without files of ports, where there are none, and what holds with them, where there are some
+pub without_words : (held words : List (Bor (List ℕ))) (without with_files : Type 0) → held ≡ words → (length held == 0) ≡ true → without → ByOutputs (texts words) without with_files
+without_words held words without with_files same none holds =
+    subst (λ (l : List (List ℕ)). ByOutputs l without with_files) (sym (no_words held words same none)) holds
+
+by_texts : (words : List (Bor (List ℕ))) (without with_files : Type 0) → (length words == 0) ≡ false → with_files → ByOutputs (texts words) without with_files
+by_texts [] without with_files some holds = cc
+by_texts (word ∷ words) without with_files some holds = holds
+
+pub with_words : (held words : List (Bor (List ℕ))) (without with_files : Type 0) → held ≡ words → (length held == 0) ≡ false → with_files → ByOutputs (texts words) without with_files
+with_words held words without with_files same some holds =
+    by_texts words without with_files (subst (λ (l : List (Bor (List ℕ))). (length l == 0) ≡ false) same some) holds
 
 -- the files that change
 pub but_changes : (names : List (List ℕ)) (old new : Option Directory) → KeepsAllBut names old new → ChangesOutputs names old new

@@ -2,6 +2,8 @@
 use Rattle.commands.proofs.Prelude.{◌≡◌, ℕ, ◌<◌, ◌≤◌, Bool, true, false, List, [], ◌∷◌, ◌++◌, length, get_or, drop, map, append-nil, append_assoc, arith, Option, None, Some, OnOk, Result, Ok, Err, refl, sym, ap, subst, ◌∙◌, Appends, AppendsBeginning, Event, ChangesFiles, Directory, KeepsFiles, with_file, stays, kept_others, kept_then_stopped, written_others, StopsWriting, CountsFailure, Tells, TellsOther, file_line, inl, inr, ◌⊎◌, Bor}
 use Rattle.std.specs.Prelude.{OnErr, ◌||◌, if◌then◌else◌}
 use Rattle.std.specs.Str.{bytes_eq}
+use Rattle.std.proofs.Common.{take, ◌-◌}
+use Rattle.std.proofs.Math.Seq.{take-length}
 use Rattle.std.proofs.lemmas.Slice.Eq.{bytes_eq-Decides}
 use Rattle.object_commands.specs.Linking.{KeepsOthers}
 use Rattle.command_line.specs.Settings.{NamedPort, file_names}
@@ -137,6 +139,18 @@ pub others_of : {T E : Type 0} (result : Result T E) (old new : Option Directory
 others_of (Ok done) old new name bytes written stopped = written_others old new name bytes written
 others_of (Err failure) old new name bytes written stopped = kept_then_stopped old old new name bytes (stays old) stopped
 
+-- what is left of a list after its first item
+rest_is : {A : Type 0} (xs : List A) → 1 ≤ length xs → take (length xs - 1) (drop 1 xs) ≡ drop 1 xs
+rest_is [] some = absurd (omega arith)
+rest_is (x ∷ xs) some =
+    let count : length (x ∷ xs) - 1 ≡ length xs = omega arith in
+    ap (λ (k : ℕ). take k xs) count ∙ take-length xs
+
+-- the first item, by any value that stands for none
+first_any : {A : Type 0} (xs : List A) (x none : A) → 1 ≤ length xs → x ≡ get_or xs 0 none → x ≡ get_or xs 0 x
+first_any [] x none some is = absurd (omega arith)
+first_any (one ∷ xs) x none some is = is
+
 -- The files of the names before those that are left were written: what writing the rest makes is what writing all does.
 pub record WrittenSoFar (start now : Option Directory) (names outputs rest_names rest_outputs : List (List ℕ)) : Type 0 where
   pub goes_on : (new : Option Directory) → ChangesFiles now new (with_outputs rest_names rest_outputs) → ChangesFiles start new (with_outputs names outputs)
@@ -161,6 +175,10 @@ module _ {A B : Type 0} (see : A → NamedPort) (look : B → List ℕ) (start n
   others_kept next xs ys x some is others so_far =
       but_then names start now next so_far.others (others_but names (see x).name now next (next_named xs ys x some is so_far) others)
 
+  pub others_left : (next : Option Directory) (xs : List A) (ys : List B) (x no_x : A) → 1 ≤ length xs → x ≡ get_or xs 0 no_x → KeepsOthers now next (see x).name
+      → WrittenSoFar start now names outputs (file_names (map see xs)) (map look ys) → KeepsAllBut names start next
+  others_left next xs ys x no_x some is others so_far = others_kept next xs ys x some (first_any xs x no_x some is) others so_far
+
   pub one_written : (next : Option Directory) (xs : List A) (ys : List B) (x : A) (y : B) → 1 ≤ length xs → 1 ≤ length ys → x ≡ get_or xs 0 x → y ≡ get_or ys 0 y
       → ChangesFiles now next (with_output (see x).name (look y)) → KeepsOthers now next (see x).name
       → WrittenSoFar start now names outputs (file_names (map see xs)) (map look ys)
@@ -176,6 +194,15 @@ module _ {A B : Type 0} (see : A → NamedPort) (look : B → List ℕ) (start n
         others = others_kept next (a ∷ xs) (b ∷ ys) x some is others so_far;
         among = λ name there. so_far.among name (later_there (file_names (map see xs)) (see a).name name there);
       }
+
+  pub written_on : (next : Option Directory) (xs : List A) (ys : List B) (x no_x : A) (y no_y : B) → 1 ≤ length xs → 1 ≤ length ys → x ≡ get_or xs 0 no_x → y ≡ get_or ys 0 no_y
+      → ChangesFiles now next (with_output (see x).name (look y)) → KeepsOthers now next (see x).name
+      → WrittenSoFar start now names outputs (file_names (map see xs)) (map look ys)
+      → WrittenSoFar start next names outputs (file_names (map see (take (length xs - 1) (drop 1 xs)))) (map look (take (length ys - 1) (drop 1 ys)))
+  written_on next xs ys x no_x y no_y some more is also changes others so_far =
+      subst (λ (vs : List A). WrittenSoFar start next names outputs (file_names (map see vs)) (map look (take (length ys - 1) (drop 1 ys)))) (sym (rest_is xs some))
+      (subst (λ (ws : List B). WrittenSoFar start next names outputs (file_names (map see (drop 1 xs))) (map look ws)) (sym (rest_is ys more))
+      (one_written next xs ys x y some more (first_any xs x no_x some is) (first_any ys y no_y more also) changes others so_far))
 
   -- nothing is left
   pub names_ended : (xs : List A) (ys : List B) → length xs < 1 → WrittenSoFar start now names outputs (file_names (map see xs)) (map look ys) → ChangesFiles start now (with_outputs names outputs)

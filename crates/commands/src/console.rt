@@ -282,7 +282,7 @@ fn carry_out_program<F: Files, O: Write, E: Write>(
         (status_of result)
         (E.contents err.old) (E.contents err.new) (O.contents out.old) (O.contents out.new) }
 {
-    if order.output_files.is_empty() {
+    if order.output_files.as_slice().is_empty() {
         carry_out_plainly(alloc, order, files, out, err)
     } else {
         carry_out_to_files(alloc, order, files, out, err)

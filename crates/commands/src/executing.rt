@@ -60,7 +60,7 @@ pub(crate) fn execute_objects<F: Files, O: Write, E: Write>(
         (status_of result)
         (E.contents err.old) (E.contents err.new) (O.contents out.old) (O.contents out.new) }
 {
-    if order.output_files.is_empty() {
+    if order.output_files.as_slice().is_empty() {
         execute_plainly(alloc, order, files, out, err)
     } else {
         execute_to_files(alloc, order, files, out, err)

@@ -90,7 +90,7 @@ fn write_output<F: Files>(name: &str, bytes: &[u8], files: &mut F) -> Result<(),
 
 // Writes each file whole, in the order of the options, but for standard output. A fault comes with the name of its file, and
 // is one failure that was counted.
-#[tactic(auto, using(crate::proofs::OutputFiles::none_written, crate::proofs::OutputFiles::next_named, crate::proofs::OutputFiles::others_kept, crate::proofs::OutputFiles::names_ended, crate::proofs::OutputFiles::outputs_ended))]
+#[tactic(auto, using(crate::proofs::OutputFiles::none_written, crate::proofs::OutputFiles::next_named, crate::proofs::OutputFiles::names_ended, crate::proofs::OutputFiles::outputs_ended))]
 fn write_outputs<'a, F: Files>(
     ports: &[PortFile<'a>],
     outputs: &[Vec<u8>],

@@ -9,7 +9,7 @@ pub returns-in-Ok-clause-delivered : goal.returns-in-Ok-clause-delivered
 returns-in-Ok-clause-delivered g c = λ other. record { changed = c.in-Ok.ensures.ok; shown = rw c.bytes_for_output.ensures at (c.show_run.ensures.shown other) }
 
 pub returns-in-Err-Fault-clause-told : goal.returns-in-Err-Fault-clause-told
-returns-in-Err-Fault-clause-told g c = inr (inl (output_told _ _ _ _ _ c.in-Err-Fault.name _ (rw c.in-Err-Fault.field-0-is at c.in-Err-Fault.ensures.failed) c.in-Err-Fault.name-is
+returns-in-Err-Fault-clause-told g c = inr (inl (output_told _ _ _ _ _ _ c.in-Err-Fault.name (rw c.in-Err-Fault.field-0-is at c.in-Err-Fault.ensures.failed) c.in-Err-Fault.name-is
     (rw c.in-Err-Fault.field-0-is at c.in-Err-Fault.ensures.named) c.refuse_file.ensures.told))
 
 pub returns-in-Err-Memory-clause-told : goal.returns-in-Err-Memory-clause-told
