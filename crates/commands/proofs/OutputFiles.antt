@@ -1,5 +1,5 @@
 -- The files to which the bytes of ports go.
-use Rattle.commands.proofs.Prelude.{◌≡◌, ℕ, ◌<◌, ◌≤◌, Bool, true, false, List, [], ◌∷◌, ◌++◌, length, get_or, drop, map, append-nil, append_assoc, arith, Option, None, Some, OnOk, Result, Ok, Err, refl, sym, ap, subst, ◌∙◌, Appends, AppendsBeginning, Event, ChangesFiles, Directory, KeepsFiles, with_file, stays, kept_others, kept_then_stopped, written_others, StopsWriting, CountsFailure, Tells, TellsOther, file_line, inl, inr, ◌⊎◌, Bor}
+use Rattle.commands.proofs.Prelude.{◌≡◌, ℕ, ◌<◌, ◌≤◌, Bool, true, false, List, [], ◌∷◌, ◌++◌, length, get_or, drop, map, append-nil, append_assoc, arith, Option, None, Some, OnOk, Result, Ok, Err, refl, sym, ap, subst, ◌∙◌, Appends, AppendsBeginning, Event, ChangesFiles, Directory, KeepsFiles, with_file, stays, kept_others, kept_then_stopped, written_others, StopsWriting, CountsFailure, Tells, file_line, inl, inr, ◌⊎◌, Bor}
 use Rattle.std.specs.Prelude.{OnErr, ◌||◌, if◌then◌else◌}
 use Rattle.std.specs.Str.{bytes_eq}
 use Rattle.std.proofs.Common.{take, ◌-◌}
