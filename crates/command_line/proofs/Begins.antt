@@ -1,5 +1,5 @@
 -- What may come before the files: nothing, an option with its text, or a flag.
-use Rattle.command_line.proofs.Prelude.{◌≡◌, ◌∙◌, List, [], ◌∷◌, ◌++◌, Some, None, false, refl, ap, codes, fold, AllByRecursion, clap_on_literals, Kinds, Row, Shape, Text, Held, Walk, idle, option, has_row, nothing_held, reading_by, settled, walk, walk_from, walked, filled, settle_fault, turn_fault, walk_fault, or_else, CommandLine, PlaceAction, Locate, Hex, Code, DataBase, Input, InputFile, IsBare, Limit, OfPlan, PlanOption, Stack, StackSize, ValueOption, flag_rule, option_name, option_words, plan_option_name, Fill, StartMemory, Listing}
+use Rattle.command_line.proofs.Prelude.{◌≡◌, ◌∙◌, List, [], ◌∷◌, ◌++◌, Some, None, false, refl, ap, codes, fold, AllByRecursion, clap_on_literals, Kinds, Row, Shape, Text, Held, Walk, idle, option, has_row, nothing_held, reading_by, settled, walk, walk_from, walked, filled, settle_fault, turn_fault, walk_fault, or_else, CommandLine, PlaceAction, Locate, Hex, Code, DataBase, Input, InputFile, OutputFile, IsBare, Limit, OfPlan, PlanOption, Stack, StackSize, ValueOption, flag_rule, option_name, option_words, plan_option_name, Fill, StartMemory, Listing}
 use Rattle.command_line.proofs.Files.{all_done, bare_fault, bare_word, done_of, files_fault, files_filled, files_row, files_rows, files_walk, last_of, rows_more, state}
 use Rattle.command_line.proofs.Verbs.{Executed, Form, Listed, Located, Objects, Placed, Sources, form_of, leaf, rules}
 
@@ -164,6 +164,7 @@ option_step (of_program (OfPlan StackSize)) = refl
 option_step (of_program Limit) = refl
 option_step (of_program Input) = refl
 option_step (of_program InputFile) = refl
+option_step (of_program OutputFile) = refl
 option_step (of_program Fill) = refl
 option_step (of_program StartMemory) = refl
 option_step (of_place Locate Code) = refl
@@ -187,6 +188,7 @@ option_step (of_execute (OfPlan StackSize)) = refl
 option_step (of_execute Limit) = refl
 option_step (of_execute Input) = refl
 option_step (of_execute InputFile) = refl
+option_step (of_execute OutputFile) = refl
 option_step (of_execute Fill) = refl
 option_step (of_execute StartMemory) = refl
 
@@ -199,6 +201,7 @@ option_turn name (of_program (OfPlan StackSize)) = refl
 option_turn name (of_program Limit) = refl
 option_turn name (of_program Input) = refl
 option_turn name (of_program InputFile) = refl
+option_turn name (of_program OutputFile) = refl
 option_turn name (of_program Fill) = refl
 option_turn name (of_program StartMemory) = refl
 option_turn name (of_place Locate Code) = refl
@@ -222,6 +225,7 @@ option_turn name (of_execute (OfPlan StackSize)) = refl
 option_turn name (of_execute Limit) = refl
 option_turn name (of_execute Input) = refl
 option_turn name (of_execute InputFile) = refl
+option_turn name (of_execute OutputFile) = refl
 option_turn name (of_execute Fill) = refl
 option_turn name (of_execute StartMemory) = refl
 
@@ -234,6 +238,7 @@ text_step (of_program (OfPlan StackSize)) text bare = rw (bare_word (rules Sourc
 text_step (of_program Limit) text bare = rw (bare_word (rules Sources) (waiting_walk (of_program Limit)).waiting 1 text (waiting_walk (of_program Limit)).held bare) refl
 text_step (of_program Input) text bare = rw (bare_word (rules Sources) (waiting_walk (of_program Input)).waiting 1 text (waiting_walk (of_program Input)).held bare) refl
 text_step (of_program InputFile) text bare = rw (bare_word (rules Sources) (waiting_walk (of_program InputFile)).waiting 1 text (waiting_walk (of_program InputFile)).held bare) refl
+text_step (of_program OutputFile) text bare = rw (bare_word (rules Sources) (waiting_walk (of_program OutputFile)).waiting 1 text (waiting_walk (of_program OutputFile)).held bare) refl
 text_step (of_program Fill) text bare = rw (bare_word (rules Sources) (waiting_walk (of_program Fill)).waiting 1 text (waiting_walk (of_program Fill)).held bare) refl
 text_step (of_program StartMemory) text bare = rw (bare_word (rules Sources) (waiting_walk (of_program StartMemory)).waiting 1 text (waiting_walk (of_program StartMemory)).held bare) refl
 text_step (of_place Locate Code) text bare = rw (bare_word (rules Located) (waiting_walk (of_place Locate Code)).waiting 1 text (waiting_walk (of_place Locate Code)).held bare) refl
@@ -257,6 +262,7 @@ text_step (of_execute (OfPlan StackSize)) text bare = rw (bare_word (rules Execu
 text_step (of_execute Limit) text bare = rw (bare_word (rules Executed) (waiting_walk (of_execute Limit)).waiting 1 text (waiting_walk (of_execute Limit)).held bare) refl
 text_step (of_execute Input) text bare = rw (bare_word (rules Executed) (waiting_walk (of_execute Input)).waiting 1 text (waiting_walk (of_execute Input)).held bare) refl
 text_step (of_execute InputFile) text bare = rw (bare_word (rules Executed) (waiting_walk (of_execute InputFile)).waiting 1 text (waiting_walk (of_execute InputFile)).held bare) refl
+text_step (of_execute OutputFile) text bare = rw (bare_word (rules Executed) (waiting_walk (of_execute OutputFile)).waiting 1 text (waiting_walk (of_execute OutputFile)).held bare) refl
 text_step (of_execute Fill) text bare = rw (bare_word (rules Executed) (waiting_walk (of_execute Fill)).waiting 1 text (waiting_walk (of_execute Fill)).held bare) refl
 text_step (of_execute StartMemory) text bare = rw (bare_word (rules Executed) (waiting_walk (of_execute StartMemory)).waiting 1 text (waiting_walk (of_execute StartMemory)).held bare) refl
 
@@ -275,6 +281,8 @@ text_turn name (of_program Input) text bare =
     rw (bare_word (rules Sources) (waiting_walk (of_program Input)).waiting 1 text (waiting_walk (of_program Input)).held bare, bare_fault (leaf Sources name) (waiting_walk (of_program Input)).waiting text (waiting_walk (of_program Input)).held bare) refl
 text_turn name (of_program InputFile) text bare =
     rw (bare_word (rules Sources) (waiting_walk (of_program InputFile)).waiting 1 text (waiting_walk (of_program InputFile)).held bare, bare_fault (leaf Sources name) (waiting_walk (of_program InputFile)).waiting text (waiting_walk (of_program InputFile)).held bare) refl
+text_turn name (of_program OutputFile) text bare =
+    rw (bare_word (rules Sources) (waiting_walk (of_program OutputFile)).waiting 1 text (waiting_walk (of_program OutputFile)).held bare, bare_fault (leaf Sources name) (waiting_walk (of_program OutputFile)).waiting text (waiting_walk (of_program OutputFile)).held bare) refl
 text_turn name (of_program Fill) text bare =
     rw (bare_word (rules Sources) (waiting_walk (of_program Fill)).waiting 1 text (waiting_walk (of_program Fill)).held bare, bare_fault (leaf Sources name) (waiting_walk (of_program Fill)).waiting text (waiting_walk (of_program Fill)).held bare) refl
 text_turn name (of_program StartMemory) text bare =
@@ -321,6 +329,8 @@ text_turn name (of_execute Input) text bare =
     rw (bare_word (rules Executed) (waiting_walk (of_execute Input)).waiting 1 text (waiting_walk (of_execute Input)).held bare, bare_fault (leaf Executed name) (waiting_walk (of_execute Input)).waiting text (waiting_walk (of_execute Input)).held bare) refl
 text_turn name (of_execute InputFile) text bare =
     rw (bare_word (rules Executed) (waiting_walk (of_execute InputFile)).waiting 1 text (waiting_walk (of_execute InputFile)).held bare, bare_fault (leaf Executed name) (waiting_walk (of_execute InputFile)).waiting text (waiting_walk (of_execute InputFile)).held bare) refl
+text_turn name (of_execute OutputFile) text bare =
+    rw (bare_word (rules Executed) (waiting_walk (of_execute OutputFile)).waiting 1 text (waiting_walk (of_execute OutputFile)).held bare, bare_fault (leaf Executed name) (waiting_walk (of_execute OutputFile)).waiting text (waiting_walk (of_execute OutputFile)).held bare) refl
 text_turn name (of_execute Fill) text bare =
     rw (bare_word (rules Executed) (waiting_walk (of_execute Fill)).waiting 1 text (waiting_walk (of_execute Fill)).held bare, bare_fault (leaf Executed name) (waiting_walk (of_execute Fill)).waiting text (waiting_walk (of_execute Fill)).held bare) refl
 text_turn name (of_execute StartMemory) text bare =
@@ -335,6 +345,7 @@ value_step (of_program (OfPlan StackSize)) text file bare = rw (bare_word (rules
 value_step (of_program Limit) text file bare = rw (bare_word (rules Sources) idle 1 file (pending_walk (of_program Limit) text).held bare) refl
 value_step (of_program Input) text file bare = rw (bare_word (rules Sources) idle 1 file (pending_walk (of_program Input) text).held bare) refl
 value_step (of_program InputFile) text file bare = rw (bare_word (rules Sources) idle 1 file (pending_walk (of_program InputFile) text).held bare) refl
+value_step (of_program OutputFile) text file bare = rw (bare_word (rules Sources) idle 1 file (pending_walk (of_program OutputFile) text).held bare) refl
 value_step (of_program Fill) text file bare = rw (bare_word (rules Sources) idle 1 file (pending_walk (of_program Fill) text).held bare) refl
 value_step (of_program StartMemory) text file bare = rw (bare_word (rules Sources) idle 1 file (pending_walk (of_program StartMemory) text).held bare) refl
 value_step (of_place Locate Code) text file bare = rw (bare_word (rules Located) idle 1 file (pending_walk (of_place Locate Code) text).held bare) refl
@@ -358,6 +369,7 @@ value_step (of_execute (OfPlan StackSize)) text file bare = rw (bare_word (rules
 value_step (of_execute Limit) text file bare = rw (bare_word (rules Executed) idle 1 file (pending_walk (of_execute Limit) text).held bare) refl
 value_step (of_execute Input) text file bare = rw (bare_word (rules Executed) idle 1 file (pending_walk (of_execute Input) text).held bare) refl
 value_step (of_execute InputFile) text file bare = rw (bare_word (rules Executed) idle 1 file (pending_walk (of_execute InputFile) text).held bare) refl
+value_step (of_execute OutputFile) text file bare = rw (bare_word (rules Executed) idle 1 file (pending_walk (of_execute OutputFile) text).held bare) refl
 value_step (of_execute Fill) text file bare = rw (bare_word (rules Executed) idle 1 file (pending_walk (of_execute Fill) text).held bare) refl
 value_step (of_execute StartMemory) text file bare = rw (bare_word (rules Executed) idle 1 file (pending_walk (of_execute StartMemory) text).held bare) refl
 
@@ -376,6 +388,8 @@ value_turn name (of_program Input) text file bare =
     rw (bare_word (rules Sources) idle 1 file (pending_walk (of_program Input) text).held bare, bare_fault (leaf Sources name) idle file (pending_walk (of_program Input) text).held bare) refl
 value_turn name (of_program InputFile) text file bare =
     rw (bare_word (rules Sources) idle 1 file (pending_walk (of_program InputFile) text).held bare, bare_fault (leaf Sources name) idle file (pending_walk (of_program InputFile) text).held bare) refl
+value_turn name (of_program OutputFile) text file bare =
+    rw (bare_word (rules Sources) idle 1 file (pending_walk (of_program OutputFile) text).held bare, bare_fault (leaf Sources name) idle file (pending_walk (of_program OutputFile) text).held bare) refl
 value_turn name (of_program Fill) text file bare =
     rw (bare_word (rules Sources) idle 1 file (pending_walk (of_program Fill) text).held bare, bare_fault (leaf Sources name) idle file (pending_walk (of_program Fill) text).held bare) refl
 value_turn name (of_program StartMemory) text file bare =
@@ -422,6 +436,8 @@ value_turn name (of_execute Input) text file bare =
     rw (bare_word (rules Executed) idle 1 file (pending_walk (of_execute Input) text).held bare, bare_fault (leaf Executed name) idle file (pending_walk (of_execute Input) text).held bare) refl
 value_turn name (of_execute InputFile) text file bare =
     rw (bare_word (rules Executed) idle 1 file (pending_walk (of_execute InputFile) text).held bare, bare_fault (leaf Executed name) idle file (pending_walk (of_execute InputFile) text).held bare) refl
+value_turn name (of_execute OutputFile) text file bare =
+    rw (bare_word (rules Executed) idle 1 file (pending_walk (of_execute OutputFile) text).held bare, bare_fault (leaf Executed name) idle file (pending_walk (of_execute OutputFile) text).held bare) refl
 value_turn name (of_execute Fill) text file bare =
     rw (bare_word (rules Executed) idle 1 file (pending_walk (of_execute Fill) text).held bare, bare_fault (leaf Executed name) idle file (pending_walk (of_execute Fill) text).held bare) refl
 value_turn name (of_execute StartMemory) text file bare =
@@ -435,6 +451,7 @@ no_file_in (of_program (OfPlan StackSize)) text = refl
 no_file_in (of_program Limit) text = refl
 no_file_in (of_program Input) text = refl
 no_file_in (of_program InputFile) text = refl
+no_file_in (of_program OutputFile) text = refl
 no_file_in (of_program Fill) text = refl
 no_file_in (of_program StartMemory) text = refl
 no_file_in (of_place Locate Code) text = refl
@@ -458,6 +475,7 @@ no_file_in (of_execute (OfPlan StackSize)) text = refl
 no_file_in (of_execute Limit) text = refl
 no_file_in (of_execute Input) text = refl
 no_file_in (of_execute InputFile) text = refl
+no_file_in (of_execute OutputFile) text = refl
 no_file_in (of_execute Fill) text = refl
 no_file_in (of_execute StartMemory) text = refl
 

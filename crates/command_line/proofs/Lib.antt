@@ -16,3 +16,4 @@ pub mod Decimals
 pub mod Inputs
 pub mod MemoryBytes
 pub mod PortFiles
+pub mod OutputFiles

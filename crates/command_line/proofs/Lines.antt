@@ -1,5 +1,5 @@
 -- Words of one option at most, after a command: they have no fault, and give what is wanted.
-use Rattle.command_line.proofs.Prelude.{◌≡◌, ◌∙◌, List, [], ◌∷◌, ◌++◌, Some, true, false, refl, ap, codes, fold, Row, Text, nothing_held, rows_after, with_default, check_fault, defaults_fault, level_fault, Action, PlaceAction, Locate, Hex, Code, DataBase, Input, InputFile, Limit, OfPlan, PlanOption, Stack, StackSize, ValueOption, usual_execute, wants_execute, with_execute_text, Wanted, option_words, plan_option_name, option_name, usual, usual_place, usual_plan, wants_link, wants_need, wants_place, wants_program, with_plan_text, with_text, Fill, StartMemory, Listing}
+use Rattle.command_line.proofs.Prelude.{◌≡◌, ◌∙◌, List, [], ◌∷◌, ◌++◌, Some, true, false, refl, ap, codes, fold, Row, Text, nothing_held, rows_after, with_default, check_fault, defaults_fault, level_fault, Action, PlaceAction, Locate, Hex, Code, DataBase, Input, InputFile, OutputFile, Limit, OfPlan, PlanOption, Stack, StackSize, ValueOption, usual_execute, wants_execute, with_execute_text, Wanted, option_words, plan_option_name, option_name, usual, usual_place, usual_plan, wants_link, wants_need, wants_place, wants_program, with_plan_text, with_text, Fill, StartMemory, Listing}
 use Rattle.command_line.proofs.Files.{files_row, level_of, rows_of_level}
 use Rattle.command_line.proofs.Begins.{Ends, jump, map_flag, need_flag, of_execute, of_place, of_program, option_row, out, rows_of_flag}
 use Rattle.command_line.proofs.Verbs.{Executed, Located, Objects, Placed, Sources, Verb, execute, form_of, leaf, leaf_of, link, name_of, place, program, rules_of, wanted_of}
@@ -53,6 +53,9 @@ option_line action Input text file files e =
 option_line action InputFile text file files e =
     line_of (program action) (option_words (option_name InputFile) text ++ file ∷ files) (option_row (of_program InputFile) text ∷ files_row (file ∷ files) ∷ [])
     (wants_program (with_text InputFile text (usual action (file ∷ files)))) e refl refl refl
+option_line action OutputFile text file files e =
+    line_of (program action) (option_words (option_name OutputFile) text ++ file ∷ files) (option_row (of_program OutputFile) text ∷ files_row (file ∷ files) ∷ [])
+    (wants_program (with_text OutputFile text (usual action (file ∷ files)))) e refl refl refl
 option_line action Fill text file files e =
     line_of (program action) (option_words (option_name Fill) text ++ file ∷ files) (option_row (of_program Fill) text ∷ files_row (file ∷ files) ∷ [])
     (wants_program (with_text Fill text (usual action (file ∷ files)))) e refl refl refl
@@ -159,6 +162,9 @@ execute_option_line Input text file files e =
 execute_option_line InputFile text file files e =
     line_of execute (option_words (option_name InputFile) text ++ file ∷ files) (option_row (of_execute InputFile) text ∷ files_row (file ∷ files) ∷ [])
     (wants_execute (with_execute_text InputFile text (usual_execute (file ∷ files)))) e refl refl refl
+execute_option_line OutputFile text file files e =
+    line_of execute (option_words (option_name OutputFile) text ++ file ∷ files) (option_row (of_execute OutputFile) text ∷ files_row (file ∷ files) ∷ [])
+    (wants_execute (with_execute_text OutputFile text (usual_execute (file ∷ files)))) e refl refl refl
 execute_option_line Fill text file files e =
     line_of execute (option_words (option_name Fill) text ++ file ∷ files) (option_row (of_execute Fill) text ∷ files_row (file ∷ files) ∷ [])
     (wants_execute (with_execute_text Fill text (usual_execute (file ∷ files)))) e refl refl refl

@@ -78,16 +78,18 @@ with_memory app =
 -- a command with the options of a limit and an input
 abbrev pub with_limit_and_input : App → App
 with_limit_and_input app =
-    with_rule (with_rule (with_rule app
+    with_rule (with_rule (with_rule (with_rule app
     (default_rule (codes "limit") (codes "10000000")))
     (option_rule (codes "input")))
-    (many_rule (codes "input-file"))
+    (many_rule (codes "input-file")))
+    (many_rule (codes "output-file"))
 
 -- a command with the options of a run
 abbrev pub with_run : App → App
 with_run app = with_memory (with_rule (with_limit_and_input app) (flag_rule (codes "map")))
 
--- the command `name [plan] [--limit N] [--input T] [--input-file T]... [--map] [--fill T] [--memory T] SOURCE...`
+-- the command `name [plan] [--limit N] [--input T] [--input-file T]... [--output-file T]... [--map] [--fill T]
+-- [--memory T] SOURCE...`
 abbrev pub program_app : Text → App
 program_app name = with_rule (with_run (with_plan (new_app name))) files_rule
 
@@ -112,7 +114,8 @@ list_app name = with_rule (with_plan (new_app name)) files_rule
 abbrev pub locate_app : Text → App
 locate_app name = with_rule (with_rule (with_plan (new_app name)) (flag_rule (codes "need"))) files_rule
 
--- the command `name [plan] [--limit N] [--input T] [--input-file T]... [--fill T] [--memory T] OBJECT...`
+-- the command `name [plan] [--limit N] [--input T] [--input-file T]... [--output-file T]... [--fill T] [--memory T]
+-- OBJECT...`
 abbrev pub execute_app : Text → App
 execute_app name =
     with_rule (with_memory (with_limit_and_input (with_plan (new_app name)))) files_rule
@@ -166,6 +169,7 @@ pub record ProgramWanted : Type 0 where
   pub limit : Text
   pub input : Option Text
   pub input_files : List Text
+  pub output_files : List Text
   pub map : Bool
   pub fill : Text
   pub memory : Option Text
@@ -194,6 +198,7 @@ pub record ExecuteWanted : Type 0 where
   pub limit : Text
   pub input : Option Text
   pub input_files : List Text
+  pub output_files : List Text
   pub fill : Text
   pub memory : Option Text
 
@@ -266,6 +271,7 @@ program_of action rows = record {
   limit = text_of (codes "limit") rows;
   input = first_of (codes "input") rows;
   input_files = texts_of (codes "input-file") rows;
+  output_files = texts_of (codes "output-file") rows;
   map = is_set (codes "map") rows;
   fill = text_of (codes "fill") rows;
   memory = first_of (codes "memory") rows;
@@ -295,6 +301,7 @@ execute_of rows = record {
   limit = text_of (codes "limit") rows;
   input = first_of (codes "input") rows;
   input_files = texts_of (codes "input-file") rows;
+  output_files = texts_of (codes "output-file") rows;
   fill = text_of (codes "fill") rows;
   memory = first_of (codes "memory") rows;
 }
@@ -345,6 +352,7 @@ program_in order = record {
   limit = order.limit.now;
   input = option_map (λ text. text.now) order.input;
   input_files = texts order.input_files.items;
+  output_files = texts order.output_files.items;
   map = order.map;
   fill = order.fill.now;
   memory = option_map (λ text. text.now) order.memory;
@@ -374,6 +382,7 @@ execute_in order = record {
   limit = order.limit.now;
   input = option_map (λ text. text.now) order.input;
   input_files = texts order.input_files.items;
+  output_files = texts order.output_files.items;
   fill = order.fill.now;
   memory = option_map (λ text. text.now) order.memory;
 }
@@ -430,6 +439,7 @@ usual action files = record {
   limit = codes "10000000";
   input = None;
   input_files = [];
+  output_files = [];
   map = false;
   fill = codes "00";
   memory = None;
@@ -445,6 +455,7 @@ usual_execute objects = record {
   limit = codes "10000000";
   input = None;
   input_files = [];
+  output_files = [];
   fill = codes "00";
   memory = None;
 }
@@ -462,6 +473,7 @@ pub data ValueOption : Type 0 where
   Limit : ValueOption
   Input : ValueOption
   InputFile : ValueOption
+  OutputFile : ValueOption
   Fill : ValueOption
   StartMemory : ValueOption
 
@@ -477,6 +489,7 @@ option_name (OfPlan option) = plan_option_name option
 option_name Limit = codes "limit"
 option_name Input = codes "input"
 option_name InputFile = codes "input-file"
+option_name OutputFile = codes "output-file"
 option_name Fill = codes "fill"
 option_name StartMemory = codes "memory"
 
@@ -492,6 +505,7 @@ with_text (OfPlan option) text wanted = record wanted { plan = with_plan_text op
 with_text Limit text wanted = record wanted { limit = text }
 with_text Input text wanted = record wanted { input = Some text }
 with_text InputFile text wanted = record wanted { input_files = text ∷ [] }
+with_text OutputFile text wanted = record wanted { output_files = text ∷ [] }
 with_text Fill text wanted = record wanted { fill = text }
 with_text StartMemory text wanted = record wanted { memory = Some text }
 
@@ -502,6 +516,7 @@ with_execute_text (OfPlan option) text wanted =
 with_execute_text Limit text wanted = record wanted { limit = text }
 with_execute_text Input text wanted = record wanted { input = Some text }
 with_execute_text InputFile text wanted = record wanted { input_files = text ∷ [] }
+with_execute_text OutputFile text wanted = record wanted { output_files = text ∷ [] }
 with_execute_text Fill text wanted = record wanted { fill = text }
 with_execute_text StartMemory text wanted = record wanted { memory = Some text }
 

@@ -188,6 +188,43 @@ names_in texts = flat_map (λ text. names_if (port_file text)) texts
 abbrev pub file_names : List NamedPort → List Text
 file_names files = map (λ (file : NamedPort). file.name) files
 
+-- a port and the name of the file to which its bytes go, which has a letter at least; a dash stays one
+abbrev pub output_of_digits : (digits name : Text) → Option NamedPort
+output_of_digits digits name =
+    if nat_lt 0 (length name) then option_map (λ port. record { port = port; name = name }) (digits_byte digits)
+    else None
+
+-- the file to which the bytes of a port go: before the first colon of the text the two digits of the port, and after
+-- it the name
+abbrev pub output_file : Text → Option NamedPort
+output_file text =
+    if nat_lt (position_or_len is_colon text) (length text)
+    then output_of_digits (before_first is_colon text) (after_first is_colon text) else None
+
+-- whether one of these files has a name
+abbrev pub has_name : List NamedPort → (name : Text) → Bool
+has_name files name = list_any (λ (one : NamedPort). bytes_eq one.name name) files
+
+-- the file that a text writes, of a port that has none of these files, and with another name than theirs
+abbrev pub output_file_read : List NamedPort → Text → Read NamedPort
+output_file_read files text = do
+  file ← found_in text (output_file text)
+  if has_file files file.port || has_name files file.name then Err text else Ok file
+
+-- these files, and then those that texts write
+abbrev pub output_files_after : List NamedPort → List Text → Read (List NamedPort)
+output_files_after files [] = Ok files
+output_files_after files (text ∷ more) =
+    output_file_read files text >>= (λ file. output_files_after (files ++ file ∷ []) more)
+
+-- the files to which the bytes of ports go, as texts write them
+abbrev pub output_files_read : List Text → Read (List NamedPort)
+output_files_read texts = output_files_after [] texts
+
+-- the names of the files that texts write
+abbrev pub outputs_in : List Text → List Text
+outputs_in texts = flat_map (λ text. names_if (output_file text)) texts
+
 -- the values of all options
 pub record Values : Type 0 where
   pub plan : Plan
@@ -196,6 +233,7 @@ pub record Values : Type 0 where
   pub fill : ℕ
   pub memory : List MemoryByte
   pub input_files : List NamedPort
+  pub output_files : List NamedPort
 
 -- the plan that texts write
 abbrev pub plan_read : PlanWanted → Read Plan
@@ -209,14 +247,15 @@ plan_read wanted = do
 -- the values that the texts of all options write, or the first text that is no value
 abbrev pub texts_read :
     PlanWanted → (limit : Text) → (input : Option Text) → (fill : Text) → (memory : Option Text)
-    → (input_files : List Text) → Read Values
-texts_read plan_text limit_text input_text fill_text memory_text input_file_texts = do
+    → (input_files output_files : List Text) → Read Values
+texts_read plan_text limit_text input_text fill_text memory_text input_file_texts output_file_texts = do
   plan ← plan_read plan_text
   limit ← limit_number limit_text
   input ← input_read input_text
   fill ← fill_read fill_text
   memory ← memory_read memory_text
   input_files ← port_files_read input input_file_texts
+  output_files ← output_files_read output_file_texts
   Ok (record {
     plan = plan;
     limit = limit;
@@ -224,15 +263,18 @@ texts_read plan_text limit_text input_text fill_text memory_text input_file_text
     fill = fill;
     memory = memory;
     input_files = input_files;
+    output_files = output_files;
   })
 
 -- the values of what is wanted of sources
 abbrev pub values_read : ProgramWanted → Read Values
-values_read wanted = texts_read wanted.plan wanted.limit wanted.input wanted.fill wanted.memory wanted.input_files
+values_read wanted =
+    texts_read wanted.plan wanted.limit wanted.input wanted.fill wanted.memory wanted.input_files wanted.output_files
 
 -- the values of what is wanted of objects
 abbrev pub execute_read : ExecuteWanted → Read Values
-execute_read wanted = texts_read wanted.plan wanted.limit wanted.input wanted.fill wanted.memory wanted.input_files
+execute_read wanted =
+    texts_read wanted.plan wanted.limit wanted.input wanted.fill wanted.memory wanted.input_files wanted.output_files
 
 -- the address of a jump, where one is wanted
 abbrev pub jump_read : Option Text → Read (Option ℕ)
@@ -272,12 +314,18 @@ values_in settings = record {
   fill = settings.fill;
   memory = settings.memory.items;
   input_files = map port_file_in settings.input_files.items;
+  output_files = map port_file_in settings.output_files.items;
 }
 
 -- the files of the settings have the names that these texts write
 abbrev pub HasNames : List Text → Result Settings (Failure ValueFault) → Type 0
 HasNames texts (Ok settings) = file_names (map port_file_in settings.input_files.items) ≡ names_in texts
 HasNames texts (Err failure) = Unit {0}
+
+-- the same of the files to which the bytes of ports go
+abbrev pub HasOutputs : List Text → Result Settings (Failure ValueFault) → Type 0
+HasOutputs texts (Ok settings) = file_names (map port_file_in settings.output_files.items) ≡ outputs_in texts
+HasOutputs texts (Err failure) = Unit {0}
 
 -- the answer is what the texts read as, unless memory ran out
 abbrev pub IsSettingsOf : Read Values → Result Settings (Failure ValueFault) → Type 0

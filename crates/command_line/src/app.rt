@@ -163,7 +163,14 @@ fn add_limit_and_input<'a>(alloc: Global, command: Built<'a>, limit_help: &'a st
         "PORT:FILE",
         "A file whose bytes a port gives, as 00:text.txt, or - for standard input",
     );
-    add(with_input, input_file)
+    let with_input_file = add(with_input, input_file);
+    let output_file = option_again(
+        alloc,
+        "output-file",
+        "PORT:FILE",
+        "A file to which the bytes of a port go, as 01:out.bin, or - for standard output",
+    );
+    add(with_input_file, output_file)
 }
 
 // The command with the options of a run.

@@ -249,6 +249,9 @@ Input is groups joined by `/`, each a port, a colon and the bytes that the port 
 hexadecimal digits: 01:0904/02:FF gives 09 and then 04 at port 01, and FF at port 02.
 With --input-file 00:text.txt port 00 gives the bytes of the file text.txt, and its events are not
 printed; 00:- is standard input. A port has one file, or bytes of --input.
+With --output-file 01:out.bin the bytes that go to port 01 are written to the file out.bin when the
+run has ended, and its events are not printed. With 01:- they are all that standard output has, and
+the lines go to standard error. No port and no file is named twice.
 
 Each byte of memory is what --fill says at the start, but for the bytes of --memory: groups joined
 by `/`, each an address of four hexadecimal digits, a colon and the bytes from there on, so that
@@ -256,7 +259,7 @@ by `/`, each an address of four hexadecimal digits, a colon and the bytes from t
 
 Exit status:
   0  the program halted, or help was asked for
-  1  a source was refused, memory ran out, or a file can't be read
+  1  a source was refused, memory ran out, or a file can't be read or written
   2  the command line is wrong, or a value in it
   3  LIMIT
   4  ILLEGAL or PORT
@@ -295,6 +298,9 @@ Input is groups joined by `/`, each a port, a colon and the bytes that the port 
 hexadecimal digits: 01:0904/02:FF gives 09 and then 04 at port 01, and FF at port 02.
 With --input-file 00:text.txt port 00 gives the bytes of the file text.txt, and its events are not
 printed; 00:- is standard input. A port has one file, or bytes of --input.
+With --output-file 01:out.bin the bytes that go to port 01 are written to the file out.bin when the
+run has ended, and its events are not printed. With 01:- they are all that standard output has, and
+the lines go to standard error. No port and no file is named twice.
 
 Each byte of memory is what --fill says at the start, but for the bytes of --memory: groups joined
 by `/`, each an address of four hexadecimal digits, a colon and the bytes from there on, so that
@@ -303,7 +309,7 @@ over that.
 
 Exit status:
   0  the program ended, or help was asked for
-  1  a source was refused, memory ran out, or a file can't be read
+  1  a source was refused, memory ran out, or a file can't be read or written
   2  the command line is wrong, or a value in it
   3  LIMIT
   4  PORT
@@ -454,6 +460,9 @@ Input is groups joined by `/`, each a port, a colon and the bytes that the port 
 hexadecimal digits: 01:0904/02:FF gives 09 and then 04 at port 01, and FF at port 02.
 With --input-file 00:text.txt port 00 gives the bytes of the file text.txt, and its events are not
 printed; 00:- is standard input. A port has one file, or bytes of --input.
+With --output-file 01:out.bin the bytes that go to port 01 are written to the file out.bin when the
+run has ended, and its events are not printed. With 01:- they are all that standard output has, and
+the lines go to standard error. No port and no file is named twice.
 
 Each byte of memory is what --fill says at the start, but for the bytes of --memory: groups joined
 by `/`, each an address of four hexadecimal digits, a colon and the bytes from there on, so that
@@ -462,6 +471,7 @@ by `/`, each an address of four hexadecimal digits, a colon and the bytes from t
 Exit status:
   0  the program halted, or help was asked for
   1  an object, the merge or its place was refused, memory ran out, or a file can't be read
+     or written
   2  the command line is wrong, or a value in it
   3  LIMIT
   4  ILLEGAL or PORT

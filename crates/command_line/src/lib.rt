@@ -5,6 +5,7 @@ mod app;
 mod explained;
 mod help;
 mod orders;
+mod output_files;
 mod port_files;
 mod reading;
 mod start_memory;

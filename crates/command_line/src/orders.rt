@@ -48,6 +48,8 @@ pub struct ProgramOrder<'a> {
     pub input: Option<&'a str>,
     /// The files of ports from which their bytes come.
     pub input_files: Vec<&'a str>,
+    /// The files of ports to which their bytes go.
+    pub output_files: Vec<&'a str>,
     /// Whether it is first printed where each object lies.
     pub map: bool,
     /// The byte that the memory has at the start where nothing else is said.
@@ -109,6 +111,8 @@ pub struct ExecuteOrder<'a> {
     pub input: Option<&'a str>,
     /// The files of ports from which their bytes come.
     pub input_files: Vec<&'a str>,
+    /// The files of ports to which their bytes go.
+    pub output_files: Vec<&'a str>,
     /// The byte that the memory has at the start where nothing else is said.
     pub fill: &'a str,
     /// Other bytes of the memory at the start, where that was said.

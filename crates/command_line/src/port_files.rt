@@ -11,7 +11,7 @@ use crate::values::{InputByte, ValueFault};
 use failure::Failure;
 use std::alloc::Global;
 
-/// A port, and the file from which its bytes come.
+/// A port, and the file from which its bytes come, or to which they go.
 #[derive(Clone, Copy)]
 pub struct PortFile<'a> {
     /// The port.
@@ -67,8 +67,8 @@ fn is_given(input: &[InputByte], port: u8) -> bool
     false
 }
 
-// Whether a port has one of these files.
-fn is_named(files: &[PortFile], port: u8) -> bool
+/// Whether a port has one of these files.
+pub(crate) fn is_named(files: &[PortFile], port: u8) -> bool
     ensures { result ≡ has_file (map port_file_in files.now) port }
 {
     let mut rest = files;

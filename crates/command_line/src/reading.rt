@@ -121,6 +121,7 @@ fn program<'a>(
 {
     let files = files(alloc, matches)?;
     let input_files = all(alloc, matches, "input-file")?;
+    let output_files = all(alloc, matches, "output-file")?;
     Ok(Some(Order::Program(ProgramOrder {
         action,
         files,
@@ -128,6 +129,7 @@ fn program<'a>(
         limit: text(matches, "limit"),
         input: first(matches, "input"),
         input_files,
+        output_files,
         map: flag(matches, "map"),
         fill: text(matches, "fill"),
         memory: first(matches, "memory"),
@@ -194,12 +196,14 @@ fn execute<'a>(alloc: Global, matches: &ArgMatches<'a>) -> Result<Option<Order<'
 {
     let objects = files(alloc, matches)?;
     let input_files = all(alloc, matches, "input-file")?;
+    let output_files = all(alloc, matches, "output-file")?;
     Ok(Some(Order::Execute(ExecuteOrder {
         objects,
         plan: plan(matches),
         limit: text(matches, "limit"),
         input: first(matches, "input"),
         input_files,
+        output_files,
         fill: text(matches, "fill"),
         memory: first(matches, "memory"),
     })))

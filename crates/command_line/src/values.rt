@@ -7,7 +7,7 @@ ghost use Rattle.std.specs.Char.{digit_value, is_digit};
 ghost use Rattle.failure.specs.Failure.{IfFault};
 ghost use Rattle.clap.specs.Walk.{texts};
 ghost use Rattle.command_line.specs.Command.{execute_in, explain_in, place_in, plan_in, program_in};
-ghost use Rattle.command_line.specs.Settings.{execute_read, HasMemory, HasNames, IsSettingsOf, byte_of, bytes_for, group_bytes, input_bytes, input_read, jump_read, limit_number, only_file, plan_number, all_groups};
+ghost use Rattle.command_line.specs.Settings.{execute_read, HasMemory, HasNames, HasOutputs, IsSettingsOf, byte_of, bytes_for, group_bytes, input_bytes, input_read, jump_read, limit_number, only_file, plan_number, all_groups};
 ghost use Rattle.command_line.specs.Settings.{plan_read};
 ghost use Rattle.command_line.specs.Settings.{IsPageOf, page_read};
 ghost use Rattle.command_line.specs.Settings.{texts_read, values_read};
@@ -16,6 +16,7 @@ ghost use Rattle.command_line.specs.internal.Reads.{if_read, in_front};
 
 use crate::explained::page;
 use crate::orders::{ExecuteOrder, ExplainOrder, NeedOrder, PlaceOrder, PlanTexts, ProgramOrder};
+use crate::output_files::output_files;
 use crate::port_files::{PortFile, port_files};
 use crate::start_memory::{MemoryByte, fill, memory};
 use failure::Failure;
@@ -50,6 +51,8 @@ pub struct Settings<'a> {
     pub memory: Vec<MemoryByte>,
     /// The files from which the bytes of ports come, one of a port at most, none of a port that the input names.
     pub input_files: Vec<PortFile<'a>>,
+    /// The files to which the bytes of ports go, one of a port at most, no two with the same name. A dash is standard output.
+    pub output_files: Vec<PortFile<'a>>,
 }
 
 /// U4: an option has a text that is none of its values, or no fault has this number.
@@ -243,13 +246,16 @@ fn settings_of<'a>(
     fill_text: &'a str,
     memory_text: Option<&'a str>,
     input_file_texts: &[&'a str],
+    output_file_texts: &[&'a str],
 ) -> Result<Settings<'a>, Failure<ValueFault<'a>>>
     ensures values { IsSettingsOf (texts_read (plan_in plan_texts.now) limit_text.entry.now
         (option_map (λ text. text.now) input_text.entry) fill_text.entry.now
-        (option_map (λ text. text.now) memory_text.entry) (texts input_file_texts.now)) result }
+        (option_map (λ text. text.now) memory_text.entry) (texts input_file_texts.now)
+        (texts output_file_texts.now)) result }
     ensures names { HasNames (texts input_file_texts.now) result }
+    ensures outputs { HasOutputs (texts output_file_texts.now) result }
     ensures memory { input_text.entry ≡ None → memory_text.entry ≡ None →
-        input_file_texts.now ≡ [] → HasMemory result }
+        input_file_texts.now ≡ [] → output_file_texts.now ≡ [] → HasMemory result }
 {
     let plan = match plan_of(plan_texts) {
         Ok(plan) => plan,
@@ -266,6 +272,7 @@ fn settings_of<'a>(
     };
     let memory = memory(alloc, memory_text)?;
     let input_files = port_files(alloc, input_file_texts, input.as_slice())?;
+    let output_files = output_files(alloc, output_file_texts)?;
     Ok(Settings {
         plan,
         limit,
@@ -273,6 +280,7 @@ fn settings_of<'a>(
         fill,
         memory,
         input_files,
+        output_files,
     })
 }
 
@@ -312,13 +320,15 @@ impl<'a> PlaceOrder<'a> {
 
 impl<'a> ExecuteOrder<'a> {
     /// The values of the options. It answers U4 only where a text is none of its option's values, with the first
-    /// such text, in the order code, data, stack, stack size, limit, input, fill, memory, files of the input; else the
-    /// values, or that memory ran out. Only an input, its files and bytes of the memory at the start take memory.
+    /// such text, in the order code, data, stack, stack size, limit, input, fill, memory, files of the input, files of the
+    /// output; else the values, or that memory ran out. Only an input, the files of ports and bytes of the memory at the
+    /// start take memory.
     pub fn settings(&self, alloc: Global) -> Result<Settings<'a>, Failure<ValueFault<'a>>>
         ensures values { IsSettingsOf (execute_read (execute_in self.now)) result }
         ensures names { HasNames (execute_in self.now).input_files result }
+        ensures outputs { HasOutputs (execute_in self.now).output_files result }
         ensures memory { self.now.input ≡ None → self.now.memory ≡ None →
-            self.now.input_files.items ≡ [] → HasMemory result }
+            self.now.input_files.items ≡ [] → self.now.output_files.items ≡ [] → HasMemory result }
     {
         settings_of(
             alloc,
@@ -328,6 +338,7 @@ impl<'a> ExecuteOrder<'a> {
             self.fill,
             self.memory,
             self.input_files.as_slice(),
+            self.output_files.as_slice(),
         )
     }
 }
@@ -357,13 +368,15 @@ impl<'a> NeedOrder<'a> {
 
 impl<'a> ProgramOrder<'a> {
     /// The values of the options. It answers U4 only where a text is none of its option's values, with the first
-    /// such text, in the order code, data, stack, stack size, limit, input, fill, memory, files of the input; else the
-    /// values, or that memory ran out. Only an input, its files and bytes of the memory at the start take memory.
+    /// such text, in the order code, data, stack, stack size, limit, input, fill, memory, files of the input, files of the
+    /// output; else the values, or that memory ran out. Only an input, the files of ports and bytes of the memory at the
+    /// start take memory.
     pub fn settings(&self, alloc: Global) -> Result<Settings<'a>, Failure<ValueFault<'a>>>
         ensures values { IsSettingsOf (values_read (program_in self.now)) result }
         ensures names { HasNames (program_in self.now).input_files result }
+        ensures outputs { HasOutputs (program_in self.now).output_files result }
         ensures memory { self.now.input ≡ None → self.now.memory ≡ None →
-            self.now.input_files.items ≡ [] → HasMemory result }
+            self.now.input_files.items ≡ [] → self.now.output_files.items ≡ [] → HasMemory result }
     {
         settings_of(
             alloc,
@@ -373,6 +386,7 @@ impl<'a> ProgramOrder<'a> {
             self.fill,
             self.memory,
             self.input_files.as_slice(),
+            self.output_files.as_slice(),
         )
     }
 }

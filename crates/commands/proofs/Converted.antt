@@ -1,5 +1,5 @@
 -- Sources that were converted, or not.
-use Rattle.commands.proofs.Prelude.{◌≡◌, ◌<◌, ℕ, List, [], ◌∷◌, length, map, Option, Some, inl, inr, refl, sym, ap, subst, ◌∙◌, ◌⊎◌, Ending, Done, Refused, status_of, AppendsBeginning, Appends, Keeps, Directory, HasFile, KeepsFiles, StopsAt, Tells, memory_line, refusal_line, file_line, CountsFailure, RunsOut, TellsUnwritten, ConvertWanted}
+use Rattle.commands.proofs.Prelude.{◌≡◌, ◌<◌, ℕ, List, [], length, map, Option, inl, inr, refl, sym, ap, subst, ◌∙◌, ◌⊎◌, Ending, Done, Refused, status_of, AppendsBeginning, Appends, Directory, HasFile, Tells, memory_line, refusal_line, file_line, CountsFailure, TellsUnwritten, ConvertWanted}
 use Rattle.words.specs.declared.fault.Fault as words_fault
 use Rattle.literally.specs.declared.fault.Fault as expansion_fault
 use Rattle.syntax.specs.declared.fault.Fault as syntax_fault
@@ -8,7 +8,7 @@ use Rattle.layout.specs.declared.fault.Fault as storage_fault
 use Rattle.typed_trees.specs.TypedTrees.{TypedModule}
 use Rattle.sources.specs.{Causes.{HasReadCause}, Faults.{line_of, number_of}, Reading.{IsSourceOf}, declared.read.ReadFault.{ReadFault, TheVariants.{Expansion, Storage, Syntax, Typing, Words}}}
 use Rattle.convert.specs.{Conversion.{IsRefused}, Controls.{control_view, table_of_controls}, Table.{rule_view, table_of_rules}, Lines.{lined}, Sources.{IsConverted, note_lines}, declared.controls.Control.{Control}, declared.converting.Note.{Note}, declared.rule.Rule.{Rule}}
-use Rattle.commands.specs.Converting.{Converts, ConvertsByTables, ConvertsRead, HasNoConversion, IsModule, IsNoModule, changed, stays}
+use Rattle.commands.specs.Converting.{Converts, ConvertsByTables, HasNoConversion, IsModule, IsNoModule, changed, stays}
 unfoldable use Rattle.commands.specs.Converting.{ConvertsFile, ConvertsText, RefusesText}
 use Rattle.commands.proofs.Printed.{stays_written}
 

@@ -7,11 +7,12 @@ use Rattle.command_line.specs.{Command.{ExecuteWanted}, Settings.{execute_read}}
 use Rattle.object_commands.specs.Merging.{PlacesMerge, RefusesPlacing}
 use Rattle.commands.specs.Executing.{PrintsExecution, PrintsImage, PrintsMerge, PrintsRead, StopsImage, StopsRead}
 use Rattle.commands.specs.InputFiles.{HasInput, input_names, quiet_ports}
+use Rattle.commands.specs.OutputFiles.{outputs_of}
 unfoldable use Rattle.commands.specs.Executing.{RefusesExecution, RefusesObjects}
 use Rattle.commands.specs.Refusing.{TellsUnwritten}
 use Rattle.commands.specs.Running.{GivesInput, end_status}
 use Rattle.commands.proofs.InputFiles.{input_there, refused_after, told_after}
-use Rattle.commands.proofs.Printed.{stays_written}
+use Rattle.commands.proofs.Printed.{stays_written, whole_begins}
 
 pub no_image : (values : Values) (image : Absolute) (known : Option (List ℕ)) → StopsImage values image known known
 no_image values image known = inl (stays_written known)
@@ -25,8 +26,9 @@ module _ (values : Values) (image : Absolute) (memory : List ℕ) (script : Sess
       starts ∙ ap (λ (es : List Event). started image memory script.script es script.failures) none
       ∙ ap (λ (n : ℕ). started image memory script.script [] n) unfailed
 
-  pub prints_image : (end : End) (machine : Machine) → PrintsRun quiet values.limit from end machine old new → PrintsImage values image (end_status end) old new
-  prints_image end machine ran = record {
+  pub prints_image : (end : End) (machine : Machine) (outputs : List (List ℕ)) → PrintsRun quiet values.limit from end machine old new → outputs ≡ outputs_of values machine.state.events
+      → PrintsImage values image (end_status end) outputs old new
+  prints_image end machine outputs ran gathered = record {
     memory = memory;
     start = start;
     script = script.script;
@@ -36,6 +38,7 @@ module _ (values : Values) (image : Absolute) (memory : List ℕ) (script : Sess
     run = subst (λ (q : List ℕ). PrintsRun q values.limit (started image memory script.script [] 0) end machine old new) silent
         (subst (λ (m : Machine). PrintsRun quiet values.limit m end machine old new) same_start ran);
     ended = refl;
+    gathered = gathered;
   }
 
   pub begins_image : BeginsRun quiet values.limit from old new → StopsImage values image old new
@@ -48,22 +51,27 @@ module _ (values : Values) (image : Absolute) (memory : List ℕ) (script : Sess
         (subst (λ (m : Machine). BeginsRun quiet values.limit m old new) same_start ran);
   })
 
+  -- a run that was printed whole, of which not all was gathered
+  pub image_whole : (end : End) (machine : Machine) → PrintsRun quiet values.limit from end machine old new → StopsImage values image old new
+  image_whole end machine ran = begins_image (record { end = end; machine = machine; run = ran.run; printed = whole_begins old new _ ran.printed })
+
 -- the status of the ending is that of the end
-pub image_status : (values : Values) (image : Absolute) (old new : Option (List ℕ)) (status of_end : ℕ) → status ≡ of_end → PrintsImage values image of_end old new → PrintsImage values image status old new
-image_status values image old new status of_end same printed = subst (λ (s : ℕ). PrintsImage values image s old new) (sym same) printed
+pub image_status : (values : Values) (image : Absolute) (outputs : List (List ℕ)) (old new : Option (List ℕ)) (status of_end : ℕ) → status ≡ of_end → PrintsImage values image of_end outputs old new
+    → PrintsImage values image status outputs old new
+image_status values image outputs old new status of_end same printed = subst (λ (s : ℕ). PrintsImage values image s outputs old new) (sym same) printed
 
 -- the files of the input were read, and the image was run, or not whole
 module _ (values full : Values) (files : Option Directory) (image : Absolute) (old new : Option (List ℕ)) (input : HasInput files values full) where
-  pub prints_read : (status : ℕ) → PrintsImage full image status old new → PrintsRead values files image status old new
-  prints_read status printed = record { full = full; input = input; printed = printed }
+  pub prints_read : (status : ℕ) (outputs : List (List ℕ)) → PrintsImage full image status outputs old new → PrintsRead values files image status outputs old new
+  prints_read status outputs printed = record { full = full; input = input; printed = printed }
 
   pub stops_read : (told was : Option (List ℕ)) → TellsUnwritten was told → StopsImage full image old new → StopsRead values files image was told old new
   stops_read told was unwritten stops = record { full = full; input = input; told = unwritten; printed = stops }
 
 -- the objects were placed before
 module _ (wanted : ExecuteWanted) (values : Values) (files mid : Option Directory) (image : Absolute) (kept : KeepsFiles files mid) (placed : PlacesMerge files wanted.objects values.plan image) where
-  pub runs_merge : (status : ℕ) (old new : Option (List ℕ)) → PrintsRead values mid image status old new → PrintsMerge wanted values files status old new
-  runs_merge status old new printed = record {
+  pub runs_merge : (status : ℕ) (outputs : List (List ℕ)) (old new : Option (List ℕ)) → PrintsRead values mid image status outputs old new → PrintsMerge wanted values files status outputs old new
+  runs_merge status outputs old new printed = record {
     image = image;
     placed = placed;
     printed = record { full = printed.full; input = input_there files mid values printed.full kept printed.input; printed = printed.printed };
@@ -95,9 +103,9 @@ pub not_placed : (wanted : ExecuteWanted) (values : Values) (files : Option Dire
 unfolding RefusesObjects
 not_placed wanted values files before after old new out refused = inl (stays_written out, refused)
 
-pub prints_execution : (wanted : ExecuteWanted) (values : Values) (files : Option Directory) (status : ℕ) (old new : Option (List ℕ)) → execute_read wanted ≡ Ok values
-    → PrintsMerge wanted values files status old new → PrintsExecution wanted files status old new
-prints_execution wanted values files status old new written printed = record { values = values; written = written; printed = printed }
+pub prints_execution : (wanted : ExecuteWanted) (values : Values) (files : Option Directory) (status : ℕ) (outputs : List (List ℕ)) (old new : Option (List ℕ)) → execute_read wanted ≡ Ok values
+    → PrintsMerge wanted values files status outputs old new → PrintsExecution wanted files status outputs old new
+prints_execution wanted values files status outputs old new written printed = record { values = values; written = written; printed = printed }
 
 -- the values are those that are written, or memory ran out before they were known
 module _ (wanted : ExecuteWanted) (files : Option Directory) (before after : ℕ) (old new out now : Option (List ℕ)) where

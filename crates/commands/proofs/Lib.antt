@@ -9,6 +9,8 @@ pub mod StartMemory
 pub mod Interpreted
 pub mod MapLines
 pub mod InputFiles
+pub mod OutputFiles
+pub mod Delivered
 pub mod Names
 pub mod Refused
 pub mod Printed

@@ -1,16 +1,18 @@
 -- Files after a command line was carried out.
 use Rattle.commands.proofs.Prelude.{◌≡◌, ◌≤◌, ◌⊎◌, ℕ, List, [], ◌∷◌, Ok, Option, None, Some, inl, inr, refl, subst, arith, Directory, KeepsFiles, status_of, TellsRefusal, Ending, Done, Refused, WrongLine, Limit, Stopped, Outside, Wanted, wants_compile, wants_convert, wants_execute, wants_explain, wants_link, wants_need, wants_place, wants_program, only_file, kept_others, ChangesAsWanted, ChangesByWords, WritesAsWanted, WritesByWords, PrintsAsWanted, PrintsByWords, StopsAsWanted, StopsByWords, names_by_words, names_of}
 use Rattle.commands.specs.Refusing.{RunsOut}
-use Rattle.commands.specs.Converting.{ConvertsAsWanted, ConvertsByWords, TellsAsWanted, TellsByWords}
+use Rattle.command_line.specs.Settings.{outputs_in}
+use Rattle.commands.specs.Converting.{ConvertsAsWanted, ConvertsByWords, TellsAsWanted, TellsByWords, TellsOutput}
+use Rattle.commands.proofs.Delivered.{by_any, kept_changes}
 
 -- where no file changed, none changed but what was wanted
 pub kept_as_wanted : (wanted : Wanted) (old new : Option Directory) → KeepsFiles old new → ChangesAsWanted wanted old new
 kept_as_wanted (wants_compile compile) old new kept = kept_others old new compile.object kept
-kept_as_wanted (wants_program program) old new kept = kept
+kept_as_wanted (wants_program program) old new kept = kept_changes (outputs_in program.output_files) old new kept
 kept_as_wanted (wants_link link) old new kept = kept_others old new link.out kept
 kept_as_wanted (wants_place place) old new kept = kept
 kept_as_wanted (wants_need need) old new kept = kept
-kept_as_wanted (wants_execute execute) old new kept = kept
+kept_as_wanted (wants_execute execute) old new kept = kept_changes (outputs_in execute.output_files) old new kept
 kept_as_wanted (wants_explain explain) old new kept = kept
 kept_as_wanted (wants_convert convert) old new kept = kept
 
@@ -28,11 +30,11 @@ written_by_words found wanted old new e links = rw e links
 -- where no file changed, and where the words give the order that was not carried out
 pub stops_as_wanted : (wanted : Wanted) (old new : Option Directory) → KeepsFiles old new → StopsAsWanted wanted old new
 stops_as_wanted (wants_compile compile) old new kept = inl kept
-stops_as_wanted (wants_program program) old new kept = kept
+stops_as_wanted (wants_program program) old new kept = kept_changes (outputs_in program.output_files) old new kept
 stops_as_wanted (wants_link link) old new kept = inl kept
 stops_as_wanted (wants_place place) old new kept = kept
 stops_as_wanted (wants_need need) old new kept = kept
-stops_as_wanted (wants_execute execute) old new kept = kept
+stops_as_wanted (wants_execute execute) old new kept = kept_changes (outputs_in execute.output_files) old new kept
 stops_as_wanted (wants_explain explain) old new kept = kept
 stops_as_wanted (wants_convert convert) old new kept = kept
 
@@ -54,19 +56,20 @@ told_by_words files found wanted before after old new e told = rw e told
 
 -- what is told with status 1, and what converting prints
 pub tells_by_words : (found : Option Wanted) (wanted : Wanted) (files : Option Directory) (before after : ℕ) (old new : Option (List ℕ)) → found ≡ Some wanted
-    → TellsAsWanted wanted (TellsRefusal files (names_of wanted) before after old new) → TellsByWords found (TellsRefusal files (names_by_words found) before after old new)
+    → TellsAsWanted wanted (TellsOutput before after old new) (TellsRefusal files (names_of wanted) before after old new)
+    → TellsByWords found (TellsOutput before after old new) (TellsRefusal files (names_by_words found) before after old new)
 tells_by_words found wanted files before after old new e told = rw e told
 
-pub tells_any : (found : Option Wanted) (refusal : Type 0) → refusal → TellsByWords found refusal
-tells_any None refusal told = told
-tells_any (Some (wants_compile compile)) refusal told = told
-tells_any (Some (wants_program program)) refusal told = told
-tells_any (Some (wants_link link)) refusal told = told
-tells_any (Some (wants_place place)) refusal told = told
-tells_any (Some (wants_need need)) refusal told = told
-tells_any (Some (wants_execute execute)) refusal told = told
-tells_any (Some (wants_explain explain)) refusal told = told
-tells_any (Some (wants_convert convert)) refusal told = tt
+pub tells_any : (found : Option Wanted) (output : List (List ℕ) → Type 0) (refusal : Type 0) → refusal → TellsByWords found output refusal
+tells_any None output refusal told = told
+tells_any (Some (wants_compile compile)) output refusal told = told
+tells_any (Some (wants_program program)) output refusal told = by_any program.output_files told (inl told)
+tells_any (Some (wants_link link)) output refusal told = told
+tells_any (Some (wants_place place)) output refusal told = told
+tells_any (Some (wants_need need)) output refusal told = told
+tells_any (Some (wants_execute execute)) output refusal told = by_any execute.output_files told (inl told)
+tells_any (Some (wants_explain explain)) output refusal told = told
+tells_any (Some (wants_convert convert)) output refusal told = tt
 
 pub converts_by_words : (found : Option Wanted) (wanted : Wanted) (files : Option Directory) (status before after : ℕ) (old new out now : Option (List ℕ))
     → found ≡ Some wanted → ConvertsAsWanted wanted files status before after old new out now → ConvertsByWords found files status before after old new out now

@@ -2,6 +2,7 @@
 use Rattle.commands.proofs.Prelude.{◌≡◌, ℕ, ◌≤◌, Bool, true, false, List, [], ◌++◌, length, map, Bor, Option, None, Some, inl, inr, refl, sym, ap, subst, ◌∙◌, append-nil, Appends, Keeps, Appends-trans, AppendsBeginning, beginning_after, texts, Event, Session, Directory, HasFiles, Plan, Joined, CodePlacement, placement_view, ProgramWanted, Values, Action, ToRun, Interpret, MOST_SOURCES, IsProgramOf, program_modules, Construction, IsConstruction, source_of, started, map_if, map_of, DoesAs, GivesInput, IsStart, PrintsFiles, PrintsMachine, PrintsMeaning, PrintsTexts, StopsBuilt, end_status, source_status, source_word, KeepsFiles}
 use Rattle.commands.proofs.InputFiles.{input_there, named}
 use Rattle.commands.specs.InputFiles.{HasInput, quiet_ports}
+use Rattle.commands.specs.OutputFiles.{outputs_of}
 use Rattle.commands.specs.Running.{PrintsRead}
 use Rattle.ports.specs.Events.{IsBeginning}
 use Rattle.printing.specs.{Report.{report_of}, Printing.{BeginsRun, PrintsRun, end_word}}
@@ -17,6 +18,10 @@ pub nothing_begun : (known : Option (List ℕ)) (bytes : List ℕ) → AppendsBe
 nothing_begun None bytes = ([], (bytes, refl), tt)
 nothing_begun (Some sent) bytes = ([], (bytes, refl), sym (append-nil sent))
 
+-- all of what is printed begins it
+pub whole_begins : (old new : Option (List ℕ)) (bytes : List ℕ) → Appends old new bytes → AppendsBeginning old new bytes
+whole_begins old new bytes printed = (bytes, ([], sym (append-nil bytes)), printed)
+
 pub nothing_stops : (action : Action) (before : List ℕ) (values : Values) (built : Construction) (known : Option (List ℕ)) → StopsBuilt action before values built known known
 unfolding StopsBuilt
 nothing_stops action before values built known = inl (nothing_begun known before)
@@ -29,9 +34,9 @@ module _ (values : Values) (built : Construction) (memory : List ℕ) (script : 
       ap (λ (es : List Event). started built.image memory script.script es script.failures) none
       ∙ ap (λ (n : ℕ). started built.image memory script.script [] n) unfailed
 
-  pub prints_machine : (end : End) (machine : Machine) → PrintsRun quiet values.limit (started built.image memory script.script script.events script.failures) end machine old new
-      → PrintsMachine [] values built (end_status end) old new
-  prints_machine end machine ran = record {
+  pub prints_machine : (end : End) (machine : Machine) (outputs : List (List ℕ)) → PrintsRun quiet values.limit (started built.image memory script.script script.events script.failures) end machine old new
+      → outputs ≡ outputs_of values machine.state.events → PrintsMachine [] values built (end_status end) outputs old new
+  prints_machine end machine outputs ran gathered = record {
     memory = memory;
     start = start;
     script = script.script;
@@ -40,6 +45,7 @@ module _ (values : Values) (built : Construction) (memory : List ℕ) (script : 
     machine = machine;
     run = subst (λ (from : Machine). IsRun values.limit from end machine) same_start ran.run;
     ended = refl;
+    gathered = gathered;
     printed = subst (λ (q : List ℕ). Appends old new (report_of q machine.state.events (end_word end))) silent ran.printed;
   }
 
@@ -56,6 +62,11 @@ module _ (values : Values) (built : Construction) (memory : List ℕ) (script : 
     printed = subst (λ (q : List ℕ). AppendsBeginning old new (report_of q ran.machine.state.events (end_word ran.end))) silent ran.printed;
   })
 
+  -- a run that was printed whole, of which not all was gathered
+  pub stops_whole : (end : End) (machine : Machine) → PrintsRun quiet values.limit (started built.image memory script.script script.events script.failures) end machine old new
+      → StopsBuilt ToRun [] values built old new
+  stops_whole end machine ran = begins_machine (record { end = end; machine = machine; run = ran.run; printed = whole_begins old new _ ran.printed })
+
 -- the meaning of a program that was printed, or a beginning of it
 module _ (values : Values) (built : Construction) (memory : List ℕ) (script : Session) (end : Option Stop) (events : List Event) (old new : Option (List ℕ)) (start : IsStart values memory)
     (gives : GivesInput values.input script.script) (none : script.events ≡ []) (does : DoesAs (source_of built memory script.script script.events values.limit) end events) where
@@ -65,8 +76,10 @@ module _ (values : Values) (built : Construction) (memory : List ℕ) (script : 
       ap (λ (es : List Event). source_of built memory script.script es values.limit) none in
       subst (λ (run : Run). DoesAs run end events) same does
 
-  pub prints_meaning : Appends old new (report_of (quiet_ports values) events (source_word end)) → PrintsMeaning [] values built (source_status end) old new
-  prints_meaning printed = record { memory = memory; start = start; script = script.script; gives = gives; end = end; events = events; does = same_run; ended = refl; printed = printed }
+  pub prints_meaning : (outputs : List (List ℕ)) → outputs ≡ outputs_of values events → Appends old new (report_of (quiet_ports values) events (source_word end))
+      → PrintsMeaning [] values built (source_status end) outputs old new
+  prints_meaning outputs gathered printed =
+      record { memory = memory; start = start; script = script.script; gives = gives; end = end; events = events; does = same_run; ended = refl; gathered = gathered; printed = printed }
 
   pub begins_meaning : (quiet : List ℕ) (shown : List Event) (word : List ℕ) → quiet ≡ quiet_ports values → shown ≡ events → word ≡ source_word end
       → AppendsBeginning old new (report_of quiet shown word) → StopsBuilt Interpret [] values built old new
@@ -78,9 +91,9 @@ module _ (values : Values) (built : Construction) (memory : List ℕ) (script : 
       (subst (λ (w : List ℕ). AppendsBeginning old new (report_of quiet shown w)) is printed)) in
       inr (record { memory = memory; start = start; script = script.script; gives = gives; end = end; events = events; does = same_run; printed = begun })
 
-module _ (before : List ℕ) (values : Values) (built : Construction) (a b c : Option (List ℕ)) where
+module _ (before : List ℕ) (values : Values) (built : Construction) (outputs : List (List ℕ)) (a b c : Option (List ℕ)) where
   -- after a text that was printed before
-  pub machine_after : (status : ℕ) → Appends a b before → PrintsMachine [] values built status b c → PrintsMachine before values built status a c
+  pub machine_after : (status : ℕ) → Appends a b before → PrintsMachine [] values built status outputs b c → PrintsMachine before values built status outputs a c
   machine_after status first printed = record {
     memory = printed.memory;
     start = printed.start;
@@ -90,10 +103,11 @@ module _ (before : List ℕ) (values : Values) (built : Construction) (a b c : O
     machine = printed.machine;
     run = printed.run;
     ended = printed.ended;
+    gathered = printed.gathered;
     printed = Appends-trans a b c before _ first printed.printed;
   }
 
-  pub meaning_after : (status : ℕ) → Appends a b before → PrintsMeaning [] values built status b c → PrintsMeaning before values built status a c
+  pub meaning_after : (status : ℕ) → Appends a b before → PrintsMeaning [] values built status outputs b c → PrintsMeaning before values built status outputs a c
   meaning_after status first printed = record {
     memory = printed.memory;
     start = printed.start;
@@ -103,6 +117,7 @@ module _ (before : List ℕ) (values : Values) (built : Construction) (a b c : O
     events = printed.events;
     does = printed.does;
     ended = printed.ended;
+    gathered = printed.gathered;
     printed = Appends-trans a b c before _ first printed.printed;
   }
 
@@ -136,17 +151,17 @@ module _ (before : List ℕ) (values : Values) (built : Construction) (a b c : O
   })
 
 -- after the map, where it is wanted
-module _ (wanted : Bool) (values : Values) (built : Construction) (a b c : Option (List ℕ)) (status : ℕ) where
-  pub machine_with_map : wanted ≡ true → Appends a b (map_of built) → PrintsMachine [] values built status b c → PrintsMachine (map_if wanted built) values built status a c
-  machine_with_map is_on first printed = rw is_on (machine_after (map_of built) values built a b c status first printed)
+module _ (wanted : Bool) (values : Values) (built : Construction) (outputs : List (List ℕ)) (a b c : Option (List ℕ)) (status : ℕ) where
+  pub machine_with_map : wanted ≡ true → Appends a b (map_of built) → PrintsMachine [] values built status outputs b c → PrintsMachine (map_if wanted built) values built status outputs a c
+  machine_with_map is_on first printed = rw is_on (machine_after (map_of built) values built outputs a b c status first printed)
 
-  pub meaning_with_map : wanted ≡ true → Appends a b (map_of built) → PrintsMeaning [] values built status b c → PrintsMeaning (map_if wanted built) values built status a c
-  meaning_with_map is_on first printed = rw is_on (meaning_after (map_of built) values built a b c status first printed)
+  pub meaning_with_map : wanted ≡ true → Appends a b (map_of built) → PrintsMeaning [] values built status outputs b c → PrintsMeaning (map_if wanted built) values built status outputs a c
+  meaning_with_map is_on first printed = rw is_on (meaning_after (map_of built) values built outputs a b c status first printed)
 
-  pub machine_alone : wanted ≡ false → PrintsMachine [] values built status a c → PrintsMachine (map_if wanted built) values built status a c
+  pub machine_alone : wanted ≡ false → PrintsMachine [] values built status outputs a c → PrintsMachine (map_if wanted built) values built status outputs a c
   machine_alone is_off printed = rw is_off printed
 
-  pub meaning_alone : wanted ≡ false → PrintsMeaning [] values built status a c → PrintsMeaning (map_if wanted built) values built status a c
+  pub meaning_alone : wanted ≡ false → PrintsMeaning [] values built status outputs a c → PrintsMeaning (map_if wanted built) values built status outputs a c
   meaning_alone is_off printed = rw is_off printed
 
 -- the same of what was not printed whole
@@ -162,12 +177,12 @@ module _ (action : Action) (wanted : Bool) (values : Values) (built : Constructi
   stops_alone is_off stops = rw is_off stops
 
 -- the status of the ending is that of the end
-module _ (before : List ℕ) (values : Values) (built : Construction) (old new : Option (List ℕ)) (status of_end : ℕ) where
-  pub machine_status : status ≡ of_end → PrintsMachine before values built of_end old new → PrintsMachine before values built status old new
-  machine_status same printed = subst (λ (s : ℕ). PrintsMachine before values built s old new) (sym same) printed
+module _ (before : List ℕ) (values : Values) (built : Construction) (outputs : List (List ℕ)) (old new : Option (List ℕ)) (status of_end : ℕ) where
+  pub machine_status : status ≡ of_end → PrintsMachine before values built of_end outputs old new → PrintsMachine before values built status outputs old new
+  machine_status same printed = subst (λ (s : ℕ). PrintsMachine before values built s outputs old new) (sym same) printed
 
-  pub meaning_status : status ≡ of_end → PrintsMeaning before values built of_end old new → PrintsMeaning before values built status old new
-  meaning_status same printed = subst (λ (s : ℕ). PrintsMeaning before values built s old new) (sym same) printed
+  pub meaning_status : status ≡ of_end → PrintsMeaning before values built of_end outputs old new → PrintsMeaning before values built status outputs old new
+  meaning_status same printed = subst (λ (s : ℕ). PrintsMeaning before values built s outputs old new) (sym same) printed
 
 -- what a program of the interpreter does is what was built
 pub same_source : (built : Construction) (joined : Joined) (placement : CodePlacement) (plan : Plan) (memory : List ℕ) (script : List (List ℕ)) (events : List Event) (budget : ℕ)
@@ -186,40 +201,40 @@ module _ (run source : Run) (same : run ≡ source) where
   fails_so events begins = subst (λ (r : Run). IsBeginning events r.events) same begins
 
 -- what was printed of a program that was built of texts
-module _ (with_map : Bool) (values : Values) (texts : List (List ℕ)) (built : Construction) (status : ℕ) (old new : Option (List ℕ)) (few : length texts ≤ MOST_SOURCES)
+module _ (with_map : Bool) (values : Values) (texts : List (List ℕ)) (built : Construction) (status : ℕ) (outputs : List (List ℕ)) (old new : Option (List ℕ)) (few : length texts ≤ MOST_SOURCES)
     (program : IsProgramOf texts (program_modules built.program)) (plan : built.plan ≡ values.plan) (construction : IsConstruction built) where
-  pub run_of_texts : PrintsMachine (map_if with_map built) values built status old new → PrintsTexts ToRun with_map values texts status old new
+  pub run_of_texts : PrintsMachine (map_if with_map built) values built status outputs old new → PrintsTexts ToRun with_map values texts status outputs old new
   run_of_texts printed = record { built = built; few = few; program = program; plan = plan; construction = construction; printed = printed }
 
-  pub meaning_of_texts : PrintsMeaning (map_if with_map built) values built status old new → PrintsTexts Interpret with_map values texts status old new
+  pub meaning_of_texts : PrintsMeaning (map_if with_map built) values built status outputs old new → PrintsTexts Interpret with_map values texts status outputs old new
   meaning_of_texts printed = record { built = built; few = few; program = program; plan = plan; construction = construction; printed = printed }
 
 -- the texts are those of files with these names
-pub prints_files : (files : Option Directory) (wanted : ProgramWanted) (values : Values) (names order : List (Bor (List ℕ))) (read used : List (List ℕ)) (status : ℕ) (old new : Option (List ℕ))
+pub prints_files : (files : Option Directory) (wanted : ProgramWanted) (values : Values) (names order : List (Bor (List ℕ))) (read used : List (List ℕ)) (status : ℕ) (outputs : List (List ℕ)) (old new : Option (List ℕ))
     → names ≡ order → wanted.files ≡ texts order → HasFiles files (map (λ n. n.now) names) read → used ≡ read
-    → (mid : Option Directory) → KeepsFiles files mid → PrintsRead wanted values mid used status old new → PrintsFiles wanted values files status old new
-prints_files files wanted values names order read used status old new same wants has are mid kept printed = record {
+    → (mid : Option Directory) → KeepsFiles files mid → PrintsRead wanted values mid used status outputs old new → PrintsFiles wanted values files status outputs old new
+prints_files files wanted values names order read used status outputs old new same wants has are mid kept printed = record {
   texts = read;
   read = subst (λ (l : List (List ℕ)). HasFiles files l read) (sym wants) (named names order files read same has);
   printed = record {
     full = printed.full;
     input = input_there files mid values printed.full kept printed.input;
-    printed = subst (λ (l : List (List ℕ)). PrintsTexts wanted.action wanted.map printed.full l status old new) are printed.printed;
+    printed = subst (λ (l : List (List ℕ)). PrintsTexts wanted.action wanted.map printed.full l status outputs old new) are printed.printed;
   };
 }
 
 -- the files of the input were read, and the action was carried out
-pub prints_read : (files : Option Directory) (wanted : ProgramWanted) (values full : Values) (read : List (List ℕ)) (status : ℕ) (old new : Option (List ℕ)) → HasInput files values full
-    → PrintsTexts wanted.action wanted.map full read status old new → PrintsRead wanted values files read status old new
-prints_read files wanted values full read status old new input printed = record { full = full; input = input; printed = printed }
+pub prints_read : (files : Option Directory) (wanted : ProgramWanted) (values full : Values) (read : List (List ℕ)) (status : ℕ) (outputs : List (List ℕ)) (old new : Option (List ℕ)) → HasInput files values full
+    → PrintsTexts wanted.action wanted.map full read status outputs old new → PrintsRead wanted values files read status outputs old new
+prints_read files wanted values full read status outputs old new input printed = record { full = full; input = input; printed = printed }
 
 -- the texts are those of these sources
-pub prints_texts : (action : Action) (with_map : Bool) (values : Values) (used read : List (List ℕ)) (status : ℕ) (old new : Option (List ℕ)) → used ≡ read
-    → PrintsTexts action with_map values used status old new → PrintsTexts action with_map values read status old new
-prints_texts action with_map values used read status old new are printed = subst (λ (l : List (List ℕ)). PrintsTexts action with_map values l status old new) are printed
+pub prints_texts : (action : Action) (with_map : Bool) (values : Values) (used read : List (List ℕ)) (status : ℕ) (outputs : List (List ℕ)) (old new : Option (List ℕ)) → used ≡ read
+    → PrintsTexts action with_map values used status outputs old new → PrintsTexts action with_map values read status outputs old new
+prints_texts action with_map values used read status outputs old new are printed = subst (λ (l : List (List ℕ)). PrintsTexts action with_map values l status outputs old new) are printed
 
 -- the action is this one
-pub by_action : (action this : Action) (with_map : Bool) (values : Values) (texts : List (List ℕ)) (status : ℕ) (old new : Option (List ℕ)) → action ≡ this
-    → PrintsTexts this with_map values texts status old new → PrintsTexts action with_map values texts status old new
-by_action action this with_map values texts status old new is printed =
-    subst (λ (a : Action). PrintsTexts a with_map values texts status old new) (sym is) printed
+pub by_action : (action this : Action) (with_map : Bool) (values : Values) (texts : List (List ℕ)) (status : ℕ) (outputs : List (List ℕ)) (old new : Option (List ℕ)) → action ≡ this
+    → PrintsTexts this with_map values texts status outputs old new → PrintsTexts action with_map values texts status outputs old new
+by_action action this with_map values texts status outputs old new is printed =
+    subst (λ (a : Action). PrintsTexts a with_map values texts status outputs old new) (sym is) printed

@@ -1,12 +1,14 @@
 -- What was printed of programs, and why not.
-use Rattle.commands.proofs.Prelude.{◌≡◌, ℕ, List, [], ◌∷◌, Ok, None, Option, Some, inl, inr, sym, subst, ◌∙◌, Directory, status_of, TellsRefusal, Ending, Refused, WrongLine, CompileWanted, PlaceWanted, ProgramWanted, Wanted, wants_compile, Values, jump_read, only_file, plan_read, values_read, Plan, RefusesCompiling, RunsOut, PrintsFiles, PrintsProgram, RefusesAsWanted, RefusesByWords, RefusesPlaced, RunsAsWanted, RunsByWords, StopsPlaced}
+use Rattle.commands.proofs.Prelude.{◌≡◌, ℕ, List, [], ◌∷◌, Ok, None, Option, Some, inl, inr, sym, subst, ◌∙◌, Directory, status_of, TellsRefusal, Ending, Refused, WrongLine, CompileWanted, PlaceWanted, ProgramWanted, Wanted, wants_compile, wants_convert, wants_execute, wants_explain, wants_link, wants_need, wants_place, wants_program, Values, jump_read, only_file, plan_read, values_read, Plan, RefusesCompiling, RunsOut, PrintsFiles, PrintsProgram, RefusesAsWanted, RefusesByWords, RefusesPlaced, RunsAsWanted, RunsByWords, StopsPlaced}
 use Rattle.commands.proofs.Printed.{stays_written}
 use Rattle.commands.proofs.OrdersKept.{not_refused, not_wrong}
+use Rattle.commands.proofs.Delivered.{by_any}
+use Rattle.commands.specs.Orders.{QuietAsWanted, QuietByWords}
 
 -- the values are those that are written
-pub prints_program : (files : Option Directory) (wanted : ProgramWanted) (values : Values) (status : ℕ) (old new : Option (List ℕ)) → values_read wanted ≡ Ok values
-    → PrintsFiles wanted values files status old new → PrintsProgram wanted files status old new
-prints_program files wanted values status old new written printed = record { values = values; written = written; printed = printed }
+pub prints_program : (files : Option Directory) (wanted : ProgramWanted) (values : Values) (status : ℕ) (outputs : List (List ℕ)) (old new : Option (List ℕ)) → values_read wanted ≡ Ok values
+    → PrintsFiles wanted values files status outputs old new → PrintsProgram wanted files status outputs old new
+prints_program files wanted values status outputs old new written printed = record { values = values; written = written; printed = printed }
 
 -- the one file, the plan and the jump are values, and what was printed of the file stops
 pub refuses_placed : (place : PlaceWanted) (name : List ℕ) (plan : Plan) (jump : Option ℕ) (files : Option Directory) (before after : ℕ) (old new out now : Option (List ℕ))
@@ -21,9 +23,27 @@ pub refuses_compile : (compile : CompileWanted) (files : Option Directory) (befo
 refuses_compile compile files before after old new out refused = (refused, stays_written out)
 
 -- the words give the order that was carried out
-pub runs_by_words : (found : Option Wanted) (wanted : Wanted) (files : Option Directory) (status : ℕ) (old new : Option (List ℕ)) → found ≡ Some wanted
-    → RunsAsWanted wanted files status old new → RunsByWords found files status old new
-runs_by_words found wanted files status old new e runs = rw e runs
+pub runs_by_words : (found : Option Wanted) (wanted : Wanted) (files changed : Option Directory) (status : ℕ) (old new out now : Option (List ℕ)) → found ≡ Some wanted
+    → RunsAsWanted wanted files changed status old new out now → RunsByWords found files changed status old new out now
+runs_by_words found wanted files changed status old new out now e runs = rw e runs
+
+pub quiet_by_words : (found : Option Wanted) (wanted : Wanted) (old new : Option (List ℕ)) → found ≡ Some wanted → QuietAsWanted wanted old new → QuietByWords found old new
+quiet_by_words found wanted old new e quiet = rw e quiet
+
+-- nothing went to standard error
+pub quiet_as_wanted : (wanted : Wanted) (old new : Option (List ℕ)) → new ≡ old → QuietAsWanted wanted old new
+quiet_as_wanted (wants_compile compile) old new same = same
+quiet_as_wanted (wants_program program) old new same = by_any program.output_files same tt
+quiet_as_wanted (wants_link link) old new same = same
+quiet_as_wanted (wants_place place) old new same = same
+quiet_as_wanted (wants_need need) old new same = same
+quiet_as_wanted (wants_execute execute) old new same = by_any execute.output_files same tt
+quiet_as_wanted (wants_explain explain) old new same = same
+quiet_as_wanted (wants_convert convert) old new same = same
+
+pub quiet_by_any : (found : Option Wanted) (old new : Option (List ℕ)) → new ≡ old → QuietByWords found old new
+quiet_by_any None old new same = same
+quiet_by_any (Some wanted) old new same = quiet_as_wanted wanted old new same
 
 pub refuses_by_words : (found : Option Wanted) (wanted : Wanted) (files : Option Directory) (before after : ℕ) (old new out now : Option (List ℕ)) → found ≡ Some wanted
     → RefusesAsWanted wanted files before after old new out now → RefusesByWords found files before after old new out now
@@ -38,8 +58,8 @@ memory_by_words None files before after old new out now out_of = out_of
 memory_by_words (Some wanted) files before after old new out now out_of = inl out_of
 
 -- the status is that of the ending
-pub runs_by_status : (found : Option Wanted) (files : Option Directory) (ending : Ending) (status : ℕ) (old new : Option (List ℕ)) → status ≡ status_of ending → (status ≡ 1 → ⊥) → (status ≡ 2 → ⊥)
-    → ((ending ≡ Refused → ⊥) → (ending ≡ WrongLine → ⊥) → RunsByWords found files (status_of ending) old new) → RunsByWords found files status old new
-runs_by_status found files ending status old new is not_one not_two runs =
-    subst (λ (s : ℕ). RunsByWords found files s old new) (sym is)
+pub runs_by_status : (found : Option Wanted) (files changed : Option Directory) (ending : Ending) (status : ℕ) (old new out now : Option (List ℕ)) → status ≡ status_of ending → (status ≡ 1 → ⊥) → (status ≡ 2 → ⊥)
+    → ((ending ≡ Refused → ⊥) → (ending ≡ WrongLine → ⊥) → RunsByWords found files changed (status_of ending) old new out now) → RunsByWords found files changed status old new out now
+runs_by_status found files changed ending status old new out now is not_one not_two runs =
+    subst (λ (s : ℕ). RunsByWords found files changed s old new out now) (sym is)
     (runs (not_refused ending (λ one. not_one (is ∙ one))) (not_wrong ending (λ two. not_two (is ∙ two))))

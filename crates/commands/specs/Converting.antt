@@ -1,7 +1,8 @@
 -- What is printed and told of a source that is converted.
-use Rattle.std.specs.Prelude.{◌≡◌, ◌⊎◌, ◌<◌, ℕ, List, [], ◌∷◌, length, map, Option, None, Some}
+use Rattle.std.specs.Prelude.{◌≡◌, ◌⊎◌, ◌<◌, ℕ, true, List, [], ◌∷◌, length, map, Option, None, Some}
 use Rattle.std.specs.Io.KnownBytes.{Appends, Keeps}
 use Rattle.failure.specs.Writing.{AppendsBeginning}
+use Rattle.clap.specs.Words.{Text}
 use Rattle.words.specs.declared.limits.TheConstants.{LONGEST_SOURCE}
 use Rattle.host.specs.Files.{Directory, HasFile}
 use Rattle.host.specs.Reading.{StopsAt}
@@ -21,6 +22,8 @@ use Rattle.convert.specs.Table.{rule_view, table_of_rules}
 use Rattle.convert.specs.Sources.{IsConverted, note_lines}
 use Rattle.command_line.specs.Command.{ConvertWanted, Wanted, wants_compile, wants_convert, wants_execute}
 use Rattle.command_line.specs.Command.{wants_explain, wants_link, wants_need, wants_place, wants_program}
+use Rattle.command_line.specs.Settings.{outputs_in}
+use Rattle.commands.specs.OutputFiles.{ByOutputs, is_output}
 use Rattle.commands.specs.Refusing.{RunsOut, TellsFile, TellsUnwritten}
 
 -- a text is a module of this language, whether or not that has a fault of names or of types
@@ -152,17 +155,26 @@ ConvertsByWords (Some wanted) files status before after err_old err_new out_old 
     ((status ≡ 1) × RunsOut before after err_old err_new out_old out_new)
     ⊎ ConvertsAsWanted wanted files status before after err_old err_new out_old out_new
 
--- what is told with status 1 is a refusal, but of an order to convert, whose notes are told too: that is said above
-abbrev pub TellsAsWanted : Wanted → (refusal : Type 0) → Type 0
-TellsAsWanted (wants_convert convert) refusal = Unit {0}
-TellsAsWanted (wants_compile compile) refusal = refusal
-TellsAsWanted (wants_program program) refusal = refusal
-TellsAsWanted (wants_link link) refusal = refusal
-TellsAsWanted (wants_place place) refusal = refusal
-TellsAsWanted (wants_need need) refusal = refusal
-TellsAsWanted (wants_execute execute) refusal = refusal
-TellsAsWanted (wants_explain explain) refusal = refusal
+-- one of these files of ports was told, which could not be written, and its failure was counted
+abbrev pub TellsOutput : (before after : ℕ) → (old new : Option (List ℕ)) → (names : List (List ℕ)) → Type 0
+TellsOutput before after old new names = TellsFile (λ name. is_output names name ≡ true) before after old new
 
-abbrev pub TellsByWords : Option Wanted → (refusal : Type 0) → Type 0
-TellsByWords None refusal = refusal
-TellsByWords (Some wanted) refusal = TellsAsWanted wanted refusal
+-- what is told of a run: a refusal, or one of the files of ports that texts write
+abbrev pub TellsRun : (texts : List Text) → (output : List (List ℕ) → Type 0) → (refusal : Type 0) → Type 0
+TellsRun texts output refusal = ByOutputs texts refusal (refusal ⊎ output (outputs_in texts))
+
+-- what is told with status 1 is a refusal, or a file of a port, but of an order to convert, whose notes are told too:
+-- that is said above
+abbrev pub TellsAsWanted : Wanted → (output : List (List ℕ) → Type 0) → (refusal : Type 0) → Type 0
+TellsAsWanted (wants_convert convert) output refusal = Unit {0}
+TellsAsWanted (wants_compile compile) output refusal = refusal
+TellsAsWanted (wants_program program) output refusal = TellsRun program.output_files output refusal
+TellsAsWanted (wants_link link) output refusal = refusal
+TellsAsWanted (wants_place place) output refusal = refusal
+TellsAsWanted (wants_need need) output refusal = refusal
+TellsAsWanted (wants_execute execute) output refusal = TellsRun execute.output_files output refusal
+TellsAsWanted (wants_explain explain) output refusal = refusal
+
+abbrev pub TellsByWords : Option Wanted → (output : List (List ℕ) → Type 0) → (refusal : Type 0) → Type 0
+TellsByWords None output refusal = refusal
+TellsByWords (Some wanted) output refusal = TellsAsWanted wanted output refusal

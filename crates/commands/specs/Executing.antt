@@ -11,13 +11,15 @@ use Rattle.command_line.specs.Command.{ExecuteWanted}
 use Rattle.command_line.specs.Settings.{Values, execute_read}
 use Rattle.object_commands.specs.Merging.{PlacesMerge, RefusesPlacing}
 use Rattle.commands.specs.InputFiles.{HasInput, input_names, quiet_ports}
+use Rattle.commands.specs.OutputFiles.{outputs_of}
 use Rattle.commands.specs.Refusing.{RefusesFor, RunsOut, TellsUnwritten}
 use Rattle.commands.specs.Running.{GivesInput, end_status}
 use Rattle.commands.specs.Starting.{IsStart}
 
--- what an image does on a memory as these values start it, with their input and their limit, was printed
+-- what an image does on a memory as these values start it, with their input and their limit, was printed, and these
+-- are the bytes for the files of ports
 pub record PrintsImage (values : Values) (image : Absolute) (status : ℕ)
-    (old new : Option (List ℕ)) : Type 0 where
+    (outputs : List (List ℕ)) (old new : Option (List ℕ)) : Type 0 where
   pub memory : List ℕ
   pub start : IsStart values memory
   pub script : List (List ℕ)
@@ -26,6 +28,7 @@ pub record PrintsImage (values : Values) (image : Absolute) (status : ℕ)
   pub machine : Machine
   pub run : PrintsRun (quiet_ports values) values.limit (started image memory script [] 0) end machine old new
   pub ended : status ≡ end_status end
+  pub gathered : outputs ≡ outputs_of values machine.state.events
 
 -- a beginning of that was printed
 pub record BeginsImage (values : Values) (image : Absolute) (old new : Option (List ℕ)) : Type 0 where
@@ -41,24 +44,24 @@ StopsImage values image old new = Keeps old new ⊎ BeginsImage values image old
 
 -- the files of the input were read, and with the values that they give this was printed of an image
 pub record PrintsRead (values : Values) (files : Option Directory) (image : Absolute) (status : ℕ)
-    (old new : Option (List ℕ)) : Type 0 where
+    (outputs : List (List ℕ)) (old new : Option (List ℕ)) : Type 0 where
   pub full : Values
   pub input : HasInput files values full
-  pub printed : PrintsImage full image status old new
+  pub printed : PrintsImage full image status outputs old new
 
 -- the merge of the objects that are wanted, placed by the plan of these values, was run, and this was printed
 pub record PrintsMerge (wanted : ExecuteWanted) (values : Values) (files : Option Directory) (status : ℕ)
-    (old new : Option (List ℕ)) : Type 0 where
+    (outputs : List (List ℕ)) (old new : Option (List ℕ)) : Type 0 where
   pub image : Absolute
   pub placed : PlacesMerge files wanted.objects values.plan image
-  pub printed : PrintsRead values files image status old new
+  pub printed : PrintsRead values files image status outputs old new
 
 -- the same with the values that are written
 pub record PrintsExecution (wanted : ExecuteWanted) (files : Option Directory) (status : ℕ)
-    (old new : Option (List ℕ)) : Type 0 where
+    (outputs : List (List ℕ)) (old new : Option (List ℕ)) : Type 0 where
   pub values : Values
   pub written : execute_read wanted ≡ Ok values
-  pub printed : PrintsMerge wanted values files status old new
+  pub printed : PrintsMerge wanted values files status outputs old new
 
 -- The files of the input were read, and then memory ran out or standard output was not written. What was printed by then
 -- is a beginning of what is printed of an image with the values that they give, which may be nothing or all.

@@ -5,9 +5,13 @@ use Rattle.host.specs.Reading.{HasFiles}
 use Rattle.command_line.specs.Settings.{NamedPort, Values, file_names}
 use Rattle.command_line.specs.declared.values.InputByte.{InputByte}
 
+-- the ports of files
+abbrev pub ports_of : List NamedPort → List ℕ
+ports_of files = map (λ (file : NamedPort). file.port) files
+
 -- the ports whose events are not printed: those that have a file
 abbrev pub quiet_ports : Values → List ℕ
-quiet_ports values = map (λ (file : NamedPort). file.port) values.input_files
+quiet_ports values = ports_of values.output_files ++ ports_of values.input_files
 
 -- the names of the files, in the order of the options
 abbrev pub input_names : Values → List (List ℕ)

@@ -18,6 +18,7 @@ pub use Rattle.commands.specs.NeedFaults as NeedFaults
 pub use Rattle.printing.specs.Printing as PrintedRuns
 pub mod Compiling
 pub mod InputFiles
+pub mod OutputFiles
 pub mod Map
 pub mod Starting
 pub mod Running

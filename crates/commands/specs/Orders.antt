@@ -8,7 +8,7 @@ use Rattle.host.specs.Files.{Directory, KeepsFiles}
 use Rattle.host.specs.Refusals.{Tells, TellsRefusal, refusal_line}
 use Rattle.command_line.specs.Command.{NeedWanted, PlaceWanted, Wanted, wants_compile, wants_convert, wants_execute, wants_explain}
 use Rattle.command_line.specs.Command.{wants_link, wants_need, wants_place, wants_program}
-use Rattle.command_line.specs.Settings.{Read, ◌>>=◌, execute_read, jump_read, names_in, only_file, page_read}
+use Rattle.command_line.specs.Settings.{Read, ◌>>=◌, execute_read, jump_read, names_in, only_file, outputs_in, page_read}
 use Rattle.command_line.specs.Settings.{plan_read, values_read}
 use Rattle.command_line.specs.declared.orders.PlaceAction.{PlaceAction}
 use Rattle.command_line.specs.declared.orders.PlaceAction.TheVariants.{Locate, Hex, Listing}
@@ -18,19 +18,21 @@ use Rattle.object_commands.specs.Placing.{PrintsHex, PrintsPlaces, StopsHex, Sto
 use Rattle.commands.specs.Compiling.{CompilesFile, StopsCompiling}
 use Rattle.commands.specs.Executing.{PrintsExecution, RefusesExecution}
 use Rattle.commands.specs.Explaining.{PrintsPage, RefusesPage}
+use Rattle.commands.specs.OutputFiles.{ByOutputs, ChangesOutputs, DeliversRun}
 use Rattle.commands.specs.Refusing.{RefusesCompiling, RefusesFor, RefusesProgram, RunsOut}
 use Rattle.commands.specs.Running.{PrintsProgram}
 use Rattle.commands.specs.Needing.{PrintsNeedOf, RefusesNeedOf}
 use Rattle.mem80.specs.declared.plan.Plan.{Plan}
 
--- an order to compile or to link changes no file but the one that it names, and others change none
+-- an order to compile or to link changes no file but the one that it names, and one to run or to interpret none but
+-- those of ports that it names; others change none
 abbrev pub ChangesAsWanted : Wanted → Option Directory → Option Directory → Type 0
 ChangesAsWanted (wants_compile compile) old new = KeepsOthers old new compile.object
 ChangesAsWanted (wants_link link) old new = KeepsOthers old new link.out
-ChangesAsWanted (wants_program program) old new = KeepsFiles old new
+ChangesAsWanted (wants_program program) old new = ChangesOutputs (outputs_in program.output_files) old new
 ChangesAsWanted (wants_place place) old new = KeepsFiles old new
 ChangesAsWanted (wants_need need) old new = KeepsFiles old new
-ChangesAsWanted (wants_execute execute) old new = KeepsFiles old new
+ChangesAsWanted (wants_execute execute) old new = ChangesOutputs (outputs_in execute.output_files) old new
 ChangesAsWanted (wants_explain explain) old new = KeepsFiles old new
 ChangesAsWanted (wants_convert convert) old new = KeepsFiles old new
 
@@ -46,15 +48,15 @@ WritesAsWanted (wants_execute execute) old new = Unit {0}
 WritesAsWanted (wants_explain explain) old new = Unit {0}
 WritesAsWanted (wants_convert convert) old new = Unit {0}
 
--- where an order is not carried out, no file changes, but that of an order to compile or to link may have a
--- beginning of its object
+-- where an order ends with another status than 0, no file changes, but that of an order to compile or to link may have
+-- a beginning of its object, and those of ports may change, of which more is said below
 abbrev pub StopsAsWanted : Wanted → Option Directory → Option Directory → Type 0
 StopsAsWanted (wants_compile compile) old new = StopsCompiling old new compile.source compile.object
 StopsAsWanted (wants_link link) old new = StopsLinking old new link.objects link.out
-StopsAsWanted (wants_program program) old new = KeepsFiles old new
+StopsAsWanted (wants_program program) old new = ChangesOutputs (outputs_in program.output_files) old new
 StopsAsWanted (wants_place place) old new = KeepsFiles old new
 StopsAsWanted (wants_need need) old new = KeepsFiles old new
-StopsAsWanted (wants_execute execute) old new = KeepsFiles old new
+StopsAsWanted (wants_execute execute) old new = ChangesOutputs (outputs_in execute.output_files) old new
 StopsAsWanted (wants_explain explain) old new = KeepsFiles old new
 StopsAsWanted (wants_convert convert) old new = KeepsFiles old new
 
@@ -105,17 +107,40 @@ PrintsAsWanted (wants_execute execute) files old new = Unit {0}
 PrintsAsWanted (wants_explain explain) files old new = PrintsPage explain old new
 PrintsAsWanted (wants_convert convert) files old new = Unit {0}
 
--- what an order to run or to interpret sources, or to run objects, prints where it is not refused, and the status
--- that it ends with; any other order ends with status 0 then
-abbrev pub RunsAsWanted : Wanted → Option Directory → (status : ℕ) → (old new : Option (List ℕ)) → Type 0
-RunsAsWanted (wants_program program) files status old new = PrintsProgram program files status old new
-RunsAsWanted (wants_compile compile) files status old new = status ≡ 0
-RunsAsWanted (wants_link link) files status old new = status ≡ 0
-RunsAsWanted (wants_place place) files status old new = status ≡ 0
-RunsAsWanted (wants_need need) files status old new = status ≡ 0
-RunsAsWanted (wants_execute execute) files status old new = PrintsExecution execute files status old new
-RunsAsWanted (wants_explain explain) files status old new = status ≡ 0
-RunsAsWanted (wants_convert convert) files status old new = status ≡ 0
+-- what an order to run or to interpret sources, or to run objects, prints where it is not refused, the status that it
+-- ends with, and the bytes of the files of ports; any other order ends with status 0 then
+abbrev pub RunsAsWanted :
+    Wanted → (files new : Option Directory) → (status : ℕ) → (err_old err_new out_old out_new : Option (List ℕ))
+    → Type 0
+RunsAsWanted (wants_program program) files new status err_old err_new out_old out_new =
+    ByOutputs program.output_files
+    (PrintsProgram program files status [] out_old out_new)
+    (DeliversRun (PrintsProgram program files status) (outputs_in program.output_files)
+    files new err_old err_new out_old out_new)
+RunsAsWanted (wants_compile compile) files new status err_old err_new out_old out_new = status ≡ 0
+RunsAsWanted (wants_link link) files new status err_old err_new out_old out_new = status ≡ 0
+RunsAsWanted (wants_place place) files new status err_old err_new out_old out_new = status ≡ 0
+RunsAsWanted (wants_need need) files new status err_old err_new out_old out_new = status ≡ 0
+RunsAsWanted (wants_execute execute) files new status err_old err_new out_old out_new =
+    ByOutputs execute.output_files
+    (PrintsExecution execute files status [] out_old out_new)
+    (DeliversRun (PrintsExecution execute files status) (outputs_in execute.output_files)
+    files new err_old err_new out_old out_new)
+RunsAsWanted (wants_explain explain) files new status err_old err_new out_old out_new = status ≡ 0
+RunsAsWanted (wants_convert convert) files new status err_old err_new out_old out_new = status ≡ 0
+
+-- nothing goes to standard error where an order is not refused, but what is said above of a run with files of ports
+abbrev pub QuietAsWanted : Wanted → (err_old err_new : Option (List ℕ)) → Type 0
+QuietAsWanted (wants_program program) err_old err_new =
+    ByOutputs program.output_files (err_new ≡ err_old) (Unit {0})
+QuietAsWanted (wants_compile compile) err_old err_new = err_new ≡ err_old
+QuietAsWanted (wants_link link) err_old err_new = err_new ≡ err_old
+QuietAsWanted (wants_place place) err_old err_new = err_new ≡ err_old
+QuietAsWanted (wants_need need) err_old err_new = err_new ≡ err_old
+QuietAsWanted (wants_execute execute) err_old err_new =
+    ByOutputs execute.output_files (err_new ≡ err_old) (Unit {0})
+QuietAsWanted (wants_explain explain) err_old err_new = err_new ≡ err_old
+QuietAsWanted (wants_convert convert) err_old err_new = err_new ≡ err_old
 
 -- Why an order on an object file is refused. Its plan is one, its jump has an address, and it has one file. What is told is the line of
 -- that file, where its failure was counted, or that of another fault, of which no cause is said. Nothing was
@@ -140,12 +165,13 @@ pub record RefusesNeed (need : NeedWanted) (files : Option Directory) (before af
       files need.files before after err_old err_new out_old out_new
 
 -- why an order is refused, what was told of it, and what was printed by then; of an order to link it is only
--- said that nothing was printed, and of one to convert Converting says all
+-- said that nothing was printed, of a run with files of ports nothing, and of one to convert Converting says all
 abbrev pub RefusesAsWanted :
     Wanted → Option Directory → (before after : ℕ)
     → (err_old err_new out_old out_new : Option (List ℕ)) → Type 0
 RefusesAsWanted (wants_program program) files before after err_old err_new out_old out_new =
-    RefusesProgram program files before after err_old err_new out_old out_new
+    ByOutputs program.output_files
+    (RefusesProgram program files before after err_old err_new out_old out_new) (Unit {0})
 RefusesAsWanted (wants_compile compile) files before after err_old err_new out_old out_new =
     RefusesCompiling compile files before after err_old err_new × Keeps out_old out_new
 RefusesAsWanted (wants_link link) files before after err_old err_new out_old out_new = Keeps out_old out_new
@@ -154,7 +180,8 @@ RefusesAsWanted (wants_place place) files before after err_old err_new out_old o
 RefusesAsWanted (wants_need need) files before after err_old err_new out_old out_new =
     RefusesNeed need files before after err_old err_new out_old out_new
 RefusesAsWanted (wants_execute execute) files before after err_old err_new out_old out_new =
-    RefusesExecution execute files before after err_old err_new out_old out_new
+    ByOutputs execute.output_files
+    (RefusesExecution execute files before after err_old err_new out_old out_new) (Unit {0})
 RefusesAsWanted (wants_explain explain) files before after err_old err_new out_old out_new =
     (after ≡ before) × RefusesPage explain err_old err_new out_old out_new
 RefusesAsWanted (wants_convert convert) files before after err_old err_new out_old out_new = Unit {0}
@@ -193,9 +220,15 @@ PrintsByWords (Some wanted) files old new = PrintsAsWanted wanted files old new
 
 -- words without a fault give an order, where they are not refused
 abbrev pub RunsByWords :
-    Option Wanted → Option Directory → (status : ℕ) → (old new : Option (List ℕ)) → Type 0
-RunsByWords None files status old new = ⊥
-RunsByWords (Some wanted) files status old new = RunsAsWanted wanted files status old new
+    Option Wanted → (files new : Option Directory) → (status : ℕ)
+    → (err_old err_new out_old out_new : Option (List ℕ)) → Type 0
+RunsByWords None files new status err_old err_new out_old out_new = ⊥
+RunsByWords (Some wanted) files new status err_old err_new out_old out_new =
+    RunsAsWanted wanted files new status err_old err_new out_old out_new
+
+abbrev pub QuietByWords : Option Wanted → (err_old err_new : Option (List ℕ)) → Type 0
+QuietByWords None err_old err_new = err_new ≡ err_old
+QuietByWords (Some wanted) err_old err_new = QuietAsWanted wanted err_old err_new
 
 -- why words without a fault are refused: memory ran out before their order was known, or the order is refused
 unfoldable pub RefusesByWords :

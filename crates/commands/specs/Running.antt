@@ -28,6 +28,7 @@ use Rattle.tool.specs.Construction.{Construction, IsConstruction}
 use Rattle.tool.specs.Execution.{source_of, started}
 use Rattle.commands.specs.InputFiles.{HasInput, quiet_ports}
 use Rattle.commands.specs.Map.{map_if}
+use Rattle.commands.specs.OutputFiles.{outputs_of}
 use Rattle.commands.specs.Starting.{IsStart}
 
 -- the bytes of an input for a port, in their order
@@ -47,9 +48,9 @@ end_status Illegal = 4
 end_status PortFault = 4
 
 -- after this text what the image of a program does on a memory as these values start it, with their input and
--- their limit, was printed
+-- their limit, was printed, and these are the bytes for the files of ports
 pub record PrintsMachine (before : List ℕ) (values : Values) (built : Construction) (status : ℕ)
-    (old new : Option (List ℕ)) : Type 0 where
+    (outputs : List (List ℕ)) (old new : Option (List ℕ)) : Type 0 where
   pub memory : List ℕ
   pub start : IsStart values memory
   pub script : List (List ℕ)
@@ -58,6 +59,7 @@ pub record PrintsMachine (before : List ℕ) (values : Values) (built : Construc
   pub machine : Machine
   pub run : IsRun values.limit (started built.image memory script [] 0) end machine
   pub ended : status ≡ end_status end
+  pub gathered : outputs ≡ outputs_of values machine.state.events
   pub printed : Appends old new
       (before ++ report_of (quiet_ports values) machine.state.events (end_word end))
 
@@ -97,9 +99,9 @@ source_status (Some (Outside reason)) = 5
 source_status None = 4
 
 -- after this text what a program means, from a memory as these values start it, with their input and their
--- budget, was printed
+-- budget, was printed, and these are the bytes for the files of ports
 pub record PrintsMeaning (before : List ℕ) (values : Values) (built : Construction) (status : ℕ)
-    (old new : Option (List ℕ)) : Type 0 where
+    (outputs : List (List ℕ)) (old new : Option (List ℕ)) : Type 0 where
   pub memory : List ℕ
   pub start : IsStart values memory
   pub script : List (List ℕ)
@@ -108,6 +110,7 @@ pub record PrintsMeaning (before : List ℕ) (values : Values) (built : Construc
   pub events : List Event
   pub does : DoesAs (source_of built memory script [] values.limit) end events
   pub ended : status ≡ source_status end
+  pub gathered : outputs ≡ outputs_of values events
   pub printed : Appends old new
       (before ++ report_of (quiet_ports values) events (source_word end))
 
@@ -126,10 +129,12 @@ pub record BeginsMeaning (before : List ℕ) (values : Values) (built : Construc
 
 -- what an action prints of a program
 abbrev pub PrintsBuilt :
-    Action → (before : List ℕ) → Values → Construction → (status : ℕ) → (old new : Option (List ℕ)) → Type 0
-PrintsBuilt actions.Run before values built status old new = PrintsMachine before values built status old new
-PrintsBuilt actions.Interpret before values built status old new =
-    PrintsMeaning before values built status old new
+    Action → (before : List ℕ) → Values → Construction → (status : ℕ) → (outputs : List (List ℕ))
+    → (old new : Option (List ℕ)) → Type 0
+PrintsBuilt actions.Run before values built status outputs old new =
+    PrintsMachine before values built status outputs old new
+PrintsBuilt actions.Interpret before values built status outputs old new =
+    PrintsMeaning before values built status outputs old new
 
 -- a beginning of that was printed, of the text before and of what follows it
 abbrev pub BeginsBuilt :
@@ -147,31 +152,32 @@ StopsBuilt action before values built old new =
 -- a program was built of these texts, which are not too many, at the plan of these values, and what an action
 -- prints of it was printed, after its map where one is wanted
 pub record PrintsTexts (action : Action) (map : Bool) (values : Values) (texts : List (List ℕ)) (status : ℕ)
-    (old new : Option (List ℕ)) : Type 0 where
+    (outputs : List (List ℕ)) (old new : Option (List ℕ)) : Type 0 where
   pub built : Construction
   pub few : length texts ≤ MOST_SOURCES
   pub program : IsProgramOf texts (program_modules built.program)
   pub plan : built.plan ≡ values.plan
   pub construction : IsConstruction built
-  pub printed : PrintsBuilt action (map_if map built) values built status old new
+  pub printed : PrintsBuilt action (map_if map built) values built status outputs old new
 
 -- the files of the input were read, and with the values that they give this was printed of texts
 pub record PrintsRead (wanted : ProgramWanted) (values : Values) (files : Option Directory)
-    (texts : List (List ℕ)) (status : ℕ) (old new : Option (List ℕ)) : Type 0 where
+    (texts : List (List ℕ)) (status : ℕ)
+    (outputs : List (List ℕ)) (old new : Option (List ℕ)) : Type 0 where
   pub full : Values
   pub input : HasInput files values full
-  pub printed : PrintsTexts wanted.action wanted.map full texts status old new
+  pub printed : PrintsTexts wanted.action wanted.map full texts status outputs old new
 
 -- the files that are wanted have texts, of which with these values this was printed
 pub record PrintsFiles (wanted : ProgramWanted) (values : Values) (files : Option Directory) (status : ℕ)
-    (old new : Option (List ℕ)) : Type 0 where
+    (outputs : List (List ℕ)) (old new : Option (List ℕ)) : Type 0 where
   pub texts : List (List ℕ)
   pub read : HasFiles files wanted.files texts
-  pub printed : PrintsRead wanted values files texts status old new
+  pub printed : PrintsRead wanted values files texts status outputs old new
 
 -- the same with the values that are written
 pub record PrintsProgram (wanted : ProgramWanted) (files : Option Directory) (status : ℕ)
-    (old new : Option (List ℕ)) : Type 0 where
+    (outputs : List (List ℕ)) (old new : Option (List ℕ)) : Type 0 where
   pub values : Values
   pub written : values_read wanted ≡ Ok values
-  pub printed : PrintsFiles wanted values files status old new
+  pub printed : PrintsFiles wanted values files status outputs old new

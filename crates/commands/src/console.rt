@@ -7,17 +7,19 @@ ghost use Rattle.clap.specs.Walk.{texts};
 ghost use Rattle.clap.specs.Words.{fault_of};
 ghost use Rattle.host.specs.Files.{KeepsFiles};
 ghost use Rattle.command_line.specs.Command.{plm_app, place_in, program_in, wanted_by, wanted_in, wants_place, wants_program};
+ghost use Rattle.command_line.specs.Settings.{outputs_in};
+ghost use Rattle.commands.specs.OutputFiles.{ChangesOutputs};
 ghost use Rattle.commands.specs.Refusing.{RefusesProgram};
 ghost use Rattle.commands.specs.Running.{PrintsProgram};
-ghost use Rattle.commands.specs.Orders.{AsksHelpAtMost, ChangesAsWanted, ChangesByWords, PrintsAsWanted, PrintsByWords, PrintsWanted, RefusesAsWanted, RefusesByWords, RefusesNoText, RefusesPlaced, RunsAsWanted, RunsByWords, StopsAsWanted, StopsByWords, TellsText, TellsTextByWords, WritesAsWanted, WritesByWords, names_by_words, names_of};
-ghost use Rattle.commands.specs.Converting.{ConvertsAsWanted, ConvertsByWords, TellsAsWanted, TellsByWords};
+ghost use Rattle.commands.specs.Orders.{AsksHelpAtMost, ChangesAsWanted, ChangesByWords, PrintsAsWanted, PrintsByWords, PrintsWanted, RefusesAsWanted, RefusesByWords, RefusesNoText, RefusesPlaced, RunsAsWanted, RunsByWords, StopsAsWanted, StopsByWords, QuietAsWanted, QuietByWords, TellsText, TellsTextByWords, WritesAsWanted, WritesByWords, names_by_words, names_of};
+ghost use Rattle.commands.specs.Converting.{ConvertsAsWanted, ConvertsByWords, TellsAsWanted, TellsByWords, TellsOutput, TellsRun};
 ghost use Rattle.commands.specs.internal.LineFaults.{IsWrong};
 
 use crate::converting::convert_by_tables;
 use crate::executing::execute_objects;
 use crate::explaining::explain_number;
 use crate::needing::tell_need;
-use crate::programs::{carry_out_sources, compile_file};
+use crate::programs::{carry_out_sources, carry_out_to_files, compile_file};
 use crate::refusals::refuse_value;
 use command_line::{LineFault, Order, PlaceAction, PlaceOrder, ProgramOrder, command};
 use failure::Failure;
@@ -55,7 +57,8 @@ pub fn run_command<F: Files, O: Write, E: Write>(
         (wanted_by (texts words.now)) (F.files files.old) (O.contents out.old) (O.contents out.new) }
     ensures ran { fault_of plm_app (texts words.now) ≡ [] →
         (result ≡ 1 → ⊥) → (result ≡ 2 → ⊥) → RunsByWords
-        (wanted_by (texts words.now)) (F.files files.old) result (O.contents out.old) (O.contents out.new) }
+        (wanted_by (texts words.now)) (F.files files.old) (F.files files.new) result
+        (E.contents err.old) (E.contents err.new) (O.contents out.old) (O.contents out.new) }
     ensures stopped { (result ≡ 0 → ⊥) →
         StopsByWords (wanted_by (texts words.now)) (F.files files.old) (F.files files.new) }
     ensures refused_text { fault_of plm_app (texts words.now) ≡ [] → result ≡ 2 → TellsTextByWords
@@ -63,8 +66,9 @@ pub fn run_command<F: Files, O: Write, E: Write>(
     ensures not_wrong { AsksHelpAtMost (fault_of plm_app (texts words.now)) →
         (fault_of plm_app (texts words.now) ≡ [] → RefusesNoText (wanted_by (texts words.now))) →
         result ≡ 2 → ⊥ }
-    ensures told { result ≡ 1 → TellsByWords (wanted_by (texts words.now)) (TellsRefusal (F.files files.old)
-        (names_by_words (wanted_by (texts words.now)))
+    ensures told { result ≡ 1 → TellsByWords (wanted_by (texts words.now))
+        (TellsOutput (F.failures files.old) (F.failures files.new) (E.contents err.old) (E.contents err.new))
+        (TellsRefusal (F.files files.old) (names_by_words (wanted_by (texts words.now)))
         (F.failures files.old) (F.failures files.new) (E.contents err.old) (E.contents err.new)) }
     ensures converted { fault_of plm_app (texts words.now) ≡ [] → ConvertsByWords
         (wanted_by (texts words.now)) (F.files files.old) result (F.failures files.old) (F.failures files.new)
@@ -76,8 +80,8 @@ pub fn run_command<F: Files, O: Write, E: Write>(
         O.contents out.new ≡ O.contents out.old }
     ensures faulty { (fault_of plm_app (texts words.now) ≡ [] → ⊥) → result ≤ 2 }
     ensures count { (result ≡ 1 → ⊥) → F.failures files.new ≡ F.failures files.old }
-    ensures quiet { (result ≡ 1 → ⊥) → (result ≡ 2 → ⊥) →
-        E.contents err.new ≡ E.contents err.old }
+    ensures quiet { (result ≡ 1 → ⊥) → (result ≡ 2 → ⊥) → QuietByWords
+        (wanted_by (texts words.now)) (E.contents err.old) (E.contents err.new) }
 {
     let ending = end_words(alloc, words, files, out, err);
     ending.status()
@@ -101,7 +105,8 @@ fn end_words<F: Files, O: Write, E: Write>(
         (wanted_by (texts words.now)) (F.files files.old) (O.contents out.old) (O.contents out.new) }
     ensures ran { fault_of plm_app (texts words.now) ≡ [] → (result ≡ Ending.Refused → ⊥) →
         (result ≡ Ending.WrongLine → ⊥) → RunsByWords (wanted_by (texts words.now)) (F.files files.old)
-        (status_of result) (O.contents out.old) (O.contents out.new) }
+        (F.files files.new) (status_of result)
+        (E.contents err.old) (E.contents err.new) (O.contents out.old) (O.contents out.new) }
     ensures stopped { (result ≡ Ending.Done → ⊥) →
         StopsByWords (wanted_by (texts words.now)) (F.files files.old) (F.files files.new) }
     ensures refused_text { fault_of plm_app (texts words.now) ≡ [] → result ≡ Ending.WrongLine →
@@ -110,6 +115,7 @@ fn end_words<F: Files, O: Write, E: Write>(
         (fault_of plm_app (texts words.now) ≡ [] → RefusesNoText (wanted_by (texts words.now))) →
         result ≡ Ending.WrongLine → ⊥ }
     ensures told { result ≡ Ending.Refused → TellsByWords (wanted_by (texts words.now))
+        (TellsOutput (F.failures files.old) (F.failures files.new) (E.contents err.old) (E.contents err.new))
         (TellsRefusal (F.files files.old) (names_by_words (wanted_by (texts words.now)))
         (F.failures files.old) (F.failures files.new) (E.contents err.old) (E.contents err.new)) }
     ensures converted { fault_of plm_app (texts words.now) ≡ [] → ConvertsByWords
@@ -123,8 +129,8 @@ fn end_words<F: Files, O: Write, E: Write>(
         O.contents out.new ≡ O.contents out.old }
     ensures faulty { (fault_of plm_app (texts words.now) ≡ [] → ⊥) → status_of result ≤ 2 }
     ensures count { (result ≡ Ending.Refused → ⊥) → F.failures files.new ≡ F.failures files.old }
-    ensures quiet { (result ≡ Ending.Refused → ⊥) → (result ≡ Ending.WrongLine → ⊥) →
-        E.contents err.new ≡ E.contents err.old }
+    ensures quiet { (result ≡ Ending.Refused → ⊥) → (result ≡ Ending.WrongLine → ⊥)
+        → QuietByWords (wanted_by (texts words.now)) (E.contents err.old) (E.contents err.new) }
 {
     match command(alloc, words) {
         Ok(order) => carry_out(alloc, &order, files, out, err),
@@ -155,7 +161,7 @@ fn end_line<O: Write, E: Write>(fault: &LineFault, out: &mut O, err: &mut E) -> 
 }
 
 // Carries out an order.
-#[tactic(auto, using(crate::proofs::OrdersKept::kept_as_wanted, crate::proofs::OrdersKept::done_status, crate::proofs::OrdersKept::other_status, crate::proofs::ProgramsTold::refuses_compile, crate::proofs::Explained::refuses_explain, crate::proofs::Printed::stays_written))]
+#[tactic(auto, using(crate::proofs::OrdersKept::kept_as_wanted, crate::proofs::OrdersKept::done_status, crate::proofs::OrdersKept::other_status, crate::proofs::ProgramsTold::refuses_compile, crate::proofs::Explained::refuses_explain, crate::proofs::Printed::stays_written, crate::proofs::ProgramsTold::quiet_as_wanted))]
 fn carry_out<F: Files, O: Write, E: Write>(
     alloc: Global,
     order: &Order,
@@ -169,13 +175,14 @@ fn carry_out<F: Files, O: Write, E: Write>(
     ensures printed { result ≡ Ending.Done → PrintsAsWanted (wanted_in order.now) (F.files files.old)
         (O.contents out.old) (O.contents out.new) }
     ensures ran { (result ≡ Ending.Refused → ⊥) → (result ≡ Ending.WrongLine → ⊥) →
-        RunsAsWanted (wanted_in order.now) (F.files files.old) (status_of result)
-        (O.contents out.old) (O.contents out.new) }
+        RunsAsWanted (wanted_in order.now) (F.files files.old) (F.files files.new) (status_of result)
+        (E.contents err.old) (E.contents err.new) (O.contents out.old) (O.contents out.new) }
     ensures stopped { (result ≡ Ending.Done → ⊥) →
         StopsAsWanted (wanted_in order.now) (F.files files.old) (F.files files.new) }
     ensures refused_text { result ≡ Ending.WrongLine → TellsText (wanted_in order.now)
         (E.contents err.old) (E.contents err.new) }
     ensures told { result ≡ Ending.Refused → TellsAsWanted (wanted_in order.now)
+        (TellsOutput (F.failures files.old) (F.failures files.new) (E.contents err.old) (E.contents err.new))
         (TellsRefusal (F.files files.old) (names_of (wanted_in order.now))
         (F.failures files.old) (F.failures files.new) (E.contents err.old) (E.contents err.new)) }
     ensures converted { ConvertsAsWanted (wanted_in order.now) (F.files files.old)
@@ -187,7 +194,7 @@ fn carry_out<F: Files, O: Write, E: Write>(
     ensures silent { result ≡ Ending.WrongLine → O.contents out.new ≡ O.contents out.old }
     ensures count { (result ≡ Ending.Refused → ⊥) → F.failures files.new ≡ F.failures files.old }
     ensures quiet { (result ≡ Ending.Refused → ⊥) → (result ≡ Ending.WrongLine → ⊥) →
-        E.contents err.new ≡ E.contents err.old }
+        QuietAsWanted (wanted_in order.now) (E.contents err.old) (E.contents err.new) }
 {
     match order {
         Order::Compile(compile) => compile_file(alloc, compile, files, err),
@@ -247,9 +254,44 @@ fn carry_out_place<F: Files, O: Write, E: Write>(
     }
 }
 
-// Carries out an order on sources, once the values of its options are known.
-#[tactic(auto, using(host::proofs::FilesRead::stays))]
+// Carries out an order on sources, with files of ports or without.
 fn carry_out_program<F: Files, O: Write, E: Write>(
+    alloc: Global,
+    order: &ProgramOrder,
+    files: &mut F,
+    out: &mut O,
+    err: &mut E,
+) -> Ending
+    ensures unchanged { ChangesOutputs (outputs_in (program_in order.now).output_files)
+        (F.files files.old) (F.files files.new) }
+    ensures refused_text { result ≡ Ending.WrongLine → TellsText (wants_program (program_in order.now))
+        (E.contents err.old) (E.contents err.new) }
+    ensures silent { result ≡ Ending.WrongLine → O.contents out.new ≡ O.contents out.old }
+    ensures told { result ≡ Ending.Refused → TellsRun (program_in order.now).output_files
+        (TellsOutput (F.failures files.old) (F.failures files.new) (E.contents err.old) (E.contents err.new))
+        (TellsRefusal (F.files files.old) (names_of (wants_program (program_in order.now)))
+        (F.failures files.old) (F.failures files.new) (E.contents err.old) (E.contents err.new)) }
+    ensures refused { result ≡ Ending.Refused → RefusesAsWanted (wants_program (program_in order.now))
+        (F.files files.old) (F.failures files.old) (F.failures files.new)
+        (E.contents err.old) (E.contents err.new) (O.contents out.old) (O.contents out.new) }
+    ensures count { (result ≡ Ending.Refused → ⊥) → F.failures files.new ≡ F.failures files.old }
+    ensures quiet { (result ≡ Ending.Refused → ⊥) → (result ≡ Ending.WrongLine → ⊥) →
+        QuietAsWanted (wants_program (program_in order.now)) (E.contents err.old) (E.contents err.new) }
+    ensures ran { (result ≡ Ending.Refused → ⊥) → (result ≡ Ending.WrongLine → ⊥) →
+        RunsAsWanted (wants_program (program_in order.now)) (F.files files.old) (F.files files.new)
+        (status_of result)
+        (E.contents err.old) (E.contents err.new) (O.contents out.old) (O.contents out.new) }
+{
+    if order.output_files.as_slice().is_empty() {
+        carry_out_plainly(alloc, order, files, out, err)
+    } else {
+        carry_out_to_files(alloc, order, files, out, err)
+    }
+}
+
+// Carries out an order on sources without files of ports, once the values of its options are known.
+#[tactic(auto, using(host::proofs::FilesRead::stays))]
+fn carry_out_plainly<F: Files, O: Write, E: Write>(
     alloc: Global,
     order: &ProgramOrder,
     files: &mut F,
@@ -269,12 +311,16 @@ fn carry_out_program<F: Files, O: Write, E: Write>(
     ensures count { (result ≡ Ending.Refused → ⊥) → F.failures files.new ≡ F.failures files.old }
     ensures quiet { (result ≡ Ending.Refused → ⊥) → (result ≡ Ending.WrongLine → ⊥) →
         E.contents err.new ≡ E.contents err.old }
-    ensures ran { (result ≡ Ending.Refused → ⊥) → (result ≡ Ending.WrongLine → ⊥) →
-        PrintsProgram (program_in order.now) (F.files files.old) (status_of result)
+    ensures ran { (program_in order.now).output_files ≡ [] →
+        (result ≡ Ending.Refused → ⊥) → (result ≡ Ending.WrongLine → ⊥) →
+        PrintsProgram (program_in order.now) (F.files files.old) (status_of result) []
         (O.contents out.old) (O.contents out.new) }
 {
+    let mut outputs = Vec::new(alloc);
     match order.settings(alloc) {
-        Ok(mut values) => carry_out_sources(alloc, order, &mut values, files, out, err),
+        Ok(mut values) => {
+            carry_out_sources(alloc, order, &mut values, files, &mut outputs, out, err)
+        }
         Err(Failure::Fault(fault)) => refuse_value(&fault, err),
         Err(Failure::Memory) => refuse_memory(err),
     }

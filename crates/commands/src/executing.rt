@@ -1,19 +1,22 @@
 //! Orders to run objects, carried out.
 
-ghost use Rattle.std.specs.Prelude.{◌≡◌, ◌++◌, IfOk, OnErr};
+ghost use Rattle.std.specs.Prelude.{◌≡◌, ◌⊎◌, ◌++◌, [], IfOk, OnErr, map};
 ghost use Rattle.host.specs.Endings.{status_of};
 ghost use Rattle.host.specs.Files.{KeepsFiles};
 ghost use Rattle.host.specs.Refusals.{TellsOther, TellsRefusal};
 ghost use Rattle.command_line.specs.Command.{execute_in, wants_execute};
-ghost use Rattle.command_line.specs.Settings.{values_in};
+ghost use Rattle.command_line.specs.Settings.{outputs_in, values_in};
+ghost use Rattle.commands.specs.Converting.{TellsOutput, TellsRun};
 ghost use Rattle.tool.specs.Execution.{started};
 ghost use Rattle.commands.specs.Executing.{PrintsExecution, PrintsImage, PrintsMerge, PrintsRead, RefusesExecution, RefusesObjects, StopsImage, StopsRead};
 ghost use Rattle.commands.specs.InputFiles.{input_names};
+ghost use Rattle.commands.specs.OutputFiles.{ChangesOutputs, DeliversRun, KeepsAllBut, output_names};
 ghost use Rattle.commands.specs.Refusing.{RefusesFor, TellsUnwritten};
-ghost use Rattle.commands.specs.Orders.{TellsText, names_of};
+ghost use Rattle.commands.specs.Orders.{QuietAsWanted, RefusesAsWanted, RunsAsWanted, TellsText, names_of};
 ghost use Rattle.commands.specs.Running.{end_status};
 
 use crate::port_inputs::{quiet_of, read_input};
+use crate::port_outputs::{deliver, put_outputs};
 use crate::programs::{ending_of, script_of, start_memory};
 use crate::refusals::refuse_value;
 use command_line::{ExecuteOrder, Settings};
@@ -28,9 +31,44 @@ use printing::print_machine;
 use std::alloc::Global;
 use std::io::Write;
 
-/// Merges the objects of an order, places the merge and runs it on a memory as values start it, once the values of its
-/// options are known.
+/// Merges the objects of an order, places the merge and runs it on a memory as values start it, with files of ports or
+/// without, once the values of its options are known.
 pub(crate) fn execute_objects<F: Files, O: Write, E: Write>(
+    alloc: Global,
+    order: &ExecuteOrder,
+    files: &mut F,
+    out: &mut O,
+    err: &mut E,
+) -> Ending
+    ensures unchanged { ChangesOutputs (outputs_in (execute_in order.now).output_files)
+        (F.files files.old) (F.files files.new) }
+    ensures refused_text { result ≡ Ending.WrongLine → TellsText (wants_execute (execute_in order.now))
+        (E.contents err.old) (E.contents err.new) }
+    ensures silent { result ≡ Ending.WrongLine → O.contents out.new ≡ O.contents out.old }
+    ensures told { result ≡ Ending.Refused → TellsRun (execute_in order.now).output_files
+        (TellsOutput (F.failures files.old) (F.failures files.new) (E.contents err.old) (E.contents err.new))
+        (TellsRefusal (F.files files.old) (names_of (wants_execute (execute_in order.now)))
+        (F.failures files.old) (F.failures files.new) (E.contents err.old) (E.contents err.new)) }
+    ensures refused { result ≡ Ending.Refused → RefusesAsWanted (wants_execute (execute_in order.now))
+        (F.files files.old) (F.failures files.old) (F.failures files.new)
+        (E.contents err.old) (E.contents err.new) (O.contents out.old) (O.contents out.new) }
+    ensures count { (result ≡ Ending.Refused → ⊥) → F.failures files.new ≡ F.failures files.old }
+    ensures quiet { (result ≡ Ending.Refused → ⊥) → (result ≡ Ending.WrongLine → ⊥) →
+        QuietAsWanted (wants_execute (execute_in order.now)) (E.contents err.old) (E.contents err.new) }
+    ensures ran { (result ≡ Ending.Refused → ⊥) → (result ≡ Ending.WrongLine → ⊥) →
+        RunsAsWanted (wants_execute (execute_in order.now)) (F.files files.old) (F.files files.new)
+        (status_of result)
+        (E.contents err.old) (E.contents err.new) (O.contents out.old) (O.contents out.new) }
+{
+    if order.output_files.as_slice().is_empty() {
+        execute_plainly(alloc, order, files, out, err)
+    } else {
+        execute_to_files(alloc, order, files, out, err)
+    }
+}
+
+// The same without files of ports.
+fn execute_plainly<F: Files, O: Write, E: Write>(
     alloc: Global,
     order: &ExecuteOrder,
     files: &mut F,
@@ -50,24 +88,102 @@ pub(crate) fn execute_objects<F: Files, O: Write, E: Write>(
     ensures count { (result ≡ Ending.Refused → ⊥) → F.failures files.new ≡ F.failures files.old }
     ensures quiet { (result ≡ Ending.Refused → ⊥) → (result ≡ Ending.WrongLine → ⊥) →
         E.contents err.new ≡ E.contents err.old }
-    ensures ran { (result ≡ Ending.Refused → ⊥) → (result ≡ Ending.WrongLine → ⊥) →
-        PrintsExecution (execute_in order.now) (F.files files.old) (status_of result)
+    ensures ran { (execute_in order.now).output_files ≡ [] →
+        (result ≡ Ending.Refused → ⊥) → (result ≡ Ending.WrongLine → ⊥) →
+        PrintsExecution (execute_in order.now) (F.files files.old) (status_of result) []
         (O.contents out.old) (O.contents out.new) }
 {
+    let mut outputs = Vec::new(alloc);
     match order.settings(alloc) {
-        Ok(mut values) => execute_with(alloc, order, &mut values, files, out, err),
+        Ok(mut values) => { execute_with(alloc, order, &mut values, files, &mut outputs, out, err) }
+        Err(Failure::Fault(fault)) => refuse_value(&fault, err),
+        Err(Failure::Memory) => refuse_memory(err),
+    }
+}
+
+// The same with files of ports: first the run, whose lines and bytes are kept, and then all that is written.
+#[tactic(auto, using(crate::proofs::Delivered::same_but, crate::proofs::Delivered::other_told))]
+fn execute_to_files<F: Files, O: Write, E: Write>(
+    alloc: Global,
+    order: &ExecuteOrder,
+    files: &mut F,
+    out: &mut O,
+    err: &mut E,
+) -> Ending
+    ensures unchanged { KeepsAllBut (outputs_in (execute_in order.now).output_files)
+        (F.files files.old) (F.files files.new) }
+    ensures refused_text { result ≡ Ending.WrongLine → TellsText (wants_execute (execute_in order.now))
+        (E.contents err.old) (E.contents err.new) }
+    ensures silent { result ≡ Ending.WrongLine → O.contents out.new ≡ O.contents out.old }
+    ensures told { result ≡ Ending.Refused → TellsRefusal (F.files files.old)
+        (names_of (wants_execute (execute_in order.now)))
+        (F.failures files.old) (F.failures files.new) (E.contents err.old) (E.contents err.new)
+        ⊎ TellsOutput (F.failures files.old) (F.failures files.new) (E.contents err.old) (E.contents err.new)
+        (outputs_in (execute_in order.now).output_files) }
+    ensures count { (result ≡ Ending.Refused → ⊥) → F.failures files.new ≡ F.failures files.old }
+    ensures ran { (result ≡ Ending.Refused → ⊥) → (result ≡ Ending.WrongLine → ⊥) →
+        DeliversRun (PrintsExecution (execute_in order.now) (F.files files.old) (status_of result))
+        (outputs_in (execute_in order.now).output_files) (F.files files.old) (F.files files.new)
+        (E.contents err.old) (E.contents err.new) (O.contents out.old) (O.contents out.new) }
+{
+    match order.settings(alloc) {
+        Ok(mut values) => deliver_objects(alloc, order, &mut values, files, out, err),
         Err(Failure::Fault(fault)) => refuse_value(&fault, err),
         Err(Failure::Memory) => refuse_memory(err),
     }
 }
 
 // The same with these values.
+#[tactic(auto, using(crate::proofs::Delivered::same_but, crate::proofs::Delivered::other_told))]
+fn deliver_objects<F: Files, O: Write, E: Write>(
+    alloc: Global,
+    order: &ExecuteOrder,
+    values: &mut Settings,
+    files: &mut F,
+    out: &mut O,
+    err: &mut E,
+) -> Ending
+    ensures unchanged { KeepsAllBut (output_names (values_in values.old))
+        (F.files files.old) (F.files files.new) }
+    ensures not_wrong { result ≡ Ending.WrongLine → ⊥ }
+    ensures told { result ≡ Ending.Refused → TellsRefusal (F.files files.old)
+        ((execute_in order.now).objects ++ input_names (values_in values.old))
+        (F.failures files.old) (F.failures files.new) (E.contents err.old) (E.contents err.new)
+        ⊎ TellsOutput (F.failures files.old) (F.failures files.new) (E.contents err.old) (E.contents err.new)
+        (output_names (values_in values.old)) }
+    ensures count { (result ≡ Ending.Refused → ⊥) → F.failures files.new ≡ F.failures files.old }
+    ensures ran { (result ≡ Ending.Refused → ⊥) → DeliversRun
+        (PrintsMerge (execute_in order.now) (values_in values.old) (F.files files.old) (status_of result))
+        (output_names (values_in values.old)) (F.files files.old) (F.files files.new)
+        (E.contents err.old) (E.contents err.new) (O.contents out.old) (O.contents out.new) }
+{
+    let Ok(ports) = Vec::from_slice(alloc, values.output_files.as_slice()) else {
+        return refuse_memory(err);
+    };
+    let mut lines: Vec<u8> = Vec::new(alloc);
+    let mut outputs = Vec::new(alloc);
+    match execute_with(alloc, order, values, files, &mut outputs, &mut lines, err) {
+        Ending::Refused => Ending::Refused,
+        ending => deliver(
+            ports.as_slice(),
+            outputs.as_slice(),
+            lines.as_slice(),
+            ending,
+            files,
+            out,
+            err,
+        ),
+    }
+}
+
+// Runs the merge of objects with these values.
 #[tactic(auto, using(crate::proofs::Executed::runs_merge))]
 fn execute_with<F: Files, O: Write, E: Write>(
     alloc: Global,
     order: &ExecuteOrder,
     values: &mut Settings,
     files: &mut F,
+    outputs: &mut Vec<Vec<u8>>,
     out: &mut O,
     err: &mut E,
 ) -> Ending
@@ -83,13 +199,13 @@ fn execute_with<F: Files, O: Write, E: Write>(
     ensures quiet { (result ≡ Ending.Refused → ⊥) → E.contents err.new ≡ E.contents err.old }
     ensures ran { (result ≡ Ending.Refused → ⊥) →
         PrintsMerge (execute_in order.now) (values_in values.old) (F.files files.old) (status_of result)
-        (O.contents out.old) (O.contents out.new) }
+        (map (λ output. output.items) outputs.new.items) (O.contents out.old) (O.contents out.new) }
 {
     let image = match place_merge(alloc, order.objects.as_slice(), &values.plan, files, err) {
         Ok(image) => image,
         Err(ending) => return ending,
     };
-    let ending = run_image(alloc, &image, values, files, out, err);
+    let ending = run_image(alloc, &image, values, files, outputs, out, err);
     drop(image);
     ending
 }
@@ -100,6 +216,7 @@ fn run_image<F: Files, O: Write, E: Write>(
     image: &Absolute,
     values: &mut Settings,
     files: &mut F,
+    outputs: &mut Vec<Vec<u8>>,
     out: &mut O,
     err: &mut E,
 ) -> Ending
@@ -117,10 +234,10 @@ fn run_image<F: Files, O: Write, E: Write>(
     ensures quiet { (result ≡ Ending.Refused → ⊥) → E.contents err.new ≡ E.contents err.old }
     ensures ran { (result ≡ Ending.Refused → ⊥) →
         PrintsRead (values_in values.old) (F.files files.old) image.now (status_of result)
-        (O.contents out.old) (O.contents out.new) }
+        (map (λ output. output.items) outputs.new.items) (O.contents out.old) (O.contents out.new) }
 {
     match read_input(alloc, values, files) {
-        Ok(()) => run_placed(alloc, image, values, out, err),
+        Ok(()) => run_placed(alloc, image, values, outputs, out, err),
         Err(Failure::Fault((fault, name))) => refuse_file(fault, name, err),
         Err(Failure::Memory) => refuse_memory(err),
     }
@@ -132,6 +249,7 @@ fn run_placed<O: Write, E: Write>(
     alloc: Global,
     image: &Absolute,
     values: &Settings,
+    outputs: &mut Vec<Vec<u8>>,
     out: &mut O,
     err: &mut E,
 ) -> Ending
@@ -142,25 +260,28 @@ fn run_placed<O: Write, E: Write>(
         (O.contents out.old) (O.contents out.new) }
     ensures quiet { (result ≡ Ending.Refused → ⊥) → E.contents err.new ≡ E.contents err.old }
     ensures ran { (result ≡ Ending.Refused → ⊥) → PrintsImage (values_in values.now) image.now
-        (status_of result) (O.contents out.old) (O.contents out.new) }
+        (status_of result) (map (λ output. output.items) outputs.new.items)
+        (O.contents out.old) (O.contents out.new) }
 {
-    match print_placed(alloc, image, values, out) {
+    match print_placed(alloc, image, values, outputs, out) {
         Ok(end) => ending_of(end),
         Err(Failure::Fault(_)) => refuse_output(err),
         Err(Failure::Memory) => refuse_memory(err),
     }
 }
 
-// Prints what an image does on a memory as values start it. After a failure nothing was printed, or a beginning of that.
-#[tactic(auto, using(crate::proofs::Executed::no_image, crate::proofs::Executed::prints_image, crate::proofs::Executed::begins_image))]
+// Prints what an image does on a memory as values start it, and gathers the bytes for the files of ports. After a failure
+// nothing was printed, or a beginning of that.
+#[tactic(auto, using(crate::proofs::Executed::no_image, crate::proofs::Executed::prints_image, crate::proofs::Executed::begins_image, crate::proofs::Executed::image_whole))]
 fn print_placed<O: Write>(
     alloc: Global,
     image: &Absolute,
     values: &Settings,
+    outputs: &mut Vec<Vec<u8>>,
     out: &mut O,
 ) -> Result<End, Failure<WriteFault>>
     ensures ok { IfOk result (λ end. PrintsImage (values_in values.now) image.now (end_status end)
-        (O.contents out.old) (O.contents out.new)) }
+        (map (λ output. output.items) outputs.new.items) (O.contents out.old) (O.contents out.new)) }
     ensures err { OnErr result
         (StopsImage (values_in values.now) image.now (O.contents out.old) (O.contents out.new)) }
 {
@@ -178,6 +299,9 @@ fn print_placed<O: Write>(
     };
     let mut machine = machine_of(image, memory, script, table);
     let end = print_machine(&mut machine, values.limit, quiet.as_slice(), out)?;
+    let Ok(()) = put_outputs(alloc, values, machine.ports().events(), outputs) else {
+        return Err(Failure::Memory);
+    };
     Ok(end)
 }
 

@@ -8,6 +8,7 @@ mod explaining;
 mod needing;
 mod needs;
 mod port_inputs;
+mod port_outputs;
 mod printed_needs;
 mod programs;
 mod refusals;

@@ -6,7 +6,7 @@ ghost use Rattle.clap.specs.Walk.{texts};
 ghost use Rattle.host.specs.Files.{Counts, KeepsFiles};
 ghost use Rattle.host.specs.Reading.{StopsAt};
 ghost use Rattle.command_line.specs.Settings.{file_names, port_file_in, values_in};
-ghost use Rattle.commands.specs.InputFiles.{HasInput, bytes_of_file, input_names, input_with, quiet_ports, with_texts};
+ghost use Rattle.commands.specs.InputFiles.{HasInput, bytes_of_file, input_names, input_with, ports_of, quiet_ports, with_texts};
 
 use command_line::{InputByte, PortFile, Settings};
 use failure::Failure;
@@ -27,17 +27,26 @@ fn names_of<'a>(alloc: Global, files: &[PortFile<'a>]) -> Result<Vec<&'a str>, A
     Ok(names)
 }
 
-/// The ports whose events are not printed.
+// Adds the ports of files.
 #[tactic(auto, using(crate::proofs::InputFiles::seen_put, crate::proofs::InputFiles::all_put))]
-pub(crate) fn quiet_of(alloc: Global, values: &Settings) -> Result<Vec<u8>, AllocError>
-    ensures { IfOk result (λ quiet. quiet.items ≡ quiet_ports (values_in values.now)) }
+fn put_ports(quiet: &mut Vec<u8>, files: &[PortFile]) -> Result<(), AllocError>
+    ensures { OnOk result (quiet.new.items ≡ quiet.old.items ++ ports_of (map port_file_in files.now)) }
 {
-    let mut quiet = Vec::new(alloc);
-    let mut rest = values.input_files.as_slice();
+    let mut rest = files;
     while let [file, more @ ..] = rest {
         quiet.push(file.port)?;
         rest = more;
     }
+    Ok(())
+}
+
+/// The ports whose events are not printed.
+pub(crate) fn quiet_of(alloc: Global, values: &Settings) -> Result<Vec<u8>, AllocError>
+    ensures { IfOk result (λ quiet. quiet.items ≡ quiet_ports (values_in values.now)) }
+{
+    let mut quiet = Vec::new(alloc);
+    put_ports(&mut quiet, values.output_files.as_slice())?;
+    put_ports(&mut quiet, values.input_files.as_slice())?;
     Ok(quiet)
 }
 

@@ -6,7 +6,7 @@ use Rattle.command_line.specs.declared.values.InputByte.{InputByte}
 use Rattle.clap.specs.Words.{Text}
 use Rattle.command_line.specs.Command.{usual}
 use Rattle.command_line.specs.Settings.{NamedPort, fill_read, input_bytes, limit_number, memory_bytes, plan_number}
-use Rattle.command_line.specs.Settings.{port_file, port_files_read, values_read}
+use Rattle.command_line.specs.Settings.{output_file, output_files_read, port_file, port_files_read, values_read}
 
 usual_values : values_read (usual Run []) ≡ Ok (record {
   plan = record { code = 256; data_base = 16384; stack = 61440; stack_size = 1024 };
@@ -15,6 +15,7 @@ usual_values : values_read (usual Run []) ≡ Ok (record {
   fill = 0;
   memory = [];
   input_files = [];
+  output_files = [];
 })
 usual_values = refl
 
@@ -134,3 +135,18 @@ a_port_twice = refl
 
 a_port_of_the_input : port_files_read (of_port 0 255 ∷ []) (codes "00:a" ∷ []) ≡ Err (codes "00:a")
 a_port_of_the_input = refl
+
+a_dash_to_go_to : output_file (codes "01:-") ≡ Some (file_at 1 (codes "-"))
+a_dash_to_go_to = refl
+
+no_name_to_go_to : output_file (codes "01:") ≡ None
+no_name_to_go_to = refl
+
+two_to_go_to : output_files_read (codes "00:a" ∷ codes "01:b" ∷ []) ≡ Ok (file_at 0 (codes "a") ∷ file_at 1 (codes "b") ∷ [])
+two_to_go_to = refl
+
+one_port_to_two : output_files_read (codes "00:a" ∷ codes "00:b" ∷ []) ≡ Err (codes "00:b")
+one_port_to_two = refl
+
+two_ports_to_one : output_files_read (codes "00:-" ∷ codes "01:-" ∷ []) ≡ Err (codes "01:-")
+two_ports_to_one = refl

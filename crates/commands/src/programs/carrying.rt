@@ -25,12 +25,14 @@ use tool::Source;
 /// Reads the files of an order, and then those of its input, builds the program of the texts with these values, and runs or
 /// interprets it. Where the order is refused, the line is told of the first file that can't be read, or that memory ran out,
 /// or of the fault of the sources, with nothing printed; or a program was built, a beginning of what is printed of it was
-/// printed, and the line is that of memory or of standard output.
+/// printed, and the line is that of memory or of standard output. Where it is not refused, the outputs are the bytes for the
+/// files of ports.
 pub fn carry_out_sources<F: Files, O: Write, E: Write>(
     alloc: Global,
     order: &ProgramOrder,
     values: &mut Settings,
     files: &mut F,
+    outputs: &mut Vec<Vec<u8>>,
     out: &mut O,
     err: &mut E,
 ) -> Ending
@@ -49,10 +51,19 @@ pub fn carry_out_sources<F: Files, O: Write, E: Write>(
     ensures quiet { (result ≡ Ending.Refused → ⊥) → E.contents err.new ≡ E.contents err.old }
     ensures ran { (result ≡ Ending.Refused → ⊥) →
         PrintsFiles (program_in order.now) (values_in values.old) (F.files files.old) (status_of result)
-        (O.contents out.old) (O.contents out.new) }
+        (map (λ output. output.items) outputs.new.items) (O.contents out.old) (O.contents out.new) }
 {
     match read_files(alloc, order.files.as_slice(), files) {
-        Ok(texts) => carry_out_texts(alloc, order, values, texts.as_slice(), files, out, err),
+        Ok(texts) => carry_out_texts(
+            alloc,
+            order,
+            values,
+            texts.as_slice(),
+            files,
+            outputs,
+            out,
+            err,
+        ),
         Err(Failure::Fault((fault, name))) => refuse_file(fault, name, err),
         Err(Failure::Memory) => refuse_memory(err),
     }
@@ -65,6 +76,7 @@ fn carry_out_texts<F: Files, O: Write, E: Write>(
     values: &mut Settings,
     texts: &[Vec<u8>],
     files: &mut F,
+    outputs: &mut Vec<Vec<u8>>,
     out: &mut O,
     err: &mut E,
 ) -> Ending
@@ -83,10 +95,11 @@ fn carry_out_texts<F: Files, O: Write, E: Write>(
     ensures quiet { (result ≡ Ending.Refused → ⊥) → E.contents err.new ≡ E.contents err.old }
     ensures ran { (result ≡ Ending.Refused → ⊥) →
         PrintsRead (program_in order.now) (values_in values.old) (F.files files.old)
-        (map (λ text. text.items) texts.now) (status_of result) (O.contents out.old) (O.contents out.new) }
+        (map (λ text. text.items) texts.now) (status_of result)
+        (map (λ output. output.items) outputs.new.items) (O.contents out.old) (O.contents out.new) }
 {
     match read_input(alloc, values, files) {
-        Ok(()) => act_on(alloc, order, values, texts, out, err),
+        Ok(()) => act_on(alloc, order, values, texts, outputs, out, err),
         Err(Failure::Fault((fault, name))) => refuse_file(fault, name, err),
         Err(Failure::Memory) => refuse_memory(err),
     }
@@ -99,6 +112,7 @@ fn act_on<O: Write, E: Write>(
     order: &ProgramOrder,
     values: &Settings,
     texts: &[Vec<u8>],
+    outputs: &mut Vec<Vec<u8>>,
     out: &mut O,
     err: &mut E,
 ) -> Ending
@@ -111,10 +125,10 @@ fn act_on<O: Write, E: Write>(
     ensures quiet { (result ≡ Ending.Refused → ⊥) → E.contents err.new ≡ E.contents err.old }
     ensures ran { (result ≡ Ending.Refused → ⊥) → PrintsTexts order.now.action order.now.map
         (values_in values.now) (map (λ text. text.items) texts.now) (status_of result)
-        (O.contents out.old) (O.contents out.new) }
+        (map (λ output. output.items) outputs.new.items) (O.contents out.old) (O.contents out.new) }
 {
     match sources_of(alloc, order.files.as_slice(), texts) {
-        Ok(sources) => act(alloc, order, values, sources.as_slice(), out, err),
+        Ok(sources) => act(alloc, order, values, sources.as_slice(), outputs, out, err),
         Err(_) => refuse_memory(err),
     }
 }
@@ -125,6 +139,7 @@ fn act<O: Write, E: Write>(
     order: &ProgramOrder,
     values: &Settings,
     sources: &[Source],
+    outputs: &mut Vec<Vec<u8>>,
     out: &mut O,
     err: &mut E,
 ) -> Ending
@@ -137,10 +152,10 @@ fn act<O: Write, E: Write>(
     ensures quiet { (result ≡ Ending.Refused → ⊥) → E.contents err.new ≡ E.contents err.old }
     ensures ran { (result ≡ Ending.Refused → ⊥) → PrintsTexts order.now.action order.now.map
         (values_in values.now) (texts_of sources.now) (status_of result)
-        (O.contents out.old) (O.contents out.new) }
+        (map (λ output. output.items) outputs.new.items) (O.contents out.old) (O.contents out.new) }
 {
     match order.action {
-        Action::Run => run_sources(alloc, order, values, sources, out, err),
-        Action::Interpret => interpret_sources(alloc, order, values, sources, out, err),
+        Action::Run => run_sources(alloc, order, values, sources, outputs, out, err),
+        Action::Interpret => interpret_sources(alloc, order, values, sources, outputs, out, err),
     }
 }

@@ -1,6 +1,6 @@
 //! Programs that are interpreted.
 
-ghost use Rattle.std.specs.Prelude.{◌≡◌, [], IfOk, OnErr, option_map};
+ghost use Rattle.std.specs.Prelude.{◌≡◌, [], IfOk, OnErr, map, option_map};
 ghost use Rattle.host.specs.Endings.{status_of};
 ghost use Rattle.host.specs.Refusals.{TellsOther};
 ghost use Rattle.command_line.specs.Command.{program_in};
@@ -14,6 +14,7 @@ ghost use Rattle.commands.specs.Refusing.{RefusesTexts, TellsUnwritten};
 ghost use Rattle.commands.specs.Running.{DoesAs, PrintsMeaning, PrintsTexts, StopsBuilt, source_status, source_word};
 
 use crate::port_inputs::quiet_of;
+use crate::port_outputs::put_outputs;
 use crate::programs::loading::{script_of, start_memory};
 use crate::programs::map::print_map;
 use crate::programs::refusals::refuse_sources;
@@ -36,6 +37,7 @@ pub(crate) fn interpret_sources<O: Write, E: Write>(
     order: &ProgramOrder,
     settings: &Settings,
     sources: &[Source],
+    outputs: &mut Vec<Vec<u8>>,
     out: &mut O,
     err: &mut E,
 ) -> Ending
@@ -48,10 +50,10 @@ pub(crate) fn interpret_sources<O: Write, E: Write>(
     ensures quiet { (result ≡ Ending.Refused → ⊥) → E.contents err.new ≡ E.contents err.old }
     ensures ran { (result ≡ Ending.Refused → ⊥) → PrintsTexts Interpret order.now.map
         (values_in settings.now) (texts_of sources.now) (status_of result)
-        (O.contents out.old) (O.contents out.new) }
+        (map (λ output. output.items) outputs.new.items) (O.contents out.old) (O.contents out.new) }
 {
     match build(alloc, sources, &settings.plan) {
-        Ok(built) => interpret_program(alloc, order, settings, &built, out, err),
+        Ok(built) => interpret_program(alloc, order, settings, &built, outputs, out, err),
         Err(Failure::Fault(fault)) => refuse_sources(&fault, order.files.as_slice(), err),
         Err(Failure::Memory) => refuse_memory(err),
     }
@@ -64,6 +66,7 @@ fn interpret_program<O: Write, E: Write>(
     order: &ProgramOrder,
     settings: &Settings,
     built: &Built,
+    outputs: &mut Vec<Vec<u8>>,
     out: &mut O,
     err: &mut E,
 ) -> Ending
@@ -74,9 +77,10 @@ fn interpret_program<O: Write, E: Write>(
         (values_in settings.now) built.now (O.contents out.old) (O.contents out.new) }
     ensures quiet { (result ≡ Ending.Refused → ⊥) → E.contents err.new ≡ E.contents err.old }
     ensures ran { (result ≡ Ending.Refused → ⊥) → PrintsMeaning (map_if order.now.map built.now)
-        (values_in settings.now) built.now (status_of result) (O.contents out.old) (O.contents out.new) }
+        (values_in settings.now) built.now (status_of result)
+        (map (λ output. output.items) outputs.new.items) (O.contents out.old) (O.contents out.new) }
 {
-    match print_program(alloc, order.map, settings, built, out) {
+    match print_program(alloc, order.map, settings, built, outputs, out) {
         Ok(end) => ending_of(end),
         Err(Failure::Fault(_)) => refuse_output(err),
         Err(Failure::Memory) => refuse_memory(err),
@@ -88,33 +92,40 @@ fn interpret_program<O: Write, E: Write>(
 #[tactic(auto, using(crate::proofs::Printed::meaning_with_map, crate::proofs::Printed::meaning_alone, crate::proofs::Printed::map_stops, crate::proofs::Printed::stops_with_map, crate::proofs::Printed::stops_alone))]
 fn print_program<O: Write>(
     alloc: Global,
-    map: bool,
+    with_map: bool,
     settings: &Settings,
     built: &Built,
+    outputs: &mut Vec<Vec<u8>>,
     out: &mut O,
 ) -> Result<Option<SourceEnd>, Failure<WriteFault>>
-    ensures ok { IfOk result (λ end. PrintsMeaning (map_if map built.now) (values_in settings.now) built.now
-        (source_status (option_map stop_of end)) (O.contents out.old) (O.contents out.new)) }
-    ensures err { OnErr result (StopsBuilt Interpret (map_if map built.now) (values_in settings.now) built.now
+    ensures ok { IfOk result (λ end. PrintsMeaning
+        (map_if with_map built.now) (values_in settings.now) built.now
+        (source_status (option_map stop_of end)) (map (λ output. output.items) outputs.new.items)
+        (O.contents out.old) (O.contents out.new)) }
+    ensures err { OnErr result (StopsBuilt Interpret
+        (map_if with_map built.now) (values_in settings.now) built.now
         (O.contents out.old) (O.contents out.new)) }
 {
-    if map {
+    if with_map {
         print_map(alloc, built, out)?;
     }
-    let end = print_meaning(alloc, settings, built, out)?;
+    let end = print_meaning(alloc, settings, built, outputs, out)?;
     Ok(end)
 }
 
-// Prints what a program does from a memory as values start it. After a failure a beginning of that was printed.
+// Prints what a program does from a memory as values start it, and gathers the bytes for the files of ports. After a failure
+// a beginning of that was printed.
 #[tactic(auto, using(crate::proofs::Printed::prints_meaning, crate::proofs::Printed::nothing_stops))]
 fn print_meaning<O: Write>(
     alloc: Global,
     settings: &Settings,
     built: &Built,
+    outputs: &mut Vec<Vec<u8>>,
     out: &mut O,
 ) -> Result<Option<SourceEnd>, Failure<WriteFault>>
     ensures ok { IfOk result (λ end. PrintsMeaning [] (values_in settings.now) built.now
-        (source_status (option_map stop_of end)) (O.contents out.old) (O.contents out.new)) }
+        (source_status (option_map stop_of end)) (map (λ output. output.items) outputs.new.items)
+        (O.contents out.old) (O.contents out.new)) }
     ensures err { OnErr result (StopsBuilt Interpret [] (values_in settings.now) built.now
         (O.contents out.old) (O.contents out.new)) }
 {
@@ -128,6 +139,9 @@ fn print_meaning<O: Write>(
         return Err(Failure::Memory);
     };
     let end = interpret_built(alloc, settings, built, memory, &mut script)?;
+    let Ok(()) = put_outputs(alloc, settings, script.events(), outputs) else {
+        return Err(Failure::Memory);
+    };
     report(script.events(), quiet.as_slice(), word_of(end), out)?;
     Ok(end)
 }

@@ -3,6 +3,7 @@
 
 mod carrying;
 mod compiling;
+mod delivering;
 mod interpreting;
 mod loading;
 mod map;
@@ -11,6 +12,7 @@ mod running;
 
 pub use carrying::carry_out_sources;
 pub use compiling::compile_file;
+pub use delivering::carry_out_to_files;
 pub use loading::sources_of;
 pub(crate) use loading::{script_of, start_memory};
 pub(crate) use running::ending_of;

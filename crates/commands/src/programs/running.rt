@@ -1,6 +1,6 @@
 //! Runs of programs on the 8080.
 
-ghost use Rattle.std.specs.Prelude.{◌≡◌, [], IfOk, OnErr};
+ghost use Rattle.std.specs.Prelude.{◌≡◌, [], IfOk, OnErr, map};
 ghost use Rattle.host.specs.Endings.{status_of};
 ghost use Rattle.host.specs.Refusals.{TellsOther};
 ghost use Rattle.command_line.specs.Command.{program_in};
@@ -12,6 +12,7 @@ ghost use Rattle.commands.specs.Refusing.{RefusesTexts, TellsUnwritten};
 ghost use Rattle.commands.specs.Running.{PrintsMachine, PrintsTexts, StopsBuilt, end_status};
 
 use crate::port_inputs::quiet_of;
+use crate::port_outputs::put_outputs;
 use crate::programs::loading::{script_of, start_memory};
 use crate::programs::map::print_map;
 use crate::programs::refusals::refuse_sources;
@@ -30,6 +31,7 @@ pub(crate) fn run_sources<O: Write, E: Write>(
     order: &ProgramOrder,
     settings: &Settings,
     sources: &[Source],
+    outputs: &mut Vec<Vec<u8>>,
     out: &mut O,
     err: &mut E,
 ) -> Ending
@@ -42,10 +44,10 @@ pub(crate) fn run_sources<O: Write, E: Write>(
     ensures quiet { (result ≡ Ending.Refused → ⊥) → E.contents err.new ≡ E.contents err.old }
     ensures ran { (result ≡ Ending.Refused → ⊥) → PrintsTexts Run order.now.map
         (values_in settings.now) (texts_of sources.now) (status_of result)
-        (O.contents out.old) (O.contents out.new) }
+        (map (λ output. output.items) outputs.new.items) (O.contents out.old) (O.contents out.new) }
 {
     match build(alloc, sources, &settings.plan) {
-        Ok(built) => run_built(alloc, order, settings, &built, out, err),
+        Ok(built) => run_built(alloc, order, settings, &built, outputs, out, err),
         Err(Failure::Fault(fault)) => refuse_sources(&fault, order.files.as_slice(), err),
         Err(Failure::Memory) => refuse_memory(err),
     }
@@ -58,6 +60,7 @@ fn run_built<O: Write, E: Write>(
     order: &ProgramOrder,
     settings: &Settings,
     built: &Built,
+    outputs: &mut Vec<Vec<u8>>,
     out: &mut O,
     err: &mut E,
 ) -> Ending
@@ -68,9 +71,10 @@ fn run_built<O: Write, E: Write>(
         (values_in settings.now) built.now (O.contents out.old) (O.contents out.new) }
     ensures quiet { (result ≡ Ending.Refused → ⊥) → E.contents err.new ≡ E.contents err.old }
     ensures ran { (result ≡ Ending.Refused → ⊥) → PrintsMachine (map_if order.now.map built.now)
-        (values_in settings.now) built.now (status_of result) (O.contents out.old) (O.contents out.new) }
+        (values_in settings.now) built.now (status_of result)
+        (map (λ output. output.items) outputs.new.items) (O.contents out.old) (O.contents out.new) }
 {
-    match print_built(alloc, order.map, settings, built, out) {
+    match print_built(alloc, order.map, settings, built, outputs, out) {
         Ok(end) => ending_of(end),
         Err(Failure::Fault(_)) => refuse_output(err),
         Err(Failure::Memory) => refuse_memory(err),
@@ -82,33 +86,39 @@ fn run_built<O: Write, E: Write>(
 #[tactic(auto, using(crate::proofs::Printed::machine_with_map, crate::proofs::Printed::machine_alone, crate::proofs::Printed::map_stops, crate::proofs::Printed::stops_with_map, crate::proofs::Printed::stops_alone))]
 fn print_built<O: Write>(
     alloc: Global,
-    map: bool,
+    with_map: bool,
     settings: &Settings,
     built: &Built,
+    outputs: &mut Vec<Vec<u8>>,
     out: &mut O,
 ) -> Result<End, Failure<WriteFault>>
-    ensures ok { IfOk result (λ end. PrintsMachine (map_if map built.now) (values_in settings.now) built.now
-        (end_status end) (O.contents out.old) (O.contents out.new)) }
-    ensures err { OnErr result (StopsBuilt Run (map_if map built.now) (values_in settings.now) built.now
+    ensures ok { IfOk result (λ end. PrintsMachine
+        (map_if with_map built.now) (values_in settings.now) built.now
+        (end_status end) (map (λ output. output.items) outputs.new.items)
+        (O.contents out.old) (O.contents out.new)) }
+    ensures err { OnErr result (StopsBuilt Run (map_if with_map built.now) (values_in settings.now) built.now
         (O.contents out.old) (O.contents out.new)) }
 {
-    if map {
+    if with_map {
         print_map(alloc, built, out)?;
     }
-    let end = print_image(alloc, settings, built, out)?;
+    let end = print_image(alloc, settings, built, outputs, out)?;
     Ok(end)
 }
 
-// Prints what an image does on a memory as values start it. After a failure a beginning of that was printed.
-#[tactic(auto, using(crate::proofs::Printed::prints_machine, crate::proofs::Printed::nothing_stops))]
+// Prints what an image does on a memory as values start it, and gathers the bytes for the files of ports. After a failure a
+// beginning of that was printed.
+#[tactic(auto, using(crate::proofs::Printed::prints_machine, crate::proofs::Printed::nothing_stops, crate::proofs::Printed::stops_whole))]
 fn print_image<O: Write>(
     alloc: Global,
     settings: &Settings,
     built: &Built,
+    outputs: &mut Vec<Vec<u8>>,
     out: &mut O,
 ) -> Result<End, Failure<WriteFault>>
     ensures ok { IfOk result (λ end. PrintsMachine [] (values_in settings.now) built.now
-        (end_status end) (O.contents out.old) (O.contents out.new)) }
+        (end_status end) (map (λ output. output.items) outputs.new.items)
+        (O.contents out.old) (O.contents out.new)) }
     ensures err { OnErr result (StopsBuilt Run [] (values_in settings.now) built.now
         (O.contents out.old) (O.contents out.new)) }
 {
@@ -124,7 +134,7 @@ fn print_image<O: Write>(
     let Ok(table) = DecodeTable::new(alloc) else {
         return Err(Failure::Memory);
     };
-    let (end, _machine) = print_run(
+    let (end, machine) = print_run(
         built,
         memory,
         script,
@@ -133,6 +143,9 @@ fn print_image<O: Write>(
         quiet.as_slice(),
         out,
     )?;
+    let Ok(()) = put_outputs(alloc, settings, machine.ports().events(), outputs) else {
+        return Err(Failure::Memory);
+    };
     Ok(end)
 }
 

@@ -1,12 +1,13 @@
 use Rattle.commands.proofs.Prelude.{refl, stays, tells_no_file}
+use Rattle.command_line.specs.Command.{wanted_in}
 use Rattle.commands.proofs.OrdersKept.{kept_as_wanted, stops_as_wanted}
 use Rattle.commands.proofs.console.carry_out.Goals as goal
 
 pub returns-in-Explain-clause-unchanged : goal.returns-in-Explain-clause-unchanged
-returns-in-Explain-clause-unchanged g c = kept_as_wanted _ _ _ (stays _)
+returns-in-Explain-clause-unchanged g c = kept_as_wanted (wanted_in c.args.order.now) (g.F.Files.files c.args.files.now) _ (stays (g.F.Files.files c.args.files.now))
 
 pub returns-in-Explain-clause-stopped : goal.returns-in-Explain-clause-stopped
-returns-in-Explain-clause-stopped g c = λ other. stops_as_wanted _ _ _ (stays _)
+returns-in-Explain-clause-stopped g c = λ other. stops_as_wanted (wanted_in c.args.order.now) (g.F.Files.files c.args.files.now) _ (stays (g.F.Files.files c.args.files.now))
 
 pub returns-in-Explain-clause-told : goal.returns-in-Explain-clause-told
 returns-in-Explain-clause-told g c = λ refused. rw c.in-Explain.is (tells_no_file _ _ _ _ _ _ refl (c.explain_number.ensures.told refused))

@@ -1,20 +1,35 @@
-use Rattle.commands.proofs.Prelude.{refl, tells_no_file}
-use Rattle.commands.proofs.InputFiles.{told_by_names}
-use Rattle.commands.proofs.Untold.{refuses_memory, refuses_values, runs_out}
-use Rattle.commands.proofs.ProgramsTold.{prints_program}
+use Rattle.commands.proofs.Prelude.{◌∙◌, sym}
+use Rattle.commands.proofs.Delivered.{but_changes, kept_changes, no_words, with_words, without_words}
 use Rattle.commands.proofs.console.carry_out_program.Goals as goal
 
-pub returns-in-Ok-clause-told : goal.returns-in-Ok-clause-told
-returns-in-Ok-clause-told g c = λ refused. told_by_names _ _ _ _ _ _ _ _ c.in-Ok.ensures.names (c.carry_out_sources.ensures.told refused)
+pub returns-then-is_empty-clause-unchanged : goal.returns-then-is_empty-clause-unchanged
+returns-then-is_empty-clause-unchanged g c = kept_changes _ _ _ c.carry_out_plainly.ensures.unchanged
 
-pub returns-in-Err-Memory-clause-told : goal.returns-in-Err-Memory-clause-told
-returns-in-Err-Memory-clause-told g c = λ refused. tells_no_file _ _ _ _ _ _ refl c.refuse_memory.ensures.told
+pub returns-then-is_empty-clause-told : goal.returns-then-is_empty-clause-told
+returns-then-is_empty-clause-told g c = λ refused. without_words _ c.args.order.now.output_files.items _ _ c.as_slice.ensures.value (sym c.is_empty.ensures ∙ c.if-is_empty.true) (c.carry_out_plainly.ensures.told refused)
 
-pub returns-in-Ok-clause-ran : goal.returns-in-Ok-clause-ran
-returns-in-Ok-clause-ran g c = λ refused wrong. prints_program _ _ _ _ _ _ c.in-Ok.ensures.values (c.carry_out_sources.ensures.ran refused)
+pub returns-then-is_empty-clause-refused : goal.returns-then-is_empty-clause-refused
+returns-then-is_empty-clause-refused g c = λ refused. without_words _ c.args.order.now.output_files.items _ _ c.as_slice.ensures.value (sym c.is_empty.ensures ∙ c.if-is_empty.true) (c.carry_out_plainly.ensures.refused refused)
 
-pub returns-in-Ok-clause-refused : goal.returns-in-Ok-clause-refused
-returns-in-Ok-clause-refused g c = λ refused. refuses_values _ _ _ _ _ _ _ _ _ c.in-Ok.ensures.values (c.carry_out_sources.ensures.refused refused)
+pub returns-then-is_empty-clause-quiet : goal.returns-then-is_empty-clause-quiet
+returns-then-is_empty-clause-quiet g c = λ refused wrong. without_words _ c.args.order.now.output_files.items _ _ c.as_slice.ensures.value (sym c.is_empty.ensures ∙ c.if-is_empty.true) (c.carry_out_plainly.ensures.quiet refused wrong)
 
-pub returns-in-Err-Memory-clause-refused : goal.returns-in-Err-Memory-clause-refused
-returns-in-Err-Memory-clause-refused g c = λ refused. refuses_memory _ _ _ _ _ _ _ _ (runs_out _ _ _ _ _ refl c.refuse_memory.ensures.line)
+pub returns-then-is_empty-clause-ran : goal.returns-then-is_empty-clause-ran
+returns-then-is_empty-clause-ran g c = λ refused wrong.
+    let none = no_words _ c.args.order.now.output_files.items c.as_slice.ensures.value (sym c.is_empty.ensures ∙ c.if-is_empty.true) in
+    without_words _ c.args.order.now.output_files.items _ _ c.as_slice.ensures.value (sym c.is_empty.ensures ∙ c.if-is_empty.true) (c.carry_out_plainly.ensures.ran none refused wrong)
+
+pub returns-else-is_empty-clause-unchanged : goal.returns-else-is_empty-clause-unchanged
+returns-else-is_empty-clause-unchanged g c = but_changes _ _ _ c.carry_out_to_files.ensures.unchanged
+
+pub returns-else-is_empty-clause-told : goal.returns-else-is_empty-clause-told
+returns-else-is_empty-clause-told g c = λ refused. with_words _ c.args.order.now.output_files.items _ _ c.as_slice.ensures.value (sym c.is_empty.ensures ∙ c.if-is_empty.false) (c.carry_out_to_files.ensures.told refused)
+
+pub returns-else-is_empty-clause-refused : goal.returns-else-is_empty-clause-refused
+returns-else-is_empty-clause-refused g c = λ refused. with_words _ c.args.order.now.output_files.items _ _ c.as_slice.ensures.value (sym c.is_empty.ensures ∙ c.if-is_empty.false) tt
+
+pub returns-else-is_empty-clause-quiet : goal.returns-else-is_empty-clause-quiet
+returns-else-is_empty-clause-quiet g c = λ refused wrong. with_words _ c.args.order.now.output_files.items _ _ c.as_slice.ensures.value (sym c.is_empty.ensures ∙ c.if-is_empty.false) tt
+
+pub returns-else-is_empty-clause-ran : goal.returns-else-is_empty-clause-ran
+returns-else-is_empty-clause-ran g c = λ refused wrong. with_words _ c.args.order.now.output_files.items _ _ c.as_slice.ensures.value (sym c.is_empty.ensures ∙ c.if-is_empty.false) (c.carry_out_to_files.ensures.ran refused wrong)

@@ -8,7 +8,7 @@ pub returns-clause-not_wrong : goal.returns-clause-not_wrong
 returns-clause-not_wrong g c = λ help none wrong. c.end_words-ending.ensures.not_wrong help none (wrong_is _ (sym c.status.ensures ∙ wrong))
 
 pub returns-clause-ran : goal.returns-clause-ran
-returns-clause-ran g c = λ clean not_one not_two. runs_by_status _ _ _ _ _ _ c.status.ensures not_one not_two (c.end_words-ending.ensures.ran clean)
+returns-clause-ran g c = λ clean not_one not_two. runs_by_status _ _ _ _ _ _ _ _ _ c.status.ensures not_one not_two (c.end_words-ending.ensures.ran clean)
 
 pub returns-clause-refused : goal.returns-clause-refused
 returns-clause-refused g c = λ clean one. c.end_words-ending.ensures.refused clean (refused_is _ (sym c.status.ensures ∙ one))

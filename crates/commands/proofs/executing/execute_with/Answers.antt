@@ -28,4 +28,4 @@ pub returns-clause-quiet : goal.returns-clause-quiet
 returns-clause-quiet g c = λ other. c.run_image-ending.ensures.quiet other ∙ c.in-Ok.ensures.silent
 
 pub returns-clause-ran : goal.returns-clause-ran
-returns-clause-ran g c = λ other. runs_merge _ _ _ _ _ c.place_merge.ensures.kept (rw c.as_slice.ensures.value at c.in-Ok.ensures.placed) _ _ _ (c.run_image-ending.ensures.ran other)
+returns-clause-ran g c = λ other. runs_merge _ _ _ _ _ c.place_merge.ensures.kept (rw c.as_slice.ensures.value at c.in-Ok.ensures.placed) _ _ _ _ (c.run_image-ending.ensures.ran other)

@@ -22,7 +22,7 @@ pub returns-in-Ok-clause-count : goal.returns-in-Ok-clause-count
 returns-in-Ok-clause-count g c = λ other. c.carry_out_texts.ensures.count other ∙ c.in-Ok.ensures.count
 
 pub returns-in-Ok-clause-ran : goal.returns-in-Ok-clause-ran
-returns-in-Ok-clause-ran g c = λ other. prints_files _ _ _ _ _ _ _ _ _ _ c.as_slice.ensures.value refl c.in-Ok.ensures.texts (same_texts _ _ _ c.as_slice-in-Ok.ensures.value) _ c.read_files.ensures.kept
+returns-in-Ok-clause-ran g c = λ other. prints_files _ _ _ _ _ _ _ _ _ _ _ c.as_slice.ensures.value refl c.in-Ok.ensures.texts (same_texts _ _ _ c.as_slice-in-Ok.ensures.value) _ c.read_files.ensures.kept
     (c.carry_out_texts.ensures.ran other)
 
 pub returns-in-Err-Fault-clause-told : goal.returns-in-Err-Fault-clause-told

@@ -11,7 +11,7 @@ returns-in-Ok-clause-refused g c = λ refused. for_reason _ _ _ _ _ _ _ _ _ c.in
     (refuses_read _ _ _ _ _ _ _ _ _ c.in-Ok.ensures.input (c.act_on.ensures.refused refused))
 
 pub returns-in-Ok-clause-ran : goal.returns-in-Ok-clause-ran
-returns-in-Ok-clause-ran g c = λ other. prints_read _ _ _ _ _ _ _ _ c.in-Ok.ensures.input (c.act_on.ensures.ran other)
+returns-in-Ok-clause-ran g c = λ other. prints_read _ _ _ _ _ _ _ _ _ c.in-Ok.ensures.input (c.act_on.ensures.ran other)
 
 pub returns-in-Err-Fault-clause-told : goal.returns-in-Err-Fault-clause-told
 returns-in-Err-Fault-clause-told g c = λ refused. tells_file _ _ _ _ _ _ _ _ refl (rw c.in-Err-Fault.field-0-is at c.in-Err-Fault.ensures.failed)

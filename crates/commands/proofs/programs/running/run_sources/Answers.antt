@@ -5,7 +5,7 @@ use Rattle.commands.proofs.programs.running.run_sources.Goals as goal
 
 pub returns-in-Ok-clause-ran : goal.returns-in-Ok-clause-ran
 returns-in-Ok-clause-ran g c = λ other.
-    run_of_texts _ _ _ _ _ _ _ (few_built _ _ _ c.in-Ok.ensures.too_many) c.in-Ok.ensures.program c.in-Ok.ensures.plan c.in-Ok.ensures.construction (c.run_built.ensures.ran other)
+    run_of_texts _ _ _ _ _ _ _ _ (few_built _ _ _ c.in-Ok.ensures.too_many) c.in-Ok.ensures.program c.in-Ok.ensures.plan c.in-Ok.ensures.construction (c.run_built.ensures.ran other)
 
 pub returns-in-Ok-clause-refused : goal.returns-in-Ok-clause-refused
 returns-in-Ok-clause-refused g c = λ refused. tells_unwritten _ _ _ _ _ _ _ _ _ _ (few_built _ _ _ c.in-Ok.ensures.too_many) c.in-Ok.ensures.program c.in-Ok.ensures.plan c.in-Ok.ensures.construction
