@@ -3,8 +3,6 @@
 
 mod charging;
 mod frame_plan;
-#[cfg(test)]
-mod tests;
 
 pub use charging::charge;
 pub use frame_plan::{FramePlan, plan};
