@@ -6,8 +6,8 @@ use Rattle.steps8080.specs.declared.sites.site.Site.{Site}
 use Rattle.exprgen8080.specs.declared.emission.Emission.{Emission}
 use Rattle.exprgen8080.specs.Code.{AddsCodeOfPart}
 use Rattle.exprgen8080.specs.Emitted.{HasAll}
-use Rattle.task_laws.specs.Contexts.{Context, IsSound}
-use Rattle.task_laws.specs.Tasks.{PartDoes}
+use Rattle.program_laws.specs.CodeContexts.{Context, IsSound}
+use Rattle.program_laws.specs.Tasks.{PartDoes}
 
 -- The items added to code are the code of a part, and from the first of them to the last the machine does what the part
 -- says. They may stand anywhere in a body with this site, of a module whose code calls the routines that they and the

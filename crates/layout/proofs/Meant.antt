@@ -1,6 +1,6 @@
 -- In modules that make a program each EXTERNAL object and procedure stands for a PUBLIC one, and both declarations agree.
 use Rattle.layout.proofs.Prelude.{◌≡◌, ℕ, zero, suc, ◌+◌, Bool, true, false, List, [], ◌∷◌, ◌++◌, Option, None, Some, filter_map, flat_map, slice_get, if◌then◌else◌, cond, ◌⊎◌, inl, inr, refl, sym, ap, ap₂, ◌∙◌, subst, arith, IsSomeAnd, All, not, ◌&&◌, ◌||◌, filter, find, option_map, AllByRecursion, list_any, cons_option, enumerate_from, position_from, option_or, option_map_or, bytes_eq, recursion_from_All, position_from-zero, bytes_eq-Decides, GlobalItem, GlobalObject, GlobalProcedure, Visibility, Private, Public, External, Home, Elsewhere, TypedObject, TypedProcedure, TypedModule, shared_object, shared_procedure, is_shared, is_global, number_shared, number_seen, IsHereIfPublic, ListsGlobals}
-use Rattle.trees.specs.{declared.declaration.ScalarType.{ScalarType, TheVariants.{Byte, Address}}}
+use Rattle.typed_trees.specs.{ScalarType.{ScalarType, TheVariants.{Byte, Address}}}
 use Rattle.layout.specs.Joined.{same_scalar, same_result, same_parameters, DeclaredObject, DeclaredProcedure, agree, Global, is_public_procedure, global_object, global_procedure, global_of, globals_of, publics_of, externals_of, public_named, first_repeated, lacks_public, differs_from_public, without_public, public_twice, declared_otherwise, not_one_main, join_refusal, IsJoined, InProgram, in_module, first_found, public_object_in, public_procedure_in, object_meant, procedure_meant}
 
 -- what stands in a list

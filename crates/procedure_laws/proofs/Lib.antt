@@ -1,3 +1,6 @@
+pub use Rattle.statement_laws.proofs.CarriedOut
+pub use Rattle.statement_laws.proofs.Machine.SiteNodes
+pub use Rattle.statement_laws.proofs.Ranges.NumbersOfTrees
 mod Prelude
 pub mod Trees
 pub mod Ways

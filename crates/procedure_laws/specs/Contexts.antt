@@ -14,7 +14,7 @@ use Rattle.frames.specs.Frames.{distance_of, return_of}
 use Rattle.code_meaning.specs.Activations.{Activation}
 use Rattle.steps8080.specs.Facts.{no_facts}
 use Rattle.statements8080.specs.declared.body.Body.{Body}
-use Rattle.task_laws.specs.Contexts.{Context}
+use Rattle.statement_laws.specs.CodeContexts.{Context}
 use Rattle.statement_laws.specs.Bodies.{BodyContext}
 use Rattle.procedure_laws.specs.Modules.{ModuleCode, surroundings_in}
 

@@ -40,11 +40,11 @@ use Rattle.code_meaning.specs.Holding.{place_at}
 use Rattle.steps8080.specs.Facts.{no_facts}
 use Rattle.exprgen8080.specs.Emission.{has_routine, module_label_of_routine}
 use Rattle.statements8080.specs.declared.body.Body.{Body}
-use Rattle.codegen8080.specs.declared.meeting.Here.{Here}
-use Rattle.codegen8080.specs.Generated.{AreCarriedOut, IsListCarriedOut}
-use Rattle.codegen8080.specs.Modules.{IsEndCode}
-use Rattle.codegen8080.specs.Procedures.{entry_steps}
-use Rattle.task_laws.specs.Contexts.{NumbersAreWords, RoutineIsAt}
+use Rattle.statement_laws.specs.Here.{Here}
+use Rattle.statement_laws.specs.Generated.{AreCarriedOut, IsListCarriedOut}
+use Rattle.statement_laws.specs.GeneratedModules.{IsEndCode}
+use Rattle.statement_laws.specs.GeneratedProcedures.{entry_steps}
+use Rattle.statement_laws.specs.CodeContexts.{NumbersAreWords, RoutineIsAt}
 use Rattle.procedure_laws.specs.Calls.{Entries}
 
 -- A module of a program, by its number: as it is typed, with its storage, as tree code; the memory as it was loaded; where

@@ -14,10 +14,10 @@ use Rattle.frames.specs.Frames.{IsPlanOf, return_of}
 use Rattle.code_meaning.specs.Activations.{IsThere}
 use Rattle.steps8080.specs.declared.facts.Facts.{Facts}
 use Rattle.statements8080.specs.declared.body.Body.{Body}
-use Rattle.codegen8080.specs.declared.meeting.Here.{Here}
-use Rattle.codegen8080.specs.Generated.{AreCarriedOut, IsListCarriedOut}
-use Rattle.codegen8080.specs.Procedures.{entry_steps}
-use Rattle.task_laws.specs.Contexts.{CallsFit}
+use Rattle.statement_laws.specs.Here.{Here}
+use Rattle.statement_laws.specs.Generated.{AreCarriedOut, IsListCarriedOut}
+use Rattle.statement_laws.specs.GeneratedProcedures.{entry_steps}
+use Rattle.statement_laws.specs.CodeContexts.{CallsFit}
 use Rattle.statement_laws.specs.Bodies.{BodyContext, IsSoundBody}
 use Rattle.statement_laws.specs.Statements.{ListDoes}
 use Rattle.procedure_laws.specs.Contexts.{Shape, body_in, context_in, frame_shape, static_shape}

@@ -9,8 +9,8 @@ use Rattle.asm8080.specs.Standing.{Keeps}
 use Rattle.code_meaning.specs.Activations.{IsReady, Shares}
 use Rattle.code_meaning.specs.Landing.{Does, Lands, at_place}
 use Rattle.steps8080.specs.declared.facts.Facts.{Facts}
-use Rattle.task_laws.specs.Contexts.{ResultLies, bytes_pushed}
-use Rattle.task_laws.specs.Tasks.{Know}
+use Rattle.statement_laws.specs.CodeContexts.{ResultLies, bytes_pushed}
+use Rattle.statement_laws.specs.Tasks.{Know}
 use Rattle.statement_laws.specs.Bodies.{BodyContext, ReturnStands}
 use Rattle.procedure_laws.specs.Calls.{IsEntered, IsOfCall, ReturnLies}
 

@@ -1,3 +1,4 @@
+pub use Rattle.procedure_laws.proofs.CarriedOut
 mod Prelude
 pub mod Agreeing
 pub mod Renumbered

@@ -1,3 +1,5 @@
+pub use Rattle.procedure_laws.specs.CodeContexts
+pub use Rattle.procedure_laws.specs.Tasks
 pub mod Agreement
 pub mod Typed
 pub mod OneModule

@@ -5,7 +5,7 @@ use Rattle.typed_trees.specs.TypedTrees.{TypedModule}
 use Rattle.layout.specs.Storage.{Storage}
 use Rattle.treecode.specs.declared.module.TreeModule.{TreeModule}
 use Rattle.treecode.specs.Lowered.{IsLowered}
-use Rattle.codegen8080.specs.Modules.{IsGenerated}
+use Rattle.procedure_laws.specs.GeneratedModules.{IsGenerated}
 use Rattle.treecode_laws.specs.Laid.{IsLaidOut}
 
 -- An object module is made of a module, with its storage, by tree code that is this module. It is valid.

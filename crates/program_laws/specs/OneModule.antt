@@ -24,7 +24,7 @@ use Rattle.meaning.specs.Outcomes.{Program}
 use Rattle.isa8080.specs.State.{wrap}
 use Rattle.asm8080.specs.Standing.{SetBytesStand}
 use Rattle.image_laws.specs.Segments.{HasPublic}
-use Rattle.task_laws.specs.ProgramTypes.{HasTypes}
+use Rattle.procedure_laws.specs.ProgramTypes.{HasTypes}
 use Rattle.procedure_laws.specs.Calls.{Entries}
 use Rattle.procedure_laws.specs.OneModule.{AllCallsAreKnown, ModuleDoes, OtherCallsAreKnown, around_in, in_module}
 

@@ -1,3 +1,6 @@
+pub use Rattle.task_laws.proofs.CarriedOut
+pub use Rattle.task_laws.proofs.Machine
+pub use Rattle.task_laws.proofs.Ranges
 mod Prelude
 pub mod FirstSteps
 pub mod Outcomes

@@ -6,13 +6,13 @@ use asm8080::CodeBytes;
 use cpu8080::Machine;
 use exprgen8080::Emission;
 use frames::FramePlan;
-use generation::emit_expression;
 use isa8080::Registers;
 use mem80::Memory;
 use ports::Script;
 use sources::read_source;
 use std::alloc::Global;
 use steps8080::{Facts, Part, Site, Task};
+use tool::emit_expression;
 use treecode::{ExpressionNumber, Statement, TreeModule, lower};
 
 // A BYTE and an ADDRESS that are computed of variables.

@@ -13,4 +13,5 @@ pub use built::Built;
 pub use compiled::compile;
 pub use execution::{execute, execute_with, print_run};
 pub use fault::ToolFault;
+pub use generation::emit_expression;
 pub use sources::{MOST_SOURCES, Plan, ReadFault, Source};

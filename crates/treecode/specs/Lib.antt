@@ -1,3 +1,5 @@
+pub use Rattle.layout.specs.Sound
+pub use Rattle.layout.specs.Storage
 pub mod Nodes
 pub mod Homes
 pub mod Known

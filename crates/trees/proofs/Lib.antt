@@ -1,1 +1,2 @@
+pub use Rattle.symbols.proofs.Keys
 pub mod Views

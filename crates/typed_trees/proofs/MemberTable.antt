@@ -1,8 +1,8 @@
 -- The table of the members of a structure.
 use Rattle.typed_trees.proofs.Prelude.{◌≡◌, ℕ, suc, ◌+◌, min, Bool, true, false, cond, not, ◌||◌, nat_lt, List, [], ◌∷◌, ◌++◌, length, position, slice_get, sum_by, is_some, Option, None, Some, if◌then◌else◌, refl, sym, ap, ◌∙◌, arith, lt-ltb, le-ltb, true≢false, position_or_len, keys_of, lookup, option_map, bytes_eq, nat_list_eq_equiv, sum_by-cons, sum_by_push, slice_get-map, dec_lt, TypedMember, after_member, capped, has_member, member_named, size_of_member}
 use Rattle.indexmap.specs.IndexMap.{insert_entry}
-use Rattle.symbols.specs.contracts.name.NamePartialEq.TheImpl.{eq-value}
-use Rattle.symbols.proofs.Keys.{names_equal}
+use Rattle.trees.specs.NameEquality.TheImpl.{eq-value}
+use Rattle.trees.proofs.Keys.{names_equal}
 use Rattle.typed_trees.proofs.Capped.{capped_sum}
 use Rattle.typed_trees.specs.declared.members.Entry.{Entry}
 use Rattle.typed_trees.specs.declared.members.FoundMember.{FoundMember}

@@ -1,3 +1,4 @@
+pub use Rattle.trees.specs.declared.declaration.ScalarType
 pub mod TypedTrees
 pub mod Sizes
 pub mod ObjectParts

@@ -1,7 +1,7 @@
 -- Worked segments, each beside the declarations that it is of.
 use Rattle.std.specs.Prelude.{◌≡◌, ℕ, List, [], ◌∷◌, Option, None, Some, false, codes, refl}
-use Rattle.trees.specs.declared.declaration.ScalarType.{ScalarType}
-use Rattle.trees.specs.declared.declaration.ScalarType.TheVariants.{Byte, Address}
+use Rattle.typed_trees.specs.ScalarType.{ScalarType}
+use Rattle.typed_trees.specs.ScalarType.TheVariants.{Byte, Address}
 use Rattle.typed_trees.specs.declared.parts.AtAddress.TheVariants.{AtNumber, AtObject}
 use Rattle.typed_trees.specs.declared.parts.ConstantItem.{ConstantItem}
 use Rattle.typed_trees.specs.declared.parts.ConstantItem.TheVariants.{ConstantObject, ConstantList}
