@@ -1,1 +1,2 @@
+pub mod Beginnings
 pub mod ScriptLemmas

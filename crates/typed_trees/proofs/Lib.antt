@@ -1,4 +1,5 @@
 mod Prelude
+pub mod Counted
 pub mod Views
 pub mod Capped
 pub mod MemberTable
