@@ -3,7 +3,7 @@ pub use Rattle.std.proofs.{Common.{Bool, Decides, Err, IsTrue, List, None, Ok, O
 pub use Rattle.std.specs.{List.{AllByRecursion, cons_option, enumerate_from, list_all, list_any, position_from, prefix_len}, Option.{option_map_or, option_or}, Prelude.{All, AllPairs, Contains, IsSomeAnd, Vec, filter, filter_map, find, fold, max, nat_le, not, slice_get, sum, sum_by, take_while, unwrap_or, zip, ◌&&◌, ◌==◌, ◌||◌, ◌↔◌}, Str.{bytes_eq}}
 pub use Rattle.mem80.proofs.{Booleans.{or_kept}, Lists.{got_before, got_behind, got_both, got_in_front}, Options.{both_are_none, none_before_map}}
 pub use Rattle.mem80.specs.{Memory.{byte_at}, Range.{IsIn, Meets}, declared.memory.TheConstants.{MEMORY_SIZE}, declared.range.Range.{Range}}
-pub use Rattle.trees.proofs.Lists.{got_first, some_and}
+pub use Rattle.typed_trees.proofs.Lists.{got_first, some_and}
 pub use Rattle.typed_trees.specs.{Globals.{IsHereIfPublic, ListsGlobals, global_object as number_shared, global_procedure as number_seen, is_global, is_shared, shared_object, shared_procedure}, Sizes.{size_of_object}, Storable.{HasPlace, IsStorable, LooksAtPlace, LooksBack, bytes_filled, constant_number, list_in, numbered_constant, numbers_from, object_in, size_of_value}, TypedTrees.{BasedOn, Elsewhere, Home, InConstants, InData, InFrame, Nowhere, Placed, TypedModule, TypedObject, TypedProcedure}, Views.{module_view, object_view}, Weight.{constant_bytes, size_of_constant}, declared.module.TypedObject.{TypedObject as Object}, declared.parts.AtAddress.TheVariants.{AtNumber, AtObject}, declared.parts.ConstantItem.{ConstantItem, TheVariants.{ConstantList, ConstantObject}}, declared.parts.GlobalItem.{GlobalItem, TheVariants.{GlobalObject, GlobalProcedure}}, declared.parts.InitialValue.{InitialValue, TheVariants.{ByteValue, LocationValue, WordValue}}, declared.parts.Visibility.{Visibility, TheVariants.{External, Private, Public}}}
 pub use Rattle.layout.specs.Following.{Bases, FollowsBases, FollowsStorage, LiesInSlot, address_of_slot, base_of}
 pub use Rattle.layout.specs.Lawful.{AreDisjoint, HasAddresses, IsLawful, LiesByHome, LiesIn, LiesWhereAtSays}

@@ -91,11 +91,11 @@ refusal_split plan modules lengths =
     (overlapping (code_range plan lengths) (data_range plan modules) (stack_range plan))
     (first_misplaced modules (placement_by plan modules lengths))
 
-misplaced_by_name :
+misplaced_is :
     (modules : List TypedModule) (placement : Placement)
     → first_misplaced modules placement
     ≡ option_map ObjectMisplaced (name_of_misplaced placement.code placement.stack (placed_objects modules placement.modules))
-misplaced_by_name modules placement =
+misplaced_is modules placement =
     misplaced_by_name (find (is_misplaced placement.code placement.stack) (placed_objects modules placement.modules))
 
 module _ (modules slice : List Typed) (layouts : List Layout) (lengths : List ℕ) (plan : CodePlan) (ranges : Ranges)
@@ -174,7 +174,7 @@ module _ (modules slice : List Typed) (layouts : List Layout) (lengths : List �
           refusal_is
           ∙ ap (λ refused. option_or refused (first_misplaced views (placement_by (plan_view plan) views lengths))) ranges_pass
           ∙ sym (ap (first_misplaced views) placed_is)
-          ∙ misplaced_by_name views (record { modules = made; code = ranges.code; stack = ranges.stack })
+          ∙ misplaced_is views (record { modules = made; code = ranges.code; stack = ranges.stack })
           ∙ sym (ap (λ these. option_map ObjectMisplaced (name_of_misplaced ranges.code ranges.stack (placed_objects (map module_view these) made))) same)
           ∙ sym (ap (λ items. option_map ObjectMisplaced (name_of_misplaced ranges.code ranges.stack (placed_objects (map module_view slice) (map module_placement_view items)))) seen_is)
           ∙ sym (ap (option_map ObjectMisplaced) is)

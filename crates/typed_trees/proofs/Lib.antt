@@ -1,3 +1,4 @@
+pub use Rattle.trees.proofs.Lists
 mod Prelude
 pub mod Counted
 pub mod Views
