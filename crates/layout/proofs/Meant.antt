@@ -563,7 +563,7 @@ external_procedure_meant modules joined listed at number typed procedure is ther
     (λ place found means. some_and (MeansProcedure modules procedure) _ place found means)))
 
 -- Procedures that agree take the same and give the same.
-same_scalars : (one other : ScalarType) → same_scalar one other ≡ true → one ≡ other
+pub same_scalars : (one other : ScalarType) → same_scalar one other ≡ true → one ≡ other
 same_scalars Byte Byte e = refl
 same_scalars Address Address e = refl
 same_scalars Byte Address e = absurd cc

@@ -1,5 +1,5 @@
 -- Names that are judged one after another.
-use Rattle.object_reading.proofs.Prelude.{◌≡◌, ℕ, ◌<◌, Bool, true, false, not, ◌&&◌, ◌||◌, cond, List, [], ◌∷◌, ◌++◌, length, Option, Some, None, option_map, option_and_then, refl, ap, sym, ◌∙◌, arith, list_all, bytes_eq, append_assoc, append-nil, list_any-append, some_pair_parts, is_name, is_among, are_new, Definition, definition_in_front, at_most, Shortens, all_unfolds, listed_name_shortens, definition_shortens, definition_name_in_front, entry_name, names_in, names_taken, none_either_way, option_map_some}
+use Rattle.object_reading.proofs.Prelude.{◌≡◌, ℕ, ◌<◌, Bool, true, false, not, ◌&&◌, ◌||◌, cond, List, [], ◌∷◌, ◌++◌, length, Option, Some, None, option_map, option_and_then, refl, ap, sym, ◌∙◌, arith, list_all, bytes_eq, append_assoc, append-nil, list_any-append, some_pair_parts, is_name, is_among, are_new, Definition, definition_in_front, at_most, Shortens, all_unfolds, listed_name_shortens, definition_shortens, definition_name_in_front, entry_name, names_in, names_taken, none_either_way, option_map_some, and_right}
 use Rattle.object_reading.specs.declared.rules.names.NameList.{NameList}
 use Rattle.object_reading.specs.declared.rules.names.NameList.TheVariants.{Externals, Publics}
 
@@ -104,10 +104,6 @@ taken_wrong list entries name after known e some wrong =
     taken_by_first list entries name after known e some
     ∙ ap (λ b. taken_after (b && not (is_among name known)) known name (names_in list after)) wrong
 
-and_false : (a b : Bool) → b ≡ false → (a && b) ≡ false
-and_false true b e = e
-and_false false b e = refl
-
 pub taken_again :
     (list : NameList) (entries name after : List ℕ) (known : List (List ℕ)) (is_new : Bool)
     → entry_name list entries ≡ Some (name, after) → 0 < length entries
@@ -116,7 +112,7 @@ pub taken_again :
 taken_again list entries name after known is_new e some fresh is =
     taken_by_first list entries name after known e some
     ∙ ap (λ b. taken_after b known name (names_in list after))
-    (and_false (is_name name) (not (is_among name known)) (sym fresh ∙ is))
+    (and_right (is_name name) (not (is_among name known)) (sym fresh ∙ is))
 
 -- bytes that begin with no name are no names
 pub taken_none :

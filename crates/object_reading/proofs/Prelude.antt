@@ -1,5 +1,5 @@
 -- The names that the proofs of this crate cite, passed on from one place. Declares nothing.
-pub use Rattle.std.proofs.{Common.{Bool, Err, IfNone, IsTrue, List, None, Ok, Option, Result, Some, [], ap, arith, cond, drop, false, flat_map, get_or, is_some, length, nat_le, nat_lt, not, option_and_then, option_map, refl, replicate, reverse, rules, set, slice_index, slice_index_or, subst, suc, sym, take, take_while, true, unwrap_or, zero, ℕ, ◌%◌, ◌&&◌, ◌*◌, ◌++◌, ◌+◌, ◌-◌, ◌/◌, ◌<◌, ◌==◌, ◌||◌, ◌∙◌, ◌∷◌, ◌≡◌, ◌≤◌}, Math.Seq.{take-length}, lemmas.Bool.{and_from, and_parts, eqb-false, eqb-true, false≢true, le-leb, leb-true, lt-ltb, ltb-true, ne_eqb}, lemmas.Bool.Decides.{nat_tests}, lemmas.Grind.{flat_map-append}, lemmas.List.{append-nil, append_assoc, get_or-set_other, get_or-set_same, length-append, length-drop, length-replicate, length-set, reverse-append}, lemmas.List.Elements.{filter_map-append}, lemmas.List.Folds.{list_any-append}, lemmas.List.Sums.{take_while-cons}, lemmas.Option.{none-some, same_Some, some_pair_parts}}
+pub use Rattle.std.proofs.{Common.{Bool, Err, IfNone, IsTrue, List, None, Ok, Option, Result, Some, [], ap, arith, cond, drop, false, flat_map, get_or, is_some, length, nat_le, nat_lt, not, option_and_then, option_map, refl, replicate, reverse, rules, set, slice_index, slice_index_or, subst, suc, sym, take, take_while, true, unwrap_or, zero, ℕ, ◌%◌, ◌&&◌, ◌*◌, ◌++◌, ◌+◌, ◌-◌, ◌/◌, ◌<◌, ◌==◌, ◌||◌, ◌∙◌, ◌∷◌, ◌≡◌, ◌≤◌}, Math.Seq.{take-length}, lemmas.Bool.{and_from, and_parts, and_right, eqb-false, eqb-true, false≢true, le-leb, leb-true, lt-ltb, ltb-true, ne_eqb}, lemmas.Bool.Decides.{nat_tests}, lemmas.Grind.{flat_map-append}, lemmas.List.{append-nil, append_assoc, get_or-set_other, get_or-set_same, length-append, length-drop, length-replicate, length-set, reverse-append}, lemmas.List.Elements.{filter_map-append}, lemmas.List.Folds.{list_any-append}, lemmas.List.Sums.{take_while-cons}, lemmas.Option.{none-some, same_Some, some_pair_parts}}
 pub use Rattle.std.specs.{List.{AllByRecursion, filter_map, list_all, list_any}, Option.{option_map_or, option_or}, Str.{bytes_eq}}
 pub use Rattle.symbols.specs.Names.{is_name, is_name_character}
 pub use Rattle.omf80.proofs.{Conditions.{IsBytes}, Reading.{are_bytes}, RecordsAgain.{read_again}}

@@ -6,6 +6,7 @@ pub use Rattle.mem80.specs.{Memory.{IsMemory, byte_at}, Range.{IsIn}, declared.m
 pub use Rattle.ports.specs.{Events.{write_event}, declared.event.Event.{Event}}
 pub use Rattle.trees.specs.{declared.declaration.ScalarType.{ScalarType, TheVariants.{Address, Byte}}, declared.expression.BinaryOperator.{BinaryOperator}, declared.expression.UnaryOperator.TheVariants.{Negate, Not}}
 pub use Rattle.typed_trees.specs.{Charge.{count_of_arguments, height_of, height_of_arguments, height_of_else, height_of_list, height_of_optional, height_of_reference, height_of_statement, height_of_statements, height_of_target, height_of_targets}, ExpressionTypes.{type_of}, Jumps.{ListStands, ListsStand, ListsStandInCases, ListsStandInElse, ListsStandInStatements}, ObjectParts.{IsScalar, IsScalarOf}, Sizes.{size_of_scalar}, TypedTrees.{BasedOn, BinaryNode, DoStatement, ElseStatement, Elsewhere, GotoStatement, Home as TypedHome, InConstants, InData, InFrame, IterateStatement, LabelStatement, ListOf, MoreStatements, MoveStatement, NoElse, NoStatements, NoSubscript, Nowhere, ObjectType, PartOf, Placed, ScalarObject, SentTo, StoredIn, Subscript, TypedElse, TypedExpression, TypedIteration, TypedList, TypedModule, TypedObject, TypedReference, TypedStatement, TypedStatements, TypedTarget, ValueNode, WhileStatement}, WellTyped.{Counts, HasType, IsReturned, IsSeen, LiesFor, RefersToScalar, TypesHold, TypesHoldIn, TypesHoldInElse, TypesHoldInHead, TypesHoldInList, TypesHoldInReference, TypesHoldInStatements, TypesHoldInSubscript, TypesHoldInTarget, TypesHoldInTargets, Within, WithinMain, WithinProcedure}}
+pub use Rattle.layout.proofs.Meant.{same_scalars as scalars_agree}
 pub use Rattle.meaning.proofs.{AgreementStatements.{again_is, onto_is}, LabelPlaces.{rest_at}}
 pub use Rattle.meaning.specs.{Access.{InMemory, InTheFrame, Place as SourcePlace, home_of, is_constant, is_declared, next_place, place_in, place_of, read_byte, read_scalar, write_byte, write_scalar}, Meaning.{Displacement, IterateTurn, Later, WhileTurn, after_turn, based_place, called_for, callee_in, caught_in, computed, displaced, displacement, done, done_all, done_case, done_else, done_list, dropped, going_on, iterated, later_by, located, moved, next_turn, no_displacement, rest_from, rest_of, returned, step_value, stepped, stored, stored_in_each, turn_of, value, values, write_variable}, Outcomes.{Ended, Flow, Gave, Jumped, More, Onward, Outcome, Outside, Program, Returned, State as SourceState, Stopped, taking_one, then_do}, Values.{as_type, is_true, result_of, values_of}, declared.reason.Reason.{Reason, TheVariants.{Byte as UndeclaredByte, Constant}}}
 pub use Rattle.isa8080.proofs.{EncodingLemmas.{word_of_bytes}, Words.{low_byte_small, wrapped_once, wrapped_small}}

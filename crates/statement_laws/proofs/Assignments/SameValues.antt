@@ -1,5 +1,5 @@
 -- Scalars at one place have one value, which is that of the machine's memory.
-use Rattle.statement_laws.proofs.Prelude.{◌≡◌, ℕ, ◌+◌, ◌*◌, ◌<◌, ◌≤◌, Bool, true, false, if◌then◌else◌, nat_eq, List, Option, Some, None, option_map, refl, sym, ap, ◌∙◌, arith, and_parts, eqb-true, same_Some, byte_at, byte_small, ScalarType, Byte, Address, type_of, size_of_scalar, TypedExpression, TypedReference, ValueNode, RefersToScalar, TypesHold, TypesHoldInReference, UndeclaredByte, InMemory, InTheFrame, is_declared, next_place, read_byte, read_scalar, value, SourceState, Outside, Outcome, Gave, Stopped, then_do, Registers, wrap, Expression, ExpressionForm, ExpressionNumber, Location, Reference, IsExpression, IsForm, IsReference, IsNumber, IsValue, IsLocation, IsConstantList, IsConversion, IsEmbedded, IsUnary, IsBinary, IsCallOf, IsFunction, IsShift, IsInput, IsReady, declared_is_steady, IsSteady, location_at, same_locations, Facts, same_location, location_of, number, knowing, are_same_leaf, are_same_placed, are_same_scalar, same_scalar, scalar_at, scalar_of_form, Context, IsSound, distances_in, nodes_in, address_on_machine, located_fits, refers_is_referred, number_means, lies_there, node_of, FitsIn, frame_is, of_frame, first_fits, next_address, second_fits, same_both}
+use Rattle.statement_laws.proofs.Prelude.{◌≡◌, ℕ, ◌+◌, ◌*◌, ◌<◌, ◌≤◌, Bool, true, false, if◌then◌else◌, nat_eq, List, Option, Some, None, option_map, refl, sym, ap, ◌∙◌, arith, and_parts, eqb-true, same_Some, byte_at, byte_small, ScalarType, Byte, Address, type_of, size_of_scalar, TypedExpression, TypedReference, ValueNode, RefersToScalar, TypesHold, TypesHoldInReference, UndeclaredByte, InMemory, InTheFrame, is_declared, next_place, read_byte, read_scalar, value, SourceState, Outside, Outcome, Gave, Stopped, then_do, Registers, wrap, Expression, ExpressionForm, ExpressionNumber, Location, Reference, IsExpression, IsForm, IsReference, IsNumber, IsValue, IsLocation, IsConstantList, IsConversion, IsEmbedded, IsUnary, IsBinary, IsCallOf, IsFunction, IsShift, IsInput, IsReady, declared_is_steady, IsSteady, location_at, same_locations, Facts, same_location, location_of, number, knowing, are_same_leaf, are_same_placed, are_same_scalar, same_scalar, scalar_at, scalar_of_form, Context, IsSound, distances_in, nodes_in, address_on_machine, located_fits, refers_is_referred, number_means, lies_there, node_of, FitsIn, frame_is, of_frame, first_fits, next_address, second_fits, same_both, scalars_agree}
 use Rattle.meaning.specs.Access.{Place}
 
 -- what a part gave that others follow
@@ -153,12 +153,6 @@ module _
         by (IsShift first second) there type types same = let never : ⊥ = cc in absurd never
         by IsInput there type types same = let never : ⊥ = cc in absurd never
 
-    same_types : (one other : ScalarType) → same_scalar one other ≡ true → one ≡ other
-    same_types Byte Byte same = refl
-    same_types Address Address same = refl
-    same_types Byte Address same = let never : ⊥ = cc in absurd never
-    same_types Address Byte same = let never : ⊥ = cc in absurd never
-
     -- two expressions whose values are one scalar's
     pub record OneScalar (facts : Facts) (left right : ExpressionNumber) : Type 0 where
       pub first : Location
@@ -183,7 +177,7 @@ module _
             → OneScalar facts left right
         by (Some one) (Some other) first second same =
             let parts = and_parts (same_scalar one.1 other.1) (same_location one.0 other.0) same in
-            let types = same_types one.1 other.1 parts.0 in
+            let types = scalars_agree one.1 other.1 parts.0 in
             record {
               first = one.0;
               second = other.0;
