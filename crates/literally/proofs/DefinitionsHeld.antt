@@ -60,7 +60,7 @@ words_for_inserted {X} (entry ∷ entries) key value name = by (bytes_eq (name_o
         → bytes_eq (name_of key.text.now) (name_of entry.0.text.now) ≡ b
         → found after ≡ cond (bytes_eq name (name_of key.text.now)) (Some value) (found entries)
         → found (cond b ((entry.0, value) ∷ entries) (entry ∷ after)) ≡ cond (bytes_eq name (name_of key.text.now)) (Some value) (found (entry ∷ entries))
-    by true is later = through_same name (name_of key.text.now) (name_of entry.0.text.now) value entry.1 (found entries) ((bytes_eq-Decides _ _).0 is)
+    by true is later = through_same name (name_of key.text.now) (name_of entry.0.text.now) value entry.1 (found entries) ((bytes_eq-Decides (name_of key.text.now) (name_of entry.0.text.now)).0 is)
     by false is later = through_other name (name_of key.text.now) (name_of entry.0.text.now) value entry.1 (found entries) is (found after) later
 
 -- the definition that a word completes, by its name
