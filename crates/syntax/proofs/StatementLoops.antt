@@ -1,5 +1,5 @@
 -- How the loops over statements and declarations go on.
-use Rattle.syntax.proofs.Prelude.{◌≡◌, ℕ, zero, suc, ◌≤◌, ◌<◌, Bool, true, false, List, [], ◌∷◌, ◌++◌, length, Option, Some, None, Ok, Err, if◌then◌else◌, refl, sym, ◌∙◌, ap, arith, End, Declaration, Statement, Symbol, StatementTree, StatementTrees, MoreStatements, DeclarationTree, DeclarationTrees, MoreDeclarations, statement_tree, statement_trees, declaration_tree, declaration_trees, FailsBy, statements_before, after_statements, declarations_before, after_declarations, many, many_items, Shrinks, Parser, Cause, Unexpected, Reading, at_word, statement, declaration, statements, declarations, statements_of, declarations_of, ends_declarations}
+use Rattle.syntax.proofs.Prelude.{◌≡◌, ℕ, zero, suc, ◌≤◌, ◌<◌, Bool, true, false, List, [], ◌∷◌, ◌++◌, length, Option, Some, None, Ok, Err, if◌then◌else◌, refl, sym, ◌∙◌, ap, arith, End, Declaration, Statement, Symbol, StatementTree, StatementTrees, MoreStatements, DeclarationTree, DeclarationTrees, MoreDeclarations, statement_tree, statement_trees, declaration_tree, declaration_trees, FailsBy, statements_before, after_statements, declarations_before, after_declarations, many, many_items, Shrinks, Parser, Cause, Unexpected, Reading, ◌>>=◌, at_word, statement, declaration, statements, declarations, statements_of, declarations_of, ends_declarations}
 use Rattle.syntax.proofs.ListLaws.{item_then, many-step, many-end, many-nothing, Starts, item_then-same}
 use Rattle.syntax.proofs.StatementLaws.{statement-shrinks, declaration-shrinks}
 use Rattle.syntax.proofs.ReaderLemmas.{read, if_true, if_false}
