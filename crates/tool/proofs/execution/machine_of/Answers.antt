@@ -4,4 +4,4 @@ pub returns-clause-agrees : goal.returns-clause-agrees
 returns-clause-agrees g c =
     let script = g.P.Ports.script c.args.ports in
     let events = g.P.Ports.events c.args.ports in
-    λ never. c.image-image.ensures.construction.headline c.args.memory script events c.get.ensures.memory c.hold_bytes.ensures never
+    λ never. c.image-image.ensures.construction.headline c.args.memory script events c.get.ensures.memory (g.met.P.Ports.holds_bytes c.args.ports) never
