@@ -49,8 +49,6 @@ pub(crate) fn machine_of<P: Ports>(
         → Agrees source (machine_run built.now.image memory (P.script ports) (P.events ports)) }
 {
     let image = built.image();
-    // A look at a byte says that a memory has all of its bytes, which the headline asks for.
-    let _ = memory.get(0);
     let mut memory = memory;
     image.load(&mut memory);
     machine_with(memory, ports, image.start(), table)
