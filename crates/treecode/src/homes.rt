@@ -178,6 +178,7 @@ fn home_of(
 }
 
 // Adds the home of an object, by its number.
+#[tactic(auto, using(crate::proofs::HomeTables::home_kept, crate::proofs::HomeTables::home_placed))]
 fn add_home(
     tree: &mut TreeModule,
     externals: &Externals,
@@ -186,8 +187,11 @@ fn add_home(
     object: &TypedObject,
     number: u32,
 ) -> Result<(), AllocError>
-    ensures kept { OnOk result
-        (tree.new ≡ record tree.old { homes = tree.new.homes; procedures = tree.new.procedures }) }
+    ensures kept { OnOk result (tree.new ≡ record tree.old {
+      homes = tree.new.homes;
+      procedures = tree.new.procedures;
+      homes_are_words = tree.new.homes_are_words;
+    }) }
     ensures placed { OnOk result (placed_in tree.new ≡ with_placed externals.now.objects.entries.items
         parameters.now.entries.items (layout_view storage.now) (placed_in tree.old) number
         (object_view object.now)) }
@@ -200,11 +204,12 @@ fn add_home(
         number,
         parameters.get(number),
     )?;
-    tree.homes.push(home)?;
+    tree.add_home(home)?;
     Ok(())
 }
 
 /// Adds the homes of the objects of a module, and to each frame its variables. The procedures have been added before.
+#[tactic(auto, using(crate::proofs::HomeTables::kept_again))]
 pub(crate) fn add_homes(
     alloc: Global,
     tree: &mut TreeModule,
@@ -212,8 +217,11 @@ pub(crate) fn add_homes(
     typed: &Typed,
     storage: &Layout,
 ) -> Result<(), AllocError>
-    ensures kept { OnOk result
-        (tree.new ≡ record tree.old { homes = tree.new.homes; procedures = tree.new.procedures }) }
+    ensures kept { OnOk result (tree.new ≡ record tree.old {
+      homes = tree.new.homes;
+      procedures = tree.new.procedures;
+      homes_are_words = tree.new.homes_are_words;
+    }) }
     ensures placed { OnOk result (placed_in tree.new ≡ all_placed externals.now.objects.entries.items
         (with_all_parameters [] (module_view typed.now).procedures) (layout_view storage.now)
         (placed_in tree.old) 0 (module_view typed.now).objects) }
