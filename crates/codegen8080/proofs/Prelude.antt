@@ -3,7 +3,7 @@ pub use Rattle.std.proofs.{Common.{Bool, Err, List, None, Ok, OnOk, Option, Resu
 pub use Rattle.std.specs.{List.{list_all, range_with_len, slice_range}, Option.{option_flatten, option_map_or}, Prelude.{All, IfOk, IfSome, IsTrue, min}, Str.{bytes_eq}}
 pub use Rattle.symbols.proofs.Keys.{same_keys}
 pub use Rattle.symbols.specs.Names.{is_name}
-pub use Rattle.object_modules.specs.{Before.{same_segment}, Module.{Fixup, ObjectModule, Places, Public, SetByte, are_new, begins_word, is_among, is_both, is_movable, is_plain, is_target, is_valid_public, is_valid_segment, words_are_whole}, Rules.{fix_end}, Runs.{fixup_at}, Spelling.{set_in}, Stored.{IsStored, are_longest, fixes_ascend, is_in_a_run, places_stored}, Text.{Run, before_runs, runs_from}, Views.{AreKept, owned_public_view}, declared.object.ModuleParts.{ModuleParts}, declared.segment.Fix.{Fix}, declared.segment.FixKind.{FixKind}, declared.segment.Segment.{Segment, TheVariants.{Absolute, Code, Data, Stack}}, declared.segment.Target.{Target, TheVariants.{External, InSegment}}, declared.segment.TheConstants.{SEGMENT_LIMIT}, internal.Joining.{run_at, with_run, with_runs}}
+pub use Rattle.object_modules.specs.{Before.{same_segment}, Module.{Fixup, ObjectModule, Places, Public, SetByte, are_new, begins_word, is_among, is_both, is_movable, is_plain, is_target, is_valid_public, is_valid_segment, words_are_whole}, Rules.{fix_end}, Runs.{fixup_at, with_run}, Spelling.{set_in}, Stored.{IsStored, are_longest, fixes_ascend, is_in_a_run, places_stored}, Text.{Run, before_runs, runs_from}, Views.{AreKept, owned_public_view}, declared.object.ModuleParts.{ModuleParts}, declared.segment.Fix.{Fix}, declared.segment.FixKind.{FixKind}, declared.segment.Segment.{Segment, TheVariants.{Absolute, Code, Data, Stack}}, declared.segment.Target.{Target, TheVariants.{External, InSegment}}, declared.segment.TheConstants.{SEGMENT_LIMIT}, internal.Joining.{run_at, with_runs}}
 pub use Rattle.isa8080.specs.{Code.{bytes_of}, State.{high_byte, low_byte, wrap}, declared.instr.Instr.{Instr, TheVariants.{Hlt}}, declared.instr.Pair.TheVariants.{Sp}}
 pub use Rattle.asm8080.proofs.{Parts.{stands_in_parts}, Segments.{and_true, left_true, places_length, right_true, run_places, runs_longest, set_length, set_well, valid_bytes}}
 pub use Rattle.asm8080.specs.{Assembled.{Assembled, Assembles, FitsSegment, IsFinished, fixed_bytes, places_of, segment_of, set_bytes}, Items.{Assembly, Layout, Stands, instruction_with, size_of_items, word_of}, Standing.{BytesStand}, declared.fault.Fault.{Fault as CodeFault}, declared.item.Item.{Item, TheVariants.{Address, Byte, Gap, Mark, Plain, WithWord}}, declared.item.Reference.{Reference, TheVariants.{AtLabel, AtNumber, AtTarget}}, declared.item.WordForm.TheVariants.{LoadPair}}
