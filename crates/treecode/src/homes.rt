@@ -8,13 +8,14 @@ ghost use Rattle.treecode.specs.internal.Numbers.{number_in};
 ghost use Rattle.treecode.specs.internal.Placed.{all_placed, headings_after, headings_of, home_in, placed_in, variable_of, with_all_parameters, with_parameters, with_placed};
 
 use crate::globals::Externals;
-use crate::lowering::{capped, next_number, wrapped};
+use crate::lowering::{capped, wrapped};
 use crate::module::TreeModule;
 use crate::numbers::Numbers;
 use crate::place::{Home, Location, Place};
 use crate::procedure::{FrameVariable, TreeProcedure};
 use layout::{Layout, Segment};
 use std::alloc::{AllocError, Global};
+use trees::next_number;
 use typed_trees::{AtAddress, Home as TypedHome, Typed, TypedObject, TypedProcedure};
 
 // The home of an object `distance` bytes further on. A BASED object has no place of its own.
