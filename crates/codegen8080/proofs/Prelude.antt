@@ -1,7 +1,6 @@
 -- The names that the proofs of this crate cite, passed on from one place. Declares nothing.
 pub use Rattle.std.proofs.{Common.{Bool, Err, List, None, Ok, OnOk, Option, Result, Some, [], add-one, ap, append-nil, append_assoc, arith, cond, drop, false, find, if◌then◌else◌, inl, inr, length, map, nat_le, nat_lt, not, option_and_then, option_map, refl, replicate, rules, slice_get, slice_index, slice_index_or, subst, suc, sym, take, true, unwrap_or, zero, ℕ, ◌&&◌, ◌++◌, ◌+◌, ◌-◌, ◌<◌, ◌==◌, ◌||◌, ◌∙◌, ◌∷◌, ◌≡◌, ◌≤◌, ◌⊎◌}, lemmas.Bool.{eq-eqb, le-leb, lt-ltb}, lemmas.List.{drop_all, drop_at, map-append}, lemmas.Option.{none-some}}
 pub use Rattle.std.specs.{List.{list_all, range_with_len, slice_range}, Option.{option_flatten, option_map_or}, Prelude.{All, IfOk, IfSome, IsTrue, min}, Str.{bytes_eq}}
-pub use Rattle.symbols.proofs.Keys.{same_keys}
 pub use Rattle.symbols.specs.Names.{is_name}
 pub use Rattle.object_modules.specs.{Before.{same_segment}, Module.{Fixup, ObjectModule, Places, Public, SetByte, are_new, begins_word, is_among, is_both, is_movable, is_plain, is_target, is_valid_public, is_valid_segment, words_are_whole}, Rules.{fix_end}, Runs.{fixup_at, with_run}, Spelling.{set_in}, Stored.{IsStored, are_longest, fixes_ascend, is_in_a_run, places_stored}, Text.{Run, before_runs, runs_from}, Views.{AreKept, owned_public_view}, declared.object.ModuleParts.{ModuleParts}, declared.segment.Fix.{Fix}, declared.segment.FixKind.{FixKind}, declared.segment.Segment.{Segment, TheVariants.{Absolute, Code, Data, Stack}}, declared.segment.Target.{Target, TheVariants.{External, InSegment}}, declared.segment.TheConstants.{SEGMENT_LIMIT}, internal.Joining.{run_at, with_runs}}
 pub use Rattle.isa8080.specs.{Code.{bytes_of}, State.{high_byte, low_byte, wrap}, declared.instr.Instr.{Instr, TheVariants.{Hlt}}, declared.instr.Pair.TheVariants.{Sp}}

@@ -15,11 +15,12 @@ ghost use Rattle.names.specs.Environment.{empty_body, at_the_start, body_after_b
 
 use crate::entity::{Binding, BuiltIn, Entity};
 use crate::fault::Fault;
-use crate::table::{NameSet, Names};
+use crate::table::Names;
 use failure::Failure;
 use std::alloc::Global;
 use std::marker::Model;
 use std::mem;
+use symbols::NameSet;
 use trees::{Identifier, Name, Statement, next_number};
 
 // What a name stands for in the last of these tables that has it.
@@ -152,7 +153,8 @@ impl BodyNames {
         if self.declared.contains(name.name) {
             return Err(declared_twice(name));
         }
-        self.declared.insert(name.name)
+        self.declared.insert(name.name)?;
+        Ok(())
     }
 
     // A label before a statement of the body.
@@ -164,7 +166,8 @@ impl BodyNames {
         if self.declared.contains(name.name) || self.labelled.contains(name.name) {
             return Err(declared_twice(name));
         }
-        self.labelled.insert(name.name)
+        self.labelled.insert(name.name)?;
+        Ok(())
     }
 }
 
