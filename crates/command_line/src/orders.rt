@@ -131,6 +131,10 @@ pub struct ExplainOrder<'a> {
 pub struct ConvertOrder<'a> {
     /// The name of its file.
     pub file: &'a str,
+    /// Whether the file is a listing, which a compiler printed.
+    pub listing: bool,
+    /// Whether the source is on cards.
+    pub cards: bool,
 }
 
 /// What the command line asks for.

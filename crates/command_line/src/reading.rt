@@ -226,6 +226,8 @@ fn convert<'a>(matches: &ArgMatches<'a>) -> Result<Option<Order<'a>>, AllocError
 {
     Ok(Some(Order::Convert(ConvertOrder {
         file: text(matches, "FILE"),
+        listing: flag(matches, "listing"),
+        cards: flag(matches, "cards"),
     })))
 }
 

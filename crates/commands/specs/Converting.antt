@@ -1,5 +1,5 @@
 -- What is printed and told of a source that is converted.
-use Rattle.std.specs.Prelude.{◌≡◌, ◌⊎◌, ◌<◌, ℕ, true, List, [], ◌∷◌, length, map, Option, None, Some}
+use Rattle.std.specs.Prelude.{◌≡◌, ◌⊎◌, ◌<◌, ℕ, true, List, [], ◌∷◌, length, map, Option, None, Some, ◌++◌}
 use Rattle.std.specs.Io.KnownBytes.{Appends, Keeps}
 use Rattle.failure.specs.Writing.{AppendsBeginning}
 use Rattle.clap.specs.Words.{Text}
@@ -9,15 +9,19 @@ use Rattle.host.specs.Reading.{StopsAt}
 use Rattle.host.specs.Refusals.{Tells, memory_line, refusal_line}
 use Rattle.sources.specs.declared.read.ReadFault.{ReadFault}
 use Rattle.sources.specs.declared.read.ReadFault.TheVariants.{TooLong, Words, Expansion, Syntax, Typing, Storage}
-use Rattle.sources.specs.Causes.{HasReadCause}
+use Rattle.sources.specs.Causes.{HasReadCause, HasTypingFault}
 use Rattle.sources.specs.Faults.{line_of, number_of}
-use Rattle.sources.specs.Reading.{IsText}
+use Rattle.sources.specs.Reading.{HasTyping}
 use Rattle.convert.specs.declared.controls.Control.{Control}
 use Rattle.convert.specs.declared.converting.Note.{Note}
+use Rattle.convert.specs.declared.preparing.Medium.{Medium}
 use Rattle.convert.specs.declared.rule.Rule.{Rule}
 use Rattle.convert.specs.Controls.{control_view, table_of_controls}
-use Rattle.convert.specs.Conversion.{IsRefused}
+use Rattle.convert.specs.Conversion.{IsConversion, IsRefused}
+use Rattle.convert.specs.Edits.{Change}
 use Rattle.convert.specs.Lines.{lined}
+use Rattle.convert.specs.Listings.{note_view}
+use Rattle.convert.specs.Preparing.{prepared, prepared_notes}
 use Rattle.convert.specs.Table.{rule_view, table_of_rules}
 use Rattle.convert.specs.Sources.{IsConverted, note_lines}
 use Rattle.command_line.specs.Command.{ConvertWanted, Wanted, wants_compile, wants_convert, wants_execute}
@@ -26,9 +30,13 @@ use Rattle.command_line.specs.Settings.{outputs_in}
 use Rattle.commands.specs.OutputFiles.{ByOutputs, is_output}
 use Rattle.commands.specs.Refusing.{RunsOut, TellsFile, TellsUnwritten}
 
--- a text is a module of this language, whether or not that has a fault of names or of types
+-- a text is a module of this language, with no fault of names or of types
 abbrev pub IsModule : (text : List ℕ) → Type 0
-IsModule text = (tree : _) × IsText text tree
+IsModule text = (typed : _) × HasTyping text typed
+
+-- a text would be a module but for a fault of names or of types
+abbrev pub IsMistyped : (text : List ℕ) → Type 0
+IsMistyped text = (fault : _) × HasTypingFault text fault
 
 -- the faults of a text that is no module
 abbrev pub IsOfNoModule : ReadFault → Type 0
@@ -45,14 +53,20 @@ pub record IsNoModule (text : List ℕ) : Type 0 where
   pub kind : IsOfNoModule fault
   pub cause : HasReadCause fault text
 
--- what a text is printed as, and what is told of it: a module stays as it is
-pub data Converts (rules : List Rule) (controls : List Control) (text : List ℕ) : List ℕ → List Note → Type 0 where
+-- What a text is printed as, and what is told of it after these notes: a module stays as it is. Of one with a fault of
+-- names or of types the words alone are changed.
+pub data Converts (rules : List Rule) (controls : List Control) (before : List Note) (text : List ℕ) :
+    List ℕ → List Note → Type 0 where
   stays : IsModule text
-      → Converts rules controls text text []
+      → Converts rules controls before text text before
+  rewritten : {printed : List ℕ} {changes : List Change} {notes : List Note}
+      → IsMistyped text
+      → IsConversion rules text printed changes notes
+      → Converts rules controls before text printed (before ++ notes)
   changed : {printed : List ℕ} {notes : List Note}
       → IsNoModule text
       → IsConverted rules controls text printed notes
-      → Converts rules controls text printed notes
+      → Converts rules controls before text printed (before ++ notes)
 
 -- the cause that a text is not converted: it is too long, or its words are refused once its lines were changed
 abbrev pub HasNoConversion : List ℕ → ReadFault → Type 0
@@ -63,11 +77,15 @@ HasNoConversion text (Syntax fault) = ⊥
 HasNoConversion text (Typing fault) = ⊥
 HasNoConversion text (Storage fault) = ⊥
 
-module _ (rules : List Rule) (controls : List Control) (name text : List ℕ) where
+-- how a file holds its source
+abbrev pub medium_of : ConvertWanted → Medium
+medium_of wanted = record { listing = wanted.listing; cards = wanted.cards }
+
+module _ (rules : List Rule) (controls : List Control) (before : List Note) (name text : List ℕ) where
   -- all was printed, with nothing to tell
   pub record PrintsText (old new : Option (List ℕ)) : Type 0 where
     pub printed : List ℕ
-    pub converts : Converts rules controls text printed []
+    pub converts : Converts rules controls before text printed []
     pub appended : Appends old new printed
 
   -- all was printed, and there are notes, which were told, or a beginning of them
@@ -75,7 +93,7 @@ module _ (rules : List Rule) (controls : List Control) (name text : List ℕ) wh
     pub printed : List ℕ
     pub notes : List Note
     pub some : 0 < length notes
-    pub converts : Converts rules controls text printed notes
+    pub converts : Converts rules controls before text printed notes
     pub appended : Appends out_old out_new printed
     pub told : AppendsBeginning err_old err_new (note_lines name notes)
 
@@ -83,7 +101,7 @@ module _ (rules : List Rule) (controls : List Control) (name text : List ℕ) wh
   pub record StopsText (err_old err_new out_old out_new : Option (List ℕ)) : Type 0 where
     pub printed : List ℕ
     pub notes : List Note
-    pub converts : Converts rules controls text printed notes
+    pub converts : Converts rules controls before text printed notes
     pub told : TellsUnwritten err_old err_new
     pub begun : AppendsBeginning out_old out_new printed
 
@@ -105,12 +123,15 @@ module _ (rules : List Rule) (controls : List Control) (name text : List ℕ) wh
       ((status ≡ 0) × PrintsText out_old out_new)
       ⊎ ((status ≡ 1) × RefusesText err_old err_new out_old out_new)
 
--- the file that is wanted has a text, which was converted
+-- the file that is wanted has a text, whose source was converted, after what is told of its lines
 pub record ConvertsRead (rules : List Rule) (controls : List Control) (wanted : ConvertWanted) (files : Option Directory)
     (status : ℕ) (err_old err_new out_old out_new : Option (List ℕ)) : Type 0 where
   pub text : List ℕ
   pub read : HasFile files wanted.file text
-  pub converted : ConvertsText rules controls wanted.file text status err_old err_new out_old out_new
+  pub before : List Note
+  pub before_are : map note_view before ≡ prepared_notes (medium_of wanted) text
+  pub converted : ConvertsText rules controls before wanted.file
+      (prepared (medium_of wanted) text) status err_old err_new out_old out_new
 
 -- What converting a file prints and tells, and the status: 1 where it can't be read or memory ran out, with nothing
 -- printed, or else what converting its text does.

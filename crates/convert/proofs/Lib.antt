@@ -1,3 +1,4 @@
 pub mod Short
 pub mod Shorter
 pub mod Hiding
+pub mod Taken

@@ -13,3 +13,7 @@ pub mod Table
 pub mod Controls
 pub mod Lines
 pub mod Sources
+pub mod Columns
+pub mod Cards
+pub mod Listings
+pub mod Preparing
