@@ -1,5 +1,5 @@
 -- The words of the command that converts a source: they have no fault, and give what is wanted.
-use Rattle.command_line.proofs.Prelude.{◌≡◌, ◌∙◌, List, [], ◌∷◌, ◌++◌, Some, None, Bool, true, false, if◌then◌else◌, refl, ap, codes, fold, clap_on_literals, Kinds, Row, Text, Walk, idle, reading_by, settle_fault, settled, walked, defaults_fault, turn_fault, walk_fault, or_else, CommandLine, IsBare, medium_words, wants_convert}
+use Rattle.command_line.proofs.Prelude.{◌≡◌, ◌∙◌, List, [], ◌∷◌, ◌++◌, Some, None, Bool, true, false, if◌then◌else◌, refl, ap, codes, fold, clap_on_literals, Kinds, Row, Text, Walk, idle, reading_by, settle_fault, settled, walked, defaults_fault, turn_fault, walk_fault, or_else, CommandLine, IsBare, medium_words, usual_convert, wants_convert}
 use Rattle.command_line.proofs.Files.{bare_fault, bare_word, files_filled}
 use Rattle.command_line.proofs.Begins.{Ends, flag_row, found_walk}
 use Rattle.command_line.proofs.Lines.{Line, line_of}
@@ -108,17 +108,17 @@ convert_ends listing cards file bare = record {
     settles false false = refl
 
 pub convert_line : (listing cards : Bool) (file : Text) → IsBare file
-    → Line convert (medium_words listing cards ++ file ∷ []) (wants_convert (record { file = file; listing = listing; cards = cards }))
+    → Line convert (medium_words listing cards ++ file ∷ []) (wants_convert (usual_convert file listing cards))
 unfolding defaults_fault
 convert_line true true file bare =
-    line_of convert (medium_words true true ++ file ∷ []) (medium_rows true true ++ file_row file ∷ []) (wants_convert (record { file = file; listing = true; cards = true }))
+    line_of convert (medium_words true true ++ file ∷ []) (medium_rows true true ++ file_row file ∷ []) (wants_convert (usual_convert file true true))
     (convert_ends true true file bare) refl refl refl
 convert_line true false file bare =
-    line_of convert (medium_words true false ++ file ∷ []) (medium_rows true false ++ file_row file ∷ []) (wants_convert (record { file = file; listing = true; cards = false }))
+    line_of convert (medium_words true false ++ file ∷ []) (medium_rows true false ++ file_row file ∷ []) (wants_convert (usual_convert file true false))
     (convert_ends true false file bare) refl refl refl
 convert_line false true file bare =
-    line_of convert (medium_words false true ++ file ∷ []) (medium_rows false true ++ file_row file ∷ []) (wants_convert (record { file = file; listing = false; cards = true }))
+    line_of convert (medium_words false true ++ file ∷ []) (medium_rows false true ++ file_row file ∷ []) (wants_convert (usual_convert file false true))
     (convert_ends false true file bare) refl refl refl
 convert_line false false file bare =
-    line_of convert (medium_words false false ++ file ∷ []) (medium_rows false false ++ file_row file ∷ []) (wants_convert (record { file = file; listing = false; cards = false }))
+    line_of convert (medium_words false false ++ file ∷ []) (medium_rows false false ++ file_row file ∷ []) (wants_convert (usual_convert file false false))
     (convert_ends false false file bare) refl refl refl

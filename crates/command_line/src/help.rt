@@ -512,6 +512,10 @@ with $ become empty, form feeds are taken away, words such as GO TO and LABEL ar
 stays as it is. A source that is a module of this language already is printed as it is. The source is
 the whole file, or with --listing what a listing holds, or with --cards the columns 1 to 72.
 
+The file of an INCLUDE is put in, but not into a listing: it is looked for in each DIR and then beside
+FILE, as written, in capital and in small letters. Lines of an IF that do not apply become empty;
+switches are set by --set and by SET.
+
 What has no cure is left, and told on standard error, a line each:
   FILE LINE: what, and what to write
 

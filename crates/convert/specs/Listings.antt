@@ -3,9 +3,11 @@ use Rattle.std.specs.Prelude.{ℕ, ◌+◌, Bool, true, false, ◌==◌, ◌&&�
 use Rattle.std.specs.Prelude.{List, [], ◌∷◌, ◌++◌, drop, take}
 use Rattle.std.specs.Char.{is_ascii_digit}
 use Rattle.std.specs.List.{list_all, list_any, starts_with}
-use Rattle.convert.specs.declared.converting.Note.{Note}
+use Rattle.convert.specs.declared.advice.Advice.{Advice}
+use Rattle.convert.specs.declared.assembly.PlacedNote.{PlacedNote}
 use Rattle.convert.specs.declared.listings.Listed.{Listed}
 use Rattle.convert.specs.declared.listings.Listed.TheVariants.{Source, Rest, Printed, Unknown}
+use Rattle.convert.specs.Assembly.{line_of_source}
 use Rattle.convert.specs.Columns.{body}
 use Rattle.convert.specs.Lines.{lines_of, plain, return_of}
 
@@ -73,29 +75,20 @@ listed_text (line ∷ next ∷ lines) = if is_end line then [] else listed line 
 abbrev pub unlisted : List ℕ → List ℕ
 unlisted listing = listed_text (lines_of (plain listing))
 
--- a note, without where its text lies in memory
-pub record NoteView : Type 0 where
-  pub line : ℕ
-  pub text : List ℕ
-
-abbrev pub note_view : Note → NoteView
-note_view note = record { line = note.line; text = note.text.now }
-
 -- what is told of a line of a number
-abbrev pub listing_note : ℕ → Listed → List NoteView
-listing_note number Source = []
-listing_note number Rest =
-    record { line = number; text = codes "a line that goes on: write it at the end of the line before" } ∷ []
-listing_note number Printed = []
-listing_note number Unknown =
-    record { line = number; text = codes "no line of a listing: delete it, or leave what is source" } ∷ []
+abbrev pub listing_note : Advice → ℕ → Listed → List PlacedNote
+listing_note advice number Source = []
+listing_note advice number Rest = record { place = line_of_source number; text = advice.goes_on } ∷ []
+listing_note advice number Printed = []
+listing_note advice number Unknown = record { place = line_of_source number; text = advice.no_line } ∷ []
 
 -- what is told of lines, of which the first has a number
-abbrev pub listing_notes_from : ℕ → List (List ℕ) → List NoteView
-listing_notes_from number [] = []
-listing_notes_from number (line ∷ lines) =
-    if is_end line then [] else listing_note number (form_of (body line)) ++ listing_notes_from (number + 1) lines
+abbrev pub listing_notes_from : Advice → ℕ → List (List ℕ) → List PlacedNote
+listing_notes_from advice number [] = []
+listing_notes_from advice number (line ∷ lines) =
+    if is_end line then []
+    else listing_note advice number (form_of (body line)) ++ listing_notes_from advice (number + 1) lines
 
 -- what is told of the lines of a listing, counted from 1
-abbrev pub listing_notes : List ℕ → List NoteView
-listing_notes listing = listing_notes_from 1 (lines_of (plain listing))
+abbrev pub listing_notes : Advice → List ℕ → List PlacedNote
+listing_notes advice listing = listing_notes_from advice 1 (lines_of (plain listing))

@@ -2,10 +2,12 @@
 
 ghost use Rattle.std.specs.Prelude.{◌≡◌, ◌∷◌, ◌++◌, [], false, map, IfOk};
 ghost use Rattle.std.specs.List.{list_all};
-ghost use Rattle.convert.specs.Listings.{begins, form_of, has_columns, has_marks, is_end, is_mark, is_number, is_printed, listed, listed_body, listed_text, listing_note, listing_notes_from, note_view};
+ghost use Rattle.convert.specs.Assembly.{line_of_source};
+ghost use Rattle.convert.specs.Listings.{begins, form_of, has_columns, has_marks, is_end, is_mark, is_number, is_printed, listed, listed_body, listed_text, listing_note, listing_notes_from};
 
+use crate::advice::Advice;
+use crate::assembly::{PlacedNote, line_of_source};
 use crate::columns::{after, body, front};
-use crate::converting::Note;
 use crate::lines::return_of;
 use std::alloc::{AllocError, Global};
 
@@ -56,9 +58,13 @@ fn add_listed(line: &[u8], text: &mut Vec<u8>) -> Result<(), AllocError>
 }
 
 /// Adds what is told of the lines of a listing, of which the first is line 1.
-pub(crate) fn note_listing(lines: &[&[u8]], notes: &mut Vec<Note>) -> Result<(), AllocError>
-    ensures { IfOk result (λ _. map note_view notes.new.items
-        ≡ map note_view notes.old.items ++ listing_notes_from 1 (map (λ line. line.now) lines.now)) }
+pub(crate) fn note_listing(
+    advice: &Advice,
+    lines: &[&[u8]],
+    notes: &mut Vec<PlacedNote>,
+) -> Result<(), AllocError>
+    ensures { IfOk result (λ _. notes.new.items
+        ≡ notes.old.items ++ listing_notes_from advice.now 1 (map (λ line. line.now) lines.now)) }
 {
     let mut number = 1;
     let mut rest = lines;
@@ -66,7 +72,7 @@ pub(crate) fn note_listing(lines: &[&[u8]], notes: &mut Vec<Note>) -> Result<(),
         if is_end(line) {
             return Ok(());
         }
-        note_listed(number, form_of(body(line)), notes)?;
+        note_listed(advice, number, form_of(body(line)), notes)?;
         number += 1;
         rest = more;
     }
@@ -74,32 +80,33 @@ pub(crate) fn note_listing(lines: &[&[u8]], notes: &mut Vec<Note>) -> Result<(),
 }
 
 // Adds what is told of a line of a number.
-fn note_listed(number: usize, form: Listed, notes: &mut Vec<Note>) -> Result<(), AllocError>
-    ensures { IfOk result (λ _. map note_view notes.new.items
-        ≡ map note_view notes.old.items ++ listing_note number form) }
+fn note_listed(
+    advice: &Advice,
+    number: usize,
+    form: Listed,
+    notes: &mut Vec<PlacedNote>,
+) -> Result<(), AllocError>
+    ensures { IfOk result (λ _. notes.new.items ≡ notes.old.items ++ listing_note advice.now number form) }
 {
     match form {
         Listed::Source => Ok(()),
-        Listed::Rest => tell(
-            number,
-            "a line that goes on: write it at the end of the line before",
-            notes,
-        ),
+        Listed::Rest => tell(number, advice.goes_on, notes),
         Listed::Printed => Ok(()),
-        Listed::Unknown => tell(
-            number,
-            "no line of a listing: delete it, or leave what is source",
-            notes,
-        ),
+        Listed::Unknown => tell(number, advice.no_line, notes),
     }
 }
 
 // Adds a note on a line of a number.
-fn tell(number: usize, text: &'static str, notes: &mut Vec<Note>) -> Result<(), AllocError>
-    ensures { IfOk result (λ _. map note_view notes.new.items
-        ≡ map note_view notes.old.items ++ (record { line = number; text = text.now }) ∷ []) }
+fn tell(
+    number: usize,
+    text: &'static str,
+    notes: &mut Vec<PlacedNote>,
+) -> Result<(), AllocError>
+    ensures { IfOk result (λ _. notes.new.items
+        ≡ notes.old.items ++ (record { place = line_of_source number; text = text }) ∷ []) }
 {
-    notes.push(Note { line: number, text })?;
+    let place = line_of_source(number);
+    notes.push(PlacedNote { place, text })?;
     Ok(())
 }
 

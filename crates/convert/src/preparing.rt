@@ -1,11 +1,11 @@
 //! What of a file is the source.
 
-ghost use Rattle.std.specs.Prelude.{◌≡◌, true, map, IfOk};
-ghost use Rattle.convert.specs.Listings.{note_view};
+ghost use Rattle.std.specs.Prelude.{◌≡◌, true, IfOk};
 ghost use Rattle.convert.specs.Preparing.{from_cards, from_listing, notes_of_listing, prepared, prepared_notes};
 
+use crate::advice::Advice;
+use crate::assembly::PlacedNote;
 use crate::cards::carded;
-use crate::converting::Note;
 use crate::lines::{lines_of, plain};
 use crate::listings::{join_listed, note_listing};
 use std::alloc::{AllocError, Global};
@@ -23,15 +23,20 @@ pub struct Medium {
 #[derive(Drop)]
 pub struct Prepared {
     pub text: Vec<u8>,
-    pub notes: Vec<Note>,
+    pub notes: Vec<PlacedNote>,
 }
 
 /// The source of a file: that of a listing, and then what is in the columns of cards.
-pub fn prepare(alloc: Global, medium: Medium, file: &[u8]) -> Result<Prepared, AllocError>
+pub fn prepare(
+    alloc: Global,
+    advice: &Advice,
+    medium: Medium,
+    file: &[u8],
+) -> Result<Prepared, AllocError>
     ensures text { IfOk result (λ made. made.text.items ≡ prepared medium file.now) }
-    ensures notes { IfOk result (λ made. map note_view made.notes.items ≡ prepared_notes medium file.now) }
+    ensures notes { IfOk result (λ made. made.notes.items ≡ prepared_notes advice.now medium file.now) }
 {
-    let source = from_listing(alloc, medium.listing, file)?;
+    let source = from_listing(alloc, advice, medium.listing, file)?;
     let text = from_cards(alloc, medium.cards, source.text)?;
     Ok(Prepared {
         text,
@@ -40,12 +45,17 @@ pub fn prepare(alloc: Global, medium: Medium, file: &[u8]) -> Result<Prepared, A
 }
 
 // The source of a listing, if it is one.
-fn from_listing(alloc: Global, is_one: bool, file: &[u8]) -> Result<Prepared, AllocError>
+fn from_listing(
+    alloc: Global,
+    advice: &Advice,
+    is_one: bool,
+    file: &[u8],
+) -> Result<Prepared, AllocError>
     ensures text { IfOk result (λ made. made.text.items ≡ from_listing is_one file.now) }
-    ensures notes { IfOk result (λ made. map note_view made.notes.items ≡ notes_of_listing is_one file.now) }
+    ensures notes { IfOk result (λ made. made.notes.items ≡ notes_of_listing advice.now is_one file.now) }
 {
     if is_one {
-        unlist(alloc, file)
+        unlist(alloc, advice, file)
     } else {
         let mut text = Vec::new(alloc);
         text.extend_from_slice(file)?;
@@ -57,15 +67,15 @@ fn from_listing(alloc: Global, is_one: bool, file: &[u8]) -> Result<Prepared, Al
 }
 
 // The source of a listing.
-fn unlist(alloc: Global, file: &[u8]) -> Result<Prepared, AllocError>
+fn unlist(alloc: Global, advice: &Advice, file: &[u8]) -> Result<Prepared, AllocError>
     ensures text { IfOk result (λ made. made.text.items ≡ from_listing true file.now) }
-    ensures notes { IfOk result (λ made. map note_view made.notes.items ≡ notes_of_listing true file.now) }
+    ensures notes { IfOk result (λ made. made.notes.items ≡ notes_of_listing advice.now true file.now) }
 {
     let plain = plain(alloc, file)?;
     let lines = lines_of(alloc, plain.as_slice())?;
     let text = join_listed(alloc, lines.as_slice())?;
     let mut notes = Vec::new(alloc);
-    note_listing(lines.as_slice(), &mut notes)?;
+    note_listing(advice, lines.as_slice(), &mut notes)?;
     Ok(Prepared { text, notes })
 }
 
