@@ -70,25 +70,25 @@ pub record IsNext (advice : Advice) (wanted : ConvertWanted) (before : List Plac
   pub first : first_of (put_together advice wanted entries before source).wanted ≡ Some name
 
 module _ (advice : Advice) (wanted : ConvertWanted) (files : Option Directory) (before : List PlacedNote) (source : List ℕ)
-    where
-  -- what was looked for, in its order
-  pub data Looks : List Entry → Type 0 where
-    begun : Looks []
-    further : {entries : List Entry} {entry : Entry}
-        → Looks entries
-        → IsNext advice wanted before source entries entry.name.items
-        → IsLookedUp wanted files entry
-        → Looks (entries ++ entry ∷ [])
+  where
+    -- what was looked for, in its order
+    pub data Looks : List Entry → Type 0 where
+      begun : Looks []
+      further : {entries : List Entry} {entry : Entry}
+          → Looks entries
+          → IsNext advice wanted before source entries entry.name.items
+          → IsLookedUp wanted files entry
+          → Looks (entries ++ entry ∷ [])
 
-  -- what was looked for is all that the source includes, or as many names as are looked for at most
-  pub record IsIncluded (entries : List Entry) : Type 0 where
-    pub looked : Looks entries
-    pub enough : ((put_together advice wanted entries before source).wanted ≡ []) ⊎ (most_names wanted ≤ length entries)
+    -- what was looked for is all that the source includes, or as many names as are looked for at most
+    pub record IsIncluded (entries : List Entry) : Type 0 where
+      pub looked : Looks entries
+      pub enough : ((put_together advice wanted entries before source).wanted ≡ []) ⊎ (most_names wanted ≤ length entries)
 
-  -- the next name is looked for, and a file under it can't be read
-  pub record StopsLookingForNext (stop : List ℕ) : Type 0 where
-    pub entries : List Entry
-    pub looked : Looks entries
-    pub name : List ℕ
-    pub next : IsNext advice wanted before source entries name
-    pub stops : StopsLooking files (candidates wanted.folders wanted.file name) stop
+    -- the next name is looked for, and a file under it can't be read
+    pub record StopsLookingForNext (stop : List ℕ) : Type 0 where
+      pub entries : List Entry
+      pub looked : Looks entries
+      pub name : List ℕ
+      pub next : IsNext advice wanted before source entries name
+      pub stops : StopsLooking files (candidates wanted.folders wanted.file name) stop

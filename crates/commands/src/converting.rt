@@ -26,14 +26,14 @@ use sources::{LONGEST_SOURCE, ReadFault, read_source};
 use std::alloc::{AllocError, Global};
 use std::io::Write;
 
-// What a text is.
+/// What a text is.
 #[derive(Clone, Copy)]
 pub(crate) enum Form {
-    // A module of this language, with no fault of names or of types.
+    /// A module of this language, with no fault of names or of types.
     Module,
-    // A module but for such a fault.
+    /// A module but for such a fault.
     Mistyped,
-    // Neither.
+    /// Neither.
     Old,
 }
 
@@ -132,9 +132,7 @@ fn convert_text<F: Files, O: Write, E: Write>(
     match form_of(alloc, text) {
         Ok(Form::Module) => print_noted(alloc, order.file, &[], text, before, out, err),
         Ok(Form::Mistyped) => rewrite(alloc, rules, order.file, before, text, out, err),
-        Ok(Form::Old) => {
-            convert_old(alloc, rules, advice, order, before, text, files, out, err)
-        }
+        Ok(Form::Old) => { convert_old(alloc, rules, advice, order, before, text, files, out, err) }
         Err(_) => refuse_memory(err),
     }
 }
@@ -159,10 +157,8 @@ fn form_of_fault(fault: ReadFault) -> Form
     match fault {
         ReadFault::Typing(_) => Form::Mistyped,
         ReadFault::Storage(_) => Form::Module,
-        ReadFault::TooLong
-        | ReadFault::Words(_)
-        | ReadFault::Expansion(_)
-        | ReadFault::Syntax(_) => Form::Old,
+        ReadFault::TooLong | ReadFault::Words(_) | ReadFault::Expansion(_) | ReadFault::Syntax(_) =>
+            Form::Old,
     }
 }
 

@@ -16,7 +16,7 @@ use Rattle.convert.specs.Blocks.{applies, blocks_after, concern_at}
 use Rattle.convert.specs.Controls.{argument_of, is_last, kind_at, last_control, step_at, word_length}
 use Rattle.convert.specs.Includes.{Answer, absent, answer_of, file_name, no_name, present, unknown}
 use Rattle.convert.specs.Lines.{is_control, lines_of, lines_of_file, return_of}
-use Rattle.convert.specs.Switches.{SwitchView, all_names, condition_value, items_of, switch_view, switches_of}
+use Rattle.convert.specs.Switches.{SwitchView, are_names, condition_value, items_of, switch_view, switches_of}
 
 -- What was put together so far: the text; where each of its lines stands; what is told; the switches that were set and reset;
 -- and the names of files that were not looked for.
@@ -67,10 +67,10 @@ told_open advice file [] parts = parts
 told_open advice file (block ∷ blocks) parts =
     told_open advice file blocks (with_note (note_open advice file block) parts)
 
--- the switches of a group are set or reset, if all are names
+-- the switches of a group are set or reset, if it has names alone
 abbrev pub with_names : Advice → Place → Bool → List (List ℕ) → Parts → Parts
 with_names advice place on items parts =
-    if all_names items then record parts { switches = parts.switches ++ switches_of on items }
+    if are_names items then record parts { switches = parts.switches ++ switches_of on items }
     else with_note (record { place = place; text = advice.no_names }) parts
 
 -- a line at which a control begins that sets or resets switches, or another

@@ -3,7 +3,7 @@ use Rattle.std.specs.Prelude.{ℕ, ◌-◌, Bool, true, false, ◌==◌, if◌th
 use Rattle.std.specs.Prelude.{List, [], ◌∷◌, ◌++◌, length, take, get_or}
 use Rattle.convert.specs.declared.blocks.Block.{Block}
 use Rattle.convert.specs.declared.blocks.Branch.{Branch}
-use Rattle.convert.specs.declared.blocks.Branch.TheVariants.{Applies, Waits, Passed, Stays, ElseApplies, ElsePassed}
+use Rattle.convert.specs.declared.blocks.Branch.TheVariants.{Applies, Waits, Passed, Stays, ElseApplies, ElsePassed, ElseStays}
 use Rattle.convert.specs.declared.blocks.Concern.{Concern}
 use Rattle.convert.specs.declared.blocks.Concern.TheVariants.{Fine, NoCondition, NoIf}
 use Rattle.convert.specs.declared.controls.ControlKind.{ControlKind}
@@ -17,6 +17,7 @@ does_apply Passed = false
 does_apply Stays = true
 does_apply ElseApplies = true
 does_apply ElsePassed = false
+does_apply ElseStays = true
 
 -- the innermost of the open IFs; where none is open, one of which the lines apply
 abbrev pub innermost : List Block → Block
@@ -43,15 +44,17 @@ after_elseif value Passed = Passed
 after_elseif value Stays = Stays
 after_elseif value ElseApplies = ElseApplies
 after_elseif value ElsePassed = ElsePassed
+after_elseif value ElseStays = ElseStays
 
 -- the part after an ELSE
 abbrev pub after_else : Branch → Branch
 after_else Applies = ElsePassed
 after_else Waits = ElseApplies
 after_else Passed = ElsePassed
-after_else Stays = Stays
+after_else Stays = ElseStays
 after_else ElseApplies = ElseApplies
 after_else ElsePassed = ElsePassed
+after_else ElseStays = ElseStays
 
 -- the open IFs, of which the innermost comes to another part
 abbrev pub with_part : Branch → List Block → List Block
@@ -83,6 +86,7 @@ concern_at_elseif value Passed = Fine
 concern_at_elseif value Stays = Fine
 concern_at_elseif value ElseApplies = NoIf
 concern_at_elseif value ElsePassed = NoIf
+concern_at_elseif value ElseStays = NoIf
 
 -- what is wrong with an ELSE after a part
 abbrev pub concern_at_else : Branch → Concern
@@ -92,6 +96,7 @@ concern_at_else Passed = Fine
 concern_at_else Stays = Fine
 concern_at_else ElseApplies = NoIf
 concern_at_else ElsePassed = NoIf
+concern_at_else ElseStays = NoIf
 
 -- what is wrong with a control where these IFs are open, with what its condition says
 abbrev pub concern_at : Option Bool → ControlKind → List Block → Concern

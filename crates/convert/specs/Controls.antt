@@ -1,5 +1,5 @@
 -- Controls on a line: words, each with a group in parentheses or without.
-use Rattle.std.specs.Prelude.{ℕ, zero, suc, ◌+◌, ◌-◌, Bool, true, false, ◌==◌, ◌&&◌, ◌||◌, if◌then◌else◌, nat_lt}
+use Rattle.std.specs.Prelude.{ℕ, zero, suc, ◌+◌, ◌-◌, Bool, true, false, not, ◌==◌, ◌&&◌, ◌||◌, if◌then◌else◌, nat_lt}
 use Rattle.std.specs.Prelude.{List, [], ◌∷◌, length, take, drop, codes}
 use Rattle.std.specs.List.{list_any}
 use Rattle.std.specs.Char.{is_ascii_alphabetic}
@@ -43,7 +43,7 @@ has_quote line = list_any (λ c. c == 39) line
 
 -- whether what comes after a byte is in quotes: after a quote that another one closes, up to that one
 abbrev pub quoted_after : Bool → ℕ → List ℕ → Bool
-quoted_after quoted c line = if c == 39 then (if quoted then false else has_quote line) else quoted
+quoted_after quoted c line = if c == 39 then not quoted && has_quote line else quoted
 
 -- how many bytes come before the next quote, or all
 abbrev pub quote_at : List ℕ → ℕ
@@ -54,7 +54,7 @@ quote_at (c ∷ line) = if c == 39 then 0 else 1 + quote_at line
 abbrev pub close_at : Bool → List ℕ → ℕ
 close_at quoted [] = 0
 close_at quoted (c ∷ line) =
-    if c == 41 then (if quoted then 1 + close_at quoted line else 0) else 1 + close_at (quoted_after quoted c line) line
+    if (c == 41) && not quoted then 0 else 1 + close_at (quoted_after quoted c line) line
 
 -- whether a group is closed of which this follows its `(` (40)
 abbrev pub is_closed : List ℕ → Bool

@@ -108,10 +108,15 @@ is_between_names c = (c == 44) || is_blank c
 abbrev pub items_of : List ℕ → List (List ℕ)
 items_of argument = slice_split is_between_names argument
 
--- whether all items but empty ones are names
-abbrev pub all_names : List (List ℕ) → Bool
-all_names [] = true
-all_names (item ∷ items) = if length item == 0 then all_names items else (if is_name item then all_names items else false)
+-- whether the items but empty ones are names; whether there were some before says what holds if there are none
+abbrev pub all_names : Bool → List (List ℕ) → Bool
+all_names some [] = some
+all_names some (item ∷ items) =
+    if length item == 0 then all_names some items else (if is_name item then all_names true items else false)
+
+-- whether there are items that are not empty, and these are names
+abbrev pub are_names : List (List ℕ) → Bool
+are_names items = all_names false items
 
 -- the switches of the items but of empty ones, on or off
 abbrev pub switches_of : Bool → List (List ℕ) → List SwitchView

@@ -14,7 +14,7 @@ use crate::controls::{
 };
 use crate::includes::{Answer, Entry, answer_of, file_name};
 use crate::lines::{is_control, lines_of, lines_of_file, return_of};
-use crate::switches::{Switch, add_switches, all_names, condition_value, items_of, set_switches};
+use crate::switches::{Switch, add_switches, are_names, condition_value, items_of, set_switches};
 use std::alloc::{AllocError, Global};
 
 /// How deep files may include others: the source may include one that includes one, and so on.
@@ -147,7 +147,7 @@ fn add_names<'a>(
     ensures { IfOk result (λ _. parts_of assembly.new
         ≡ with_names advice.now place on (map (λ item. item.now) items.now) (parts_of assembly.old)) }
 {
-    if all_names(items) {
+    if are_names(items) {
         add_switches(on, items, &mut assembly.switches)
     } else {
         let text = advice.no_names;

@@ -21,6 +21,8 @@ pub enum Branch {
     ElseApplies,
     /// It follows ELSE, and its lines do not apply.
     ElsePassed,
+    /// It follows ELSE, and its lines stay, since a condition before it is not understood.
+    ElseStays,
 }
 
 /// An IF that is open: the part in it, and the line of its file on which it stands.
@@ -46,7 +48,7 @@ fn does_apply(branch: Branch) -> bool
     ensures { result ≡ does_apply branch }
 {
     match branch {
-        Branch::Applies | Branch::Stays | Branch::ElseApplies => true,
+        Branch::Applies | Branch::Stays | Branch::ElseApplies | Branch::ElseStays => true,
         Branch::Waits | Branch::Passed | Branch::ElsePassed => false,
     }
 }
@@ -105,6 +107,7 @@ fn after_elseif(value: Option<bool>, branch: Branch) -> Branch
         Branch::Stays => Branch::Stays,
         Branch::ElseApplies => Branch::ElseApplies,
         Branch::ElsePassed => Branch::ElsePassed,
+        Branch::ElseStays => Branch::ElseStays,
     }
 }
 
@@ -115,7 +118,7 @@ fn after_else(branch: Branch) -> Branch
     match branch {
         Branch::Applies | Branch::Passed | Branch::ElsePassed => Branch::ElsePassed,
         Branch::Waits | Branch::ElseApplies => Branch::ElseApplies,
-        Branch::Stays => Branch::Stays,
+        Branch::Stays | Branch::ElseStays => Branch::ElseStays,
     }
 }
 
@@ -179,7 +182,7 @@ fn concern_at_elseif(value: Option<bool>, branch: Branch) -> Concern
 {
     match branch {
         Branch::Waits => concern_of(value),
-        Branch::ElseApplies | Branch::ElsePassed => Concern::NoIf,
+        Branch::ElseApplies | Branch::ElsePassed | Branch::ElseStays => Concern::NoIf,
         Branch::Applies | Branch::Passed | Branch::Stays => Concern::Fine,
     }
 }
@@ -189,7 +192,7 @@ fn concern_at_else(branch: Branch) -> Concern
     ensures { result ≡ concern_at_else branch }
 {
     match branch {
-        Branch::ElseApplies | Branch::ElsePassed => Concern::NoIf,
+        Branch::ElseApplies | Branch::ElsePassed | Branch::ElseStays => Concern::NoIf,
         Branch::Applies | Branch::Waits | Branch::Passed | Branch::Stays => Concern::Fine,
     }
 }

@@ -3,7 +3,7 @@
 ghost use Rattle.std.specs.Prelude.{◌≡◌, ◌++◌, map, true, IfOk};
 ghost use Rattle.std.specs.List.{list_all, slice_split};
 ghost use Rattle.convert.specs.Controls.{is_blank};
-ghost use Rattle.convert.specs.Switches.{all_names, begins_name, condition_value, failed, is_between_names, is_name, is_name_byte, is_on, is_operator, items_of, no_words, said_by, switch_view, switches_of, with_operand, with_operator, with_value, with_word, with_words};
+ghost use Rattle.convert.specs.Switches.{are_names, begins_name, condition_value, failed, is_between_names, is_name, is_name_byte, is_on, is_operator, items_of, no_words, said_by, switch_view, switches_of, with_operand, with_operator, with_value, with_word, with_words};
 
 use crate::controls::{is_blank, is_same};
 use crate::edit::is_word_byte;
@@ -232,18 +232,24 @@ pub(crate) fn items_of(alloc: Global, argument: &[u8]) -> Result<Vec<&[u8]>, All
         .collect(alloc)
 }
 
-/// Whether all items but empty ones are names.
-pub(crate) fn all_names(items: &[&[u8]]) -> bool
-    ensures { result ≡ all_names (map (λ item. item.now) items.now) }
+/// Whether there are items that are not empty, and these are names.
+pub(crate) fn are_names(items: &[&[u8]]) -> bool
+    ensures { result ≡ are_names (map (λ item. item.now) items.now) }
 {
+    let mut some = false;
     let mut rest = items;
     while let [item, more @ ..] = rest {
-        if !item.is_empty() && !is_name(item) {
+        if item.is_empty() {
+            rest = more;
+            continue;
+        }
+        if !is_name(item) {
             return false;
         }
+        some = true;
         rest = more;
     }
-    true
+    some
 }
 
 /// Adds the switches of the items but of empty ones, on or off.
