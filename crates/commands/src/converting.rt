@@ -119,8 +119,8 @@ fn convert_text<F: Files, O: Write, E: Write>(
     err: &mut E,
 ) -> Ending
     ensures unchanged { KeepsFiles (F.files files.old) (F.files files.new) }
-    ensures converted { ConvertsHeld rules.now advice.now (convert_in order.now) (F.files files.old) before.now text.now
-        (status_of result) (F.failures files.old) (F.failures files.new)
+    ensures converted { ConvertsHeld rules.now advice.now (convert_in order.now) (F.files files.old) before.now
+        text.now (status_of result) (F.failures files.old) (F.failures files.new)
         (E.contents err.old) (E.contents err.new) (O.contents out.old) (O.contents out.new) }
     ensures ending { (result ≡ Ending.Done) ⊎ (result ≡ Ending.Refused) }
     ensures count { (result ≡ Ending.Refused → ⊥) → F.failures files.new ≡ F.failures files.old }
@@ -197,8 +197,8 @@ fn convert_old<F: Files, O: Write, E: Write>(
 ) -> Ending
     requires { IsNoModule text.now }
     ensures unchanged { KeepsFiles (F.files files.old) (F.files files.new) }
-    ensures converted { ConvertsHeld rules.now advice.now (convert_in order.now) (F.files files.old) before.now text.now
-        (status_of result) (F.failures files.old) (F.failures files.new)
+    ensures converted { ConvertsHeld rules.now advice.now (convert_in order.now) (F.files files.old) before.now
+        text.now (status_of result) (F.failures files.old) (F.failures files.new)
         (E.contents err.old) (E.contents err.new) (O.contents out.old) (O.contents out.new) }
     ensures ending { (result ≡ Ending.Done) ⊎ (result ≡ Ending.Refused) }
     ensures count { (result ≡ Ending.Refused → ⊥) → F.failures files.new ≡ F.failures files.old }

@@ -34,7 +34,8 @@ fn find_text<F: Files>(
     name: &[u8],
     files: &mut F,
 ) -> Result<Option<Found>, Failure<Vec<u8>>>
-    ensures found { IfOk result (λ found. FindsText (F.files files.old) name.now (option_map found_view found)) }
+    ensures found { IfOk result
+        (λ found. FindsText (F.files files.old) name.now (option_map found_view found)) }
     ensures stops { IfFault result (λ stop. stop.items ≡ name.now) }
     ensures kept { KeepsFiles (F.files files.old) (F.files files.new) }
     ensures count { OnOk result (F.failures files.new ≡ F.failures files.old) }
@@ -146,10 +147,10 @@ pub(crate) fn included_files<F: Files>(
     source: &[u8],
     files: &mut F,
 ) -> Result<Vec<Entry>, Failure<Vec<u8>>>
-    ensures included { IfOk result (λ entries. IsIncluded advice.now (convert_in order.now) (F.files files.old)
-        before.now source.now entries.items) }
-    ensures stops { IfFault result (λ stop. StopsLookingForNext advice.now (convert_in order.now) (F.files files.old)
-        before.now source.now stop.items) }
+    ensures included { IfOk result (λ entries. IsIncluded advice.now (convert_in order.now)
+        (F.files files.old) before.now source.now entries.items) }
+    ensures stops { IfFault result (λ stop. StopsLookingForNext advice.now (convert_in order.now)
+        (F.files files.old) before.now source.now stop.items) }
     ensures kept { KeepsFiles (F.files files.old) (F.files files.new) }
     ensures count { OnOk result (F.failures files.new ≡ F.failures files.old) }
     ensures failed { IfErr result (λ failure. Counts failure (F.failures files.old) (F.failures files.new)) }

@@ -8,7 +8,7 @@ use Rattle.convert.specs.declared.includes.Entry.{Entry}
 use Rattle.convert.specs.declared.includes.Found.{Found}
 use Rattle.convert.specs.Controls.{after_blanks, is_blank}
 
--- what follows the last colon (58), as in `:F1:NAME.EXT`, where what follows the last one so far is this
+-- what follows the last colon (58), as in `:F0:NAME.EXT`, where what follows the last one so far is this
 abbrev pub after_device : (name line : List ℕ) → List ℕ
 after_device name [] = name
 after_device name (c ∷ line) = after_device (if c == 58 then line else name) line

@@ -182,7 +182,8 @@ fn said_by(condition: Condition) -> Option<bool>
 
 // A condition of these words.
 fn with_words(switches: &[Switch], words: &[&[u8]]) -> Condition
-    ensures { result ≡ with_words (map switch_view switches.now) (map (λ word. word.now) words.now) no_words }
+    ensures { result
+        ≡ with_words (map switch_view switches.now) (map (λ word. word.now) words.now) no_words }
 {
     let mut condition = Condition {
         any: false,
