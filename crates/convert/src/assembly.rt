@@ -260,6 +260,7 @@ fn put_condition(
 
 // The lines of a file that is included, and of those that it includes, where files may be so deep.
 #[cycle(putting)]
+#[tactic(auto, using(crate::proofs::Deeper::deeper, crate::proofs::Deeper::deepest))]
 fn put_file<'a>(
     alloc: Global,
     advice: &Advice,
