@@ -2,10 +2,10 @@
 
 ghost use Rattle.std.specs.Prelude.{◌≡◌, [], map, IfOk};
 ghost use Rattle.convert.specs.Assembly.{as_it_is, assembled, conditioned, controlled, blocks_put, file_put, included, line_of_source, line_put, lines_put, note_open, parts_of, parts_with, places_from, plain_line, switched, switched_by, switched_if, told_on, told_open, value_at, with_line, with_names, with_note, with_told, with_wanted};
-ghost use Rattle.convert.specs.Controls.{kind_at};
+ghost use Rattle.convert.specs.Controls.{argument_of, kind_at};
 ghost use Rattle.convert.specs.Lines.{lines_of_file};
 ghost use Rattle.convert.specs.Blocks.{blocks_after};
-ghost use Rattle.convert.specs.Switches.{switch_view};
+ghost use Rattle.convert.specs.Switches.{items_of, switch_view};
 
 use crate::advice::Advice;
 use crate::blocks::{Block, Concern, applies, change_blocks, concern_at};
@@ -155,6 +155,22 @@ fn add_names<'a>(
     }
 }
 
+// Sets or resets the switches in the group of the control at the front of a line.
+fn add_group<'a>(
+    alloc: Global,
+    advice: &Advice,
+    place: Place,
+    on: bool,
+    line: &'a [u8],
+    assembly: &mut Assembly<'a>,
+) -> Result<(), AllocError>
+    ensures { IfOk result (λ _. parts_of assembly.new
+        ≡ with_names advice.now place on (items_of (argument_of line.now)) (parts_of assembly.old)) }
+{
+    let items = items_of(alloc, argument_of(line))?;
+    add_names(advice, place, on, items.as_slice(), assembly)
+}
+
 // Sets or resets the switches of the control at the front of a line, if it has any.
 fn switch_by<'a>(
     alloc: Global,
@@ -166,18 +182,16 @@ fn switch_by<'a>(
     ensures { IfOk result (λ _. parts_of assembly.new
         ≡ switched_by advice.now place line.now (kind_at line.now) (parts_of assembly.old)) }
 {
-    let on = match kind_at(line) {
-        ControlKind::Set => true,
-        ControlKind::Reset => false,
+    match kind_at(line) {
+        ControlKind::Set => add_group(alloc, advice, place, true, line, assembly),
+        ControlKind::Reset => add_group(alloc, advice, place, false, line, assembly),
         ControlKind::Include
         | ControlKind::If
         | ControlKind::ElseIf
         | ControlKind::Else
         | ControlKind::EndIf
-        | ControlKind::Other => return Ok(()),
-    };
-    let items = items_of(alloc, argument_of(line))?;
-    add_names(advice, place, on, items.as_slice(), assembly)
+        | ControlKind::Other => Ok(()),
+    }
 }
 
 // Sets and resets the switches of a line, up to a control that ends it.
