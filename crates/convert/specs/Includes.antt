@@ -1,5 +1,5 @@
 -- The files that INCLUDE names.
-use Rattle.std.specs.Prelude.{ℕ, ◌+◌, ◌-◌, Bool, ◌==◌, if◌then◌else◌, Option, None, Some}
+use Rattle.std.specs.Prelude.{ℕ, ◌+◌, ◌-◌, Bool, ◌==◌, ◌||◌, if◌then◌else◌, Option, None, Some}
 use Rattle.std.specs.Prelude.{List, [], ◌∷◌, ◌++◌, length, map, take, get_or}
 use Rattle.std.specs.List.{flat_map}
 use Rattle.std.specs.Char.{to_ascii_uppercase, to_ascii_lowercase}
@@ -26,7 +26,7 @@ file_name argument =
 
 -- whether a slash (47) ends the name of a folder, or it has none
 abbrev pub ends_folder : List ℕ → Bool
-ends_folder folder = get_or folder (length folder - 1) 47 == 47
+ends_folder folder = (length folder == 0) || (get_or folder (length folder - 1) 0 == 47)
 
 -- a folder with a slash at its end
 abbrev pub with_slash : List ℕ → List ℕ
