@@ -24,14 +24,13 @@ word_length (c ∷ line) = if is_ascii_alphabetic c then 1 + word_length line el
 -- what a word is, where the case of letters does not count
 abbrev pub kind_of : List ℕ → ControlKind
 kind_of word =
-    if str_eq_ignore_ascii_case word (codes "INCLUDE") then Include
-    else (if str_eq_ignore_ascii_case word (codes "IC") then Include
+    if str_eq_ignore_ascii_case word (codes "INCLUDE") || str_eq_ignore_ascii_case word (codes "IC") then Include
     else (if str_eq_ignore_ascii_case word (codes "IF") then If
     else (if str_eq_ignore_ascii_case word (codes "ELSEIF") then ElseIf
     else (if str_eq_ignore_ascii_case word (codes "ELSE") then Else
     else (if str_eq_ignore_ascii_case word (codes "ENDIF") then EndIf
     else (if str_eq_ignore_ascii_case word (codes "SET") then Set
-    else (if str_eq_ignore_ascii_case word (codes "RESET") then Reset else Other)))))))
+    else (if str_eq_ignore_ascii_case word (codes "RESET") then Reset else Other))))))
 
 -- what the word at the front is
 abbrev pub kind_at : List ℕ → ControlKind

@@ -36,7 +36,7 @@ pub(crate) fn is_same(one: &[u8], other: &[u8]) -> bool
 pub(crate) fn is_blank(byte: u8) -> bool
     ensures { result ≡ is_blank byte }
 {
-    byte == b' ' || byte == b'\t' || byte == b'\r'
+    byte == b' ' || (byte == b'\t' || byte == b'\r')
 }
 
 /// What follows the blanks at the front.

@@ -59,7 +59,7 @@ fn is_on(switches: &[Switch], name: &[u8]) -> bool
 fn is_operator(word: &[u8]) -> bool
     ensures { result ≡ is_operator word.now }
 {
-    is_same(word, b"NOT") || is_same(word, b"AND") || is_same(word, b"OR")
+    is_same(word, b"NOT") || (is_same(word, b"AND") || is_same(word, b"OR"))
 }
 
 // A letter, a digit, `$` or `_`.
@@ -95,7 +95,7 @@ fn begins_name(word: &[u8]) -> bool
 fn is_name(word: &[u8]) -> bool
     ensures { result ≡ is_name word.now }
 {
-    begins_name(word) && has_name_bytes(word) && !is_operator(word)
+    begins_name(word) && (has_name_bytes(word) && !is_operator(word))
 }
 
 // A condition that is not understood.
