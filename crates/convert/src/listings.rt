@@ -99,7 +99,7 @@ fn note_listed(
 // Adds a note on a line of a number.
 fn tell(number: usize, text: &'static str, notes: &mut Vec<PlacedNote>) -> Result<(), AllocError>
     ensures { IfOk result (λ _. notes.new.items
-        ≡ notes.old.items ++ (record { place = line_of_source number; text = text }) ∷ []) }
+        ≡ notes.old.items ++ (record { place = line_of_source number; text = text.entry }) ∷ []) }
 {
     let place = line_of_source(number);
     notes.push(PlacedNote { place, text })?;
