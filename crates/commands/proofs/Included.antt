@@ -24,7 +24,7 @@ module _ (was files : Option Directory) (kept : KeepsFiles was files) where
 
   pub was_looked : {names : List (List ℕ)} {found : Option (List ℕ × List ℕ)} → LooksUp files names found → LooksUp was names found
   was_looked nowhere = nowhere
-  was_looked (here {name = name} {text = text} there) = here (was_there was files name text kept there)
+  was_looked (here {name = name} text there) = here text (was_there was files name text kept there)
   was_looked (elsewhere {name = name} missing looks) = elsewhere (was_missing name missing) (was_looked looks)
 
   pub was_stopped : {names : List (List ℕ)} {stop : List ℕ} → StopsLooking files names stop → StopsLooking was names stop
@@ -34,7 +34,7 @@ module _ (was files : Option Directory) (kept : KeepsFiles was files) where
   module _ (advice : Advice) (wanted : ConvertWanted) (before : List PlacedNote) (source : List ℕ) where
     were_looked : {entries : List Entry} → Looks advice wanted files before source entries → Looks advice wanted was before source entries
     were_looked begun = begun
-    were_looked (further looks next found) = further (were_looked looks) next (was_looked found)
+    were_looked (further entry looks next found) = further entry (were_looked looks) next (was_looked found)
 
     pub was_included : (entries : List Entry) → IsIncluded advice wanted files before source entries → IsIncluded advice wanted was before source entries
     was_included entries included = record { looked = were_looked included.looked; enough = included.enough }
@@ -81,7 +81,7 @@ module _ {A : Type 0} (f : A → List ℕ) (files : Option Directory) (whole : L
   found_next name found d [] one is there on = absurd (omega (arith, one))
   found_next name found d (v ∷ more) one is (text, there, found_is) on =
       subst (λ (one : List ℕ × List ℕ). LooksUp files whole (Some one)) (sym found_is)
-      (on.found (Some (name, plain text)) (subst (λ (n : List ℕ). LooksUp files (n ∷ map f more) (Some (name, plain text))) is (here there)))
+      (on.found (Some (name, plain text)) (subst (λ (n : List ℕ). LooksUp files (n ∷ map f more) (Some (name, plain text))) is (here text there)))
 
   -- it can't be read
   pub stops_next : (name : List ℕ) (d : A) (rest : List A) → 1 ≤ length rest → name ≡ f (get_or rest 0 d) → LooksOn files whole (map f rest) → StopsLooking files whole name
@@ -101,7 +101,7 @@ module _ (advice : Advice) (wanted : ConvertWanted) (files : Option Directory) (
   pub one_more : (entries made : List Entry) (entry : Entry) → Looks advice wanted files before source entries → length entries < most_names wanted
       → first_of (put_together advice wanted entries before source).wanted ≡ Some entry.name.items → IsLookedUp wanted files entry → made ≡ entries ++ entry ∷ []
       → Looks advice wanted files before source made
-  one_more entries made entry looks few first found same = rw same (further looks (record { few = few; first = first }) found)
+  one_more entries made entry looks few first found same = rw same (further entry looks (record { few = few; first = first }) found)
 
   pub stops_next_name : (entries : List Entry) (name stop : List ℕ) → Looks advice wanted files before source entries → length entries < most_names wanted
       → first_of (put_together advice wanted entries before source).wanted ≡ Some name → StopsLooking files (candidates wanted.folders wanted.file name) stop

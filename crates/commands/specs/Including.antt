@@ -25,7 +25,7 @@ FindsText files name (Some found) =
 -- what was found under these names: the first of which there is a file, with its text plain
 pub data LooksUp (files : Option Directory) : List (List ℕ) → Option (List ℕ × List ℕ) → Type 0 where
   nowhere : LooksUp files [] None
-  here : {name text : List ℕ} {names : List (List ℕ)}
+  here : {name : List ℕ} (text : List ℕ) {names : List (List ℕ)}
       → HasFile files name text
       → LooksUp files (name ∷ names) (Some (name, plain text))
   elsewhere : {name : List ℕ} {names : List (List ℕ)} {found : Option (List ℕ × List ℕ)}
@@ -74,7 +74,7 @@ module _ (advice : Advice) (wanted : ConvertWanted) (files : Option Directory) (
     -- what was looked for, in its order
     pub data Looks : List Entry → Type 0 where
       begun : Looks []
-      further : {entries : List Entry} {entry : Entry}
+      further : {entries : List Entry} (entry : Entry)
           → Looks entries
           → IsNext advice wanted before source entries entry.name.items
           → IsLookedUp wanted files entry
