@@ -2,7 +2,7 @@
 use Rattle.commands.proofs.Prelude.{◌≡◌, ◌<◌, ◌≤◌, ℕ, List, [], length, map, Option, inl, inr, refl, sym, ap, subst, ◌∙◌, ◌⊎◌, arith, Ending, Done, Refused, status_of, AppendsBeginning, Appends, Keeps, Directory, HasFile, KeepsFiles, Tells, memory_line, refusal_line, file_line, CountsFailure, TellsUnwritten, ConvertWanted}
 use Rattle.words.specs.declared.limits.TheConstants.{LONGEST_SOURCE}
 use Rattle.literally.specs.declared.fault.Fault as expansion_fault
-use Rattle.words.specs.Spelling.{Lexeme}
+use Rattle.words.specs.declared.word.Word.{Word}
 use Rattle.words.proofs.LawsReadings.{one_reading}
 use Rattle.literally.specs.Expansion.{Expands}
 use Rattle.literally.proofs.LawsOneExpansion.{not_both}
@@ -33,7 +33,7 @@ module _ (text : List ℕ) where
       (one_reading text).not_both mistyped.read.expansion.words of_words mistyped.read.expansion.spelling.spelled first
   not_refused fault (wrong, mistyped) (no_expansion words spelled found) =
       let same : words ≡ mistyped.read.expansion.words = (one_reading text).one_spelling words mistyped.read.expansion.words spelled mistyped.read.expansion.spelling.spelled in
-      not_both found (subst (λ (w : List Lexeme). Expands w mistyped.read.output) (sym same) mistyped.read.expansion.expanded)
+      not_both found (subst (λ (w : List Word). Expands w mistyped.read.output) (sym same) mistyped.read.expansion.expanded)
 
   -- a text that derives a tree is a list of words that has an expansion
   mistyped_is_converted : (fault : ReadFault) → length text ≤ LONGEST_SOURCE → IsMistyped text → HasNoConversion text fault → ⊥

@@ -1,6 +1,6 @@
 -- The files that a source includes: what is known of files stays known where they stayed.
 use Rattle.commands.proofs.Prelude.{◌≡◌, ℕ, ◌≤◌, ◌<◌, ◌-◌, List, [], ◌∷◌, ◌++◌, length, drop, map, get_or, Option, None, Some, inl, inr, refl, sym, ap, subst, ◌∙◌, arith, Directory, KeepsFiles, ConvertWanted}
-use Rattle.std.proofs.Common.{take, take-length}
+use Rattle.std.proofs.Common.{take, take_all}
 use Rattle.host.specs.Files.{FindsFile}
 use Rattle.host.proofs.FilesRead.{was_there}
 use Rattle.convert.specs.declared.advice.Advice.{Advice}
@@ -65,7 +65,7 @@ looks_step files whole names name missing on = record {
 left_is : {A : Type 0} (v : A) (more : List A) → take (length (v ∷ more) - 1) (drop 1 (v ∷ more)) ≡ more
 left_is v more =
     let count : length (v ∷ more) - 1 ≡ length more = omega arith in
-    ap (λ (k : ℕ). take k more) count ∙ take-length more
+    ap (λ (k : ℕ). take k more) count ∙ take_all _ more (omega arith)
 
 module _ {A : Type 0} (f : A → List ℕ) (files : Option Directory) (whole : List (List ℕ)) where
   -- there is no file of the next name

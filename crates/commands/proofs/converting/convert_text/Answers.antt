@@ -11,6 +11,6 @@ returns-in-Ok-Mistyped-clause-converted g c =
     held_converted _ _ _ _ _ _ _ _ _ _ _ _ _ refl
     (rewritten_printed _ _ _ _ _ _ _ _ _ _ _ (omega arith) (rw c.in-Ok-Mistyped.field-0-is at c.in-Ok-Mistyped.ensures) c.rewrite.ensures.converted)
 
-pub returns-clause-converted : goal.returns-clause-converted
-returns-clause-converted g c =
+pub returns-in-Err-Memory-clause-converted : goal.returns-in-Err-Memory-clause-converted
+returns-in-Err-Memory-clause-converted g c =
     held_converted _ _ _ _ _ _ _ _ _ _ _ _ _ refl (text_unheld _ _ _ _ _ _ _ _ _ None _ (ap status_of c.refuse_memory.ensures.ending) c.refuse_memory.ensures.line)

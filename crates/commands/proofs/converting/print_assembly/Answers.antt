@@ -8,7 +8,7 @@ returns-in-Ok-clause-converted g c =
 
 pub returns-in-Err-Fault-clause-converted : goal.returns-in-Err-Fault-clause-converted
 returns-in-Err-Fault-clause-converted g c =
-    parts_refused _ _ _ _ _ _ _ None _ _ (ap status_of c.refuse_fault.ensures.ending) (rw c.in-Err-Fault.field-0-is at c.in-Err-Fault.ensures.refused) c.refuse_fault.ensures.told
+    parts_refused _ _ _ _ _ _ _ None _ _ (ap status_of c.refuse_fault.ensures.ending) (rw c.in-Err-Fault.field-0-is at c.in-Err-Fault.ensures.refused) (rw c.in-Err-Fault.field-0-is at c.refuse_fault.ensures.told)
 
-pub returns-clause-converted : goal.returns-clause-converted
-returns-clause-converted g c = parts_unheld _ _ _ _ _ _ _ None _ (ap status_of c.refuse_memory.ensures.ending) c.refuse_memory.ensures.line
+pub returns-in-Err-Memory-clause-converted : goal.returns-in-Err-Memory-clause-converted
+returns-in-Err-Memory-clause-converted g c = parts_unheld _ _ _ _ _ _ _ None _ (ap status_of c.refuse_memory.ensures.ending) c.refuse_memory.ensures.line
