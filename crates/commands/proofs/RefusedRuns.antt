@@ -6,34 +6,7 @@ unfoldable use Rattle.commands.specs.RefusedRuns.{RefusesRun, Undelivered}
 use Rattle.commands.proofs.OutputFiles.{kept_then_outputs}
 use Rattle.commands.proofs.Printed.{stays_written}
 
--- why a run that had ended was not delivered
-module _ (names outputs : List (List ℕ)) (lines : List ℕ) (old new : Option Directory) (before after : ℕ) (err_old err_new : Option (List ℕ)) where
-  pub file_stops : (out : Option (List ℕ)) (name was : Bor (List ℕ)) → CountsFailure before after → name ≡ was → StopsOutputs names outputs was.now old new
-      → Tells (file_line name.now) err_old err_new → Undelivered names outputs old new before after err_old err_new out out lines
-  unfolding Undelivered
-  file_stops out name was counted same stopped told = inl (record {
-    told = record {
-      counted = counted;
-      name = name.now;
-      stopped = subst (λ (n : Bor (List ℕ)). StopsOutputs names outputs n.now old new) (sym same) stopped;
-      told = told;
-    };
-    nothing = stays_written out;
-  })
-
-  pub memory_stops : (out : Option (List ℕ)) → after ≡ before → LeavesOutputs names outputs old new → Tells memory_line err_old err_new
-      → Undelivered names outputs old new before after err_old err_new out out lines
-  unfolding Undelivered
-  memory_stops out count files told = inr (inl (record { files = files; memory = record { count = count; told = told; nothing = stays_written out } }))
-
-  pub showing_stops : (bytes out now : Option (List ℕ)) (ended : Type 0) → bytes ≡ dash_bytes names outputs → after ≡ before → ChangesFiles old new (with_outputs names outputs)
-      → ended ⊎ StopsShowing bytes lines err_old err_new out now → ended ⊎ Undelivered names outputs old new before after err_old err_new out now lines
-  unfolding Undelivered
-  showing_stops bytes out now ended is count files (inl done) = inl done
-  showing_stops bytes out now ended is count files (inr shown) =
-      inr (inr (inr (record { files = files; count = count; shown = subst (λ (b : Option (List ℕ)). StopsShowing b lines err_old err_new out now) is shown })))
-
--- the same after files that stayed
+-- why a run that had ended was not delivered, after files that stayed
 module _ (old mid new : Option Directory) (kept : KeepsFiles old mid) (names outputs : List (List ℕ)) where
   kept_then_stops : (name : List ℕ) → StopsOutputs names outputs name mid new → StopsOutputs names outputs name old new
   kept_then_stops name stops = record {
@@ -110,3 +83,30 @@ module _ (refuses all : (old new : Option (List ℕ)) → Type 0) (prints every 
     printed = so run.status run.outputs (Some []) (Some run.lines) run.printed;
     undelivered = subst (λ (l : List (List ℕ)). Undelivered l run.outputs old new before after err_old err_new out done run.lines) named run.undelivered;
   })
+
+-- a file that was not written, memory that ran out there, and standard output
+module _ (names outputs : List (List ℕ)) (lines : List ℕ) (old new : Option Directory) (before after : ℕ) (err_old err_new : Option (List ℕ)) where
+  pub file_stops : (out : Option (List ℕ)) (name was : Bor (List ℕ)) → CountsFailure before after → name ≡ was → StopsOutputs names outputs was.now old new
+      → Tells (file_line name.now) err_old err_new → Undelivered names outputs old new before after err_old err_new out out lines
+  unfolding Undelivered
+  file_stops out name was counted same stopped told = inl (record {
+    told = record {
+      counted = counted;
+      name = name.now;
+      stopped = subst (λ (n : Bor (List ℕ)). StopsOutputs names outputs n.now old new) (sym same) stopped;
+      told = told;
+    };
+    nothing = stays_written out;
+  })
+
+  pub memory_stops : (out : Option (List ℕ)) → after ≡ before → LeavesOutputs names outputs old new → Tells memory_line err_old err_new
+      → Undelivered names outputs old new before after err_old err_new out out lines
+  unfolding Undelivered
+  memory_stops out count files told = inr (inl (record { files = files; memory = record { count = count; told = told; nothing = stays_written out } }))
+
+  pub showing_stops : (bytes out now : Option (List ℕ)) (ended : Type 0) → bytes ≡ dash_bytes names outputs → after ≡ before → ChangesFiles old new (with_outputs names outputs)
+      → ended ⊎ StopsShowing bytes lines err_old err_new out now → ended ⊎ Undelivered names outputs old new before after err_old err_new out now lines
+  unfolding Undelivered
+  showing_stops bytes out now ended is count files (inl done) = inl done
+  showing_stops bytes out now ended is count files (inr shown) =
+      inr (inr (inr (record { files = files; count = count; shown = subst (λ (b : Option (List ℕ)). StopsShowing b lines err_old err_new out now) is shown })))
