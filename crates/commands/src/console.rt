@@ -39,6 +39,9 @@ use std::io::Write;
 /// at its greatest value, and a wrong value of the command line. Where no such file is reported, sources that are refused
 /// with status 1 have a fault that is told, with nothing printed, or memory ran out, or standard output could not be
 /// written: then a beginning of what is printed of them may be there.
+/// A run with files of ports that is refused has begun none of them, and printed nothing, unless it had ended. Once it had,
+/// the files before one that could not be written are whole, and those after it as they were; standard output comes last.
+/// With status 2 no file changes.
 #[tactic(auto, using(crate::proofs::OrdersKept::status_bound, crate::proofs::OrdersKept::done_is, crate::proofs::OrdersKept::not_done, crate::proofs::OrdersKept::not_refused, crate::proofs::OrdersKept::not_wrong, crate::proofs::OrdersKept::refused_is, crate::proofs::TextsTold::wrong_is))]
 pub fn run_command<F: Files, O: Write, E: Write>(
     alloc: Global,
