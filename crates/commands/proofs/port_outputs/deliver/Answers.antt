@@ -20,7 +20,7 @@ pub returns-in-Ok-clause-undelivered : goal.returns-in-Ok-clause-undelivered
 returns-in-Ok-clause-undelivered g c = showing_stops _ _ _ _ _ _ _ _ _ _ _ _ _ c.bytes_for_output.ensures c.in-Ok.ensures.count c.in-Ok.ensures.ok c.show_run.ensures.stopped
 
 pub returns-in-Err-Fault-clause-undelivered : goal.returns-in-Err-Fault-clause-undelivered
-returns-in-Err-Fault-clause-undelivered g c = inr (file_stops _ _ _ _ _ _ _ _ _ _ c.in-Err-Fault.name _ (rw c.in-Err-Fault.field-0-is at c.in-Err-Fault.ensures.failed) c.in-Err-Fault.name-is
+returns-in-Err-Fault-clause-undelivered g c = inr (file_stops _ _ _ _ _ _ _ _ _ _ _ c.in-Err-Fault.name (rw c.in-Err-Fault.field-0-is at c.in-Err-Fault.ensures.failed) c.in-Err-Fault.name-is
     (rw c.in-Err-Fault.field-0-is at c.in-Err-Fault.ensures.stopped) c.refuse_file.ensures.told)
 
 pub returns-in-Err-Memory-clause-undelivered : goal.returns-in-Err-Memory-clause-undelivered
