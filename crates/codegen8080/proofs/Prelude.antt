@@ -1,9 +1,8 @@
 -- The names that the proofs of this crate cite, passed on from one place. Declares nothing.
 pub use Rattle.std.proofs.{Common.{Bool, Err, List, None, Ok, OnOk, Option, Result, Some, [], add-one, ap, append-nil, append_assoc, arith, cond, drop, false, find, if◌then◌else◌, inl, inr, length, map, nat_le, nat_lt, not, option_and_then, option_map, refl, replicate, rules, slice_get, slice_index, slice_index_or, subst, suc, sym, take, true, unwrap_or, zero, ℕ, ◌&&◌, ◌++◌, ◌+◌, ◌-◌, ◌<◌, ◌==◌, ◌||◌, ◌∙◌, ◌∷◌, ◌≡◌, ◌≤◌, ◌⊎◌}, lemmas.Bool.{eq-eqb, le-leb, lt-ltb}, lemmas.List.{drop_all, drop_at, map-append}, lemmas.Option.{none-some}}
 pub use Rattle.std.specs.{List.{list_all, range_with_len, slice_range}, Option.{option_flatten, option_map_or}, Prelude.{All, IfOk, IfSome, IsTrue, min}, Str.{bytes_eq}}
-pub use Rattle.symbols.proofs.Keys.{same_keys}
 pub use Rattle.symbols.specs.Names.{is_name}
-pub use Rattle.object_modules.specs.{Before.{same_segment}, Module.{Fixup, ObjectModule, Places, Public, SetByte, are_new, begins_word, is_among, is_both, is_movable, is_plain, is_target, is_valid_public, is_valid_segment, words_are_whole}, Rules.{fix_end}, Runs.{fixup_at}, Spelling.{set_in}, Stored.{IsStored, are_longest, fixes_ascend, is_in_a_run, places_stored}, Text.{Run, before_runs, runs_from}, Views.{AreKept, owned_public_view}, declared.object.ModuleParts.{ModuleParts}, declared.segment.Fix.{Fix}, declared.segment.FixKind.{FixKind}, declared.segment.Segment.{Segment, TheVariants.{Absolute, Code, Data, Stack}}, declared.segment.Target.{Target, TheVariants.{External, InSegment}}, declared.segment.TheConstants.{SEGMENT_LIMIT}, internal.Joining.{run_at, with_run, with_runs}}
+pub use Rattle.object_modules.specs.{Before.{same_segment}, Module.{Fixup, ObjectModule, Places, Public, SetByte, are_new, begins_word, is_among, is_both, is_movable, is_plain, is_target, is_valid_public, is_valid_segment, words_are_whole}, Rules.{fix_end}, Runs.{fixup_at, with_run}, Spelling.{set_in}, Stored.{IsStored, are_longest, fixes_ascend, is_in_a_run, places_stored}, Text.{Run, before_runs, runs_from}, Views.{AreKept, owned_public_view}, declared.object.ModuleParts.{ModuleParts}, declared.segment.Fix.{Fix}, declared.segment.FixKind.{FixKind}, declared.segment.Segment.{Segment, TheVariants.{Absolute, Code, Data, Stack}}, declared.segment.Target.{Target, TheVariants.{External, InSegment}}, declared.segment.TheConstants.{SEGMENT_LIMIT}, internal.Joining.{run_at, with_runs}}
 pub use Rattle.isa8080.specs.{Code.{bytes_of}, State.{high_byte, low_byte, wrap}, declared.instr.Instr.{Instr, TheVariants.{Hlt}}, declared.instr.Pair.TheVariants.{Sp}}
 pub use Rattle.asm8080.proofs.{Parts.{stands_in_parts}, Segments.{and_true, left_true, places_length, right_true, run_places, runs_longest, set_length, set_well, valid_bytes}}
 pub use Rattle.asm8080.specs.{Assembled.{Assembled, Assembles, FitsSegment, IsFinished, fixed_bytes, places_of, segment_of, set_bytes}, Items.{Assembly, Layout, Stands, instruction_with, size_of_items, word_of}, Standing.{BytesStand}, declared.fault.Fault.{Fault as CodeFault}, declared.item.Item.{Item, TheVariants.{Address, Byte, Gap, Mark, Plain, WithWord}}, declared.item.Reference.{Reference, TheVariants.{AtLabel, AtNumber, AtTarget}}, declared.item.WordForm.TheVariants.{LoadPair}}
@@ -11,7 +10,7 @@ pub use Rattle.runtime8080.specs.{Routines.{IsRoutine, size_of_routine}, declare
 pub use Rattle.treecode.specs.{declared.lists.Range.{Range}, declared.module.Content.{Content}, declared.module.ExternalName.{ExternalName}, declared.module.PublicName.{PublicName}, declared.module.PublicPlace.{PublicPlace, TheVariants.{Object, Procedure}}, declared.module.TreeModule.{TreeModule}, declared.procedure.Parameter.{Parameter}, declared.procedure.ProcedureKind.{ProcedureKind}, declared.procedure.TreeProcedure.{TreeProcedure}, declared.statement.Statement.{Statement, Statement as TreeStatement}, declared.statement.StatementNumber.{StatementNumber}}
 pub use Rattle.frames.specs.{Frames.{HasFrame, HasNothing, IsPlanOf, LiesApart}, declared.frame_plan.FramePlan.{FramePlan}}
 pub use Rattle.steps8080.proofs.Numbered.{items_stay, use_either, writes_nothing, writes_then}
-pub use Rattle.steps8080.specs.{Externals.{Extends, entry}, Facts.{no_facts}, Step.{label_after, label_of}, Writer.{Finishes, NumbersNames, Writes, Written, in_front, known_label, numbered, numbered_item, numbered_reference, place_of_known, place_of_label, stack_end_item}, declared.facts.Facts.{Facts}, declared.sites.site.Site.{Site}, declared.step.LabelNumber.{LabelNumber}, declared.step.Step.{Step, TheVariants.{Holds}}, declared.step.Steps.{Steps}}
+pub use Rattle.steps8080.specs.{Externals.{Extends, entry}, Facts.{no_facts}, Step.{label_after, label_of}, Writer.{Finishes, NumbersNames, Writes, Written, in_front, known_label, numbered, numbered_item, numbered_reference, place_of_known, place_of_label, stack_end_item}, declared.facts.Facts.{Facts}, declared.sites.site.Site.{Site}, declared.step.LabelNumber.{LabelNumber}, declared.step.Step.{Step, TheVariants.{Holds}}}
 pub use Rattle.exprgen8080.proofs.{CodeLaws.{found_deeper, found_map, found_then, steps_are_code}, Emitting.{are_kept, are_labels_kept, emits_then, has_itself, left_is, none_is, none_noted, notes_then}}
 pub use Rattle.exprgen8080.specs.{Code.{IsFoundDeep}, Emission.{AreWritten, MarkWritten, NoneWritten, PlainWritten, call_routine, has_routine, index_of_routine, knowing, module_label_of_routine, module_routine_label}, Emitted.{EmitsSteps, HasAll, IsEmpty, NotesCalled}, Labelled.{AreLabelled}, declared.emission.Emission.{Emission}}
 unfoldable pub use Rattle.exprgen8080.specs.Code.{code_of_part, code_of_steps}

@@ -10,7 +10,7 @@ use crate::carrying::site_of;
 use crate::generator::Generator;
 use crate::procedures::{plan_end, plan_entry};
 use asm8080::WordForm;
-use exprgen8080::{LabelNumber, Step, hold_labels};
+use exprgen8080::{LabelNumber, Step};
 use frames::{FramePlan, plan as frame_plan};
 use isa8080::{Instr, Pair};
 use statements8080::Body;
@@ -61,7 +61,6 @@ fn plan_next_entry(generator: &mut Generator, body: &Body<'_>) -> Result<(), All
         ≡ record (generator.old.emission) { steps = generator.new.emission.steps } }
     ensures goes_on { generator.new.goes_on ≡ generator.old.goes_on }
 {
-    hold_labels(generator.emission.steps.labels);
     let first = generator.emission.steps.labels(0);
     generator.plan.take_labels_from(first);
     plan_entry(body, &mut generator.plan)?;

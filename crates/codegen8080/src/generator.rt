@@ -13,7 +13,7 @@ ghost use Rattle.codegen8080.specs.internal.Carrying.{CarriesOut};
 use crate::carrying::{carry, site_of};
 use crate::meeting::{Here, here_after, waiting_after};
 use crate::statements::plan_statement;
-use exprgen8080::{Emission, Facts, hold_labels};
+use exprgen8080::{Emission, Facts};
 use statements8080::{Body, Plan, Planned};
 use std::alloc::{AllocError, Global};
 use treecode::{Range, Statement, StatementNumber, TreeModule};
@@ -119,7 +119,6 @@ impl Generator {
             ≡ record (self.old.emission) { steps = self.new.emission.steps } }
         ensures goes_on { self.new.goes_on ≡ self.old.goes_on }
     {
-        hold_labels(self.emission.steps.labels);
         let site = self.emission.site(&site_of(body));
         let first = self.emission.steps.labels(0);
         self.plan.take_labels_from(first);

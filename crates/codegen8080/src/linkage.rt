@@ -1,55 +1,14 @@
 //! The EXTERNAL and PUBLIC names of a module, without duplicates.
 
-ghost use Rattle.std.specs.Prelude.{◌≡◌, [], ◌∷◌, ◌++◌, length, map, IfOk, IsTrue, OnOk};
-ghost use Rattle.std.specs.Str.{bytes_eq};
-ghost use Rattle.indexmap.specs.IndexSet.{insert_key};
+ghost use Rattle.std.specs.Prelude.{◌≡◌, [], ◌∷◌, ◌++◌, length, map, IfOk, IsTrue};
 ghost use Rattle.symbols.specs.Names.{is_name};
-ghost use Rattle.object_modules.specs.Module.{is_among, may_have_publics};
+ghost use Rattle.object_modules.specs.Module.{may_have_publics};
 ghost use Rattle.object_modules.specs.Views.{owned_public_view};
 
-use indexmap::IndexSet;
 use object_modules::{Name, OwnedPublic};
 use std::alloc::{AllocError, Global};
 use std::marker::Model;
-
-// A set of names, in the order in which they were added.
-struct NameSet {
-    names: IndexSet<Name>,
-}
-
-impl Model for NameSet {
-    ghost use Rattle.std.specs.Prelude.{ℕ, List};
-
-    ghost Value = { List (List ℕ) };
-
-    ghost view = { λ set. set.names.keys };
-}
-
-impl NameSet {
-    // No names.
-    fn new(alloc: Global) -> NameSet
-        ensures { result ≡ [] }
-    {
-        NameSet {
-            names: IndexSet::new(alloc),
-        }
-    }
-
-    // Whether the set has a name.
-    fn contains(&self, name: Name) -> bool
-        ensures { result ≡ is_among name self.now }
-    {
-        self.names.contains(&name)
-    }
-
-    // Adds a name.
-    fn insert(&mut self, name: Name) -> Result<(), AllocError>
-        ensures { OnOk result (self.new ≡ insert_key bytes_eq self.old name) }
-    {
-        self.names.insert(name)?;
-        Ok(())
-    }
-}
+use symbols::NameSet;
 
 /// Returns the name, which is valid.
 pub(crate) fn valid(name: Name) -> Name
@@ -171,12 +130,6 @@ impl LinkageNames {
 }
 
 // Written out so that the fields are dropped in one place.
-impl Drop for NameSet {
-    fn drop(self) {
-        let NameSet { names: _ } = self;
-    }
-}
-
 impl Drop for LinkageNames {
     fn drop(self) {
         let LinkageNames {

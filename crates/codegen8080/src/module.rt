@@ -1,6 +1,6 @@
 //! Generation of object modules from modules of tree code.
 
-ghost use Rattle.std.specs.Prelude.{◌≡◌, ◌+◌, false, slice_index_or, Some, IfOk, OnOk};
+ghost use Rattle.std.specs.Prelude.{◌≡◌, false, slice_index_or, Some, IfOk, OnOk};
 ghost use Rattle.failure.specs.Failure.{IfFault};
 ghost use Rattle.codegen8080.specs.Modules.{IsCodeWritten, IsGenerated, all_routines, content_items, contents_items, has_main};
 ghost use Rattle.codegen8080.specs.Refusals.{IsNoSegment, MayRefuse};
@@ -21,6 +21,7 @@ use object_modules::ObjectModule;
 use runtime8080::Routine;
 use std::alloc::{AllocError, Global};
 use treecode::{Content, TreeModule, TreeProcedure};
+use trees::next_number;
 
 // The code of a module, and the label of its main program.
 struct ModuleCode {
@@ -57,16 +58,6 @@ fn is_main(tree: &TreeModule) -> bool
     ensures { result ≡ has_main tree.now }
 {
     tree.main.body.count > 0
-}
-
-// The next number. Fails past the greatest one.
-fn next_number(number: u32) -> Result<u32, AllocError>
-    ensures { IfOk result (λ next. next ≡ number + 1) }
-{
-    match number.checked_add(1) {
-        Some(next) => Ok(next),
-        None => Err(AllocError),
-    }
 }
 
 // Adds the code of procedures, numbered from 0.

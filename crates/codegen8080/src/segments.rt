@@ -1,16 +1,16 @@
 //! Segments of object modules, from assembled code.
 
-ghost use Rattle.std.specs.Prelude.{◌≡◌, ◌∷◌, ◌++◌, ◌≤◌, ◌<◌, [], All, Some, false, length, map, slice_index_or, slice_range, IfOk, OnOk};
+ghost use Rattle.std.specs.Prelude.{◌≡◌, ◌≤◌, ◌<◌, All, Some, false, length, map, slice_index_or, slice_range, IfOk, OnOk};
 ghost use Rattle.object_modules.specs.declared.segment.TheConstants.{SEGMENT_LIMIT};
 ghost use Rattle.object_modules.specs.Text.{runs_from};
-ghost use Rattle.object_modules.specs.internal.Joining.{with_run, with_runs};
+ghost use Rattle.object_modules.specs.internal.Joining.{with_runs};
 ghost use Rattle.asm8080.specs.Assembled.{segment_of, set_bytes};
 ghost use Rattle.codegen8080.specs.Targets.{with_targets};
 ghost use Rattle.codegen8080.specs.internal.Segments.{IsKept, KeepsFixes, retarget};
 
 use crate::targets::retargeted;
 use asm8080::CodeBytes;
-use object_modules::{Alignment, Run, SegmentBytes};
+use object_modules::{Alignment, Run, SegmentBytes, push_run};
 use std::alloc::{AllocError, Global};
 
 // Whether the byte at an index is set.
@@ -20,35 +20,6 @@ fn is_set_at(is_set: &[bool], index: usize) -> bool
     match is_set.get(index) {
         Some(is_set) => *is_set,
         None => false,
-    }
-}
-
-// Adds two runs, as one if the second begins at the end of the first.
-fn add_after(runs: &mut Vec<Run>, last: Run, run: Run) -> Result<(), AllocError>
-    ensures { OnOk result (runs.new.items ≡ runs.old.items ++ with_run (last ∷ []) run) }
-{
-    let mut last = last;
-    if run.offset() as usize == last.offset() as usize + last.bytes().len() {
-        last.append(run.bytes())?;
-        runs.push(last)?;
-    } else {
-        runs.push(last)?;
-        runs.push(run)?;
-    }
-    Ok(())
-}
-
-// Adds a run to others, joined with the last of them if it begins at its end.
-#[tactic(auto, using(object_laws::proofs::Merges::RunsJoined::with_run_last))]
-fn add_run(runs: &mut Vec<Run>, run: Run) -> Result<(), AllocError>
-    ensures { OnOk result (runs.new.items ≡ with_run runs.old.items run) }
-{
-    match runs.pop() {
-        Some(last) => add_after(runs, last, run),
-        None => {
-            runs.push(run)?;
-            Ok(())
-        }
     }
 }
 
@@ -71,7 +42,7 @@ fn add_bytes(
         return Ok(());
     }
     let bytes = Vec::from_slice(alloc, &bytes[start..end])?;
-    add_run(runs, Run::new(start as u16, bytes))
+    push_run(runs, Run::new(start as u16, bytes))
 }
 
 // The number of bytes.

@@ -1,5 +1,5 @@
 -- What the counter gives, and what a read does to its count.
-use Rattle.std.proofs.Common.{◌≡◌, ◌≢◌, ℕ, zero, suc, ◌+◌, ◌<◌, ◌≤◌, ◌⊎◌, min, List, [], ◌∷◌, ◌++◌, get_or, inl, inr, length, arith}
+use Rattle.std.proofs.Common.{◌≡◌, ◌≢◌, ℕ, ◌+◌, ◌<◌, ◌≤◌, ◌⊎◌, min, List, [], ◌∷◌, ◌++◌, get_or, inl, inr, arith}
 use Rattle.std.proofs.lemmas.List.FromFn.{get_or-range_with_len, length-range_with_len}
 use Rattle.std.proofs.lemmas.List.{get_or_past}
 use Rattle.std.proofs.lemmas.Bool.{cases_lt}
@@ -7,7 +7,7 @@ use Rattle.std.proofs.lemmas.Grind.{common_steps}
 use Rattle.std.specs.List.{range_with_len}
 use Rattle.ports.specs.declared.event.Event.{Event}
 use Rattle.ports.specs.Events.{read_event}
-use Rattle.ports.specs.Input.{IsScript, input_value, reads_of}
+use Rattle.ports.specs.Input.{input_value, reads_of}
 use Rattle.example_machine.specs.Counter.{counter_script}
 
 -- the numbers from 0 on, and 255 past their end
@@ -49,13 +49,5 @@ pub counts_no_other :
     → port ≢ 1
     → count ≡ min (reads_of (events ++ read_event port value ∷ []) 1) 255
 counts_no_other events count port value counted other = grind (arith, common_steps)
-
--- each queue holds bytes
-pub counter_holds_bytes : IsScript counter_script
-counter_holds_bytes zero k d below = let bad : k < 0 = below in absurd (omega (arith, bad))
-counter_holds_bytes (suc zero) k d below =
-    let few : k < 255 = rw (length-range_with_len 0 255) below in
-    let e : get_or (range_with_len 0 255) k d ≡ 0 + k = get_or-range_with_len 0 255 k d few in omega (arith, e)
-counter_holds_bytes (suc (suc port)) k d below = let bad : k < 0 = below in absurd (omega (arith, bad))
 
 pub ruleset counter = (counter_gives, other_gives, counts_read, counts_no_other)

@@ -4,6 +4,7 @@ ghost use Rattle.std.specs.Prelude.{◌≡◌, [], min, OnOk, OnErr};
 ghost use Rattle.ports.specs.Events.{AddsEvent, CountsFailure};
 ghost use Rattle.ports.specs.Input.{reads_of};
 ghost use Rattle.example_machine.specs.Counter.{counter_script};
+ghost use Rattle.example_machine.specs.internal.CounterBytes.{counter_holds_bytes};
 
 use ports::{Event, PortFault, Ports};
 use std::alloc::Global;
@@ -65,7 +66,7 @@ impl Ports for Devices {
 
     ghost failures = { λ devices. devices.failed };
 
-    fn hold_bytes(&self) {}
+    ghost holds_bytes = { λ devices. counter_holds_bytes };
 
     #[tactic(auto, using(crate::proofs::DevicesLemmas::counter))]
     fn input(&mut self, port: u8) -> Result<u8, PortFault> {

@@ -29,13 +29,6 @@ pub const ROUTINES: [Routine; 9] = [
     Routine::Move,
 ];
 
-/// Shows that a `u32` number of labels has 32 bits. It does nothing.
-pub fn hold_labels(labels: u32)
-    ensures { labels < 4294967296 }
-{
-    let _ = labels;
-}
-
 // The index of a routine in `ROUTINES`.
 fn routine_index(routine: Routine) -> u32
     ensures { result ≡ index_of_routine routine }
@@ -284,7 +277,6 @@ impl Emission {
         let start = self.steps.count();
         let here = self.site(site);
         plan_task(&here, part, &mut self.steps)?;
-        hold_labels(self.steps.labels);
         let end = self.steps.count();
         for index in start..end {
             if let Some(step) = self.steps.get(index) {

@@ -15,7 +15,7 @@ mod words;
 
 pub use byte_operators::{ByteForm, Operands};
 pub use byte_shifts::Shifted;
-pub use emission::{Emission, ROUTINES, hold_labels, routine_label};
+pub use emission::{Emission, ROUTINES, routine_label};
 pub use steps8080::{
     Base, Externals, Facts, Finished, LabelNumber, Located, Part, Site, Step, Steps, Task, Writer,
     reference_after,

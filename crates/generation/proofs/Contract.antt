@@ -1,11 +1,9 @@
 -- What is true of the object module of each module that tree code is.
-use Rattle.generation.proofs.Prelude.{IsObjectModule, ObjectModule, TreeModule, NumbersAreWords, nodes_of, HomesAreWords, IsGenerated, stored, has_names, is_object_of, has_segments, DoesWhereItLies, IsSoundlyMade, generated_does, OfItsModule}
+use Rattle.generation.proofs.Prelude.{IsObjectModule, ObjectModule, TreeModule, IsGenerated, stored, has_names, is_object_of, has_segments, DoesWhereItLies, IsSoundlyMade, generated_does, OfItsModule}
 use Rattle.image_laws.specs.{Objects.{IsObjectOf}, Segments.{HasSegments}, Names.{HasNames}}
 
 module _
     (tree : TreeModule) (object : ObjectModule)
-    (numbers : NumbersAreWords (nodes_of tree))
-    (homes : HomesAreWords tree.homes.items)
     (generated : IsGenerated tree object)
     (valid : IsObjectModule object)
   where
@@ -26,7 +24,7 @@ module _
         valid = valid;
       };
       facts = code.sound;
-      words = record { numbers = numbers; homes = homes };
+      words = record { numbers = tree.numbers_are_words; homes = tree.homes_are_words };
     }
 
     -- and so it does what the module says, and has its segments and its names

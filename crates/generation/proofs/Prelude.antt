@@ -1,10 +1,11 @@
 -- The names that the proofs of this crate cite, passed on from one place. Declares nothing.
+pub use Rattle.std.proofs.lemmas.Result.{IfOk-weaker}
 pub use Rattle.std.proofs.Common.{Bool, Err, IfOk, List, Ok, Result, Some, [], ap, arith, false, length, refl, slice_get, subst, suc, sym, true, ℕ, ◌+◌, ◌∙◌, ◌∷◌, ◌≡◌, ◌≤◌}
 pub use Rattle.std.specs.List.{AllZip}
 pub use Rattle.typed_trees.specs.{Numbers.{NumbersFitInModule}, TypedTrees.{TypedModule, TypedProcedure}, Weight.{constant_bytes}}
 unfoldable pub use Rattle.typed_trees.specs.Weight.{code_bound}
 pub use Rattle.object_modules.specs.{Module.{IsObjectModule, ObjectModule, length_of}, declared.segment.Segment.TheVariants.{Code}}
-pub use Rattle.treecode.specs.{HomeWords.{HomesAreWords}, Lowered.{IsLowered}, Nodes.{NumbersAreWords, nodes_of}, declared.module.TreeModule.{TreeModule}, declared.procedure.ProcedureKind.{ProcedureKind}, declared.procedure.TreeProcedure.{TreeProcedure}}
+pub use Rattle.treecode.specs.{Lowered.{IsLowered}, Nodes.{nodes_of}, declared.module.TreeModule.{TreeModule}, declared.procedure.ProcedureKind.{ProcedureKind}, declared.procedure.TreeProcedure.{TreeProcedure}}
 pub use Rattle.treecode_laws.proofs.Slots.{stored}
 pub use Rattle.treecode_laws.specs.Laid.{IsStored}
 pub use Rattle.codegen8080.specs.{Modules.{AreCodeOf, IsCodeOf, IsCodeOfMain, IsGenerated, has_main}, Refusals.{MayRefuse}, declared.fault.Fault.{Fault, TheVariants.{TooLong}}}

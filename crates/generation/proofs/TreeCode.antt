@@ -1,5 +1,5 @@
 -- What tree code of a module keeps of the module.
-use Rattle.generation.proofs.Prelude.{◌≡◌, ℕ, List, length, Some, slice_get, sym, ap, ◌∙◌, TypedModule, TypedProcedure, stored, TreeModule, TreeProcedure, IsLowered, NumbersAreWords, nodes_of, HomesAreWords, OfItsModule}
+use Rattle.generation.proofs.Prelude.{◌≡◌, ℕ, IfOk, IfOk-weaker, List, Result, length, Some, slice_get, sym, ap, ◌∙◌, TypedModule, TypedProcedure, stored, TreeModule, TreeProcedure, IsLowered, nodes_of, OfItsModule}
 use Rattle.std.specs.Prelude.{map, zip}
 use Rattle.trees.specs.declared.declaration.ScalarType.{ScalarType}
 use Rattle.layout.specs.{Storage.{Storage}, Sound.{IsSoundlyTyped}}
@@ -43,18 +43,24 @@ module _
       height = lowered.main.height;
     }
 
-pub keeps_module :
+keeps_module :
     (typed : TypedModule) (storage : Storage) (tree : TreeModule)
-    → NumbersAreWords (nodes_of tree)
-    → HomesAreWords tree.homes.items
     → IsLowered typed storage tree
     → KeepsModule typed storage tree
 unfolding KeepsModule OfItsModule
-keeps_module typed storage tree numbers homes lowered sound laid_out = record {
+keeps_module typed storage tree lowered sound laid_out = record {
   procedures = charged typed storage tree sound lowered;
   main = main_charged typed storage tree sound lowered;
   bound = tree_bound_is typed storage tree sound (stored typed storage laid_out) lowered;
   does = λ object generated valid.
-      code_does tree object numbers homes generated valid typed
+      code_does tree object generated valid typed
       (record { sound = sound; storage = storage; laid_out = laid_out; lowered = lowered });
 }
+
+-- so does that of a result, if there is one
+pub keeps_result :
+    {E : Type 0} (typed : TypedModule) (storage : Storage) (result : Result TreeModule E)
+    → IfOk result (IsLowered typed storage)
+    → IfOk result (KeepsModule typed storage)
+keeps_result typed storage result lowered =
+    IfOk-weaker result _ _ (λ tree is. keeps_module typed storage tree is) lowered

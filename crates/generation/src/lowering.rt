@@ -10,21 +10,17 @@ ghost use Rattle.generation.specs.TreeCode.{KeepsModule};
 
 use layout::Layout;
 use std::alloc::{AllocError, Global};
-use treecode::{TreeModule, hold_homes};
+use treecode::TreeModule;
 use typed_trees::Typed;
 
 /// A typed module as tree code, with its objects where its storage has them. Where the module is soundly typed and this is
 /// its storage, the tree code has the charges of the module and its code bound, and all code that is generated of it does
 /// on the machine what the module says.
-#[tactic(auto, using(crate::proofs::TreeCode::keeps_module))]
+#[tactic(auto, using(crate::proofs::TreeCode::keeps_result))]
 pub fn lower(alloc: Global, typed: &Typed, storage: &Layout) -> Result<TreeModule, AllocError>
     requires jumps { JumpsAreSound (module_view typed.now) }
     ensures lowered { IfOk result (IsLowered (module_view typed.now) (layout_view storage.now)) }
     ensures keeps { IfOk result (KeepsModule (module_view typed.now) (layout_view storage.now)) }
 {
-    let tree = treecode::lower(alloc, typed, storage)?;
-    // Looks at its numbers say that they are words.
-    tree.hold_words();
-    hold_homes(&tree);
-    Ok(tree)
+    treecode::lower(alloc, typed, storage)
 }

@@ -17,7 +17,7 @@ use codegen8080::Fault;
 use failure::Failure;
 use object_modules::ObjectModule;
 use std::alloc::Global;
-use treecode::{TreeModule, hold_homes};
+use treecode::TreeModule;
 
 /// The object module of a module: its constants and its code in the code segment, its variables in the data segment, its
 /// PUBLIC names, and the EXTERNAL names that it refers to. Wherever it lies, its procedures and its main program do on the
@@ -38,9 +38,7 @@ pub fn generate(alloc: Global, tree: &TreeModule) -> Result<ObjectModule, Failur
     ensures past { IfFault result (λ fault. IsPastBound tree.now fault) }
     ensures not_made { IfFault result (λ fault. MakesNone tree.now fault) }
 {
-    // Looks at its numbers say that they are words, and one at its name that an object module is valid.
-    tree.hold_words();
-    hold_homes(tree);
+    // A look at its name says that an object module is valid.
     let object = codegen8080::generate(alloc, tree)?;
     let _ = object.name();
     Ok(object)

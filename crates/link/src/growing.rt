@@ -1,14 +1,14 @@
 //! A segment of a merge, to which the contents of files are added one after another.
 
-ghost use Rattle.std.specs.Prelude.{◌≡◌, ◌+◌, ◌≤◌, ◌<◌, ◌++◌, ◌∷◌, [], length, filter_map, IfOk, OnOk};
+ghost use Rattle.std.specs.Prelude.{◌≡◌, ◌+◌, ◌≤◌, ◌<◌, ◌++◌, length, filter_map, IfOk, OnOk};
 ghost use Rattle.object_modules.specs.Displacements.{start_of};
 ghost use Rattle.object_modules.specs.Module.{width_of};
-ghost use Rattle.object_modules.specs.internal.Joining.{bytes_after, bytes_fixed, fix_kept, run_at, run_fixed, with_run};
+ghost use Rattle.object_modules.specs.internal.Joining.{bytes_after, bytes_fixed, fix_kept, run_at, run_fixed};
 ghost use Rattle.link_laws.specs.internal.Building.{AreWithin};
 ghost use Rattle.link_laws.specs.internal.Growing.{gain_by, grown_with, kept_by, nothing_grown, runs_with};
 
 use crate::resolved::Resolved;
-use object_modules::{Alignment, Fix, FixKind, Run, SegmentBytes};
+use object_modules::{Alignment, Fix, FixKind, Run, SegmentBytes, push_run};
 use objmod::Content;
 use std::alloc::{AllocError, Global};
 use std::marker::Model;
@@ -84,35 +84,6 @@ fn moved_run(
     Ok(Run::new(resolved.start(content.segment) + content.offset, bytes))
 }
 
-// Adds two runs, as one if the second begins at the end of the first.
-fn add_after(runs: &mut Vec<Run>, last: Run, run: Run) -> Result<(), AllocError>
-    ensures { OnOk result (runs.new.items ≡ runs.old.items ++ with_run (last ∷ []) run) }
-{
-    let mut last = last;
-    if run.offset() as usize == last.offset() as usize + last.bytes().len() {
-        last.append(run.bytes())?;
-        runs.push(last)?;
-    } else {
-        runs.push(last)?;
-        runs.push(run)?;
-    }
-    Ok(())
-}
-
-// Adds a run after others, to the last of them if it begins at its end.
-#[tactic(auto, using(object_laws::proofs::Merges::RunsJoined::with_run_last))]
-fn add_run(runs: &mut Vec<Run>, run: Run) -> Result<(), AllocError>
-    ensures { OnOk result (runs.new.items ≡ with_run runs.old.items run) }
-{
-    match runs.pop() {
-        Some(last) => add_after(runs, last, run),
-        None => {
-            runs.push(run)?;
-            Ok(())
-        }
-    }
-}
-
 // Adds those fixes of a content that stay, moved to their places.
 fn add_fixes(
     fixes: &mut Vec<Fix>,
@@ -169,7 +140,7 @@ impl GrowingSegment {
     {
         if !content.bytes.is_empty() {
             let run = moved_run(alloc, content, fixes, resolved)?;
-            add_run(&mut self.runs, run)?;
+            push_run(&mut self.runs, run)?;
         }
         Ok(())
     }

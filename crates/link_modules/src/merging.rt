@@ -14,7 +14,7 @@ ghost use Rattle.link_laws.specs.internal.Passes.{externals_of, gathered, missin
 use crate::highs::high_byte_moves;
 use crate::mains::{MainModule, first_main, has_one_main};
 use crate::merged::Merged;
-use crate::names::{NameTable, public_names_of, unresolved_in};
+use crate::names::{public_names_of, unresolved_in};
 use crate::pieces::{Pieces, pieces_of, starts_of};
 use crate::placed::Placed;
 use crate::publics::{Publics, publics_of};
@@ -23,6 +23,7 @@ use failure::Failure;
 use link_laws::LinkFault;
 use object_modules::{ModuleParts, ObjectModule, Segment};
 use std::alloc::{AllocError, Global};
+use symbols::NameSet;
 
 // The parts of a merge.
 fn parts_of(
@@ -50,7 +51,7 @@ fn parts_of(
 // The publics of a merge with these names, where no high byte moves; one that does is a fault.
 fn still_publics<'n>(
     alloc: Global,
-    names: &'n NameTable,
+    names: &'n NameSet,
     placed: &[Placed],
 ) -> Result<Publics<'n>, Failure<LinkFault>>
     requires { names.now ≡ map (λ public. public.name) (all_publics placed.now) }
@@ -72,7 +73,7 @@ fn still_publics<'n>(
 fn link_placed(
     alloc: Global,
     modules: &[ObjectModule],
-    names: &NameTable,
+    names: &NameSet,
     pieces: &Pieces,
     main: MainModule,
 ) -> Result<Merged, Failure<LinkFault>>
@@ -100,7 +101,7 @@ fn link_placed(
 fn link_pieces(
     alloc: Global,
     modules: &[ObjectModule],
-    names: &NameTable,
+    names: &NameSet,
     pieces: &Pieces,
 ) -> Result<Merged, Failure<LinkFault>>
     requires known { gathered [] (public_names modules.now) ≡ Ok names.now }
@@ -127,7 +128,7 @@ fn link_pieces(
 fn link_named(
     alloc: Global,
     modules: &[ObjectModule],
-    names: &NameTable,
+    names: &NameSet,
 ) -> Result<Merged, Failure<LinkFault>>
     requires { gathered [] (public_names modules.now) ≡ Ok names.now }
     ensures merged { IfOk result (λ merged. merge_of modules.now ≡ Ok merged.object) }

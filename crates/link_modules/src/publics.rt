@@ -6,15 +6,15 @@ ghost use Rattle.object_modules.specs.Displacements.{all_publics, public_meant, 
 ghost use Rattle.object_modules.specs.Views.{owned_public_view};
 ghost use Rattle.link_laws.specs.internal.Passes.{name_of};
 
-use crate::names::NameTable;
 use crate::placed::Placed;
 use object_modules::{Name, OwnedPublic};
 use std::alloc::{AllocError, Global};
 use std::marker::Model;
+use symbols::NameSet;
 
 /// Publics that are found by their names. Contracts see the publics.
 pub(crate) struct Publics<'n> {
-    names: &'n NameTable,
+    names: &'n NameSet,
     publics: Vec<OwnedPublic>,
 }
 
@@ -40,7 +40,7 @@ fn public_at(publics: &[OwnedPublic], number: usize) -> Option<OwnedPublic>
 
 impl<'n> Publics<'n> {
     /// Publics with these names, in the same order.
-    pub(crate) fn new(names: &'n NameTable, publics: Vec<OwnedPublic>) -> Publics<'n>
+    pub(crate) fn new(names: &'n NameSet, publics: Vec<OwnedPublic>) -> Publics<'n>
         requires { names.now ≡ map name_of publics.items }
         ensures { result ≡ map owned_public_view publics.items }
     {

@@ -1,15 +1,16 @@
 //! Runs of a merge: a run of a module at its place, with its bytes after its fixes.
 
-ghost use Rattle.std.specs.Prelude.{◌≡◌, ◌+◌, ◌≤◌, ◌<◌, ◌++◌, ◌∷◌, [], length, IfOk, OnOk};
+ghost use Rattle.std.specs.Prelude.{◌≡◌, ◌+◌, ◌≤◌, ◌<◌, length, IfOk, OnOk};
 ghost use Rattle.object_modules.specs.Displacements.{gain_in};
 ghost use Rattle.object_modules.specs.Module.{width_of};
-ghost use Rattle.object_modules.specs.internal.Joining.{bytes_after, bytes_fixed, fixes_below, fixes_past, run_fixed, with_run};
+ghost use Rattle.object_modules.specs.Runs.{with_run};
+ghost use Rattle.object_modules.specs.internal.Joining.{bytes_after, bytes_fixed, fixes_below, fixes_past, run_fixed};
 ghost use Rattle.link_laws.specs.internal.Building.{AreWithin};
 
 use crate::placed::Placed;
 use crate::publics::Publics;
 use crate::targets::gain;
-use object_modules::{Fix, FixKind, Run};
+use object_modules::{Fix, FixKind, Run, push_run};
 use std::alloc::{AllocError, Global};
 
 // The byte at an index, or the word that begins there, gains a number.
@@ -78,35 +79,6 @@ pub(crate) fn split_below(fixes: &[Fix], end: u32) -> (&[Fix], &[Fix])
     (fixes, &[])
 }
 
-// Adds two runs, as one where the second begins at the end of the first.
-fn add_after(runs: &mut Vec<Run>, last: Run, run: Run) -> Result<(), AllocError>
-    ensures { OnOk result (runs.new.items ≡ runs.old.items ++ with_run (last ∷ []) run) }
-{
-    let mut last = last;
-    if run.offset() as usize == last.offset() as usize + last.bytes().len() {
-        last.append(run.bytes())?;
-        runs.push(last)?;
-    } else {
-        runs.push(last)?;
-        runs.push(run)?;
-    }
-    Ok(())
-}
-
-// Adds a run after others, to the last of them where it begins at its end.
-#[tactic(auto, using(object_laws::proofs::Merges::RunsJoined::with_run_last))]
-fn add_run(runs: &mut Vec<Run>, run: Run) -> Result<(), AllocError>
-    ensures { OnOk result (runs.new.items ≡ with_run runs.old.items run) }
-{
-    match runs.pop() {
-        Some(last) => add_after(runs, last, run),
-        None => {
-            runs.push(run)?;
-            Ok(())
-        }
-    }
-}
-
 /// Adds a run of a module after others, from a place of a merge on, with its bytes after these fixes, which are within it.
 pub(crate) fn add_moved(
     alloc: Global,
@@ -123,5 +95,5 @@ pub(crate) fn add_moved(
         ≡ with_run runs.old.items (run_fixed start (gain_in publics.now placed.now) fixes.now run.now)) }
 {
     let moved = moved_run(alloc, run, start, fixes, publics, placed)?;
-    add_run(runs, moved)
+    push_run(runs, moved)
 }

@@ -1,6 +1,6 @@
 //! What names stand for at a place of a text.
 
-ghost use Rattle.std.specs.Prelude.{◌≡◌, ◌+◌, ◌||◌, true, false, [], ◌∷◌, drop, reverse, length, OnOk, IfOk};
+ghost use Rattle.std.specs.Prelude.{◌≡◌, ◌||◌, true, false, [], ◌∷◌, drop, reverse, length, OnOk, IfOk};
 ghost use Rattle.std.specs.Map.{lookup};
 ghost use Rattle.std.specs.Str.{bytes_eq};
 ghost use Rattle.indexmap.specs.IndexSet.{insert_key};
@@ -15,12 +15,13 @@ ghost use Rattle.names.specs.Environment.{empty_body, at_the_start, body_after_b
 
 use crate::entity::{Binding, BuiltIn, Entity};
 use crate::fault::Fault;
-use crate::table::{NameSet, Names};
+use crate::table::Names;
 use failure::Failure;
 use std::alloc::Global;
 use std::marker::Model;
 use std::mem;
-use trees::{Identifier, Name, Statement};
+use symbols::NameSet;
+use trees::{Identifier, Name, Statement, next_number};
 
 // What a name stands for in the last of these tables that has it.
 fn find(tables: &[Names], name: Name) -> Option<Entity>
@@ -152,7 +153,8 @@ impl BodyNames {
         if self.declared.contains(name.name) {
             return Err(declared_twice(name));
         }
-        self.declared.insert(name.name)
+        self.declared.insert(name.name)?;
+        Ok(())
     }
 
     // A label before a statement of the body.
@@ -164,7 +166,8 @@ impl BodyNames {
         if self.declared.contains(name.name) || self.labelled.contains(name.name) {
             return Err(declared_twice(name));
         }
-        self.labelled.insert(name.name)
+        self.labelled.insert(name.name)?;
+        Ok(())
     }
 }
 
@@ -188,17 +191,6 @@ fn declared_twice(name: Identifier) -> Failure<Fault>
     Failure::Fault(Fault::DeclaredTwice {
         line: name.place.line,
     })
-}
-
-// The next number. No source reaches the greatest one, after which this fails.
-fn next_number(number: u32) -> Result<u32, Failure<Fault>>
-    ensures ok { IfOk result (λ next. next ≡ number + 1) }
-    ensures err { IfFault result (λ _. ⊥) }
-{
-    match number.checked_add(1) {
-        Some(next) => Ok(next),
-        None => Err(Failure::Memory),
-    }
 }
 
 // Numbers the labels before a statement, and gives the number after them.

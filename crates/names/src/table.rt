@@ -4,14 +4,12 @@ ghost use Rattle.std.specs.Prelude.{◌≡◌, [], OnOk};
 ghost use Rattle.std.specs.Map.{lookup};
 ghost use Rattle.std.specs.Str.{bytes_eq};
 ghost use Rattle.indexmap.specs.IndexMap.{insert_entry};
-ghost use Rattle.indexmap.specs.IndexSet.{insert_key};
 ghost use Rattle.failure.specs.Failure.{IfFault};
-ghost use Rattle.names.specs.Environment.{is_among};
 
 use crate::entity::Entity;
 use crate::fault::Fault;
 use failure::Failure;
-use indexmap::{IndexMap, IndexSet};
+use indexmap::IndexMap;
 use std::alloc::Global;
 use std::marker::Model;
 use trees::Name;
@@ -58,47 +56,6 @@ impl Names {
         ensures err { IfFault result (λ _. ⊥) }
     {
         self.entries.insert(name, entity)?;
-        Ok(())
-    }
-}
-
-/// Names, each of them once.
-#[derive(Drop)]
-pub(crate) struct NameSet {
-    keys: IndexSet<Name>,
-}
-
-impl Model for NameSet {
-    ghost use Rattle.std.specs.Prelude.{ℕ, List};
-
-    ghost Value = { List (List ℕ) };
-
-    ghost view = { λ names. names.keys.keys };
-}
-
-impl NameSet {
-    /// No names.
-    pub(crate) fn new(alloc: Global) -> NameSet
-        ensures { result ≡ [] }
-    {
-        NameSet {
-            keys: IndexSet::new(alloc),
-        }
-    }
-
-    /// Whether a name is among them.
-    pub(crate) fn contains(&self, name: Name) -> bool
-        ensures { result ≡ is_among self.now name }
-    {
-        self.keys.contains(&name)
-    }
-
-    /// One more name.
-    pub(crate) fn insert(&mut self, name: Name) -> Result<(), Failure<Fault>>
-        ensures ok { OnOk result (self.new ≡ insert_key bytes_eq self.old name) }
-        ensures err { IfFault result (λ _. ⊥) }
-    {
-        self.keys.insert(name)?;
         Ok(())
     }
 }

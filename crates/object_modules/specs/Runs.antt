@@ -1,5 +1,5 @@
 -- The runs and the fixes of a segment of an object module, as writing, linking and placing go over them.
-use Rattle.std.specs.Prelude.{ℕ, ◌+◌, ◌==◌, List, [], ◌∷◌, map, flat_map, find, Option, option_map}
+use Rattle.std.specs.Prelude.{ℕ, ◌+◌, ◌==◌, if◌then◌else◌, List, [], ◌∷◌, ◌++◌, length, map, flat_map, find, Option, option_map}
 use Rattle.object_modules.specs.declared.segment.Fix.{Fix}
 use Rattle.object_modules.specs.declared.segment.Segment.{Segment}
 use Rattle.object_modules.specs.Module.{Fixup, SetByte, ObjectModule, places_of}
@@ -37,3 +37,12 @@ fixed_bytes fixes offset (value ∷ others) =
 -- a run with the fixes of its bytes
 abbrev pub fixed_run : List Fix → Run ℕ → Run SetByte
 fixed_run fixes run = record { offset = run.offset; items = fixed_bytes fixes run.offset run.items }
+
+-- a run after others, which continues the last of them if it begins at its end
+abbrev pub with_run : {A : Type 0} → List (Run A) → Run A → List (Run A)
+with_run [] run = run ∷ []
+with_run (last ∷ []) run =
+    if run.offset == last.offset + length last.items
+    then record { offset = last.offset; items = last.items ++ run.items } ∷ []
+    else last ∷ run ∷ []
+with_run (first ∷ next ∷ others) run = first ∷ with_run (next ∷ others) run

@@ -11,5 +11,5 @@ pub use fault::Fault;
 pub use object::{ModuleParts, ObjectModule};
 pub use public::{OwnedPublic, PublicName};
 pub use segment::{Alignment, Fix, FixKind, SEGMENT_LIMIT, Segment, Target};
-pub use stored::{Run, SegmentBytes};
+pub use stored::{Run, SegmentBytes, push_run};
 pub use symbols::Name;

@@ -1,6 +1,7 @@
 //! Segments as they are kept: runs of bytes, and the places that depend on where something lies.
 
-ghost use Rattle.std.specs.Prelude.{◌≡◌, ◌++◌, OnErr, OnOk};
+ghost use Rattle.std.specs.Prelude.{◌≡◌, ◌∷◌, ◌++◌, [], OnErr, OnOk};
+ghost use Rattle.object_modules.specs.Runs.{with_run};
 
 use crate::segment::{Alignment, Fix};
 use std::alloc::AllocError;
@@ -50,6 +51,36 @@ impl Run {
         ensures err { OnErr result (self.new.items ≡ self.old.items) }
     {
         self.bytes.extend_from_slice(bytes)
+    }
+}
+
+// Adds two runs after others, as one if the second begins at the end of the first.
+fn push_after(runs: &mut Vec<Run>, last: Run, run: Run) -> Result<(), AllocError>
+    ensures { OnOk result (runs.new.items ≡ runs.old.items ++ with_run (last ∷ []) run) }
+{
+    let mut last = last;
+    if run.offset() as usize == last.offset() as usize + last.bytes().len() {
+        last.append(run.bytes())?;
+        runs.push(last)?;
+    } else {
+        runs.push(last)?;
+        runs.push(run)?;
+    }
+    Ok(())
+}
+
+/// Adds a run after others: it continues the last of them if it begins at its end. Fails only if memory runs out, and
+/// the last run may then be gone.
+#[tactic(auto, using(crate::proofs::PushedRuns::with_run_last))]
+pub fn push_run(runs: &mut Vec<Run>, run: Run) -> Result<(), AllocError>
+    ensures { OnOk result (runs.new.items ≡ with_run runs.old.items run) }
+{
+    match runs.pop() {
+        Some(last) => push_after(runs, last, run),
+        None => {
+            runs.push(run)?;
+            Ok(())
+        }
     }
 }
 

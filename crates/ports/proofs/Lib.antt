@@ -1,1 +1,2 @@
 pub mod ScriptLemmas
+pub mod Sessions

@@ -33,10 +33,6 @@ pub trait Ports {
 
     ghost failures: { Self → ℕ };
 
-    /// Says that each queue of the script holds bytes. Does nothing.
-    fn hold_bytes(&self)
-        ensures { IsScript (script self.now) };
-
     /// Reads a port: byte k of its queue after k reads of it, or 255 past the end of the queue. An `Ok` adds
     /// one event, and an `Err` one failure and no event.
     fn input(&mut self, port: u8) -> Result<u8, PortFault>
@@ -54,4 +50,7 @@ pub trait Ports {
         ensures err { OnErr result (events self.new ≡ events self.old) }
         ensures failed { OnErr result (CountsFailure (failures self.old) (failures self.new)) }
         ensures kept { script self.new ≡ script self.old };
+
+    // Each queue of the script holds bytes.
+    ghost holds_bytes: { (ports : Self) → IsScript (script ports) };
 }

@@ -22,6 +22,7 @@ pub struct Script {
     reads: [u64; PORTS],
     log: Vec<Event>,
     failed: u64,
+    ghost bytes: { IsScript (bytes_of queues.items) },
 }
 
 impl Model for Script {
@@ -54,6 +55,7 @@ impl Script {
 
     /// Adds a byte at the end of a port's queue, which a later read of that port gives. Out of memory, it
     /// changes nothing.
+    #[tactic(auto, using(crate::proofs::Sessions::same_session))]
     pub fn push_input(&mut self, port: u8, byte: u8) -> Result<(), PortFault>
         ensures ok { OnOk result (AddsByte self.old.script self.new.script port byte) }
         ensures events { self.new.events ≡ self.old.events }
@@ -96,9 +98,7 @@ impl Ports for Script {
 
     ghost failures = { λ s. s.failures };
 
-    fn hold_bytes(&self) {
-        let _ = self.events();
-    }
+    ghost holds_bytes = { λ s. s.bytes };
 
     #[tactic(auto, using(crate::proofs::ScriptLemmas::counts_read))]
     fn input(&mut self, port: u8) -> Result<u8, PortFault> {

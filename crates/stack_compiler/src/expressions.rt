@@ -34,7 +34,7 @@ pub(crate) fn emit_expression(
         ≡ code.old.items ++ expression_code (site_view site.now) (expression_view expression.now)) }
 {
     match expression {
-        TypedExpression::Number { value, .. } => emit(code, Instruction::Push(*value)),
+        TypedExpression::Number { value, .. } => emit(code, Instruction::Push(value.value)),
         TypedExpression::Value { scalar, reference } => {
             emit_reference(site, code, Purpose::Reading(*scalar), reference)
         }
@@ -108,7 +108,7 @@ fn number_in(expression: &TypedExpression) -> Option<u16>
     ensures { result ≡ number_in (expression_view expression.now) }
 {
     match expression {
-        TypedExpression::Number { value, .. } => Some(*value),
+        TypedExpression::Number { value, .. } => Some(value.value),
         TypedExpression::Value { .. }
         | TypedExpression::Location(_)
         | TypedExpression::List(_)

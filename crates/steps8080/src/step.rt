@@ -1,8 +1,6 @@
 //! Planned code: instructions, labels, and parts that are planned later.
 
-ghost use Rattle.std.specs.Prelude.{◌≡◌, [], ◌∷◌, OnOk, length, slice_get, take};
-ghost use Rattle.steps8080.specs.declared.step.Step.TheVariants.{Plain, Word, Jump, Mark};
-ghost use Rattle.steps8080.specs.Step.{Adds, label_after, label_of, part, plain};
+ghost use Rattle.std.specs.Prelude.{◌<◌};
 
 use crate::facts::Facts;
 use asm8080::WordForm;
@@ -81,13 +79,18 @@ pub enum Step {
     Part(Part),
 }
 
-/// Steps in a row, and the number of labels in use.
+/// Steps in a row, and the number of labels in use, which has 32 bits.
 pub struct Steps {
     pub list: Vec<Step>,
     pub labels: u32,
+    pub ghost few: { labels < 4294967296 },
 }
 
 impl Steps {
+    ghost use Rattle.std.specs.Prelude.{◌≡◌, [], ◌∷◌, OnOk, length, slice_get, take};
+    ghost use Rattle.steps8080.specs.declared.step.Step.TheVariants.{Plain, Word, Jump, Mark};
+    ghost use Rattle.steps8080.specs.Step.{Adds, label_after, label_of, part, plain};
+
     /// No steps, with `labels` labels in use.
     pub fn new(alloc: Global, labels: u32) -> Steps
         ensures list { result.list.items ≡ [] }
@@ -102,7 +105,8 @@ impl Steps {
     /// Takes a label that is not in use.
     pub fn label(&mut self) -> LabelNumber
         ensures label { result ≡ label_of self.old.labels }
-        ensures taken { self.new ≡ record self.old { labels = label_after self.old.labels 1 } }
+        ensures taken { self.new.labels ≡ label_after self.old.labels 1 }
+        ensures list { self.new.list ≡ self.old.list }
     {
         let label = LabelNumber { index: self.labels };
         self.labels = self.labels.saturating_add(1);
@@ -112,7 +116,8 @@ impl Steps {
     /// Takes `count` labels that are not in use, and returns the first.
     pub fn labels(&mut self, count: u32) -> LabelNumber
         ensures label { result ≡ label_of self.old.labels }
-        ensures taken { self.new ≡ record self.old { labels = label_after self.old.labels count } }
+        ensures taken { self.new.labels ≡ label_after self.old.labels count }
+        ensures list { self.new.list ≡ self.old.list }
     {
         let first = LabelNumber { index: self.labels };
         self.labels = self.labels.saturating_add(count);

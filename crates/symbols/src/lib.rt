@@ -2,5 +2,7 @@
 #![tactic(auto)]
 
 mod name;
+mod name_set;
 
 pub use name::{LONGEST_NAME, Name};
+pub use name_set::NameSet;

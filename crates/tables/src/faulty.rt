@@ -52,9 +52,7 @@ impl Ports for FaultyPorts {
 
     ghost failures = { λ p. p.failed };
 
-    fn hold_bytes(&self) {
-        self.script.hold_bytes();
-    }
+    ghost holds_bytes = { λ p. p.script.bytes };
 
     fn input(&mut self, port: u8) -> Result<u8, PortFault> {
         if self.good_reads == 0 && self.failed == 0 {

@@ -49,10 +49,6 @@ pub(crate) fn machine_of<P: Ports>(
         → Agrees source (machine_run built.now.image memory (P.script ports) (P.events ports)) }
 {
     let image = built.image();
-    // A look at a byte says that a memory has all of its bytes, and the ports say that their script holds bytes, which
-    // the headline asks for.
-    let _ = memory.get(0);
-    ports.hold_bytes();
     let mut memory = memory;
     image.load(&mut memory);
     machine_with(memory, ports, image.start(), table)

@@ -1,13 +1,20 @@
--- The number at which an object is placed is one of those of all objects.
-use Rattle.treecode.proofs.Prelude.{◌≡◌, ℕ, zero, suc, ◌<◌, List, [], ◌∷◌, length, subst, arith, Home, Number, home_at, EachIsWord, HomeIsWord}
-use Rattle.treecode.specs.declared.place.Home.TheVariants.{Static}
+-- The numbers of homes have 16 bits: of none, and after one more.
+use Rattle.treecode.proofs.Prelude.{◌≡◌, ℕ, zero, suc, List, [], ◌∷◌, ◌++◌, sym, subst, arith, Home, HomeIsWord, HomesAreWords}
 
-pub word_found : (homes : List Home) (object number : ℕ) → EachIsWord homes
-    → home_at homes object ≡ Static (Number number) → number < 65536
-word_found [] object number words is = subst HomeIsWord is (omega arith)
-word_found (first ∷ others) zero number words is = subst HomeIsWord is words.0
-word_found (first ∷ others) (suc object) number words is = word_found others object number words.1 is
+pub no_homes : (homes : List Home) → homes ≡ [] → HomesAreWords homes
+no_homes homes empty = subst HomesAreWords (sym empty) (λ object number is. subst HomeIsWord is (omega arith))
 
-pub none_left : (homes : List Home) → length homes < 1 → EachIsWord homes
-none_left [] none = tt
-none_left (first ∷ others) none = absurd (omega arith)
+module _ (home : Home) (word : HomeIsWord home) where
+  grown : (homes : List Home) → HomesAreWords homes → HomesAreWords (homes ++ home ∷ [])
+  grown [] words zero number is = subst HomeIsWord is word
+  grown [] words (suc object) number is = subst HomeIsWord is (omega arith)
+  grown (first ∷ others) words zero number is = words zero number is
+  grown (first ∷ others) words (suc object) number is =
+      grown others (λ other of_other same. words (suc other) of_other same) object number is
+
+pub one_home_more : (old new : List Home) (home : Home)
+    → HomesAreWords old
+    → HomeIsWord home
+    → new ≡ old ++ home ∷ []
+    → HomesAreWords new
+one_home_more old new home words word is = subst HomesAreWords (sym is) (grown home word old words)

@@ -27,3 +27,4 @@ pub mod FrameVariables
 pub mod Words
 pub mod Below
 pub mod HomeWords
+pub mod HomeTables

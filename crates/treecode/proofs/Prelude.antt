@@ -6,7 +6,8 @@ pub use Rattle.typed_trees.specs.{Charge.{count_of_arguments, height_of, height_
 pub use Rattle.layout.specs.{Storage.{Storage}, Views.{layout_view}}
 pub use Rattle.meaning.specs.{Access.{Surroundings, home_of}, Meaning.{Displacement, Later, address_in_memory, based_place, computed, displaced, displacement, located, no_displacement, value}, Outcomes.{Gave, Outcome, State, then_do}, Values.{as_type, function_of, result_of, result_of_one, shifted}}
 pub use Rattle.treecode.specs.Contents.{constants_from, content_of, public_item, size_of_value, variables_from, with_gap}
-pub use Rattle.treecode.specs.HomeWords.{EachIsWord, HomeIsWord}
+pub use Rattle.treecode.specs.ExpressionWords.{ExpressionsAreWords, FormIsWord}
+pub use Rattle.treecode.specs.HomeWords.{HomeIsWord, HomesAreWords}
 pub use Rattle.treecode.specs.Homes.{external_from, external_name, external_number, external_place, externals_of, frame_number, frame_variable, home_of_object, homes_from, is_global_object, is_global_procedure, kind_with, latest, lives_in_frame, numbered_in_frame, parameter_at, parameter_from, parameter_number, parameters_of, place_after}
 unfoldable pub use Rattle.treecode.specs.Homes.{homes_of}
 pub use Rattle.treecode.specs.Known.{converted_place, function_of_place, known_distance, known_number, known_place, known_subscript, known_value, place_of_part, result_of_known, shift_of_known}
@@ -46,4 +47,3 @@ pub use Rattle.treecode.specs.internal.Placed.{Heading, HeadingsAre, PlacedSoFar
 pub use Rattle.treecode.specs.internal.Rising.{ArgumentsAreBelow, NumbersRise, PartsAreBelow, ReferenceIsBelow, SubscriptIsBelow, TargetIsBelow}
 pub use Rattle.treecode.specs.internal.Sound.{AreSound, Leads}
 pub use Rattle.treecode.specs.internal.Walking.{Items, Walk, assigned_in, begun, call_in, either_ends, else_in, goal_with, goals_in, height_of_move, items_after, items_in, iteration_in, label_in, list_in, moved_in, noted, number_of_added, numbered, optional_in, put_case, put_do, put_if, put_iterate, put_list, put_statement, put_targets, put_while, returned_in, statement_in, statements_in, targets_in, value_in, with_label}
-pub use Rattle.treecode.specs.internal.Words.{FormIsWord, FormsAreWords}

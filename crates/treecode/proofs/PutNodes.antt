@@ -11,7 +11,7 @@ module _ (tree after : TreeModule) where
   pub expression_put : (scalar : ScalarType) (made : Nodes × ExpressionForm) (form : ExpressionForm)
       (number : ExpressionNumber)
       → made ≡ (nodes_of tree, form)
-      → after ≡ record tree { expressions = after.expressions }
+      → after ≡ record tree { expressions = after.expressions; numbers_are_words = after.numbers_are_words }
       → number.index ≡ length tree.expressions.items
       → after.expressions.items ≡ tree.expressions.items ++ expression_of (nodes_of tree) scalar form ∷ []
       → put_expression scalar made ≡ (nodes_of after, number)
@@ -38,7 +38,11 @@ module _ (tree after : TreeModule) where
 
 -- the parts beside the nodes are kept
 pub beside_expressions : (lowering : Lowering) (after : TreeModule)
-    → after ≡ record (lowering.tree) { expressions = after.expressions }
+    → after
+    ≡ record (lowering.tree) {
+      expressions = after.expressions;
+      numbers_are_words = after.numbers_are_words;
+    }
     → beside (record lowering { tree = after }) ≡ beside lowering
 unfolding beside
 beside_expressions lowering after kept = ap (λ (tree : TreeModule). beside (record lowering { tree = tree })) kept

@@ -1,5 +1,7 @@
 pub use Rattle.layout.specs.Sound
 pub use Rattle.layout.specs.Storage
+pub mod HomeWords
+pub mod ExpressionWords
 pub mod Nodes
 pub mod Homes
 pub mod Known
@@ -9,4 +11,3 @@ pub mod Contents
 pub mod Lowered
 pub mod Resolved
 pub mod internal
-pub mod HomeWords

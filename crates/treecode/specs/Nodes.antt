@@ -1,17 +1,16 @@
 -- The tables of nodes of a module, and the objects and expressions by their numbers.
-use Rattle.std.specs.Prelude.{◌≡◌, ◌+◌, ◌<◌, nat_lt, Option, Some, None, slice_get, if◌then◌else◌, ℕ, List, slice_index_or}
+use Rattle.std.specs.Prelude.{◌+◌, nat_lt, Option, Some, None, slice_get, if◌then◌else◌, ℕ, List}
 use Rattle.std.specs.Option.{option_and_then}
 use Rattle.treecode.specs.declared.expression.Expression.{Expression}
-use Rattle.treecode.specs.declared.expression.ExpressionForm.TheVariants as forms
 use Rattle.treecode.specs.declared.expression.ExpressionNumber.{ExpressionNumber}
 use Rattle.treecode.specs.declared.lists.Range.{Range}
 use Rattle.treecode.specs.declared.module.TreeModule.{TreeModule}
 use Rattle.treecode.specs.declared.place.Home.{Home}
-use Rattle.treecode.specs.declared.place.Home.TheVariants.{Static}
-use Rattle.treecode.specs.declared.place.Place.TheVariants.{Number}
 use Rattle.treecode.specs.declared.reference.Target.{Target}
 use Rattle.treecode.specs.declared.statement.Statement.{Statement}
 use Rattle.treecode.specs.declared.statement.StatementNumber.{StatementNumber}
+use Rattle.treecode.specs.ExpressionWords.{ExpressionsAreWords}
+pub use Rattle.treecode.specs.HomeWords.{home_at}
 
 -- the homes of the objects, and the tables of nodes
 pub record Nodes : Type 0 where
@@ -32,10 +31,6 @@ nodes_of tree = record {
   lists = tree.lists.items;
 }
 
--- the home of an object; the address 0 if there is no object with this number
-abbrev pub home_at : List Home → (object : ℕ) → Home
-home_at homes object = slice_index_or homes object (Static (Number 0))
-
 -- the index in its table of an item of a range, counted from 0
 abbrev pub entry_of : Range → (index : ℕ) → Option ℕ
 entry_of range index = if nat_lt index range.count then Some (range.first + index) else None
@@ -46,8 +41,4 @@ item_of table range index = option_and_then (slice_get table) (entry_of range in
 
 -- numbers in tree code have 16 bits
 abbrev pub NumbersAreWords : Nodes → Type 0
-NumbersAreWords nodes =
-    (index number : ℕ) (found : Expression)
-    → slice_get nodes.expressions index ≡ Some found
-    → found.form ≡ forms.Number number
-    → number < 65536
+NumbersAreWords nodes = ExpressionsAreWords nodes.expressions

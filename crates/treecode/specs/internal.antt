@@ -8,5 +8,4 @@ pub mod Sound
 pub mod Completed
 pub mod Gathered
 pub mod Placed
-pub mod Words
 pub mod Stored

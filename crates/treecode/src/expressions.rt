@@ -44,7 +44,7 @@ impl Lowering {
             (expression_view expression.now) ≡ (nodes_of self.new.tree, added)) }
     {
         match expression {
-            TypedExpression::Number { value, .. } => Ok(ExpressionForm::Number(*value)),
+            TypedExpression::Number { value, .. } => Ok(ExpressionForm::Number(value.value)),
             TypedExpression::Value { reference, .. } => {
                 Ok(ExpressionForm::Value(self.reference(storage, reference)?))
             }

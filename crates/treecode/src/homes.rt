@@ -8,13 +8,14 @@ ghost use Rattle.treecode.specs.internal.Numbers.{number_in};
 ghost use Rattle.treecode.specs.internal.Placed.{all_placed, headings_after, headings_of, home_in, placed_in, variable_of, with_all_parameters, with_parameters, with_placed};
 
 use crate::globals::Externals;
-use crate::lowering::{capped, next_number, wrapped};
+use crate::lowering::{capped, wrapped};
 use crate::module::TreeModule;
 use crate::numbers::Numbers;
 use crate::place::{Home, Location, Place};
 use crate::procedure::{FrameVariable, TreeProcedure};
 use layout::{Layout, Segment};
 use std::alloc::{AllocError, Global};
+use trees::next_number;
 use typed_trees::{AtAddress, Home as TypedHome, Typed, TypedObject, TypedProcedure};
 
 // The home of an object `distance` bytes further on. A BASED object has no place of its own.
@@ -178,6 +179,7 @@ fn home_of(
 }
 
 // Adds the home of an object, by its number.
+#[tactic(auto, using(crate::proofs::HomeTables::home_kept, crate::proofs::HomeTables::home_placed))]
 fn add_home(
     tree: &mut TreeModule,
     externals: &Externals,
@@ -186,8 +188,11 @@ fn add_home(
     object: &TypedObject,
     number: u32,
 ) -> Result<(), AllocError>
-    ensures kept { OnOk result
-        (tree.new ≡ record tree.old { homes = tree.new.homes; procedures = tree.new.procedures }) }
+    ensures kept { OnOk result (tree.new ≡ record tree.old {
+      homes = tree.new.homes;
+      procedures = tree.new.procedures;
+      homes_are_words = tree.new.homes_are_words;
+    }) }
     ensures placed { OnOk result (placed_in tree.new ≡ with_placed externals.now.objects.entries.items
         parameters.now.entries.items (layout_view storage.now) (placed_in tree.old) number
         (object_view object.now)) }
@@ -200,11 +205,12 @@ fn add_home(
         number,
         parameters.get(number),
     )?;
-    tree.homes.push(home)?;
+    tree.add_home(home)?;
     Ok(())
 }
 
 /// Adds the homes of the objects of a module, and to each frame its variables. The procedures have been added before.
+#[tactic(auto, using(crate::proofs::HomeTables::kept_again))]
 pub(crate) fn add_homes(
     alloc: Global,
     tree: &mut TreeModule,
@@ -212,8 +218,11 @@ pub(crate) fn add_homes(
     typed: &Typed,
     storage: &Layout,
 ) -> Result<(), AllocError>
-    ensures kept { OnOk result
-        (tree.new ≡ record tree.old { homes = tree.new.homes; procedures = tree.new.procedures }) }
+    ensures kept { OnOk result (tree.new ≡ record tree.old {
+      homes = tree.new.homes;
+      procedures = tree.new.procedures;
+      homes_are_words = tree.new.homes_are_words;
+    }) }
     ensures placed { OnOk result (placed_in tree.new ≡ all_placed externals.now.objects.entries.items
         (with_all_parameters [] (module_view typed.now).procedures) (layout_view storage.now)
         (placed_in tree.old) 0 (module_view typed.now).objects) }

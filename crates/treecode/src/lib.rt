@@ -8,7 +8,6 @@ mod expressions;
 mod freedom;
 mod globals;
 mod heights;
-mod home_words;
 mod homes;
 mod keeping;
 mod known;
@@ -27,7 +26,6 @@ mod stored;
 mod traits;
 
 pub use expression::{Expression, ExpressionForm, ExpressionNumber};
-pub use home_words::hold_homes;
 pub use keeping::keeps_of_address;
 pub use lists::Range;
 pub use lowering::lower;

@@ -1,6 +1,6 @@
 //! Lowering of typed modules to tree code.
 
-ghost use Rattle.std.specs.Prelude.{None, ◌≡◌, suc, ◌+◌, ◌%◌, min, [], IfOk, OnOk};
+ghost use Rattle.std.specs.Prelude.{None, ◌≡◌, ◌+◌, ◌%◌, min, [], IfOk, OnOk};
 ghost use Rattle.typed_trees.specs.Jumps.{JumpsAreSound};
 ghost use Rattle.typed_trees.specs.Views.{module_view};
 ghost use Rattle.layout.specs.Views.{layout_view};
@@ -38,6 +38,7 @@ pub(crate) struct Lowering {
 }
 
 // A module before anything is lowered.
+#[tactic(auto, using(crate::proofs::HomeWords::no_homes, crate::proofs::Words::no_expressions))]
 fn empty_module(alloc: Global, typed: &Typed) -> TreeModule
     ensures expressions { result.expressions.items ≡ [] }
     ensures name { result.name ≡ typed.now.name }
@@ -77,16 +78,6 @@ pub(crate) fn capped(size: u32) -> u16
     ensures { result ≡ min size 65535 }
 {
     u16::try_from(size).unwrap_or(u16::MAX)
-}
-
-/// The next number, or out of memory past the greatest number of 32 bits.
-pub(crate) fn next_number(number: u32) -> Result<u32, AllocError>
-    ensures { IfOk result (λ next. next ≡ suc number) }
-{
-    match number.checked_add(1) {
-        Some(next) => Ok(next),
-        None => Err(AllocError),
-    }
 }
 
 /// The address of a constant list, as an offset from the start of the code segment.

@@ -1,10 +1,11 @@
 //! Modules of tree code.
 
 ghost use Rattle.std.specs.Prelude.{◌≡◌, IfOk};
-ghost use Rattle.treecode.specs.Nodes.{entry_of};
+ghost use Rattle.treecode.specs.ExpressionWords.{ExpressionsAreWords};
+ghost use Rattle.treecode.specs.HomeWords.{HomesAreWords};
 
 use crate::expression::{Expression, ExpressionForm, ExpressionNumber};
-use crate::lists::Range;
+use crate::lists::{Range, entry};
 use crate::place::{Home, Place};
 use crate::procedure::TreeProcedure;
 use crate::reference::Target;
@@ -46,7 +47,7 @@ pub struct PublicName {
     pub place: PublicPlace,
 }
 
-/// A module of tree code. Its tables hold what its numbers refer to.
+/// A module of tree code. Its tables hold what its numbers refer to, and the numbers in it have 16 bits.
 pub struct TreeModule {
     pub name: Name,
     /// Where each object begins, by its number.
@@ -69,11 +70,13 @@ pub struct TreeModule {
     pub publics: Vec<PublicName>,
     /// The EXTERNAL names, in the order of the text.
     pub externals: Vec<ExternalName>,
+    pub ghost homes_are_words: { HomesAreWords homes.items },
+    pub ghost numbers_are_words: { ExpressionsAreWords expressions.items },
 }
 
 impl TreeModule {
-    ghost use Rattle.std.specs.Prelude.{◌≡◌, [], ◌∷◌, ◌++◌, length, slice_get, IfOk};
-    ghost use Rattle.treecode.specs.Nodes.{NumbersAreWords, home_at, item_of, nodes_of};
+    ghost use Rattle.std.specs.Prelude.{◌≡◌, [], ◌∷◌, ◌++◌, length, slice_get, IfOk, OnOk};
+    ghost use Rattle.treecode.specs.Nodes.{home_at, item_of, nodes_of};
     ghost use Rattle.treecode.specs.Queries.{low_byte_at};
     ghost use Rattle.treecode.specs.Traits.{expression_of, number_at, traits_at};
 
@@ -165,15 +168,17 @@ impl TreeModule {
         }
     }
 
-    /// Shows that its numbers have 16 bits. It does nothing.
-    pub fn hold_words(&self)
-        ensures { NumbersAreWords (nodes_of self.now) }
+    /// Adds the home of the next object.
+    #[tactic(auto, using(crate::proofs::HomeWords::one_home_more))]
+    pub(crate) fn add_home(&mut self, home: Home) -> Result<(), AllocError>
+        ensures kept { self.new ≡ record self.old {
+          homes = self.new.homes;
+          homes_are_words = self.new.homes_are_words;
+        } }
+        ensures ok { OnOk result ((nodes_of self.new).homes ≡ (nodes_of self.old).homes ++ (home ∷ [])) }
     {
-        let mut rest = self.expressions.as_slice();
-        while let [stored, more @ ..] = rest {
-            stored.hold_word();
-            rest = more;
-        }
+        self.homes.push(home)?;
+        Ok(())
     }
 
     /// Adds an expression of a type, after its parts.
@@ -182,7 +187,10 @@ impl TreeModule {
         scalar: ScalarType,
         form: ExpressionForm,
     ) -> Result<ExpressionNumber, AllocError>
-        ensures kept { self.new ≡ record self.old { expressions = self.new.expressions } }
+        ensures kept { self.new ≡ record self.old {
+          expressions = self.new.expressions;
+          numbers_are_words = self.new.numbers_are_words;
+        } }
         ensures ok { IfOk result (λ number. (number.index ≡ length (nodes_of self.old).expressions)
             × ((nodes_of self.new).expressions ≡ (nodes_of self.old).expressions
             ++ (expression_of (nodes_of self.old) scalar form ∷ []))) }
@@ -258,17 +266,6 @@ pub(crate) fn next_index(count: usize) -> Result<u32, AllocError>
     match u32::try_from(count) {
         Ok(index) => Ok(index),
         Err(_) => Err(AllocError),
-    }
-}
-
-// The index in its table of an item of a range, counted from 0.
-fn entry(range: Range, index: u32) -> Option<usize>
-    ensures { result ≡ entry_of range index }
-{
-    if index < range.count {
-        Some(range.first as usize + index as usize)
-    } else {
-        None
     }
 }
 

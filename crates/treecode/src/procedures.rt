@@ -14,12 +14,12 @@ ghost use Rattle.treecode.specs.internal.Sound.{AreSound};
 use crate::globals::Externals;
 use crate::homes::location_of;
 use crate::lists::Range;
-use crate::lowering::{Lowering, next_number};
+use crate::lowering::Lowering;
 use crate::module::TreeModule;
 use crate::procedure::{Parameter, ProcedureKind, TreeProcedure};
 use layout::Layout;
 use std::alloc::{AllocError, Global};
-use trees::ScalarType;
+use trees::{ScalarType, next_number};
 use typed_trees::{TypedProcedure, Visibility};
 
 // The kind of a procedure, from its index among the EXTERNAL names, if it has one.

@@ -1,10 +1,9 @@
 //! The compact form in which a module stores expressions.
 
-ghost use Rattle.std.specs.Prelude.{◌≡◌, ◌<◌};
+ghost use Rattle.std.specs.Prelude.{◌≡◌};
 ghost use Rattle.treecode.specs.declared.expression.ExpressionForm.TheVariants.{Assignment};
 ghost use Rattle.treecode.specs.Queries.{inside};
 ghost use Rattle.treecode.specs.internal.Stored.{form_of, keeps_in, reference_of, subscript_of, traits_in};
-ghost use Rattle.treecode.specs.internal.Words.{FormIsWord};
 
 use crate::expression::{Expression, ExpressionForm, ExpressionNumber};
 use crate::lists::Range;
@@ -251,13 +250,6 @@ fn stored_assignment(target: Target, value: ExpressionNumber) -> StoredForm
     }
 }
 
-/// Shows that a `u16` has 16 bits. It does nothing.
-pub(crate) fn hold_word(number: u16)
-    ensures { number < 65536 }
-{
-    let _ = number;
-}
-
 impl StoredForm {
     fn of(form: ExpressionForm) -> StoredForm
         ensures { form_of result ≡ form }
@@ -400,15 +392,6 @@ impl StoredExpression {
                 operand,
             } => operand,
             _ => number,
-        }
-    }
-
-    /// Shows that its number, if it is one, has 16 bits. It does nothing.
-    pub(crate) fn hold_word(&self)
-        ensures { FormIsWord self.now.form }
-    {
-        if let StoredForm::Number(number) = self.form {
-            hold_word(number);
         }
     }
 

@@ -5,6 +5,7 @@ mod declaration;
 mod expression;
 mod identifier;
 mod module;
+mod numbers;
 mod statement;
 
 pub use declaration::{
@@ -14,6 +15,7 @@ pub use declaration::{
 pub use expression::{BinaryOperator, Expression, Reference, Selector, UnaryOperator};
 pub use identifier::{Constant, Identifier, Number, Place, StringLiteral};
 pub use module::Module;
+pub use numbers::next_number;
 pub use statement::{
     Assignment, Block, Declaration, DoCase, DoWhile, Heading, IfThen, Iteration, IterativeDo,
     Procedure, Statement, StatementKind,

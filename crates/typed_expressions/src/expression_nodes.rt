@@ -16,7 +16,7 @@ use failure::Failure;
 use std::alloc::{AllocError, Global};
 use trees::{BinaryOperator, ScalarType, UnaryOperator};
 use typed_trees::{
-    NumberOrigin, ShiftFunction, TypedExpression, TypedReference, TypedTarget, UnaryFunction,
+    NumberOrigin, ShiftFunction, TypedExpression, TypedReference, TypedTarget, UnaryFunction, Word,
 };
 use typing::Fault;
 
@@ -69,7 +69,7 @@ pub(crate) fn number(scalar: ScalarType, value: u16, origin: NumberOrigin) -> Ty
 {
     TypedExpression::Number {
         scalar,
-        value,
+        value: Word { value },
         origin,
     }
 }

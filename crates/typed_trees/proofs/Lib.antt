@@ -5,4 +5,4 @@ pub mod MemberTable
 pub mod Heights
 pub mod WellTypedExamples
 pub mod Inside
-pub mod Loops
+pub mod Numbers

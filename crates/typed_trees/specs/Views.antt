@@ -22,7 +22,7 @@ use Rattle.typed_trees.specs.TypedTrees.{TypedExpression, NumberNode, ValueNode,
 
 abbrev mutual
   pub expression_view : Expression → TypedExpression
-  expression_view (expressions.Number scalar value origin) = NumberNode scalar value origin
+  expression_view (expressions.Number scalar word origin) = NumberNode scalar word.value origin
   expression_view (expressions.Value' scalar p object subscript member offset member_subscript) =
       ValueNode scalar (PartOf object (subscript_view subscript) member offset
       (subscript_view member_subscript))

@@ -2,6 +2,7 @@
 //! lists are named by their numbers in the tables of the module.
 
 use crate::parts::{NumberOrigin, ShiftFunction, UnaryFunction};
+use crate::word::Word;
 use trees::{BinaryOperator, ScalarType, UnaryOperator};
 
 /// An expression.
@@ -10,7 +11,7 @@ pub enum TypedExpression {
     /// A number of a type.
     Number {
         scalar: ScalarType,
-        value: u16,
+        value: Word,
         origin: NumberOrigin,
     },
     /// The value of a scalar.

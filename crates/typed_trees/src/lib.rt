@@ -6,16 +6,15 @@ mod expression;
 mod limits;
 mod members;
 mod module;
-mod numbers;
 mod parts;
 mod statement;
+mod word;
 
 pub use charge::charge_of;
 pub use expression::{TypedExpression, TypedReference, TypedSubscript, TypedTarget};
 pub use limits::{CODE_BYTES, CODE_BYTES_FOR_WEIGHT, FRAME_LIMIT, OBJECT_LIMIT, PARAMETER_LIMIT};
 pub use members::{FoundMember, Members};
 pub use module::{Home, ObjectType, Typed, TypedObject, TypedProcedure};
-pub use numbers::hold_numbers;
 pub use parts::{
     AtAddress, ConstantItem, GlobalItem, InitialValue, Measure, NumberOrigin, ShiftFunction,
     TypedMember, UnaryFunction, Visibility,
@@ -24,3 +23,4 @@ pub use statement::{
     TypedAssignment, TypedCase, TypedIf, TypedIterate, TypedIteration, TypedList, TypedMove,
     TypedStatement, TypedWhile,
 };
+pub use word::Word;

@@ -1,6 +1,6 @@
 //! Labels, and the lists of statements that hold them.
 
-ghost use Rattle.std.specs.Prelude.{◌≡◌, ◌+◌, Ok, OnOk, IfOk, length};
+ghost use Rattle.std.specs.Prelude.{◌≡◌, Ok, OnOk, IfOk, length};
 ghost use Rattle.failure.specs.Failure.{IfFault};
 ghost use Rattle.typing.specs.Statements.{declare_labels, without_label};
 ghost use Rattle.typing.specs.Results.{Answers, Leaves};
@@ -10,7 +10,7 @@ ghost use Rattle.types.specs.internal.Lists.{listed_view, with_label, with_label
 use crate::checker::answer_of_scopes;
 use failure::Failure;
 use names::Scopes;
-use trees::Identifier;
+use trees::{Identifier, next_number};
 use typed_expressions::refuse;
 use typed_trees::TypedStatement;
 use typing::{Cause, Fault};
@@ -42,17 +42,6 @@ pub(crate) fn without_label(labels: &[Identifier]) -> Result<(), Failure<Fault>>
     match labels {
         [] => Ok(()),
         [label, ..] => Err(refuse(Cause::MisplacedLabel, label.place.line)),
-    }
-}
-
-// The next number. No source reaches the greatest one, after which this fails.
-fn next_number(number: u32) -> Result<u32, Failure<Fault>>
-    ensures ok { IfOk result (λ next. next ≡ number + 1) }
-    ensures err { IfFault result (λ _. ⊥) }
-{
-    match number.checked_add(1) {
-        Some(next) => Ok(next),
-        None => Err(Failure::Memory),
     }
 }
 

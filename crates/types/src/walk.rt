@@ -30,7 +30,7 @@ use trees::{
     Block as BlockTree, Declaration, DoCase, DoWhile, IfThen, IterativeDo, Module, Name, Place,
     Procedure, Statement, StatementKind,
 };
-use typed_trees::{Typed, TypedList, TypedProcedure, TypedStatement, Visibility, hold_numbers};
+use typed_trees::{Typed, TypedList, TypedProcedure, TypedStatement, Visibility};
 use typing::Fault;
 
 impl Checker {
@@ -420,9 +420,7 @@ fn typed(alloc: Global, parsed: &Module) -> Result<Typed, Failure<Fault>>
 {
     let mut checker = Checker::new(alloc);
     let body = checker.module(&parsed.body)?;
-    let typed = checker.into_typed(parsed.name.name, body);
-    hold_numbers(&typed);
-    Ok(typed)
+    Ok(checker.into_typed(parsed.name.name, body))
 }
 
 /// Types a module: resolves its names, gives each expression its type and writes each conversion out. Refuses a module

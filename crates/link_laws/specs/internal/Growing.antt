@@ -12,10 +12,10 @@ use Rattle.object_modules.specs.Before.{content_end, is_empty}
 use Rattle.object_modules.specs.Displacements.{Start, Linked, public_named, start_of, target_of_public}
 use Rattle.object_modules.specs.Module.{Public}
 use Rattle.object_modules.specs.Rules.{is_within}
-use Rattle.object_modules.specs.Runs.{fixes_in}
+use Rattle.object_modules.specs.Runs.{fixes_in, with_run}
 use Rattle.object_modules.specs.Spelling.{FixedContent}
 use Rattle.object_modules.specs.Text.{Run}
-use Rattle.object_modules.specs.internal.Joining.{run_at, with_run, with_runs, fix_kept, run_fixed}
+use Rattle.object_modules.specs.internal.Joining.{run_at, with_runs, fix_kept, run_fixed}
 use Rattle.object_laws.proofs.Merges.HighBytes.{high_byte_moves}
 use Rattle.link_laws.specs.internal.Building.{piece_runs, piece_fixes}
 use Rattle.objmod.specs.internal.Keeping.{fixes_by_place, is_in}

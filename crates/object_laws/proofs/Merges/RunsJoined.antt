@@ -188,11 +188,3 @@ bytes_with_runs runs [] = refl
 bytes_with_runs runs (run ∷ others) =
     bytes_with_runs (with_run runs run) others
     ∙ ap (λ r. with_runs r (map bytes_of_run others)) (bytes_with_run runs run)
-
--- a run is pushed at the end
-pub with_run_last :
-    {A : Type 0} (first : List (Run A)) (last run : Run A)
-    → with_run (first ++ last ∷ []) run ≡ first ++ with_run (last ∷ []) run
-with_run_last [] last run = refl
-with_run_last (one ∷ []) last run = refl
-with_run_last (one ∷ two ∷ others) last run = ap (λ r. one ∷ r) (with_run_last (two ∷ others) last run)

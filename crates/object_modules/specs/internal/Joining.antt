@@ -1,25 +1,17 @@
 -- Runs of bytes and fixes of segments that are joined one after another, as linking makes them.
-use Rattle.std.specs.Prelude.{ℕ, ◌+◌, ◌-◌, ◌==◌, nat_lt, if◌then◌else◌, List, [], ◌∷◌, ◌++◌, length, slice_index, slice_set, Option, Some, None, option_map}
+use Rattle.std.specs.Prelude.{ℕ, ◌+◌, ◌-◌, nat_lt, if◌then◌else◌, List, [], ◌∷◌, length, slice_index, slice_set, Option, Some, None, option_map}
 use Rattle.object_modules.specs.declared.segment.Fix.{Fix}
 use Rattle.object_modules.specs.declared.segment.FixKind.{FixKind}
 use Rattle.object_modules.specs.declared.segment.FixKind.TheVariants.{Low, High, Both}
 use Rattle.object_modules.specs.declared.segment.Target.{Target}
 use Rattle.object_modules.specs.Module.{Fixup, SetByte}
 use Rattle.object_modules.specs.Moving.{first_byte_moved, second_byte_moved, byte_moved}
+use Rattle.object_modules.specs.Runs.{with_run}
 use Rattle.object_modules.specs.Text.{Run}
 
 -- items one after another from a place on
 abbrev pub run_at : {A : Type 0} → (offset : ℕ) → List A → Run A
 run_at offset items = record { offset = offset; items = items }
-
--- a run after others, which continues the last of them if it begins at its end
-abbrev pub with_run : {A : Type 0} → List (Run A) → Run A → List (Run A)
-with_run [] run = run ∷ []
-with_run (last ∷ []) run =
-    if run.offset == last.offset + length last.items
-    then record { offset = last.offset; items = last.items ++ run.items } ∷ []
-    else last ∷ run ∷ []
-with_run (first ∷ next ∷ others) run = first ∷ with_run (next ∷ others) run
 
 -- runs one after another after others
 abbrev pub with_runs : {A : Type 0} → List (Run A) → List (Run A) → List (Run A)

@@ -1,4 +1,4 @@
-use Rattle.codegen8080.proofs.Prelude.{refl, ap, subst, LabelNumber, Steps, Writes, Emission, contents_items, AddsProcedures}
+use Rattle.codegen8080.proofs.Prelude.{refl, ap, subst, LabelNumber, Writes, Emission, contents_items, AddsProcedures}
 use Rattle.codegen8080.proofs.ModuleParts.{own_code_added}
 use Rattle.codegen8080.proofs.module.put_own_code.Goals as goal
 
@@ -15,7 +15,7 @@ returns c =
     (λ contents. Writes c.args.generator.now.emission.writer c.put_contents.new.writer (contents_items contents))
     c.as_slice.ensures.value c.in_ok-put_contents.ensures)
     refl (ap (λ (label : LabelNumber). label.index) c.label-start.ensures.label)
-    (ap (λ (steps : Steps). steps.labels) c.label-start.ensures.taken) c.in_ok-put_main_if_any.ensures
+    c.label-start.ensures.taken c.in_ok-put_main_if_any.ensures
     (subst
     (λ procedures. AddsProcedures c.args.tree.now 0 procedures c.put_main_if_any.new.generator
     c.put_procedures.new.generator)

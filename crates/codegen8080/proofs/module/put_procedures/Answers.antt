@@ -6,7 +6,7 @@ pub loop-left-preserved : goal.loop-left-preserved
 loop-left-preserved c =
     procedures_step c.args.tree.now c.args.generator.now c.loop-left.generator c.put_procedure.new.generator
     c.loop-left.number c.in_ok-number.number c.args.procedures.now c.loop-left.left.now _
-    c.in_ok-number.ensures (search rules) c.loop-left.invariant c.in_ok-put_procedure.ensures
+    c.in_ok-number.ensures.ok (search rules) c.loop-left.invariant c.in_ok-put_procedure.ensures
 
 pub returns : goal.returns
 returns c =

@@ -13,7 +13,7 @@ emit_ranked-loop-index-init t c =
     (λ (here : Site). AddsWithLabels c.args.self.now.steps c.plan_task.new.steps (task_labels here c.args.part)
     (task_steps here c.args.part))
     c.site-here.ensures c.in_ok-plan_task.ensures)
-    c.hold_labels.ensures
+    c.plan_task.new.steps.few
     (sym c.count-end.ensures))
 
 pub emit_ranked-loop-index-preserved : goal.emit_ranked-loop-index-preserved
