@@ -1,5 +1,5 @@
 -- The code of items is what their assembly is to be: it stands wherever it is resolved.
-use Rattle.asm8080.proofs.Prelude.{◌≡◌, ℕ, ◌+◌, ◌≤◌, Bool, true, false, cond, ◌&&◌, ◌||◌, nat_le, nat_lt, List, [], ◌∷◌, ◌++◌, length, map, replicate, Option, Some, None, option_map, unwrap_or, refl, sym, subst, ap, ◌∙◌, arith, All, list_all, eq-eqb, le-leb, lt-ltb, length-append, length-replicate, All-head, All-tail, Fix, Target, InSegment, External, Code, is_target, words_are_whole, fix_end, fixes_ascend, is_in_a_run, runs_from, SEGMENT_LIMIT, wrap, Reference, AtLabel, AtTarget, AtNumber, Item, Plain, WithWord, Byte, Address, Gap, Mark, BytesStand, SetBytesStand, Assembly, BoundOnce, IsAssembly, IsKnown, IsListed, KnowsLabels, Layout, ListsExternals, Stands, bytes_of_item, flags_of_item, flags_of_items, is_bound, is_set, marks, offset_of, size_of, size_of_items, AllBound, Assembles, fix_at, fixed_bytes, fixes_of_items, layout_at, place_in, target_of, with_fix, bytes_of_items, code_of, layout_from, offset_in}
+use Rattle.asm8080.proofs.Prelude.{◌≡◌, ℕ, ◌+◌, ◌≤◌, Bool, true, false, cond, ◌||◌, nat_le, nat_lt, List, [], ◌∷◌, ◌++◌, length, map, replicate, Option, Some, None, option_map, unwrap_or, refl, sym, subst, ap, ◌∙◌, arith, All, list_all, eq-eqb, le-leb, lt-ltb, length-append, length-replicate, All-head, All-tail, Fix, Target, InSegment, External, Code, is_target, words_are_whole, fix_end, fixes_ascend, is_in_a_run, runs_from, SEGMENT_LIMIT, wrap, Reference, AtLabel, AtTarget, AtNumber, Item, Plain, WithWord, Byte, Address, Gap, Mark, BytesStand, SetBytesStand, Assembly, BoundOnce, IsAssembly, IsKnown, IsListed, KnowsLabels, Layout, ListsExternals, Stands, bytes_of_item, flags_of_item, flags_of_items, is_bound, is_set, marks, offset_of, size_of, size_of_items, AllBound, Assembles, fix_at, fixed_bytes, fixes_of_items, layout_at, place_in, target_of, with_fix, bytes_of_items, code_of, layout_from, offset_in, and_from}
 use Rattle.asm8080.proofs.Words.{item_length}
 use Rattle.asm8080.proofs.Fixing.{cells_are, cells_of_items, fixed_items, some_length, whole_items}
 use Rattle.asm8080.proofs.Filling.{items_filled}
@@ -159,10 +159,6 @@ abbrev AreAfter : (start : ℕ) → List Fix → Type 0
 AreAfter start [] = Unit {0}
 AreAfter start (fix ∷ others) = start ≤ fix.offset
 
-and_true : (a b : Bool) → a ≡ true → b ≡ true → (a && b) ≡ true
-and_true true b h k = k
-and_true false b h k = h
-
 fixes_before :
     (fix : Fix) (others : List Fix)
     → AreAfter (fix_end fix) others
@@ -170,7 +166,7 @@ fixes_before :
     → fixes_ascend (fix ∷ others) ≡ true
 fixes_before fix [] after h = refl
 fixes_before fix (next ∷ others) after h =
-    and_true (nat_le (fix_end fix) next.offset) (fixes_ascend (next ∷ others))
+    and_from (nat_le (fix_end fix) next.offset) (fixes_ascend (next ∷ others))
     (le-leb (fix_end fix) next.offset after) h
 
 -- a word's fix before others keeps this
@@ -228,7 +224,7 @@ within_with :
     → list_all (ends_within end) (with_fix offset target others) ≡ true
 within_with offset end None others ends h = h
 within_with offset end (Some target) others ends h =
-    and_true (nat_le (offset + 2) end) (list_all (ends_within end) others) (le-leb (offset + 2) end ends) h
+    and_from (nat_le (offset + 2) end) (list_all (ends_within end) others) (le-leb (offset + 2) end ends) h
 
 pub items_within :
     (offset end : ℕ) (items : List Item)
@@ -259,10 +255,10 @@ fit_with :
     → list_all (fits_module count) (with_fix offset (target_of reference) others) ≡ true
 fit_with labels count offset (AtLabel label) others known listed h = h
 fit_with labels count offset (AtTarget (InSegment segment) displacement) others known listed h =
-    and_true (is_target count (InSegment segment)) (list_all (fits_module count) others) known h
+    and_from (is_target count (InSegment segment)) (list_all (fits_module count) others) known h
 fit_with labels count offset (AtTarget (External number) displacement) others known listed h =
-    and_true (is_target count (External number)) (list_all (fits_module count) others)
-    (and_true (nat_lt number count) (nat_lt number 65536) (lt-ltb number count listed.0)
+    and_from (is_target count (External number)) (list_all (fits_module count) others)
+    (and_from (nat_lt number count) (nat_lt number 65536) (lt-ltb number count listed.0)
     (lt-ltb number 65536 listed.1))
     h
 fit_with labels count offset (AtNumber number) others known listed h = h

@@ -1,5 +1,5 @@
 -- A call, and the return from it.
-use Rattle.asm8080.proofs.Prelude.{◌≡◌, ◌≢◌, ℕ, ◌+◌, ◌-◌, ◌*◌, ◌%◌, ◌<◌, ◌≤◌, List, length, ap, ◌∙◌, arith, slice_set, length-set, MEMORY_SIZE, IsMemory, byte_at, word_at, Event, Call, Status, Running, State, Registers, high_byte, low_byte, one_less, two_less, wrap, step_of, InstructionStands, StackIsAt}
+use Rattle.asm8080.proofs.Prelude.{◌≡◌, ◌≢◌, ℕ, ◌+◌, ◌-◌, ◌*◌, ◌%◌, ◌<◌, ◌≤◌, List, length, ap, ◌∙◌, arith, slice_set, length-set, MEMORY_SIZE, IsMemory, byte_at, word_at, Event, Call, Status, Running, State, Registers, high_byte, low_byte, one_less, two_less, wrap, step_of, InstructionStands, StackIsAt, low_byte_small}
 use Rattle.asm8080.proofs.Kept.{byte_kept, byte_put, memory_put}
 use Rattle.asm8080.proofs.Steps.{at, returned, step_is}
 
@@ -46,9 +46,6 @@ called script entry level s runs small stack room stands =
 high_small : (word : ℕ) → word < MEMORY_SIZE → high_byte word < 256
 high_small word h = omega arith
 
-low_small : (word : ℕ) → low_byte word < 256
-low_small word = omega arith
-
 pub pushed_is_memory :
     (level word : ℕ) (memory : List ℕ)
     → word < MEMORY_SIZE
@@ -57,7 +54,7 @@ pub pushed_is_memory :
 pushed_is_memory level word memory small is =
     memory_put (slice_set memory (level - 1) (high_byte word)) (level - 2) (low_byte word)
     (memory_put memory (level - 1) (high_byte word) is (high_small word small))
-    (low_small word)
+    (low_byte_small word)
 
 -- what a push keeps
 pub pushed_keeps :

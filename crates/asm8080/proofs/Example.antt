@@ -1,5 +1,5 @@
 -- The worked program, wherever it is placed: turn by turn.
-use Rattle.asm8080.proofs.Prelude.{◌≡◌, ℕ, suc, ◌+◌, ◌-◌, ◌%◌, ◌<◌, ◌≤◌, ◌⊎◌, inl, inr, true, false, List, [], ◌∷◌, length, slice_set, refl, sym, subst, ap, ◌∙◌, arith, length-set, MEMORY_SIZE, byte_at, IsIn, Event, InSegment, Code, Stack, Dcr, Hlt, Inr, Lxi, Mvi, Ret, Of, A, B, Sp, NotZero, Registers, State, high_byte, holds, low_byte, wrap, Item, Plain, WithWord, Mark, AtLabel, CallTo, JumpWhere, layout_at, Layout, Stands, Comes, Keeps, below}
+use Rattle.asm8080.proofs.Prelude.{◌≡◌, ℕ, suc, ◌+◌, ◌-◌, ◌%◌, ◌<◌, ◌≤◌, ◌⊎◌, inl, inr, true, false, List, [], ◌∷◌, length, slice_set, refl, sym, subst, ap, ◌∙◌, arith, length-set, MEMORY_SIZE, byte_at, IsIn, Event, InSegment, Code, Stack, Dcr, Hlt, Inr, Lxi, Mvi, Ret, Of, A, B, Sp, NotZero, Registers, State, high_byte, holds, low_byte, wrap, Item, Plain, WithWord, Mark, AtLabel, CallTo, JumpWhere, layout_at, Layout, Stands, Comes, Keeps, below, wrap_of_place}
 use Rattle.asm8080.proofs.RunLaws.{comes_on}
 use Rattle.asm8080.specs.Example.{CountsAnywhere, Ends, counting, counting_code}
 use Rattle.asm8080.proofs.Steps.{at, does, goes_past, jumps_where, step_is, step_then}
@@ -12,9 +12,6 @@ use Rattle.asm8080.proofs.Calls.{called, pushed, pushed_is_pushed, pushed_keeps,
 -- the parts of the program
 abbrev called_part : List Item
 called_part = Mark 1 ∷ Plain (Inr (Of A)) ∷ Plain Ret ∷ []
-
-wrapped : (place : ℕ) → place < MEMORY_SIZE → wrap place ≡ place
-wrapped place h = omega arith
 
 -- where there is room, what the calls write is not code
 abbrev Apart : (base level : ℕ) → Type 0
@@ -113,7 +110,7 @@ turn script layout base level memory r events k u is pointer more =
     still.stands.1.1.1.1.1.1.1.1.1.0
     ∙ returned_is level word (record (in_call level r) { pc = wrap (entry + 1 + 1) }) after events refl is.room is.limit
     (pushed_is_pushed level word memory is.room is.limit is.size)
-    ∙ ap (λ n. at n (after_call level r) after events) (wrapped (top_of base + 3) past_call))
+    ∙ ap (λ n. at n (after_call level r) after events) (wrap_of_place (top_of base + 3) past_call))
     (straight script layout (Dcr (Of B) ∷ []) (WithWord (JumpWhere NotZero) (AtLabel 0) ∷ Plain Hlt ∷ called_part)
     (top_of base + 3) (base + 15) (after_call level r) after events k u refl still.stands.1.1.1.1 past_count more)))
 

@@ -1,5 +1,5 @@
 -- All bytes of the fixes of items are set.
-use Rattle.asm8080.proofs.Prelude.{◌≡◌, ℕ, ◌+◌, ◌≤◌, Bool, true, false, cond, ◌==◌, ◌&&◌, ◌||◌, nat_le, List, [], ◌∷◌, ◌++◌, length, map, replicate, Option, Some, None, refl, sym, subst, ap, ◌∙◌, arith, list_all, eq-eqb, eqb-true, le-leb, leb-true, length-replicate, Fix, Code, Target, fix_end, is_within, content_of_run, is_in_a_run, Run, before_runs, runs_from, both, bytes_of, high_byte, low_byte, Item, Plain, WithWord, Byte, Address, Gap, Mark, Layout, word_of, fix_at, fixes_of_items, target_of, with_fix}
+use Rattle.asm8080.proofs.Prelude.{◌≡◌, ℕ, ◌+◌, ◌≤◌, Bool, true, false, cond, ◌==◌, ◌||◌, nat_le, List, [], ◌∷◌, ◌++◌, length, map, replicate, Option, Some, None, refl, sym, subst, ap, ◌∙◌, arith, list_all, eq-eqb, eqb-true, le-leb, leb-true, length-replicate, Fix, Code, Target, fix_end, is_within, content_of_run, is_in_a_run, Run, before_runs, runs_from, bytes_of, high_byte, low_byte, Item, Plain, WithWord, Byte, Address, Gap, Mark, Layout, word_of, fix_at, fixes_of_items, target_of, with_fix, and_from, and_parts, or_left, or_right}
 use Rattle.asm8080.proofs.Words.{form_bytes, opcode}
 use Rattle.asm8080.proofs.Fixing.{cells_of_items, some_length}
 
@@ -9,18 +9,6 @@ run_at offset items = record { offset = offset; items = items }
 abbrev InRuns : List (Run ℕ) → List Fix → Type 0
 InRuns runs fixes = list_all (is_in_a_run Code runs) fixes ≡ true
 
-and_true : (a b : Bool) → a ≡ true → b ≡ true → (a && b) ≡ true
-and_true true b h k = k
-and_true false b h k = h
-
-or_left : (a b : Bool) → a ≡ true → (a || b) ≡ true
-or_left true b h = refl
-or_left false b h = let bad : false ≡ true = h in cc
-
-or_right : (a b : Bool) → b ≡ true → (a || b) ≡ true
-or_right true b h = refl
-or_right false b h = h
-
 -- a fix within a run
 inside :
     (offset : ℕ) (items : List ℕ) (fix : Fix)
@@ -28,7 +16,7 @@ inside :
     → fix_end fix ≤ offset + length items
     → is_within (content_of_run Code (run_at offset items)) fix ≡ true
 inside offset items fix starts ends =
-    and_true (nat_le offset fix.offset) (nat_le (fix_end fix) (offset + length items))
+    and_from (nat_le offset fix.offset) (nat_le (fix_end fix) (offset + length items))
     (le-leb offset fix.offset starts) (le-leb (fix_end fix) (offset + length items) ends)
 
 -- a run with a byte before it
@@ -38,7 +26,7 @@ longer :
     → is_within (content_of_run Code next) fix ≡ true
     → is_within (content_of_run Code (run_at offset (value ∷ next.items))) fix ≡ true
 longer offset value next fix here h =
-    let parts = both (nat_le next.offset fix.offset) (nat_le (fix_end fix) (next.offset + length next.items)) h in
+    let parts = and_parts (nat_le next.offset fix.offset) (nat_le (fix_end fix) (next.offset + length next.items)) h in
     let starts : next.offset ≤ fix.offset = leb-true next.offset fix.offset parts.0 in
     let ends : fix_end fix ≤ next.offset + length next.items
     = leb-true (fix_end fix) (next.offset + length next.items) parts.1 in
@@ -88,8 +76,8 @@ all_more :
     → InRuns (before_runs offset value runs) fixes
 all_more offset value runs [] h = refl
 all_more offset value runs (fix ∷ others) h =
-    let parts = both (is_in_a_run Code runs fix) (list_all (is_in_a_run Code runs) others) h in
-    and_true (is_in_a_run Code (before_runs offset value runs) fix)
+    let parts = and_parts (is_in_a_run Code runs fix) (list_all (is_in_a_run Code runs) others) h in
+    and_from (is_in_a_run Code (before_runs offset value runs) fix)
     (list_all (is_in_a_run Code (before_runs offset value runs)) others)
     (in_more offset value runs fix parts.0) (all_more offset value runs others parts.1)
 
@@ -163,7 +151,7 @@ word_more offset low high target rest fixes h = by_target target
         (from : Option Target) → InRuns (runs_from offset (Some low ∷ Some high ∷ rest)) (with_fix offset from fixes)
     by_target None = later
     by_target (Some from) =
-        and_true (is_in_a_run Code (runs_from offset (Some low ∷ Some high ∷ rest)) (fix_at offset from))
+        and_from (is_in_a_run Code (runs_from offset (Some low ∷ Some high ∷ rest)) (fix_at offset from))
         (list_all (is_in_a_run Code (runs_from offset (Some low ∷ Some high ∷ rest))) fixes)
         (word_in offset low high from rest) later
 

@@ -1,16 +1,10 @@
 -- The step of a machine that comes to an item that is an instruction. Places count on past the end of memory, where the
 -- program counter begins at 0 again.
-use Rattle.asm8080.proofs.Prelude.{◌≡◌, ℕ, ◌+◌, ◌-◌, ◌<◌, ◌≤◌, List, ◌∷◌, refl, ap, ◌∙◌, arith, MEMORY_SIZE, Event, Instr, Pop, Push, Ret, StackPair, Registers, pushed_of, with_popped, wrap, act, step_of, Item, Plain, WithWord, Reference, WordForm, Layout, Stands, instruction_with, word_of, InstructionStands, size_of_instruction}
+use Rattle.asm8080.proofs.Prelude.{◌≡◌, ℕ, ◌+◌, ◌-◌, ◌≤◌, List, ◌∷◌, refl, ap, ◌∙◌, arith, MEMORY_SIZE, Event, Instr, Pop, Push, Ret, StackPair, Registers, pushed_of, with_popped, wrap, act, step_of, Item, Plain, WithWord, Reference, WordForm, Layout, Stands, instruction_with, word_of, InstructionStands, size_of_instruction, wrapped_once, wrapped_small}
 use Rattle.asm8080.proofs.Calls.{IsPushed, pushed}
 use Rattle.asm8080.proofs.Kept.{bytes_alike, size_with}
 use Rattle.asm8080.proofs.Stack.{pop_does, push_does, return_does}
 use Rattle.asm8080.proofs.Steps.{at, step_is}
-
-small : (place : ℕ) → wrap place < MEMORY_SIZE
-small place = omega arith
-
-twice : (place : ℕ) → wrap place ≡ wrap (wrap place)
-twice place = omega arith
 
 past : (place size : ℕ) → wrap (wrap place + size) ≡ wrap (place + size)
 past place size = omega arith
@@ -22,8 +16,8 @@ pub step_at :
     → step_of script (at (wrap place) r memory events)
     ≡ act script i (at (wrap (place + size_of_instruction i)) r memory events)
 step_at script i place r memory events stands =
-    step_is script i (at (wrap place) r memory events) refl (small place)
-    (bytes_alike memory _ place (wrap place) (twice place) stands)
+    step_is script i (at (wrap place) r memory events) refl (wrapped_small place)
+    (bytes_alike memory _ place (wrap place) (wrapped_once place) stands)
     ∙ ap (λ n. act script i (at n r memory events)) (past place (size_of_instruction i))
 
 -- an item that is an instruction

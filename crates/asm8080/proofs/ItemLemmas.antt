@@ -1,14 +1,5 @@
 -- What one item more at the end does.
-use Rattle.asm8080.proofs.Prelude.{◌≡◌, ℕ, ◌<◌, ◌≤◌, ◌==◌, Bool, true, false, ◌||◌, List, [], ◌∷◌, ◌++◌, All, refl, sym, subst, ap, ◌∙◌, arith, All-head, All-tail, All-push, eqb-true, ne_eqb, Item, Plain, WithWord, Byte, Address, Gap, Mark, Assembly, BindsNew, BindsSame, BindsSameBut, BoundOnce, IsAssembly, KnowsLabels, is_bound, marks}
-
-neither : (here more : Bool) → here ≡ false → more ≡ false → (here || more) ≡ false
-neither false false h m = refl
-neither true more h m = h
-neither false true h m = m
-
-right_false : (here more : Bool) → (here || more) ≡ false → more ≡ false
-right_false true more h = let bad : true ≡ false = h in cc
-right_false false more h = h
+use Rattle.asm8080.proofs.Prelude.{◌≡◌, ℕ, ◌<◌, ◌≤◌, ◌==◌, Bool, true, false, ◌||◌, List, [], ◌∷◌, ◌++◌, All, refl, sym, subst, ap, ◌∙◌, arith, All-head, All-tail, All-push, eqb-true, ne_eqb, Item, Plain, WithWord, Byte, Address, Gap, Mark, Assembly, BindsNew, BindsSame, BindsSameBut, BoundOnce, IsAssembly, KnowsLabels, is_bound, marks, or_from, or_parts}
 
 -- a label that one item binds, and another would bind only where that one didn't
 other_false : (here new others : Bool) → here ≡ true → (new ≡ true → (here || others) ≡ false) → new ≡ false
@@ -21,15 +12,11 @@ pub bound_more :
     → is_bound label items ≡ false
     → marks label item ≡ false
     → is_bound label (items ++ item ∷ []) ≡ false
-bound_more label [] item b m = neither (marks label item) false m refl
+bound_more label [] item b m = or_from (marks label item) false m refl
 bound_more label (first ∷ others) item b m =
-    neither (marks label first) (is_bound label (others ++ item ∷ []))
-    (left_false (marks label first) (is_bound label others) b)
-    (bound_more label others item (right_false (marks label first) (is_bound label others) b) m)
-  where
-    left_false : (here more : Bool) → (here || more) ≡ false → here ≡ false
-    left_false true more h = h
-    left_false false more h = refl
+    or_from (marks label first) (is_bound label (others ++ item ∷ []))
+    (or_parts (marks label first) (is_bound label others) b).0
+    (bound_more label others item (or_parts (marks label first) (is_bound label others) b).1 m)
 
 pub once_more :
     (items : List Item) (item : Item)
@@ -42,7 +29,7 @@ once_more (first ∷ others) item once new = (
       bound_more label others item (once.0 label m)
       (other_false (marks label first) (marks label item) (is_bound label others) m (new label))),
   once_more others item once.1
-      (λ label m. right_false (marks label first) (is_bound label others) (new label m)),
+      (λ label m. (or_parts (marks label first) (is_bound label others) (new label m)).1),
 )
 
 -- an assembly with one item more
@@ -104,7 +91,7 @@ unbound_from assembly label is from = none_of assembly.items is.known
     none_of : (items : List Item) → All (KnowsLabels assembly.labels) items → is_bound label items ≡ false
     none_of [] known = refl
     none_of (item ∷ others) known =
-        neither (marks label item) (is_bound label others)
+        or_from (marks label item) (is_bound label others)
         (unmarked item (All-head (KnowsLabels assembly.labels) item others known))
         (none_of others (All-tail (KnowsLabels assembly.labels) item others known))
 

@@ -26,9 +26,6 @@ abbrev pub Alike : (from to : ℕ) → (memory other : List ℕ) → Type 0
 Alike from to memory other =
     (address : ℕ) → from ≤ address → address < to → byte_at other address ≡ byte_at memory address
 
-pub wrapped : (place : ℕ) → place < MEMORY_SIZE → place ≡ wrap place
-wrapped place h = omega arith
-
 pub bytes_stay :
     (memory other bytes : List ℕ) (from to : ℕ)
     → to ≤ MEMORY_SIZE

@@ -1,14 +1,10 @@
 -- Code in parts: what stands of one after another, where a label is and where a jump goes.
-use Rattle.asm8080.proofs.Prelude.{◌≡◌, ℕ, ◌+◌, Bool, true, false, ◌||◌, List, [], ◌∷◌, ◌++◌, refl, sym, subst, ap, ◌∙◌, arith, wrap, Item, Plain, WithWord, Byte, Address, Gap, Mark, AtLabel, WordForm, InstructionStands, Layout, Stands, instruction_with, is_bound, marks, size_of, size_of_items}
+use Rattle.asm8080.proofs.Prelude.{◌≡◌, ℕ, ◌+◌, ◌||◌, List, [], ◌∷◌, ◌++◌, refl, sym, subst, ap, ◌∙◌, arith, wrap, Item, Plain, WithWord, Byte, Address, Gap, Mark, AtLabel, WordForm, InstructionStands, Layout, Stands, instruction_with, is_bound, marks, size_of, size_of_items, or_assoc}
 
 pub size_in_parts :
     (items others : List Item) → size_of_items (items ++ others) ≡ size_of_items items + size_of_items others
 size_in_parts [] others = omega arith
 size_in_parts (item ∷ rest) others = omega (arith, size_in_parts rest others)
-
-or_grouped : (a b c : Bool) → (a || (b || c)) ≡ ((a || b) || c)
-or_grouped true b c = refl
-or_grouped false b c = refl
 
 pub bound_in_parts :
     (label : ℕ) (items others : List Item)
@@ -16,7 +12,7 @@ pub bound_in_parts :
 bound_in_parts label [] others = refl
 bound_in_parts label (item ∷ rest) others =
     ap (λ later. marks label item || later) (bound_in_parts label rest others)
-    ∙ or_grouped (marks label item) (is_bound label rest) (is_bound label others)
+    ∙ sym (or_assoc (marks label item) (is_bound label rest) (is_bound label others))
 
 -- two parts, the second from where the first ends
 pub record StandsInParts (layout : Layout) (memory : List ℕ) (items others : List Item) (from to : ℕ) : Type 0 where

@@ -1,67 +1,7 @@
 -- Code as the code segment of an object module: its places, what such a segment keeps to, and its bytes where it is
 -- placed.
-use Rattle.asm8080.proofs.Prelude.{◌≡◌, ℕ, suc, ◌+◌, ◌-◌, ◌<◌, ◌≤◌, Bool, true, false, cond, not, ◌==◌, ◌&&◌, nat_lt, nat_le, List, [], ◌∷◌, length, map, find, Option, Some, None, option_map, slice_index, refl, sym, subst, ap, ◌∙◌, arith, All, list_all, range_with_len, option_map_or, eqb-true, eqb-false, lt-ltb, lt-leb, le-leb, le-ltb, leb-true, ltb-true, All-head, All-tail, Fix, Segment, Code, SEGMENT_LIMIT, is_empty, same_segment, Plan, gain_at, placed_bytes, Fixup, ObjectModule, SetByte, is_target, is_valid_byte, is_valid_segment, words_are_whole, module_places, moved, fixup_at, set_in, IsStored, are_longest, places_stored, Run, before_runs, runs_from, byte_in_run, content_with, found, found_is, run_at, same_over, Assembled, Assembles, fixed_bytes, resolved, segment_of, set_bytes, Assembly}
+use Rattle.asm8080.proofs.Prelude.{◌≡◌, ℕ, suc, ◌+◌, ◌<◌, ◌≤◌, Bool, true, false, cond, not, ◌==◌, ◌&&◌, nat_lt, nat_le, List, [], ◌∷◌, length, map, find, Option, Some, None, option_map, refl, sym, subst, ap, ◌∙◌, arith, All, list_all, range_with_len, option_map_or, eqb-true, eqb-false, lt-ltb, lt-leb, le-leb, leb-true, ltb-true, All-head, All-tail, Fix, Segment, Code, SEGMENT_LIMIT, is_empty, same_segment, Plan, gain_at, placed_bytes, Fixup, ObjectModule, SetByte, is_target, is_valid_byte, is_valid_segment, words_are_whole, module_places, moved, fixup_at, set_in, IsStored, are_longest, places_stored, Run, before_runs, runs_from, byte_in_run, content_with, found, found_is, run_at, same_over, Assembled, Assembles, fixed_bytes, resolved, segment_of, set_bytes, Assembly, and_from, and_parts, found_after, found_first, found_shorter}
 use Rattle.asm8080.specs.Assembled.{places_of}
-
-pub and_true : (a b : Bool) → a ≡ true → b ≡ true → (a && b) ≡ true
-and_true true b h k = k
-and_true false b h k = h
-
-pub left_true : (a b : Bool) → (a && b) ≡ true → a ≡ true
-left_true true b h = refl
-left_true false b h = h
-
-pub right_true : (a b : Bool) → (a && b) ≡ true → b ≡ true
-right_true true b h = h
-right_true false b h = let bad : false ≡ true = h in cc
-
--- what is found by runs
-found_first :
-    (fixes : List Fix) (offset first : ℕ) (items : List ℕ) (others : List (Run ℕ))
-    → found fixes (run_at offset (first ∷ items) ∷ others) offset
-    ≡ Some (record { value = first; fixup = fixup_at fixes offset })
-found_first fixes offset first items others =
-    let here : offset < offset + length (first ∷ items) = omega arith in
-    let none : offset - offset ≡ 0 = omega arith in
-    ap (λ b.
-    cond (b && nat_lt offset (offset + length (first ∷ items)))
-    (Some (byte_in_run fixes offset (run_at offset (first ∷ items)))) (found fixes others offset))
-    (le-leb offset offset (omega arith))
-    ∙ ap (λ b.
-    cond b (Some (byte_in_run fixes offset (run_at offset (first ∷ items)))) (found fixes others offset))
-    (lt-ltb offset (offset + length (first ∷ items)) here)
-    ∙ ap (λ k. Some (record { value = slice_index (first ∷ items) k; fixup = fixup_at fixes offset })) none
-
-found_shorter :
-    (fixes : List Fix) (offset first : ℕ) (items : List ℕ) (others : List (Run ℕ)) (x : ℕ)
-    → offset + 1 ≤ x
-    → found fixes (run_at offset (first ∷ items) ∷ others) x ≡ found fixes (run_at (offset + 1) items ∷ others) x
-found_shorter fixes offset first items others x h =
-    let starts : offset ≤ x = omega arith in
-    let next : x - offset ≡ suc (x - (offset + 1)) = omega arith in
-    let ends : offset + length (first ∷ items) ≡ offset + 1 + length items = omega arith in
-    ap (λ b.
-    cond (b && nat_lt x (offset + length (first ∷ items)))
-    (Some (byte_in_run fixes x (run_at offset (first ∷ items)))) (found fixes others x))
-    (le-leb offset x starts ∙ sym (le-leb (offset + 1) x h))
-    ∙ ap (λ end.
-    cond (nat_le (offset + 1) x && nat_lt x end) (Some (byte_in_run fixes x (run_at offset (first ∷ items))))
-    (found fixes others x)) ends
-    ∙ ap (λ k.
-    cond (nat_le (offset + 1) x && nat_lt x (offset + 1 + length items))
-    (Some (record { value = slice_index (first ∷ items) k; fixup = fixup_at fixes x })) (found fixes others x)) next
-
-found_after :
-    (fixes : List Fix) (run : Run ℕ) (others : List (Run ℕ)) (x : ℕ)
-    → run.offset + length run.items ≤ x
-    → found fixes (run ∷ others) x ≡ found fixes others x
-found_after fixes run others x h =
-    let starts : run.offset ≤ x = omega arith in
-    ap (λ b.
-    cond (b && nat_lt x (run.offset + length run.items)) (Some (byte_in_run fixes x run)) (found fixes others x))
-    (le-leb run.offset x starts)
-    ∙ ap (λ b. cond b (Some (byte_in_run fixes x run)) (found fixes others x))
-    (le-ltb x (run.offset + length run.items) h)
 
 -- all runs begin at a place or after it
 abbrev AllFrom : ℕ → List (Run ℕ) → Type 0
@@ -185,17 +125,17 @@ apart_from_next :
 apart_from_next size offset items value [] h =
     let ends : offset + 1 + length items ≤ size
     = leb-true (offset + 1 + length items) size
-    (right_true (not (is_empty items)) (nat_le (offset + 1 + length items) size) h) in
+    (and_parts (not (is_empty items)) (nat_le (offset + 1 + length items) size) h).1 in
     le-leb (offset + length (value ∷ items)) size (omega (arith, ends))
 apart_from_next size offset items value (next ∷ others) h =
     let front : Bool = not (is_empty items) && nat_lt (offset + 1 + length items) next.offset in
     let before : offset + 1 + length items < next.offset
     = ltb-true (offset + 1 + length items) next.offset
-    (right_true (not (is_empty items)) (nat_lt (offset + 1 + length items) next.offset)
-    (left_true front (are_longest size (next ∷ others)) h)) in
-    and_true (nat_lt (offset + length (value ∷ items)) next.offset) (are_longest size (next ∷ others))
+    (and_parts (not (is_empty items)) (nat_lt (offset + 1 + length items) next.offset)
+    (and_parts front (are_longest size (next ∷ others)) h).0).1 in
+    and_from (nat_lt (offset + length (value ∷ items)) next.offset) (are_longest size (next ∷ others))
     (lt-ltb (offset + length (value ∷ items)) next.offset (omega (arith, before)))
-    (right_true front (are_longest size (next ∷ others)) h)
+    (and_parts front (are_longest size (next ∷ others)) h).1
 
 less_by : (n m : ℕ) → m ≤ n → (n ≡ m → ⊥) → m < n
 less_by n m le ne = omega (arith, le, ne)
@@ -220,7 +160,7 @@ longest_more size offset value (next ∷ others) room from h = go (next.offset =
         let from_here : offset + 1 ≤ next.offset = from.0 in
         let other : next.offset ≡ offset + 1 → ⊥ = eqb-false next.offset (offset + 1) e in
         let before : offset + 1 < next.offset = less_by next.offset (offset + 1) from_here other in
-        and_true (nat_lt (offset + 1) next.offset) (are_longest size (next ∷ others))
+        and_from (nat_lt (offset + 1) next.offset) (are_longest size (next ∷ others))
         (lt-ltb (offset + 1) next.offset before) h
 
 pub runs_longest :
@@ -254,9 +194,9 @@ target_at :
 target_at count [] x h = refl
 target_at count (fix ∷ others) x h =
     go (fix.offset == x)
-    (left_true (is_target count fix.target) (list_all (λ (other : Fix). is_target count other.target) others) h)
+    (and_parts (is_target count fix.target) (list_all (λ (other : Fix). is_target count other.target) others) h).0
     (target_at count others x
-    (right_true (is_target count fix.target) (list_all (λ (other : Fix). is_target count other.target) others) h))
+    (and_parts (is_target count fix.target) (list_all (λ (other : Fix). is_target count other.target) others) h).1)
   where
     shown : Option Fix → Option Fixup
     shown found = option_map (λ (fix : Fix). record { kind = fix.kind; target = fix.target }) found
@@ -285,9 +225,9 @@ valid_bytes count fixes offset (value ∷ others) (false ∷ later) small target
     valid_bytes count fixes (offset + 1) others later (All-tail (λ (byte : ℕ). byte < 256) value others small) targets
 valid_bytes count fixes offset (value ∷ others) (true ∷ later) small targets =
     let here : SetByte = record { value = value; fixup = fixup_at fixes offset } in
-    and_true (is_valid_byte count here)
+    and_from (is_valid_byte count here)
     (set_well count (fixed_bytes fixes (offset + 1) (set_bytes others later)))
-    (and_true (nat_lt value 256)
+    (and_from (nat_lt value 256)
     (option_map_or (λ (fixup : Fixup). is_target count fixup.target) (fixup_at fixes offset) true)
     (lt-ltb value 256 (All-head (λ (byte : ℕ). byte < 256) value others small))
     (target_at count fixes offset targets))
@@ -310,13 +250,13 @@ segment_valid assembly code count is few small targets =
     let size : length (places_of code) ≡ length code.bytes
     = places_length code.fixes 0 (set_bytes code.bytes code.is_set) ∙ set_length code.bytes code.is_set in
     ap valid (segment_places code)
-    ∙ and_true
+    ∙ and_from
     ((nat_le (length (places_of code)) SEGMENT_LIMIT && set_well count (places_of code))
     && words_are_whole (places_of code))
     true
-    (and_true (nat_le (length (places_of code)) SEGMENT_LIMIT && set_well count (places_of code))
+    (and_from (nat_le (length (places_of code)) SEGMENT_LIMIT && set_well count (places_of code))
     (words_are_whole (places_of code))
-    (and_true (nat_le (length (places_of code)) SEGMENT_LIMIT) (set_well count (places_of code))
+    (and_from (nat_le (length (places_of code)) SEGMENT_LIMIT) (set_well count (places_of code))
     (le-leb (length (places_of code)) SEGMENT_LIMIT (omega (arith, few, size)))
     (valid_bytes count code.fixes 0 code.bytes code.is_set small targets))
     is.whole)

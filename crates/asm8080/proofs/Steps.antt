@@ -1,5 +1,5 @@
 -- A step where an instruction stands, and runs that begin with one.
-use Rattle.asm8080.proofs.Prelude.{◌≡◌, ℕ, suc, ◌+◌, ◌*◌, ◌%◌, ◌<◌, true, false, if◌then◌else◌, List, [], ◌∷◌, length, refl, sym, ap, ◌∙◌, arith, MEMORY_SIZE, byte_at, Event, Condition, Instr, Lxi, Shld, Lhld, Sta, Lda, Mvi, AccumulateImmediate, JumpIf, CallIf, Jmp, Call, Out, In, Ret, ReturnIf, Running, State, Registers, high_byte, holds, low_byte, wrap, act, return, advance, carry_out, next_word, running, state_after, step_by, step_of, form_of, decodes, form_for, first_step, Comes, Meets, effect_of, BytesStand, InstructionStands, size_of_instruction}
+use Rattle.asm8080.proofs.Prelude.{◌≡◌, ℕ, suc, ◌+◌, ◌%◌, ◌<◌, true, false, if◌then◌else◌, List, [], ◌∷◌, length, refl, sym, ap, ◌∙◌, arith, MEMORY_SIZE, byte_at, Event, Condition, Instr, Lxi, Shld, Lhld, Sta, Lda, Mvi, AccumulateImmediate, JumpIf, CallIf, Jmp, Call, Out, In, Ret, ReturnIf, Running, State, Registers, high_byte, holds, low_byte, wrap, act, return, advance, carry_out, next_word, running, state_after, step_by, step_of, form_of, decodes, form_for, first_step, Comes, Meets, effect_of, BytesStand, InstructionStands, size_of_instruction, equals_wrapped, word_of_two, wrap_of_place}
 use Rattle.isa8080.proofs.EncodingLemmas.{code_of}
 
 first_byte_is :
@@ -8,9 +8,6 @@ first_byte_is :
     → byte_at memory (wrap place) ≡ code_of i
 first_byte_is memory place (Lxi p w) h = h.0
 first_byte_is memory place i h = h.0
-
-word_of_two : (low high w : ℕ) → low ≡ low_byte w → high ≡ high_byte w → low + 256 * high ≡ w
-word_of_two low high w l h = omega arith
 
 next_wrapped : (place : ℕ) → (wrap (place + 1) + 1) % MEMORY_SIZE ≡ wrap (place + 1 + 1)
 next_wrapped place = omega arith
@@ -44,9 +41,6 @@ carried_out script (Out n) s h = ap (λ v. act script (Out v) (advance 2 s)) h.1
 carried_out script (In n) s h = ap (λ v. act script (In v) (advance 2 s)) h.1.0
 carried_out script i s h = refl
 
-within : (place : ℕ) → place < MEMORY_SIZE → place ≡ wrap place
-within place h = omega arith
-
 -- where an instruction stands at the program counter of a machine that runs, the step is what it does
 pub step_is :
     (script : List (List ℕ)) (i : Instr) (s : State)
@@ -57,7 +51,7 @@ pub step_is :
 unfolding step_of
 step_is script i s runs small h =
     ap (λ status. step_by script status s) runs
-    ∙ (ap (λ place. carry_out script (form_of (byte_at s.memory place)) s) (within s.registers.pc small)
+    ∙ (ap (λ place. carry_out script (form_of (byte_at s.memory place)) s) (equals_wrapped s.registers.pc small)
     ∙ (ap (λ code. carry_out script (form_of code) s) (first_byte_is s.memory s.registers.pc i h)
     ∙ (ap (λ form. carry_out script form s) (decodes i) ∙ carried_out script i s h)))
 
@@ -84,9 +78,6 @@ block script (i ∷ others) s h =
 abbrev pub at : (place : ℕ) → Registers → (memory : List ℕ) → List Event → State
 at place r memory events = running (record r { pc = place }) memory events
 
-wrapped : (place : ℕ) → place < MEMORY_SIZE → wrap place ≡ place
-wrapped place h = omega arith
-
 -- a run that begins with an instruction
 pub does :
     (script : List (List ℕ)) (k : ℕ) (i : Instr) (place : ℕ) (r : Registers) (memory : List ℕ)
@@ -99,7 +90,7 @@ does script k i place r memory events u stands small more =
     step_then script k (at place r memory events)
     (act script i (at (place + size_of_instruction i) r memory events)) u
     (step_is script i (at place r memory events) refl (omega arith) stands
-    ∙ ap (λ n. act script i (at n r memory events)) (wrapped (place + size_of_instruction i) small)) more
+    ∙ ap (λ n. act script i (at n r memory events)) (wrap_of_place (place + size_of_instruction i) small)) more
 
 -- a run that begins with a jump
 pub jumps :
@@ -144,7 +135,7 @@ goes_past script k c word place r memory events u stands small false_here more =
     step_then script k (at place r memory events) (at (place + 3) r memory events) u
     (step_is script (JumpIf c word) (at place r memory events) refl (omega arith) stands
     ∙ (ap (λ b. if b then at word r memory events else at (wrap (place + 3)) r memory events) false_here
-    ∙ ap (λ n. at n r memory events) (wrapped (place + 3) small))) more
+    ∙ ap (λ n. at n r memory events) (wrap_of_place (place + 3) small))) more
 
 -- a run that begins with a conditional return whose condition does not hold
 pub stays_here :
@@ -159,7 +150,7 @@ stays_here script k c place r memory events u stands small false_here more =
     step_then script k (at place r memory events) (at (place + 1) r memory events) u
     (step_is script (ReturnIf c) (at place r memory events) refl (omega arith) stands
     ∙ (ap (λ b. if b then return (at (wrap (place + 1)) r memory events) else at (wrap (place + 1)) r memory events) false_here
-    ∙ ap (λ n. at n r memory events) (wrapped (place + 1) small))) more
+    ∙ ap (λ n. at n r memory events) (wrap_of_place (place + 1) small))) more
 
 -- the machine after a return
 abbrev pub returned : Registers → (memory : List ℕ) → List Event → State

@@ -1,5 +1,5 @@
 -- Straight code of instructions that touch registers alone.
-use Rattle.asm8080.proofs.Prelude.{◌≡◌, ℕ, suc, ◌+◌, ◌<◌, ◌≤◌, Bool, true, false, ◌&&◌, List, [], ◌∷◌, refl, sym, arith, subst, MEMORY_SIZE, Event, B, Of, Bc, Instr, Nop, Lxi, Inx, Dcx, Dad, Inr, Dcr, Mvi, Rlc, Rrc, Ral, Rar, Daa, Cma, Stc, Cmc, Mov, Accumulate, AccumulateImmediate, Xchg, State, Registers, act, running, Item, Plain, Layout, Stands, Comes, size_of_instruction}
+use Rattle.asm8080.proofs.Prelude.{◌≡◌, ℕ, suc, ◌+◌, ◌<◌, ◌≤◌, Bool, true, false, ◌&&◌, List, [], ◌∷◌, refl, sym, arith, subst, MEMORY_SIZE, Event, B, Of, Bc, Instr, Nop, Lxi, Inx, Dcx, Dad, Inr, Dcr, Mvi, Rlc, Rrc, Ral, Rar, Daa, Cma, Stc, Cmc, Mov, Accumulate, AccumulateImmediate, Xchg, State, Registers, act, running, Item, Plain, Layout, Stands, Comes, size_of_instruction, and_parts, first_below, lt_of_le_of_lt}
 use Rattle.asm8080.proofs.Steps.{at, does}
 
 -- an instruction touches registers and flags alone
@@ -91,25 +91,11 @@ abbrev pub steps_of : List Instr → (more : ℕ) → ℕ
 steps_of [] more = more
 steps_of (i ∷ others) more = suc (steps_of others more)
 
-le_on : (a b c : ℕ) → a + b ≤ c → a ≤ c
-le_on a b c h = omega arith
-
 pub past_later : (instructions : List Instr) (place : ℕ) → place ≤ past place instructions
 past_later [] place = omega arith
 past_later (i ∷ others) place =
-    le_on place (size_of_instruction i) (past (place + size_of_instruction i) others)
+    first_below place (size_of_instruction i) (past (place + size_of_instruction i) others)
     (past_later others (place + size_of_instruction i))
-
-lt_on : (a b c : ℕ) → a ≤ b → b < c → a < c
-lt_on a b c h g = omega arith
-
-first_touches : (here others : Bool) → (here && others) ≡ true → here ≡ true
-first_touches true others h = refl
-first_touches false others h = let bad : false ≡ true = h in cc
-
-others_touch : (here others : Bool) → (here && others) ≡ true → others ≡ true
-others_touch true others h = h
-others_touch false others h = let bad : false ≡ true = h in cc
 
 -- a run that begins with straight code
 pub straight :
@@ -124,11 +110,11 @@ straight script layout [] items place to r memory events k u touch stands small 
 straight script layout (i ∷ others) items place to r memory events k u touch stands small more =
     let next = place + size_of_instruction i in
     does script (steps_of others k) i place r memory events u stands.0
-    (lt_on next (past next others) MEMORY_SIZE (past_later others next) small)
+    (lt_of_le_of_lt (past_later others next) small)
     (subst (λ (s : State). Comes script (steps_of others k) s u)
-    (sym (acts script i next r memory events (first_touches (touches_registers i) (touch_registers others) touch)))
+    (sym (acts script i next r memory events (and_parts (touches_registers i) (touch_registers others) touch).0))
     (straight script layout others items next to (does_to i r) memory events k u
-    (others_touch (touches_registers i) (touch_registers others) touch) stands.1 small more))
+    (and_parts (touches_registers i) (touch_registers others) touch).1 stands.1 small more))
 
 -- what stands after straight code
 pub stands_after :

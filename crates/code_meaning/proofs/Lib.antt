@@ -1,4 +1,6 @@
 mod Prelude
+pub mod Numbers
+pub mod Outcomes
 pub mod Landing
 pub mod Standing
 pub mod FirstItems

@@ -69,7 +69,7 @@ ready_after_push activation top word base source frame r memory lies room below 
     }
 
 -- a push changes only bytes that the activation owns
-push_keeps :
+pub push_keeps :
     (activation : Activation) (top word : ℕ) (memory : List ℕ)
     → activation.floor + 2 ≤ top
     → Keeps (Owns activation top) memory (pushed top word memory)

@@ -1,5 +1,5 @@
 -- The code of statements as it is written step by step.
-use Rattle.codegen8080.proofs.Prelude.{◌≡◌, ℕ, suc, ◌+◌, ◌-◌, ◌≤◌, ◌<◌, inl, Bool, true, List, [], ◌++◌, length, Option, Some, None, Result, Ok, Err, OnOk, slice_get, drop, refl, sym, ap, subst, ◌∙◌, arith, append_assoc, append-nil, drop_at, drop_all, IfOk, Item, Range, TreeStatement, StatementNumber, Facts, Step, label_after, Writes, writes_nothing, writes_then, Site, Emission, knowing, EmitsSteps, HasAll, NotesCalled, are_kept, are_labels_kept, emits_then, has_itself, left_is, none_is, notes_then, Body, Planned, Generator, Here, AddsList, AddsPlanned, AddsStatement, AddsStep, here_of, AreAllCarriedOut, AreCarriedOut, HoldsNoStatement, IsCarriedOut, IsListCarriedOut, ListCarriedOut, ListPlanned, MoreStatements, NoStatements, NoneCarriedOut, StatementCarriedOut, StatementPlanned, StepCarriedOut, carried_steps, here_after, site_of, waiting_after, AreAllLabelled, AreStepsLabelled, IsListLabelled, IsStatementLabelled, LabelledList, LabelledStatement, LabelledStatements, LabelledSteps, statement_labels, statement_steps, CarriesOut}
+use Rattle.codegen8080.proofs.Prelude.{◌≡◌, ℕ, suc, ◌+◌, ◌-◌, ◌≤◌, ◌<◌, inl, Bool, true, List, [], ◌++◌, length, Option, Some, None, Result, Ok, Err, OnOk, slice_get, drop, refl, sym, ap, subst, ◌∙◌, arith, append_assoc, append-nil, drop_at, drop_all, IfOk, Item, Range, TreeStatement, StatementNumber, Facts, Step, label_after, Writes, writes_nothing, writes_then, Site, Emission, knowing, EmitsSteps, HasAll, NotesCalled, are_kept, are_labels_kept, emits_then, has_itself, none_is, notes_then, Body, Planned, Generator, Here, AddsList, AddsPlanned, AddsStatement, AddsStep, here_of, AreAllCarriedOut, AreCarriedOut, HoldsNoStatement, IsCarriedOut, IsListCarriedOut, ListCarriedOut, ListPlanned, MoreStatements, NoStatements, NoneCarriedOut, StatementCarriedOut, StatementPlanned, StepCarriedOut, carried_steps, here_after, site_of, waiting_after, AreAllLabelled, AreStepsLabelled, IsListLabelled, IsStatementLabelled, LabelledList, LabelledStatement, LabelledStatements, LabelledSteps, statement_labels, statement_steps, CarriesOut, drop_found}
 use Rattle.statements8080.specs.declared.plan.Planned.TheVariants as planned
 
 -- steps that may not be added, after others
@@ -227,7 +227,7 @@ module _ (body : Body) (before now : Generator) (waiting : Option Facts) (start 
             (λ routine given. wider routine (carries.called routine given))
             (subst (λ left. LabelledSteps body called (here_of now) waiting left (carries.list ++ more) last
             now.emission.steps.labels end)
-            (sym (left_is steps index step is))
+            (sym (drop_found steps index step is))
             (carries.followed called (drop (index + 1) steps) more last end wider
             (subst (λ at. LabelledSteps body called (here_of next) waits (drop (index + 1) at) more last
             next.emission.steps.labels end)

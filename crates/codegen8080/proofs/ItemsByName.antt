@@ -1,6 +1,5 @@
 -- Items of a module that stand with the code's numbers for labels and names stand with the module's own.
-use Rattle.codegen8080.proofs.Prelude.{◌≡◌, ℕ, ◌+◌, List, [], ◌∷◌, Option, Some, None, option_map, unwrap_or, refl, sym, ap, subst, ◌∙◌, none-some, high_byte, low_byte, wrap, bytes_of, Target, InSegment, External, Item, Plain, WithWord, Byte, Address, Gap, Mark, Reference, AtLabel, AtTarget, AtNumber, Layout, Stands, instruction_with, word_of, BytesStand, entry, Written, in_front, numbered, numbered_item, numbered_reference}
-use Rattle.codegen8080.proofs.ModuleParts.{same_item}
+use Rattle.codegen8080.proofs.Prelude.{◌≡◌, ℕ, ◌+◌, List, [], ◌∷◌, Option, Some, None, option_map, unwrap_or, refl, sym, ap, subst, ◌∙◌, none-some, high_byte, low_byte, wrap, bytes_of, Target, InSegment, External, Item, Plain, WithWord, Byte, Address, Gap, Mark, Reference, AtLabel, AtTarget, AtNumber, Layout, Stands, instruction_with, word_of, BytesStand, entry, Written, in_front, numbered, numbered_item, numbered_reference, same_Some}
 
 -- a target with the code's number for its name
 abbrev pub target_by : Written → Target → Target
@@ -27,9 +26,9 @@ module _ (layout : Layout) (written : Written) (memory : List ℕ) where
       by None is none = absurd (none-some known none)
       by (Some number) is some =
           ap (λ (found : Option ℕ). wrap (layout.place_of (unwrap_or found 0))) is
-          ∙ ap (word_of layout) (same_item (AtLabel number) known some)
+          ∙ ap (word_of layout) (same_Some (AtLabel number) known some)
   same_word (AtTarget (InSegment segment) offset) known given =
-      ap (word_of layout) (same_item (AtTarget (InSegment segment) offset) known given)
+      ap (word_of layout) (same_Some (AtTarget (InSegment segment) offset) known given)
   same_word (AtTarget (External name) offset) known given = by (entry written.externals name) refl given
     where
       by : (number : Option ℕ) → entry written.externals name ≡ number
@@ -39,8 +38,8 @@ module _ (layout : Layout) (written : Written) (memory : List ℕ) where
       by None is none = absurd (none-some known none)
       by (Some number) is some =
           ap (λ (found : Option ℕ). wrap (offset + layout.address_of (External (unwrap_or found 0)))) is
-          ∙ ap (word_of layout) (same_item (AtTarget (External number) offset) known some)
-  same_word (AtNumber number) known given = ap (word_of layout) (same_item (AtNumber number) known given)
+          ∙ ap (word_of layout) (same_Some (AtTarget (External number) offset) known some)
+  same_word (AtNumber number) known given = ap (word_of layout) (same_Some (AtNumber number) known given)
 
   -- an item, and others after it
   item_stands : (item found : Item) (others made : List Item) (from to : ℕ)
@@ -50,15 +49,15 @@ module _ (layout : Layout) (written : Written) (memory : List ℕ) where
       → Stands (layout_by layout written) memory (item ∷ others) from to
   item_stands (Plain i) found others made from to given rest stands =
       let here = subst (λ one. Stands layout memory (one ∷ made) from to)
-      (sym (same_item (Plain i) found given)) stands in
+      (sym (same_Some (Plain i) found given)) stands in
       (here.0, rest _ here.1)
   item_stands (Byte value) found others made from to given rest stands =
       let here = subst (λ one. Stands layout memory (one ∷ made) from to)
-      (sym (same_item (Byte value) found given)) stands in
+      (sym (same_Some (Byte value) found given)) stands in
       (here.0, rest _ here.1)
   item_stands (Gap count) found others made from to given rest stands =
       rest _ (subst (λ one. Stands layout memory (one ∷ made) from to)
-      (sym (same_item (Gap count) found given)) stands)
+      (sym (same_Some (Gap count) found given)) stands)
   item_stands (Mark label) found others made from to given rest stands =
       by (entry written.labels label) refl given
     where
@@ -69,7 +68,7 @@ module _ (layout : Layout) (written : Written) (memory : List ℕ) where
       by None is none = absurd (none-some found none)
       by (Some number) is some =
           let here = subst (λ one. Stands layout memory (one ∷ made) from to)
-          (sym (same_item (Mark number) found some)) stands in
+          (sym (same_Some (Mark number) found some)) stands in
           (ap (λ (known : Option ℕ). layout.place_of (unwrap_or known 0)) is ∙ here.0, rest from here.1)
   item_stands (WithWord form reference) found others made from to given rest stands =
       by (numbered_reference written reference) refl given
@@ -82,7 +81,7 @@ module _ (layout : Layout) (written : Written) (memory : List ℕ) where
       by None is none = absurd (none-some found none)
       by (Some known) is some =
           let here = subst (λ one. Stands layout memory (one ∷ made) from to)
-          (sym (same_item (WithWord form known) found some)) stands in (
+          (sym (same_Some (WithWord form known) found some)) stands in (
             subst (λ word. BytesStand memory from (bytes_of (instruction_with form word)))
                 (sym (same_word reference known is)) here.0,
             rest _ here.1,
@@ -100,7 +99,7 @@ module _ (layout : Layout) (written : Written) (memory : List ℕ) where
       by None is none = absurd (none-some found none)
       by (Some known) is some =
           let here = subst (λ one. Stands layout memory (one ∷ made) from to)
-          (sym (same_item (Address known) found some)) stands in (
+          (sym (same_Some (Address known) found some)) stands in (
             subst (λ word. BytesStand memory from (low_byte word ∷ high_byte word ∷ []))
                 (sym (same_word reference known is)) here.0,
             rest _ here.1,
@@ -112,7 +111,7 @@ module _ (layout : Layout) (written : Written) (memory : List ℕ) where
       → Stands layout memory made from to
       → Stands (layout_by layout written) memory items from to
   items_by_name [] made from to given stands =
-      subst (λ list. Stands layout memory list from to) (sym (same_item [] made given)) stands
+      subst (λ list. Stands layout memory list from to) (sym (same_Some [] made given)) stands
   items_by_name (item ∷ others) made from to given stands =
       by (numbered_item written item) (numbered written others) refl refl given
       (λ rest at is there. items_by_name others rest at to is there)
@@ -130,4 +129,4 @@ module _ (layout : Layout) (written : Written) (memory : List ℕ) where
       by (Some first) (Some rest) first_is rest_is some later =
           item_stands item first others rest from to first_is
           (λ at there. later rest at rest_is there)
-          (subst (λ list. Stands layout memory list from to) (sym (same_item (first ∷ rest) made some)) stands)
+          (subst (λ list. Stands layout memory list from to) (sym (same_Some (first ∷ rest) made some)) stands)

@@ -1,6 +1,6 @@
 -- Code as a segment of an object module, with other targets of its fixes.
-use Rattle.codegen8080.proofs.Prelude.{◌≡◌, ℕ, suc, ◌+◌, ◌-◌, ◌<◌, ◌≤◌, Bool, true, false, cond, not, ◌==◌, ◌&&◌, ◌||◌, nat_lt, nat_le, List, [], ◌∷◌, ◌++◌, length, map, find, take, drop, Option, Some, None, option_map, slice_get, slice_index, slice_index_or, zero, if◌then◌else◌, refl, sym, ap, ◌∙◌, arith, All, IsTrue, list_all, range_with_len, slice_range, option_map_or, option_flatten, eq-eqb, le-leb, append-nil, append_assoc, map-append, Fix, FixKind, Segment, Absolute, Code, Data, Stack, Target, InSegment, External, SEGMENT_LIMIT, same_segment, Fixup, SetByte, begins_word, is_both, is_plain, is_target, is_valid_segment, words_are_whole, fixup_at, fix_end, set_in, IsStored, are_longest, fixes_ascend, is_in_a_run, places_stored, Run, before_runs, runs_from, run_at, with_run, with_runs, Assembled, Assembles, FitsSegment, fixed_bytes, places_of, segment_of, set_bytes, Assembly, and_true, places_length, run_places, runs_longest, set_length, set_well, valid_bytes, Finishes, Written, retargeted, with_targets, IsKept, KeepsFixes, listed_target, retarget}
-use Rattle.object_modules.proofs.StoredRuns.{content_with, found, found_is, same_over}
+use Rattle.codegen8080.proofs.Prelude.{◌≡◌, ℕ, suc, ◌+◌, ◌-◌, ◌<◌, ◌≤◌, Bool, true, false, cond, not, ◌==◌, ◌&&◌, ◌||◌, nat_lt, nat_le, List, [], ◌∷◌, ◌++◌, length, map, find, take, drop, Option, Some, None, option_map, slice_get, slice_index, slice_index_or, zero, if◌then◌else◌, refl, sym, ap, ◌∙◌, arith, All, IsTrue, list_all, slice_range, option_map_or, option_flatten, eq-eqb, le-leb, append-nil, append_assoc, map-append, Fix, FixKind, Segment, Absolute, Code, Data, Stack, Target, InSegment, External, SEGMENT_LIMIT, Fixup, SetByte, begins_word, is_both, is_plain, is_target, is_valid_segment, words_are_whole, fixup_at, fix_end, IsStored, are_longest, fixes_ascend, is_in_a_run, places_stored, Run, before_runs, runs_from, run_at, with_run, with_runs, Assembled, Assembles, FitsSegment, fixed_bytes, places_of, segment_of, set_bytes, Assembly, places_length, runs_longest, set_length, set_well, valid_bytes, Finishes, Written, retargeted, with_targets, IsKept, KeepsFixes, listed_target, retarget, and_from, segment_places_in, take_found, take_whole}
+use Rattle.object_modules.proofs.StoredRuns.{found}
 use Rattle.object_laws.proofs.Merges.RunsJoined.{runs_append}
 
 -- assembled code keeps its fixes
@@ -97,21 +97,9 @@ targets_valid :
     → list_all (λ (fix : Fix). is_target count fix.target) (map (retargeted (retarget numbers count)) fixes) ≡ true
 targets_valid numbers count [] = refl
 targets_valid numbers count (fix ∷ others) =
-    and_true (is_target count (retarget numbers count fix.target))
+    and_from (is_target count (retarget numbers count fix.target))
     (list_all (λ (fix : Fix). is_target count fix.target) (map (retargeted (retarget numbers count)) others))
     (target_valid numbers count fix.target) (targets_valid numbers count others)
-
--- the places of a stored segment are those of its code
-pub places_in :
-    (segment : Segment) (code : Assembled) → same_segment segment segment ≡ true
-    → (places_stored segment (segment_of code)).places ≡ places_of code
-places_in segment code same =
-    let bytes : List (Option ℕ) = set_bytes code.bytes code.is_set in
-    let runs : List (Run ℕ) = runs_from 0 bytes in
-    same_over (set_in (map (content_with segment code.fixes) runs) segment) (found code.fixes runs) 0 (length code.bytes)
-    (λ x le. found_is segment code.fixes runs x same)
-    ∙ ap (λ n. map (found code.fixes runs) (range_with_len 0 n)) (sym (set_length code.bytes code.is_set))
-    ∙ run_places code.fixes 0 bytes
 
 -- The segment of code with other targets is stored, and a module may have it.
 module _ (numbers : List ℕ) (count : ℕ) (code : Assembled) (fits : FitsSegment code) (keeps : KeepsFixes code) where
@@ -148,13 +136,13 @@ module _ (numbers : List ℕ) (count : ℕ) (code : Assembled) (fits : FitsSegme
         let size : length (places_of moved) ≡ length code.bytes
         = places_length moved.fixes 0 (set_bytes code.bytes code.is_set) ∙ set_length code.bytes code.is_set in
         ap (λ places. ((nat_le (length places) SEGMENT_LIMIT && set_well count places) && words_are_whole places) && true) is
-        ∙ and_true
+        ∙ and_from
         ((nat_le (length (places_of moved)) SEGMENT_LIMIT && set_well count (places_of moved))
         && words_are_whole (places_of moved))
         true
-        (and_true (nat_le (length (places_of moved)) SEGMENT_LIMIT && set_well count (places_of moved))
+        (and_from (nat_le (length (places_of moved)) SEGMENT_LIMIT && set_well count (places_of moved))
         (words_are_whole (places_of moved))
-        (and_true (nat_le (length (places_of moved)) SEGMENT_LIMIT) (set_well count (places_of moved))
+        (and_from (nat_le (length (places_of moved)) SEGMENT_LIMIT) (set_well count (places_of moved))
         (le-leb (length (places_of moved)) SEGMENT_LIMIT (omega (arith, fits.few, size)))
         (valid_bytes count moved.fixes 0 code.bytes code.is_set small (targets_valid numbers count code.fixes)))
         (whole_still (retarget numbers count) code.fixes 0 (set_bytes code.bytes code.is_set) ∙ keeps.whole))
@@ -162,11 +150,11 @@ module _ (numbers : List ℕ) (count : ℕ) (code : Assembled) (fits : FitsSegme
 
     pub valid_code :
         is_valid_segment count (places_stored Code (segment_of (with_targets (retarget numbers count) code))) ≡ true
-    valid_code = valid_places _ (places_in Code moved refl)
+    valid_code = valid_places _ (segment_places_in Code moved refl)
 
     pub valid_data :
         is_valid_segment count (places_stored Data (segment_of (with_targets (retarget numbers count) code))) ≡ true
-    valid_data = valid_places _ (places_in Data moved refl)
+    valid_data = valid_places _ (segment_places_in Data moved refl)
 
     pub kept : IsKept count (segment_of (with_targets (retarget numbers count) code))
     kept = record {
@@ -185,15 +173,6 @@ set_at (byte ∷ others) [] zero h = refl
 set_at (byte ∷ others) (here ∷ later) zero h = refl
 set_at (byte ∷ others) [] (suc i) h = set_at others [] i (omega (arith, h))
 set_at (byte ∷ others) (here ∷ later) (suc i) h = set_at others later i (omega (arith, h))
-
-some_same : {A : Type 0} (a b : A) → Some a ≡ Some b → a ≡ b
-some_same a b h = cc
-
-take_more : {A : Type 0} (items : List A) (i : ℕ) (item : A) → slice_get items i ≡ Some item
-    → take (suc i) items ≡ take i items ++ item ∷ []
-take_more [] i item h = cc
-take_more {A = A} (first ∷ others) zero item h = ap (λ (found : A). found ∷ []) (some_same first item h)
-take_more {A = A} (first ∷ others) (suc i) item h = ap (λ (rest : List A). first ∷ rest) (take_more others i item h)
 
 take_length : {A : Type 0} (items : List A) (i : ℕ) → i ≤ length items → length (take i items) ≡ i
 take_length [] zero h = refl
@@ -214,7 +193,7 @@ runs_next places i place h is =
     let taken : length (take i places) ≡ i = take_length places i (omega (arith, h)) in
     let size : 0 + length (take i places) ≡ i = omega (arith, taken) in
     ap (λ n. runs_from 0 (take n places)) more
-    ∙ ap (λ items. runs_from 0 items) (take_more places i place is)
+    ∙ ap (λ items. runs_from 0 items) (take_found places i place is)
     ∙ runs_append 0 (take i places) (place ∷ [])
     ∙ ap (λ n. with_runs (runs_from 0 (take i places)) (runs_from n (place ∷ []))) size
 
@@ -288,7 +267,7 @@ stretch_more bytes flags start i le lt set is =
     let here : slice_get places i ≡ Some (Some byte)
     = set_at bytes flags i lt ∙ ap (λ b. Some (if b then Some byte else None)) set in
     ap (λ n. take n places) more
-    ∙ take_more places i (Some byte) here
+    ∙ take_found places i (Some byte) here
     ∙ ap (λ front. front ++ Some byte ∷ []) is
     ∙ append_assoc (take start places) (map Some (slice_range bytes start i)) (Some byte ∷ [])
     ∙ ap (λ rest. take start places ++ rest) (sym (map-append Some (slice_range bytes start i) (byte ∷ [])))
@@ -308,15 +287,9 @@ stretch_ended bytes flags start end le few is =
     ∙ runs_append 0 (take start places) (map Some (slice_range bytes start end))
     ∙ ap (λ n. with_runs (runs_from 0 (take start places)) (runs_from n (map Some (slice_range bytes start end)))) size)
 
-take_all : {A : Type 0} (items : List A) (i : ℕ) → length items ≤ i → take i items ≡ items
-take_all [] zero h = refl
-take_all [] (suc i) h = refl
-take_all (first ∷ others) zero h = elim h [ ]
-take_all (first ∷ others) (suc i) h = ap (λ rest. first ∷ rest) (take_all others i (omega (arith, h)))
-
 pub runs_ended :
     (bytes : List ℕ) (flags : List Bool) (i : ℕ) → length bytes ≤ i
     → runs_from 0 (take i (set_bytes bytes flags)) ≡ runs_from 0 (set_bytes bytes flags)
 runs_ended bytes flags i h =
     ap (λ items. runs_from 0 items)
-    (take_all (set_bytes bytes flags) i (omega (arith, h, set_length bytes flags)))
+    (take_whole (set_bytes bytes flags) i (omega (arith, h, set_length bytes flags)))

@@ -1,5 +1,5 @@
 -- The code of a module, from the code of its parts.
-use Rattle.codegen8080.proofs.Prelude.{◌≡◌, ℕ, zero, suc, ◌+◌, inl, inr, Bool, true, false, List, replicate, slice_index_or, [], ◌∷◌, ◌++◌, Option, Some, None, Result, Ok, Err, OnOk, slice_get, length, take, drop, ◌-◌, ◌<◌, arith, unwrap_or, refl, sym, ap, subst, ◌∙◌, append_assoc, append-nil, add-one, option_map, none-some, Item, Routine, Content, TreeModule, ProcedureKind, TreeProcedure, Extends, entry, no_facts, label_after, Written, Writes, in_front, items_stay, writes_nothing, writes_then, has_routine, index_of_routine, module_routine_label, HasAll, IsEmpty, NotesCalled, has_itself, none_noted, notes_then, Generator, LabelledList, LabelledSteps, AreRoutines, IsCodeOfRoutine, IsCodeWritten, IsMainCode, IsMainLabelled, IsOwnCode, IsProcedureCode, IsProcedureLabelled, all_routines, content_items, contents_items, has_main, entry_labels, entry_steps, AddsCalled, AddsCodeOfMain, AddsMain, AddsOwnCode, AddsProcedure, AddsProcedures, AddsRoutineIf, AddsRoutines, LabelledCode, LabelledCodeOfMain, LabelledEnd, LabelledProcedure, LabelledProcedures}
+use Rattle.codegen8080.proofs.Prelude.{◌≡◌, ℕ, zero, suc, ◌+◌, inl, inr, Bool, true, false, List, replicate, slice_index_or, [], ◌∷◌, ◌++◌, Option, Some, None, Result, Ok, Err, OnOk, slice_get, length, take, drop, ◌-◌, ◌<◌, arith, refl, sym, ap, subst, ◌∙◌, append_assoc, append-nil, add-one, option_map, none-some, Item, Routine, Content, TreeModule, ProcedureKind, TreeProcedure, Extends, entry, no_facts, label_after, Written, Writes, in_front, items_stay, writes_nothing, writes_then, has_routine, index_of_routine, module_routine_label, HasAll, IsEmpty, NotesCalled, has_itself, none_noted, notes_then, Generator, LabelledList, LabelledSteps, AreRoutines, IsCodeOfRoutine, IsCodeWritten, IsMainCode, IsMainLabelled, IsOwnCode, IsProcedureCode, IsProcedureLabelled, all_routines, content_items, contents_items, has_main, entry_labels, entry_steps, AddsCalled, AddsCodeOfMain, AddsMain, AddsOwnCode, AddsProcedure, AddsProcedures, AddsRoutineIf, AddsRoutines, LabelledCode, LabelledCodeOfMain, LabelledEnd, LabelledProcedure, LabelledProcedures, same_Some}
 use Rattle.asm8080.specs.declared.item.Item.TheVariants as items
 use Rattle.treecode.specs.declared.procedure.ProcedureKind.TheVariants as kinds
 use Rattle.codegen8080.proofs.BodyParts.{end_kept}
@@ -10,9 +10,6 @@ pub take_all : {A : Type 0} (list : List A) (count : ℕ) → count ≡ length l
 take_all [] count same = ap (λ number. take number []) same
 take_all (first ∷ others) count same =
     ap (λ number. take number (first ∷ others)) same ∙ ap (λ rest. first ∷ rest) (take_all others (length others) refl)
-
-pub same_item : {A : Type 0} (one other : A) → Some one ≡ Some other → one ≡ other
-same_item one other same = ap (λ (found : Option _). unwrap_or found one) same
 
 -- The contents of a segment are being added; some of them remain.
 pub record IsPutting (before now : Written) (whole left : List Content) : Type 0 where
@@ -44,7 +41,7 @@ putting_step before now next whole [] content at putting writes = absurd (none-s
 putting_step before now next whole (first ∷ others) content at putting writes =
     subst (IsPutting before next whole) (sym (take_all others (length (first ∷ others) - 1) (omega arith)))
     (putting_goes_on before now next whole first others putting
-    (subst (λ one. Writes now next (content_items one)) (same_item content first (sym at)) writes))
+    (subst (λ one. Writes now next (content_items one)) (same_Some content first (sym at)) writes))
 
 pub putting_ends :
     (before now : Written) (whole : List Content)
@@ -195,7 +192,7 @@ procedures_step tree before now next number following whole [] procedure follows
 procedures_step tree before now next number following whole (first ∷ others) procedure follows at putting adds =
     subst (AreBeingPut tree before next following whole) (sym (take_all others (length (first ∷ others) - 1) (omega arith)))
     (procedures_go_on tree before now next number following whole first others follows putting
-    (subst (λ one. AddsProcedure tree number one now next) (same_item procedure first (sym at)) adds))
+    (subst (λ one. AddsProcedure tree number one now next) (same_Some procedure first (sym at)) adds))
 
 procedures_end :
     (tree : TreeModule) (before now : Generator) (number : ℕ) (whole : List TreeProcedure)

@@ -1,6 +1,6 @@
 -- Names that are listed one by one.
-use Rattle.codegen8080.proofs.Prelude.{◌≡◌, ℕ, ◌-◌, ◌<◌, List, [], ◌∷◌, ◌++◌, Option, Some, None, length, take, drop, slice_get, refl, sym, ap, subst, ◌∙◌, arith, append_assoc, append-nil, none-some, Public, Assembled, ExternalName, PublicName, used_names, AreListed, ArePublicsIn, HavePlaces, IsPlaceAfter, IsPublicIn, used_name, Linkage}
-use Rattle.codegen8080.proofs.ModuleParts.{same_item, take_all}
+use Rattle.codegen8080.proofs.Prelude.{◌≡◌, ℕ, ◌-◌, ◌<◌, List, [], ◌∷◌, ◌++◌, Option, Some, None, length, take, drop, slice_get, refl, sym, ap, subst, ◌∙◌, arith, append_assoc, append-nil, none-some, Public, Assembled, ExternalName, PublicName, used_names, AreListed, ArePublicsIn, HavePlaces, IsPlaceAfter, IsPublicIn, used_name, Linkage, same_Some}
+use Rattle.codegen8080.proofs.ModuleParts.{take_all}
 
 -- Names are being listed; some numbers and names remain.
 pub record IsListingNames
@@ -44,8 +44,8 @@ listing_names_step externals numbers places place next [] (known ∷ left) names
     listing placed publics more = absurd (none-some external rest_is)
 listing_names_step externals numbers places place next (first ∷ rest) (known ∷ left) names after number external
     left_is rest_is listing placed publics more =
-    let here : number ≡ known = same_item number known (sym left_is) in
-    let there : external ≡ first = same_item external first (sym rest_is) in
+    let here : number ≡ known = same_Some number known (sym left_is) in
+    let there : external ≡ first = same_Some external first (sym rest_is) in
     let front : used_name number external ≡ used_name known first =
     ap (λ one. used_name one external) here ∙ ap (used_name known) there in
     let at : IsPlaceAfter places known place next = subst (λ one. IsPlaceAfter places one place next) here placed in
@@ -108,7 +108,7 @@ pub publics_step :
 publics_step labels bytes publics before now next [] name public at adding is externals more =
     absurd (none-some name at)
 publics_step labels bytes publics before now next (first ∷ left) name public at adding is externals more =
-    let here : name ≡ first = same_item name first (sym at) in
+    let here : name ≡ first = same_Some name first (sym at) in
     let is_here : IsPublicIn labels bytes first.name first.place public =
     subst (λ (one : PublicName). IsPublicIn labels bytes one.name one.place public) here is in
     let stepped : IsAddingPublics labels bytes publics before next left = record {

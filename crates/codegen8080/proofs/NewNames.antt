@@ -1,32 +1,20 @@
 -- Distinct names, and one more.
-use Rattle.codegen8080.proofs.Prelude.{◌≡◌, ℕ, Bool, true, false, not, ◌||◌, List, [], ◌∷◌, ◌++◌, map, if◌then◌else◌, refl, sym, ap, ◌∙◌, list_all, bytes_eq, and_true, left_true, right_true, is_name, Public, are_new, is_among, is_valid_public, IsLinkage, Linkage, names_of}
+use Rattle.codegen8080.proofs.Prelude.{◌≡◌, ℕ, Bool, true, false, not, List, [], ◌∷◌, ◌++◌, map, if◌then◌else◌, refl, sym, ap, ◌∙◌, list_all, bytes_eq, is_name, Public, are_new, is_among, is_valid_public, IsLinkage, Linkage, names_of, and_from, and_parts, append-nil, or_from, or_parts}
 use Rattle.indexmap.specs.IndexSet.{insert_key}
-
-left_false : (a b : Bool) → (a || b) ≡ false → a ≡ false
-left_false true b h = h
-left_false false b h = refl
-
-right_false : (a b : Bool) → (a || b) ≡ false → b ≡ false
-right_false true b h = let bad : true ≡ false = h in cc
-right_false false b h = h
-
-or_false : (a b : Bool) → a ≡ false → b ≡ false → (a || b) ≡ false
-or_false true b h k = h
-or_false false b h k = k
 
 new_after :
     (names known : List (List ℕ)) (name : List ℕ)
     → are_new names known ≡ true → is_among name names ≡ false → is_among name known ≡ false
     → are_new (names ++ name ∷ []) known ≡ true
-new_after [] known name new other fresh = and_true (not (is_among name known)) true (ap not fresh) refl
+new_after [] known name new other fresh = and_from (not (is_among name known)) true (ap not fresh) refl
 new_after (first ∷ others) known name new other fresh =
-    and_true (not (is_among first known)) (are_new (others ++ name ∷ []) (first ∷ known))
-    (left_true (not (is_among first known)) (are_new others (first ∷ known)) new)
+    and_from (not (is_among first known)) (are_new (others ++ name ∷ []) (first ∷ known))
+    (and_parts (not (is_among first known)) (are_new others (first ∷ known)) new).0
     (new_after others (first ∷ known) name
-    (right_true (not (is_among first known)) (are_new others (first ∷ known)) new)
-    (right_false (bytes_eq name first) (is_among name others) other)
-    (or_false (bytes_eq name first) (is_among name known)
-    (left_false (bytes_eq name first) (is_among name others) other) fresh))
+    (and_parts (not (is_among first known)) (are_new others (first ∷ known)) new).1
+    (or_parts (bytes_eq name first) (is_among name others) other).1
+    (or_from (bytes_eq name first) (is_among name known)
+    (or_parts (bytes_eq name first) (is_among name others) other).0 fresh))
 
 -- distinct names, and another one
 pub one_more :
@@ -38,15 +26,11 @@ one_more names name new other = new_after names [] name new other refl
 pub all_and_one :
     {A : Type 0} (test : A → Bool) (items : List A) (item : A)
     → list_all test items ≡ true → test item ≡ true → list_all test (items ++ item ∷ []) ≡ true
-all_and_one test [] item all one = and_true (test item) true one refl
+all_and_one test [] item all one = and_from (test item) true one refl
 all_and_one test (first ∷ others) item all one =
-    and_true (test first) (list_all test (others ++ item ∷ []))
-    (left_true (test first) (list_all test others) all)
-    (all_and_one test others item (right_true (test first) (list_all test others) all) one)
-
-append_nothing : {A : Type 0} (items : List A) → items ++ [] ≡ items
-append_nothing [] = refl
-append_nothing {A = A} (first ∷ others) = ap (λ (rest : List A). first ∷ rest) (append_nothing others)
+    and_from (test first) (list_all test (others ++ item ∷ []))
+    (and_parts (test first) (list_all test others) all).0
+    (all_and_one test others item (and_parts (test first) (list_all test others) all).1 one)
 
 append_again : {A : Type 0} (items more : List A) (item : A) → items ++ (more ++ item ∷ []) ≡ (items ++ more) ++ item ∷ []
 append_again [] more item = refl
@@ -64,8 +48,8 @@ pub external_names :
     ≡ names_of (record { externals = externals; publics = publics }) ++ name ∷ []
 external_names externals publics name none =
     ap (λ (p : List Public). names_of (record { externals = externals ++ name ∷ []; publics = p })) none
-    ∙ append_nothing (externals ++ name ∷ [])
-    ∙ ap (λ (e : List (List ℕ)). e ++ name ∷ []) (sym (append_nothing externals))
+    ∙ append-nil (externals ++ name ∷ [])
+    ∙ ap (λ (e : List (List ℕ)). e ++ name ∷ []) (sym (append-nil externals))
     ∙ ap (λ (p : List Public). names_of (record { externals = externals; publics = p }) ++ name ∷ []) (sym none)
 
 -- one more public name

@@ -1,6 +1,5 @@
 -- The object module of a module, from its parts.
-use Rattle.codegen8080.proofs.Prelude.{◌≡◌, ℕ, zero, suc, ◌+◌, ◌<◌, inl, inr, Bool, true, false, ◌&&◌, nat_lt, if◌then◌else◌, List, [], ◌∷◌, ◌++◌, length, map, Option, Some, None, slice_get, refl, sym, ap, subst, ◌∙◌, arith, append_assoc, lt-ltb, none-some, unwrap_or, Segment, Absolute, Code, Data, Stack, Target, InSegment, External, ObjectModule, Places, Public, is_movable, places_stored, Assembled, segment_of, ExternalName, PublicName, PublicPlace, Object, Procedure, TreeModule, Extends, entry, Finishes, NumbersNames, Written, known_label, numbered, place_of_known, place_of_label, use_either, AreTargets, ArePublicsOf, IsCodeWritten, IsGenerated, IsPublicOf, contents_items, has_main, used_names, AreListed, ArePublicsIn, HavePlaces, IsMadeOf, IsPublicIn, Linkage, with_targets, listed_target, retarget}
-use Rattle.codegen8080.proofs.KeptSegments.{places_in}
+use Rattle.codegen8080.proofs.Prelude.{◌≡◌, ℕ, zero, suc, ◌+◌, ◌<◌, inl, inr, Bool, true, false, nat_lt, if◌then◌else◌, List, [], ◌∷◌, ◌++◌, length, map, Option, Some, None, slice_get, refl, sym, ap, subst, ◌∙◌, arith, append_assoc, lt-ltb, none-some, Segment, Absolute, Code, Data, Stack, Target, InSegment, External, ObjectModule, Places, Public, is_movable, places_stored, Assembled, segment_of, ExternalName, PublicName, PublicPlace, Object, Procedure, TreeModule, Extends, entry, Finishes, NumbersNames, Written, known_label, numbered, place_of_known, place_of_label, use_either, AreTargets, ArePublicsOf, IsCodeWritten, IsGenerated, IsPublicOf, contents_items, has_main, used_names, AreListed, ArePublicsIn, HavePlaces, IsMadeOf, IsPublicIn, Linkage, with_targets, listed_target, retarget, and_from, same_Some, segment_places_in, slice_get_within}
 
 -- the label with this number, from the table of known labels
 known_at :
@@ -69,9 +68,6 @@ one_longer (first ∷ front) item place same =
     let more : length (front ++ item ∷ []) ≡ length front + 1 = one_longer front item (length front) refl in
     omega (arith, same, more)
 
-same_number : (one other : ℕ) → Some one ≡ Some other → one ≡ other
-same_number one other same = ap (λ (found : Option ℕ). unwrap_or found 0) same
-
 find_name :
     (places : List ℕ) (listed front : List (List ℕ)) (place : ℕ) (numbers : List (Option ℕ))
     (externals : List ExternalName) (index number : ℕ)
@@ -89,7 +85,7 @@ find_name places listed front place (Some known ∷ numbers) (external ∷ exter
       external = external;
       place = place;
       name = refl;
-      at = ap (slice_get places) (sym (same_number known number at)) ∙ have.1.follows.0;
+      at = ap (slice_get places) (sym (same_Some known number at)) ∙ have.1.follows.0;
       low = omega (arith, have.1.follows.1, have.1.follows.2);
       found =
           ap (λ names. slice_get names place) is
@@ -119,17 +115,6 @@ find_name places listed front place (Some known ∷ numbers) (external ∷ exter
       found = there.found;
     }
 
-within : {A : Type 0} (list : List A) (place : ℕ) (item : A) → slice_get list place ≡ Some item → place < length list
-within [] place item at = absurd (none-some item at)
-within (first ∷ others) zero item at = omega arith
-within (first ∷ others) (suc place) item at =
-    let less : place < length others = within others place item at in omega (arith, less)
-
-both_true : (one other : Bool) → one ≡ true → other ≡ true → (one && other) ≡ true
-both_true true true first second = refl
-both_true true false first second = second
-both_true false other first second = first
-
 target_is :
     (places : List ℕ) (count number place : ℕ)
     → slice_get places number ≡ Some place
@@ -139,7 +124,7 @@ target_is :
 target_is places count number place at few low =
     ap (listed_target count) at
     ∙ ap (λ (test : Bool). if test then External place else InSegment Code)
-    (both_true (nat_lt place count) (nat_lt place 65536) (lt-ltb place count few) (lt-ltb place 65536 low))
+    (and_from (nat_lt place count) (nat_lt place 65536) (lt-ltb place count few) (lt-ltb place 65536 low))
 
 segment_is : (places : List ℕ) (count : ℕ) (segment : Segment) → is_movable segment ≡ true
     → retarget places count (InSegment segment) ≡ InSegment segment
@@ -163,7 +148,7 @@ targets_are externals numbers places listed is have = record {
         name = there.name;
         target =
             target_is places (length listed) number there.place there.at
-            (within listed there.place there.external.name there.found) there.low;
+            (slice_get_within listed there.place there.external.name there.found) there.low;
         found = there.found;
       };
 }
@@ -219,14 +204,14 @@ generated tree start_label code variables code_bytes variable_bytes code_labels 
       code_segment = record {
         assembles = code_ends.assembles;
         is_assembly = code_ends.is_assembly;
-        same = ap (λ (segment : Places). segment.places) code_to ∙ places_in Code (with_targets to code_bytes) refl;
+        same = ap (λ (segment : Places). segment.places) code_to ∙ segment_places_in Code (with_targets to code_bytes) refl;
         alignment = ap (λ (segment : Places). segment.alignment) code_to;
       };
       data_segment = record {
         assembles = variables_end.assembles;
         is_assembly = variables_end.is_assembly;
         same =
-            ap (λ (segment : Places). segment.places) data_to ∙ places_in Data (with_targets to variable_bytes) refl;
+            ap (λ (segment : Places). segment.places) data_to ∙ segment_places_in Data (with_targets to variable_bytes) refl;
         alignment = ap (λ (segment : Places). segment.alignment) data_to;
       };
       stack = made.stack;

@@ -1,5 +1,5 @@
 -- From the matches of the subcommand to the order, and from an error to a failure.
-use Rattle.command_line.proofs.Prelude.{◌≡◌, ℕ, List, [], ◌∷◌, Option, Some, None, Bool, true, inl, inr, refl, sym, ap, subst, ◌∙◌, arith, Ok, Err, IfOk, IsErrAnd, Result, option_map, bytes_eq, Decides, common_steps, bytes_eq-Decides, IsAmong, Kinds, Row, Text, kind_of, subcommand_name_of, subcommand_rows_of, ArgMatches, HasKind, Error, ErrorKind, DisplayHelp, DisplayVersion, OutOfMemory, Failure, Fault, Memory, LineFault, IfFault, IsFaultOf, IsOrderOf, Wanted, Order, IsFailureFor}
+use Rattle.command_line.proofs.Prelude.{◌≡◌, List, [], ◌∷◌, Option, Some, None, inl, inr, refl, sym, ap, subst, ◌∙◌, Ok, Err, IfOk, IsErrAnd, Result, option_map, IsAmong, Kinds, Row, Text, kind_of, subcommand_name_of, subcommand_rows_of, ArgMatches, HasKind, Error, ErrorKind, DisplayHelp, DisplayVersion, OutOfMemory, Failure, Fault, Memory, LineFault, IfFault, IsFaultOf, IsOrderOf, Wanted, Order, IsFailureFor}
 use Rattle.command_line.specs.declared.reading.LineFault.TheVariants.{Help, Version, Wrong}
 use Rattle.command_line.proofs.Levels.{never}
 
@@ -30,13 +30,6 @@ match_found m name rows e f = both_found (subcommand_rows_of m) name rows (e ∙
 -- or that there is none
 pub no_match_found : (m : ArgMatches) → None ≡ subcommand_name_of m → subcommand_rows_of m ≡ None
 no_match_found m e = none_found (subcommand_rows_of m) (e ∙ sym (name_of_rows m))
-
-decided : (t : Bool) (P : Type 0) → Decides t P → t ≡ true → P
-decided t P h e = grind (arith, common_steps)
-
--- texts that compare equal are the same
-pub same_text_of : (xs ys : List ℕ) → bytes_eq xs ys ≡ true → xs ≡ ys
-same_text_of xs ys e = decided (bytes_eq xs ys) (xs ≡ ys) (bytes_eq-Decides xs ys) e
 
 -- where the words have no fault, a call fails only for memory
 pub only_memory : (error : Error) (failure : Failure LineFault) (kinds : Kinds) → kinds ≡ [] → HasKind kinds error → IsFailureFor error failure → failure ≡ Memory

@@ -1,18 +1,14 @@
 -- Numbers that texts write.
-use Rattle.command_line.proofs.Prelude.{◌≡◌, ℕ, ◌<◌, ◌≤◌, ◌^◌, List, [], ◌∷◌, Bool, true, false, Ok, Err, length, slice_index, refl, sym, ◌∙◌, ap, arith, ◌==◌, ◌&&◌, nat_le, nat_lt, if◌then◌else◌, digit_value, is_digit, list_all, AllDigits, IsNumeral, digits_value, without_leading_plus, ltb-true, leb-true, lt-ltb, eqb-true, le-leb, Read, is_decimal, number_to}
+use Rattle.command_line.proofs.Prelude.{◌≡◌, ℕ, ◌<◌, ◌≤◌, ◌^◌, List, [], ◌∷◌, Bool, true, false, Ok, Err, length, slice_index, refl, sym, ◌∙◌, ap, arith, ◌==◌, ◌&&◌, nat_le, nat_lt, if◌then◌else◌, digit_value, is_digit, list_all, AllDigits, IsNumeral, digits_value, without_leading_plus, ltb-true, leb-true, lt-ltb, eqb-true, le-leb, Read, is_decimal, number_to, and_parts, and_right}
 
 all_digits : (t : List ℕ) → AllDigits 10 t → list_all (λ c. is_digit c 10) t ≡ true
 all_digits [] d = refl
 all_digits (c ∷ rest) d = rw (lt-ltb (digit_value c) 10 d.0) (all_digits rest d.1)
 
-both : (a b : Bool) → (a && b) ≡ true → (a ≡ true) × (b ≡ true)
-both true b e = (refl, e)
-both false b e = let bad : false ≡ true = e in cc
-
 digits_all : (t : List ℕ) → list_all (λ c. is_digit c 10) t ≡ true → AllDigits 10 t
 digits_all [] e = tt
 digits_all (c ∷ rest) e =
-    let parts = both (is_digit c 10) (list_all (λ c. is_digit c 10) rest) e in
+    let parts = and_parts (is_digit c 10) (list_all (λ c. is_digit c 10) rest) e in
     (ltb-true (digit_value c) 10 parts.0, digits_all rest parts.1)
 
 decimal_of : (t : List ℕ) → IsNumeral 10 t → is_decimal t ≡ true
@@ -20,7 +16,7 @@ decimal_of t n = rw (lt-ltb 0 (length t) n.0) (all_digits t n.1)
 
 numeral_of : (t : List ℕ) → is_decimal t ≡ true → IsNumeral 10 t
 numeral_of t e =
-    let parts = both (nat_lt 0 (length t)) (list_all (λ c. is_digit c 10) t) e in
+    let parts = and_parts (nat_lt 0 (length t)) (list_all (λ c. is_digit c 10) t) e in
     (ltb-true 0 (length t) parts.0, digits_all t parts.1)
 
 no_plus : (t : List ℕ) → (slice_index t 0 == 43) ≡ false → without_leading_plus t ≡ t
@@ -73,11 +69,7 @@ number_refused k most t plus none fits = go (is_decimal t) (nat_le (digits_value
 not_decimal : (c : ℕ) (rest : List ℕ) → (c == 43) ≡ true → is_decimal (c ∷ rest) ≡ false
 not_decimal c rest e =
     let is : c ≡ 43 = eqb-true c 43 e in
-    rw is (go (nat_lt 0 (length (43 ∷ rest))))
-  where
-    go : (a : Bool) → (a && false) ≡ false
-    go true = refl
-    go false = refl
+    rw is (and_right (nat_lt 0 (length (43 ∷ rest))) false refl)
 
 -- a text with a plus sign in front is refused
 pub plus_refused : (most : ℕ) (t : List ℕ) → (slice_index t 0 == 43) ≡ true → number_to most t ≡ Err t

@@ -1,5 +1,5 @@
 -- Sources that are read one by one, and the need of their program.
-use Rattle.commands.proofs.Prelude.{◌≡◌, Err, Ok, ℕ, ◌+◌, ◌<◌, ◌≤◌, List, [], ◌∷◌, ◌++◌, Option, length, drop, get_or, map, arith, sym, ap, ◌∙◌, subst, add-one, append-nil, append_assoc, refl, ⊎_elim, IsErrAnd, Result, drop_of_length-le, drop-cons, cases_lt, get_or-map, length-map, IfFault, Failure, Fault, Memory, TypedModule, Typed, module_view, IsJoined, IsSourceOf, MOST_SOURCES, AreSourcesOf, texts_of, NeedFault, HasCause, IsNeedOf, IsNeedText, IsReadable, need_line}
+use Rattle.commands.proofs.Prelude.{◌≡◌, Err, ℕ, ◌+◌, ◌<◌, ◌≤◌, List, [], ◌∷◌, ◌++◌, Option, length, drop, map, arith, sym, ap, ◌∙◌, subst, add-one, append-nil, append_assoc, refl, ⊎_elim, Result, drop_of_length-le, drop-cons, cases_lt, length-map, IfFault, Failure, Fault, Memory, TypedModule, Typed, module_view, IsJoined, IsSourceOf, MOST_SOURCES, AreSourcesOf, texts_of, NeedFault, HasCause, IsNeedOf, IsNeedText, IsReadable, need_line}
 use Rattle.sources.specs.declared.sources.Source as declared_source
 use Rattle.sources.specs.Programs.{text_of}
 use Rattle.stack_need.specs.StackNeed.{TellsNeed}
@@ -21,15 +21,6 @@ one_more_read texts file text typed before at is other below =
     let same : file ≡ other = omega (arith, below, le) in
     subst (λ k. IsReadable (text_of texts k)) same (record { typed = typed; source = subst (λ t. IsSourceOf t typed) at is }))
     (cases_lt other file)
-
-pub text_at : (sources : List declared_source.Source) (file : ℕ) (d : declared_source.Source) → file < length sources → (get_or sources file d).text.now ≡ text_of (texts_of sources) file
-text_at sources file d below = sym (get_or-map (λ (source : declared_source.Source). source.text.now) sources file d [] below)
-
-pub within_texts : (sources : List declared_source.Source) (file : ℕ) → file < length sources → file < length (texts_of sources)
-within_texts sources file below = simp length-map below
-
-pub past_texts : (sources : List declared_source.Source) (file : ℕ) → length sources ≤ file → length (texts_of sources) ≤ file
-past_texts sources file past = simp length-map past
 
 -- the modules of the texts that are left stand after those that were read
 abbrev pub GoesOn : List (List ℕ) → (file : ℕ) → List TypedModule → Type 0
@@ -63,10 +54,6 @@ first_of_one TooManySources file texts below is before = absurd is
 first_of_one (Source place fault) file texts below is before =
     subst (λ k. IsUnread texts k fault) (sym is.0) (record { before = before; below = below; cause = is.1 })
 first_of_one (Join fault) file texts below is before = absurd is
-
-pub passed : {A F : Type 0} (result : Result A F) (failure : F) → IsErrAnd result (λ given. given ≡ failure) → result ≡ Err failure
-passed (Ok value) failure is = absurd is
-passed (Err given) failure is = ap Err is
 
 pub first_of_all : {A : Type 0} (texts : List (List ℕ)) (file : ℕ) (text : List ℕ) (result : Result A (Failure NeedFault)) (failure : Failure NeedFault) → result ≡ Err failure → file < length texts
     → text ≡ text_of texts file → IfFault {A = Typed} (Err failure) (IsOfSource file text) → AreRead texts file → IfFault result (IsFirstFault texts)

@@ -1,5 +1,5 @@
 -- The need of sources, printed or not.
-use Rattle.commands.proofs.Prelude.{◌≡◌, ℕ, List, Option, None, Some, inl, inr, refl, subst, Appends, Keeps, AppendsBeginning, Tells, memory_line, output_line, HasCause, IsNeedText, NeedFault, PrintsNeed, StopsNeed, TellsNoNeed}
+use Rattle.commands.proofs.Prelude.{◌≡◌, ℕ, List, Option, inl, inr, subst, Appends, AppendsBeginning, Tells, memory_line, output_line, HasCause, IsNeedText, NeedFault, PrintsNeed, StopsNeed, TellsNoNeed, Keeps-refl}
 use Rattle.commands.specs.NeedFaults.{fault_line}
 
 pub prints_need : (texts : List (List ℕ)) (line written : List ℕ) (old new : Option (List ℕ)) → IsNeedText texts line → written ≡ line → Appends old new written → PrintsNeed texts old new
@@ -8,13 +8,8 @@ prints_need texts line written old new need is printed = record { line = line; n
 pub begins_need : (texts : List (List ℕ)) (line written : List ℕ) (old new : Option (List ℕ)) → IsNeedText texts line → written ≡ line → AppendsBeginning old new written → StopsNeed texts old new
 begins_need texts line written old new need is printed = inr (record { line = line; need = need; printed = subst (λ (l : List ℕ). AppendsBeginning old new l) is printed })
 
--- a writer that nothing was sent to
-stays_written : (known : Option (List ℕ)) → Keeps known known
-stays_written None = tt
-stays_written (Some bytes) = refl
-
 pub no_need : (texts : List (List ℕ)) (known : Option (List ℕ)) → StopsNeed texts known known
-no_need texts known = inl (stays_written known)
+no_need texts known = inl (Keeps-refl known)
 
 pub tells_cause : (names texts : List (List ℕ)) (fault : NeedFault) (old new : Option (List ℕ)) → HasCause fault texts → Tells (fault_line names fault) old new → TellsNoNeed names texts old new
 tells_cause names texts fault old new cause told = inl (record { fault = fault; cause = cause; told = told })

@@ -1,7 +1,7 @@
 -- The names that the proofs of this crate cite, passed on from one place. Declares nothing.
 pub use Rattle.clap.specs.{Walk.{texts}, Words.{Kinds, kind_of}, declared.error.ErrorKind.TheVariants.{DisplayHelp, DisplayVersion}}
-pub use Rattle.std.proofs.{Common.{All, Bool, Bor, Err, IfSome, List, None, Ok, OnOk, Option, Result, Some, [], add-one, ap, append-nil, append_assoc, arith, codes, decimal, drop, false, get_or, inl, inr, length, map, refl, subst, suc, sym, true, zero, zip, ℕ, ⊎_elim, ◌++◌, ◌+◌, ◌-◌, ◌<◌, ◌==◌, ◌^◌, ◌∙◌, ◌∷◌, ◌≡◌, ◌≤◌, ◌⊎◌}, KnownBytes.{Appends-trans}, Math.ListN.{drop_of_length-le}, Math.Seq.{drop-cons}, lemmas.Bool.{cases_lt}, lemmas.List.{get_or-map, length-map}}
-pub use Rattle.std.specs.{Fmt.{digits_output, format_spec, styled_digits_output, ◌++?◌}, Io.KnownBytes.{Appends, Keeps}, List.{flat_map}, Prelude.{IsErrAnd}}
+pub use Rattle.std.proofs.{Common.{All, Bool, Bor, Err, IfSome, List, None, Ok, OnOk, Option, Result, Some, [], add-one, ap, append-nil, append_assoc, arith, codes, decimal, drop, false, get_or, inl, inr, length, map, refl, subst, suc, sym, true, zero, zip, ℕ, ⊎_elim, ◌++◌, ◌+◌, ◌-◌, ◌<◌, ◌==◌, ◌^◌, ◌∙◌, ◌∷◌, ◌≡◌, ◌≤◌, ◌⊎◌}, KnownBytes.{Appends-trans, Keeps-refl}, Math.ListN.{drop_of_length-le}, Math.Seq.{drop-cons}, lemmas.Bool.{cases_lt}, lemmas.List.{length-map}}
+pub use Rattle.std.specs.{Fmt.{digits_output, format_spec, styled_digits_output, ◌++?◌}, Io.KnownBytes.{Appends, Keeps}, List.{flat_map}}
 unfoldable pub use Rattle.std.specs.Fmt.{digits}
 pub use Rattle.failure.proofs.WritingLemmas.{beginning_after, on_err}
 pub use Rattle.failure.specs.{Failure.{IfFault}, Writing.{AppendsBeginning, IsBeginning}, declared.Failure.{Failure, TheVariants.{Fault, Memory}}}
@@ -13,6 +13,7 @@ pub use Rattle.join.specs.{Views.{modules_of}, declared.joined.Joined.{Joined}}
 pub use Rattle.placing.specs.{Tables.{IsTableOf}, Views.{module_placement_view, placement_view}, declared.placement.ModulePlacement.{ModulePlacement as CodeModulePlacement}, declared.placement.Placement.{Placement as CodePlacement}}
 pub use Rattle.object_modules.specs.{Image.{placement_number}, Merge.{link_number}, Module.{ObjectModule}, Text.{text_of}}
 pub use Rattle.sources.specs.{Programs.{AreSourcesOf, IsProgramOf, program_modules, texts_of}, Reading.{IsSourceOf}, declared.read.ReadFault.{ReadFault}, declared.sources.TheConstants.{MOST_SOURCES}}
+pub use Rattle.tool.proofs.CompiledLemmas.{passed, past_texts, text_at, within_texts}
 pub use Rattle.tool.specs.{Construction.{Construction, IsConstruction}, Execution.{source_of, started}, Faults.{file_of, line_of, name_of, number_of}, Made.{IsCompiledTo}, Sources.{IsInOrder, IsRefusedAlone}, declared.fault.ToolFault.{ToolFault, TheVariants.{Code, Link, Locate, Program, TooManySources}}}
 pub use Rattle.command_line.specs.{Command.{CompileWanted, ConvertWanted, IsFaultOf, NeedWanted, PlaceWanted, ProgramWanted, Wanted, wants_compile, wants_convert, wants_execute, wants_explain, wants_link, wants_need, wants_place, wants_program}, Settings.{Read, Values, jump_read, only_file, plan_read, values_in, values_read, ◌>>=◌}, declared.orders.Action.{Action, TheVariants.{Interpret, Run as ToRun}}, declared.reading.LineFault.{LineFault, TheVariants.{Help, Version, Wrong}}, declared.values.InputByte.{InputByte}}
 pub use Rattle.host.proofs.{FilesRead.{stays, stays_on, stops_as}, LinesPrinted.{is_other, same_line, tells_file, tells_no_file, tells_other}}

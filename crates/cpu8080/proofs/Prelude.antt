@@ -1,5 +1,5 @@
 -- The names that the proofs of this crate cite, passed on from one place. Declares nothing.
-pub use Rattle.std.proofs.{Common.{Bool, List, [], ap, arith, drop, false, get_or, inl, inr, length, refl, replicate, set, subst, suc, sym, true, zero, ℕ, ⊎_elim, ◌%◌, ◌*◌, ◌+◌, ◌-◌, ◌/◌, ◌<◌, ◌∙◌, ◌∷◌, ◌≡◌, ◌≢◌, ◌≤◌, ◌⊎◌}, lemmas.Bool.{cases_lt, eq-eqb, eqb-true, false≢true, le-leb, leb-true, ltb-true, true≢false}, lemmas.Bool.Decides.{eqb_tells}, lemmas.List.{get_or-replicate, get_or-set_other, get_or-set_same}}
+pub use Rattle.std.proofs.{Common.{Bool, List, [], ap, arith, drop, false, get_or, inl, inr, length, refl, replicate, set, subst, suc, sym, true, zero, ℕ, ⊎_elim, ◌%◌, ◌*◌, ◌+◌, ◌-◌, ◌/◌, ◌<◌, ◌∙◌, ◌∷◌, ◌≡◌, ◌≢◌, ◌≤◌, ◌⊎◌}, lemmas.Bool.{cases_lt, eq-eqb, eqb-true, false≢true, le-leb, leb-true, ltb-true, or_parts, true≢false}, lemmas.Bool.Decides.{eqb_tells}, lemmas.List.{get_or-replicate, get_or-set_other, get_or-set_same}}
 pub use Rattle.std.specs.Prelude.{IsTrue, if◌then◌else◌, nat_eq, nat_le, nat_lt, ◌++◌, ◌&&◌, ◌||◌, ◌==◌}
 unfoldable pub use Rattle.std.specs.Int.Count.{ones}
 pub use Rattle.mem80.specs.{Memory.{byte_at}, declared.memory.TheConstants.{MEMORY_SIZE}}

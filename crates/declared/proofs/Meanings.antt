@@ -90,7 +90,7 @@ scalar_read_means program Address address s =
     (byte_read program.modules program.placement s.memory (next_address address)) s
     (byte_read_means program address s) (byte_read_means program (next_address address) s)
 
-written_then :
+pub written_then :
     (answer : Result (Unit {0}) Reason) (memory : List ℕ) (next : List ℕ → Written) (second : State → Outcome (Unit {0}))
     (s : State)
     → ((t : State) → second t ≡ after_write (next t.memory) t)

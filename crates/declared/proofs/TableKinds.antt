@@ -1,18 +1,10 @@
 -- What a table of kinds says of pieces.
-use Rattle.declared.proofs.Prelude.{◌≡◌, ℕ, ◌<◌, ◌≤◌, ◌+◌, Bool, true, false, cond, List, [], ◌∷◌, get_or, Decides, refl, sym, subst, arith, filter, ◌||◌, nat_le, nat_lt, list_any, Any-from_list_any, list_any-from_Any, nat_tests, Decides-and, Decides-ltb, TypedModule, ByteKind, Undeclared, Writable, IsKind, IsTableOf, is_declared_at, is_constant_at}
+use Rattle.declared.proofs.Prelude.{◌≡◌, ℕ, ◌<◌, ◌≤◌, ◌+◌, Bool, true, false, cond, List, [], ◌∷◌, get_or, Decides, refl, sym, subst, arith, filter, ◌||◌, nat_le, nat_lt, list_any, Any-from_list_any, list_any-from_Any, nat_tests, Decides-and, Decides-ltb, TypedModule, ByteKind, Undeclared, Writable, IsKind, IsTableOf, is_declared_at, is_constant_at, or_kept, or_right}
 use Rattle.mem80.specs.{declared.memory.TheConstants.{MEMORY_SIZE}, Range.{IsIn}}
 use Rattle.layout.specs.Placement.{Placement, PlacedPiece, IsOneOf, holds_byte, is_constant_piece, pieces_of}
 use Rattle.layout.proofs.Declared.{Decides-one_of}
 use Rattle.placing.specs.declared.placement.ByteKind.TheVariants.{Constant}
 use Rattle.declared.specs.internal.Kinds.{says_declared, says_constant}
-
-or_true : (a b : Bool) → b ≡ true → (a || b) ≡ true
-or_true true b is = refl
-or_true false b is = is
-
-or_kept : (a b c : Bool) → (b ≡ true → c ≡ true) → (a || b) ≡ true → (a || c) ≡ true
-or_kept true b c next is = refl
-or_kept false b c next is = next is
 
 -- what holds of one that passes a test holds of one
 module _ {X : Type 0} (p q : X → Bool) where
@@ -26,7 +18,7 @@ module _ {X : Type 0} (p q : X → Bool) where
           → list_any p (cond passes (x ∷ filter q xs) (filter q xs)) ≡ true
           → (p x || list_any p xs) ≡ true
       step true next is = or_kept (p x) (list_any p (filter q xs)) (list_any p xs) next is
-      step false next is = or_true (p x) (list_any p xs) (next is)
+      step false next is = or_right (p x) (list_any p xs) (next is)
 
 not_decided : {P : Type 0} → (b : Bool) → Decides b P → ¬ P → b ≡ false
 not_decided true decides not = absurd (not (decides.0 refl))

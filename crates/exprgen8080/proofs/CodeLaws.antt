@@ -1,5 +1,5 @@
 -- Items with labels counted in their order are the code that the function gives, so that the code is unique.
-use Rattle.exprgen8080.proofs.Prelude.{◌≡◌, ℕ, suc, ◌+◌, Bool, List, [], ◌++◌, Option, Some, option_and_then, option_map, sym, ap, subst, ◌∙◌, arith, Item, Facts, Part, Step, label_after, Site, AreWritten, IsWritten, NoneWritten, PlainWritten, WordWritten, JumpWritten, MarkWritten, RoutineWritten, CallWritten, TestWritten, HoldsWritten, ChangeWritten, PartWritten, Planned, knowing, after_step, step_items, task_labels, task_steps, AreLabelled, IsLabelled}
+use Rattle.exprgen8080.proofs.Prelude.{◌≡◌, ℕ, suc, ◌+◌, Bool, List, [], ◌++◌, Option, Some, option_and_then, option_map, sym, ap, subst, ◌∙◌, arith, Item, Facts, Part, Step, label_after, Site, AreWritten, IsWritten, NoneWritten, PlainWritten, WordWritten, JumpWritten, MarkWritten, RoutineWritten, CallWritten, TestWritten, HoldsWritten, ChangeWritten, PartWritten, Planned, knowing, after_step, step_items, task_labels, task_steps, AreLabelled, IsLabelled, same_Some}
 use Rattle.steps8080.specs.declared.step.Step.TheVariants as steps
 use Rattle.exprgen8080.specs.Code.{Code, IsCodeOfPart, IsCodeOfSteps, IsFoundDeep, code_of_part, code_of_steps, in_front}
 
@@ -36,11 +36,8 @@ pub one_is_found : {A : Type 0} (found_at : (depth : ℕ) → Option A) (one oth
     → IsFoundDeep found_at one → IsFoundDeep found_at other → one ≡ other
 one_is_found found_at one other is also =
     let deep : (first second : ℕ) → first + second ≡ second + first = λ first second. omega arith in
-    some_is one other
+    same_Some one other
     (sym (is.1 also.0) ∙ subst (λ depth. found_at depth ≡ Some other) (deep also.0 is.0) (also.1 is.0))
-  where
-    some_is : {A : Type 0} (one other : A) → Some one ≡ Some other → one ≡ other
-    some_is one other same = cc
 
 -- the code of a step before that of others
 grown : (site : Site) (step : Step) (facts last : Facts) (others : List Step) (more : List Item) (label next : ℕ)

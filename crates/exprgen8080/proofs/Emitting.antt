@@ -1,5 +1,5 @@
 -- The code of steps as it is written step by step.
-use Rattle.exprgen8080.proofs.Prelude.{◌≡◌, ◌==◌, ◌||◌, ◌⊎◌, inl, inr, ℕ, ◌+◌, ◌≤◌, ◌<◌, zero, suc, Bool, true, false, set, slice_index_or, List, [], ◌∷◌, ◌++◌, length, Some, None, slice_get, drop, take, refl, sym, ap, subst, ◌∙◌, arith, append_assoc, append-nil, list_any-append, drop_at, drop_all, drop_more, take_at, get_or_from_slice_get, slice_get_within, Item, CallTo, TreeModule, Facts, Part, Step, AddsWithLabels, label_after, Writes, jump_item, Site, Emission, AreWritten, IsWritten, NoneWritten, PlainWritten, WordWritten, JumpWritten, MarkWritten, RoutineWritten, CallWritten, TestWritten, HoldsWritten, ChangeWritten, PartWritten, Planned, call_items, call_routine, calls_label, has_routine, module_label_of_routine, module_routine_label, index_of_routine, knowing, test_items, AddsItems, Emits, EmitsSteps, HasAll, IsAlone, NotesCalled, NotesOnly, after_step, step_items, task_labels, task_steps, AreLabelled, IsLabelled}
+use Rattle.exprgen8080.proofs.Prelude.{◌≡◌, ◌==◌, ◌||◌, ◌⊎◌, inl, inr, ℕ, ◌+◌, ◌≤◌, ◌<◌, zero, suc, Bool, true, false, set, slice_index_or, List, [], ◌∷◌, ◌++◌, length, Some, None, slice_get, drop, take, refl, sym, ap, subst, ◌∙◌, arith, append_assoc, append-nil, list_any-append, drop_at, drop_all, take_at, Item, CallTo, TreeModule, Facts, Part, Step, AddsWithLabels, label_after, Writes, jump_item, Site, Emission, AreWritten, IsWritten, NoneWritten, PlainWritten, WordWritten, JumpWritten, MarkWritten, RoutineWritten, CallWritten, TestWritten, HoldsWritten, ChangeWritten, PartWritten, Planned, call_items, call_routine, calls_label, has_routine, module_label_of_routine, module_routine_label, index_of_routine, knowing, test_items, AddsItems, Emits, EmitsSteps, HasAll, IsAlone, NotesCalled, NotesOnly, after_step, step_items, task_labels, task_steps, AreLabelled, IsLabelled, drop_found}
 use Rattle.runtime8080.specs.declared.routine.Routine.{Routine}
 use Rattle.steps8080.specs.declared.step.Step.TheVariants as steps
 use Rattle.steps8080.proofs.Numbered.{either_true, is_itself, writes_nothing, writes_then}
@@ -316,13 +316,6 @@ pub record IsWriting (site : Site) (part : Part) (before now : Emission) (index 
   pub begins : take (length before.steps.list.items) now.steps.list.items ≡ before.steps.list.items
   pub count : length now.steps.list.items ≡ end
 
--- the remaining steps, if an index is within
-pub left_is : {A : Type 0} (list : List A) (index : ℕ) (found : A) → slice_get list index ≡ Some found
-    → drop index list ≡ found ∷ drop (index + 1) list
-left_is list index found is =
-    drop_more list index found (slice_get_within list index found is)
-    ∙ ap (λ at. at ∷ drop (index + 1) list) (get_or_from_slice_get list index found found is)
-
 module _ (site : Site) (part : Part) (before now : Emission) where
   -- all steps of a part remain
   pub writing_begins : (planned : Emission) (end : ℕ)
@@ -381,7 +374,7 @@ module _ (site : Site) (part : Part) (before now : Emission) where
               (so_far.left called (list ++ more) last after
               (λ routine given. wider routine (emits.called routine given))
               (subst (λ left. LabelledSteps site called now.facts left (list ++ more) last now.steps.labels after)
-              (sym (left_is steps_now index step is))
+              (sym (drop_found steps_now index step is))
               (appended (are_kept wider emits.written)
               (are_labels_kept called wider now.steps.labels next.steps.labels emits.written emits.labels) others)));
           called = λ routine given. emits.called routine (so_far.called routine given);

@@ -1,5 +1,5 @@
 -- The bytes of the variables in a frame, counted object by object.
-use Rattle.frames.proofs.Prelude.{◌≡◌, ℕ, zero, suc, ◌+◌, ◌*◌, ◌%◌, ◌≤◌, min, Bool, true, false, not, ◌&&◌, cond, if◌then◌else◌, List, [], ◌∷◌, map, slice_get, sum_by, Option, Some, None, refl, ap, sym, ◌∙◌, subst, le_trans, arith, Any, option_map, true≢false, sum_by-cons, none-some, same_Some, slice_get-get_or, ScalarType, Byte, Address, Home, InData, InConstants, Placed, BasedOn, Elsewhere, Nowhere, InFrame, ObjectType, TypedObject, TypedProcedure, TypedModule, size_of_scalar, count_of, size_of_element, size_of_object, IsScalar, is_in_frame, home_of_parameters, FrameFits, HasParameters, ParametersFit, FramesFit, lives_in_frame, frame_variable, parameter_number, bytes_by_parameter, bytes_of_frame}
+use Rattle.frames.proofs.Prelude.{◌≡◌, ℕ, zero, suc, ◌+◌, ◌*◌, ◌%◌, ◌≤◌, min, Bool, true, false, not, ◌&&◌, cond, if◌then◌else◌, List, [], ◌∷◌, map, slice_get, sum_by, Option, Some, None, refl, ap, sym, ◌∙◌, subst, le_trans, arith, Any, option_map, true≢false, sum_by-cons, none-some, same_Some, slice_get-get_or, ScalarType, Byte, Address, Home, InData, InConstants, Placed, BasedOn, Elsewhere, Nowhere, InFrame, ObjectType, TypedObject, TypedProcedure, TypedModule, size_of_scalar, count_of, size_of_element, size_of_object, IsScalar, is_in_frame, home_of_parameters, FrameFits, HasParameters, ParametersFit, FramesFit, lives_in_frame, frame_variable, parameter_number, bytes_by_parameter, bytes_of_frame, zero-add}
 use Rattle.typed_trees.specs.Frames.{variable_bytes}
 use Rattle.frames.proofs.Entries.{in_frame, home_is, lives_there, entries}
 use Rattle.frames.proofs.Parameters.{has_parameters, frame_fits, none_found, typed_at, IsTyped, of_found, framed}
@@ -233,9 +233,6 @@ pub bytes_are :
     → bytes_of_frame (map (frame_variable typed) (entries procedure 0 typed.objects)) ≡ heading.frame_bytes
 bytes_are typed procedure heading fit frames_fit stands =
     bytes_from typed procedure 0 typed.objects (λ index object found home.
-    subst (λ (number : ℕ). IsCounted typed number object) (from_zero index)
+    subst (λ (number : ℕ). IsCounted typed number object) (sym (zero-add index))
     (counted typed procedure heading index object fit frames_fit stands found home))
     ∙ sym (frame_fits typed procedure heading frames_fit stands).variables
-  where
-    from_zero : (index : ℕ) → index ≡ 0 + index
-    from_zero index = omega arith

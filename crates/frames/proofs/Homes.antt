@@ -8,14 +8,14 @@ abbrev next_home : TypedModule → Storage → (before : List Home) → TypedObj
 next_home typed storage before object = home_of_object typed storage before (length before) object.home
 
 -- the homes of those before are kept
-kept :
+pub earlier_kept :
     (typed : TypedModule) (storage : Storage) (before : List Home) (objects : List TypedObject)
     (number : ℕ) (default : Home)
     → number < length before
     → get_or (homes_from typed storage before objects) number default ≡ get_or before number default
-kept typed storage before [] number default within = refl
-kept typed storage before (object ∷ others) number default within =
-    kept typed storage (before ++ next_home typed storage before object ∷ []) others number default
+earlier_kept typed storage before [] number default within = refl
+earlier_kept typed storage before (object ∷ others) number default within =
+    earlier_kept typed storage (before ++ next_home typed storage before object ∷ []) others number default
     (omega (arith, within, length_push before (next_home typed storage before object)))
     ∙ get_or_append_left before (next_home typed storage before object ∷ []) default number within
 
@@ -31,7 +31,7 @@ frame_home typed storage before (first ∷ others) zero procedure object default
     ap (λ (number : ℕ).
     get_or (homes_from typed storage (before ++ next_home typed storage before first ∷ []) others) number
     default) nothing_more
-    ∙ kept typed storage (before ++ next_home typed storage before first ∷ []) others (length before) default
+    ∙ earlier_kept typed storage (before ++ next_home typed storage before first ∷ []) others (length before) default
     (omega (arith, length_push before (next_home typed storage before first)))
     ∙ get_or_push before (next_home typed storage before first) default (length before) refl
     ∙ ap (λ (home : TypedHome). home_of_object typed storage before (length before) home)
@@ -80,7 +80,7 @@ data_home typed storage before (first ∷ others) zero object default found home
     ap (λ (number : ℕ).
     get_or (homes_from typed storage (before ++ next_home typed storage before first ∷ []) others) number
     default) nothing_more
-    ∙ kept typed storage (before ++ next_home typed storage before first ∷ []) others (length before) default
+    ∙ earlier_kept typed storage (before ++ next_home typed storage before first ∷ []) others (length before) default
     (omega (arith, length_push before (next_home typed storage before first)))
     ∙ get_or_push before (next_home typed storage before first) default (length before) refl
     ∙ ap (λ (home : TypedHome). home_of_object typed storage before (length before) home)

@@ -3,7 +3,7 @@ use Rattle.frames.proofs.Prelude.{◌≡◌, ◌⊎◌, inl, inr, ℕ, zero, suc
 use Rattle.frames.proofs.Words.{words_apart, word_after, word_within, word_off_return, return_after, return_within, in_word}
 
 -- the variables up to one are among all
-ends_within :
+pub ends_within :
     (frame : List FrameVariable) (number : ℕ) (variable : FrameVariable)
     → slice_get frame number ≡ Some variable
     → variable_bytes (take number frame) + bytes_by_parameter variable.size variable.parameter

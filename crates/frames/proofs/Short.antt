@@ -1,5 +1,5 @@
 -- A frame has so few objects that their numbers there fit 16 bits.
-use Rattle.frames.proofs.Prelude.{◌≡◌, ℕ, zero, suc, ◌+◌, ◌<◌, ◌≤◌, ◌==◌, Bool, true, false, not, ◌||◌, cond, if◌then◌else◌, List, [], ◌∷◌, length, slice_get, sum_by, Some, refl, ap, ◌∙◌, subst, arith, eqb-true, eq-eqb, ne_eqb, All-get_or, sum_by-cons, none-some, same_Some, slice_get_within, get_or_from_slice_get, InFrame, TypedObject, TypedProcedure, TypedModule, size_of_object, FrameFits, HasParameters, frame_position, TakeBytes}
+use Rattle.frames.proofs.Prelude.{◌≡◌, ℕ, zero, suc, ◌+◌, ◌<◌, ◌≤◌, ◌==◌, Bool, true, false, not, ◌||◌, cond, if◌then◌else◌, List, [], ◌∷◌, length, slice_get, sum_by, Some, refl, ap, ◌∙◌, subst, arith, eqb-true, eq-eqb, ne_eqb, All-get_or, sum_by-cons, none-some, same_Some, slice_get_within, get_or_from_slice_get, InFrame, TypedObject, TypedProcedure, TypedModule, size_of_object, FrameFits, HasParameters, frame_position, TakeBytes, or-true, zero-add, sym}
 use Rattle.typed_trees.specs.Frames.{variable_bytes}
 use Rattle.frames.proofs.Entries.{in_frame, home_is, lives_there, entries, position_of, stands_at}
 use Rattle.frames.proofs.Bytes.{bytes_there, IsListed, listed}
@@ -94,11 +94,7 @@ among_since (first ∷ others) zero number stands =
     (eq-eqb first number (same_Some first number stands))
 among_since (first ∷ others) (suc index) number stands =
     ap (λ (among : Bool). (first == number) || among) (among_since others index number stands)
-    ∙ or_true (first == number)
-  where
-    or_true : (test : Bool) → (test || true) ≡ true
-    or_true true = refl
-    or_true false = refl
+    ∙ or-true (first == number)
 
 -- each object in the frame has a byte there or is one of the parameters
 abbrev IsAccounted : (procedure : ℕ) → (numbers : List ℕ) → (number : ℕ) → TypedObject → Type 0
@@ -209,8 +205,5 @@ position_small typed procedure heading number object sized has fits found home =
         ≤ sum_by (variable_bytes procedure) typed.objects + count_among heading.parameters 0 typed.objects
     all =
         entries_accounted procedure 0 heading.parameters typed.objects (λ index object found home.
-        subst (λ (number : ℕ). IsAccounted procedure heading.parameters number object) (from_zero index)
+        subst (λ (number : ℕ). IsAccounted procedure heading.parameters number object) (sym (zero-add index))
         (accounted typed procedure heading index object sized has found home))
-      where
-        from_zero : (index : ℕ) → index ≡ 0 + index
-        from_zero index = omega arith

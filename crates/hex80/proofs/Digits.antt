@@ -1,21 +1,6 @@
 -- Digits, bytes in two digits, and the bytes of a line.
-use Rattle.hex80.proofs.Prelude.{◌≡◌, ℕ, ◌+◌, ◌-◌, ◌*◌, ◌/◌, ◌%◌, ◌<◌, ◌≤◌, Bool, true, false, cond, ◌&&◌, nat_lt, nat_le, List, [], ◌∷◌, ◌++◌, flat_map, Option, Some, None, option_map, option_and_then, refl, ap, sym, subst, ◌∙◌, arith, AllByRecursion, leb-true, le-leb, lt-leb, ltb-true, ltb-false, lt-ltb, le-ltb, none-some, same_Some, option_and_then_some, digit_of, digits_of, digit_value, bytes_in}
-
--- each number is a byte
-abbrev pub IsBytes : List ℕ → Type 0
-IsBytes bytes = AllByRecursion (λ byte. byte < 256) bytes
-
-pub both : (a b : Bool) → (a && b) ≡ true → (a ≡ true) × (b ≡ true)
-both true true h = (refl, refl)
-both true false h = absurd (let bad : false ≡ true = h in cc)
-both false true h = absurd (let bad : false ≡ true = h in cc)
-both false false h = absurd (let bad : false ≡ true = h in cc)
-
-pub option_map_some :
-    {A B P : Type 0} (f : A → B) (o : Option A) (y : B) → option_map f o ≡ Some y
-    → ((x : A) → o ≡ Some x → f x ≡ y → P) → P
-option_map_some f None y h k = absurd (none-some y h)
-option_map_some f (Some x) y h k = k x refl (same_Some (f x) y h)
+use Rattle.hex80.proofs.Prelude.{◌≡◌, ℕ, ◌+◌, ◌-◌, ◌*◌, ◌/◌, ◌%◌, ◌<◌, ◌≤◌, Bool, true, false, cond, ◌&&◌, nat_lt, nat_le, List, [], ◌∷◌, ◌++◌, flat_map, Some, None, option_map, option_and_then, refl, ap, sym, subst, ◌∙◌, arith, leb-true, le-leb, lt-leb, ltb-true, ltb-false, lt-ltb, le-ltb, none-some, same_Some, option_and_then_some, digit_of, digits_of, digit_value, bytes_in, and_parts, option_map_some}
+pub use Rattle.mem80.proofs.ByteLists.{IsBytes}
 
 -- a character stands for a number below 16, whose digit it is
 abbrev pub IsDigit : (character value : ℕ) → Type 0
@@ -40,11 +25,11 @@ digit_back character value h =
         → cond low (Some (character - 48)) (cond high (Some (character - 55)) None) ≡ Some value
         → IsDigit character value
     go true e high f is =
-        let t = both (nat_le 48 character) (nat_le character 57) e in
+        let t = and_parts (nat_le 48 character) (nat_le character 57) e in
         low_digit character value (leb-true 48 character t.0) (leb-true character 57 t.1)
         (same_Some (character - 48) value is)
     go false e true f is =
-        let t = both (nat_le 65 character) (nat_le character 70) f in
+        let t = and_parts (nat_le 65 character) (nat_le character 70) f in
         high_digit character value (leb-true 65 character t.0) (leb-true character 70 t.1)
         (same_Some (character - 55) value is)
     go false e false f is = absurd (none-some value is)

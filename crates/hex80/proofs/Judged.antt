@@ -1,6 +1,6 @@
 -- What the judgement of a text gives: the pieces that it spells, or its first fault; and a text has one of these.
-use Rattle.hex80.proofs.Prelude.{◌≡◌, ℕ, ◌+◌, ◌%◌, Bool, true, false, cond, not, ◌==◌, ◌&&◌, nat_lt, nat_le, List, [], ◌∷◌, ◌++◌, length, map, sum, Option, Some, None, Result, Ok, Err, refl, ap, sym, subst, ◌∙◌, list_all, list_any, option_map_or, bytes_eq, lines, eqb-true, ltb-true, lt-ltb, leb-true, le-leb, not-true, not-false, append_assoc, append-nil, bytes_eq-Decides, Piece, pieces_meet, Fault, BadLine, WrongSum, Overlap, data_line, end_line, read_line, fault_of_data, fault_of_line, is_empty, fault_at, is_line_piece, are_line_pieces, Spells, HasFirstFault, judged_by, judged_after, judgement_of}
-use Rattle.hex80.proofs.Digits.{IsBytes, both}
+use Rattle.hex80.proofs.Prelude.{◌≡◌, ℕ, ◌+◌, ◌%◌, Bool, true, false, cond, not, ◌==◌, ◌&&◌, nat_lt, nat_le, List, [], ◌∷◌, ◌++◌, length, map, sum, Option, Some, None, Result, Ok, Err, refl, ap, sym, subst, ◌∙◌, list_all, list_any, option_map_or, bytes_eq, lines, eqb-true, ltb-true, lt-ltb, leb-true, le-leb, not-true, not-false, append_assoc, append-nil, bytes_eq-Decides, Piece, pieces_meet, Fault, BadLine, WrongSum, Overlap, data_line, end_line, read_line, fault_of_data, fault_of_line, is_empty, fault_at, is_line_piece, are_line_pieces, Spells, HasFirstFault, judged_by, judged_after, judgement_of, and_parts}
+use Rattle.hex80.proofs.Digits.{IsBytes}
 use Rattle.hex80.proofs.LineLaws.{IsLine, line_back}
 
 -- tests of bytes
@@ -12,7 +12,7 @@ all_small (byte ∷ others) all =
 small_all : (bytes : List ℕ) → list_all (λ byte. nat_lt byte 256) bytes ≡ true → IsBytes bytes
 small_all [] h = tt
 small_all (byte ∷ others) h =
-    let t = both (nat_lt byte 256) (list_all (λ b. nat_lt b 256) others) h in
+    let t = and_parts (nat_lt byte 256) (list_all (λ b. nat_lt b 256) others) h in
     (ltb-true byte 256 t.0, small_all others t.1)
 
 -- the tests of a piece of a line
@@ -31,14 +31,14 @@ line_piece before piece is apart =
 
 pub piece_line : (before : List Piece) (piece : Piece) → is_line_piece before piece ≡ true → IsLine piece × (list_any (pieces_meet piece) before ≡ false)
 piece_line before piece h =
-    let d = both (nat_lt (length piece.bytes) 256 && list_all (λ byte. nat_lt byte 256) piece.bytes
+    let d = and_parts (nat_lt (length piece.bytes) 256 && list_all (λ byte. nat_lt byte 256) piece.bytes
     && nat_lt piece.start 65536 && nat_le (piece.start + length piece.bytes) 65536)
     (not (list_any (pieces_meet piece) before)) h in
-    let c = both (nat_lt (length piece.bytes) 256 && list_all (λ byte. nat_lt byte 256) piece.bytes
+    let c = and_parts (nat_lt (length piece.bytes) 256 && list_all (λ byte. nat_lt byte 256) piece.bytes
     && nat_lt piece.start 65536) (nat_le (piece.start + length piece.bytes) 65536) d.0 in
-    let b = both (nat_lt (length piece.bytes) 256 && list_all (λ byte. nat_lt byte 256) piece.bytes)
+    let b = and_parts (nat_lt (length piece.bytes) 256 && list_all (λ byte. nat_lt byte 256) piece.bytes)
     (nat_lt piece.start 65536) c.0 in
-    let a = both (nat_lt (length piece.bytes) 256) (list_all (λ byte. nat_lt byte 256) piece.bytes) b.0 in (
+    let a = and_parts (nat_lt (length piece.bytes) 256) (list_all (λ byte. nat_lt byte 256) piece.bytes) b.0 in (
       record {
         short = ltb-true (length piece.bytes) 256 a.0;
         bytes = small_all piece.bytes a.1;

@@ -1,6 +1,6 @@
 -- A data line that is read is the line of its piece, and the line of a piece is read.
-use Rattle.hex80.proofs.Prelude.{◌≡◌, ℕ, zero, suc, ◌+◌, ◌*◌, ◌/◌, ◌%◌, ◌<◌, ◌≤◌, min, Bool, true, false, cond, ◌==◌, ◌&&◌, nat_le, List, [], ◌∷◌, ◌++◌, length, take, flat_map, sum, Some, None, option_map, option_and_then, refl, ap, sym, subst, ◌∙◌, arith, eqb-true, eq-eqb, leb-true, le-leb, length-append, length-take, take_at, none-some, cond_some, option_and_then_some, some_pair_parts, Piece, checksum_of, checksum_is, checksum_below, digits_of, data_line_bytes, data_line, bytes_in, bytes_of_line, has_form, piece_in, read_line, all_bytes}
-use Rattle.hex80.proofs.Digits.{IsBytes, both, option_map_some, bytes_back, bytes_again}
+use Rattle.hex80.proofs.Prelude.{◌≡◌, ℕ, zero, suc, ◌+◌, ◌*◌, ◌/◌, ◌%◌, ◌<◌, ◌≤◌, min, Bool, true, false, cond, ◌==◌, ◌&&◌, nat_le, List, [], ◌∷◌, ◌++◌, length, take, flat_map, sum, Some, None, option_map, option_and_then, refl, ap, sym, subst, ◌∙◌, arith, eqb-true, eq-eqb, leb-true, le-leb, length-append, length-take, take_at, none-some, cond_some, option_and_then_some, some_pair_parts, Piece, checksum_of, checksum_is, checksum_below, digits_of, data_line_bytes, data_line, bytes_in, bytes_of_line, has_form, piece_in, read_line, all_bytes, and_parts, option_map_some}
+use Rattle.hex80.proofs.Digits.{IsBytes, bytes_back, bytes_again}
 
 -- a piece that a line can have
 pub record IsLine (piece : Piece) : Type 0 where
@@ -44,8 +44,8 @@ piece_back (count ∷ high ∷ low ∷ type ∷ rest) piece all h adds =
     let start : ℕ = 256 * high + low in
     let made : Piece = record { start = start; bytes = take count rest } in
     let found = cond_some (has_form count start type rest) made piece h in
-    let forms = both (type == 0 && length rest == count + 1) (nat_le (start + count) 65536) found.0 in
-    let counts = both (type == 0) (length rest == count + 1) forms.0 in
+    let forms = and_parts (type == 0 && length rest == count + 1) (nat_le (start + count) 65536) found.0 in
+    let counts = and_parts (type == 0) (length rest == count + 1) forms.0 in
     let data_type : type ≡ 0 = eqb-true type 0 counts.0 in
     let size : length rest ≡ count + 1 = eqb-true (length rest) (count + 1) counts.1 in
     let fits : start + count ≤ 65536 = leb-true (start + count) 65536 forms.1 in

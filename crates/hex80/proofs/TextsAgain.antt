@@ -1,6 +1,5 @@
 -- A text that spells pieces is judged as these, and one with a first fault as that: so there is one answer for each text.
-use Rattle.hex80.proofs.Prelude.{◌≡◌, ℕ, ◌%◌, Bool, true, false, cond, not, List, [], ◌∷◌, ◌++◌, map, sum, Some, None, Result, Ok, Err, refl, ap, sym, ◌∙◌, list_any, option_map_or, bytes_eq, eq-eqb, append_assoc, append-nil, none-some, same_Some, some_pair_parts, bytes_eq-Decides, Piece, pieces_meet, adds_up, Fault, BadLine, WrongSum, NoEnd, Overlap, data_line_bytes, data_line, end_line, read_line, fault_of_data, fault_of_line, is_empty, fault_at, is_line_piece, are_line_pieces, Spells, HasFirstFault, judged_by, judged_after, judgement_of, all_bytes}
-use Rattle.hex80.proofs.Digits.{both}
+use Rattle.hex80.proofs.Prelude.{◌≡◌, ℕ, ◌%◌, Bool, true, false, cond, not, List, [], ◌∷◌, ◌++◌, map, sum, Some, None, Result, Ok, Err, refl, ap, sym, ◌∙◌, list_any, option_map_or, bytes_eq, eq-eqb, append_assoc, append-nil, none-some, same_Some, some_pair_parts, bytes_eq-Decides, Piece, pieces_meet, adds_up, Fault, BadLine, WrongSum, NoEnd, Overlap, data_line_bytes, data_line, end_line, read_line, fault_of_data, fault_of_line, is_empty, fault_at, is_line_piece, are_line_pieces, Spells, HasFirstFault, judged_by, judged_after, judgement_of, all_bytes, and_parts, same_Err, same_Ok}
 use Rattle.hex80.proofs.LineLaws.{IsLine, line_again}
 use Rattle.hex80.proofs.Judged.{piece_line}
 
@@ -41,7 +40,7 @@ onward_past :
     → judged_after before (map data_line later ++ rest) ≡ judged_after (before ++ later) rest
 onward_past [] before rest h = ap (λ b. judged_after b rest) (sym (append-nil before))
 onward_past (piece ∷ later) before rest h =
-    let t = both (is_line_piece before piece) (are_line_pieces (before ++ piece ∷ []) later) h in
+    let t = and_parts (is_line_piece before piece) (are_line_pieces (before ++ piece ∷ []) later) h in
     onward before piece (map data_line later ++ rest) t.0
     ∙ onward_past later (before ++ piece ∷ []) rest t.1
     ∙ ap (λ b. judged_after b rest) (append_assoc before (piece ∷ []) later)
@@ -75,20 +74,6 @@ no_fault text pieces fault s h =
     let bad : ◌≡◌ {A = Result (List Piece) Fault} (Ok pieces) (Err fault) =
     sym (pieces_are text pieces s) ∙ fault_is text fault h in
     cc
-
-same_Ok : {A E : Type 0} (x y : A) → ◌≡◌ {A = Result A E} (Ok x) (Ok y) → x ≡ y
-same_Ok {A} {E} x y h = ap value h
-  where
-    value : Result A E → A
-    value (Ok v) = v
-    value (Err e) = x
-
-same_Err : {A E : Type 0} (x y : E) → ◌≡◌ {A = Result A E} (Err x) (Err y) → x ≡ y
-same_Err {A} {E} x y h = ap fault h
-  where
-    fault : Result A E → E
-    fault (Ok v) = x
-    fault (Err e) = e
 
 -- it spells one row of pieces at most
 pub one_spelled : (text : List ℕ) (left right : List Piece) → Spells text left → Spells text right → left ≡ right

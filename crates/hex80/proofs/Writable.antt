@@ -1,6 +1,5 @@
 -- The pieces that a text spells can be written.
-use Rattle.hex80.proofs.Prelude.{◌≡◌, ℕ, ◌<◌, true, false, List, [], ◌∷◌, ◌++◌, length, get_or, Ok, subst, sym, ◌∙◌, arith, list_any, append_assoc, append-nil, All-append, All-from_recursion, list_any_at, all_pairs_push, Piece, AreApart, AreWritable, EndsInMemory, pieces_meet, range_of, meets_decides, Spells, is_line_piece, are_line_pieces, judgement_of}
-use Rattle.hex80.proofs.Digits.{both}
+use Rattle.hex80.proofs.Prelude.{◌≡◌, ℕ, ◌<◌, true, false, List, [], ◌∷◌, ◌++◌, length, get_or, Ok, subst, sym, ◌∙◌, arith, list_any, append_assoc, append-nil, All-append, All-from_recursion, list_any_at, all_pairs_push, Piece, AreApart, AreWritable, EndsInMemory, pieces_meet, range_of, meets_decides, Spells, is_line_piece, are_line_pieces, judgement_of, and_parts}
 use Rattle.hex80.proofs.Judged.{piece_line}
 use Rattle.hex80.proofs.ReadLemmas.{spelled_by}
 
@@ -20,7 +19,7 @@ lines_writable :
     → AreWritable (before ++ pieces)
 lines_writable before [] writable accepted = subst AreWritable (sym (append-nil before)) writable
 lines_writable before (piece ∷ others) writable accepted =
-    let t = both (is_line_piece before piece) (are_line_pieces (before ++ piece ∷ []) others) accepted in
+    let t = and_parts (is_line_piece before piece) (are_line_pieces (before ++ piece ∷ []) others) accepted in
     let p = piece_line before piece t.0 in
     subst AreWritable (append_assoc before (piece ∷ []) others)
     (lines_writable (before ++ piece ∷ []) others

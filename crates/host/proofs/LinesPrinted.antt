@@ -1,15 +1,10 @@
 -- Lines that are printed piece by piece, and what they do not begin with.
-use Rattle.host.proofs.Prelude.{◌≡◌, ℕ, ◌-◌, ◌≤◌, ◌<◌, Bool, true, false, List, [], ◌∷◌, ◌++◌, Option, None, Some, Bor, inl, inr, codes, decimal, length, drop, take, get_or, refl, sym, ap, subst, ◌∙◌, true≢false, arith, and_parts, take-length, append-nil, append_assoc, Directory, StopsAt}
+use Rattle.host.proofs.Prelude.{◌≡◌, ℕ, ◌-◌, ◌≤◌, ◌<◌, Bool, true, false, List, [], ◌∷◌, ◌++◌, Option, Bor, inl, inr, codes, decimal, length, drop, take, get_or, refl, sym, ap, subst, ◌∙◌, true≢false, arith, and_parts, take-length, append-nil, append_assoc, Directory, StopsAt, Appends-nil}
 use Rattle.std.specs.{Prelude.{◌==◌, ◌&&◌, not}, List.{flat_map}, Io.KnownBytes.{Appends}}
 use Rattle.failure.specs.Writing.{AppendsBeginning, IsBeginning}
 use Rattle.failure.proofs.WritingLemmas.{beginning_after}
 use Rattle.ports.specs.Events.{CountsFailure}
 use Rattle.host.specs.Refusals.{IsOfNoFile, Tells, TellsOther, TellsRefusal, file_line, is_fault_number, output_line, refusal_line}
-
--- a writer that nothing was sent to
-appends_nothing : (known : Option (List ℕ)) → Appends known known []
-appends_nothing None = tt
-appends_nothing (Some bytes) = sym (append-nil bytes)
 
 -- what was written, with a beginning of the pieces that are left, is a beginning of all
 abbrev pub Sent : (old now : Option (List ℕ)) (all rest : List ℕ) → Type 0
@@ -42,7 +37,7 @@ piece_begun old now new all piece d (p ∷ more) one is before (sent, (left, who
 
 -- no piece is left
 pub all_sent : (old now : Option (List ℕ)) (all : List ℕ) (rest : List (Bor (List ℕ))) → length rest < 1 → Sent old now all (joined rest) → AppendsBeginning old now all
-all_sent old now all [] none before = before now ([], ([], refl), appends_nothing now)
+all_sent old now all [] none before = before now ([], ([], refl), Appends-nil now)
 all_sent old now all (p ∷ more) none before = absurd (omega arith)
 
 -- a number that does not begin as that of a file

@@ -1,7 +1,6 @@
 mod Prelude
 pub mod MainModules
 pub mod Runs
-pub mod Items
 pub mod Written
 pub mod Loops
 pub mod Pairs

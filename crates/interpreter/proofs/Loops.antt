@@ -1,7 +1,6 @@
 -- The loops over bytes and over values.
-use Rattle.interpreter.proofs.Prelude.{◌≡◌, ℕ, ◌+◌, ◌<◌, ◌≤◌, List, [], ◌∷◌, ◌++◌, length, set, drop, get_or, refl, ap, sym, ◌∙◌, arith, flat_map, at_drop_more, InitialValue, written, bytes_of_value}
+use Rattle.interpreter.proofs.Prelude.{◌≡◌, ℕ, ◌+◌, ◌<◌, ◌≤◌, List, [], ◌∷◌, ◌++◌, length, set, drop, get_or, refl, ap, sym, ◌∙◌, arith, flat_map, at_drop_more, InitialValue, written, bytes_of_value, at_drop_all, drop_item}
 use Rattle.mem80.specs.{declared.memory.TheConstants.{MEMORY_SIZE}, Memory.{IsMemory}}
-use Rattle.interpreter.proofs.Items.{at_item, at_end}
 use Rattle.interpreter.proofs.Written.{written_past, written_after}
 
 -- one part of what is written, and then the others
@@ -21,7 +20,7 @@ module _ (memory total first others new : List ℕ) (address : ℕ) (rest : writ
 module _ (memory total : List ℕ) (address : ℕ) (bytes : List ℕ) (i : ℕ)
     (rest : written memory address (drop i bytes) ≡ total) where
   left : (byte : ℕ) → i < length bytes → byte ≡ get_or bytes i byte → written memory address ((byte ∷ []) ++ drop (i + 1) bytes) ≡ total
-  left byte within is = sym (at_item (λ others. written memory address others) bytes i byte within is) ∙ rest
+  left byte within is = sym (drop_item (λ others. written memory address others) bytes i byte within is) ∙ rest
 
   pub byte_put :
       (byte next : ℕ) (new : List ℕ)
@@ -45,14 +44,14 @@ module _ (memory total : List ℕ) (address : ℕ) (bytes : List ℕ) (i : ℕ)
       (sym (at_drop_more (written memory address) bytes i 0 within) ∙ rest) given is_memory past
 
   pub bytes_put : length bytes ≤ i → memory ≡ total
-  bytes_put past = sym (at_end (λ others. written memory address others) bytes i past) ∙ rest
+  bytes_put past = sym (at_drop_all (λ others. written memory address others) bytes i past) ∙ rest
 
 module _ (memory total : List ℕ) (address : ℕ) (address_of : ℕ → ℕ) (values : List InitialValue) (i : ℕ)
     (rest : written memory address (flat_map (bytes_of_value address_of) (drop i values)) ≡ total) where
   left_values : (value : InitialValue) → i < length values → value ≡ get_or values i value
       → written memory address (bytes_of_value address_of value ++ flat_map (bytes_of_value address_of) (drop (i + 1) values)) ≡ total
   left_values value within is =
-      sym (at_item (λ others. written memory address (flat_map (bytes_of_value address_of) others)) values i value within is)
+      sym (drop_item (λ others. written memory address (flat_map (bytes_of_value address_of) others)) values i value within is)
       ∙ rest
 
   pub value_put :
@@ -80,4 +79,4 @@ module _ (memory total : List ℕ) (address : ℕ) (address_of : ℕ → ℕ) (v
 
   pub values_put : length values ≤ i → memory ≡ total
   values_put past =
-      sym (at_end (λ others. written memory address (flat_map (bytes_of_value address_of) others)) values i past) ∙ rest
+      sym (at_drop_all (λ others. written memory address (flat_map (bytes_of_value address_of) others)) values i past) ∙ rest

@@ -1,13 +1,12 @@
 -- The main module: where the code finds it.
-use Rattle.interpreter.proofs.Prelude.{◌≡◌, ℕ, suc, ◌+◌, ◌<◌, ◌≤◌, Bool, true, false, cond, List, [], ◌∷◌, length, map, drop, get_or, Option, None, Some, option_map, find, position, ap, refl, sym, ◌∙◌, position_from, option_map_or, position_from-zero, Typed, TypedModule, module_view, is_main, number_of_main, found_from}
-use Rattle.stack_compiler.proofs.Items.{at_item, at_end}
+use Rattle.interpreter.proofs.Prelude.{◌≡◌, ℕ, suc, ◌+◌, ◌<◌, ◌≤◌, Bool, true, false, cond, List, [], ◌∷◌, length, map, drop, get_or, Option, None, Some, option_map, find, position, ap, refl, sym, ◌∙◌, position_from, option_map_or, position_from-zero, Typed, TypedModule, module_view, is_main, number_of_main, found_from, drop_item, at_drop_all}
 
 module _ (total : Option (ℕ × TypedModule)) (modules : List Typed) (i : ℕ) (rest : found_from i (map module_view (drop i modules)) ≡ total) where
   main_step : (typed : Typed) (main : Bool) → i < length modules → typed ≡ get_or modules i typed → is_main (module_view typed) ≡ main
       → cond main (Some (i, module_view typed)) (found_from (i + 1) (map module_view (drop (i + 1) modules))) ≡ total
   main_step typed main within is given =
       ap (λ one. cond one (Some (i, module_view typed)) (found_from (i + 1) (map module_view (drop (i + 1) modules)))) (sym given)
-      ∙ sym (at_item (λ left. found_from i (map module_view left)) modules i typed within is)
+      ∙ sym (drop_item (λ left. found_from i (map module_view left)) modules i typed within is)
       ∙ rest
 
   pub main_found : (typed : Typed) → i < length modules → typed ≡ get_or modules i typed → is_main (module_view typed) ≡ true → Some (i, module_view typed) ≡ total
@@ -18,7 +17,7 @@ module _ (total : Option (ℕ × TypedModule)) (modules : List Typed) (i : ℕ) 
   main_passed typed within is given = main_step typed false within is given
 
   pub no_main : length modules ≤ i → None ≡ total
-  no_main past = sym (at_end (λ left. found_from i (map module_view left)) modules i past) ∙ rest
+  no_main past = sym (at_drop_all (λ left. found_from i (map module_view left)) modules i past) ∙ rest
 
 -- what is found is the first main module, by its number
 abbrev module_of : (found : Option (ℕ × TypedModule)) → Option TypedModule

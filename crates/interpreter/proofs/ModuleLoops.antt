@@ -1,7 +1,6 @@
 -- One pass over the modules of a program.
-use Rattle.interpreter.proofs.Prelude.{◌≡◌, ℕ, ◌+◌, ◌≤◌, List, [], ◌∷◌, ◌++◌, length, drop, map, zip, flat_map, Option, None, Some, option_map, vec_items, length-drop, refl, ap, sym, ◌∙◌, arith, slice_get, enumerate_from, option_map_or, drop_of_length-le, slice_get-map, Typed, TypedModule, module_view, object_view, ModulePlacement, Contents, address_of_object, contents_of_list, contents_of_module, contents_of_object, starting_memory, CodePlacement, module_placement_view, Program, Surroundings, address_of, Site, site_view, contents_at, contents_from, module_in, with_all}
-use Rattle.placing.proofs.Passes.{found_first, found_none, zip_nothing}
-use Rattle.interpreter.proofs.Items.{at_end}
+use Rattle.interpreter.proofs.Prelude.{◌≡◌, ℕ, ◌+◌, ◌≤◌, List, [], ◌∷◌, ◌++◌, length, drop, map, zip, flat_map, Option, None, Some, option_map, vec_items, length-drop, refl, ap, sym, ◌∙◌, arith, slice_get, enumerate_from, option_map_or, drop_of_length-le, slice_get-map, Typed, TypedModule, module_view, object_view, ModulePlacement, Contents, address_of_object, contents_of_list, contents_of_module, contents_of_object, starting_memory, CodePlacement, module_placement_view, Program, Surroundings, address_of, Site, site_view, contents_at, contents_from, module_in, with_all, drop_past, at_drop_all}
+use Rattle.placing.proofs.Passes.{found_first, zip_nothing}
 use Rattle.interpreter.proofs.Written.{all_after}
 
 -- the objects of a module and then its lists are its contents
@@ -78,8 +77,8 @@ contents_are program number (first ∷ others) = by (slice_get program.modules n
     by None none later =
         ap (λ found. contents_with (module_in program number) first found ++ contents_from program (number + 1) others) none
         ∙ later
-        ∙ ap (λ left. contents_left program (number + 1) left others) (drop_of_length-le program.modules (omega (arith, simp length-drop at (ap length (found_none program.modules number none)))))
-        ∙ sym (ap (λ left. contents_left program number left (first ∷ others)) (found_none program.modules number none))
+        ∙ ap (λ left. contents_left program (number + 1) left others) (drop_of_length-le program.modules (omega (arith, simp length-drop at (ap length (drop_past program.modules number none)))))
+        ∙ sym (ap (λ left. contents_left program number left (first ∷ others)) (drop_past program.modules number none))
     by (Some typed) is later =
         ap (λ found. contents_with (module_in program number) first found ++ contents_from program (number + 1) others) is
         ∙ ap (λ left. contents_of_numbered program (number, (typed, first)) ++ left) later
@@ -94,7 +93,7 @@ pub modules_put :
     → now ≡ starting_memory program.modules program.placement memory
 unfolding starting_memory
 modules_put program placed memory now i is rest past =
-    sym (at_end (λ left. with_all now (contents_from program i (map module_placement_view left))) placed i past)
+    sym (at_drop_all (λ left. with_all now (contents_from program i (map module_placement_view left))) placed i past)
     ∙ rest
     ∙ ap (λ one. with_all memory (contents_from program 0 one)) is
     ∙ ap (with_all memory) (contents_are program 0 program.placement.modules)

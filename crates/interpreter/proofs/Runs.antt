@@ -1,5 +1,5 @@
 -- Runs of stack code are runs of the source.
-use Rattle.interpreter.proofs.Prelude.{◌≡◌, ℕ, suc, ◌-◌, Bool, true, false, cond, List, [], ◌++◌, Option, None, Some, Result, Ok, Err, IfOk, OnErr, All, find, nat_lt, slice_get, refl, sym, ap, ◌∙◌, subst, append_assoc, append-nil, option_map_or, JumpsAreSound, charge_of, TypedList, ListOf, TypedModule, is_main, Placement, starting_memory, Stack, Surroundings, done_list, later_by, State, Stop, Ended, Outside, Outcome, Gave, Stopped, Flow, Run, main_done, number_of_main, run_of, source_run, ComesAfter, found_from}
+use Rattle.interpreter.proofs.Prelude.{◌≡◌, ℕ, suc, ◌-◌, Bool, true, false, cond, List, Option, None, Some, Result, Ok, Err, IfOk, OnErr, All, find, nat_lt, slice_get, refl, sym, ap, ◌∙◌, subst, option_map_or, JumpsAreSound, charge_of, TypedList, ListOf, TypedModule, is_main, Placement, starting_memory, Stack, Surroundings, done_list, later_by, State, Stop, Ended, Outside, Outcome, Gave, Stopped, Flow, Run, main_done, number_of_main, run_of, source_run, ComesAfter, found_from, adds_both}
 use Rattle.ports.specs.{declared.event.Event.{Event}, Events.{IsBeginning}}
 use Rattle.meaning.proofs.Added.{adds_if, adds_rest, begins_itself, later_adds}
 use Rattle.stack_code.specs.{Program.{AreTablesOf}, declared.program.StackProgram.{StackProgram}, declared.instruction.Instruction.{Instruction}, Machine.{Machine, Progress, Going, Done, and_then_steps, progress_of, steps}, Run.{machine_in, stack_run, start_state, start_surroundings, started as charged_start}, internal.Simulation.{Adds}}
@@ -75,22 +75,9 @@ started modules placement room start script events budget =
     of_outcome (start_state modules placement start events budget) _
     (found_adds budget (find is_main modules) (start_surroundings modules placement script (number_of_main modules) room) (start_state modules placement start events budget))
 
--- what holds of an answer, and what follows
-pub if_ok : {A E : Type 0} (P Q : A → Type 0) (answer : Result A E) → ((found : A) → P found → Q found) → IfOk answer P → IfOk answer Q
-if_ok P Q (Ok found) go holds = go found holds
-if_ok P Q (Err fault) go holds = tt
-
 pub on_err : {A E : Type 0} (P Q : Type 0) (answer : Result A E) → (P → Q) → OnErr answer P → OnErr answer Q
 on_err P Q (Ok found) go holds = tt
 on_err P Q (Err fault) go holds = go holds
-
--- a run of stack code only adds events, to its end and on its way
-pub begins_same : (events : List Event) → IsBeginning events events
-begins_same events = ([], sym (append-nil events))
-
-adds_both : (s t : State) (progress : Progress) → IsBeginning s.events t.events → Adds t progress → Adds s progress
-adds_both s t (Going m) first second = (first.0 ++ second.0, second.1 ∙ ap (λ es. es ++ second.0) first.1 ∙ append_assoc s.events first.0 second.0)
-adds_both s t (Done why u) first second = (first.0 ++ second.0, second.1 ∙ ap (λ es. es ++ second.0) first.1 ∙ append_assoc s.events first.0 second.0)
 
 adds_through : (code : List Instruction) (s : State) (progress : Progress) (count : ℕ) → Adds s progress → Adds s (and_then_steps progress (steps code count))
 adds_through code s (Going n) count first = adds_both s n.state (steps code count n) first (adds_steps code count n)

@@ -1,10 +1,6 @@
 -- A step and a run only add events.
-use Rattle.isa8080.proofs.Prelude.{◌≡◌, ℕ, zero, suc, Bool, true, false, if◌then◌else◌, List, [], ◌∷◌, ◌++◌, refl, sym, ap, ◌∙◌, append-nil, append_assoc, Event, IsBeginning, read_event, write_event, input_value, Instr, Ldax, Inr, Dcr, Mvi, Mov, MovToMemory, ReturnIf, JumpIf, CallIf, Lda, Out, In, Of, M, Status, Running, Halted, Illegal, State, holds, act, Form, One, Two, Three, Unknown, form_of, advance, carry_out, next_byte, next_word, state_after, step_by, step_of}
+use Rattle.isa8080.proofs.Prelude.{◌≡◌, ℕ, zero, suc, Bool, true, false, if◌then◌else◌, List, [], ◌∷◌, ◌++◌, refl, ap, ◌∙◌, append_assoc, Event, IsBeginning, read_event, write_event, input_value, Instr, Ldax, Inr, Dcr, Mvi, Mov, MovToMemory, ReturnIf, JumpIf, CallIf, Lda, Out, In, Of, M, Status, Running, Halted, Illegal, State, holds, act, Form, One, Two, Three, Unknown, form_of, advance, carry_out, next_byte, next_word, state_after, step_by, step_of, begins_itself}
 use Rattle.mem80.specs.Memory.{byte_at}
-
--- events are a beginning of themselves, and of what is a beginning of others
-pub begins_itself : (events : List Event) → IsBeginning events events
-begins_itself events = ([], sym (append-nil events))
 
 pub begins_on :
     (one other last : List Event) → IsBeginning one other → IsBeginning other last → IsBeginning one last

@@ -1,4 +1,5 @@
 mod Prelude
+pub mod Words
 pub mod EncodingLemmas
 pub mod DecodingLemmas
 pub mod Endings

@@ -1,16 +1,5 @@
 -- Loops over modules, and over what they share.
-use Rattle.join.proofs.Prelude.{◌≡◌, ℕ, suc, ◌+◌, ◌<◌, ◌≤◌, Bool, true, false, List, [], ◌∷◌, ◌++◌, map, length, drop, get_or, Option, None, Some, if◌then◌else◌, refl, ap, sym, ◌∙◌, add-one, arith, filter_map, drop_of_length-le, drop-cons, common_steps, append_assoc, append-nil, Typed, module_view, Global, global_of, globals_of, Shared, global_view, globals_view, first_external}
-
--- what is left of a list, item by item
-module _ {A Y : Type 0} (of : List A → Y) (items : List A) (i : ℕ) where
-  pub at_item : (item : A) → i < length items → item ≡ get_or items i item → of (drop i items) ≡ of (item ∷ drop (i + 1) items)
-  at_item item within is =
-      ap of (drop-cons items i item within)
-      ∙ ap (λ first. of (first ∷ drop (suc i) items)) (sym is)
-      ∙ ap (λ n. of (item ∷ drop n items)) (sym (add-one i))
-
-  pub at_end : length items ≤ i → of (drop i items) ≡ of []
-  at_end past = ap of (drop_of_length-le items past)
+use Rattle.join.proofs.Prelude.{◌≡◌, ℕ, ◌+◌, ◌<◌, ◌≤◌, Bool, true, false, List, ◌++◌, map, length, drop, get_or, Option, None, Some, if◌then◌else◌, refl, ap, sym, ◌∙◌, arith, filter_map, common_steps, append_assoc, append-nil, Typed, module_view, Global, global_of, globals_of, Shared, global_view, globals_view, first_external, at_drop_all, drop_item}
 
 -- the first EXTERNAL that passes a test
 module _ (test : Global → Bool) (items : List Shared) (i : ℕ) (total : Option (List ℕ)) (rest : first_external test (globals_view (drop i items)) ≡ total) where
@@ -20,11 +9,11 @@ module _ (test : Global → Bool) (items : List Shared) (i : ℕ) (total : Optio
   external_step : (public passes : Bool) (item : Shared) → i < length items → item ≡ get_or items i item → (global_view item).is_public ≡ public → test (global_view item) ≡ passes
       → (if public then externals (drop (i + 1) items) else if passes then Some (global_view item).name else externals (drop (i + 1) items)) ≡ total
   external_step true passes item within is public does =
-      sym (sym rest ∙ at_item externals items i item within is ∙ grind (arith, common_steps))
+      sym (sym rest ∙ drop_item externals items i item within is ∙ grind (arith, common_steps))
   external_step false true item within is public does =
-      sym (sym rest ∙ at_item externals items i item within is ∙ grind (arith, common_steps))
+      sym (sym rest ∙ drop_item externals items i item within is ∙ grind (arith, common_steps))
   external_step false false item within is public does =
-      sym (sym rest ∙ at_item externals items i item within is ∙ grind (arith, common_steps))
+      sym (sym rest ∙ drop_item externals items i item within is ∙ grind (arith, common_steps))
 
   pub external_found : (item : Shared) → i < length items → item ≡ get_or items i item → (global_view item).is_public ≡ false → test (global_view item) ≡ true → Some (global_view item).name ≡ total
   external_found item within is public does = external_step false true item within is public does
@@ -36,7 +25,7 @@ module _ (test : Global → Bool) (items : List Shared) (i : ℕ) (total : Optio
   public_passed item within is public = external_step true (test (global_view item)) item within is public refl
 
   pub no_external : length items ≤ i → None ≡ total
-  no_external past = sym (sym rest ∙ at_end externals items i past)
+  no_external past = sym (sym rest ∙ at_drop_all externals items i past)
 
 -- what modules share
 module _ (total : List Global) (made : List Global) (modules : List Typed) (i : ℕ)
@@ -46,9 +35,9 @@ module _ (total : List Global) (made : List Global) (modules : List Typed) (i : 
   module_pushed typed now within is given =
       ap (λ globals. globals ++ globals_of (map module_view (drop (i + 1) modules))) given
       ∙ append_assoc made (filter_map (global_of (module_view typed)) typed.globals.items) (globals_of (map module_view (drop (i + 1) modules)))
-      ∙ sym (at_item (λ left. made ++ globals_of (map module_view left)) modules i typed within is)
+      ∙ sym (drop_item (λ left. made ++ globals_of (map module_view left)) modules i typed within is)
       ∙ rest
 
   pub modules_ended : length modules ≤ i → made ≡ total
   modules_ended past =
-      sym (append-nil made) ∙ sym (at_end (λ left. made ++ globals_of (map module_view left)) modules i past) ∙ rest
+      sym (append-nil made) ∙ sym (at_drop_all (λ left. made ++ globals_of (map module_view left)) modules i past) ∙ rest

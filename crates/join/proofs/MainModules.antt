@@ -1,6 +1,5 @@
 -- Main modules, counted.
-use Rattle.join.proofs.Prelude.{◌≡◌, ℕ, ◌+◌, ◌<◌, ◌≤◌, ◌==◌, Bool, true, false, not, List, [], ◌∷◌, map, length, drop, get_or, count_by, if◌then◌else◌, cond, ap, sym, ◌∙◌, arith, common_steps, sum_by-cons, Typed, TypedStatement, ListOf, module_view, statements_view, has_statement, is_main}
-use Rattle.join.proofs.GlobalLoops.{at_item, at_end}
+use Rattle.join.proofs.Prelude.{◌≡◌, ℕ, ◌+◌, ◌<◌, ◌≤◌, ◌==◌, Bool, true, false, not, List, [], ◌∷◌, map, length, drop, get_or, count_by, if◌then◌else◌, cond, ap, sym, ◌∙◌, arith, common_steps, sum_by-cons, Typed, TypedStatement, ListOf, module_view, statements_view, has_statement, is_main, drop_item, at_drop_all}
 
 pub statements_stand : (first : ℕ) (places : List ℕ) (statements slice : List TypedStatement) (empty : Bool) → slice ≡ statements → empty ≡ (length slice == 0)
     → not empty ≡ has_statement (ListOf first places (statements_view statements))
@@ -20,7 +19,7 @@ module _ (found : Bool) (modules : List Typed) (i : ℕ) (rest : mains found (dr
   module_step typed main within is given =
       ap (λ counts. (if found then 1 else 0) + ((if counts then 1 else 0) + count_by is_main (map module_view (drop (i + 1) modules)))) (sym given)
       ∙ ap (λ count. (if found then 1 else 0) + count) (sym (sum_by-cons (λ counted. cond (is_main counted) 1 0) (module_view typed) (map module_view (drop (i + 1) modules))))
-      ∙ sym (at_item (mains found) modules i typed within is)
+      ∙ sym (drop_item (mains found) modules i typed within is)
       ∙ rest
 
   pub other_module : (typed : Typed) → i < length modules → typed ≡ get_or modules i typed → is_main (module_view typed) ≡ false
@@ -40,7 +39,7 @@ module _ (found : Bool) (modules : List Typed) (i : ℕ) (rest : mains found (dr
       grind (arith, common_steps, more)
 
   pub mains_ended : length modules ≤ i → found ≡ (count_by is_main (map module_view modules) == 1)
-  mains_ended past = by found (sym (at_end (mains found) modules i past) ∙ rest)
+  mains_ended past = by found (sym (at_drop_all (mains found) modules i past) ∙ rest)
     where
       by : (one : Bool) → (if one then 1 else 0) + 0 ≡ count_by is_main (map module_view modules) → one ≡ (count_by is_main (map module_view modules) == 1)
       by true counted = grind (arith, common_steps, counted)

@@ -1,16 +1,5 @@
 -- Structures with the same members by their positions.
-use Rattle.join.proofs.Prelude.{◌≡◌, ℕ, suc, ◌+◌, ◌<◌, ◌≤◌, ◌&&◌, List, zero, nat_eq, [], ◌∷◌, Bool, true, false, Some, None, length, drop, slice_get, refl, ap, sym, ◌∙◌, add-one, arith, drop-cons, drop_of_length-le, common_steps, length-drop, slice_get_within, get_or_from_slice_get, TypedMember, same_scalar, same_dimension, same_members}
-
-drop_found : {A : Type 0} (items : List A) (i : ℕ) (item : A) → slice_get items i ≡ Some item → drop i items ≡ item ∷ drop (i + 1) items
-drop_found items i item is =
-    drop-cons items i item (slice_get_within items i item is)
-    ∙ ap (λ first. first ∷ drop (suc i) items) (get_or_from_slice_get items i item item is)
-    ∙ ap (λ n. item ∷ drop n items) (sym (add-one i))
-
-drop_past : {A : Type 0} (items : List A) (i : ℕ) → slice_get items i ≡ None → drop i items ≡ []
-drop_past [] i none = drop_of_length-le [] (omega arith)
-drop_past (item ∷ items) zero none = absurd (cc)
-drop_past (item ∷ items) (suc i) none = drop_past items i none
+use Rattle.join.proofs.Prelude.{◌≡◌, ℕ, ◌+◌, ◌<◌, ◌≤◌, ◌&&◌, List, nat_eq, [], ◌∷◌, Bool, true, false, Some, None, length, drop, slice_get, refl, ap, sym, ◌∙◌, arith, drop_of_length-le, common_steps, length-drop, slice_get_within, TypedMember, same_scalar, same_dimension, same_members, drop_found, drop_past}
 
 -- two members by what is compared of them
 abbrev pub members_agree : TypedMember → TypedMember → Bool

@@ -1,22 +1,7 @@
 -- Where objects lie before the module has its place, said of each object by itself; and that they lie
 -- there in
 -- placements that follow the storage of the module.
-use Rattle.layout.proofs.Prelude.{◌≡◌, ℕ, zero, suc, ◌+◌, ◌<◌, List, [], ◌∷◌, ◌++◌, length, Option, Some, refl, ap, sym, subst, ◌∙◌, arith, slice_get, unwrap_or, AllByRecursion, enumerate_from, option_map_or, append_assoc, length-append, recursion_from_All, none-some, AtNumber, AtObject, LooksBack, IsStorable, Home, InData, InConstants, Placed, BasedOn, Elsewhere, Nowhere, InFrame, TypedObject, TypedModule, Location, Absolute, further_on, location_in, location_by_home, locations_after, location_of}
-
--- objects before one keep their locations
-got_before :
-    {A : Type 0} (before after : List A) (number : ℕ)
-    → number < length before
-    → slice_get (before ++ after) number ≡ slice_get before number
-got_before [] after number below = absurd (omega (arith, below))
-got_before (first ∷ before) after zero below = refl
-got_before (first ∷ before) after (suc number) below = got_before before after number (omega (arith, below))
-
-got_first :
-    {A : Type 0} (before : List A) (first : A) (after : List A)
-    → slice_get (before ++ (first ∷ after)) (length before) ≡ Some first
-got_first [] first after = refl
-got_first (other ∷ before) first after = got_first before first after
+use Rattle.layout.proofs.Prelude.{◌≡◌, ℕ, zero, suc, ◌+◌, List, [], ◌∷◌, ◌++◌, length, Option, Some, refl, ap, sym, subst, ◌∙◌, arith, slice_get, unwrap_or, AllByRecursion, enumerate_from, option_map_or, append_assoc, length-append, recursion_from_All, none-some, AtNumber, AtObject, LooksBack, IsStorable, Home, InData, InConstants, Placed, BasedOn, Elsewhere, Nowhere, InFrame, TypedObject, TypedModule, Location, Absolute, further_on, location_in, location_by_home, locations_after, location_of, append-nil, got_before, got_first}
 
 -- the locations of all objects begin with those that are known
 record Begins (before all : List Location) : Type 0 where
@@ -26,11 +11,7 @@ record Begins (before all : List Location) : Type 0 where
 begins :
     (typed : TypedModule) (before : List Location) (objects : List TypedObject)
     → Begins before (locations_after typed before objects)
-begins typed before [] = record { after = []; whole = nothing before }
-  where
-    nothing : {A : Type 0} (items : List A) → items ++ [] ≡ items
-    nothing [] = refl
-    nothing (first ∷ items) = ap (λ rest. first ∷ rest) (nothing items)
+begins typed before [] = record { after = []; whole = append-nil before }
 begins typed before (object ∷ others) =
     let here : Location = location_by_home typed before (length before) object object.home in
     let later : Begins (before ++ (here ∷ [])) (locations_after typed (before ++ (here ∷ [])) others) =

@@ -1,5 +1,5 @@
 -- In modules that make a program each EXTERNAL object and procedure stands for a PUBLIC one, and both declarations agree.
-use Rattle.layout.proofs.Prelude.{◌≡◌, ℕ, zero, suc, ◌+◌, Bool, true, false, List, [], ◌∷◌, ◌++◌, Option, None, Some, filter_map, flat_map, slice_get, if◌then◌else◌, cond, ◌⊎◌, inl, inr, refl, sym, ap, ap₂, ◌∙◌, subst, arith, IsSomeAnd, All, not, ◌&&◌, ◌||◌, filter, find, option_map, AllByRecursion, list_any, cons_option, enumerate_from, position_from, option_or, option_map_or, bytes_eq, recursion_from_All, position_from-zero, bytes_eq-Decides, GlobalItem, GlobalObject, GlobalProcedure, Visibility, Private, Public, External, Home, Elsewhere, TypedObject, TypedProcedure, TypedModule, shared_object, shared_procedure, is_shared, is_global, number_shared, number_seen, IsHereIfPublic, ListsGlobals}
+use Rattle.layout.proofs.Prelude.{◌≡◌, ℕ, zero, suc, ◌+◌, Bool, true, false, List, [], ◌∷◌, ◌++◌, Option, None, Some, filter_map, flat_map, slice_get, if◌then◌else◌, cond, ◌⊎◌, inl, inr, refl, sym, ap, ap₂, ◌∙◌, subst, arith, IsSomeAnd, All, not, ◌&&◌, ◌||◌, filter, find, option_map, AllByRecursion, list_any, cons_option, enumerate_from, position_from, option_or, option_map_or, bytes_eq, recursion_from_All, position_from-zero, bytes_eq-Decides, GlobalItem, GlobalObject, GlobalProcedure, Visibility, Private, Public, External, Home, Elsewhere, TypedObject, TypedProcedure, TypedModule, shared_object, shared_procedure, is_shared, is_global, number_shared, number_seen, IsHereIfPublic, ListsGlobals, and_from, and_parts, both_are_none, none_before_map, not-false, or_parts, some_and}
 use Rattle.typed_trees.specs.{ScalarType.{ScalarType, TheVariants.{Byte, Address}}}
 use Rattle.layout.specs.Joined.{same_scalar, same_result, same_parameters, DeclaredObject, DeclaredProcedure, agree, Global, is_public_procedure, global_object, global_procedure, global_of, globals_of, publics_of, externals_of, public_named, first_repeated, lacks_public, differs_from_public, without_public, public_twice, declared_otherwise, not_one_main, join_refusal, IsJoined, InProgram, in_module, first_found, public_object_in, public_procedure_in, object_meant, procedure_meant}
 
@@ -140,10 +140,6 @@ stood_before before (first ∷ all) x e is =
     by (list_any (bytes_eq first.name) before) refl e is
     (λ none there. stood_before (first.name ∷ before) all x none there)
   where
-    other_is : (one other : Bool) → (one || other) ≡ false → other ≡ false
-    other_is true other e = absurd cc
-    other_is false other e = e
-
     by : (test : Bool) → list_any (bytes_eq first.name) before ≡ test
         → (if test then Some first else first_repeated (first.name ∷ before) all) ≡ None
         → (first ≡ x) ⊎ In x all
@@ -154,7 +150,7 @@ stood_before before (first ∷ all) x e is =
     by false at e (inl same) rest =
         ap (λ (each : Global). list_any (bytes_eq each.name) before) (sym same) ∙ at
     by false at e (inr is) rest =
-        other_is (bytes_eq x.name first.name) (list_any (bytes_eq x.name) before) (rest e is)
+        (or_parts (bytes_eq x.name first.name) (list_any (bytes_eq x.name) before) (rest e is)).1
 
 differs_after : (before : List (List ℕ)) (first : Global) (all : List Global) (z : Global)
     → first_repeated (first.name ∷ before) all ≡ None → In z all → z.name ≡ first.name → ⊥
@@ -187,7 +183,7 @@ one_of_a_name before (first ∷ all) x y e one other same =
     by false e (inr one) (inr other) rest = rest e one other
 
 -- the position of the first that passes a test
-first_position : {X : Type 0} {A : Type 0} (p : X → Bool) (from : ℕ) (all : List X) (number : ℕ)
+pub first_position : {X : Type 0} {A : Type 0} (p : X → Bool) (from : ℕ) (all : List X) (number : ℕ)
     → position_from p from all ≡ Some number
     → ((at : ℕ) (x : X) → number ≡ from + at → slice_get all at ≡ Some x → p x ≡ true → A) → A
 first_position p from [] number e then_is = absurd cc
@@ -251,26 +247,6 @@ first_module {A} from in_one (first ∷ others) typed number is e then_is =
         let both : None ≡ Some number = sym at ∙ ap in_one same ∙ e in absurd cc
     by None at (inr is) then_is rest =
         rest is (λ place found its there here of_it. then_is (suc place) found its there here of_it)
-
--- what a join refuses
-none_of_two : {X : Type 0} (one other : Option X) → option_or one other ≡ None → (one ≡ None) × (other ≡ None)
-none_of_two None other e = (refl, e)
-none_of_two (Some x) other e = absurd cc
-
-none_mapped : {X Y : Type 0} (f : X → Y) (option : Option X) → option_map f option ≡ None → option ≡ None
-none_mapped f None e = refl
-none_mapped f (Some x) e = absurd cc
-
-both_true : {one other : Bool} → one ≡ true → other ≡ true → (one && other) ≡ true
-both_true {one} {other} first second =
-    ap (λ (test : Bool). test && other) first ∙ second
-
-some_and : {X : Type 0} (P : X → Type 0) (option : Option X) (x : X) → option ≡ Some x → P x → IsSomeAnd option P
-some_and P option x is holds = subst (λ found. IsSomeAnd found P) (sym is) holds
-
-both_hold : (one other : Bool) → (one && other) ≡ true → (one ≡ true) × (other ≡ true)
-both_hold true other e = (refl, e)
-both_hold false other e = absurd cc
 
 holds_of_all : {X : Type 0} (P : X → Type 0) (all : List X) (x : X) → AllByRecursion P all → In x all → P x
 holds_of_all P [] x holds is = absurd is
@@ -357,11 +333,11 @@ module _ (modules : List TypedModule) (joined : IsJoined modules)
   refusals : (without_public modules ≡ None) × (public_twice modules ≡ None) × (declared_otherwise modules ≡ None)
   unfolding join_refusal
   refusals =
-      let first = none_of_two (without_public modules)
+      let first = both_are_none (without_public modules)
       (option_or (public_twice modules) (option_or (declared_otherwise modules) (not_one_main modules))) joined in
-      let second = none_of_two (public_twice modules) (option_or (declared_otherwise modules) (not_one_main modules))
+      let second = both_are_none (public_twice modules) (option_or (declared_otherwise modules) (not_one_main modules))
       first.1 in
-      let third = none_of_two (declared_otherwise modules) (not_one_main modules) second.1 in
+      let third = both_are_none (declared_otherwise modules) (not_one_main modules) second.1 in
       (first.0, second.0, third.0)
 
   meets_public : {A : Type 0} (external : Global) → In external (externals_of modules)
@@ -370,14 +346,10 @@ module _ (modules : List TypedModule) (joined : IsJoined modules)
   meets_public {A} external is then_is =
       by (public_named (publics_of modules) external.name) refl
       (not_found (lacks_public (publics_of modules)) (externals_of modules) external
-      (none_mapped _ (find (lacks_public (publics_of modules)) (externals_of modules)) refusals.0) is)
+      (none_before_map _ (find (lacks_public (publics_of modules)) (externals_of modules)) refusals.0) is)
       (not_found (differs_from_public (publics_of modules)) (externals_of modules) external
-      (none_mapped _ (find (differs_from_public (publics_of modules)) (externals_of modules)) refusals.2) is)
+      (none_before_map _ (find (differs_from_public (publics_of modules)) (externals_of modules)) refusals.2) is)
     where
-      agrees : (test : Bool) → not test ≡ false → test ≡ true
-      agrees true e = refl
-      agrees false e = absurd cc
-
       by : (named : Option Global) → public_named (publics_of modules) external.name ≡ named
           → option_map_or (λ (public : Global). false) named true ≡ false
           → option_map_or (λ (public : Global). not (agree external.declared public.declared)) named false ≡ false
@@ -385,7 +357,7 @@ module _ (modules : List TypedModule) (joined : IsJoined modules)
       by None e lacks differs = absurd cc
       by (Some global) e lacks differs =
           let there = found_in (λ (each : Global). bytes_eq each.name external.name) (publics_of modules) global e in
-          then_is global there.0 ((bytes_eq-Decides global.name external.name).0 there.1) (agrees _ differs)
+          then_is global there.0 ((bytes_eq-Decides global.name external.name).0 there.1) (not-false _ differs)
 
   public_from : {A : Type 0} (global : Global) → In global (publics_of modules)
       → ((typed : TypedModule) (item : GlobalItem) → In typed modules → global_of typed item ≡ Some global
@@ -401,7 +373,7 @@ module _ (modules : List TypedModule) (joined : IsJoined modules)
       → one.name ≡ other.name → one ≡ other
   same_public one other first second same =
       one_of_a_name [] (publics_of modules) one other
-      (none_mapped _ (first_repeated [] (publics_of modules)) refusals.1) first second same
+      (none_before_map _ (first_repeated [] (publics_of modules)) refusals.1) first second same
 
   external_object : (typed : TypedModule) (number : ℕ) (object : TypedObject)
       → In typed modules → slice_get typed.objects number ≡ Some object → object.home ≡ Elsewhere
@@ -435,7 +407,7 @@ module _ (modules : List TypedModule) (joined : IsJoined modules)
       at_place at found its here of_it =
           first_position (is_public_object object.name) 0 its.objects found (sym (position_from-zero (is_public_object object.name) its.objects) ∙ of_it)
           (λ k public same there holds.
-          let tests = both_hold _ _ holds in
+          let tests = and_parts _ _ holds in
           let its_place : slice_get its.objects found ≡ Some public =
           subst (λ (n : ℕ). slice_get its.objects n ≡ Some public) (omega (arith, same)) there in
           let its_global : In (global_object public) (publics_of modules) =
@@ -465,7 +437,7 @@ module _ (modules : List TypedModule) (joined : IsJoined modules)
           by (Some public) at e =
               let same : global_object public ≡ global = cc in
               has_position (is_public_object object.name) 0 typed.objects public (in_at typed.objects number public at)
-              (both_true (ap (λ (each : Global). each.is_public) same ∙ is_public)
+              (and_from _ _ (ap (λ (each : Global). each.is_public) same ∙ is_public)
               ((bytes_eq-Decides public.name object.name).1 (ap (λ (each : Global). each.name) same ∙ named)))
               (λ found there.
               first_module 0 (public_object_in object.name) modules typed found in_modules
@@ -498,7 +470,7 @@ module _ (modules : List TypedModule) (joined : IsJoined modules)
       at_place at found its here of_it =
           first_position (is_public_of procedure.name) 0 its.procedures found (sym (position_from-zero (is_public_of procedure.name) its.procedures) ∙ of_it)
           (λ k public same there holds.
-          let tests = both_hold _ _ holds in
+          let tests = and_parts _ _ holds in
           let its_place : slice_get its.procedures found ≡ Some public =
           subst (λ (n : ℕ). slice_get its.procedures n ≡ Some public) (omega (arith, same)) there in
           let its_global : In (global_procedure public) (publics_of modules) =
@@ -529,7 +501,7 @@ module _ (modules : List TypedModule) (joined : IsJoined modules)
           by (Some public) at e =
               let same : global_procedure public ≡ global = cc in
               has_position (is_public_of procedure.name) 0 typed.procedures public (in_at typed.procedures number public at)
-              (both_true (ap (λ (each : Global). each.is_public) same ∙ is_public)
+              (and_from _ _ (ap (λ (each : Global). each.is_public) same ∙ is_public)
               ((bytes_eq-Decides public.name procedure.name).1 (ap (λ (each : Global). each.name) same ∙ named)))
               (λ found there.
               first_module 0 (public_procedure_in procedure.name) modules typed found in_modules
@@ -591,7 +563,7 @@ external_procedure_meant modules joined listed at number typed procedure is ther
     (λ place found means. some_and (MeansProcedure modules procedure) _ place found means)))
 
 -- Procedures that agree take the same and give the same.
-same_scalars : (one other : ScalarType) → same_scalar one other ≡ true → one ≡ other
+pub same_scalars : (one other : ScalarType) → same_scalar one other ≡ true → one ≡ other
 same_scalars Byte Byte e = refl
 same_scalars Address Address e = refl
 same_scalars Byte Address e = absurd cc
@@ -602,7 +574,7 @@ same_types [] [] e = refl
 same_types [] (scalar ∷ scalars) e = absurd cc
 same_types (scalar ∷ scalars) [] e = absurd cc
 same_types (one ∷ ones) (other ∷ others) e =
-    let tests = both_hold (same_scalar one other) (same_parameters ones others) e in
+    let tests = and_parts (same_scalar one other) (same_parameters ones others) e in
     ap₂ (λ (first : ScalarType) (rest : List ScalarType). first ∷ rest) (same_scalars one other tests.0)
     (same_types ones others tests.1)
 
@@ -615,6 +587,6 @@ same_results (Some one) None e = absurd cc
 pub procedures_agree : (one other : TypedProcedure) → agree (DeclaredProcedure one) (DeclaredProcedure other) ≡ true
     → (one.result ≡ other.result) × (one.parameter_types ≡ other.parameter_types)
 procedures_agree one other e =
-    let tests = both_hold (same_result one.result other.result)
+    let tests = and_parts (same_result one.result other.result)
     (same_parameters one.parameter_types other.parameter_types) e in
     (same_results one.result other.result tests.0, same_types one.parameter_types other.parameter_types tests.1)

@@ -1,23 +1,9 @@
 -- In a placement that follows the storage of a module, each object lies at the address of its location.
-use Rattle.layout.proofs.Prelude.{◌≡◌, ℕ, zero, suc, ◌+◌, ◌%◌, ◌<◌, List, [], ◌∷◌, map, take, Option, Some, None, refl, ap, sym, subst, ◌∙◌, arith, slice_get, slice_index, unwrap_or, zip, IsSomeAnd, AllByRecursion, enumerate_from, recursion_from_All, none-some, slice_get_within, slice_get-get_or, MEMORY_SIZE, AtNumber, AtObject, HasPlace, LooksBack, LooksAtPlace, IsStorable, Home, InData, InConstants, Placed, BasedOn, Elsewhere, Nowhere, InFrame, TypedObject, TypedModule, Code, Data, Slot, data_bytes, is_object, constants_before, slot_of_object, storage_with, ModulePlacement, Bases, base_of, LiesInSlot, FollowsBases, HasAddresses, LiesByHome, LiesWhereAtSays, Target, SegmentStart, location_by_home, locations_after, location_of, address_of_location}
+use Rattle.layout.proofs.Prelude.{◌≡◌, ℕ, zero, suc, ◌+◌, ◌%◌, ◌<◌, List, [], ◌∷◌, map, take, Option, Some, None, refl, ap, sym, subst, ◌∙◌, arith, slice_get, slice_index, unwrap_or, zip, IsSomeAnd, AllByRecursion, enumerate_from, recursion_from_All, none-some, slice_get_within, slice_get-get_or, MEMORY_SIZE, AtNumber, AtObject, HasPlace, LooksBack, LooksAtPlace, IsStorable, Home, InData, InConstants, Placed, BasedOn, Elsewhere, Nowhere, InFrame, TypedObject, TypedModule, Code, Data, Slot, data_bytes, is_object, constants_before, slot_of_object, storage_with, ModulePlacement, Bases, base_of, LiesInSlot, FollowsBases, HasAddresses, LiesByHome, LiesWhereAtSays, Target, SegmentStart, location_by_home, locations_after, location_of, address_of_location, got_both}
 use Rattle.layout.specs.declared.slot.Segment.{Segment}
 use Rattle.layout.proofs.Resolving.{further}
 use Rattle.layout.proofs.Segments.{of_all}
 use Rattle.layout.proofs.Locations.{location_is}
-
--- two lists at one place
-got_both :
-    {A B : Type 0} (left : List A) (right : List B) (number : ℕ) (first : A) (second : B)
-    → slice_get left number ≡ Some first
-    → slice_get right number ≡ Some second
-    → slice_get (zip left right) number ≡ Some (first, second)
-got_both [] right number first second is_left is_right = absurd (none-some first is_left)
-got_both (here ∷ left) [] number first second is_left is_right = absurd (none-some second is_right)
-got_both (here ∷ left) (there ∷ right) zero first second is_left is_right =
-    ap (λ one. Some (one, there)) (ap (λ (found : Option _). unwrap_or found here) is_left)
-    ∙ ap (λ one. Some (first, one)) (ap (λ (found : Option _). unwrap_or found there) is_right)
-got_both (here ∷ left) (there ∷ right) (suc number) first second is_left is_right =
-    got_both left right number first second is_left is_right
 
 -- the slot of an object in the storage
 got_slot :

@@ -1,5 +1,5 @@
 -- What a plan places follows the storage of each module, at the bases that the plan has for it.
-use Rattle.layout.proofs.Prelude.{◌≡◌, ℕ, suc, ◌+◌, ◌≤◌, List, [], ◌∷◌, ◌++◌, length, map, Option, None, Some, Bool, true, false, if◌then◌else◌, sym, subst, refl, ap, ◌∙◌, append-nil, length-append, arith, All, zip, sum, sum_by, ◌||◌, enumerate_from, option_or, ltb-false, none-some, append_assoc, length-map, sum_by-cons, All-nil, All-cons, Range, Home, TypedObject, TypedModule, constant_bytes, Slot, data_bytes, slot_of_list, slot_of_object, storage_with, HasAddresses, Bases, LiesInSlot, address_of_slot, FollowsBases, FollowsStorage}
+use Rattle.layout.proofs.Prelude.{◌≡◌, ℕ, suc, ◌+◌, ◌≤◌, List, [], ◌∷◌, ◌++◌, length, map, Option, None, Some, Bool, true, false, if◌then◌else◌, sym, subst, refl, ap, ◌∙◌, append-nil, length-append, arith, All, zip, sum, sum_by, ◌||◌, enumerate_from, option_or, ltb-false, none-some, append_assoc, length-map, sum_by-cons, All-nil, All-cons, Range, Home, TypedObject, TypedModule, constant_bytes, Slot, data_bytes, slot_of_list, slot_of_object, storage_with, HasAddresses, Bases, LiesInSlot, address_of_slot, FollowsBases, FollowsStorage, both_are_none}
 use Rattle.layout.specs.Placing.{Plan, code_range, data_range, stack_range, PassesMemory, passes_memory, segment_too_large, past_memory, overlapping, first_misplaced, placing_refusal, bases_from, address_by_home, addresses_after, module_placement_by, placement_by}
 
 -- the constant lists
@@ -13,17 +13,15 @@ lists_follow bases (slot ∷ others) =
     (zip others (map (address_of_slot bases) others)) refl (lists_follow bases others)
 
 -- the addresses of objects that are still to come
-addresses_of :
-    (bases : Bases) (before : List ℕ) → List (TypedObject × Option Slot) → List ℕ
+abbrev pub addresses_of : (bases : Bases) (before : List ℕ) → List (TypedObject × Option Slot) → List ℕ
 addresses_of bases before [] = []
 addresses_of bases before (object ∷ others) =
     address_by_home bases before object.1 (object.0).home
     ∷ addresses_of bases (before ++ address_by_home bases before object.1 (object.0).home ∷ []) others
 
-split_addresses :
+pub split_addresses :
     (bases : Bases) (before : List ℕ) (objects : List (TypedObject × Option Slot))
     → addresses_after bases before objects ≡ before ++ addresses_of bases before objects
-unfolding addresses_of
 split_addresses bases before [] = sym (append-nil before)
 split_addresses bases before (object ∷ others) =
     split_addresses bases (before ++ address_by_home bases before object.1 (object.0).home ∷ []) others
@@ -40,7 +38,6 @@ objects_follow :
     (bases : Bases) (before : List ℕ) (objects : List TypedObject) (slots : List (Option Slot))
     → All (λ (object : Option Slot × ℕ). LiesInSlot bases object.1 object.0)
     (zip slots (addresses_of bases before (zip objects slots)))
-unfolding addresses_of
 objects_follow bases before [] [] = All-nil (λ (object : Option Slot × ℕ). LiesInSlot bases object.1 object.0)
 objects_follow bases before [] (slot ∷ slots) =
     All-nil (λ (object : Option Slot × ℕ). LiesInSlot bases object.1 object.0)
@@ -141,11 +138,6 @@ modules_follow code_base data_base (typed ∷ modules) (first ∷ lengths) count
           (omega (arith, count)) hold.1 (omega (arith, codes, code)) (omega (arith, data_all, variables)),
     )
 
--- what is not refused ends in memory
-both_none : {A : Type 0} (first second : Option A) → option_or first second ≡ None → (first ≡ None) × (second ≡ None)
-both_none None second none = (refl, none)
-both_none (Some value) second none = absurd (none-some value (sym none))
-
 not_past :
     (code variables stack : Bool)
     → (if code || variables || stack then Some PassesMemory else None) ≡ None
@@ -154,8 +146,8 @@ not_past false false stack none = (refl, refl)
 not_past true variables stack none = absurd (none-some PassesMemory (sym none))
 not_past false true stack none = absurd (none-some PassesMemory (sym none))
 
-ends_in_memory : (range : Range) → passes_memory range ≡ false → range.start + range.len ≤ 65536
-ends_in_memory range passes = ltb-false 65536 (range.start + range.len) passes
+pub range_in_memory : (range : Range) → passes_memory range ≡ false → range.start + range.len ≤ 65536
+range_in_memory range passes = ltb-false 65536 (range.start + range.len) passes
 
 -- a plan that is not refused puts each module at the bases that it has for it
 pub placing_follows :
@@ -170,13 +162,13 @@ placing_follows plan modules code_lengths count hold none =
     let code = code_range plan code_lengths in
     let variables = data_range plan modules in
     let stack = stack_range plan in
-    let first = both_none (segment_too_large code variables)
+    let first = both_are_none (segment_too_large code variables)
     (option_or (past_memory code variables stack)
     (option_or (overlapping code variables stack)
     (first_misplaced modules (placement_by plan modules code_lengths)))) none in
-    let second = both_none (past_memory code variables stack)
+    let second = both_are_none (past_memory code variables stack)
     (option_or (overlapping code variables stack)
     (first_misplaced modules (placement_by plan modules code_lengths))) first.1 in
     let within = not_past (passes_memory code) (passes_memory variables) (passes_memory stack) second.0 in
     modules_follow plan.code_base plan.data_base modules code_lengths count hold
-    (ends_in_memory code within.0) (ends_in_memory variables within.1)
+    (range_in_memory code within.0) (range_in_memory variables within.1)

@@ -1,7 +1,9 @@
 -- The names that the proofs of this crate cite, passed on from one place. Declares nothing.
-pub use Rattle.std.proofs.{Common.{Bool, Decides, Err, IsTrue, List, None, Ok, Option, Result, Some, [], add-one, ap, append-nil, ap₂, arith, cond, drop, eqb, false, flat_map, get_or, if◌then◌else◌, inl, inr, length, map, min, nat_lt, one-add, option_map, refl, replicate, slice_index, slice_set, subst, suc, sym, take, true, vec_items, zero, ℕ, ◌%◌, ◌*◌, ◌++◌, ◌+◌, ◌-◌, ◌/◌, ◌<◌, ◌∙◌, ◌∷◌, ◌≡◌, ◌≢◌, ◌≤◌, ◌⊎◌}, Math.Dec.{eqb-suc-suc, eqb-suc-zero, eqb-zero-suc}, Math.ListN.{drop_of_length-le}, Math.Seq.{drop-cons, take-append_seam}, lemmas.Bool.{cases_lt, eq-eqb, eqb-true, false≢true, le-leb, leb-true, lt-leb, lt-ltb, ltb-false, ltb-true}, lemmas.Bool.Decides.{Decides-and, Decides-ltb, nat_tests}, lemmas.Iterator.Adapters.{position_from-zero}, lemmas.List.{append_assoc, get_or-set_other, get_or-set_same, length-append, length-map, length-replicate, length-set}, lemmas.List.Concat.{flat_map-cons, length-flat_map}, lemmas.List.Elements.{All-append, All-cons, All-filter, All-get_or, All-nil, filter-append, filter_map-append, recursion_from_All}, lemmas.List.Folds.{Any-from_list_any, list_any-from_Any}, lemmas.List.Sums.{get_or-le-sum_by, list_all-from_AllPass, sum_by-append, sum_by-cons, take_while-cons}, lemmas.Option.{get_or_from_slice_get, none-some, slice_get-get_or, slice_get_within}, lemmas.Slice.Eq.{bytes_eq-Decides}}
+pub use Rattle.std.proofs.{Common.{Bool, Decides, Err, IsTrue, List, None, Ok, Option, Result, Some, [], add-one, add_assoc, ap, append-nil, ap₂, arith, cond, drop, eqb, false, flat_map, get_or, if◌then◌else◌, inl, inr, length, map, min, nat_lt, one-add, option_map, refl, replicate, slice_index, slice_set, subst, suc, sym, take, true, vec_items, zero, ℕ, ◌%◌, ◌*◌, ◌++◌, ◌+◌, ◌-◌, ◌/◌, ◌<◌, ◌∙◌, ◌∷◌, ◌≡◌, ◌≢◌, ◌≤◌, ◌⊎◌}, Math.Dec.{eqb-suc-suc, eqb-suc-zero, eqb-zero-suc}, Math.ListN.{drop_of_length-le}, Math.Seq.{drop-cons, take-append_seam}, lemmas.Bool.{and_from, and_parts, cases_lt, eq-eqb, eqb-true, false≢true, le-leb, leb-true, lt-leb, lt-ltb, ltb-false, ltb-true, not-false, or_left, or_parts, or_right}, lemmas.Bool.Decides.{Decides-and, Decides-ltb, nat_tests}, lemmas.Iterator.Adapters.{position_from-zero}, lemmas.List.{append_assoc, get_or-set_other, get_or-set_same, length-append, length-map, length-replicate, length-set}, lemmas.List.Concat.{flat_map-cons, length-flat_map}, lemmas.List.Elements.{All-append, All-cons, All-filter, All-get_or, All-nil, filter-append, filter_map-append, recursion_from_All}, lemmas.List.Folds.{Any-from_list_any, list_any-from_Any}, lemmas.List.Sums.{get_or-le-sum_by, list_all-from_AllPass, sum_by-append, sum_by-cons, take_while-cons}, lemmas.Option.{get_or_from_slice_get, none-some, slice_get-get_or, slice_get_within}, lemmas.Slice.Eq.{bytes_eq-Decides}}
 pub use Rattle.std.specs.{List.{AllByRecursion, cons_option, enumerate_from, list_all, list_any, position_from, prefix_len}, Option.{option_map_or, option_or}, Prelude.{All, AllPairs, Contains, IsSomeAnd, Vec, filter, filter_map, find, fold, max, nat_le, not, slice_get, sum, sum_by, take_while, unwrap_or, zip, ◌&&◌, ◌==◌, ◌||◌, ◌↔◌}, Str.{bytes_eq}}
+pub use Rattle.mem80.proofs.{Booleans.{or_kept}, Lists.{got_before, got_behind, got_both, got_in_front}, Options.{both_are_none, none_before_map}}
 pub use Rattle.mem80.specs.{Memory.{byte_at}, Range.{IsIn, Meets}, declared.memory.TheConstants.{MEMORY_SIZE}, declared.range.Range.{Range}}
+pub use Rattle.typed_trees.proofs.Lists.{got_first, some_and}
 pub use Rattle.typed_trees.specs.{Globals.{IsHereIfPublic, ListsGlobals, global_object as number_shared, global_procedure as number_seen, is_global, is_shared, shared_object, shared_procedure}, Sizes.{size_of_object}, Storable.{HasPlace, IsStorable, LooksAtPlace, LooksBack, bytes_filled, constant_number, list_in, numbered_constant, numbers_from, object_in, size_of_value}, TypedTrees.{BasedOn, Elsewhere, Home, InConstants, InData, InFrame, Nowhere, Placed, TypedModule, TypedObject, TypedProcedure}, Views.{module_view, object_view}, Weight.{constant_bytes, size_of_constant}, declared.module.TypedObject.{TypedObject as Object}, declared.parts.AtAddress.TheVariants.{AtNumber, AtObject}, declared.parts.ConstantItem.{ConstantItem, TheVariants.{ConstantList, ConstantObject}}, declared.parts.GlobalItem.{GlobalItem, TheVariants.{GlobalObject, GlobalProcedure}}, declared.parts.InitialValue.{InitialValue, TheVariants.{ByteValue, LocationValue, WordValue}}, declared.parts.Visibility.{Visibility, TheVariants.{External, Private, Public}}}
 pub use Rattle.layout.specs.Following.{Bases, FollowsBases, FollowsStorage, LiesInSlot, address_of_slot, base_of}
 pub use Rattle.layout.specs.Lawful.{AreDisjoint, HasAddresses, IsLawful, LiesByHome, LiesIn, LiesWhereAtSays}

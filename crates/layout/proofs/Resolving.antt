@@ -1,5 +1,5 @@
 -- The bytes of a segment where targets have their addresses: those that a run of the source starts with.
-use Rattle.layout.proofs.Prelude.{◌≡◌, ℕ, zero, suc, ◌+◌, ◌-◌, ◌*◌, ◌/◌, ◌%◌, List, [], ◌∷◌, ◌++◌, length, map, replicate, flat_map, Option, Some, None, refl, ap, sym, ◌∙◌, arith, slice_get, option_map_or, append_assoc, MEMORY_SIZE, ConstantObject, ConstantList, ConstantItem, ByteValue, WordValue, LocationValue, InitialValue, size_of_object, bytes_filled, Home, InData, InConstants, Placed, BasedOn, Elsewhere, Nowhere, InFrame, TypedObject, TypedModule, bytes_of_word, bytes_of_value, values_in, Target, Location, Absolute, After, further_on, address_of_location, location_of, SegmentByte, Places, places_of_bytes, places_of_fixed_word, places_of_location, places_of_value, places_of_object, places_of_constant, constant_places, places_by_home, data_places, resolved_after, resolved}
+use Rattle.layout.proofs.Prelude.{◌≡◌, ℕ, zero, suc, ◌+◌, ◌-◌, ◌*◌, ◌/◌, ◌%◌, List, [], ◌∷◌, ◌++◌, length, map, replicate, flat_map, Option, Some, None, refl, ap, sym, ◌∙◌, arith, slice_get, option_map_or, append_assoc, MEMORY_SIZE, ConstantObject, ConstantList, ConstantItem, ByteValue, WordValue, LocationValue, InitialValue, size_of_object, bytes_filled, Home, InData, InConstants, Placed, BasedOn, Elsewhere, Nowhere, InFrame, TypedObject, TypedModule, bytes_of_word, bytes_of_value, values_in, Target, Location, Absolute, After, further_on, address_of_location, location_of, SegmentByte, Places, places_of_bytes, places_of_fixed_word, places_of_location, places_of_value, places_of_object, places_of_constant, constant_places, places_by_home, data_places, resolved_after, resolved, append-nil}
 
 -- bytes that are set
 abbrev pub set : List ℕ → List (Option ℕ)
@@ -165,16 +165,11 @@ object_resolves address_of locations object =
     (value_resolves address_of locations) (values_in object.home))
     (unset address_of (size_of_object object - bytes_filled object.home))
 
--- a part that is resolved by itself
-ends : {A : Type 0} (items : List A) → items ++ [] ≡ items
-ends [] = refl
-ends (first ∷ items) = ap (λ rest. first ∷ rest) (ends items)
-
 pub resolved_is :
     (address_of : Target → ℕ) (part : Places) (bytes : List (Option ℕ))
     → Resolves address_of part bytes
     → resolved address_of part ≡ bytes
-resolved_is address_of part bytes one = ap (resolved address_of) (sym (ends part)) ∙ one.alone [] ∙ ends bytes
+resolved_is address_of part bytes one = ap (resolved address_of) (sym (append-nil part)) ∙ one.alone [] ∙ append-nil bytes
 
 abbrev pub StandsAlone : Places → Type 0
 StandsAlone part =

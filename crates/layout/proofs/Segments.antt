@@ -1,6 +1,6 @@
 -- The segments of a module before it has its place: how long they are, and that each object and each
 -- constant list has its bytes there at its slot.
-use Rattle.layout.proofs.Prelude.{◌≡◌, ℕ, zero, suc, ◌+◌, ◌-◌, ◌<◌, ◌≤◌, Bool, true, false, cond, List, [], ◌∷◌, ◌++◌, length, take, replicate, flat_map, Option, Some, None, refl, ap, sym, subst, ◌∙◌, arith, not, ◌||◌, ◌==◌, sum_by, take_while, filter_map, slice_get, unwrap_or, AllByRecursion, enumerate_from, list_any, option_map_or, false≢true, eq-eqb, eqb-true, append_assoc, length-append, length-map, length-replicate, recursion_from_All, sum_by-cons, take_while-cons, none-some, slice_get_within, ConstantObject, ConstantList, ConstantItem, ByteValue, WordValue, LocationValue, InitialValue, size_of_object, object_in, list_in, constant_number, numbered_constant, numbers_from, size_of_value, bytes_filled, IsStorable, Home, InData, InConstants, Placed, BasedOn, Elsewhere, Nowhere, InFrame, TypedObject, TypedModule, size_of_constant, constant_bytes, Slot, values_in, bytes_in_data, data_bytes, is_object, is_list, slot_of_object, slot_of_list, Target, Location, Absolute, After, further_on, location_of, SegmentByte, Places, places_of_bytes, places_of_location, places_of_value, places_of_object, places_of_constant, constant_places, places_by_home, data_places, places_in, resolved}
+use Rattle.layout.proofs.Prelude.{◌≡◌, ℕ, zero, suc, ◌+◌, ◌-◌, ◌<◌, ◌≤◌, Bool, true, false, cond, List, [], ◌∷◌, ◌++◌, length, take, replicate, flat_map, Option, Some, None, refl, ap, sym, subst, ◌∙◌, arith, not, ◌||◌, ◌==◌, sum_by, take_while, filter_map, slice_get, unwrap_or, AllByRecursion, enumerate_from, list_any, option_map_or, false≢true, eq-eqb, eqb-true, append_assoc, length-append, length-map, length-replicate, recursion_from_All, sum_by-cons, take_while-cons, none-some, slice_get_within, ConstantObject, ConstantList, ConstantItem, ByteValue, WordValue, LocationValue, InitialValue, size_of_object, object_in, list_in, constant_number, numbered_constant, numbers_from, size_of_value, bytes_filled, IsStorable, Home, InData, InConstants, Placed, BasedOn, Elsewhere, Nowhere, InFrame, TypedObject, TypedModule, size_of_constant, constant_bytes, Slot, values_in, bytes_in_data, data_bytes, is_object, is_list, slot_of_object, slot_of_list, Target, Location, Absolute, After, further_on, location_of, SegmentByte, Places, places_of_bytes, places_of_location, places_of_value, places_of_object, places_of_constant, constant_places, places_by_home, data_places, places_in, resolved, got_behind, got_in_front, or_left, or_right}
 use Rattle.layout.proofs.Resolving.{set, Resolves, plain_bytes, starting_bytes, addresses, object_resolves, StandsAlone, both_alone, constant_alone, home_alone, resolved_length}
 
 -- the bytes of a value
@@ -162,28 +162,6 @@ pub record Holds (places : Places) (offset : ℕ) (part : Places) : Type 0 where
   -- no word reaches from before into them
   pub alone : StandsAlone before
 
--- what stands after others, and in front of others
-past :
-    {A : Type 0} (before rest : List A) (number : ℕ)
-    → slice_get (before ++ rest) (length before + number) ≡ slice_get rest number
-past [] rest number = ap (slice_get rest) (from_zero number)
-  where
-    from_zero : (n : ℕ) → 0 + n ≡ n
-    from_zero n = omega arith
-past (first ∷ before) rest number =
-    ap (slice_get (first ∷ (before ++ rest))) (one_more (length before) number) ∙ past before rest number
-  where
-    one_more : (m n : ℕ) → suc m + n ≡ suc (m + n)
-    one_more m n = omega arith
-
-front :
-    {A : Type 0} (part after : List A) (number : ℕ) (item : A)
-    → slice_get part number ≡ Some item
-    → slice_get (part ++ after) number ≡ Some item
-front [] after number item found = absurd (none-some item found)
-front (first ∷ part) after zero item found = found
-front (first ∷ part) after (suc number) item found = front part after number item found
-
 -- so each byte of them is one of the others
 pub held :
     (places : Places) (offset : ℕ) (part : Places) (number : ℕ) (byte : Option SegmentByte)
@@ -193,8 +171,8 @@ pub held :
 held places offset part number byte holds found =
     ap (λ (all : Places). slice_get all (offset + number)) holds.whole
     ∙ ap (λ (at : ℕ). slice_get (holds.before ++ (part ++ holds.after)) (at + number)) (sym holds.offset_is)
-    ∙ past holds.before (part ++ holds.after) number
-    ∙ front part holds.after number byte found
+    ∙ got_behind holds.before (part ++ holds.after) number
+    ∙ got_in_front part holds.after number byte found
 
 -- and so it is where targets have their addresses
 pub held_resolved :
@@ -211,9 +189,9 @@ held_resolved address_of places offset part bytes number byte holds one found =
     ∙ ap (λ (at : ℕ).
     slice_get (resolved address_of holds.before ++ resolved address_of (part ++ holds.after)) (at + number))
     (sym (resolved_length address_of None holds.before ∙ holds.offset_is))
-    ∙ past (resolved address_of holds.before) (resolved address_of (part ++ holds.after)) number
+    ∙ got_behind (resolved address_of holds.before) (resolved address_of (part ++ holds.after)) number
     ∙ ap (λ (all : List (Option ℕ)). slice_get all number) (one.alone holds.after)
-    ∙ front bytes (resolved address_of holds.after) number byte found
+    ∙ got_in_front bytes (resolved address_of holds.after) number byte found
 
 -- with other bytes in front
 held_later :
@@ -295,14 +273,6 @@ lists_listed number (ConstantObject object ∷ others) = lists_listed number oth
 lists_listed number (ConstantList list ∷ others) =
     ap (λ rest. (list == number) || rest) (lists_listed number others)
 
-first_listed : (first other : Bool) → first ≡ true → (first || other) ≡ true
-first_listed true other is = refl
-first_listed false other is = absurd (false≢true is)
-
-later_listed : (first other : Bool) → other ≡ true → (first || other) ≡ true
-later_listed true other is = refl
-later_listed false other is = is
-
 -- an object with DATA is numbered among those of a table
 abbrev with_first : Option ℕ → List ℕ → List ℕ
 with_first None others = others
@@ -313,7 +283,7 @@ later_number :
     → is_listed number others ≡ true
     → is_listed number (with_first found others) ≡ true
 later_number number None others is = is
-later_number number (Some first) others is = later_listed (first == number) (is_listed number others) is
+later_number number (Some first) others is = or_right (first == number) (is_listed number others) is
 
 constant_listed :
     (number : ℕ) (object : TypedObject) (home : Home) (others : List ℕ) (values : List InitialValue)
@@ -322,7 +292,7 @@ constant_listed :
 constant_listed number object home others values is =
     subst (λ (home : Home). is_listed number (with_first (constant_number number home) others) ≡ true)
     (sym is)
-    (first_listed (number == number) (is_listed number others) (eq-eqb number number refl))
+    (or_left (number == number) (is_listed number others) (eq-eqb number number refl))
 
 numbered_listed :
     (objects : List TypedObject) (first index number : ℕ) (object : TypedObject) (values : List InitialValue)
@@ -353,10 +323,10 @@ number_listed :
     → is_listed number (numbers_from first count) ≡ true
 number_listed first index zero number below at = absurd (omega (arith, below))
 number_listed first zero (suc count) number below at =
-    first_listed (first == number) (is_listed number (numbers_from (first + 1) count))
+    or_left (first == number) (is_listed number (numbers_from (first + 1) count))
     (eq-eqb first number (omega (arith, at)))
 number_listed first (suc index) (suc count) number below at =
-    later_listed (first == number) (is_listed number (numbers_from (first + 1) count))
+    or_right (first == number) (is_listed number (numbers_from (first + 1) count))
     (number_listed (first + 1) index count number (omega (arith, below)) (omega (arith, at)))
 
 object_stands :

@@ -27,7 +27,7 @@ inside :
 inside before first others all is =
     subst (λ whole. length before < length whole) is (omega (arith, length-append before (first ∷ others)))
 
-data_push :
+pub data_push :
     (before : List TypedObject) (object : TypedObject)
     → data_bytes (before ++ object ∷ []) ≡ data_bytes before + bytes_in_data object.home object
 data_push before object =

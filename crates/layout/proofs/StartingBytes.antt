@@ -1,7 +1,8 @@
 -- The contents of a lawful placement lie apart, each within what it fills.
-use Rattle.layout.proofs.Prelude.{◌≡◌, ◌≢◌, ℕ, zero, suc, ◌+◌, ◌-◌, ◌<◌, ◌≤◌, ◌⊎◌, inl, inr, Bool, true, false, ◌||◌, List, [], ◌∷◌, ◌++◌, length, Option, Some, None, option_map, refl, sym, ap, ap₂, ◌∙◌, subst, arith, if◌then◌else◌, All, AllPairs, map, zip, filter, filter_map, flat_map, sum_by, enumerate_from, list_any, flat_map-cons, length-flat_map, All-append, All-cons, All-filter, filter_map-append, filter-append, sum_by-cons, MEMORY_SIZE, Range, IsIn, InitialValue, ByteValue, WordValue, LocationValue, size_of_object, IsStorable, bytes_filled, size_of_value, Home, InData, InConstants, Placed, BasedOn, Elsewhere, Nowhere, InFrame, TypedObject, TypedModule, StaticPiece, ConstantPiece, ModulePlacement, Placement, PlacedPiece, EndsInMemory, has_own_place, holds_byte, kind_of, list_piece, object_piece, own_pieces, piece_of, pieces_of, pieces_of_module, AreDisjoint, IsLawful, Contents, Covers, IsAmong, StartsAs, address_of_object, bytes_of_value, contents_of, contents_of_list, contents_of_module, contents_of_object, starting_memory, values_in}
+use Rattle.layout.proofs.Prelude.{◌≡◌, ◌≢◌, ℕ, zero, suc, ◌+◌, ◌-◌, ◌<◌, ◌≤◌, ◌⊎◌, inl, inr, Bool, true, false, ◌||◌, List, [], ◌∷◌, ◌++◌, length, Option, Some, None, option_map, refl, sym, ap, ap₂, ◌∙◌, subst, arith, if◌then◌else◌, All, AllPairs, map, zip, filter, filter_map, flat_map, sum_by, enumerate_from, list_any, flat_map-cons, length-flat_map, All-append, All-cons, All-filter, filter_map-append, filter-append, sum_by-cons, MEMORY_SIZE, Range, IsIn, InitialValue, size_of_object, IsStorable, bytes_filled, size_of_value, Home, InData, InConstants, Placed, BasedOn, Elsewhere, Nowhere, InFrame, TypedObject, TypedModule, StaticPiece, ConstantPiece, ModulePlacement, Placement, PlacedPiece, EndsInMemory, has_own_place, holds_byte, kind_of, list_piece, object_piece, own_pieces, piece_of, pieces_of, pieces_of_module, AreDisjoint, IsLawful, Contents, Covers, IsAmong, StartsAs, address_of_object, bytes_of_value, contents_of, contents_of_list, contents_of_module, contents_of_object, starting_memory, values_in, or_kept, or_right}
 use Rattle.layout.proofs.Written.{AreApart, EachApart, all_elsewhere, all_here, all_size}
 use Rattle.layout.proofs.Declared.{Decides-holds}
+use Rattle.layout.proofs.Sums.{value_bytes}
 
 -- contents with the piece that they fill, if that has a place of its own
 abbrev Filling : Type 0
@@ -131,12 +132,6 @@ all_pieces modules placement number (first ∷ others) =
     ∙ sym (filter-append has_own_place (pieces_of_module first) (flat_map pieces_of_module others))
     ∙ ap (filter has_own_place) (sym (flat_map-cons pieces_of_module first others))
 
--- contents fill no more than the bytes of their object
-value_size : (address_of : ℕ → ℕ) (value : InitialValue) → length (bytes_of_value address_of value) ≡ size_of_value value
-value_size address_of (ByteValue byte) = refl
-value_size address_of (WordValue word) = refl
-value_size address_of (LocationValue object offset) = refl
-
 values_size :
     (address_of : ℕ → ℕ) (values : List InitialValue)
     → length (flat_map (bytes_of_value address_of) values) ≡ sum_by size_of_value values
@@ -147,7 +142,7 @@ values_size address_of values =
     each [] = refl
     each (value ∷ others) =
         sum_by-cons (λ value. length (bytes_of_value address_of value)) value others
-        ∙ ap₂ (λ one other. one + other) (value_size address_of value) (each others)
+        ∙ ap₂ (λ one other. one + other) (value_bytes address_of value) (each others)
         ∙ sym (sum_by-cons size_of_value value others)
 
 object_fills :
@@ -301,31 +296,19 @@ in_own ((contents, Some piece) ∷ others) wanted all ends (inr further) =
       ends = rest.ends;
       declared = λ address covers. or_right (holds_byte address piece) _ (rest.declared address covers);
     }
-  where
-    or_right : (one other : Bool) → other ≡ true → (one || other) ≡ true
-    or_right true other is = refl
-    or_right false other is = is
 
 -- what a filter leaves out does not undo a test
 any_kept : (p q : PlacedPiece → Bool) (pieces : List PlacedPiece) → list_any p (filter q pieces) ≡ true → list_any p pieces ≡ true
 any_kept p q [] is = is
 any_kept p q (piece ∷ others) is = by_test (q piece) (any_kept p q others) is
   where
-    or_kept : (one other more : Bool) → (other ≡ true → more ≡ true) → (one || other) ≡ true → (one || more) ≡ true
-    or_kept true other more next found = refl
-    or_kept false other more next found = next found
-
-    or_more : (one other : Bool) → other ≡ true → (one || other) ≡ true
-    or_more true other found = refl
-    or_more false other found = found
-
     by_test :
         (passes : Bool)
         → (list_any p (filter q others) ≡ true → list_any p others ≡ true)
         → list_any p (if passes then piece ∷ filter q others else filter q others) ≡ true
         → (p piece || list_any p others) ≡ true
     by_test true next found = or_kept (p piece) (list_any p (filter q others)) (list_any p others) next found
-    by_test false next found = or_more (p piece) (list_any p others) (next found)
+    by_test false next found = or_right (p piece) (list_any p others) (next found)
 
 -- the memory that a run starts with, at a lawful placement
 pub starts_as :

@@ -66,7 +66,7 @@ constants_more typed items i item total all within is left =
     ∙ left)
 
 -- nothing is left at the end
-capped_end : (total rest all : ℕ) → rest ≡ 0 → total ≤ 4294967295 → min (total + rest) 4294967295 ≡ all → total ≡ all
+pub capped_end : (total rest all : ℕ) → rest ≡ 0 → total ≤ 4294967295 → min (total + rest) 4294967295 ≡ all → total ≡ all
 capped_end total rest all none capped left = omega arith
 
 pub data_end :
@@ -138,7 +138,7 @@ pub lists_fit_first :
 lists_fit_first lists i bytes within is = ap (list_all fits_as_list) (lists_first lists i bytes within is)
 
 -- INITIAL and DATA write as many bytes as the tables count
-value_bytes : (address_of : ℕ → ℕ) (value : InitialValue)
+pub value_bytes : (address_of : ℕ → ℕ) (value : InitialValue)
     → length (bytes_of_value address_of value) ≡ size_of_value value
 value_bytes address_of (ByteValue byte) = refl
 value_bytes address_of (WordValue word) = refl

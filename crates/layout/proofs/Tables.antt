@@ -1,5 +1,5 @@
 -- Tables of offsets, and that they tell the offsets of the storage.
-use Rattle.layout.proofs.Prelude.{◌≡◌, ℕ, zero, suc, ◌+◌, ◌<◌, ◌≤◌, List, [], ◌∷◌, length, get_or, Option, Some, None, Bool, true, false, cond, eqb, ap, sym, subst, refl, ◌∙◌, one-add, arith, sum_by, take, take_while, not, slice_set, replicate, prefix_len, eqb-zero-suc, eqb-suc-zero, eqb-suc-suc, length-replicate, sum_by-cons, ConstantObject, ConstantList, ConstantItem, TypedModule, size_of_constant, constant_bytes, is_object, is_list, constants_before, OffsetTables, or_first, put_first, put, put_all, offset_or, offset_in}
+use Rattle.layout.proofs.Prelude.{◌≡◌, ℕ, zero, suc, ◌+◌, ◌<◌, ◌≤◌, List, [], ◌∷◌, length, get_or, Option, Some, None, Bool, true, false, cond, eqb, ap, sym, subst, refl, ◌∙◌, one-add, arith, sum_by, take, take_while, not, slice_set, replicate, prefix_len, eqb-zero-suc, eqb-suc-zero, eqb-suc-suc, length-replicate, sum_by-cons, ConstantObject, ConstantList, ConstantItem, TypedModule, size_of_constant, constant_bytes, is_object, is_list, constants_before, OffsetTables, or_first, put_first, put, put_all, offset_or, offset_in, add_assoc}
 
 -- what the first offset of a number does to a table
 pub put_first_at :
@@ -65,10 +65,7 @@ before_by size item others so_far passed true = omega arith
 before_by size item others so_far passed false =
     ap (λ n. so_far + sum_by size (take n (item ∷ others))) (one-add passed)
     ∙ ap (λ n. so_far + n) (sum_by-cons size item (take passed others))
-    ∙ add_both so_far (size item) (sum_by size (take passed others))
-  where
-    add_both : (a b c : ℕ) → a + (b + c) ≡ a + b + c
-    add_both a b c = omega arith
+    ∙ sym (add_assoc so_far (size item) (sum_by size (take passed others)))
 
 before_more :
     (size : ConstantItem → ℕ) (wanted : ConstantItem → Bool) (so_far : ℕ) (item : ConstantItem)
@@ -85,10 +82,7 @@ all_more :
     → so_far + sum_by size (item ∷ others) ≡ so_far + size item + sum_by size others
 all_more size so_far item others =
     ap (λ n. so_far + n) (sum_by-cons size item others)
-    ∙ add_both so_far (size item) (sum_by size others)
-  where
-    add_both : (a b c : ℕ) → a + (b + c) ≡ a + b + c
-    add_both a b c = omega arith
+    ∙ sym (add_assoc so_far (size item) (sum_by size others))
 
 -- once all constants are met, a table tells what stands before each number
 told_object :

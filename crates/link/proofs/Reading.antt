@@ -19,7 +19,7 @@ one_more files objects i d object within before spelled =
     (all_zipped_more Spells (bytes_of (take i files)) objects (get_or files i d).now object before spelled)
 
 -- files are those before one, this, and those after it
-parted :
+pub parted :
     (files : List (Bor (List ℕ))) (i : ℕ) (d : Bor (List ℕ)) → i < length files
     → bytes_of files ≡ bytes_of (take i files) ++ (get_or files i d).now ∷ bytes_of (drop (suc i) files)
 parted files i d within =

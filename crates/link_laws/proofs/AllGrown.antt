@@ -1,5 +1,5 @@
 -- Segments after the pieces of all modules: their runs, their fixes, and whether a high byte moves.
-use Rattle.link_laws.proofs.Prelude.{◌≡◌, ℕ, ◌+◌, ◌<◌, Bool, true, false, ◌||◌, List, [], ◌∷◌, ◌++◌, length, drop, get_or, flat_map, refl, ap, sym, ◌∙◌, list_any, append_assoc, append-nil, Alignment, Segment, Code, Data, Linked, some_high_byte_moves, Public, fixes_in, StoredSegment, high_byte_moves, high_moves_by_fixes, alignment_joined, end_in, end_joined, piece_fixes, runs_joined, stored_joined, Grown, all_grown, grown_by, nothing_grown}
+use Rattle.link_laws.proofs.Prelude.{◌≡◌, ℕ, ◌+◌, ◌<◌, Bool, ◌||◌, List, [], ◌∷◌, ◌++◌, length, drop, get_or, flat_map, refl, ap, sym, ◌∙◌, list_any, append_assoc, append-nil, Alignment, Segment, Code, Data, Linked, some_high_byte_moves, Public, fixes_in, StoredSegment, high_byte_moves, high_moves_by_fixes, alignment_joined, end_in, end_joined, piece_fixes, runs_joined, stored_joined, Grown, all_grown, grown_by, nothing_grown, or-false, or_assoc, or_exchanged}
 use Rattle.link_laws.proofs.NameLoops.{at_item}
 
 -- a high byte of a segment of a module moves
@@ -21,29 +21,13 @@ module _ (publics : List Public) (segment : Segment) where
       grown_fixes (grown_by publics segment grown one) others
       ∙ append_assoc grown.fixes (piece_fixes publics segment one) (flat_map (piece_fixes publics segment) others)
 
-  or_assoc : (a b c : Bool) → ((a || b) || c) ≡ (a || (b || c))
-  or_assoc true b c = refl
-  or_assoc false b c = refl
-
-  or_false : (b : Bool) → b ≡ (b || false)
-  or_false true = refl
-  or_false false = refl
-
   pub grown_moves :
       (grown : Grown) (linked : List Linked)
       → (all_grown publics segment grown linked).moves ≡ (grown.moves || list_any (moves_in publics segment) linked)
-  grown_moves grown [] = or_false grown.moves
+  grown_moves grown [] = (sym (or-false grown.moves))
   grown_moves grown (one ∷ others) =
       grown_moves (grown_by publics segment grown one) others
       ∙ or_assoc grown.moves (moves_in publics segment one) (list_any (moves_in publics segment) others)
-
--- a high byte of a module moves where one of the code or one of the data does
-either : (a b c d : Bool) → ((a || b) || (c || d)) ≡ ((a || c) || (b || d))
-either true b c d = refl
-either false true true d = refl
-either false true false d = refl
-either false false true d = refl
-either false false false d = refl
 
 pub some_moves :
     (publics : List Public) (linked : List Linked)
@@ -53,7 +37,7 @@ some_moves publics [] = refl
 some_moves publics (one ∷ others) =
     ap (λ b. b || list_any (some_high_byte_moves publics) others) (high_moves_by_fixes publics one)
     ∙ ap (λ b. (moves_in publics Code one || moves_in publics Data one) || b) (some_moves publics others)
-    ∙ either (moves_in publics Code one) (moves_in publics Data one) (list_any (moves_in publics Code) others)
+    ∙ or_exchanged (moves_in publics Code one) (moves_in publics Data one) (list_any (moves_in publics Code) others)
     (list_any (moves_in publics Data) others)
 
 -- a segment with what is made of all pieces is the one that is joined of these

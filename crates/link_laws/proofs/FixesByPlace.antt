@@ -1,5 +1,5 @@
 -- The fixes of contents by their places: those of a content are within it, and those of later ones after it.
-use Rattle.link_laws.proofs.Prelude.{◌≡◌, ℕ, zero, suc, ◌+◌, ◌≤◌, Bool, true, false, cond, ◌==◌, nat_le, List, [], ◌∷◌, ◌++◌, length, flat_map, Option, Some, None, refl, subst, arith, list_all, and_parts, leb-true, same_Some, Fix, content_end, Content, fix_end, is_within, FixedContent, AllPast, AreWithin, Placed, fix_at, fix_table, fixes_by_place, listed, found_there}
+use Rattle.link_laws.proofs.Prelude.{◌≡◌, ℕ, zero, suc, ◌+◌, ◌≤◌, Bool, true, false, cond, ◌==◌, nat_le, List, [], ◌∷◌, length, flat_map, Option, Some, None, refl, subst, arith, list_all, and_parts, leb-true, same_Some, Fix, content_end, Content, fix_end, is_within, FixedContent, AllPast, AreWithin, Placed, fix_at, fix_table, fixes_by_place, listed, found_there, past_append}
 
 -- a fix that is found is one of those that are within
 found_within :
@@ -53,16 +53,12 @@ table_past fixes end (suc count) offset h =
         let at : fix.offset ≡ offset = found_there fixes offset fix e in
         (omega (arith, at, h), later)
 
-both_past : (end : ℕ) (xs ys : List Fix) → AllPast end xs → AllPast end ys → AllPast end (xs ++ ys)
-both_past end [] ys x y = y
-both_past end (fix ∷ others) ys x y = (x.0, both_past end others ys x.1 y)
-
 pub later_past :
     (size end low : ℕ) (contents : List FixedContent) → low ≤ end → Placed size end contents
     → AllPast low (flat_map fixes_by_place contents)
 later_past size end low [] h placed = tt
 later_past size end low (fixed ∷ others) h placed =
     let begins : end ≤ (fixed.content).offset = placed.0 in
-    both_past low (fixes_by_place fixed) (flat_map fixes_by_place others)
+    past_append low (fixes_by_place fixed) (flat_map fixes_by_place others)
     (table_past fixed.fixes low (length (fixed.content).bytes) (fixed.content).offset (omega (arith, begins, h)))
     (later_past size (content_end fixed.content) low others (omega (arith, begins, h)) placed.2)

@@ -1,5 +1,5 @@
 -- The runs of a module with their fixes: each fix lies within the run that it begins in.
-use Rattle.link_laws.proofs.Prelude.{◌≡◌, ℕ, suc, ◌+◌, ◌<◌, ◌≤◌, true, false, not, ◌&&◌, ◌||◌, nat_lt, nat_le, List, [], ◌∷◌, ◌++◌, length, map, flat_map, Option, None, Some, IsTrue, refl, ap, sym, subst, ◌∙◌, arith, AllByRecursion, and_parts, leb-true, ltb-true, length-map, Fix, FixKind, Low, High, Both, Segment, Absolute, Code, Data, Stack, Target, is_empty, Fixup, SetByte, ObjectModule, IsObjectModule, begins_word, is_plain, words_are_whole, length_of, places_of, width_of, fix_end, bytes_of_run, fixes_of_run, fixes_in, runs_of, are_longest, Run, runs_from, fixes_from, before_fixes, place_fixes, run_end, fixes_step, runs_fixes, places_are, Apart, AllBelow, AllPast, below_first, past_others, runs_apart, AllFrom, fixes_later, row_of, values_of, AreWithin, HaveTheirFixes}
+use Rattle.link_laws.proofs.Prelude.{◌≡◌, ℕ, suc, ◌+◌, ◌<◌, ◌≤◌, true, false, not, ◌&&◌, ◌||◌, nat_lt, nat_le, List, [], ◌∷◌, length, map, flat_map, Option, None, Some, IsTrue, refl, ap, sym, subst, ◌∙◌, arith, AllByRecursion, and_parts, leb-true, ltb-true, length-map, Fix, FixKind, Low, High, Both, Segment, Absolute, Code, Data, Stack, Target, is_empty, Fixup, SetByte, ObjectModule, IsObjectModule, begins_word, is_plain, words_are_whole, length_of, places_of, width_of, fix_end, bytes_of_run, fixes_of_run, fixes_in, runs_of, are_longest, Run, runs_from, fixes_from, before_fixes, place_fixes, run_end, fixes_step, runs_fixes, places_are, Apart, AllBelow, AllPast, below_first, past_others, runs_apart, AllFrom, fixes_later, row_of, values_of, AreWithin, HaveTheirFixes, past_append, some_width}
 
 -- fixes after the first place are within what begins one place before
 within_earlier :
@@ -55,27 +55,17 @@ items_within offset (here ∷ others) whole =
     (within_earlier offset (length others) (fixes_from (offset + 1) others)
     (items_within (offset + 1) others (later_whole here others whole))))
 
--- so they begin before the end of the items
-takes_some : (kind : FixKind) → 1 ≤ width_of kind
-takes_some Low = omega arith
-takes_some High = omega arith
-takes_some Both = omega arith
-
 within_below : (offset size : ℕ) (fixes : List Fix) → AreWithin offset size fixes → AllBelow (offset + size) fixes
 within_below offset size [] all = tt
 within_below offset size (fix ∷ others) all =
     let high : fix_end fix ≤ offset + size = (all.0).1 in
-    let some : 1 ≤ width_of fix.kind = takes_some fix.kind in
+    let some : 1 ≤ width_of fix.kind = some_width fix.kind in
     (omega (arith, high, some), within_below offset size others all.1)
-
-past_both : (end : ℕ) (xs ys : List Fix) → AllPast end xs → AllPast end ys → AllPast end (xs ++ ys)
-past_both end [] ys x y = y
-past_both end (fix ∷ others) ys x y = (x.0, past_both end others ys x.1 y)
 
 past_runs : (end : ℕ) (runs : List (Run SetByte)) → AllFrom end runs → AllPast end (flat_map fixes_of_run runs)
 past_runs end [] all = tt
 past_runs end (run ∷ others) all =
-    past_both end (fixes_from run.offset run.items) (flat_map fixes_of_run others)
+    past_append end (fixes_from run.offset run.items) (flat_map fixes_of_run others)
     (fixes_later end run.offset run.items all.0) (past_runs end others all.1)
 
 -- runs that end within a size

@@ -1,6 +1,6 @@
 -- The pass over modules that looks for a second main module.
-use Rattle.link_laws.proofs.Prelude.{◌≡◌, ℕ, suc, ◌+◌, ◌%◌, ◌<◌, ◌≤◌, Bool, true, false, cond, ◌==◌, List, [], ◌∷◌, length, drop, filter_map, get_or, is_some, Option, None, Some, option_map, refl, ap, sym, ◌∙◌, arith, cons_option, ne_eqb, code_end, data_end, linked_after, linked_from, linked_modules, main_modules, ObjectModule, main_of, mains_are, same_test, one_main}
-use Rattle.link_laws.proofs.NameLoops.{at_item, at_end}
+use Rattle.link_laws.proofs.Prelude.{◌≡◌, ℕ, suc, ◌+◌, ◌%◌, ◌<◌, ◌≤◌, Bool, true, false, cond, ◌==◌, List, [], ◌∷◌, length, drop, filter_map, get_or, is_some, Option, None, Some, option_map, refl, ap, sym, ◌∙◌, arith, cons_option, ne_eqb, code_end, data_end, linked_after, linked_from, linked_modules, main_modules, ObjectModule, main_of, mains_are, same_test, one_main, at_drop_all}
+use Rattle.link_laws.proofs.NameLoops.{at_item}
 
 abbrev mains_from : (code data_before : ℕ) → List ObjectModule → List (List ℕ × ℕ)
 mains_from code data_before modules = filter_map main_of (linked_from code data_before modules)
@@ -77,4 +77,4 @@ module _ (total found : Bool) (modules : List ObjectModule) (i : ℕ) (rest : on
       sym (ap (λ b. cond b false (one_main true (drop (i + 1) modules))) again) ∙ main_step object start true within is same given
 
   pub mains_ended : length modules ≤ i → found ≡ total
-  mains_ended past = sym (at_end (one_main found) modules i past) ∙ rest
+  mains_ended past = sym (at_drop_all (one_main found) modules i past) ∙ rest

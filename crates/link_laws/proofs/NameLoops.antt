@@ -1,5 +1,5 @@
 -- Loops over names, and over modules with theirs.
-use Rattle.link_laws.proofs.Prelude.{◌≡◌, ℕ, suc, ◌+◌, ◌<◌, ◌≤◌, Bool, true, false, cond, not, List, [], ◌∷◌, ◌++◌, map, length, drop, get_or, Option, None, Some, Result, Ok, Err, refl, ap, sym, ◌∙◌, add-one, option_or, bytes_eq, drop_of_length-le, drop-cons, OwnedPublic, LinkRefusal, DuplicatePublic, public_names, Public, ObjectModule, is_among, owned_public_view, gathered, name_of, externals_of, missing_in}
+use Rattle.link_laws.proofs.Prelude.{◌≡◌, ℕ, suc, ◌+◌, ◌<◌, ◌≤◌, Bool, true, false, cond, not, List, [], ◌∷◌, ◌++◌, map, length, drop, get_or, Option, None, Some, Result, Ok, Err, refl, ap, sym, ◌∙◌, add-one, option_or, bytes_eq, drop-cons, OwnedPublic, LinkRefusal, DuplicatePublic, public_names, Public, ObjectModule, is_among, owned_public_view, gathered, name_of, externals_of, missing_in, at_drop_all}
 use Rattle.indexmap.specs.IndexSet.{insert_key}
 
 -- what is left of a list, item by item
@@ -9,9 +9,6 @@ module _ {A Y : Type 0} (of : List A → Y) (items : List A) (i : ℕ) where
       ap of (drop-cons items i item within)
       ∙ ap (λ first. of (first ∷ drop (suc i) items)) (sym is)
       ∙ ap (λ n. of (item ∷ drop n items)) (sym (add-one i))
-
-  pub at_end : length items ≤ i → of (drop i items) ≡ of []
-  at_end past = ap of (drop_of_length-le items past)
 
 -- names of publics, one after another
 module _ (known : List (List ℕ)) (total : Result (List (List ℕ)) LinkRefusal) (publics : List OwnedPublic) (i : ℕ) (rest : gathered known (map name_of (drop i publics)) ≡ total) where
@@ -44,7 +41,7 @@ module _ (known : List (List ℕ)) (total : Result (List (List ℕ)) LinkRefusal
       ∙ name_step public within is
 
   pub names_ended : length publics ≤ i → total ≡ Ok known
-  names_ended past = sym rest ∙ at_end (λ left. gathered known (map name_of left)) publics i past
+  names_ended past = sym rest ∙ at_drop_all (λ left. gathered known (map name_of left)) publics i past
 
 -- names after others
 abbrev pub onward : (ys : List (List ℕ)) → Result (List (List ℕ)) LinkRefusal → Result (List (List ℕ)) LinkRefusal
@@ -98,7 +95,7 @@ module _ (known : List (List ℕ)) (total : Result (List (List ℕ)) LinkRefusal
       sym (module_step object publics (Err refusal) within is views h)
 
   pub modules_ended : length modules ≤ i → total ≡ Ok known
-  modules_ended past = sym rest ∙ at_end (λ left. gathered known (public_names left)) modules i past
+  modules_ended past = sym rest ∙ at_drop_all (λ left. gathered known (public_names left)) modules i past
 
 -- the first name that is not among others
 module _ (known : List (List ℕ)) (total : Option (List ℕ)) (names : List (List ℕ)) (i : ℕ) (rest : missing_in known (drop i names) ≡ total) where
@@ -119,7 +116,7 @@ module _ (known : List (List ℕ)) (total : Option (List ℕ)) (names : List (Li
   missing_passed name within is same = missing_step name true within is same
 
   pub missing_ended : length names ≤ i → None ≡ total
-  missing_ended past = sym (at_end (missing_in known) names i past) ∙ rest
+  missing_ended past = sym (at_drop_all (missing_in known) names i past) ∙ rest
 
 missing_after :
     (known xs ys : List (List ℕ)) → missing_in known (xs ++ ys) ≡ option_or (missing_in known xs) (missing_in known ys)
@@ -155,4 +152,4 @@ module _ (known : List (List ℕ)) (total : Option (List ℕ)) (modules : List O
   unresolved_passed object names within is same h = unresolved_step object names None within is same h
 
   pub unresolved_ended : length modules ≤ i → None ≡ total
-  unresolved_ended past = sym (at_end (λ left. missing_in known (externals_of left)) modules i past) ∙ rest
+  unresolved_ended past = sym (at_drop_all (λ left. missing_in known (externals_of left)) modules i past) ∙ rest

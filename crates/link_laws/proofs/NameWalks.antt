@@ -1,5 +1,5 @@
 -- Names that walks over files hand out one after another.
-use Rattle.link_laws.proofs.Prelude.{◌≡◌, ℕ, ◌+◌, ◌<◌, Bool, true, false, cond, not, ◌||◌, nat_lt, Bor, List, [], ◌∷◌, ◌++◌, length, map, drop, get_or, Option, None, Some, Result, Ok, Err, refl, ap, sym, ◌∙◌, list_any, position, position_or_len, bytes_eq, length-map, OwnedPublic, LinkRefusal, DuplicatePublic, public_names, Public, ObjectModule, is_among, owned_public_view, gathered, missing_in, name_of, public_name}
+use Rattle.link_laws.proofs.Prelude.{◌≡◌, ℕ, ◌+◌, ◌<◌, Bool, true, false, cond, not, nat_lt, Bor, List, [], ◌∷◌, ◌++◌, length, map, drop, get_or, Option, None, Some, Result, Ok, Err, refl, ap, sym, ◌∙◌, position, position_or_len, bytes_eq, length-map, OwnedPublic, LinkRefusal, DuplicatePublic, public_names, Public, ObjectModule, is_among, owned_public_view, gathered, missing_in, name_of, public_name}
 use Rattle.link_laws.proofs.NameLoops.{module_added, module_repeats}
 
 -- a public more
@@ -73,15 +73,6 @@ module _ (known : List (List ℕ)) (total : Result (List (List ℕ)) LinkRefusal
   file_repeats refusal h =
       module_repeats known total files i rest file (map owned publics) refusal within is (owned_views publics ∙ told)
       (ap (gathered known) (owned_names publics) ∙ h)
-
--- Names that stand elsewhere.
--- a set of borrowed names has a name where the names have it
-pub among_borrowed :
-    (name : List ℕ) (keys : List (Bor (List ℕ)))
-    → list_any (λ (key : Bor (List ℕ)). bytes_eq name key.now) keys
-    ≡ is_among name (map (λ (key : Bor (List ℕ)). key.now) keys)
-among_borrowed name [] = refl
-among_borrowed name (key ∷ keys) = ap (λ b. bytes_eq name key.now || b) (among_borrowed name keys)
 
 -- and at the same place
 place_borrowed :

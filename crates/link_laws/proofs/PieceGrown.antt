@@ -1,5 +1,5 @@
 -- A piece of a module, content by content, is the piece that is made of its runs and its fixes.
-use Rattle.link_laws.proofs.Prelude.{◌≡◌, ℕ, ◌%◌, ◌==◌, Bool, true, false, cond, not, ◌||◌, List, [], ◌∷◌, ◌++◌, map, filter, filter_map, flat_map, slice_get, Option, Some, None, option_map, refl, ap, sym, ◌∙◌, list_any, option_map_or, option_and_then, option_flatten, append_assoc, append-nil, list_any-append, filter_map-append, slice_get-map, Fix, FixKind, Low, High, Both, Segment, Code, Data, Target, InSegment, External, Linked, displacement_in, gain_in, public_named, start_of, target_kept, target_of_public, Public, fixes_in, runs_of, FixedContent, Run, Walking, module_by, fix_kept, runs_fixed, with_runs, gains_part, high_byte_moves, target_if_high, piece_fixes, piece_runs, AllFit, ContentsFit, Placed, fixes_by_place, is_in, runs_kept, Grown, Resolved, gain_by, grown_by, grown_in, kept_by, moves_by, part_moves, resolved_in, with_content}
+use Rattle.link_laws.proofs.Prelude.{◌≡◌, ℕ, ◌%◌, ◌==◌, Bool, true, false, cond, not, ◌||◌, List, [], ◌∷◌, ◌++◌, map, filter, filter_map, flat_map, slice_get, Option, Some, None, option_map, refl, ap, sym, ◌∙◌, list_any, option_map_or, option_and_then, option_flatten, append_assoc, append-nil, list_any-append, filter_map-append, slice_get-map, Fix, FixKind, Low, High, Both, Segment, Code, Data, Target, InSegment, External, Linked, displacement_in, gain_in, public_named, start_of, target_kept, target_of_public, Public, fixes_in, runs_of, FixedContent, Run, Walking, module_by, fix_kept, runs_fixed, with_runs, gains_part, high_byte_moves, target_if_high, piece_fixes, piece_runs, AllFit, ContentsFit, Placed, fixes_by_place, is_in, runs_kept, Grown, Resolved, gain_by, grown_by, grown_in, kept_by, moves_by, part_moves, resolved_in, with_content, or-false, or_assoc}
 use Rattle.link_laws.proofs.ModuleTold.{code_fixes, code_runs, data_fixes, data_runs}
 use Rattle.link_laws.proofs.RunsByContents.{runs_by_contents, runs_grown}
 
@@ -77,11 +77,7 @@ module _ (resolved : Resolved) (segment : Segment) where
   grown_in_parts : (grown : Grown) (contents : List FixedContent) → grown_each grown contents ≡ grown_parts grown contents
   grown_in_parts grown [] =
       ap (λ fixes. record { runs = grown.runs; fixes = fixes; moves = grown.moves }) (sym (append-nil grown.fixes))
-      ∙ ap (λ moves. record { runs = grown.runs; fixes = grown.fixes ++ []; moves = moves }) (or_false grown.moves)
-    where
-      or_false : (b : Bool) → b ≡ (b || false)
-      or_false true = refl
-      or_false false = refl
+      ∙ ap (λ moves. record { runs = grown.runs; fixes = grown.fixes ++ []; moves = moves }) (sym (or-false grown.moves))
   grown_in_parts grown (fixed ∷ others) =
       let own : List Fix = fixes_by_place fixed in
       let later : List Fix = flat_map fixes_by_place others in
@@ -99,10 +95,6 @@ module _ (resolved : Resolved) (segment : Segment) where
       (or_assoc grown.moves (list_any (moves_by resolved) own) (list_any (moves_by resolved) later)
       ∙ ap (λ m. grown.moves || m) (sym (list_any-append (moves_by resolved) own later)))
     where
-      or_assoc : (a b c : Bool) → ((a || b) || c) ≡ (a || (b || c))
-      or_assoc true b c = refl
-      or_assoc false b c = refl
-
       kept_both :
           (xs ys : List Fix)
           → filter_map (fix_kept start_here (kept_by resolved)) (xs ++ ys)

@@ -1,6 +1,6 @@
 -- The runs of contents, after the fixes of all, are those of each content after its own fixes, pushed one after
 -- another.
-use Rattle.link_laws.proofs.Prelude.{◌≡◌, ℕ, ◌+◌, ◌≤◌, Bool, true, false, cond, ◌==◌, nat_lt, List, [], ◌∷◌, ◌++◌, length, flat_map, refl, ap, sym, subst, ◌∙◌, arith, eqb-true, eq-eqb, lt-ltb, append_assoc, length-append, Fix, FixKind, Low, High, Both, Target, content_end, is_empty, width_of, fix_end, FixedContent, Run, bytes_after, fixes_below, fixes_past, run_at, run_end, run_fixed, runs_fixed, with_run, with_runs, AllBelow, AllPast, below_first, past_others, AreWithin, AllFit, Placed, fixes_by_place, open_run, runs_kept}
+use Rattle.link_laws.proofs.Prelude.{◌≡◌, ℕ, ◌+◌, ◌≤◌, Bool, true, false, cond, ◌==◌, nat_lt, List, [], ◌∷◌, ◌++◌, length, flat_map, refl, ap, sym, subst, ◌∙◌, arith, eqb-true, eq-eqb, lt-ltb, append_assoc, length-append, Fix, Target, content_end, is_empty, width_of, fix_end, FixedContent, Run, bytes_after, fixes_below, fixes_past, run_at, run_end, run_fixed, runs_fixed, with_run, with_runs, AllBelow, AllPast, below_first, past_others, AreWithin, AllFit, Placed, fixes_by_place, open_run, runs_kept, some_width}
 use Rattle.link_laws.proofs.BytesInParts.{after_both_parts, after_length}
 use Rattle.link_laws.proofs.FixesByPlace.{later_past, own_within}
 
@@ -93,16 +93,11 @@ taken_past end low (fix ∷ others) past = go (nat_lt fix.offset end) (taken_pas
     go true later = (past.0, later)
     go false later = tt
 
-takes_some : (kind : FixKind) → 1 ≤ width_of kind
-takes_some Low = omega arith
-takes_some High = omega arith
-takes_some Both = omega arith
-
 within_below : (offset size end : ℕ) (fixes : List Fix) → offset + size ≤ end → AreWithin offset size fixes → AllBelow end fixes
 within_below offset size end [] h all = tt
 within_below offset size end (fix ∷ others) h all =
     let high : fix_end fix ≤ offset + size = (all.0).1 in
-    let some : 1 ≤ width_of fix.kind = takes_some fix.kind in
+    let some : 1 ≤ width_of fix.kind = some_width fix.kind in
     (omega (arith, high, some, h), within_below offset size end others h all.1)
 
 -- no fix is within no bytes
@@ -111,7 +106,7 @@ within_none offset [] all = refl
 within_none offset (fix ∷ others) all =
     let low : offset ≤ fix.offset = (all.0).0 in
     let high : fix_end fix ≤ offset + 0 = (all.0).1 in
-    let some : 1 ≤ width_of fix.kind = takes_some fix.kind in
+    let some : 1 ≤ width_of fix.kind = some_width fix.kind in
     absurd (omega (arith, low, high, some))
 
 -- One content more in front of others.

@@ -1,11 +1,7 @@
 -- The segments of a merge are those that are joined of pieces.
-use Rattle.link_laws.proofs.Prelude.{◌≡◌, ℕ, ◌≤◌, Bool, cond, ◌||◌, List, [], ◌∷◌, All, map, refl, ap, sym, arith, list_any, AllByRecursion, recursion_from_All, Alignment, Byte, Page, Code, Data, Linked, start_after, code_end, data_end, linked_after, linked_from, linked_modules, all_publics, Places, ObjectModule, IsObjectModule, is_page, merged_code, merged_data, stored_of, alignment_joined, begins_a_page, stored_joined}
+use Rattle.link_laws.proofs.Prelude.{◌≡◌, ℕ, Bool, cond, ◌||◌, List, [], ◌∷◌, All, map, refl, ap, sym, list_any, AllByRecursion, recursion_from_All, Byte, Page, Code, Data, Linked, code_end, data_end, linked_after, linked_from, linked_modules, all_publics, Places, ObjectModule, IsObjectModule, is_page, merged_code, merged_data, stored_of, alignment_joined, begins_a_page, stored_joined, later_start}
 use Rattle.link_laws.proofs.FixesWithin.{whole_places}
 use Rattle.link_laws.proofs.SegmentLaws.{Follow, all_runs, all_fixes, all_length}
-
-later : (end : ℕ) (alignment : Alignment) → end ≤ start_after end alignment
-later end Byte = omega arith
-later end Page = omega arith
 
 code_follows :
     (code data_before : ℕ) (objects : List ObjectModule) → AllByRecursion IsObjectModule objects
@@ -13,7 +9,7 @@ code_follows :
 code_follows code data_before [] all = tt
 code_follows code data_before (object ∷ others) all =
     let one : Linked = linked_after code data_before object in
-    (whole_places object Code all.0, later code object.code.alignment, code_follows (code_end one) (data_end one) others all.1)
+    (whole_places object Code all.0, later_start code object.code.alignment, code_follows (code_end one) (data_end one) others all.1)
 
 data_follows :
     (code data_before : ℕ) (objects : List ObjectModule) → AllByRecursion IsObjectModule objects
@@ -22,7 +18,7 @@ data_follows code data_before [] all = tt
 data_follows code data_before (object ∷ others) all =
     let one : Linked = linked_after code data_before object in (
       whole_places object Data all.0,
-      later data_before object.data_places.alignment,
+      later_start data_before object.data_places.alignment,
       data_follows (code_end one) (data_end one) others all.1,
     )
 

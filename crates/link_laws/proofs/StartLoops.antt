@@ -1,6 +1,6 @@
 -- The loop over modules that finds where their pieces begin, and whether a segment is too long.
-use Rattle.link_laws.proofs.Prelude.{◌≡◌, ℕ, ◌+◌, ◌<◌, ◌≤◌, true, false, ◌||◌, List, [], ◌∷◌, ◌++◌, All, length, drop, get_or, sum_by, fold, refl, ap, sym, subst, ◌∙◌, arith, AllByRecursion, or_left, or_right, or_from, lt-ltb, le-ltb, All-from_recursion, append_assoc, append-nil, Alignment, Byte, Page, Start, Linked, code_end, data_end, start_after, linked_after, linked_from, linked_modules, last_end, is_too_long, some_segment_is_too_long, ObjectModule, IsObjectModule, code_after, data_after}
-use Rattle.link_laws.proofs.NameLoops.{at_item, at_end}
+use Rattle.link_laws.proofs.Prelude.{◌≡◌, ℕ, ◌+◌, ◌<◌, ◌≤◌, true, false, ◌||◌, List, [], ◌∷◌, ◌++◌, All, length, drop, get_or, sum_by, fold, refl, ap, sym, subst, ◌∙◌, arith, AllByRecursion, or_left, or_right, or_from, lt-ltb, le-ltb, All-from_recursion, append_assoc, append-nil, Start, Linked, code_end, data_end, start_after, linked_after, linked_from, linked_modules, last_end, is_too_long, some_segment_is_too_long, ObjectModule, IsObjectModule, code_after, data_after, later_start, at_drop_all}
+use Rattle.link_laws.proofs.NameLoops.{at_item}
 
 -- where the last pieces end
 last_code :
@@ -27,10 +27,6 @@ all_data : (modules : List ObjectModule) → last_end data_end (linked_modules m
 all_data [] = refl
 all_data (first ∷ others) = last_data first others 0 0
 
-starts_later : (end : ℕ) (alignment : Alignment) → end ≤ start_after end alignment
-starts_later end Byte = omega arith
-starts_later end Page = omega arith
-
 -- ends only grow
 code_grows : (code data_before : ℕ) (modules : List ObjectModule) → code ≤ code_after code data_before modules
 code_grows code data_before [] = omega arith
@@ -40,7 +36,7 @@ code_grows code data_before (object ∷ others) =
     start_after code object.code.alignment + length object.code.places
     ≤ code_after code data_before (object ∷ others) =
     code_grows (code_end one) (data_end one) others in
-    let begins : code ≤ start_after code object.code.alignment = starts_later code object.code.alignment in
+    let begins : code ≤ start_after code object.code.alignment = later_start code object.code.alignment in
     omega (arith, later, begins)
 
 data_grows : (code data_before : ℕ) (modules : List ObjectModule) → data_before ≤ data_after code data_before modules
@@ -52,7 +48,7 @@ data_grows code data_before (object ∷ others) =
     ≤ data_after code data_before (object ∷ others) =
     data_grows (code_end one) (data_end one) others in
     let begins : data_before ≤ start_after data_before object.data_places.alignment =
-    starts_later data_before object.data_places.alignment in
+    later_start data_before object.data_places.alignment in
     omega (arith, later, begins)
 
 abbrev pub stack_of : ObjectModule → ℕ
@@ -184,7 +180,7 @@ module _ (code data_before stack : ℕ) (placed : List Linked) (modules : List O
 -- at the end
 module _ (code data_before stack : ℕ) (placed : List Linked) (modules : List ObjectModule) (i : ℕ) (known : SoFar code data_before stack placed (drop i modules) modules) (past : length modules ≤ i) where
   none_left : drop i modules ≡ []
-  none_left = at_end (λ (left : List ObjectModule). left) modules i past
+  none_left = at_drop_all (λ (left : List ObjectModule). left) modules i past
 
   pub all_placed : placed ≡ linked_modules modules
   all_placed =

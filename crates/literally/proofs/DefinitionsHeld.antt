@@ -17,13 +17,6 @@ stands output word words kind (Some text) is agree =
     let inside : in_force output word ≡ Some text = rw kind is in
     (text, inside, agree)
 
--- names that are the same byte by byte
-same_names : (a b : List ℕ) → bytes_eq a b ≡ true → a ≡ b
-same_names a b = (bytes_eq-Decides a b).0
-
-equal_names : (a b : List ℕ) → a ≡ b → bytes_eq a b ≡ true
-equal_names a b = (bytes_eq-Decides a b).1
-
 -- how a look-up goes through the first entry, where the key is that of the entry, and where it is another
 module _ {X : Type 0} (name : List ℕ) (key other : List ℕ) (value was : X) (rest : Option X) where
   through_same : key ≡ other
@@ -47,7 +40,7 @@ module _ {X : Type 0} (name : List ℕ) (key other : List ℕ) (value was : X) (
           → bytes_eq name key ≡ k
           → rest_then ≡ cond k (Some value) rest
           → cond b (Some was) rest_then ≡ cond k (Some value) (cond b (Some was) rest)
-      by true true one two later = absurd (cc (equal_names key other (sym (same_names name key two) ∙ same_names name other one)))
+      by true true one two later = absurd (cc ((bytes_eq-Decides key other).1 (sym ((bytes_eq-Decides name key).0 two) ∙ (bytes_eq-Decides name other).0 one)))
       by true false one two later = refl
       by false k one two later = later
 
@@ -67,7 +60,7 @@ words_for_inserted {X} (entry ∷ entries) key value name = by (bytes_eq (name_o
         → bytes_eq (name_of key.text.now) (name_of entry.0.text.now) ≡ b
         → found after ≡ cond (bytes_eq name (name_of key.text.now)) (Some value) (found entries)
         → found (cond b ((entry.0, value) ∷ entries) (entry ∷ after)) ≡ cond (bytes_eq name (name_of key.text.now)) (Some value) (found (entry ∷ entries))
-    by true is later = through_same name (name_of key.text.now) (name_of entry.0.text.now) value entry.1 (found entries) (same_names _ _ is)
+    by true is later = through_same name (name_of key.text.now) (name_of entry.0.text.now) value entry.1 (found entries) ((bytes_eq-Decides (name_of key.text.now) (name_of entry.0.text.now)).0 is)
     by false is later = through_other name (name_of key.text.now) (name_of entry.0.text.now) value entry.1 (found entries) is (found after) later
 
 -- the definition that a word completes, by its name

@@ -1,5 +1,5 @@
 -- A text without a quote spells no string.
-use Rattle.literally.proofs.Prelude.{◌≡◌, ℕ, zero, suc, length, List, [], ◌∷◌, ◌++◌, drop, map, Bool, true, false, cond, ◌||◌, ◌&&◌, Option, None, Some, eqb, refl, ap, subst, Result, Ok, Err, option_map_or, nat_lt, ◌==◌, slice_index, take_while, is_ascii_alphabetic, is_ascii_digit, Cause, BadCharacter, BadNumber, LongName, Item, Spelled, Wrong, Name, Reserved, Number, Mark, AMark, ReservedWord, LONGEST_NAME, is_blank, is_word_byte, item_at, mark_at, mark_item, name_of, kind_of_name, name_item, reserved_of, comment_end, comment_item, Lexeme, SpellsFrom, after_blank, is_string, has_quote, in_force, at_use, Becomes, no_words, stays, replaced}
+use Rattle.literally.proofs.Prelude.{◌≡◌, ℕ, zero, suc, length, List, [], ◌∷◌, ◌++◌, drop, map, Bool, true, false, cond, ◌||◌, ◌&&◌, Option, None, Some, eqb, refl, ap, subst, Result, Ok, Err, option_map_or, nat_lt, ◌==◌, slice_index, take_while, is_ascii_alphabetic, is_ascii_digit, Cause, BadCharacter, BadNumber, LongName, Item, Spelled, Wrong, Name, Reserved, Number, Mark, AMark, ReservedWord, LONGEST_NAME, is_blank, is_word_byte, item_at, mark_at, mark_item, name_of, kind_of_name, name_item, reserved_of, comment_end, comment_item, Lexeme, SpellsFrom, after_blank, is_string, has_quote, in_force, at_use, Becomes, no_words, stays, replaced, or_parts}
 use Rattle.words.specs.Spelling.{at_end, word_then}
 
 -- an item that is a word is no string
@@ -9,10 +9,6 @@ IsOther item = Unit {0}
 
 record IsNoString (item : Item) : Type 0 where
   other : IsOther item
-
-or_second : (a b : Bool) → (a || b) ≡ false → b ≡ false
-or_second true b free = absurd (cc)
-or_second false b free = free
 
 either : (b : Bool) (x y : Item)
     → (b ≡ true → IsNoString x)
@@ -60,7 +56,7 @@ no_string_at (first ∷ text) free =
 free_after : (place : ℕ) (text : List ℕ) → has_quote text ≡ false → has_quote (drop place text) ≡ false
 free_after zero text free = free
 free_after (suc place) [] free = refl
-free_after (suc place) (first ∷ text) free = free_after place text (or_second (eqb first 39) (has_quote text) free)
+free_after (suc place) (first ∷ text) free = free_after place text (or_parts (eqb first 39) (has_quote text) free).1
 
 -- no word of a list is a string
 abbrev pub HasNoString : List Lexeme → Type 0

@@ -1,5 +1,5 @@
 -- The names that the proofs of this crate cite, passed on from one place. Declares nothing.
-pub use Rattle.std.proofs.{Common.{Bool, Err, IfSome, List, None, Ok, Option, Result, Some, [], add-one, ap, arith, cond, drop, eqb, false, get_or, inl, inr, is_some, length, map, refl, reverse, subst, suc, sym, take, true, zero, ℕ, ◌&&◌, ◌*◌, ◌++◌, ◌+◌, ◌-◌, ◌<◌, ◌||◌, ◌∙◌, ◌∷◌, ◌≡◌, ◌≢◌, ◌≤◌, ◌⊎◌}, Math.Seq.{drop-cons}, lemmas.Bool.{false≢true}, lemmas.Bool.Decides.{leb_tells}, lemmas.List.{append-nil, append_assoc, drop_all, length-map, length-reverse, length_push, map-append, reverse-append, take_all, take_rest}, lemmas.Result.{IfOk-weaker, err_from_is_err_and}, lemmas.Slice.Eq.{bytes_eq-Decides}}
+pub use Rattle.std.proofs.{Common.{Bool, Err, IfSome, List, None, Ok, Option, Result, Some, [], add-one, ap, arith, cond, drop, eqb, false, get_or, inl, inr, is_some, length, map, refl, reverse, subst, suc, sym, take, true, zero, ℕ, ◌&&◌, ◌*◌, ◌++◌, ◌+◌, ◌-◌, ◌<◌, ◌||◌, ◌∙◌, ◌∷◌, ◌≡◌, ◌≢◌, ◌≤◌, ◌⊎◌}, Math.Seq.{drop-cons}, lemmas.Bool.{false≢true, or_parts}, lemmas.Bool.Decides.{leb_tells}, lemmas.List.{append-nil, append_assoc, drop_all, length-map, length-reverse, length_push, map-append, reverse-append, take_all, take_rest}, lemmas.Result.{IfOk-weaker, err_from_is_err_and}, lemmas.Slice.Eq.{bytes_eq-Decides}}
 pub use Rattle.std.specs.{Char.{is_ascii_alphabetic, is_ascii_digit}, List.{flat_map, fold}, Map.{lookup}, Option.{option_copied, option_map, option_map_or}, Prelude.{nat_lt, slice_index, take_while, ◌==◌}, Str.{bytes_eq}, declared.alloc.Global.{Global}, declared.vec.Vec.{Vec}}
 pub use Rattle.symbols.specs.{Names.{name_of}, declared.name.TheConstants.{LONGEST_NAME}}
 pub use Rattle.words.proofs.LawsReadings.{one_reading}

@@ -1,9 +1,5 @@
 -- The targets of high bytes, by the fixes of a segment.
-use Rattle.locate.proofs.Prelude.{◌≡◌, ℕ, ◌+◌, ◌%◌, ◌==◌, Bool, true, false, cond, not, ◌||◌, List, [], ◌∷◌, ◌++◌, flat_map, filter_map, Option, Some, None, refl, ap, sym, ◌∙◌, list_any, cons_option, option_and_then, eqb-true, filter_map-append, Fix, FixKind, Low, High, Both, Code, Data, Target, Fixup, SetByte, ObjectModule, places_of, high_target, high_targets, fixes_of_run, fixes_in, Run, before_runs, runs_from, fixes_from, breaks_high}
-
-abbrev before_fixes : ℕ → Option Fixup → List Fix → List Fix
-before_fixes n None fixes = fixes
-before_fixes n (Some fixup) fixes = record { kind = fixup.kind; target = fixup.target; offset = n } ∷ fixes
+use Rattle.locate.proofs.Prelude.{◌≡◌, ℕ, ◌+◌, ◌%◌, ◌==◌, Bool, true, false, not, ◌||◌, List, [], ◌∷◌, ◌++◌, flat_map, filter_map, Option, Some, None, refl, ap, sym, ◌∙◌, list_any, cons_option, option_and_then, filter_map-append, Fix, FixKind, Low, High, Both, Code, Data, Target, Fixup, SetByte, ObjectModule, places_of, high_target, high_targets, fixes_of_run, fixes_in, runs_from, breaks_high, before_fixes, before_runs_fixes}
 
 -- the fixes at places, by their offsets
 abbrev fixes_at : ℕ → List (Option SetByte) → List Fix
@@ -11,36 +7,12 @@ fixes_at n [] = []
 fixes_at n (None ∷ others) = fixes_at (n + 1) others
 fixes_at n (Some here ∷ others) = before_fixes n here.fixup (fixes_at (n + 1) others)
 
-fixes_of_items :
-    (n value : ℕ) (fixup : Option Fixup) (items : List SetByte) (rest : List Fix)
-    → fixes_from n (record { value = value; fixup = fixup } ∷ items) ++ rest
-    ≡ before_fixes n fixup (fixes_from (n + 1) items ++ rest)
-fixes_of_items n value None items rest = refl
-fixes_of_items n value (Some fixup) items rest = refl
-
-fixes_before :
-    (n : ℕ) (here : SetByte) (runs : List (Run SetByte))
-    → flat_map fixes_of_run (before_runs n here runs) ≡ before_fixes n here.fixup (flat_map fixes_of_run runs)
-fixes_before n here [] = fixes_of_items n here.value here.fixup [] []
-fixes_before n here (next ∷ others) = go (next.offset == n + 1) refl
-  where
-    go : (b : Bool) → (next.offset == n + 1) ≡ b
-        → flat_map fixes_of_run
-        (cond b (record { offset = n; items = here ∷ next.items } ∷ others)
-        (record { offset = n; items = here ∷ [] } ∷ next ∷ others))
-        ≡ before_fixes n here.fixup (flat_map fixes_of_run (next ∷ others))
-    go true e =
-        fixes_of_items n here.value here.fixup next.items (flat_map fixes_of_run others)
-        ∙ ap (λ offset. before_fixes n here.fixup (fixes_from offset next.items ++ flat_map fixes_of_run others))
-        (sym (eqb-true next.offset (n + 1) e))
-    go false e = fixes_of_items n here.value here.fixup [] (flat_map fixes_of_run (next ∷ others))
-
 fixes_are_at :
     (n : ℕ) (places : List (Option SetByte)) → flat_map fixes_of_run (runs_from n places) ≡ fixes_at n places
 fixes_are_at n [] = refl
 fixes_are_at n (None ∷ others) = fixes_are_at (n + 1) others
 fixes_are_at n (Some here ∷ others) =
-    fixes_before n here (runs_from (n + 1) others) ∙ ap (before_fixes n here.fixup) (fixes_are_at (n + 1) others)
+    before_runs_fixes n here (runs_from (n + 1) others) ∙ ap (before_fixes n here.fixup) (fixes_are_at (n + 1) others)
 
 abbrev target_at : Option SetByte → Option Target
 target_at place = option_and_then (λ (here : SetByte). option_and_then high_target here.fixup) place

@@ -1,5 +1,5 @@
 -- What a memory has after the image of a valid module was put into it: the image, and bytes.
-use Rattle.locate.proofs.Prelude.{◌≡◌, ℕ, zero, suc, ◌+◌, ◌-◌, ◌<◌, Bool, true, false, nat_lt, List, [], ◌∷◌, length, map, slice_get, slice_index, Option, Some, None, option_map, unwrap_or, Result, Ok, Err, All, refl, sym, ap, subst, ◌∙◌, arith, if◌then◌else◌, list_all, option_flatten, option_map_or, option_or, and_parts, ltb-true, get_or_default, none-some, same_Some, Piece, IsMemory, AreLongestRuns, EndsInMemory, IsLoaded, byte_in, FixKind, Low, High, Both, Code, Data, Target, Image, Plan, PlacementRefusal, at_address, gain_at, image_at, image_of, placed, placed_bytes, placement_refusal, unless_refused, Fixup, IsObjectModule, ObjectModule, Places, SetByte, is_valid_byte, is_valid_segment, after_fixup, bytes_resolved, first_byte_moved, moved_after, value_after, value_moved, Absolute, loaded, image_pieces}
+use Rattle.locate.proofs.Prelude.{◌≡◌, ℕ, zero, suc, ◌+◌, ◌-◌, ◌<◌, Bool, true, false, nat_lt, List, [], ◌∷◌, length, map, slice_get, slice_index, Option, Some, None, option_map, unwrap_or, Result, Ok, Err, All, refl, sym, ap, subst, ◌∙◌, arith, if◌then◌else◌, list_all, option_flatten, option_map_or, option_or, and_parts, ltb-true, get_or_default, none-some, same_Some, Piece, IsMemory, AreLongestRuns, EndsInMemory, IsLoaded, byte_in, Code, Data, Target, Image, Plan, PlacementRefusal, at_address, gain_at, image_at, image_of, placed, placed_bytes, placement_refusal, unless_refused, IsObjectModule, ObjectModule, Places, SetByte, is_valid_byte, is_valid_segment, bytes_resolved, moved_after, value_moved, Absolute, loaded, image_pieces, moved_is_byte}
 use Rattle.locate.specs.Loading.{GivesImage, GivesItsImage}
 use Rattle.locate.proofs.Images.{image_is}
 use Rattle.locate.proofs.Loads.{is_loaded}
@@ -18,37 +18,6 @@ a_byte value low byte found = subst (λ (n : ℕ). n < 256) (same_Some value byt
 either : (first second : Option ℕ) → IsByte first → IsByte second → IsByte (option_or first second)
 either None second is other = other
 either (Some value) second is other = is
-
--- a fix makes a byte of a byte
-first_is_byte : (kind : FixKind) (value gain : ℕ) → first_byte_moved kind value gain < 256
-first_is_byte Low value gain = omega arith
-first_is_byte High value gain = omega arith
-first_is_byte Both value gain = omega arith
-
-second_is_byte :
-    (gain_of : Target → ℕ) (first value : ℕ) (kind : FixKind) (target : Target) → value < 256
-    → after_fixup gain_of first value (Some (record { kind = kind; target = target })) < 256
-second_is_byte gain_of first value Low target low = low
-second_is_byte gain_of first value High target low = low
-second_is_byte gain_of first value Both target low = omega arith
-
-after_is_byte :
-    (gain_of : Target → ℕ) (first value : ℕ) (fixup : Option Fixup) → value < 256
-    → after_fixup gain_of first value fixup < 256
-after_is_byte gain_of first value None low = low
-after_is_byte gain_of first value (Some fixup) low = second_is_byte gain_of first value fixup.kind fixup.target low
-
-by_place :
-    (gain_of : Target → ℕ) (before : Option SetByte) (value : ℕ) → value < 256
-    → value_after gain_of before value < 256
-by_place gain_of None value low = low
-by_place gain_of (Some before) value low = after_is_byte gain_of before.value value before.fixup low
-
-moved_is_byte :
-    (gain_of : Target → ℕ) (before : Option SetByte) (value : ℕ) (fixup : Option Fixup) → value < 256
-    → value_moved gain_of before (record { value = value; fixup = fixup }) < 256
-moved_is_byte gain_of before value None low = by_place gain_of before value low
-moved_is_byte gain_of before value (Some fixup) low = first_is_byte fixup.kind value (gain_of fixup.target)
 
 -- each place has a valid byte, or none
 abbrev are_valid : (count : ℕ) → List (Option SetByte) → Bool

@@ -1,5 +1,5 @@
 -- Pieces that are put after others: what they have at an address, and that they stay runs.
-use Rattle.locate.proofs.Prelude.{◌≡◌, ℕ, ◌+◌, ◌-◌, ◌<◌, ◌≤◌, ◌==◌, inl, inr, Bool, true, false, cond, ◌&&◌, nat_le, nat_lt, List, [], ◌∷◌, ◌++◌, length, find, slice_index, get_or, Option, Some, None, option_map, refl, ap, sym, ◌∙◌, arith, AllByRecursion, option_or, eqb-true, eqb-false, ltb-true, lt-ltb, le-ltb, le-leb, lt-leb, and_parts, and_from, and_left, and_right, cases_lt, length-append, get_or_append_left, get_or-append_right, Piece, has_address, byte_in, has_bytes, are_runs, joined, with_piece, with_pieces}
+use Rattle.locate.proofs.Prelude.{◌≡◌, ℕ, ◌+◌, ◌-◌, ◌<◌, ◌≤◌, ◌==◌, inl, inr, Bool, true, false, cond, ◌&&◌, nat_le, nat_lt, List, [], ◌∷◌, ◌++◌, length, find, slice_index, get_or, Option, Some, None, option_map, refl, ap, sym, ◌∙◌, arith, AllByRecursion, option_or, eqb-true, eqb-false, ltb-true, lt-ltb, le-ltb, le-leb, lt-leb, and_parts, and_from, and_left, and_right, cases_lt, length-append, get_or_append_left, get_or-append_right, Piece, has_address, byte_in, has_bytes, are_runs, joined, with_piece, with_pieces, or_none_same}
 
 abbrev pub piece_end : Piece → ℕ
 piece_end piece = piece.start + length piece.bytes
@@ -8,10 +8,6 @@ piece_end piece = piece.start + length piece.bytes
 abbrev pub byte_of_piece : Piece → (address : ℕ) → Option ℕ
 byte_of_piece piece address =
     cond (has_address address piece) (Some (slice_index piece.bytes (address - piece.start))) None
-
-pub or_none : (x : Option ℕ) → option_or x None ≡ x
-or_none None = refl
-or_none (Some value) = refl
 
 pub or_assoc : (x y z : Option ℕ) → option_or (option_or x y) z ≡ option_or x (option_or y z)
 or_assoc None y z = refl
@@ -30,7 +26,7 @@ one_more piece others address = go (has_address address piece)
     go false = refl
 
 pub alone : (piece : Piece) (address : ℕ) → byte_in (piece ∷ []) address ≡ byte_of_piece piece address
-alone piece address = one_more piece [] address ∙ or_none (byte_of_piece piece address)
+alone piece address = one_more piece [] address ∙ or_none_same (byte_of_piece piece address)
 
 pub within :
     (piece : Piece) (address : ℕ) → piece.start ≤ address → address < piece_end piece
@@ -127,7 +123,7 @@ with_piece_is (piece ∷ second ∷ others) next address =
 pub with_pieces_is :
     (pieces others : List Piece) (address : ℕ)
     → byte_in (with_pieces pieces others) address ≡ option_or (byte_in pieces address) (byte_in others address)
-with_pieces_is pieces [] address = sym (or_none (byte_in pieces address))
+with_pieces_is pieces [] address = sym (or_none_same (byte_in pieces address))
 with_pieces_is pieces (next ∷ others) address =
     with_pieces_is (with_piece pieces next) others address
     ∙ ap (λ x. option_or x (byte_in others address)) (with_piece_is pieces next address)

@@ -1,6 +1,6 @@
 -- The runs of places as pieces: what they have at an address, where they begin and end.
-use Rattle.locate.proofs.Prelude.{◌≡◌, ℕ, suc, ◌+◌, ◌-◌, ◌≤◌, ◌==◌, inl, inr, Bool, true, false, cond, nat_lt, List, [], ◌∷◌, length, map, slice_get, slice_index, Option, Some, None, refl, ap, sym, ◌∙◌, arith, option_or, option_flatten, eqb-true, eqb-false, eq-eqb, ne_eqb, lt-ltb, le-ltb, cases_order, Piece, byte_in, are_runs, at_address, Run, before_runs, runs_from, piece_at}
-use Rattle.locate.proofs.Pieces.{byte_of_piece, piece_end, one_more, alone, or_assoc, or_none, within, below, above, touching, Begins, Begins-less, Ends, Ends-more, runs_cons, runs_parts}
+use Rattle.locate.proofs.Prelude.{◌≡◌, ℕ, suc, ◌+◌, ◌-◌, ◌≤◌, ◌==◌, inl, inr, Bool, true, false, cond, nat_lt, List, [], ◌∷◌, length, map, slice_get, slice_index, Option, Some, None, refl, ap, sym, ◌∙◌, arith, option_or, option_flatten, eqb-true, eqb-false, eq-eqb, ne_eqb, lt-ltb, le-ltb, cases_order, Piece, byte_in, are_runs, at_address, Run, before_runs, runs_from, piece_at, none_either_way, or_none_same}
+use Rattle.locate.proofs.Pieces.{byte_of_piece, piece_end, one_more, alone, or_assoc, within, below, above, touching, Begins, Begins-less, Ends, Ends-more, runs_cons, runs_parts}
 
 abbrev pub pieces_at : (base : ℕ) → List (Run ℕ) → List Piece
 pieces_at base runs = map (piece_at base) runs
@@ -34,7 +34,7 @@ before_is :
     → byte_in (pieces_at base (before_runs n value runs)) address
     ≡ option_or (byte_of_piece (one (base + n) value) address) (byte_in (pieces_at base runs) address)
 before_is base n value [] address =
-    alone (one (base + n) value) address ∙ sym (or_none (byte_of_piece (one (base + n) value) address))
+    alone (one (base + n) value) address ∙ sym (or_none_same (byte_of_piece (one (base + n) value) address))
 before_is base n value (next ∷ others) address = go (next.offset == n + 1) refl
   where
     go : (b : Bool) → (next.offset == n + 1) ≡ b
@@ -52,10 +52,6 @@ before_is base n value (next ∷ others) address = go (next.offset == n + 1) ref
         ∙ or_assoc (byte_of_piece first address) (byte_of_piece second address) (byte_in (pieces_at base others) address)
         ∙ ap (option_or (byte_of_piece first address)) (sym (one_more second (pieces_at base others) address))
     go false e = one_more (one (base + n) value) (pieces_at base (next ∷ others)) address
-
-same_both : {A : Type 0} (b : Bool) → ◌≡◌ {A = Option A} (cond b None None) None
-same_both true = refl
-same_both false = refl
 
 -- bytes at addresses, from the first on
 at_front :
@@ -84,7 +80,7 @@ at_front start first others address = elim (cases_order address start) [
 ]
 
 at_nothing : (start address : ℕ) → at_address start [] address ≡ None
-at_nothing start address = same_both (nat_lt address start)
+at_nothing start address = none_either_way (nat_lt address start)
 
 skipped :
     (start : ℕ) (others : List (Option ℕ)) (address : ℕ)

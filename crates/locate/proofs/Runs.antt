@@ -1,5 +1,5 @@
 -- The runs of a segment as pieces are the runs of its places, moved.
-use Rattle.locate.proofs.Prelude.{◌≡◌, ℕ, ◌+◌, ◌≤◌, ◌==◌, Bool, true, false, cond, List, [], ◌∷◌, ◌++◌, length, map, flat_map, Option, Some, None, option_map, refl, ap, sym, ◌∙◌, arith, eqb-true, eq-eqb, ne_eqb, Fix, Target, SetByte, value_moved, moved_after, Run, before_runs, runs_from, fixes_from, bytes_of_run, fixes_of_run, piece_of, pieces_from, piece_at}
+use Rattle.locate.proofs.Prelude.{◌≡◌, ℕ, ◌+◌, ◌≤◌, ◌==◌, Bool, true, false, cond, List, [], ◌∷◌, ◌++◌, length, map, flat_map, Option, Some, None, option_map, refl, ap, sym, ◌∙◌, arith, eqb-true, eq-eqb, ne_eqb, Fix, Target, SetByte, value_moved, moved_after, Run, before_runs, runs_from, fixes_from, bytes_of_run, fixes_of_run, piece_of, pieces_from, piece_at, none_either_way}
 use Rattle.locate.proofs.Values.{value_of, moved_items, Heads, Heads-less, heads_items, values_are, fixes_are}
 
 -- each run begins where the one before it ends, or later
@@ -67,17 +67,13 @@ runs_moved_after gain_of before n (run ∷ others) =
     record { offset = run.offset; items = moved_items gain_of (cond (run.offset == n) before None) run.items }
     ∷ map (moved_run gain_of) others
 
-same_both : (b : Bool) → ◌≡◌ {A = Option SetByte} (cond b None None) None
-same_both true = refl
-same_both false = refl
-
 after_nothing :
     (gain_of : Target → ℕ) (n : ℕ) (runs : List (Run SetByte))
     → runs_moved_after gain_of None n runs ≡ map (moved_run gain_of) runs
 after_nothing gain_of n [] = refl
 after_nothing gain_of n (run ∷ others) =
     ap (λ before. record { offset = run.offset; items = moved_items gain_of before run.items } ∷ map (moved_run gain_of) others)
-    (same_both (run.offset == n))
+    (none_either_way (run.offset == n))
 
 after_a_gap :
     (gain_of : Target → ℕ) (before : Option SetByte) (n : ℕ) (runs : List (Run SetByte)) → Ordered (n + 1) runs

@@ -1,4 +1,5 @@
 mod Prelude
+pub mod DroppedLists
 pub mod Kept
 pub mod KeptParts
 pub mod KeptStatements

@@ -14,7 +14,7 @@ multiple product part whole e = rw e (of_product (product * part) (product * (pa
     of_product : (n m : ℕ) → m ≡ n * 65536 → m % 65536 ≡ 0
     of_product n m e = omega arith
 
-left_far_number : (a k : ℕ) → 16 ≤ k → (a * 2 ^ k) % 65536 ≡ 0
+pub left_far_number : (a k : ℕ) → 16 ≤ k → (a * 2 ^ k) % 65536 ≡ 0
 left_far_number a k far =
     let e : k ≡ (k - 16) + 16 = omega arith in multiple a (2 ^ (k - 16)) (2 ^ k) (far_power k (k - 16) e)
 

@@ -4,7 +4,7 @@ pub use Rattle.std.specs.Option.{option_map_or}
 pub use Rattle.mem80.specs.{Memory.{byte_at}, declared.memory.TheConstants.{MEMORY_SIZE}}
 pub use Rattle.ports.specs.{Events.{IsBeginning, read_event, write_event}, Input.{input_value}, declared.event.Event.{Event}}
 pub use Rattle.trees.specs.{declared.declaration.ScalarType.{ScalarType, TheVariants.{Address, Byte}}}
-pub use Rattle.typed_trees.specs.{Jumps.{IsAmongLabels, IsClosed, JumpsStay, JumpsStayInElse, JumpsStayInList, JumpsStayInStatements, LabelsOf, LabelsStand, labels_of_list}, TypedTrees.{AssignmentNode, AssignmentStatement, At, BasedOn, BinaryNode, CallNode, CallStatement, CaseStatement, ConversionNode, DoStatement, ElseStatement, Elsewhere, FunctionNode, GotoStatement, HaltStatement, Home, IfStatement, InConstants, InData, InFrame, InputNode, IterateStatement, LabelStatement, ListNode, ListOf, LocationNode, MoreArguments, MoreStatements, MoveStatement, NoArguments, NoElse, NoStatements, NoSubscript, Nowhere, NullStatement, NumberNode, PartOf, Placed, ReturnStatement, SentTo, ShiftNode, StoredIn, Subscript, TypedArguments, TypedElse, TypedExpression, TypedIteration, TypedList, TypedModule, TypedProcedure, TypedReference, TypedStatement, TypedStatements, TypedTarget, UnaryNode, ValueNode, WhileStatement}}
+pub use Rattle.typed_trees.specs.{Jumps.{IsAmongLabels, IsClosed, JumpsStay, JumpsStayInElse, JumpsStayInList, JumpsStayInStatements, LabelsOf, LabelsStand, ListsStandInStatements, labels_of_list}, TypedTrees.{AssignmentNode, AssignmentStatement, At, BasedOn, BinaryNode, CallNode, CallStatement, CaseStatement, ConversionNode, DoStatement, ElseStatement, Elsewhere, FunctionNode, GotoStatement, HaltStatement, Home, IfStatement, InConstants, InData, InFrame, InputNode, IterateStatement, LabelStatement, ListNode, ListOf, LocationNode, MoreArguments, MoreStatements, MoveStatement, NoArguments, NoElse, NoStatements, NoSubscript, Nowhere, NullStatement, NumberNode, PartOf, Placed, ReturnStatement, SentTo, ShiftNode, StoredIn, Subscript, TypedArguments, TypedElse, TypedExpression, TypedIteration, TypedList, TypedModule, TypedProcedure, TypedReference, TypedStatement, TypedStatements, TypedTarget, UnaryNode, ValueNode, WhileStatement}}
 unfoldable pub use Rattle.typed_trees.specs.Charge.{charge_of}
 pub use Rattle.layout.specs.{Joined.{InProgram, is_main}, Placement.{Placement}}
 unfoldable pub use Rattle.layout.specs.StartingMemory.{starting_memory}

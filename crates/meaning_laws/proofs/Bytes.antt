@@ -1,5 +1,5 @@
 -- The bytes that parts of a program read and change are there: in memory, and in the frames of calls.
-use Rattle.meaning_laws.proofs.Prelude.{◌≡◌, ◌≢◌, ℕ, zero, suc, ◌+◌, ◌*◌, ◌%◌, ◌<◌, ◌≤◌, ◌&&◌, Bool, true, false, List, [], ◌∷◌, length, map, replicate, cond, slice_get, slice_index, Option, Some, None, IsSomeAnd, if◌then◌else◌, refl, sym, ap, subst, ◌∙◌, arith, one-mul, option_map, eq-eqb, ltb-true, length-replicate, All-weaker, get_or_from_slice_get, slice_get-map, MEMORY_SIZE, ScalarType, Address, Visibility, AreParameters, home_of_parameters, IsScalar, IsScalarOf, count_of, size_of_element, size_of_object, size_of_scalar, IsStorable, TypedExpression, TypedArguments, TypedReference, PartOf, Subscript, NoSubscript, At, TypedTarget, TypedIteration, TypedStatement, TypedList, Home, InData, InConstants, Placed, BasedOn, Elsewhere, Nowhere, InFrame, ObjectType, TypedObject, TypedProcedure, TypedModule, Within, WithinProcedure, WithinMain, LiesFor, IsSeen, RefersToScalar, Counts, IsSoundlyTyped, InProgram, starting_memory, starts_as, Place, InMemory, Surroundings, address_of, frame_bytes, home_of, place_in, place_of, read_scalar, Displacement, Later, based_place, displaced, displacement, done, done_list, frame_of, is_frame_of, later_by, located, parameters_set, stored, value, values, Program, State, Outcome, Gave, Stopped, Flow, Onward, Returned, Jumped, then_do, Continues, Extra, Keeps, jump_took, nothing_else, reads_scalar, later_keeps, sets_parameters, displacement_keeps, located_keeps, stored_keeps, value_keeps, values_keep, list_keeps, statement_keeps, GivesBytes, HasBytes, IsCallee, IsThere, IsWhole, JumpTakesOne, LeavesBytes, ParametersAreThere}
+use Rattle.meaning_laws.proofs.Prelude.{◌≡◌, ◌≢◌, ℕ, zero, suc, ◌+◌, ◌*◌, ◌%◌, ◌<◌, ◌≤◌, ◌&&◌, Bool, true, false, List, [], ◌∷◌, length, map, replicate, cond, slice_get, slice_index, Option, Some, None, IsSomeAnd, if◌then◌else◌, refl, sym, ap, subst, ◌∙◌, arith, one-mul, option_map, eq-eqb, ltb-true, length-replicate, All-weaker, get_or_from_slice_get, slice_get-map, MEMORY_SIZE, ScalarType, Address, Visibility, AreParameters, home_of_parameters, IsScalar, IsScalarOf, count_of, size_of_element, size_of_object, size_of_scalar, IsStorable, TypedExpression, TypedArguments, TypedReference, PartOf, Subscript, NoSubscript, At, TypedTarget, TypedIteration, TypedStatement, TypedList, Home, InData, InConstants, Placed, BasedOn, Elsewhere, Nowhere, InFrame, ObjectType, TypedObject, TypedProcedure, TypedModule, Within, WithinProcedure, WithinMain, LiesFor, IsSeen, RefersToScalar, Counts, IsSoundlyTyped, InProgram, starting_memory, starts_as, Place, InMemory, Surroundings, address_of, frame_bytes, home_of, place_in, place_of, read_scalar, Displacement, Later, based_place, displaced, displacement, done, done_list, frame_of, is_frame_of, later_by, located, parameters_set, stored, value, values, Program, State, Outcome, Gave, Stopped, Flow, Onward, Returned, Jumped, then_do, Continues, Extra, Keeps, jump_took, nothing_else, reads_scalar, later_keeps, sets_parameters, displacement_keeps, located_keeps, stored_keeps, value_keeps, values_keep, list_keeps, statement_keeps, GivesBytes, HasBytes, IsCallee, IsThere, IsWhole, JumpTakesOne, LeavesBytes, ParametersAreThere, and_parts, remainder_in_memory}
 use Rattle.typed_trees.specs.declared.parts.Visibility.TheVariants as visibilities
 use Rattle.typed_trees.proofs.Inside.{LiesAt, scalar_lies_within}
 use Rattle.meaning_laws.proofs.Names.{home_there}
@@ -129,19 +129,12 @@ parameters_leave_bytes around typed within scalars parameters arguments s has =
     leaves_bytes around.program nothing_else typed within s (parameters_set around scalars parameters arguments s)
     (sets_parameters scalars parameters arguments around s) has
 
-wrapped : (address : ℕ) → address % MEMORY_SIZE < MEMORY_SIZE
-wrapped address = omega arith
-
 scalar_size : (scalar : ScalarType) (object : TypedObject) → IsScalar scalar object
     → size_of_object object ≡ size_of_scalar scalar
 scalar_size scalar object is =
     ap (λ (dimension : Option ℕ). count_of dimension * size_of_element object.object_type) is.0
     ∙ ap (λ (object_type : ObjectType). 1 * size_of_element object_type) is.1
     ∙ one-mul (size_of_scalar scalar)
-
-both_hold : (one other : Bool) → (one && other) ≡ true → (one ≡ true) × (other ≡ true)
-both_hold true other both = (refl, both)
-both_hold false other both = absurd cc
 
 module _ (around : Surroundings) (typed : TypedModule) (within : Within)
     (here : slice_get around.program.modules around.number_of_module ≡ Some typed) where
@@ -154,7 +147,7 @@ module _ (around : Surroundings) (typed : TypedModule) (within : Within)
       (sym (home_there around typed object found here is)) (by found.home refl lies)
     where
       in_memory : ((address_of around object + 0) % MEMORY_SIZE < MEMORY_SIZE) × (length s.memory ≡ MEMORY_SIZE)
-      in_memory = (wrapped (address_of around object + 0), has.memory)
+      in_memory = (remainder_in_memory (address_of around object + 0), has.memory)
 
       by : (home : Home) → found.home ≡ home → LiesFor within home
           → IsThere (size_of_scalar scalar) (place_in home around object 0 true) s
@@ -265,7 +258,7 @@ module _ (number : ℕ) (around : Surroundings) (typed : TypedModule) (within : 
       → HasBytes typed within s
       → GivesBytes size (then_do outcome (λ start t. Gave (InMemory ((start + bytes) % MEMORY_SIZE)) t))
   base_gives bytes s (Gave start t) kept has =
-      (wrapped (start + bytes), (bytes_kept around.program typed within s t kept.0 has).memory)
+      (remainder_in_memory (start + bytes), (bytes_kept around.program typed within s t kept.0 has).memory)
   base_gives bytes s (Stopped why t) kept has = tt
 
   place_gives : (bytes : ℕ) (is_inside : Bool) (s : State) → HasBytes typed within s
@@ -276,7 +269,7 @@ module _ (number : ℕ) (around : Surroundings) (typed : TypedModule) (within : 
       (sym (home_there around typed object found here is)) (by found.home refl seen)
     where
       in_memory : ((address_of around object + bytes) % MEMORY_SIZE < MEMORY_SIZE) × (length s.memory ≡ MEMORY_SIZE)
-      in_memory = (wrapped (address_of around object + bytes), has.memory)
+      in_memory = (remainder_in_memory (address_of around object + bytes), has.memory)
 
       by : (home : Home) → found.home ≡ home → IsSeen typed within home
           → GivesBytes size (based_place home around object bytes is_inside s)
@@ -315,7 +308,7 @@ module _ (number : ℕ) (around : Surroundings) (typed : TypedModule) (within : 
       (one.bytes + offset + two.bytes) (one.is_inside && two.is_inside) u
       (bytes_kept around.program typed within t u kept.0 has)
       (λ inside.
-      let each = both_hold one.is_inside two.is_inside inside in
+      let each = and_parts one.is_inside two.is_inside inside in
       scalar_lies_within found scalar object subscript member offset member_subscript one.bytes two.bytes its
       (lies each.0) (lies_too each.1))
   second_gives one t (Stopped why u) lies has kept lies_too = tt

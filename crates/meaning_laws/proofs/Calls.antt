@@ -1,7 +1,7 @@
 -- What is called is there, with an object for each parameter; and what has a location is in memory.
-use Rattle.meaning_laws.proofs.Prelude.{◌≡◌, ◌≢◌, ℕ, zero, suc, ◌+◌, ◌%◌, ◌&&◌, Bool, true, List, [], ◌∷◌, length, Option, Some, None, IsSomeAnd, slice_get, refl, sym, ap, subst, ◌∙◌, arith, option_map, AllByRecursion, enumerate_from, option_and_then, recursion_from_All, none-some, MEMORY_SIZE, ScalarType, Address, Visibility, AreParameters, HasParameters, home_of_parameters, IsPartOf, TypedArguments, NoArguments, MoreArguments, TypedReference, PartOf, Home, InData, InConstants, Placed, BasedOn, Elsewhere, Nowhere, InFrame, TypedObject, TypedProcedure, TypedModule, HasLocation, IsSeen, RefersToLocation, Takes, Within, types_of, IsSoundlyTyped, DeclaredProcedure, InProgram, agree, is_public_procedure, procedure_meant, MeansProcedure, external_procedure_meant, procedures_agree, Place, InMemory, Surroundings, home_of, place_of, read_scalar, Later, based_place, callee_in, displacement, located, procedure_at, value, values, Program, State, Outcome, Gave, Stopped, then_do, CalleeIsMeant, CallIsMeant, GivesInMemory, GivesSoMany, IsCallee, IsWhole}
+use Rattle.meaning_laws.proofs.Prelude.{◌≡◌, ◌≢◌, ℕ, zero, suc, ◌+◌, ◌%◌, ◌&&◌, Bool, true, List, [], ◌∷◌, length, Option, Some, None, IsSomeAnd, slice_get, refl, sym, ap, subst, ◌∙◌, arith, option_map, AllByRecursion, enumerate_from, option_and_then, recursion_from_All, none-some, MEMORY_SIZE, ScalarType, Address, Visibility, AreParameters, HasParameters, home_of_parameters, IsPartOf, TypedArguments, NoArguments, MoreArguments, TypedReference, PartOf, Home, InData, InConstants, Placed, BasedOn, Elsewhere, Nowhere, InFrame, TypedObject, TypedProcedure, TypedModule, HasLocation, IsSeen, RefersToLocation, Takes, Within, types_of, IsSoundlyTyped, DeclaredProcedure, InProgram, agree, is_public_procedure, procedure_meant, MeansProcedure, external_procedure_meant, procedures_agree, Place, InMemory, Surroundings, home_of, place_of, read_scalar, Later, based_place, callee_in, displacement, located, procedure_at, value, values, Program, State, Outcome, Gave, Stopped, then_do, CalleeIsMeant, CallIsMeant, GivesInMemory, GivesSoMany, IsCallee, IsWhole, zero-add, at_place, not_external}
 use Rattle.typed_trees.specs.declared.parts.Visibility.TheVariants as visibilities
-use Rattle.meaning_laws.proofs.Names.{globals_listed, home_there, of_module}
+use Rattle.meaning_laws.proofs.Names.{globals_listed, home_there}
 
 -- the parameters of a procedure of a module
 parameters_typed : (typed : TypedModule) (from : ℕ) (procedures : List TypedProcedure)
@@ -37,14 +37,6 @@ public_differs same = cc
 private_differs : visibilities.Private ≢ visibilities.External
 private_differs same = cc
 
-public_is_own : (visibility : Visibility) → is_public_procedure visibility ≡ true → visibility ≢ visibilities.External
-public_is_own visibilities.External is = absurd cc
-public_is_own visibilities.Public is = public_differs
-public_is_own visibilities.Private is = absurd cc
-
-counted : (number : ℕ) → 0 + number ≡ number
-counted number = omega arith
-
 -- what is called by a heading, at a place of a program
 abbrev HeadsAt : Program → (heading : TypedProcedure) → InProgram → Type 0
 HeadsAt program heading at =
@@ -61,7 +53,7 @@ module _ (program : Program) (whole : IsWhole program) where
       → HeadsAt program heading at
   heads at its found heading is there own same =
       let sound : IsSoundlyTyped its =
-      of_module IsSoundlyTyped program.modules at.number_of_module its
+      at_place IsSoundlyTyped program.modules at.number_of_module its
       (recursion_from_All IsSoundlyTyped program.modules whole.sound) is in
       let place : procedure_at program.modules at ≡ Some (its, found) =
       ap (λ (entry : Option TypedModule).
@@ -83,7 +75,7 @@ module _ (program : Program) (whole : IsWhole program) where
         parameters = subst
             (λ (number : ℕ).
             AreParameters its (home_of_parameters number found.is_reentrant found.visibility) found.parameter_types
-            found.parameters) (counted at.number)
+            found.parameters) (zero-add at.number)
             (parameters_typed its 0 its.procedures
             (recursion_from_All _ (enumerate_from 0 its.procedures) (sound.parameters).procedures) at.number found
             there);
@@ -104,7 +96,7 @@ module _ (program : Program) (whole : IsWhole program) where
       by_procedure its None is there means = absurd means
       by_procedure its (Some public) is there means =
           let same = procedures_agree heading public means.1 in
-          heads at its public heading is there (public_is_own public.visibility means.0) (sym same.0, sym same.1)
+          heads at its public heading is there (not_external public.visibility means.0) (sym same.0, sym same.1)
 
       by_module : (entry : Option TypedModule)
           → slice_get program.modules at.number_of_module ≡ entry

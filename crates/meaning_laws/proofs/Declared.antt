@@ -1,9 +1,5 @@
 -- The bytes of an object that has a place are declared.
-use Rattle.meaning_laws.proofs.Prelude.{◌≡◌, ℕ, zero, suc, ◌+◌, ◌<◌, Bool, true, false, ◌||◌, List, [], ◌∷◌, length, zip, filter_map, flat_map, map, slice_get, Option, Some, None, refl, sym, ap, subst, ◌∙◌, arith, option_map, slice_index, cons_option, list_any, list_any-append, none-some, MEMORY_SIZE, size_of_object, HasPlace, Home, InData, InConstants, Placed, BasedOn, Elsewhere, Nowhere, InFrame, TypedObject, TypedModule, AtPiece, ConstantPiece, EndsInMemory, IsDeclared, ModulePlacement, PieceKind, PlacedPiece, Placement, StaticPiece, holds_byte, is_declared, kind_of, list_piece, object_piece, piece_of, pieces_of_module, IsLawful, Decides-declared, Decides-holds}
-
-either_true : (one other : Bool) → other ≡ true → (one || other) ≡ true
-either_true true other is = refl
-either_true false other is = is
+use Rattle.meaning_laws.proofs.Prelude.{◌≡◌, ℕ, zero, suc, ◌+◌, ◌<◌, Bool, true, ◌||◌, List, [], ◌∷◌, length, zip, filter_map, flat_map, map, slice_get, Option, Some, None, refl, sym, ap, subst, ◌∙◌, arith, option_map, slice_index, cons_option, list_any, list_any-append, none-some, MEMORY_SIZE, size_of_object, HasPlace, Home, InData, InConstants, Placed, BasedOn, Elsewhere, Nowhere, InFrame, TypedObject, TypedModule, AtPiece, ConstantPiece, EndsInMemory, IsDeclared, ModulePlacement, PieceKind, PlacedPiece, Placement, StaticPiece, holds_byte, is_declared, kind_of, list_piece, object_piece, piece_of, pieces_of_module, IsLawful, Decides-declared, Decides-holds, or_right}
 
 -- among the pieces of a module
 later_has : (address : ℕ) (found : Option PlacedPiece) (rest : List PlacedPiece)
@@ -11,7 +7,7 @@ later_has : (address : ℕ) (found : Option PlacedPiece) (rest : List PlacedPiec
     → list_any (holds_byte address) (cons_option found rest) ≡ true
 later_has address None rest is = is
 later_has address (Some piece) rest is =
-    either_true (holds_byte address piece) (list_any (holds_byte address) rest) is
+    or_right (holds_byte address piece) (list_any (holds_byte address) rest) is
 
 object_has : (address : ℕ) (objects : List TypedObject) (addresses : List ℕ) (number : ℕ) (object : TypedObject)
     (kind : PieceKind)
@@ -68,7 +64,7 @@ program_has address (first ∷ modules) (start ∷ placements) zero typed placed
 program_has address (first ∷ modules) (start ∷ placements) (suc number) typed placed its is has =
     list_any-append (holds_byte address) (pieces_of_module (first, start))
     (flat_map pieces_of_module (zip modules placements))
-    ∙ either_true (list_any (holds_byte address) (pieces_of_module (first, start)))
+    ∙ or_right (list_any (holds_byte address) (pieces_of_module (first, start)))
     (list_any (holds_byte address) (flat_map pieces_of_module (zip modules placements)))
     (program_has address modules placements number typed placed its is has)
 

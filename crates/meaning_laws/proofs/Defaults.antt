@@ -1,5 +1,5 @@
 -- No case of the meaning that is there for trees that no source has is taken in a program.
-use Rattle.meaning_laws.proofs.Prelude.{◌≡◌, ℕ, ◌<◌, List, [], length, replicate, Some, slice_get, refl, sym, subst, All, length-replicate, All-weaker, recursion_from_All, MEMORY_SIZE, Address, ListStands, IsStorable, TypedStatements, TypedList, ListOf, TypedModule, Within, IsSoundlyTyped, Placement, StartsAs, starting_memory, starts_as, Surroundings, rest_from, Program, State, later_is_meant, rest_at, HasBytes, IsWhole, IsPlaceable}
+use Rattle.meaning_laws.proofs.Prelude.{◌≡◌, ℕ, ◌<◌, List, [], length, replicate, Some, slice_get, refl, sym, subst, All, length-replicate, All-weaker, recursion_from_All, MEMORY_SIZE, Address, ListStands, IsStorable, TypedStatements, TypedList, ListOf, TypedModule, Within, IsSoundlyTyped, Placement, StartsAs, starting_memory, starts_as, Surroundings, rest_from, Program, State, later_is_meant, rest_at, HasBytes, IsWhole, IsPlaceable, at_place}
 use Rattle.meaning_laws.specs.Defaults.{BeginsWith, BeginsWithAll, FindsBytes, KeepsBytes, TakesNoDefault, TakesNoDefaultIn}
 use Rattle.meaning_laws.proofs.Bytes.{callee_has_bytes, counter_is_there, jump_takes_one, list_leaves_bytes, location_leaves_bytes, main_has_bytes, parameters_leave_bytes, scalar_is_there, statement_leaves_bytes, store_leaves_bytes, value_leaves_bytes, values_leave_bytes, variable_is_there}
 use Rattle.meaning_laws.proofs.Calls.{location_is_in_memory, values_are_counted}
@@ -7,7 +7,6 @@ use Rattle.meaning_laws.proofs.Declared.{declared_in_memory}
 use Rattle.meaning_laws.proofs.Leaving.{main_is_left, procedure_is_left}
 use Rattle.meaning_laws.proofs.Mains.{main_is_there}
 use Rattle.meaning_laws.proofs.Named.{names_are_meant}
-use Rattle.meaning_laws.proofs.Names.{of_module}
 use Rattle.meaning_laws.proofs.Places.{locations_lie, objects_lie}
 
 -- the rest of a list from a label on begins with the label
@@ -46,7 +45,7 @@ module _ (around : Surroundings) (typed : TypedModule)
   in_module : IsWhole around.program → All IsPlaceable around.program.modules → TakesNoDefaultIn around typed
   in_module whole placeable =
       let sound : IsSoundlyTyped typed =
-      of_module IsSoundlyTyped around.program.modules around.number_of_module typed
+      at_place IsSoundlyTyped around.program.modules around.number_of_module typed
       (recursion_from_All IsSoundlyTyped around.program.modules whole.sound) here in
       record {
         types = sound.types;

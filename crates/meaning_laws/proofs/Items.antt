@@ -1,14 +1,10 @@
 -- An item that is PUBLIC has a place.
-use Rattle.meaning_laws.proofs.Prelude.{◌≡◌, ℕ, Bool, true, false, List, Option, Some, None, cond, refl, is_none, ◌&&◌, option_map_or, Linkage, Public, External, Identifier, ItemTree, SubjectTree, AtAddress, InitialValue, HasPlace, BasedOn, Elsewhere, Placed, Block, Owner, OfProcedure, TheModule, is_external_linkage, is_module, is_module_level, is_public_linkage, TypedItem, base_of, check_linkage, extents_of, home_with_values, is_data, typed_at, typed_base, typed_contents, typed_item, typed_type, Known, Gives, gives_after, gives_ok, in_turn, required, then_more}
+use Rattle.meaning_laws.proofs.Prelude.{◌≡◌, ℕ, Bool, true, false, List, Option, Some, None, cond, refl, is_none, ◌&&◌, option_map_or, Linkage, Public, External, Identifier, ItemTree, SubjectTree, AtAddress, InitialValue, HasPlace, BasedOn, Elsewhere, Placed, Block, Owner, OfProcedure, TheModule, is_external_linkage, is_module, is_module_level, is_public_linkage, TypedItem, base_of, check_linkage, extents_of, home_with_values, is_data, typed_at, typed_base, typed_contents, typed_item, typed_type, Known, Gives, gives_after, gives_ok, in_turn, required, then_more, and_parts}
 
 -- where what is shared may stand: in the module itself, and without BASED
 record MayBeShared (owner : Owner) (base : Option Identifier) : Type 0 where
   in_module : is_module owner ≡ true
   no_base : is_none base ≡ true
-
-both_hold : (one other : Bool) → (one && other) ≡ true → (one ≡ true) × (other ≡ true)
-both_hold true other e = (refl, e)
-both_hold false other e = absurd cc
 
 linkage_stands :
     (block : Block) (item : ItemTree) (linkage : Option Linkage)
@@ -17,8 +13,8 @@ linkage_stands :
 linkage_stands block item None = gives_ok (λ public. absurd cc)
 linkage_stands block item (Some linkage) =
     then_more (required (is_module_level block && is_none (base_of item.subject)) _ _) λ _ is public.
-    let level = both_hold (is_module_level block) (is_none (base_of item.subject)) is in
-    record { in_module = (both_hold (is_module block.owner) block.is_own level.0).0; no_base = level.1 }
+    let level = and_parts (is_module_level block) (is_none (base_of item.subject)) is in
+    record { in_module = (and_parts (is_module block.owner) block.is_own level.0).0; no_base = level.1 }
 
 -- what is BASED on nothing
 base_is : (known : Known) (block : Block) (subject : SubjectTree) (base : Option Identifier)

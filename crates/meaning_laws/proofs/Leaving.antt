@@ -1,6 +1,5 @@
 -- No procedure is left by a jump, and a main program is left at its end alone.
-use Rattle.meaning_laws.proofs.Prelude.{◌≡◌, ℕ, zero, suc, ◌+◌, ◌-◌, ◌==◌, Bool, true, false, List, [], slice_get, nat_le, nat_lt, Option, Some, None, cond, refl, subst, recursion_from_All, BodyIsSound, JumpsAreSound, TypedExpression, TypedIteration, TypedStatement, LabelStatement, NullStatement, AssignmentStatement, CallStatement, MoveStatement, ReturnStatement, HaltStatement, GotoStatement, IfStatement, DoStatement, WhileStatement, IterateStatement, CaseStatement, TypedElse, NoElse, ElseStatement, TypedStatements, NoStatements, MoreStatements, TypedList, ListOf, TypedModule, TypedProcedure, IsReturned, IsWellTyped, TypesHoldIn, TypesHoldInElse, TypesHoldInList, TypesHoldInStatements, WithinMain, as_type, is_true, values_of, Surroundings, Later, Turn, WhileTurn, IterateTurn, after_turn, called_for, callee_in, caught_in, done, done_all, done_case, done_else, done_list, dropped, going_on, iterated, landed, later_by, moved, read_variable, rest_from, rest_of, returned, step_value, stepped, stored_in_each, turn_of, value, values, write_variable, State, Outcome, Gave, Stopped, then_do, taking_one, Flow, Onward, Returned, Jumped, body_of_turn, Stays, body_stays, no_jump, rest_is_dropped, Leaves, LeavesMain, LeavesProcedure}
-use Rattle.meaning_laws.proofs.Names.{of_module}
+use Rattle.meaning_laws.proofs.Prelude.{◌≡◌, ℕ, zero, suc, ◌+◌, ◌-◌, ◌==◌, Bool, true, false, List, [], slice_get, nat_le, nat_lt, Option, Some, None, cond, refl, subst, recursion_from_All, BodyIsSound, JumpsAreSound, TypedExpression, TypedIteration, TypedStatement, LabelStatement, NullStatement, AssignmentStatement, CallStatement, MoveStatement, ReturnStatement, HaltStatement, GotoStatement, IfStatement, DoStatement, WhileStatement, IterateStatement, CaseStatement, TypedElse, NoElse, ElseStatement, TypedStatements, NoStatements, MoreStatements, TypedList, ListOf, TypedModule, TypedProcedure, IsReturned, IsWellTyped, TypesHoldIn, TypesHoldInElse, TypesHoldInList, TypesHoldInStatements, WithinMain, as_type, is_true, values_of, Surroundings, Later, Turn, WhileTurn, IterateTurn, after_turn, called_for, callee_in, caught_in, done, done_all, done_case, done_else, done_list, dropped, going_on, iterated, landed, later_by, moved, read_variable, rest_from, rest_of, returned, step_value, stepped, stored_in_each, turn_of, value, values, write_variable, State, Outcome, Gave, Stopped, then_do, taking_one, Flow, Onward, Returned, Jumped, body_of_turn, Stays, body_stays, no_jump, rest_is_dropped, Leaves, LeavesMain, LeavesProcedure, at_place}
 
 not_jumped : (outcome : Outcome Flow) → Stays [] outcome → Leaves LeavesProcedure outcome
 not_jumped (Gave Onward t) stays = tt
@@ -15,7 +14,7 @@ pub procedure_is_left : (typed : TypedModule) (number : ℕ) (procedure : TypedP
     → Leaves LeavesProcedure (done_list (later_by count) around procedure.body s)
 procedure_is_left typed number procedure count around s sound is =
     let body : BodyIsSound procedure.body =
-    of_module (λ (one : TypedProcedure). BodyIsSound one.body) typed.procedures number procedure
+    at_place (λ (one : TypedProcedure). BodyIsSound one.body) typed.procedures number procedure
     (recursion_from_All _ typed.procedures sound.procedures) is in
     not_jumped (done_list (later_by count) around procedure.body s)
     (body_stays count procedure.body around s body.closed)

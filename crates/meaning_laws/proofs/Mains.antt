@@ -1,24 +1,5 @@
 -- A program that is joined has a main program, where its number says.
-use Rattle.meaning_laws.proofs.Prelude.{◌≡◌, ℕ, suc, ◌+◌, ◌==◌, Bool, true, false, List, [], ◌∷◌, Option, Some, None, IsSomeAnd, cond, find, slice_get, if◌then◌else◌, refl, sym, ap, subst, ◌∙◌, arith, eqb-true, count_by, position_from, option_map_or, option_or, position_from-zero, sum_by-cons, none-some, TypedModule, IsJoined, NotOneMain, declared_otherwise, is_main, join_refusal, not_one_main, public_twice, without_public, Program, number_of_main, HasMain, IsWhole}
-
-none_of_two : {A : Type 0} (first second : Option A) → option_or first second ≡ None → (first ≡ None) × (second ≡ None)
-none_of_two None second none = (refl, none)
-none_of_two (Some value) second none = absurd (none-some value (sym none))
-
-main_counted : (modules : List TypedModule) → IsJoined modules → count_by is_main modules ≡ 1
-unfolding join_refusal
-main_counted modules joined =
-    let first = none_of_two (without_public modules)
-    (option_or (public_twice modules) (option_or (declared_otherwise modules) (not_one_main modules))) joined in
-    let second = none_of_two (public_twice modules) (option_or (declared_otherwise modules) (not_one_main modules))
-    first.1 in
-    let third = none_of_two (declared_otherwise modules) (not_one_main modules) second.1 in
-    by (count_by is_main modules == 1) refl third.1
-  where
-    by : (one : Bool) → (count_by is_main modules == 1) ≡ one → (if one then None else Some NotOneMain) ≡ None
-        → count_by is_main modules ≡ 1
-    by true e none = eqb-true (count_by is_main modules) 1 e
-    by false e none = absurd (none-some NotOneMain (sym none))
+use Rattle.meaning_laws.proofs.Prelude.{◌≡◌, ℕ, suc, ◌+◌, Bool, true, false, List, [], ◌∷◌, Option, Some, None, IsSomeAnd, cond, find, slice_get, refl, sym, ap, subst, ◌∙◌, arith, count_by, position_from, option_map_or, position_from-zero, sum_by-cons, none-some, TypedModule, is_main, Program, number_of_main, HasMain, IsWhole, main_counted}
 
 -- one for what is counted
 abbrev one_if : Bool → ℕ

@@ -1,8 +1,8 @@
 -- What the statements and expressions of a soundly typed module name is there.
-use Rattle.meaning_laws.proofs.Prelude.{◌≡◌, List, [], ◌∷◌, Option, Some, None, slice_get, IfSome, enumerate_from, All-weaker, recursion_from_All, ScalarType, type_of, TypedExpression, NumberNode, ValueNode, LocationNode, ListNode, ConversionNode, AssignmentNode, UnaryNode, BinaryNode, CallNode, FunctionNode, ShiftNode, InputNode, TypedReference, PartOf, Subscript, NoSubscript, At, TypedTarget, StoredIn, SentTo, TypedArguments, NoArguments, MoreArguments, TypedIteration, TypedStatement, LabelStatement, NullStatement, AssignmentStatement, CallStatement, MoveStatement, ReturnStatement, HaltStatement, GotoStatement, IfStatement, DoStatement, WhileStatement, IterateStatement, CaseStatement, TypedElse, NoElse, ElseStatement, TypedStatements, NoStatements, MoreStatements, TypedList, ListOf, TypedModule, Within, WithinProcedure, WithinMain, IsReturned, TypesHold, TypesHoldIn, TypesHoldInArguments, TypesHoldInElse, TypesHoldInHead, TypesHoldInList, TypesHoldInProcedure, TypesHoldInReference, TypesHoldInStatements, TypesHoldInSubscript, TypesHoldInTarget, TypesHoldInTargets, IsSoundlyTyped, Surroundings, IsWhole, ReferenceIsMeant}
+use Rattle.meaning_laws.proofs.Prelude.{◌≡◌, List, [], ◌∷◌, Option, Some, None, slice_get, IfSome, enumerate_from, All-weaker, recursion_from_All, ScalarType, type_of, TypedExpression, NumberNode, ValueNode, LocationNode, ListNode, ConversionNode, AssignmentNode, UnaryNode, BinaryNode, CallNode, FunctionNode, ShiftNode, InputNode, TypedReference, PartOf, Subscript, NoSubscript, At, TypedTarget, StoredIn, SentTo, TypedArguments, NoArguments, MoreArguments, TypedIteration, TypedStatement, LabelStatement, NullStatement, AssignmentStatement, CallStatement, MoveStatement, ReturnStatement, HaltStatement, GotoStatement, IfStatement, DoStatement, WhileStatement, IterateStatement, CaseStatement, TypedElse, NoElse, ElseStatement, TypedStatements, NoStatements, MoreStatements, TypedList, ListOf, TypedModule, Within, WithinProcedure, WithinMain, IsReturned, TypesHold, TypesHoldIn, TypesHoldInArguments, TypesHoldInElse, TypesHoldInHead, TypesHoldInList, TypesHoldInProcedure, TypesHoldInReference, TypesHoldInStatements, TypesHoldInSubscript, TypesHoldInTarget, TypesHoldInTargets, IsSoundlyTyped, Surroundings, IsWhole, ReferenceIsMeant, at_place}
 use Rattle.meaning_laws.specs.Named.{AreNamed, AreNamedIn, AreNamedInArguments, AreNamedInElse, AreNamedInHead, AreNamedInList, AreNamedInProcedure, AreNamedInReference, AreNamedInStatements, AreNamedInSubscript, AreNamedInTarget, AreNamedInTargets, NamesAreMeant}
 use Rattle.meaning_laws.proofs.Calls.{call_is_meant}
-use Rattle.meaning_laws.proofs.Names.{list_is_placed, of_module}
+use Rattle.meaning_laws.proofs.Names.{list_is_placed}
 use Rattle.meaning_laws.proofs.References.{counter_is_meant, location_is_meant, scalar_is_meant}
 
 module _ (around : Surroundings) (whole : IsWhole around.program) (typed : TypedModule) (within : Within)
@@ -135,7 +135,7 @@ module _ (around : Surroundings) (whole : IsWhole around.program) (typed : Typed
   pub names_are_meant : NamesAreMeant around typed
   names_are_meant =
       let sound : IsSoundlyTyped typed =
-      of_module IsSoundlyTyped around.program.modules around.number_of_module typed
+      at_place IsSoundlyTyped around.program.modules around.number_of_module typed
       (recursion_from_All IsSoundlyTyped around.program.modules whole.sound) here in
       record {
         procedures = All-weaker (TypesHoldInProcedure typed) (AreNamedInProcedure around typed)

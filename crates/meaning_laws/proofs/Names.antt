@@ -6,13 +6,6 @@ pub globals_listed : (program : Program) → IsWhole program → All ListsGlobal
 globals_listed program whole =
     All-weaker IsSoundlyTyped ListsGlobals (λ typed sound. sound.globals) program.modules whole.sound
 
--- what holds of each module, of the module of a number
-pub of_module : {X : Type 0} (P : X → Type 0) (all : List X) (number : ℕ) (one : X)
-    → AllByRecursion P all → slice_get all number ≡ Some one → P one
-of_module P [] number one holds is = absurd (none-some one is)
-of_module P (first ∷ others) zero one holds is = let same : first ≡ one = cc in subst P same holds.0
-of_module P (first ∷ others) (suc number) one holds is = of_module P others number one holds.1 is
-
 -- where the meaning has an object of a module
 pub home_there : (around : Surroundings) (typed : TypedModule) (object : ℕ) (found : TypedObject)
     → slice_get around.program.modules around.number_of_module ≡ Some typed

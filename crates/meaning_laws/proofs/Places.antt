@@ -1,8 +1,8 @@
 -- What each object of a program stands for that is not BASED, in a frame or nowhere lies somewhere, and so does what
 -- INITIAL and DATA locate.
-use Rattle.meaning_laws.proofs.Prelude.{◌≡◌, ℕ, ◌+◌, ◌<◌, true, length, Option, Some, None, IsSomeAnd, slice_get, refl, sym, ap, subst, ◌∙◌, arith, All, slice_index, option_and_then, option_map_or, All-weaker, recursion_from_All, slice_get_within, ByteValue, WordValue, LocationValue, InitialValue, HasPlace, Home, InData, InConstants, Placed, BasedOn, Elsewhere, Nowhere, InFrame, TypedObject, TypedModule, DeclaredObject, InProgram, agree, object_meant, HasAddresses, IsDeclared, ModulePlacement, values_in, MeansObject, external_object_meant, Program, HasAddress, IsWhole, HasDeclaredBytes, IsPlaceable, LiesIfPublic, LocatesObject, LocatesObjects, LocationLies, LocationsLie, ObjectsLie, PublicsLie, StandsForBytes}
+use Rattle.meaning_laws.proofs.Prelude.{◌≡◌, ℕ, ◌+◌, ◌<◌, true, length, Option, Some, None, IsSomeAnd, slice_get, refl, sym, ap, subst, ◌∙◌, arith, All, slice_index, option_and_then, option_map_or, All-weaker, recursion_from_All, slice_get_within, ByteValue, WordValue, LocationValue, InitialValue, HasPlace, Home, InData, InConstants, Placed, BasedOn, Elsewhere, Nowhere, InFrame, TypedObject, TypedModule, DeclaredObject, InProgram, agree, object_meant, HasAddresses, IsDeclared, ModulePlacement, values_in, MeansObject, external_object_meant, Program, HasAddress, IsWhole, HasDeclaredBytes, IsPlaceable, LiesIfPublic, LocatesObject, LocatesObjects, LocationLies, LocationsLie, ObjectsLie, PublicsLie, StandsForBytes, at_place}
 use Rattle.meaning_laws.proofs.Declared.{bytes_declared}
-use Rattle.meaning_laws.proofs.Names.{globals_listed, module_placed, of_module}
+use Rattle.meaning_laws.proofs.Names.{globals_listed, module_placed}
 
 module _ (program : Program) (whole : IsWhole program) where
   -- an object that has a place
@@ -60,10 +60,10 @@ module _ (program : Program) (whole : IsWhole program) where
         by_object its None is there means = absurd means
         by_object its (Some public) is there means =
             let all : PublicsLie its =
-            of_module PublicsLie program.modules at.number_of_module its
+            at_place PublicsLie program.modules at.number_of_module its
             (recursion_from_All PublicsLie program.modules lie) is in
             has_bytes at its public is there
-            (of_module LiesIfPublic its.objects at.number public (recursion_from_All LiesIfPublic its.objects all) there
+            (at_place LiesIfPublic its.objects at.number public (recursion_from_All LiesIfPublic its.objects all) there
             means.0)
 
         by_module : (entry : Option TypedModule)
@@ -151,7 +151,7 @@ module _ (program : Program) (whole : IsWhole program) (placeable : All IsPlacea
   pub locations_lie : LocationsLie program number typed
   locations_lie =
       let is : IsPlaceable typed =
-      of_module IsPlaceable program.modules number typed
+      at_place IsPlaceable program.modules number typed
       (recursion_from_All IsPlaceable program.modules placeable) its in
       All-weaker (LocatesObjects typed.objects)
       (λ (object : TypedObject). All (LocationLies program number typed) (values_in object.home))

@@ -1,3 +1,9 @@
+pub mod Numbers
+pub mod Booleans
+pub mod Results
+pub mod Lists
+pub mod ByteLists
+pub mod Options
 pub mod MemoryLemmas
 pub mod Sums
 pub mod Ranges

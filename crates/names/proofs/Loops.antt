@@ -1,6 +1,5 @@
 -- Loops over lists whose items are bound one by one.
-use Rattle.names.proofs.Prelude.{◌≡◌, ℕ, ◌+◌, ◌<◌, List, length, drop, get_or, ◌∷◌, ap, sym, subst, Option, Result, Ok, Err, ◌≤◌, [], ◌∙◌, drop_of_length-le, Failure, Fault, FailsBy, Does, fault_in, bind_more}
-use Rattle.names.proofs.Lists.{drop_item}
+use Rattle.names.proofs.Prelude.{◌≡◌, ℕ, ◌+◌, ◌<◌, List, length, drop, get_or, ◌∷◌, ap, sym, subst, Option, Result, Ok, Err, ◌≤◌, [], ◌∙◌, drop_of_length-le, Failure, Fault, FailsBy, Does, fault_in, bind_more, drop_item}
 use Rattle.names.proofs.Walks.{fails_more}
 
 -- A loop over a list, each of whose items gives a state from the one before, where all items together give `total`.

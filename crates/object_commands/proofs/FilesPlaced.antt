@@ -1,5 +1,5 @@
 -- Object files that are read and placed.
-use Rattle.object_commands.proofs.Prelude.{◌≡◌, ◌⊎◌, ℕ, List, Option, None, Some, inl, inr, refl, subst, Appends, Keeps, AppendsBeginning, Directory, HasFile, Absolute, IsPlaced, plan_view, ObjectModule, Spells, PlacesFile, PrintsHex, PrintsPlaces, StopsHex, StopsPlaces, jump_refusal, pieces_with, places_text}
+use Rattle.object_commands.proofs.Prelude.{◌≡◌, ◌⊎◌, ℕ, List, Option, None, inl, inr, subst, Appends, Keeps, AppendsBeginning, Directory, HasFile, Absolute, IsPlaced, plan_view, ObjectModule, Spells, PlacesFile, PrintsHex, PrintsPlaces, StopsHex, StopsPlaces, jump_refusal, pieces_with, places_text, Keeps-refl}
 use Rattle.hex80.specs.Texts.{BeginsText, WritesText}
 use Rattle.mem80.specs.declared.plan.Plan.{Plan}
 use Rattle.object_commands.specs.Listing.{ListsModule, PrintsListing, StopsListing}
@@ -13,16 +13,11 @@ pub prints_hex : (files : Option Directory) (name : List ℕ) (plan : Plan) (jum
 prints_hex files name plan jump object absolute old new of_file room printed =
     record { object = object; absolute = absolute; of_file = of_file; room = room; printed = printed }
 
--- a writer that nothing was sent to
-stays_written : (known : Option (List ℕ)) → Keeps known known
-stays_written None = tt
-stays_written (Some bytes) = refl
-
 pub no_places : (files : Option Directory) (name : List ℕ) (plan : Plan) (known : Option (List ℕ)) → StopsPlaces files name plan known known
-no_places files name plan known = inl (stays_written known)
+no_places files name plan known = inl (Keeps-refl known)
 
 pub no_hex : (files : Option Directory) (name : List ℕ) (plan : Plan) (jump : Option ℕ) (known : Option (List ℕ)) → StopsHex files name plan jump known known
-no_hex files name plan jump known = inl (stays_written known)
+no_hex files name plan jump known = inl (Keeps-refl known)
 
 pub stops_hex : (files : Option Directory) (name : List ℕ) (plan : Plan) (jump : Option ℕ) (object : ObjectModule) (absolute : Absolute) (old new : Option (List ℕ))
     → PlacesFile files name plan object absolute → jump_refusal plan object jump ≡ None → Keeps old new ⊎ BeginsText (pieces_with jump absolute) old new
@@ -43,7 +38,7 @@ begins_places files name plan object absolute lines old new of_file are printed 
 
 module _ (files : Option Directory) (name : List ℕ) (plan : Plan) where
   pub no_listing : (known : Option (List ℕ)) → StopsListing files name plan known known
-  no_listing known = inl (stays_written known)
+  no_listing known = inl (Keeps-refl known)
 
   pub prints_listing : (object : ObjectModule) (absolute : Absolute) (text lines : List ℕ) (old new : Option (List ℕ)) → PlacesFile files name plan object absolute
       → ListsModule plan object absolute text → lines ≡ text → Appends old new lines → PrintsListing files name plan old new

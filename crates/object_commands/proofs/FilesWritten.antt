@@ -1,13 +1,7 @@
 -- Files that are written, and those that stay.
-use Rattle.object_commands.proofs.Prelude.{◌≡◌, ℕ, ◌+◌, ◌<◌, ◌≤◌, Bool, true, false, List, [], ◌++◌, Option, None, Some, inl, inr, length, take, drop, refl, sym, ap, subst, ◌∙◌, arith, unwrap_or, if◌then◌else◌, bytes_eq, Decides, common_steps, bytes_eq-Decides, take-add, take-length, take-append-drop, BeginsFile, ChangesFiles, Directory, GrowsFile, KeepsFiles, with_file, text_of, IsBeginning, HasFiles, stays_on}
+use Rattle.object_commands.proofs.Prelude.{◌≡◌, ℕ, ◌+◌, ◌<◌, ◌≤◌, Bool, true, false, List, [], ◌++◌, Option, None, Some, inl, inr, length, take, drop, refl, sym, ap, subst, ◌∙◌, arith, unwrap_or, if◌then◌else◌, bytes_eq, bytes_eq-Decides, take-add, take-length, take-append-drop, BeginsFile, ChangesFiles, Directory, GrowsFile, KeepsFiles, with_file, text_of, IsBeginning, HasFiles, stays_on}
 use Rattle.link.specs.Streams.{Merges, WritesMerge}
 use Rattle.object_commands.specs.Linking.{KeepsOthers, LinksFiles, MergesTo, StopsLinking, StopsWriting}
-
-decided : (t : Bool) (P : Type 0) → Decides t P → P → t ≡ true
-decided t P h p = grind (arith, common_steps)
-
-eq_itself : (xs : List ℕ) → bytes_eq xs xs ≡ true
-eq_itself xs = decided (bytes_eq xs xs) (xs ≡ xs) (bytes_eq-Decides xs xs) refl
 
 -- a file that was begun is empty
 pub begun : (old new : Option Directory) (name bytes : List ℕ) → BeginsFile old new name → ChangesFiles old new (with_file name (take 0 bytes))
@@ -18,7 +12,7 @@ with_more : (old now new : Directory) (name xs ys : List ℕ) → ((other : List
 with_more old now new name xs ys before after other = after other ∙ go (bytes_eq other name) refl
   where
     here : now name ≡ Some xs
-    here = before name ∙ rw (eq_itself name) refl
+    here = before name ∙ rw ((bytes_eq-Decides name name).1 refl) refl
 
     go : (t : Bool) → bytes_eq other name ≡ t → with_file name (unwrap_or (now name) [] ++ ys) now other ≡ with_file name (xs ++ ys) old other
     go true e = rw (e, here) refl

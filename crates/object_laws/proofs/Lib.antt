@@ -1,4 +1,6 @@
 mod Prelude
+pub mod Booleans
+pub mod BorrowedNames
 pub mod Files
 pub mod Texts
 pub mod Merges

@@ -1,6 +1,7 @@
 -- What bytes begin with, once it is read, is spelled by them.
-use Rattle.object_modules.proofs.Prelude.{◌≡◌, ℕ, zero, suc, ◌+◌, ◌*◌, ◌≤◌, min, ◌==◌, nat_le, List, [], ◌∷◌, ◌++◌, length, take, drop, flat_map, Option, Some, None, option_map, refl, ap, sym, subst, ◌∙◌, arith, eqb-true, leb-true, length-take, take-append-drop, append_assoc, none-some, same_Some, cond_some, option_and_then_some, some_pair_parts, word_bytes, IsBytes, find_passes, word_is, Segment, Absolute, Code, Data, Stack, FixKind, Low, High, Both, SegmentEntry, Reference, segment_number, fix_kind_number, name_bytes, listed_name_bytes, segment_entry_bytes, definition_bytes, reference_bytes}
+use Rattle.object_modules.proofs.Prelude.{◌≡◌, ℕ, zero, suc, ◌+◌, ◌*◌, ◌≤◌, min, ◌==◌, nat_le, List, [], ◌∷◌, ◌++◌, length, take, drop, flat_map, Option, Some, ap, sym, subst, ◌∙◌, arith, eqb-true, leb-true, length-take, take-append-drop, append_assoc, none-some, same_Some, cond_some, option_and_then_some, some_pair_parts, word_bytes, IsBytes, find_passes, word_is, Segment, Absolute, Code, Data, Stack, FixKind, Low, High, Both, SegmentEntry, Reference, segment_number, fix_kind_number, name_bytes, listed_name_bytes, segment_entry_bytes, definition_bytes, reference_bytes, bytes_drop}
 use Rattle.object_modules.specs.Reading.{Front, segment_of, fix_kind_of, word_in_front, name_in_front, ended_name, listed_name_in_front, definition_in_front, words_in, references_in, segment_entries_in, at_most, all_in}
+pub use Rattle.mem80.proofs.Options.{option_map_some}
 
 -- what is read from the front of bytes is what they begin with
 abbrev pub ReadsBack : {A : Type 0} → (A → List ℕ) → (List ℕ → Front A) → Type 0
@@ -17,12 +18,6 @@ back_by spell bytes y x others rest spelled all is =
     let p : (y ≡ x) × (others ≡ rest) = some_pair_parts y x others rest is in
     (spelled ∙ ap (λ z. spell z ++ others) p.0 ∙ ap (λ r. spell x ++ r) p.1, subst IsBytes p.1 all)
 
-pub option_map_some :
-    {A B P : Type 0} (f : A → B) (o : Option A) (y : B) → option_map f o ≡ Some y
-    → ((x : A) → o ≡ Some x → f x ≡ y → P) → P
-option_map_some f None y h k = absurd (none-some y h)
-option_map_some f (Some x) y h k = k x refl (same_Some (f x) y h)
-
 pub segment_is : (number : ℕ) (segment : Segment) → segment_of number ≡ Some segment → segment_number segment ≡ number
 segment_is number segment h = eqb-true (segment_number segment) number
     (find_passes (λ s. segment_number s == number) (Absolute ∷ Code ∷ Data ∷ Stack ∷ []) segment h)
@@ -37,11 +32,6 @@ word_back (low ∷ []) x rest all h = absurd (none-some (x, rest) h)
 word_back (low ∷ high ∷ others) x rest all h =
     back_by word_bytes (low ∷ high ∷ others) (low + 256 * high) x others rest
     (ap (λ w. w ++ others) (sym (word_is low high all.0 all.1.0))) all.1.1 h
-
-bytes_drop : (n : ℕ) (bytes : List ℕ) → IsBytes bytes → IsBytes (drop n bytes)
-bytes_drop zero bytes all = all
-bytes_drop (suc n) [] all = all
-bytes_drop (suc n) (byte ∷ others) all = bytes_drop n others all.1
 
 pub name_back : ReadsBack name_bytes name_in_front
 name_back [] x rest all h = absurd (none-some (x, rest) h)

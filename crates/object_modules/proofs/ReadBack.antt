@@ -1,8 +1,8 @@
 -- A part that is read of a body spells that body.
-use Rattle.object_modules.proofs.Prelude.{◌≡◌, ℕ, ◌+◌, ◌*◌, ◌<◌, Bool, true, false, cond, ◌==◌, ◌&&◌, List, [], ◌∷◌, ◌++◌, Some, None, refl, ap, sym, subst, ◌∙◌, arith, eqb-true, none-some, same_Some, option_and_then_some, RecordKind, IsBytes, word_is, Part, HeaderPart, ExternalNamesPart, PublicsPart, ContentPart, ExternalReferencesPart, RelocationPart, IntersegmentPart, ModuleEndPart, EndOfFilePart, kind_of_part, body_of, segment_number, fix_kind_number, name_bytes, listed_name_bytes, definition_bytes}
+use Rattle.object_modules.proofs.Prelude.{◌≡◌, ℕ, ◌+◌, ◌*◌, ◌<◌, Bool, true, false, cond, ◌==◌, ◌&&◌, List, [], ◌∷◌, ◌++◌, Some, None, refl, ap, sym, subst, ◌∙◌, arith, eqb-true, none-some, same_Some, option_and_then_some, RecordKind, IsBytes, word_is, Part, HeaderPart, ExternalNamesPart, PublicsPart, ContentPart, ExternalReferencesPart, RelocationPart, IntersegmentPart, ModuleEndPart, EndOfFilePart, kind_of_part, body_of, segment_number, fix_kind_number, name_bytes, listed_name_bytes, definition_bytes, and_parts, option_map_some}
 use Rattle.omf80.specs.declared.kind.RecordKind.TheVariants as kinds
 use Rattle.object_modules.specs.Reading.{segment_of, fix_kind_of, name_in_front, listed_name_in_front, definition_in_front, words_in, references_in, segment_entries_in, all_in, header_after_name, module_end_by, part_in}
-use Rattle.object_modules.proofs.Fronts.{option_map_some, segment_is, fix_kind_is, name_back, listed_name_back, definition_back, words_back, references_back, segment_entries_back, all_back}
+use Rattle.object_modules.proofs.Fronts.{segment_is, fix_kind_is, name_back, listed_name_back, definition_back, words_back, references_back, segment_entries_back, all_back}
 
 -- a part is one of a kind and spells a body
 abbrev pub IsPartOf : RecordKind → List ℕ → Part → Type 0
@@ -26,13 +26,6 @@ header_back front name (translator ∷ version ∷ rest) part all h =
           (segment_entries_back rest entries all.1.1 found),
     ))
 
--- two tests that both pass
-pub both : (a b : Bool) → (a && b) ≡ true → (a ≡ true) × (b ≡ true)
-both true true h = (refl, refl)
-both true false h = absurd (let bad : false ≡ true = h in cc)
-both false true h = absurd (let bad : false ≡ true = h in cc)
-both false false h = absurd (let bad : false ≡ true = h in cc)
-
 module_end_back :
     (flag segment low high : ℕ) (part : Part) → low < 256 → high < 256
     → module_end_by flag segment (low + 256 * high) ≡ Some part
@@ -45,8 +38,8 @@ module_end_back flag segment low high part l h found =
         → cond none (Some (ModuleEndPart None)) (cond main (Some (ModuleEndPart (Some (low + 256 * high)))) None) ≡ Some part
         → IsPartOf kinds.ModuleEnd (flag ∷ segment ∷ low ∷ high ∷ []) part
     go true e main f is =
-        let t = both (flag == 0 && segment == 0) (low + 256 * high == 0) e in
-        let u = both (flag == 0) (segment == 0) t.0 in
+        let t = and_parts (flag == 0 && segment == 0) (low + 256 * high == 0) e in
+        let u = and_parts (flag == 0) (segment == 0) t.0 in
         let flag_0 : flag ≡ 0 = eqb-true flag 0 u.0 in
         let segment_0 : segment ≡ 0 = eqb-true segment 0 u.1 in
         let both_0 : low + 256 * high ≡ 0 = eqb-true (low + 256 * high) 0 t.1 in
@@ -59,7 +52,7 @@ module_end_back flag segment low high part l h found =
               ∙ ap (λ x. 0 ∷ 0 ∷ x ∷ high ∷ []) low_0 ∙ ap (λ x. 0 ∷ 0 ∷ 0 ∷ x ∷ []) high_0,
         )
     go false e true f is =
-        let u = both (flag == 1) (segment == 1) f in
+        let u = and_parts (flag == 1) (segment == 1) f in
         let flag_1 : flag ≡ 1 = eqb-true flag 1 u.0 in
         let segment_1 : segment ≡ 1 = eqb-true segment 1 u.1 in
         part_is kinds.ModuleEnd (flag ∷ segment ∷ low ∷ high ∷ []) (ModuleEndPart (Some (low + 256 * high))) part

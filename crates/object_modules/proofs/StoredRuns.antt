@@ -1,9 +1,8 @@
 -- The runs and the fixes of a segment as it is kept are the longest runs of its places, and their fixes.
-use Rattle.object_modules.proofs.Prelude.{◌≡◌, ℕ, zero, suc, ◌+◌, ◌-◌, ◌<◌, ◌≤◌, ◌≢◌, Bool, true, false, cond, not, ◌&&◌, ◌||◌, ◌==◌, nat_lt, nat_le, ◌⊎◌, inl, inr, List, [], ◌∷◌, ◌++◌, length, map, flat_map, find, Option, Some, None, option_map, slice_index, refl, ap, sym, subst, ◌∙◌, arith, list_all, range_with_len, eqb-true, eqb-false, eq-eqb, ne_eqb, leb-true, le-leb, lt-leb, ltb-true, ltb-false, lt-ltb, le-ltb, FixKind, Low, High, Both, Segment, is_empty, same_segment, Fixup, SetByte, width_of, FixedContent, holds_place, set_at, set_in, StoredSegment, IsStored, are_longest, fixes_ascend, is_in_a_run, content_of_run, places_stored, Run, before_runs, runs_from, fixes_from}
+use Rattle.object_modules.proofs.Prelude.{◌≡◌, ℕ, zero, suc, ◌+◌, ◌-◌, ◌<◌, ◌≤◌, ◌≢◌, Bool, true, false, cond, not, ◌&&◌, ◌||◌, ◌==◌, nat_lt, nat_le, ◌⊎◌, inl, inr, List, [], ◌∷◌, ◌++◌, length, map, flat_map, find, Option, Some, None, option_map, slice_index, refl, ap, sym, subst, ◌∙◌, arith, list_all, range_with_len, eqb-true, eqb-false, eq-eqb, ne_eqb, leb-true, le-leb, lt-leb, ltb-true, ltb-false, lt-ltb, le-ltb, FixKind, Low, High, Both, Segment, is_empty, same_segment, Fixup, SetByte, width_of, FixedContent, holds_place, set_at, set_in, StoredSegment, IsStored, are_longest, fixes_ascend, is_in_a_run, content_of_run, places_stored, Run, before_runs, runs_from, fixes_from, and_parts}
 use Rattle.object_modules.specs.declared.segment.Fix.{Fix}
 use Rattle.object_modules.specs.Runs.{bytes_of_run, fixes_of_run, fixup_at, fixed_bytes, fixed_run}
 use Rattle.object_modules.specs.Rules.{fix_end, is_within}
-use Rattle.object_modules.proofs.ReadBack.{both}
 
 -- What is set at a place, by the first run that has it.
 abbrev pub in_run : ℕ → Run ℕ → Bool
@@ -23,7 +22,7 @@ content_with segment fixes run = record { content = content_of_run segment run; 
 abbrev pub contents_kept : Segment → StoredSegment → List FixedContent
 contents_kept segment stored = map (content_with segment stored.fixes) stored.runs
 
-map_cond :
+pub map_cond :
     {A B : Type 0} (f : A → B) (b : Bool) (x : A) (rest : Option A)
     → option_map f (cond b (Some x) rest) ≡ cond b (Some (f x)) (option_map f rest)
 map_cond f true x rest = refl
@@ -65,13 +64,13 @@ some_items (first ∷ others) h = omega arith
 longest : (size : ℕ) (runs : List (Run ℕ)) → are_longest size runs ≡ true → Longest size runs
 longest size [] h = tt
 longest size (run ∷ []) h =
-    let parts = both (not (is_empty run.items)) (nat_le (run.offset + length run.items) size) h in
+    let parts = and_parts (not (is_empty run.items)) (nat_le (run.offset + length run.items) size) h in
     (some_items run.items parts.0, leb-true (run.offset + length run.items) size parts.1, tt, tt)
 longest size (run ∷ next ∷ others) h =
     let outer =
-    both (not (is_empty run.items) && nat_lt (run.offset + length run.items) next.offset)
+    and_parts (not (is_empty run.items) && nat_lt (run.offset + length run.items) next.offset)
     (are_longest size (next ∷ others)) h in
-    let inner = both (not (is_empty run.items)) (nat_lt (run.offset + length run.items) next.offset) outer.0 in
+    let inner = and_parts (not (is_empty run.items)) (nat_lt (run.offset + length run.items) next.offset) outer.0 in
     let before : run.offset + length run.items < next.offset =
     ltb-true (run.offset + length run.items) next.offset inner.1 in
     let later : Longest size (next ∷ others) = longest size (next ∷ others) outer.1 in
@@ -96,7 +95,7 @@ found_none fixes (run ∷ others) x beyond =
     ∙ found_none fixes others x beyond.1
 
 -- after a run it is not looked at
-found_after :
+pub found_after :
     (fixes : List Fix) (run : Run ℕ) (others : List (Run ℕ)) (x : ℕ) → run.offset + length run.items ≤ x
     → found fixes (run ∷ others) x ≡ found fixes others x
 found_after fixes run others x h =
@@ -111,7 +110,7 @@ abbrev pub run_at : ℕ → List ℕ → Run ℕ
 run_at offset items = record { offset = offset; items = items }
 
 -- a place after the first of a run is one of the rest of the run
-found_shorter :
+pub found_shorter :
     (fixes : List Fix) (offset first : ℕ) (items : List ℕ) (others : List (Run ℕ)) (x : ℕ) → offset + 1 ≤ x
     → found fixes (run_at offset (first ∷ items) ∷ others) x ≡ found fixes (run_at (offset + 1) items ∷ others) x
 found_shorter fixes offset first items others x h =
@@ -129,7 +128,7 @@ found_shorter fixes offset first items others x h =
     cond (nat_le (offset + 1) x && nat_lt x (offset + 1 + length items))
     (Some (record { value = slice_index (first ∷ items) k; fixup = fixup_at fixes x })) (found fixes others x)) next
 
-found_first :
+pub found_first :
     (fixes : List Fix) (offset first : ℕ) (items : List ℕ) (others : List (Run ℕ))
     → found fixes (run_at offset (first ∷ items) ∷ others) offset
     ≡ Some (record { value = first; fixup = fixup_at fixes offset })
@@ -161,6 +160,10 @@ places_from fixes runs p n = map (found fixes runs) (range_with_len p n)
 abbrev From : ℕ → List (Run ℕ) → Type 0
 From p [] = Unit {0}
 From p (run ∷ others) = p ≤ run.offset
+
+from_zero : (runs : List (Run ℕ)) → From 0 runs
+from_zero [] = tt
+from_zero (run ∷ others) = omega arith
 
 abbrev Again : List Fix → (size n : ℕ) → Type 0
 Again fixes size n =
@@ -274,12 +277,8 @@ stored_runs segment stored same is =
     stored.size (λ x le. found_is segment stored.fixes stored.runs x same))
     ∙ runs_again stored.fixes stored.size stored.size 0 stored.runs (longest stored.size stored.runs is.runs)
     (from_zero stored.runs) (omega arith)
-  where
-    from_zero : (runs : List (Run ℕ)) → From 0 runs
-    from_zero [] = tt
-    from_zero (run ∷ others) = omega arith
 
-values_again :
+pub values_again :
     (fixes : List Fix) (offset : ℕ) (items : List ℕ)
     → map (λ (here : SetByte). here.value) (fixed_bytes fixes offset items) ≡ items
 values_again fixes offset [] = refl
@@ -313,7 +312,7 @@ ascending_less : (p q : ℕ) (fixes : List Fix) → p ≤ q → Ascending q fixe
 ascending_less p q [] h asc = tt
 ascending_less p q (fix ∷ others) h asc = let here : q ≤ fix.offset = asc.0 in (omega arith, asc.1)
 
-some_width : (kind : FixKind) → 1 ≤ width_of kind
+pub some_width : (kind : FixKind) → 1 ≤ width_of kind
 some_width Low = omega arith
 some_width High = omega arith
 some_width Both = omega arith
@@ -322,7 +321,7 @@ ascending : (p : ℕ) (fixes : List Fix) → fixes_ascend fixes ≡ true → Fir
 ascending p [] h first = tt
 ascending p (fix ∷ []) h first = (first, tt)
 ascending p (fix ∷ next ∷ others) h first =
-    let parts = both (nat_le (fix_end fix) next.offset) (fixes_ascend (next ∷ others)) h in
+    let parts = and_parts (nat_le (fix_end fix) next.offset) (fixes_ascend (next ∷ others)) h in
     let after : fix.offset + width_of fix.kind ≤ next.offset = leb-true (fix_end fix) next.offset parts.0 in
     let some : 1 ≤ width_of fix.kind = some_width fix.kind in
     (first, ascending (fix.offset + 1) (next ∷ others) parts.1 (omega arith))
@@ -359,7 +358,7 @@ fix_stands segment (run ∷ others) fix h =
         → (is_in_a_run segment others fix ≡ true → Stands fix.offset others) → Stands fix.offset (run ∷ others)
     go true e any later =
         let parts =
-        both (nat_le run.offset fix.offset) (nat_le (fix_end fix) (run.offset + length run.items)) e in
+        and_parts (nat_le run.offset fix.offset) (nat_le (fix_end fix) (run.offset + length run.items)) e in
         let starts : run.offset ≤ fix.offset = leb-true run.offset fix.offset parts.0 in
         let ends : fix.offset + width_of fix.kind ≤ run.offset + length run.items =
         leb-true (fix_end fix) (run.offset + length run.items) parts.1 in
@@ -512,12 +511,8 @@ all_stand :
     → AllStand fixes runs
 all_stand segment runs [] h = tt
 all_stand segment runs (fix ∷ fixes) h =
-    let parts = both (is_in_a_run segment runs fix) (list_all (is_in_a_run segment runs) fixes) h in
+    let parts = and_parts (is_in_a_run segment runs fix) (list_all (is_in_a_run segment runs) fixes) h in
     (fix_stands segment runs fix parts.0, all_stand segment runs fixes parts.1)
-
-from_zero : (runs : List (Run ℕ)) → From 0 runs
-from_zero [] = tt
-from_zero (run ∷ others) = omega arith
 
 first_of_all : (fixes : List Fix) → First 0 fixes
 first_of_all [] = tt

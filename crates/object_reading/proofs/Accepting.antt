@@ -1,13 +1,7 @@
 -- What the rules say of fixes and names, by the marks and the names that a judge keeps.
-use Rattle.object_reading.proofs.Prelude.{◌≡◌, ℕ, ◌+◌, Bool, true, false, ◌&&◌, ◌||◌, List, [], ◌∷◌, ◌++◌, flat_map, take_while, cond, Option, Some, None, refl, ap, sym, subst, ◌∙◌, list_all, list_any, bytes_eq, list_any-append, take_while-cons, is_name, Fix, is_fix_record, names_of, fixes_of, leading_fixes, is_among, are_new, Content, Part, kind_of_part, are_names, fit_content, covers, AreMarked, marks_after, onto}
+use Rattle.object_reading.proofs.Prelude.{◌≡◌, ℕ, ◌+◌, Bool, true, false, ◌&&◌, ◌||◌, List, [], ◌∷◌, ◌++◌, flat_map, take_while, cond, Option, Some, None, refl, ap, sym, subst, ◌∙◌, list_all, list_any, bytes_eq, list_any-append, take_while-cons, is_name, Fix, is_fix_record, names_of, fixes_of, leading_fixes, is_among, are_new, Content, Part, kind_of_part, are_names, fit_content, covers, AreMarked, marks_after, onto, or_swap}
 use Rattle.object_reading.proofs.FixMarks.{placed_is, Placed, placed_by}
 use Rattle.object_reading.proofs.NewNames.{are_new_alike}
-
-first_later : (a b c : Bool) → (a || (b || c)) ≡ (b || (a || c))
-first_later true true c = refl
-first_later true false c = refl
-first_later false true c = refl
-first_later false false c = refl
 
 -- the order of the fixes doesn't matter
 any_onto : (p : Fix → Bool) (xs ys : List Fix) → list_any p (onto xs ys) ≡ list_any p (xs ++ ys)
@@ -15,7 +9,7 @@ any_onto p [] ys = refl
 any_onto p (x ∷ xs) ys =
     any_onto p xs (x ∷ ys)
     ∙ list_any-append p xs (x ∷ ys)
-    ∙ first_later (list_any p xs) (p x) (list_any p ys)
+    ∙ or_swap (list_any p xs) (p x) (list_any p ys)
     ∙ ap (λ b. p x || b) (sym (list_any-append p xs ys))
 
 -- marks of fixes before others are marks of all of them

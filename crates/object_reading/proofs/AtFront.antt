@@ -1,5 +1,5 @@
 -- Before anything is handed out, a walk tells what the parts of its file say.
-use Rattle.object_reading.proofs.Prelude.{◌≡◌, ℕ, ◌≤◌, true, List, [], ◌∷◌, length, flat_map, refl, ap, AllByRecursion, Fix, Absolute, externals_of, leading_fixes, Part, body_of, is_accepted, are_accepted, fixed_contents, publics_of, Walking, WalksOver, walk_over, parts_from, externals_left, publics_left, contents_left, both, limit_of, parts_from_is, AreParts, Header, IsJudged}
+use Rattle.object_reading.proofs.Prelude.{◌≡◌, ℕ, ◌≤◌, true, List, [], ◌∷◌, length, flat_map, refl, ap, AllByRecursion, Fix, Absolute, externals_of, leading_fixes, Part, body_of, is_accepted, are_accepted, fixed_contents, publics_of, Walking, WalksOver, walk_over, parts_from, externals_left, publics_left, contents_left, limit_of, parts_from_is, AreParts, Header, IsJudged, and_parts}
 use Rattle.object_reading.proofs.NextParts.{nothing_from}
 
 limits_of :
@@ -7,7 +7,7 @@ limits_of :
     → AllByRecursion (λ part. length (body_of part) ≤ 1027) later
 limits_of before [] accepted = tt
 limits_of before (part ∷ later) accepted =
-    let t = both (is_accepted before part) (are_accepted (part ∷ before) later) accepted in
+    let t = and_parts (is_accepted before part) (are_accepted (part ∷ before) later) accepted in
     (limit_of before part t.0, limits_of (part ∷ before) later t.1)
 
 -- a file is parts, one after another

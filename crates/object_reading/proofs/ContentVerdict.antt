@@ -1,9 +1,9 @@
 -- Contents are judged as the rules say.
-use Rattle.object_reading.proofs.Prelude.{◌≡◌, ℕ, zero, suc, ◌+◌, ◌*◌, ◌≤◌, Bool, true, false, not, ◌&&◌, nat_le, cond, List, [], ◌∷◌, length, get_or, replicate, Option, Some, None, option_map, Ok, Err, refl, ap, sym, ◌∙◌, arith, option_map_or, length-replicate, WrongBody, ContentMisplaced, Segment, Absolute, Code, Data, Stack, is_empty, may_follow, length_in, stated_length_of, latest_content, holds_bytes, Content, Part, ContentPart, segment_of, content_in, fits_segment, part_fault, start_of_end, content_at, Extents, AreMarked, no_marks, unmarked, State, with_content, fits, content_taken}
+use Rattle.object_reading.proofs.Prelude.{◌≡◌, ℕ, zero, suc, ◌+◌, ◌*◌, ◌≤◌, Bool, true, false, not, ◌&&◌, nat_le, cond, List, [], ◌∷◌, length, get_or, replicate, Option, Some, None, option_map, Ok, Err, refl, ap, sym, ◌∙◌, arith, option_map_or, length-replicate, WrongBody, ContentMisplaced, Segment, Absolute, Code, Data, Stack, is_empty, may_follow, length_in, stated_length_of, latest_content, holds_bytes, Content, Part, ContentPart, segment_of, content_in, fits_segment, part_fault, start_of_end, content_at, Extents, AreMarked, no_marks, unmarked, State, with_content, fits, content_taken, false≢true, fit_nothing}
 use Rattle.omf80.specs.declared.kind.RecordKind.TheVariants as kinds
 use Rattle.object_reading.proofs.ExtentsSaid.{code_length_said, data_length_said}
-use Rattle.object_reading.proofs.Knowing.{Knows, SaysHeader, HasContent, Verdict, fault_by, is_early, header_stays, start_stays, filtered_as_before, nothing_to_fit}
-use Rattle.object_reading.proofs.KnownAfter.{never, follows_early}
+use Rattle.object_reading.proofs.Knowing.{Knows, SaysHeader, HasContent, Verdict, fault_by, is_early, header_stays, start_stays, filtered_as_before}
+use Rattle.object_reading.proofs.KnownAfter.{follows_early}
 
 -- no byte is marked
 none_marked : (count place : ℕ) → get_or (replicate count false) place false ≡ false
@@ -58,7 +58,7 @@ content_fault :
     → part_fault before (ContentPart content) ≡ fault_by body true placed true
 content_fault before content body placed a b =
     ap (λ t. fault_by (holds_bytes content.segment && not (is_empty content.bytes)) true (fits_segment before content) t)
-    (nothing_to_fit before (ContentPart content) (latest_content before) (λ own. refl))
+    (fit_nothing before (ContentPart content) (latest_content before) (λ own. refl))
     ∙ ap (λ t. fault_by t true (fits_segment before content) true) a
     ∙ ap (λ t. fault_by body true t true) b
 
@@ -78,7 +78,7 @@ code_known before state offset bytes k early short =
       header = header_stays before part state.name state.extents k.header refl refl;
       names = k.names;
       externals = k.externals;
-      counted = λ h. never h;
+      counted = λ h. absurd (false≢true h);
       code_end = refl;
       data_end = k.data_end;
       content = λ _. content_known before (content_at Code offset bytes) short;
@@ -96,7 +96,7 @@ data_known before state offset bytes k early short =
       header = header_stays before part state.name state.extents k.header refl refl;
       names = k.names;
       externals = k.externals;
-      counted = λ h. never h;
+      counted = λ h. absurd (false≢true h);
       code_end = k.code_end;
       data_end = refl;
       content = λ _. content_known before (content_at Data offset bytes) short;

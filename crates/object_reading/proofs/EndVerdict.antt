@@ -1,8 +1,7 @@
 -- The ends of the module and of the file are judged as the rules say.
-use Rattle.object_reading.proofs.Prelude.{◌≡◌, ℕ, ◌+◌, ◌*◌, ◌==◌, Bool, true, false, ◌&&◌, cond, List, [], ◌∷◌, ◌++◌, reverse, Option, Some, None, Ok, Err, refl, ap, ◌∙◌, filter_map, option_map_or, WrongBody, may_follow, Part, ModuleEndPart, EndOfFilePart, module_end_in, end_of_file_in, first_in, start_of_end, start_in, State, end_taken, last_taken}
+use Rattle.object_reading.proofs.Prelude.{◌≡◌, ℕ, ◌+◌, ◌*◌, ◌==◌, Bool, true, false, ◌&&◌, cond, List, [], ◌∷◌, ◌++◌, reverse, Option, Some, None, Ok, Err, refl, ap, ◌∙◌, filter_map, option_map_or, WrongBody, may_follow, Part, ModuleEndPart, EndOfFilePart, module_end_in, end_of_file_in, first_in, start_of_end, start_in, State, end_taken, last_taken, false≢true}
 use Rattle.omf80.specs.declared.kind.RecordKind.TheVariants as kinds
 use Rattle.object_reading.proofs.Knowing.{Knows, Accepted, Verdict, is_early, header_stays, start_stays, filtered, plain_fault}
-use Rattle.object_reading.proofs.KnownAfter.{never}
 
 -- the start of the one end of a module
 one_start : (start : Option ℕ) → first_in (filter_map start_of_end (ModuleEndPart start ∷ [])) ≡ start
@@ -29,12 +28,12 @@ end_accepted before state start k early = record {
     header = header_stays before (ModuleEndPart start) state.name state.extents k.header refl refl;
     names = k.names;
     externals = k.externals;
-    counted = λ h. never h;
+    counted = λ h. absurd (false≢true h);
     code_end = k.code_end;
     data_end = k.data_end;
-    content = λ h. never h;
+    content = λ h. absurd (false≢true h);
     start = start_known before start (k.no_start early);
-    no_start = λ h. never h;
+    no_start = λ h. absurd (false≢true h);
   };
 }
 
@@ -50,7 +49,7 @@ start_judged before state offset k early false true = end_accepted before state 
 start_judged before state offset k early false false = refl
 
 end_follows : (before : List Part) → may_follow before kinds.ModuleEnd ≡ true → is_early 3 before ≡ true
-end_follows [] follows = never follows
+end_follows [] follows = absurd (false≢true follows)
 end_follows (latest ∷ others) follows = follows
 
 pub end_verdict :
@@ -78,12 +77,12 @@ last_verdict before state [] k = record {
     header = header_stays before EndOfFilePart state.name state.extents k.header refl refl;
     names = k.names;
     externals = k.externals;
-    counted = λ h. never h;
+    counted = λ h. absurd (false≢true h);
     code_end = k.code_end;
     data_end = k.data_end;
-    content = λ h. never h;
+    content = λ h. absurd (false≢true h);
     start = start_stays before EndOfFilePart state.start k.start refl;
-    no_start = λ h. never h;
+    no_start = λ h. absurd (false≢true h);
   };
 }
 last_verdict before state (byte ∷ others) k = refl

@@ -1,7 +1,6 @@
 -- What is said of each segment, once all entries of a header are read.
-use Rattle.object_reading.proofs.Prelude.{◌≡◌, true, false, List, refl, sym, Segment, Absolute, Code, Data, Stack, same_segment, length_in, SegmentEntry, ascend_from, alignment_with, alignment_in, Extents, nothing_said, extents_with, extents_after}
+use Rattle.object_reading.proofs.Prelude.{◌≡◌, true, false, List, refl, sym, Segment, Absolute, Code, Data, Stack, same_segment, length_in, SegmentEntry, ascend_from, alignment_with, alignment_in, Extents, nothing_said, extents_with, extents_after, false≢true}
 use Rattle.object_reading.proofs.HeaderLaws.{said_of}
-use Rattle.object_reading.proofs.KnownAfter.{never}
 
 -- an entry of another segment says nothing of this one
 code_stays :
@@ -9,7 +8,7 @@ code_stays :
     → ((extents_with other entry extents).code_length ≡ extents.code_length)
     × ((extents_with other entry extents).code_alignment ≡ extents.code_alignment)
 code_stays Absolute entry extents e = (refl, refl)
-code_stays Code entry extents e = never (sym e)
+code_stays Code entry extents e = absurd (false≢true (sym e))
 code_stays Data entry extents e = (refl, refl)
 code_stays Stack entry extents e = (refl, refl)
 
@@ -19,7 +18,7 @@ data_stays :
     × ((extents_with other entry extents).data_alignment ≡ extents.data_alignment)
 data_stays Absolute entry extents e = (refl, refl)
 data_stays Code entry extents e = (refl, refl)
-data_stays Data entry extents e = never (sym e)
+data_stays Data entry extents e = absurd (false≢true (sym e))
 data_stays Stack entry extents e = (refl, refl)
 
 stack_stays :
@@ -28,7 +27,7 @@ stack_stays :
 stack_stays Absolute entry extents e = refl
 stack_stays Code entry extents e = refl
 stack_stays Data entry extents e = refl
-stack_stays Stack entry extents e = never (sym e)
+stack_stays Stack entry extents e = absurd (false≢true (sym e))
 
 pub code_length_said :
     (entries : List SegmentEntry) → ascend_from 0 entries ≡ true

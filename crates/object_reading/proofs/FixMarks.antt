@@ -1,5 +1,5 @@
 -- Marks of fixes: a fix shares a byte with others where one of its bytes is marked.
-use Rattle.object_reading.proofs.Prelude.{◌≡◌, ℕ, ◌+◌, ◌-◌, ◌<◌, ◌≤◌, Bool, true, false, not, ◌&&◌, ◌||◌, ◌==◌, nat_lt, nat_le, List, [], ◌∷◌, length, get_or, set, Option, Some, None, cond, refl, ap, sym, ◌∙◌, arith, list_all, list_any, and_parts, and_from, eqb-true, eqb-false, leb-true, le-leb, lt-ltb, ltb-true, nat_tests, length-set, get_or-set_same, get_or-set_other, Fix, FixKind, Low, High, Both, Segment, width_of, Content, content_end, fix_end, is_within, share_a_byte, are_apart, AreFixEntries, fixes_in, fix_in_front, covers, AreMarked, first_mark, last_mark, with_marks, are_placed, is_marked, marks_after, onto}
+use Rattle.object_reading.proofs.Prelude.{◌≡◌, ℕ, ◌+◌, ◌-◌, ◌<◌, ◌≤◌, Bool, true, false, not, ◌&&◌, ◌||◌, ◌==◌, nat_lt, nat_le, List, [], ◌∷◌, length, get_or, set, Option, Some, None, cond, refl, ap, sym, ◌∙◌, arith, list_all, list_any, and_parts, and_from, eqb-true, eqb-false, leb-true, le-leb, lt-ltb, ltb-true, nat_tests, length-set, get_or-set_same, get_or-set_other, Fix, FixKind, Low, High, Both, Segment, width_of, Content, content_end, fix_end, is_within, share_a_byte, are_apart, AreFixEntries, fixes_in, fix_in_front, covers, AreMarked, first_mark, last_mark, with_marks, are_placed, is_marked, marks_after, onto, has_width, or_exchanged}
 use Rattle.object_reading.proofs.FixEntries.{next_fix_is, no_fix}
 
 -- the order of tests within a conjunction, and an alternative on each item
@@ -20,12 +20,6 @@ placed_is content (fix ∷ rest) others =
     ∙ regrouped (is_within content fix) (list_any (share_a_byte fix) others) (list_all (is_within content) rest)
     (are_apart rest (fix ∷ others))
 
-mixed : (a b c d : Bool) → ((a || b) || (c || d)) ≡ ((a || c) || (b || d))
-mixed true b c d = refl
-mixed false true true d = refl
-mixed false true false d = refl
-mixed false false c d = refl
-
 -- an item passes a test where it passes one of two others
 any_of_two :
     {X : Type 0} (p q r : X → Bool) → ((x : X) → p x ≡ (q x || r x))
@@ -34,7 +28,7 @@ any_of_two p q r each [] = refl
 any_of_two p q r each (x ∷ xs) =
     ap (λ b. b || list_any p xs) (each x)
     ∙ ap (λ b. (q x || r x) || b) (any_of_two p q r each xs)
-    ∙ mixed (q x) (r x) (list_any q xs) (list_any r xs)
+    ∙ or_exchanged (q x) (r x) (list_any q xs) (list_any r xs)
 
 -- for ranges of places: one of a byte, or of two, meets another that isn't empty where it has one of them
 one_byte : (o x e : ℕ) → (nat_lt o e && nat_lt x (o + 1)) ≡ ((nat_le x o && nat_lt o e) || (nat_le x o && nat_lt o e))
@@ -44,11 +38,6 @@ two_bytes :
     (o x e : ℕ) → x < e
     → (nat_lt o e && nat_lt x (o + 2)) ≡ ((nat_le x o && nat_lt o e) || (nat_le x (o + 1) && nat_lt (o + 1) e))
 two_bytes o x e some = grind (arith, nat_tests)
-
-not_empty : (kind : FixKind) → 0 < width_of kind
-not_empty Low = omega arith
-not_empty High = omega arith
-not_empty Both = omega arith
 
 -- the last byte of a fix
 abbrev last_of : Fix → ℕ
@@ -69,7 +58,7 @@ shares_by Both o x e some =
 
 shares_one : (fix other : Fix) → share_a_byte fix other ≡ (covers fix.offset other || covers (last_of fix) other)
 shares_one fix other =
-    let some : 0 < width_of other.kind = not_empty other.kind in
+    let some : 0 < width_of other.kind = has_width other.kind in
     shares_by fix.kind fix.offset other.offset (fix_end other) (omega arith)
 
 shares_any :
@@ -99,7 +88,7 @@ pub shares_is :
     ≡ (get_or marks (first_mark content fix) false || get_or marks (last_mark content fix) false)
 shares_is marks content fix others m within =
     let l = lies content fix within in
-    let some : 0 < width_of fix.kind = not_empty fix.kind in
+    let some : 0 < width_of fix.kind = has_width fix.kind in
     let begins : content.offset ≤ fix.offset = l.begins in
     let ends : fix.offset + width_of fix.kind ≤ content.offset + length content.bytes = l.ends in
     let first : get_or marks (first_mark content fix) false ≡ list_any (covers (content.offset + first_mark content fix)) others =
@@ -113,9 +102,6 @@ shares_is marks content fix others m within =
     ∙ ap (λ n. list_any (covers (content.offset + first_mark content fix)) others || list_any (covers n) others) (sym last_at)
     ∙ ap (λ b. b || list_any (covers (content.offset + last_mark content fix)) others) (sym first)
     ∙ ap (λ b. get_or marks (first_mark content fix) false || b) (sym last)
-
-length_kept : {A : Type 0} (xs : List A) (i : ℕ) (x : A) → length (set xs i x) ≡ length xs
-length_kept xs i x = length-set xs i x
 
 inside_is : (o n w : ℕ) → (nat_le o n && nat_lt n (o + w)) ≡ true → (o ≤ n) × (n < o + w)
 inside_is o n w h =
@@ -146,15 +132,15 @@ pub marked_more :
     → is_within content fix ≡ true → AreMarked (with_marks marks content fix) content (fix ∷ others)
 marked_more marks content fix others m within =
     let l = lies content fix within in
-    let some : 0 < width_of fix.kind = not_empty fix.kind in
+    let some : 0 < width_of fix.kind = has_width fix.kind in
     let begins : content.offset ≤ fix.offset = l.begins in
     let ends : fix.offset + width_of fix.kind ≤ content.offset + length content.bytes = l.ends in
     let long : length content.bytes ≤ length marks = m.long in
     let first : ℕ = first_mark content fix in
     let last : ℕ = last_mark content fix in
     let once : List Bool = set marks first true in
-    let once_long : length once ≡ length marks = length_kept marks first true in
-    let twice_long : length (set once last true) ≡ length once = length_kept once last true in
+    let once_long : length once ≡ length marks = length-set marks first true in
+    let twice_long : length (set once last true) ≡ length once = length-set once last true in
     record {
       long = omega arith;
       marked = λ k h. at marks content fix others m k h once_long begins ends some (k == last) refl (k == first) refl;

@@ -1,10 +1,10 @@
 -- Fix records are judged as the rules say.
-use Rattle.object_reading.proofs.Prelude.{◌≡◌, ℕ, ◌+◌, ◌*◌, Bool, true, false, not, ◌&&◌, nat_lt, nat_le, cond, List, [], ◌∷◌, ◌++◌, length, flat_map, Option, Some, None, is_some, option_map, option_and_then, unwrap_or, Err, refl, ap, sym, subst, ◌∙◌, list_all, option_or, option_map_or, RecordKind, WrongBody, Fix, FixKind, Segment, Absolute, is_empty, rank_of, is_header, is_fix_record, may_follow, externals_of, names_of, content_of, latest_content, fixes_of, is_among, Reference, Content, Part, ExternalReferencesPart, RelocationPart, IntersegmentPart, kind_of_part, segment_of, fix_kind_of, references_in, words_in, external_references_in, relocation_in, intersegment_in, is_body, is_other_segment, fit_content, part_fault, fix_head, Marked, marks_after, marked_after, marked_with, is_known, target_fits, State, with_fixes, fixes_placed, fixes_taken}
+use Rattle.object_reading.proofs.Prelude.{◌≡◌, ℕ, ◌+◌, ◌*◌, Bool, true, false, not, ◌&&◌, nat_lt, nat_le, cond, List, [], ◌∷◌, ◌++◌, length, flat_map, Option, Some, None, is_some, option_map, option_and_then, unwrap_or, Err, refl, ap, sym, subst, ◌∙◌, list_all, option_or, option_map_or, RecordKind, WrongBody, Fix, FixKind, Segment, Absolute, is_empty, rank_of, is_header, is_fix_record, may_follow, externals_of, names_of, content_of, latest_content, fixes_of, is_among, Reference, Content, Part, ExternalReferencesPart, RelocationPart, IntersegmentPart, kind_of_part, segment_of, fix_kind_of, references_in, words_in, external_references_in, relocation_in, intersegment_in, is_body, is_other_segment, fit_content, part_fault, fix_head, Marked, marks_after, marked_after, marked_with, is_known, target_fits, State, with_fixes, fixes_placed, fixes_taken, false≢true}
 use Rattle.omf80.specs.declared.kind.RecordKind.TheVariants as kinds
 use Rattle.object_reading.proofs.Accepting.{KnowsNames, FixesJudged, fixes_judged}
 use Rattle.object_reading.proofs.Knowing.{Knows, HasContent, Verdict, fault_by, is_early, fault_where}
 use Rattle.object_reading.proofs.NamesVerdict.{some_items}
-use Rattle.object_reading.proofs.KnownAfter.{never, Plain, follows_early, follows_content, known_after}
+use Rattle.object_reading.proofs.KnownAfter.{Plain, follows_early, follows_content, known_after}
 
 -- the state has a content that fixes may belong to
 record Ready (before : List Part) (state : State) : Type 0 where
@@ -63,7 +63,7 @@ placed_judged before state part (Some marks) r lists body judged = record {
         names_known = names_as_before before part state.names lists.nameless (r.knows).names;
         externals =
             (r.knows).externals ∙ sym (ap (λ l. length (l ++ flat_map externals_of before)) lists.no_externals);
-        counted = λ h. never (sym lists.late ∙ h);
+        counted = λ h. absurd (false≢true (sym lists.late ∙ h));
         content_known = λ _. record {
           latest = content_as_before before part (state.content).content (lists.plain).no_content (r.has).latest;
           marked = judged.1;

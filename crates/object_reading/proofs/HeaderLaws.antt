@@ -1,5 +1,5 @@
 -- What the entries of a header say of the segments, and which fault they have.
-use Rattle.object_reading.proofs.Prelude.{◌≡◌, ℕ, ◌+◌, ◌*◌, ◌<◌, ◌≤◌, ◌==◌, Bool, true, false, ◌&&◌, nat_lt, cond, List, [], ◌∷◌, Option, Some, None, option_map, option_and_then, Result, Ok, Err, refl, ap, sym, ◌∙◌, arith, length, get_or, take, drop, ◌-◌, list_all, option_map_or, and_parts, eqb-true, ne_eqb, ltb-true, lt-ltb, take-length, same_Some, Fault, WrongBody, WrongAlignment, Segment, same_segment, entry_in, SegmentEntry, segment_number, segment_of, segment_entries_in, ascend_from, is_served, segment_again, Extents, entry_at, extents_with, extents_after, extents_in}
+use Rattle.object_reading.proofs.Prelude.{◌≡◌, ℕ, ◌+◌, ◌*◌, ◌<◌, ◌≤◌, ◌==◌, Bool, true, false, ◌&&◌, nat_lt, cond, List, [], ◌∷◌, Option, Some, None, option_map, option_and_then, Result, Ok, Err, refl, ap, ◌∙◌, arith, length, get_or, take, drop, ◌-◌, list_all, option_map_or, and_parts, ne_eqb, ltb-true, lt-ltb, take-length, Fault, WrongBody, WrongAlignment, Segment, same_segment, entry_in, SegmentEntry, segment_number, segment_of, segment_entries_in, ascend_from, is_served, Extents, entry_at, extents_with, extents_after, extents_in, same_is}
 
 -- the verdict on entries that were read
 abbrev pub verdict_on : (number : ℕ) → Extents → (served : Bool) → Option (List SegmentEntry) → Result Extents Fault
@@ -97,13 +97,6 @@ no_entry_below (entry ∷ others) number segment ascending below =
     ap (λ b. cond b (Some entry) (entry_in others segment)) other
     ∙ no_entry_below others (segment_number entry.segment) segment t.1 (omega arith)
 
-same_Segment : (left right : Segment) → same_segment left right ≡ true → left ≡ right
-same_Segment left right e =
-    same_Some left right
-    (sym (segment_again left)
-    ∙ ap segment_of (eqb-true (segment_number left) (segment_number right) e)
-    ∙ segment_again right)
-
 -- what ascending entries say of a segment is what the one entry of it says
 pub said_of :
     {A : Type 0} (field : Extents → A) (value : SegmentEntry → A) (segment : Segment)
@@ -127,7 +120,7 @@ said_of {A} field value segment own others_stay (entry ∷ others) number extent
         → field (extents_after others (extents_with entry.segment entry extents))
         ≡ option_map_or value (cond same (Some entry) (entry_in others segment)) (field extents)
     go rest later true e =
-        let is : entry.segment ≡ segment = same_Segment entry.segment segment e in
+        let is : entry.segment ≡ segment = same_is entry.segment segment e in
         let equal : segment_number entry.segment ≡ segment_number segment = ap segment_number is in
         let none : entry_in others segment ≡ None =
         no_entry_below others (segment_number entry.segment) segment rest (omega arith) in

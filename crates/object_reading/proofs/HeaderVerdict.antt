@@ -1,9 +1,8 @@
 -- The header is judged as the rules say.
-use Rattle.object_reading.proofs.Prelude.{◌≡◌, ℕ, Bool, true, false, ◌&&◌, cond, List, [], ◌∷◌, Option, Some, None, option_map, option_and_then, Result, Ok, Err, refl, ap, sym, subst, ◌∙◌, list_all, option_map_or, append-nil, is_name, Fault, WrongBody, WrongAlignment, may_follow, SegmentEntry, Part, HeaderPart, Front, name_in_front, segment_entries_in, header_after_name, header_in, ascend_from, is_served, part_fault, Extents, nothing_said, extents_after, State, with_header, header_named, header_taken}
+use Rattle.object_reading.proofs.Prelude.{◌≡◌, ℕ, Bool, true, false, ◌&&◌, cond, List, [], ◌∷◌, Option, Some, None, option_map, option_and_then, Result, Ok, Err, refl, ap, sym, subst, ◌∙◌, list_all, option_map_or, append-nil, is_name, Fault, WrongBody, WrongAlignment, may_follow, SegmentEntry, Part, HeaderPart, Front, name_in_front, segment_entries_in, header_after_name, header_in, ascend_from, is_served, part_fault, Extents, nothing_said, extents_after, State, with_header, header_named, header_taken, false≢true}
 use Rattle.omf80.specs.declared.kind.RecordKind.TheVariants as kinds
 use Rattle.object_reading.proofs.HeaderLaws.{verdict_on, extents_are}
 use Rattle.object_reading.proofs.Knowing.{Knows, Verdict, wrong_either_way, fault_by}
-use Rattle.object_reading.proofs.KnownAfter.{never}
 
 -- what is known after the header
 header_known :
@@ -25,7 +24,7 @@ header_known state name translator version entries k ascending = record {
   counted = λ _. k.counted refl;
   code_end = k.code_end;
   data_end = k.data_end;
-  content = λ h. never h;
+  content = λ h. absurd (false≢true h);
   start = k.start;
   no_start = λ _. refl;
 }
@@ -96,4 +95,4 @@ pub header_verdict :
     → may_follow before kinds.Header ≡ true
     → Verdict before kinds.Header (header_in body) (header_taken state body)
 header_verdict [] state body k follows = front_judged state (name_in_front body) k
-header_verdict (latest ∷ others) state body k follows = never follows
+header_verdict (latest ∷ others) state body k follows = absurd (false≢true follows)

@@ -1,5 +1,5 @@
 -- What the state of a judgement knows of the records that were passed, of which the latest stands first.
-use Rattle.object_reading.proofs.Prelude.{◌≡◌, ℕ, ◌==◌, Bool, true, false, not, ◌&&◌, nat_le, cond, List, [], ◌∷◌, ◌++◌, length, flat_map, reverse, Option, Some, None, Result, Ok, Err, refl, ap, ◌∙◌, list_all, filter_map, option_map_or, reverse-append, append-nil, filter_map-append, flat_map-append, RecordKind, first_that_holds, Fault, WrongBody, WrongAlignment, ContentMisplaced, FixMisplaced, Segment, Code, Data, rank_of, entries_of, externals_of, content_of, latest_content, filled_to, fixes_of, leading_fixes, SegmentEntry, Content, Part, kind_of_part, is_body, is_served, ascend_from, fits_segment, is_within, are_apart, fit_content, part_fault, first_in, name_of_header, start_of_end, name_in, start_in, Extents, nothing_said, extents_after, Marked, AreMarked, State}
+use Rattle.object_reading.proofs.Prelude.{◌≡◌, ℕ, ◌==◌, Bool, true, false, not, nat_le, cond, List, [], ◌∷◌, ◌++◌, length, flat_map, reverse, Option, Some, None, Result, Ok, Err, refl, ap, ◌∙◌, list_all, filter_map, option_map_or, reverse-append, append-nil, filter_map-append, flat_map-append, RecordKind, first_that_holds, Fault, WrongBody, WrongAlignment, ContentMisplaced, FixMisplaced, Segment, Code, Data, rank_of, entries_of, externals_of, content_of, latest_content, filled_to, fixes_of, leading_fixes, SegmentEntry, Content, Part, kind_of_part, is_body, is_served, ascend_from, fits_segment, fit_content, part_fault, first_in, name_of_header, start_of_end, name_in, start_in, Extents, nothing_said, extents_after, Marked, AreMarked, State, fit_nothing}
 use Rattle.object_reading.proofs.Accepting.{KnowsNames}
 
 -- no record has a greater rank
@@ -111,16 +111,6 @@ fault_by body served placed fixed =
     first_that_holds
     ((not body, WrongBody) ∷ (not served, WrongAlignment) ∷ (not placed, ContentMisplaced) ∷ (not fixed, FixMisplaced) ∷ [])
 
--- no fixes fit any content
-pub nothing_to_fit :
-    (before : List Part) (part : Part) (latest : Option Content) → ((own : Segment) → fixes_of own part ≡ [])
-    → fit_content before part latest ≡ true
-nothing_to_fit before part None none = refl
-nothing_to_fit before part (Some content) none =
-    ap (λ fixes.
-    list_all (is_within content) fixes
-    && are_apart fixes (leading_fixes content.segment before)) (none content.segment)
-
 -- the fault of a part that has no entries and is no content
 pub fault_where :
     (before : List Part) (part : Part) → entries_of part ≡ [] → content_of part ≡ None
@@ -146,4 +136,4 @@ pub plain_fault :
 plain_fault before part no_entries no_content no_fixes =
     fault_where before part no_entries no_content
     ∙ ap (λ fixed. fault_by (is_body before part) true true fixed)
-    (nothing_to_fit before part (latest_content before) no_fixes)
+    (fit_nothing before part (latest_content before) no_fixes)

@@ -1,26 +1,23 @@
 -- What is known once a part follows that is no header, no content and no end of the module.
-use Rattle.object_reading.proofs.Prelude.{◌≡◌, ℕ, ◌≤◌, true, false, nat_le, List, ◌∷◌, [], length, flat_map, Option, Some, None, refl, sym, ◌∙◌, arith, and_parts, leb-true, le-leb, RecordKind, Segment, Code, Data, rank_of, is_header, is_fix_record, may_follow, entries_of, externals_of, content_of, end_by_content, filled_to, Content, Part, kind_of_part, name_of_header, start_of_end, Marked, State}
+use Rattle.object_reading.proofs.Prelude.{◌≡◌, ℕ, ◌≤◌, true, false, nat_le, List, ◌∷◌, [], length, flat_map, Option, Some, None, refl, sym, ◌∙◌, arith, and_parts, leb-true, le-leb, RecordKind, Segment, Code, Data, rank_of, is_header, is_fix_record, may_follow, entries_of, externals_of, content_of, end_by_content, filled_to, Content, Part, kind_of_part, name_of_header, start_of_end, Marked, State, false≢true}
 use Rattle.omf80.specs.declared.kind.RecordKind.TheVariants as kinds
 use Rattle.object_reading.proofs.Accepting.{KnowsNames}
 use Rattle.object_reading.proofs.Knowing.{Knows, HasContent, is_early, in_contents, header_stays, start_stays, filtered_as_before}
-
-pub never : {A : Type 0} → false ≡ true → A
-never h = absurd (let bad : false ≡ true = h in cc)
 
 -- records before one that is neither the header nor an end have no greater rank
 pub follows_early :
     (before : List Part) (kind : RecordKind) → may_follow before kind ≡ true → is_header kind ≡ false
     → nat_le (rank_of kind) 3 ≡ true → is_early (rank_of kind) before ≡ true
-follows_early [] kind follows other low = never (sym other ∙ follows)
-follows_early (latest ∷ others) kinds.Header follows other low = never follows
+follows_early [] kind follows other low = absurd (false≢true (sym other ∙ follows))
+follows_early (latest ∷ others) kinds.Header follows other low = absurd (false≢true follows)
 follows_early (latest ∷ others) kinds.ExternalNames follows other low = (and_parts _ _ follows).0
 follows_early (latest ∷ others) kinds.Publics follows other low = (and_parts _ _ follows).0
 follows_early (latest ∷ others) kinds.Content follows other low = (and_parts _ _ follows).0
 follows_early (latest ∷ others) kinds.ExternalReferences follows other low = (and_parts _ _ follows).0
 follows_early (latest ∷ others) kinds.Relocation follows other low = (and_parts _ _ follows).0
 follows_early (latest ∷ others) kinds.IntersegmentReferences follows other low = (and_parts _ _ follows).0
-follows_early (latest ∷ others) kinds.ModuleEnd follows other low = never low
-follows_early (latest ∷ others) kinds.EndOfFile follows other low = never low
+follows_early (latest ∷ others) kinds.ModuleEnd follows other low = absurd (false≢true low)
+follows_early (latest ∷ others) kinds.EndOfFile follows other low = absurd (false≢true low)
 
 pub early_below :
     (before : List Part) (low high : ℕ) → low ≤ high → is_early low before ≡ true → is_early high before ≡ true
@@ -33,24 +30,24 @@ early_below (latest ∷ others) low high h early =
 pub follows_content :
     (before : List Part) (kind : RecordKind) → may_follow before kind ≡ true → is_fix_record kind ≡ true
     → in_contents before ≡ true
-follows_content [] kinds.Header follows is = never is
-follows_content [] kinds.ExternalNames follows is = never is
-follows_content [] kinds.Publics follows is = never is
-follows_content [] kinds.Content follows is = never is
-follows_content [] kinds.ExternalReferences follows is = never follows
-follows_content [] kinds.Relocation follows is = never follows
-follows_content [] kinds.IntersegmentReferences follows is = never follows
-follows_content [] kinds.ModuleEnd follows is = never is
-follows_content [] kinds.EndOfFile follows is = never is
-follows_content (latest ∷ others) kinds.Header follows is = never is
-follows_content (latest ∷ others) kinds.ExternalNames follows is = never is
-follows_content (latest ∷ others) kinds.Publics follows is = never is
-follows_content (latest ∷ others) kinds.Content follows is = never is
+follows_content [] kinds.Header follows is = absurd (false≢true is)
+follows_content [] kinds.ExternalNames follows is = absurd (false≢true is)
+follows_content [] kinds.Publics follows is = absurd (false≢true is)
+follows_content [] kinds.Content follows is = absurd (false≢true is)
+follows_content [] kinds.ExternalReferences follows is = absurd (false≢true follows)
+follows_content [] kinds.Relocation follows is = absurd (false≢true follows)
+follows_content [] kinds.IntersegmentReferences follows is = absurd (false≢true follows)
+follows_content [] kinds.ModuleEnd follows is = absurd (false≢true is)
+follows_content [] kinds.EndOfFile follows is = absurd (false≢true is)
+follows_content (latest ∷ others) kinds.Header follows is = absurd (false≢true is)
+follows_content (latest ∷ others) kinds.ExternalNames follows is = absurd (false≢true is)
+follows_content (latest ∷ others) kinds.Publics follows is = absurd (false≢true is)
+follows_content (latest ∷ others) kinds.Content follows is = absurd (false≢true is)
 follows_content (latest ∷ others) kinds.ExternalReferences follows is = (and_parts _ _ follows).1
 follows_content (latest ∷ others) kinds.Relocation follows is = (and_parts _ _ follows).1
 follows_content (latest ∷ others) kinds.IntersegmentReferences follows is = (and_parts _ _ follows).1
-follows_content (latest ∷ others) kinds.ModuleEnd follows is = never is
-follows_content (latest ∷ others) kinds.EndOfFile follows is = never is
+follows_content (latest ∷ others) kinds.ModuleEnd follows is = absurd (false≢true is)
+follows_content (latest ∷ others) kinds.EndOfFile follows is = absurd (false≢true is)
 
 -- a part that is no header, no content and no end of the module
 pub record Plain (part : Part) : Type 0 where

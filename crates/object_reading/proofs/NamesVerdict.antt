@@ -1,9 +1,9 @@
 -- Names of other modules and public names are judged as the rules say.
-use Rattle.object_reading.proofs.Prelude.{◌≡◌, ℕ, zero, suc, Bool, true, false, not, ◌&&◌, cond, List, [], ◌∷◌, ◌++◌, length, flat_map, Option, Some, None, option_map, option_and_then, Err, refl, ap, sym, subst, ◌∙◌, arith, list_all, option_map_or, length-append, is_name, WrongBody, Segment, is_empty, may_follow, externals_of, definition_names, are_new, may_have_publics, Definition, Part, ExternalNamesPart, PublicsPart, Front, segment_of, listed_name_in_front, definition_in_front, at_most, all_in, publics_in, are_names, part_fault, definition_name_in_front, names_taken, State, with_externals, with_publics, externals_taken, publics_taken}
+use Rattle.object_reading.proofs.Prelude.{◌≡◌, ℕ, zero, suc, Bool, true, false, not, ◌&&◌, cond, List, [], ◌∷◌, ◌++◌, length, flat_map, Option, Some, None, option_map, option_and_then, Err, refl, ap, sym, subst, ◌∙◌, arith, list_all, option_map_or, length-append, is_name, WrongBody, Segment, is_empty, may_follow, externals_of, definition_names, are_new, may_have_publics, Definition, Part, ExternalNamesPart, PublicsPart, Front, segment_of, listed_name_in_front, definition_in_front, at_most, all_in, publics_in, are_names, part_fault, definition_name_in_front, names_taken, State, with_externals, with_publics, externals_taken, publics_taken, false≢true}
 use Rattle.omf80.specs.declared.kind.RecordKind.TheVariants as kinds
 use Rattle.object_reading.proofs.Accepting.{names_judged, names_known_after}
 use Rattle.object_reading.proofs.Knowing.{Knows, Accepted, Verdict, wrong_either_way, fault_by, is_early, plain_fault}
-use Rattle.object_reading.proofs.KnownAfter.{never, follows_early, early_below, known_after}
+use Rattle.object_reading.proofs.KnownAfter.{follows_early, early_below, known_after}
 
 -- some bytes are some items
 pub some_items :
@@ -60,7 +60,7 @@ externals_accepted before state names k early none =
             names_known = names_known_after before part state.names k.names;
             externals = omega (arith, known, left, right);
             counted = λ _. refl;
-            content_known = λ h. never h;
+            content_known = λ h. absurd (false≢true h);
           });
     }
 
@@ -160,8 +160,8 @@ publics_accepted before state segment definitions k early none =
           (record {
             names_known = names_known_after before part state.names k.names;
             externals = k.externals;
-            counted = λ h. never h;
-            content_known = λ h. never h;
+            counted = λ h. absurd (false≢true h);
+            content_known = λ h. absurd (false≢true h);
           });
     }
 

@@ -1,15 +1,7 @@
 -- Names that are judged one after another.
-use Rattle.object_reading.proofs.Prelude.{◌≡◌, ℕ, ◌<◌, Bool, true, false, not, ◌&&◌, ◌||◌, cond, List, [], ◌∷◌, ◌++◌, length, Option, Some, None, option_map, option_and_then, Bor, map, refl, ap, sym, ◌∙◌, arith, list_all, list_any, bytes_eq, append_assoc, append-nil, list_any-append, some_pair_parts, is_name, is_among, are_new, Definition, definition_in_front, at_most, option_map_some, Shortens, all_unfolds, listed_name_shortens, definition_shortens, definition_name_in_front, entry_name, names_in, names_taken}
+use Rattle.object_reading.proofs.Prelude.{◌≡◌, ℕ, ◌<◌, Bool, true, false, not, ◌&&◌, ◌||◌, cond, List, [], ◌∷◌, ◌++◌, length, Option, Some, None, option_map, option_and_then, refl, ap, sym, ◌∙◌, arith, list_all, bytes_eq, append_assoc, append-nil, list_any-append, some_pair_parts, is_name, is_among, are_new, Definition, definition_in_front, at_most, Shortens, all_unfolds, listed_name_shortens, definition_shortens, definition_name_in_front, entry_name, names_in, names_taken, none_either_way, option_map_some, and_right}
 use Rattle.object_reading.specs.declared.rules.names.NameList.{NameList}
 use Rattle.object_reading.specs.declared.rules.names.NameList.TheVariants.{Externals, Publics}
-
--- a set of borrowed names has a name where the names have it
-pub among_borrowed :
-    (name : List ℕ) (keys : List (Bor (List ℕ)))
-    → list_any (λ (key : Bor (List ℕ)). bytes_eq name key.now) keys
-    ≡ is_among name (map (λ (key : Bor (List ℕ)). key.now) keys)
-among_borrowed name [] = refl
-among_borrowed name (key ∷ keys) = ap (λ b. bytes_eq name key.now || b) (among_borrowed name keys)
 
 -- names are new by which names are known, and not by their order
 pub are_new_alike :
@@ -40,10 +32,6 @@ regrouped true true false d = refl
 regrouped true false true d = refl
 regrouped true false false d = refl
 regrouped false b c d = refl
-
-none_either_way : {A : Type 0} (b : Bool) → ◌≡◌ {A = Option A} (cond b None None) None
-none_either_way true = refl
-none_either_way false = refl
 
 in_turn : {A : Type 0} (a b : Bool) (x : Option A) → cond (a && b) x None ≡ cond a (cond b x None) None
 in_turn true b x = refl
@@ -116,10 +104,6 @@ taken_wrong list entries name after known e some wrong =
     taken_by_first list entries name after known e some
     ∙ ap (λ b. taken_after (b && not (is_among name known)) known name (names_in list after)) wrong
 
-and_false : (a b : Bool) → b ≡ false → (a && b) ≡ false
-and_false true b e = e
-and_false false b e = refl
-
 pub taken_again :
     (list : NameList) (entries name after : List ℕ) (known : List (List ℕ)) (is_new : Bool)
     → entry_name list entries ≡ Some (name, after) → 0 < length entries
@@ -128,7 +112,7 @@ pub taken_again :
 taken_again list entries name after known is_new e some fresh is =
     taken_by_first list entries name after known e some
     ∙ ap (λ b. taken_after b known name (names_in list after))
-    (and_false (is_name name) (not (is_among name known)) (sym fresh ∙ is))
+    (and_right (is_name name) (not (is_among name known)) (sym fresh ∙ is))
 
 -- bytes that begin with no name are no names
 pub taken_none :

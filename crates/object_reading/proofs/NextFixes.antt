@@ -1,7 +1,7 @@
 -- The next fix record after a content, and the next fix of it.
-use Rattle.object_reading.proofs.Prelude.{◌≡◌, ℕ, true, List, [], ◌∷◌, ◌++◌, drop, flat_map, take_while, cond, slice_index, Option, Some, None, is_some, IfNone, option_map, option_and_then, unwrap_or, refl, ap, sym, subst, ◌∙◌, take_while-cons, word_bytes, kind_of_type, record_end, record_fault, first_body, RecordKind, Fix, FixKind, Segment, Absolute, is_fix_record, fixes_of, leading_fixes, Part, HeaderPart, ExternalNamesPart, PublicsPart, ContentPart, ExternalReferencesPart, RelocationPart, IntersegmentPart, ModuleEndPart, EndOfFilePart, kind_of_part, body_of, reference_bytes, fix_kind_number, fix_kind_of, parts_from, segment_again, fix_kind_again, references_again, words_again, AreParts, AreFixEntries, fixes_in, fix_in_front, FixHead, fix_head, fix_where, fixes_after, AreHeadEntries}
+use Rattle.object_reading.proofs.Prelude.{◌≡◌, ℕ, List, [], ◌∷◌, ◌++◌, drop, flat_map, slice_index, Option, Some, None, is_some, IfNone, option_map, option_and_then, unwrap_or, refl, ap, sym, subst, ◌∙◌, word_bytes, kind_of_type, record_end, record_fault, first_body, RecordKind, Fix, FixKind, Segment, Absolute, fixes_of, leading_fixes, Part, HeaderPart, ExternalNamesPart, PublicsPart, ContentPart, ExternalReferencesPart, RelocationPart, IntersegmentPart, ModuleEndPart, EndOfFilePart, kind_of_part, body_of, reference_bytes, fix_kind_number, fix_kind_of, parts_from, segment_again, fix_kind_again, references_again, words_again, AreParts, AreFixEntries, fixes_in, fix_in_front, FixHead, fix_head, fix_where, fixes_after, AreHeadEntries, leading_more, same_Some}
 use Rattle.object_reading.proofs.FixEntries.{fixes_then}
-use Rattle.object_reading.proofs.NextParts.{next_part, nothing_from, same_kind}
+use Rattle.object_reading.proofs.NextParts.{next_part, nothing_from}
 
 -- a record is passed: the fixes that it lists are those to be handed out, or no fix follows
 pub record FixesPassed (own : Segment) (rest : List ℕ) (kind : RecordKind) : Type 0 where
@@ -16,14 +16,6 @@ record HeadIs (own : Segment) (rest : List ℕ) (part : Part) (head : Option Fix
   left : leading_fixes own (part ∷ parts_from (drop (record_end rest) rest)) ≡ fixes_after own head (drop (record_end rest) rest)
   entries : AreHeadEntries head
 
--- the fixes of a fix record come first
-leading_step :
-    (own : Segment) (part : Part) (later : List Part) → is_fix_record (kind_of_part part) ≡ true
-    → leading_fixes own (part ∷ later) ≡ fixes_of own part ++ leading_fixes own later
-leading_step own part later is =
-    ap (flat_map (fixes_of own)) (take_while-cons (λ p. is_fix_record (kind_of_part p)) part later)
-    ∙ ap (λ b. flat_map (fixes_of own) (cond b (part ∷ take_while (λ p. is_fix_record (kind_of_part p)) later) [])) is
-
 head_of :
     (own : Segment) (rest : List ℕ) (part : Part)
     → (head : Option FixHead) × (fix_where own (kind_of_part part) (body_of part) ≡ head) × HeadIs own rest part head
@@ -37,7 +29,7 @@ head_of own rest (ExternalReferencesPart kind references) =
       ap (option_map (fix_head None bytes)) (fix_kind_again kind),
       record {
         left =
-            leading_step own (ExternalReferencesPart kind references) (parts_from (drop (record_end rest) rest)) refl
+            leading_more own (ExternalReferencesPart kind references) (parts_from (drop (record_end rest) rest)) refl
             ∙ ap (λ o.
             fixes_of Absolute (ExternalReferencesPart kind (unwrap_or o []))
             ++ leading_fixes own (parts_from (drop (record_end rest) rest)))
@@ -51,7 +43,7 @@ head_of own rest (RelocationPart kind offsets) =
       ap (option_map (fix_head (Some own) bytes)) (fix_kind_again kind),
       record {
         left =
-            leading_step own (RelocationPart kind offsets) (parts_from (drop (record_end rest) rest)) refl
+            leading_more own (RelocationPart kind offsets) (parts_from (drop (record_end rest) rest)) refl
             ∙ ap (λ o.
             fixes_of own (RelocationPart kind (unwrap_or o []))
             ++ leading_fixes own (parts_from (drop (record_end rest) rest)))
@@ -68,7 +60,7 @@ head_of own rest (IntersegmentPart target kind offsets) =
           ∙ ap (option_map (fix_head (Some target) bytes)) (fix_kind_again kind),
       record {
         left =
-            leading_step own (IntersegmentPart target kind offsets) (parts_from (drop (record_end rest) rest)) refl
+            leading_more own (IntersegmentPart target kind offsets) (parts_from (drop (record_end rest) rest)) refl
             ∙ ap (λ o.
             fixes_of target (RelocationPart kind (unwrap_or o []))
             ++ leading_fixes own (parts_from (drop (record_end rest) rest)))
@@ -84,7 +76,7 @@ pub fixes_passed :
     → kind_of_type (slice_index rest 0) ≡ Some kind → FixesPassed own rest kind
 fixes_passed own rest kind are none known =
     let n = next_part rest are none in
-    let same : kind_of_part n.0 ≡ kind = same_kind (kind_of_part n.0) kind (sym (n.1).of_type ∙ known) in
+    let same : kind_of_part n.0 ≡ kind = same_Some (kind_of_part n.0) kind (sym (n.1).of_type ∙ known) in
     let h = head_of own rest n.0 in
     let head : fix_where own (kind_of_part n.0) (first_body rest) ≡ h.0 =
     ap (fix_where own (kind_of_part n.0)) (n.1).body_is ∙ h.1 in

@@ -1,5 +1,5 @@
 -- The next record of the parts of a file, and the next entry of a record.
-use Rattle.object_reading.proofs.Prelude.{◌≡◌, ℕ, ◌+◌, ◌*◌, ◌/◌, ◌%◌, ◌<◌, ◌≤◌, true, List, [], ◌∷◌, ◌++◌, length, drop, flat_map, slice_index, Option, Some, None, option_map, unwrap_or, refl, ap, sym, subst, ◌∙◌, arith, AllByRecursion, length-drop, none-some, some_pair_parts, RecordFault, Truncated, RecordKind, kind_of_type, record_end, record_fault, first_body, read_again, Segment, Absolute, externals_of, Definition, Content, Part, HeaderPart, ExternalNamesPart, PublicsPart, ContentPart, ExternalReferencesPart, RelocationPart, IntersegmentPart, ModuleEndPart, EndOfFilePart, kind_of_part, body_of, part_bytes, listed_name_bytes, definition_bytes, Front, listed_name_in_front, definition_in_front, fixed_contents, publics_of, parts_from, entries_left, externals_left, publics_left, contents_left, ReadsAgain, all_again, listed_name_again, definition_again, segment_again, word_of, part_first, AreParts, AreEntries, body_where, publics_where, content_where, content_at, definition_at, contents_after, is_external_names, is_publics, is_content}
+use Rattle.object_reading.proofs.Prelude.{◌≡◌, ℕ, ◌+◌, ◌*◌, ◌/◌, ◌%◌, ◌<◌, ◌≤◌, true, List, [], ◌∷◌, ◌++◌, length, drop, flat_map, slice_index, Option, Some, None, option_map, unwrap_or, refl, ap, sym, subst, ◌∙◌, arith, AllByRecursion, length-drop, none-some, some_pair_parts, RecordFault, Truncated, RecordKind, kind_of_type, record_end, record_fault, first_body, read_again, Segment, Absolute, externals_of, Definition, Content, Part, HeaderPart, ExternalNamesPart, PublicsPart, ContentPart, ExternalReferencesPart, RelocationPart, IntersegmentPart, ModuleEndPart, EndOfFilePart, kind_of_part, body_of, part_bytes, listed_name_bytes, definition_bytes, Front, listed_name_in_front, definition_in_front, fixed_contents, publics_of, parts_from, entries_left, externals_left, publics_left, contents_left, ReadsAgain, all_again, listed_name_again, definition_again, segment_again, word_of, part_first, AreParts, AreEntries, body_where, publics_where, content_where, content_at, definition_at, contents_after, is_external_names, is_publics, is_content, same_Some}
 
 -- what is known of the record that parts begin with
 pub record NextPart (rest : List ℕ) (part : Part) : Type 0 where
@@ -110,15 +110,12 @@ externals_by rest (IntersegmentPart target kind offsets) n = (ap (flat_map exter
 externals_by rest (ModuleEndPart start) n = (ap (flat_map externals_of) n.parts_are, no_names)
 externals_by rest EndOfFilePart n = (ap (flat_map externals_of) n.parts_are, no_names)
 
-pub same_kind : (kind other : RecordKind) → ◌≡◌ {A = Option RecordKind} (Some kind) (Some other) → kind ≡ other
-same_kind kind other h = cc
-
 pub externals_passed :
     (rest : List ℕ) (kind : RecordKind) → AreParts rest → record_fault rest ≡ None
     → kind_of_type (slice_index rest 0) ≡ Some kind → ExternalsPassed rest kind
 externals_passed rest kind are none known =
     let n = next_part rest are none in
-    let same : kind_of_part n.0 ≡ kind = same_kind (kind_of_part n.0) kind (sym (n.1).of_type ∙ known) in
+    let same : kind_of_part n.0 ≡ kind = same_Some (kind_of_part n.0) kind (sym (n.1).of_type ∙ known) in
     let e = externals_by rest n.0 n.1 in
     subst (ExternalsPassed rest) same (record { left = e.0; entries = e.1; after = (n.1).after })
 
@@ -169,7 +166,7 @@ pub publics_passed :
     → kind_of_type (slice_index rest 0) ≡ Some kind → PublicsPassed segment rest kind
 publics_passed segment rest kind are none known =
     let n = next_part rest are none in
-    let same : kind_of_part n.0 ≡ kind = same_kind (kind_of_part n.0) kind (sym (n.1).of_type ∙ known) in
+    let same : kind_of_part n.0 ≡ kind = same_Some (kind_of_part n.0) kind (sym (n.1).of_type ∙ known) in
     let e = publics_by rest n.0 n.1 in
     subst (PublicsPassed segment rest) same (record { left = e.0; entries = e.1; after = (n.1).after })
 
@@ -207,7 +204,7 @@ pub content_passed :
     → kind_of_type (slice_index rest 0) ≡ Some kind → ContentPassed rest kind
 content_passed rest kind are none known =
     let n = next_part rest are none in
-    let same : kind_of_part n.0 ≡ kind = same_kind (kind_of_part n.0) kind (sym (n.1).of_type ∙ known) in
+    let same : kind_of_part n.0 ≡ kind = same_Some (kind_of_part n.0) kind (sym (n.1).of_type ∙ known) in
     subst (ContentPassed rest) same (record { left = contents_by rest n.0 n.1; after = (n.1).after })
 
 pub nothing_from : parts_from [] ≡ []

@@ -1,8 +1,7 @@
 -- Each record is judged as the rules say.
-use Rattle.object_reading.proofs.Prelude.{◌≡◌, ℕ, ◌≤◌, Bool, true, false, cond, List, [], ◌∷◌, length, Option, Some, None, Result, Ok, Err, refl, ap, sym, ◌∙◌, option_map_or, RecordKind, Fault, WrongBody, OutOfOrder, may_follow, is_ended, Part, kind_of_part, part_in, part_fault, fault_of_record, may_come, is_over, State, beginning, body_taken, then_latest, record_taken}
+use Rattle.object_reading.proofs.Prelude.{◌≡◌, ℕ, ◌≤◌, Bool, true, false, cond, List, [], ◌∷◌, length, Option, Some, None, Result, Ok, Err, refl, ap, sym, ◌∙◌, option_map_or, RecordKind, Fault, WrongBody, OutOfOrder, may_follow, is_ended, Part, kind_of_part, part_in, part_fault, fault_of_record, may_come, is_over, State, beginning, body_taken, then_latest, record_taken, false≢true}
 use Rattle.omf80.specs.declared.kind.RecordKind.TheVariants as kinds
 use Rattle.object_reading.proofs.Knowing.{Knows, Verdict}
-use Rattle.object_reading.proofs.KnownAfter.{never}
 use Rattle.object_reading.proofs.HeaderVerdict.{header_verdict}
 use Rattle.object_reading.proofs.NamesVerdict.{externals_verdict, publics_verdict}
 use Rattle.object_reading.proofs.ContentVerdict.{content_verdict}
@@ -43,7 +42,7 @@ at_beginning = record {
     counted = λ _. refl;
     code_end = refl;
     data_end = refl;
-    content = λ h. never h;
+    content = λ h. absurd (false≢true h);
     start = refl;
     no_start = λ _. refl;
   };

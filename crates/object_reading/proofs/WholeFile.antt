@@ -1,10 +1,9 @@
 -- A file is judged whole, record by record.
-use Rattle.object_reading.proofs.Prelude.{◌≡◌, ℕ, suc, ◌<◌, ◌≤◌, ◌==◌, true, false, List, [], ◌∷◌, length, drop, reverse, slice_index, Some, None, Result, Ok, Err, refl, ap, sym, subst, ◌∙◌, arith, eqb-true, length-drop, RecordFault, Truncated, RecordKind, Record, BeginsWith, kind_of_type, record_end, record_fault, first_body, IsBytes, Fault, OutOfOrder, Code, Data, Stack, is_ended, length_in, ObjectModule, Part, part_in, fault_from_record, fault_of_record, Spells, HasFirstFault, IsFileOf, alignment_in, start_in, judged_after, parts_of, JudgesFile, parts_law, no_fault, Extents, Header, IsJudged, is_over, State, beginning, record_taken, Tells}
+use Rattle.object_reading.proofs.Prelude.{◌≡◌, ℕ, suc, ◌<◌, ◌≤◌, ◌==◌, true, false, List, [], ◌∷◌, length, drop, reverse, slice_index, Some, None, Result, Ok, Err, refl, ap, sym, subst, ◌∙◌, arith, eqb-true, length-drop, RecordFault, Truncated, RecordKind, Record, BeginsWith, kind_of_type, record_end, record_fault, first_body, IsBytes, Fault, OutOfOrder, Code, Data, Stack, is_ended, length_in, ObjectModule, Part, part_in, fault_from_record, fault_of_record, Spells, HasFirstFault, IsFileOf, alignment_in, start_in, judged_after, parts_of, JudgesFile, parts_law, no_fault, Extents, Header, IsJudged, is_over, State, beginning, record_taken, Tells, false≢true}
 use Rattle.failure.specs.{Failure.{IfFault}, declared.Failure.{Failure}}
 use Rattle.failure.specs.declared.Failure.TheVariants as failures
 use Rattle.object_reading.proofs.JudgeSteps.{no_record, broken_rule, goes_on, at_the_end, past_the_end}
 use Rattle.object_reading.proofs.Knowing.{SaysHeader}
-use Rattle.object_reading.proofs.KnownAfter.{never}
 use Rattle.object_reading.proofs.ExtentsSaid.{code_length_said, code_alignment_said, data_length_said, data_alignment_said, stack_length_said}
 use Rattle.object_reading.proofs.RecordVerdict.{StateAfter, at_beginning, ended_alike, Passed, Outcome, record_verdict}
 
@@ -118,7 +117,7 @@ has_ended :
 has_ended bytes rest state passed e = sym (ended_alike passed.before state passed.after) ∙ e
 
 some_left : (rest : List ℕ) → (length rest == 0) ≡ false → rest ≡ [] → ⊥
-some_left [] h e = never (sym h)
+some_left [] h e = absurd (false≢true (sym h))
 some_left (byte ∷ others) h e = absurd (let bad : byte ∷ others ≡ [] = e in cc)
 
 none_left : (rest : List ℕ) → (length rest == 0) ≡ true → rest ≡ []

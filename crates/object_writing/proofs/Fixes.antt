@@ -167,13 +167,6 @@ pub fixed_again :
 fixed_again offset items =
     fixed_by (fixes_from offset items) offset items (λ number here e. fix_found offset number items here e)
 
--- the values of bytes with their fixes
-pub values_again :
-    (all : List Fix) (offset : ℕ) (bytes : List ℕ)
-    → map (λ (here : SetByte). here.value) (fixed_bytes all offset bytes) ≡ bytes
-values_again all offset [] = refl
-values_again all offset (value ∷ bytes) = ap (λ r. value ∷ r) (values_again all (offset + 1) bytes)
-
 -- what holds of a run and its fixes
 pub are_fixes_of :
     (offset : ℕ) (items : List SetByte) (bytes : List ℕ) (fixes : List Fix)

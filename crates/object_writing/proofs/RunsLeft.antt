@@ -1,8 +1,8 @@
 -- What is left of a run and of a segment while their contents are written.
-use Rattle.object_writing.proofs.Prelude.{◌≡◌, ℕ, ◌+◌, ◌-◌, ◌<◌, ◌≤◌, List, [], ◌∷◌, ◌++◌, length, map, flat_map, take, drop, get_or, Option, refl, ap, sym, subst, ◌∙◌, arith, length-map, length-take, length-drop, drop-drop, take-map, take_rest, drop-map, take_at, drop_at, drop_more, drop_all, flat_map-append, Appends, AppendsBeginning, Fix, Segment, SetByte, ObjectModule, places_of, part_bytes, fixed_bytes, fixed_run, fixes_in, fixes_of_run, Run, content_parts, contents_of_run, fixes_from, runs_from, segment_parts, InOrder, order_earlier, order_ends, runs_in_order, content_text, AreFixesOf, count_before, cut_by, row_text, run_text}
+use Rattle.object_writing.proofs.Prelude.{◌≡◌, ℕ, ◌+◌, ◌-◌, ◌<◌, ◌≤◌, List, [], ◌∷◌, ◌++◌, length, map, flat_map, take, drop, get_or, Option, refl, ap, sym, subst, ◌∙◌, arith, length-map, length-take, length-drop, drop-drop, take-map, take_rest, drop-map, take_at, drop_at, drop_more, drop_all, flat_map-append, Appends, AppendsBeginning, Fix, Segment, SetByte, ObjectModule, places_of, part_bytes, fixed_bytes, fixed_run, fixes_in, fixes_of_run, Run, content_parts, contents_of_run, fixes_from, runs_from, segment_parts, InOrder, order_earlier, order_ends, runs_in_order, content_text, AreFixesOf, count_before, cut_by, row_text, run_text, values_again}
 use Rattle.object_writing.proofs.Sequences.{HasWritten, none_yet, more, begun, whole}
 use Rattle.object_writing.proofs.Cutting.{cut_bounds, cut_is, row_ended, row_more}
-use Rattle.object_writing.proofs.Fixes.{are_fixes_of, counted, fixes_split, none_before, none_in_runs, values_again}
+use Rattle.object_writing.proofs.Fixes.{are_fixes_of, counted, fixes_split, none_before, none_in_runs}
 
 abbrev pub value_of : SetByte → ℕ
 value_of here = here.value

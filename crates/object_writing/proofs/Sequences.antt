@@ -1,5 +1,5 @@
 -- Writes one after another: what was written of all, and what is left to be written.
-use Rattle.object_writing.proofs.Prelude.{◌≡◌, ℕ, List, [], ◌++◌, Option, Result, Ok, Err, OnOk, OnErr, refl, ap, sym, subst, ◌∙◌, append_assoc, append-nil, Appends, Appends-nil, Appends-trans, AppendsBeginning, beginning_after}
+use Rattle.object_writing.proofs.Prelude.{◌≡◌, ℕ, List, [], ◌++◌, Option, refl, ap, sym, subst, ◌∙◌, append_assoc, append-nil, Appends, Appends-nil, Appends-trans, AppendsBeginning, beginning_after}
 
 -- of all that is to be written, this is left
 pub record HasWritten (old new : Option (List ℕ)) (left all : List ℕ) : Type 0 where
@@ -37,18 +37,6 @@ module _ (a b c : Option (List ℕ)) where
 pub whole : (a b : Option (List ℕ)) (left all : List ℕ) → HasWritten a b left all → left ≡ [] → Appends a b all
 whole a b left all h e =
     subst (Appends a b) (sym (h.split ∙ ap (λ r. h.done ++ r) e ∙ append-nil h.done)) h.appended
-
--- where nothing was written, and nothing was to be
-pub nothing : (a : Option (List ℕ)) → Appends a a []
-nothing a = Appends-nil a
-
-pub on_ok_then : {T E : Type 0} (r : Result T E) (P Q : Type 0) → OnOk r P → (P → Q) → OnOk r Q
-on_ok_then (Ok x) P Q p f = f p
-on_ok_then (Err e) P Q p f = tt
-
-pub on_err_then : {T E : Type 0} (r : Result T E) (P Q : Type 0) → OnErr r P → (P → Q) → OnErr r Q
-on_err_then (Ok x) P Q p f = tt
-on_err_then (Err e) P Q p f = f p
 
 -- Two writes one after another, and three.
 pub first_begun : (a b : Option (List ℕ)) (part rest : List ℕ) → AppendsBeginning a b part → AppendsBeginning a b (part ++ rest)

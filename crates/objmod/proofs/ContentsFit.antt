@@ -1,6 +1,6 @@
 -- The contents that a walk over a file hands out ascend within their segments, and their fixes are within them
 -- and apart.
-use Rattle.objmod.proofs.Prelude.{◌≡◌, ℕ, ◌+◌, Bool, true, false, cond, ◌&&◌, ◌||◌, ◌==◌, List, [], ◌∷◌, ◌++◌, length, filter, flat_map, reverse, Some, None, refl, ap, sym, subst, ◌∙◌, arith, list_any, AllByRecursion, append-nil, same_Some, IsBytes, Fix, Segment, Code, Data, is_both, SegmentEntry, Part, HeaderPart, ExternalNamesPart, PublicsPart, ContentPart, ExternalReferencesPart, RelocationPart, IntersegmentPart, ModuleEndPart, EndOfFilePart, content_end, end_by_content, entries_of, externals_of, is_ended, length_in, stated_length_of, are_accepted, FixedContent, fixed_contents, Walking, WalksOver, walk_over, both_fit, no_entries, InRange, parts_range, Ascend, Follow, contents_ascend, begins_at, word_at, clash, AllFit, Clear, ContentsFit, Placed, SegmentFits, fix_at, is_in}
+use Rattle.objmod.proofs.Prelude.{◌≡◌, ℕ, ◌+◌, Bool, true, false, cond, ◌&&◌, ◌||◌, ◌==◌, List, [], ◌∷◌, ◌++◌, length, filter, flat_map, reverse, Some, None, refl, ap, sym, subst, ◌∙◌, arith, list_any, AllByRecursion, append-nil, same_Some, IsBytes, Fix, Segment, Code, Data, is_both, SegmentEntry, Part, HeaderPart, ExternalNamesPart, PublicsPart, ContentPart, ExternalReferencesPart, RelocationPart, IntersegmentPart, ModuleEndPart, EndOfFilePart, content_end, end_by_content, entries_of, externals_of, is_ended, length_in, stated_length_of, are_accepted, FixedContent, fixed_contents, Walking, WalksOver, walk_over, both_fit, no_entries, InRange, parts_range, Ascend, Follow, contents_ascend, begins_at, word_at, clash, AllFit, Clear, ContentsFit, Placed, SegmentFits, fix_at, is_in, or_right}
 
 -- where no word begins right before a fix, the second bytes of words are clear
 no_second :
@@ -21,10 +21,6 @@ is_word [] offset fix h wide = absurd (let bad : None ≡ Some fix = h in cc)
 is_word (first ∷ others) offset fix h wide =
     go (first.offset == offset) refl h (λ later. is_word others offset fix later wide)
   where
-    or_right : (a b : Bool) → b ≡ true → (a || b) ≡ true
-    or_right true b k = refl
-    or_right false b k = k
-
     go : (b : Bool) → (first.offset == offset) ≡ b → cond b (Some first) (fix_at others offset) ≡ Some fix
         → (fix_at others offset ≡ Some fix → list_any (word_at offset) others ≡ true)
         → ((is_both first.kind && (first.offset == offset)) || list_any (word_at offset) others) ≡ true

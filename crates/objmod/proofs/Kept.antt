@@ -1,5 +1,5 @@
 -- What is kept of the contents of a segment sets what they set.
-use Rattle.objmod.proofs.Prelude.{◌≡◌, ℕ, zero, suc, ◌+◌, ◌-◌, ◌<◌, ◌≤◌, ◌≢◌, Bool, true, false, cond, not, ◌&&◌, ◌==◌, nat_lt, nat_le, ◌⊎◌, inl, inr, List, [], ◌∷◌, ◌++◌, length, map, flat_map, filter, find, Option, Some, None, option_map, slice_index, refl, ap, sym, ◌∙◌, arith, eqb-true, eqb-false, eq-eqb, ne_eqb, leb-true, leb-false, le-leb, lt-leb, ltb-true, ltb-false, lt-ltb, le-ltb, length-append, find_passes, Alignment, Fix, Segment, Absolute, Code, Data, Stack, same_segment, content_end, Fixup, SetByte, fixup_at, FixedContent, holds_place, set_at, set_in, places_stored, Run, places_by, content_with, byte_in_run, found, found_is, run_at, same_over, before_kept, open_run, is_in, runs_kept, fix_at, fix_table, listed, fixes_by_place, kept_segment, Placed}
+use Rattle.objmod.proofs.Prelude.{◌≡◌, ℕ, zero, suc, ◌+◌, ◌-◌, ◌<◌, ◌≤◌, ◌≢◌, Bool, true, false, cond, not, ◌&&◌, ◌==◌, nat_lt, nat_le, ◌⊎◌, inl, inr, List, [], ◌∷◌, ◌++◌, length, map, flat_map, filter, find, Option, Some, None, option_map, slice_index, refl, ap, sym, ◌∙◌, arith, eqb-true, eqb-false, eq-eqb, ne_eqb, leb-true, leb-false, le-leb, lt-leb, ltb-true, ltb-false, lt-ltb, le-ltb, length-append, find_passes, Alignment, Fix, Segment, content_end, Fixup, SetByte, fixup_at, FixedContent, holds_place, set_at, set_in, places_stored, Run, places_by, content_with, byte_in_run, found, found_is, run_at, same_over, before_kept, open_run, is_in, runs_kept, fix_at, fix_table, listed, fixes_by_place, kept_segment, Placed, map_cond, same_self}
 
 -- What contents of one segment set at a place.
 abbrev holds : ℕ → FixedContent → Bool
@@ -19,12 +19,6 @@ bytes_at fixes (fixed ∷ others) x =
       fixup = fixup_at fixes x;
     }))
     (bytes_at fixes others x)
-
-map_cond :
-    {A B : Type 0} (f : A → B) (b : Bool) (x : A) (rest : Option A)
-    → option_map f (cond b (Some x) rest) ≡ cond b (Some (f x)) (option_map f rest)
-map_cond f true x rest = refl
-map_cond f false x rest = refl
 
 -- only the contents of a segment set its places
 pub look_is :
@@ -375,12 +369,6 @@ fixes_found size end (fixed ∷ others) x placed =
         (bytes_at (fixes_by_place fixed ++ (flat_map fixes_by_place others)) others x)) e
         ∙ ap (λ b. cond b (Some (record { value = slice_index (fixed.content).bytes (x - (fixed.content).offset); fixup = fixup_at (fixes_by_place fixed ++ (flat_map fixes_by_place others)) x })) (bytes_at (fixes_by_place fixed ++ (flat_map fixes_by_place others)) others x)) f)
 
-same_segments : (segment : Segment) → same_segment segment segment ≡ true
-same_segments Absolute = refl
-same_segments Code = refl
-same_segments Data = refl
-same_segments Stack = refl
-
 -- the places of what is kept are those of the contents
 pub kept_places :
     (size : ℕ) (alignment : Alignment) (segment : Segment) (contents : List FixedContent)
@@ -395,4 +383,4 @@ kept_places size alignment segment contents placed =
     (set_in (map (content_with segment fixes) (runs_kept own)) segment) 0 size
     (λ x le.
     look_is segment contents x ∙ fixes_found size 0 own x placed ∙ sym (runs_found fixes own x)
-    ∙ sym (found_is segment fixes (runs_kept own) x (same_segments segment))))
+    ∙ sym (found_is segment fixes (runs_kept own) x (same_self segment))))

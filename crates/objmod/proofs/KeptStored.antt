@@ -1,5 +1,5 @@
 -- What is kept of the contents of a segment is what each segment that is kept keeps to.
-use Rattle.objmod.proofs.Prelude.{◌≡◌, ℕ, zero, suc, ◌+◌, ◌<◌, ◌≤◌, Bool, true, false, cond, not, ◌&&◌, ◌||◌, ◌==◌, nat_lt, nat_le, List, [], ◌∷◌, ◌++◌, length, flat_map, filter, Option, Some, None, refl, sym, subst, arith, list_all, and_from, eqb-true, eqb-false, leb-true, le-leb, lt-ltb, length-append, same_Some, Alignment, Fix, FixKind, Low, High, Both, Segment, content_end, is_empty, is_both, width_of, Content, fix_end, is_within, FixedContent, IsStored, are_longest, content_of_run, fixes_ascend, is_in_a_run, Run, both, Longest, beyond_less, run_at, before_kept, open_run, is_in, runs_kept, fix_at, fix_table, listed, fixes_by_place, kept_segment, Placed, Clear, AllFit}
+use Rattle.objmod.proofs.Prelude.{◌≡◌, ℕ, zero, suc, ◌+◌, ◌<◌, ◌≤◌, Bool, true, false, cond, not, ◌&&◌, ◌||◌, ◌==◌, nat_lt, nat_le, List, [], ◌∷◌, ◌++◌, length, flat_map, filter, Option, Some, None, refl, sym, subst, arith, list_all, and_from, eqb-true, eqb-false, leb-true, le-leb, lt-ltb, length-append, same_Some, Alignment, Fix, FixKind, Low, High, Both, Segment, content_end, is_empty, is_both, width_of, Content, fix_end, is_within, FixedContent, IsStored, are_longest, content_of_run, fixes_ascend, is_in_a_run, Run, Longest, beyond_less, run_at, before_kept, open_run, is_in, runs_kept, fix_at, fix_table, listed, fixes_by_place, kept_segment, Placed, Clear, AllFit, and_parts, or_left, or_right}
 use Rattle.objmod.proofs.Kept.{found_there}
 
 -- The runs.
@@ -198,7 +198,7 @@ found_all :
     → fix_at fixes x ≡ Some fix → p fix ≡ true
 found_all p [] x fix all h = absurd (let bad : None ≡ Some fix = h in cc)
 found_all p (first ∷ others) x fix all h =
-    go (first.offset == x) h (both (p first) (list_all p others) all) (found_all p others x fix)
+    go (first.offset == x) h (and_parts (p first) (list_all p others) all) (found_all p others x fix)
   where
     go : (b : Bool) → cond b (Some first) (fix_at others x) ≡ Some fix
         → (p first ≡ true) × (list_all p others ≡ true)
@@ -226,8 +226,8 @@ within_below :
     → Below (content_end content) fixes
 within_below content [] all = tt
 within_below content (fix ∷ others) all =
-    let parts = both (is_within content fix) (list_all (is_within content) others) all in
-    let within = both (nat_le content.offset fix.offset) (nat_le (fix_end fix) (content_end content)) parts.0 in
+    let parts = and_parts (is_within content fix) (list_all (is_within content) others) all in
+    let within = and_parts (nat_le content.offset fix.offset) (nat_le (fix_end fix) (content_end content)) parts.0 in
     (leb-true (fix_end fix) (content_end content) within.1, within_below content others parts.1)
 
 kept_chain :
@@ -253,18 +253,9 @@ ascend_again end (fix ∷ next ∷ others) chain =
     (le-leb (fix_end fix) next.offset (chain.1).0)
     (ascend_again (fix_end fix) (next ∷ others) chain.1)
 
--- Each fix is in a run.
-or_first : (a b : Bool) → a ≡ true → (a || b) ≡ true
-or_first true b h = refl
-or_first false b h = absurd (let bad : false ≡ true = h in cc)
-
-or_second : (a b : Bool) → b ≡ true → (a || b) ≡ true
-or_second true b h = refl
-or_second false b h = h
-
 or_either : (a b c : Bool) → (a || b) ≡ true → (a ≡ true → c ≡ true) → (c || b) ≡ true
-or_either true b c h more = or_first c b (more refl)
-or_either false b c h more = or_second c b h
+or_either true b c h more = or_left c b (more refl)
+or_either false b c h more = or_right c b h
 
 some_width : (fix : Fix) → fix.offset + 1 ≤ fix_end fix
 some_width fix = go fix.kind
@@ -280,7 +271,7 @@ wider :
     → is_within (content_of_run segment (run_at offset bytes)) fix ≡ true
     → is_within (content_of_run segment (run_at offset (bytes ++ more))) fix ≡ true
 wider segment offset bytes more fix h =
-    let parts = both (nat_le offset fix.offset) (nat_le (fix_end fix) (offset + length bytes)) h in
+    let parts = and_parts (nat_le offset fix.offset) (nat_le (fix_end fix) (offset + length bytes)) h in
     let ends : fix_end fix ≤ offset + length bytes = leb-true (fix_end fix) (offset + length bytes) parts.1 in
     let sized : length (bytes ++ more) ≡ length bytes + length more = length-append bytes more in
     and_from (nat_le offset fix.offset) (nat_le (fix_end fix) (offset + length (bytes ++ more))) parts.0
@@ -291,13 +282,13 @@ within_open :
     → is_within (content_of_run segment (run_at offset bytes)) fix ≡ true
     → is_in_a_run segment (open_run offset bytes runs) fix ≡ true
 within_open segment offset [] runs fix h =
-    let parts = both (nat_le offset fix.offset) (nat_le (fix_end fix) (offset + length {A = ℕ} [])) h in
+    let parts = and_parts (nat_le offset fix.offset) (nat_le (fix_end fix) (offset + length {A = ℕ} [])) h in
     let starts : offset ≤ fix.offset = leb-true offset fix.offset parts.0 in
     let ends : fix_end fix ≤ offset + length {A = ℕ} [] = leb-true (fix_end fix) (offset + length {A = ℕ} []) parts.1 in
     let some : fix.offset + 1 ≤ fix_end fix = some_width fix in
     absurd (omega (arith, starts, ends, some))
 within_open segment offset (first ∷ items) [] fix h =
-    or_first (is_within (content_of_run segment (run_at offset (first ∷ items))) fix) false h
+    or_left (is_within (content_of_run segment (run_at offset (first ∷ items))) fix) false h
 within_open segment offset (first ∷ items) (next ∷ others) fix h =
     go (next.offset == offset + length (first ∷ items))
   where
@@ -306,10 +297,10 @@ within_open segment offset (first ∷ items) (next ∷ others) fix h =
         (cond b (run_at offset ((first ∷ items) ++ next.items) ∷ others) (run_at offset (first ∷ items) ∷ next ∷ others))
         fix ≡ true
     go true =
-        or_first (is_within (content_of_run segment (run_at offset ((first ∷ items) ++ next.items))) fix)
+        or_left (is_within (content_of_run segment (run_at offset ((first ∷ items) ++ next.items))) fix)
         (is_in_a_run segment others fix) (wider segment offset (first ∷ items) next.items fix h)
     go false =
-        or_first (is_within (content_of_run segment (run_at offset (first ∷ items))) fix)
+        or_left (is_within (content_of_run segment (run_at offset (first ∷ items))) fix)
         (is_in_a_run segment (next ∷ others) fix) h
 
 later_open :
@@ -324,7 +315,7 @@ later_open segment offset (first ∷ items) (next ∷ others) fix h =
         → is_within (content_of_run segment next) fix ≡ true
         → is_within (content_of_run segment (run_at offset ((first ∷ items) ++ next.items))) fix ≡ true
     joins is k =
-        let parts = both (nat_le next.offset fix.offset) (nat_le (fix_end fix) (next.offset + length next.items)) k in
+        let parts = and_parts (nat_le next.offset fix.offset) (nat_le (fix_end fix) (next.offset + length next.items)) k in
         let starts : next.offset ≤ fix.offset = leb-true next.offset fix.offset parts.0 in
         let ends : fix_end fix ≤ next.offset + length next.items =
         leb-true (fix_end fix) (next.offset + length next.items) parts.1 in
@@ -341,7 +332,7 @@ later_open segment offset (first ∷ items) (next ∷ others) fix h =
         (is_within (content_of_run segment (run_at offset ((first ∷ items) ++ next.items))) fix) h
         (joins (eqb-true next.offset (offset + length (first ∷ items)) e))
     go false e =
-        or_second (is_within (content_of_run segment (run_at offset (first ∷ items))) fix)
+        or_right (is_within (content_of_run segment (run_at offset (first ∷ items))) fix)
         (is_in_a_run segment (next ∷ others) fix) h
 
 all_less :
@@ -349,7 +340,7 @@ all_less :
     → list_all p fixes ≡ true → list_all q fixes ≡ true
 all_less p q [] less h = refl
 all_less p q (fix ∷ others) less h =
-    let parts = both (p fix) (list_all p others) h in
+    let parts = and_parts (p fix) (list_all p others) h in
     and_from (q fix) (list_all q others) (less fix parts.0) (all_less p q others less parts.1)
 
 all_append :
@@ -357,7 +348,7 @@ all_append :
     → list_all p (xs ++ ys) ≡ true
 all_append p [] ys h k = k
 all_append p (fix ∷ xs) ys h k =
-    let parts = both (p fix) (list_all p xs) h in
+    let parts = and_parts (p fix) (list_all p xs) h in
     and_from (p fix) (list_all p (xs ++ ys)) parts.0 (all_append p xs ys parts.1 k)
 
 kept_within :

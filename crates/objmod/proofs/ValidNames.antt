@@ -8,10 +8,10 @@ kept c h = grind (arith, common_steps)
 same : (c : ℕ) → is_name_character c ≡ true → to_ascii_uppercase c ≡ c
 same c h = grind (arith, common_steps)
 
-letter : (c : ℕ) → is_ascii_uppercase c ≡ true → is_name_character c ≡ true
+pub letter : (c : ℕ) → is_ascii_uppercase c ≡ true → is_name_character c ≡ true
 letter c h = grind (arith, common_steps)
 
-all_same : (text : List ℕ) → list_all is_name_character text ≡ true → name_of text ≡ text
+pub all_same : (text : List ℕ) → list_all is_name_character text ≡ true → name_of text ≡ text
 all_same [] h = refl
 all_same (c ∷ text) h =
     let parts = and_parts (is_name_character c) (list_all is_name_character text) h in

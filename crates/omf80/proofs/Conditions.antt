@@ -1,9 +1,6 @@
 -- Lists of conditions, bytes, and words of two bytes.
-use Rattle.omf80.proofs.Prelude.{◌≡◌, ℕ, ◌+◌, ◌*◌, ◌/◌, ◌%◌, ◌<◌, Bool, true, false, cond, List, [], ◌∷◌, find, Some, None, refl, ap, subst, ◌∙◌, arith, AllByRecursion, none-some, same_Some, word_bytes, first_that_holds}
-
--- each number is a byte
-abbrev pub IsBytes : List ℕ → Type 0
-IsBytes bytes = AllByRecursion (λ byte. byte < 256) bytes
+use Rattle.omf80.proofs.Prelude.{◌≡◌, ℕ, ◌+◌, ◌*◌, ◌/◌, ◌%◌, ◌<◌, Bool, true, false, cond, List, [], ◌∷◌, find, Some, None, refl, ap, subst, ◌∙◌, arith, none-some, same_Some, word_bytes, first_that_holds}
+pub use Rattle.mem80.proofs.ByteLists.{IsBytes}
 
 -- what is found passes the test
 pub find_passes : {A : Type 0} (p : A → Bool) (xs : List A) (y : A) → find p xs ≡ Some y → p y ≡ true

@@ -1,5 +1,5 @@
 -- The fault of the record that bytes begin with, condition by condition, and the record where there is none.
-use Rattle.omf80.proofs.Prelude.{◌≡◌, ℕ, zero, suc, ◌-◌, ◌%◌, ◌<◌, ◌≤◌, Bool, true, false, not, ◌||◌, ◌==◌, nat_lt, List, [], ◌∷◌, ◌++◌, length, take, drop, sum, Option, Some, None, is_none, slice_index, refl, ap, sym, subst, ◌∙◌, arith, lt-ltb, le-ltb, eq-eqb, ne_eqb, length-drop, Fault, Truncated, WrongSum, WrongLength, UnknownType, RecordKind, BeginsWith, type_byte, kind_of_type, stated_length, record_bytes, record_end, first_body, record_fault, first_that_holds}
+use Rattle.omf80.proofs.Prelude.{◌≡◌, ℕ, zero, suc, ◌-◌, ◌%◌, ◌<◌, ◌≤◌, Bool, true, false, not, ◌||◌, ◌==◌, nat_lt, List, [], ◌∷◌, ◌++◌, length, take, drop, sum, Some, None, is_none, slice_index, refl, ap, sym, subst, ◌∙◌, arith, lt-ltb, le-ltb, eq-eqb, ne_eqb, length-drop, Fault, Truncated, WrongSum, WrongLength, UnknownType, RecordKind, BeginsWith, type_byte, kind_of_type, stated_length, record_bytes, record_end, first_body, record_fault, first_that_holds, same_Some}
 use Rattle.omf80.proofs.Conditions.{IsBytes}
 use Rattle.omf80.proofs.RecordLaws.{begins}
 
@@ -105,9 +105,6 @@ pub are_bytes : (bytes : List ℕ) → ((k : ℕ) → slice_index bytes k < 256)
 are_bytes [] each = tt
 are_bytes (byte ∷ others) each = (each zero, are_bytes others (λ k. each (suc k)))
 
-same_kind : (kind other : RecordKind) → ◌≡◌ {A = Option RecordKind} (Some kind) (Some other) → kind ≡ other
-same_kind kind other h = cc
-
 -- bytes without a fault of records begin with the record that is read
 pub begins_with :
     (bytes : List ℕ) (kind : RecordKind) → ((k : ℕ) → slice_index bytes k < 256) → record_fault bytes ≡ None
@@ -115,7 +112,7 @@ pub begins_with :
     → BeginsWith bytes (record { kind = kind; body = first_body bytes }) (drop (record_end bytes) bytes)
 begins_with bytes kind each none known =
     let b = begins bytes (are_bytes bytes each) none in
-    let same : b.kind ≡ kind = same_kind b.kind kind (sym b.of_type ∙ known) in
+    let same : b.kind ≡ kind = same_Some b.kind kind (sym b.of_type ∙ known) in
     record {
       limit = b.long;
       spelled =

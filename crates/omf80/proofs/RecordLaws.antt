@@ -1,10 +1,6 @@
 -- Bytes without a fault of records begin with a record.
-use Rattle.omf80.proofs.Prelude.{◌≡◌, ℕ, zero, suc, ◌+◌, ◌-◌, ◌*◌, ◌%◌, ◌<◌, ◌≤◌, min, Bool, true, false, not, ◌||◌, ◌==◌, nat_lt, List, [], ◌∷◌, ◌++◌, length, take, drop, sum, Option, Some, None, is_none, slice_index, refl, ap, sym, subst, ◌∙◌, arith, eqb-true, eqb-false, ltb-false, not-false, length-take, length-drop, append_assoc, BODY_LIMIT, Fault, Truncated, WrongSum, WrongLength, UnknownType, RecordKind, type_byte, kinds, kind_of_type, word_bytes, record_bytes, record_end, first_body, record_fault, checksum_of, checksum_is}
+use Rattle.omf80.proofs.Prelude.{◌≡◌, ℕ, zero, suc, ◌+◌, ◌-◌, ◌*◌, ◌%◌, ◌<◌, ◌≤◌, min, Bool, true, false, not, ◌||◌, ◌==◌, nat_lt, List, [], ◌∷◌, ◌++◌, length, take, drop, sum, Option, Some, None, is_none, slice_index, refl, ap, sym, subst, ◌∙◌, arith, eqb-true, eqb-false, ltb-false, not-false, length-take, length-drop, append_assoc, BODY_LIMIT, Fault, Truncated, WrongSum, WrongLength, UnknownType, RecordKind, type_byte, kinds, kind_of_type, word_bytes, record_bytes, record_end, first_body, record_fault, checksum_of, checksum_is, or_parts, bytes_take, bytes_drop}
 use Rattle.omf80.proofs.Conditions.{IsBytes, find_passes, none_holds, word_is}
-
-neither : (a b : Bool) → (a || b) ≡ false → (a ≡ false) × (b ≡ false)
-neither true b h = absurd (let bad : true ≡ false = h in cc)
-neither false b h = (refl, h)
 
 -- a list that is longer than a number: the items before it, the item there, and those after it
 pub record Split (xs : List ℕ) (n : ℕ) : Type 0 where
@@ -34,16 +30,6 @@ pub record Begins (bytes : List ℕ) : Type 0 where
   pub all_bytes : IsBytes (first_body bytes)
   pub rest_bytes : IsBytes (drop (record_end bytes) bytes)
   pub shorter : length (drop (record_end bytes) bytes) < length bytes
-
-bytes_take : (n : ℕ) (bytes : List ℕ) → IsBytes bytes → IsBytes (take n bytes)
-bytes_take zero bytes all = tt
-bytes_take (suc n) [] all = tt
-bytes_take (suc n) (byte ∷ others) all = (all.0, bytes_take n others all.1)
-
-pub bytes_drop : (n : ℕ) (bytes : List ℕ) → IsBytes bytes → IsBytes (drop n bytes)
-bytes_drop zero bytes all = all
-bytes_drop (suc n) [] all = all
-bytes_drop (suc n) (byte ∷ others) all = bytes_drop n others all.1
 
 kind_there : (o : Option RecordKind) → is_none o ≡ false → (kind : RecordKind) × (o ≡ Some kind)
 kind_there None h = absurd (let bad : true ≡ false = h in cc)
@@ -111,7 +97,7 @@ begins (type ∷ low ∷ high ∷ tail) all h =
     let third = none_holds (nat_lt (length bytes) (record_end bytes)) Truncated from_fourth second.1 in
     let fourth = none_holds is_wrong WrongSum from_fifth third.1 in
     let fifth = none_holds (is_none (kind_of_type type)) UnknownType [] fourth.1 in
-    let limits = neither (stated == 0) (nat_lt 1028 stated) second.0 in
+    let limits = or_parts (stated == 0) (nat_lt 1028 stated) second.0 in
     let positive : stated ≡ 0 → ⊥ = eqb-false stated 0 limits.0 in
     let limit : stated ≤ 1028 = ltb-false 1028 stated limits.1 in
     let fits : record_end bytes ≤ length bytes = ltb-false (length bytes) (record_end bytes) third.0 in

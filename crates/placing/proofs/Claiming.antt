@@ -162,10 +162,6 @@ three true true false all = absurd (cc)
 pub all_three : (a b c : Bool) → a ≡ true → b ≡ true → c ≡ true → a && b && c ≡ true
 all_three a b c first second third = rw (first, second, third) refl
 
-pub not_true : (a : Bool) → not a ≡ true → a ≡ false
-not_true true is = absurd (cc)
-not_true false is = refl
-
 pub code_ends : (code stack : Range) → ranges_fit code stack ≡ true → code.start + code.len ≤ 65536
 unfolding ranges_fit
 code_ends code stack fit =

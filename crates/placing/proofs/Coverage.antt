@@ -1,5 +1,5 @@
 -- Which bytes pieces have, by how far those reach that start at each address.
-use Rattle.placing.proofs.Prelude.{◌≡◌, ℕ, zero, suc, ◌+◌, ◌<◌, ◌≤◌, min, max, Bool, true, false, cond, List, [], ◌∷◌, length, take, get_or, Decides, refl, ap, sym, subst, ◌∙◌, arith, fold, filter, replicate, ◌||◌, ◌&&◌, nat_le, nat_lt, list_any, or_assoc, dec_le, length-set, length-replicate, false≢true, nat_tests, MEMORY_SIZE, Range, PlacedPiece, IsOneOf, holds_byte, is_constant_piece, Decides-one_of, Undeclared, ReachTables, no_ends, no_reaches, end_of, raised, with_end, with_piece, with_pieces, reach_below, is_covered, byte_kind, kind_in}
+use Rattle.placing.proofs.Prelude.{◌≡◌, ℕ, zero, suc, ◌+◌, ◌<◌, ◌≤◌, min, max, Bool, true, false, cond, List, [], ◌∷◌, length, take, get_or, Decides, refl, ap, sym, subst, ◌∙◌, arith, fold, filter, replicate, ◌||◌, ◌&&◌, nat_le, nat_lt, list_any, or_assoc, dec_le, length-set, length-replicate, false≢true, nat_tests, MEMORY_SIZE, Range, PlacedPiece, IsOneOf, holds_byte, is_constant_piece, Decides-one_of, Undeclared, ReachTables, no_ends, no_reaches, end_of, raised, with_end, with_piece, with_pieces, reach_below, is_covered, byte_kind, kind_in, or-false}
 use Rattle.placing.specs.declared.placement.ByteKind.{ByteKind}
 use Rattle.placing.specs.Tables.{IsKind, IsTableOf}
 
@@ -85,18 +85,13 @@ covered_raised ends piece address within in_memory =
     range : Range
     range = piece.range
 
--- and with many
-or_false : (a : Bool) → a ≡ (a || false)
-or_false true = refl
-or_false false = refl
-
 covered_with :
     (tables : ReachTables) (pieces : List PlacedPiece) (address : ℕ)
     → address < length tables.all
     → address < MEMORY_SIZE
     → is_covered (with_pieces tables pieces).all address
     ≡ (is_covered tables.all address || list_any (holds_byte address) pieces)
-covered_with tables [] address within in_memory = or_false (is_covered tables.all address)
+covered_with tables [] address within in_memory = (sym (or-false (is_covered tables.all address)))
 covered_with tables (piece ∷ others) address within in_memory =
     covered_with (with_piece tables piece) others address
     (subst (λ n. address < n) (sym (length-set tables.all piece.range.start _)) within) in_memory
@@ -110,7 +105,7 @@ constant_with :
     → address < MEMORY_SIZE
     → is_covered (with_pieces tables pieces).constants address
     ≡ (is_covered tables.constants address || list_any (holds_byte address) (filter is_constant_piece pieces))
-constant_with tables [] address within in_memory = or_false (is_covered tables.constants address)
+constant_with tables [] address within in_memory = (sym (or-false (is_covered tables.constants address)))
 constant_with tables (piece ∷ others) address within in_memory =
     step (is_constant_piece piece) (λ is_constant now_within.
     constant_with (with_end tables piece.range.start (end_of piece.range) is_constant) others address

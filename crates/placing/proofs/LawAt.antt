@@ -1,5 +1,5 @@
 -- Objects with AT lie where that says, and apart from CODE and STACK where they are not refused.
-use Rattle.placing.proofs.Prelude.{◌≡◌, ℕ, suc, ◌+◌, ◌%◌, ◌<◌, ◌≤◌, Bool, true, false, List, [], ◌∷◌, ◌++◌, length, refl, sym, ap, subst, ◌∙◌, option_map, ◌&&◌, ◌||◌, filter_map, slice_index, AllByRecursion, cons_option, enumerate_from, ltb-false, true≢false, append_assoc, length-append, get_or_append_left, Range, Meets, AtNumber, AtObject, AtAddress, Home, InData, InConstants, Placed, BasedOn, Elsewhere, Nowhere, InFrame, TypedObject, TypedModule, size_of_object, LooksBack, Slot, bytes_in_data, is_object, constants_before, slot_at, ModulePlacement, AtPiece, PlacedPiece, range_of, kind_of, piece_of, object_piece, LiesByHome, Bases, passes_memory, overlaps, has_at, may_not_lie, is_misplaced, address_by_home, overlaps_meets}
+use Rattle.placing.proofs.Prelude.{◌≡◌, ℕ, suc, ◌+◌, ◌%◌, ◌<◌, Bool, true, false, List, [], ◌∷◌, ◌++◌, length, refl, sym, ap, subst, ◌∙◌, option_map, ◌&&◌, ◌||◌, filter_map, slice_index, AllByRecursion, cons_option, enumerate_from, true≢false, append_assoc, length-append, get_or_append_left, Range, Meets, AtNumber, AtObject, AtAddress, Home, InData, InConstants, Placed, BasedOn, Elsewhere, Nowhere, InFrame, TypedObject, TypedModule, size_of_object, LooksBack, Slot, bytes_in_data, is_object, constants_before, slot_at, ModulePlacement, AtPiece, PlacedPiece, range_of, kind_of, piece_of, object_piece, LiesByHome, Bases, passes_memory, overlaps, has_at, may_not_lie, is_misplaced, address_by_home, overlaps_meets, range_in_memory}
 use Rattle.placing.proofs.LawStorage.{slots_of, list_slots_of, all_slots}
 use Rattle.placing.proofs.LawPieces.{InPlace, slot_piece}
 use Rattle.placing.proofs.LawModule.{addresses_from, placed_from, address_here}
@@ -7,9 +7,6 @@ use Rattle.placing.proofs.LawModule.{addresses_from, placed_from, address_here}
 -- ranges that the test does not find to overlap
 pub no_overlap : (left right : Range) → overlaps left right ≡ false → ¬ Meets left right
 no_overlap left right apart = λ meets. true≢false (sym ((overlaps_meets left right).1 meets) ∙ apart)
-
-pub ends_in_memory : (range : Range) → passes_memory range ≡ false → range.start + range.len ≤ 65536
-ends_in_memory range passes = ltb-false 65536 (range.start + range.len) passes
 
 pub three_false :
     (a b c : Bool) → (a || b || c) ≡ false → (a ≡ false) × (b ≡ false) × (c ≡ false)
@@ -26,7 +23,7 @@ may_lie code_part data_part code stack range fine =
     let each : (passes_memory range ≡ false) × (overlaps range code ≡ false) × (overlaps range stack ≡ false) =
     three_false (passes_memory range) (overlaps range code) (overlaps range stack) fine in
     record {
-      ends = ends_in_memory range each.0;
+      ends = range_in_memory range each.0;
       lies = (no_overlap range code each.1, no_overlap range stack each.2);
     }
 

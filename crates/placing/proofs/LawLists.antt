@@ -1,45 +1,10 @@
 -- What holds of each element of a list and of each pair, by recursion on the list.
-use Rattle.placing.proofs.Prelude.{◌≡◌, Bool, true, false, List, [], ◌∷◌, ◌++◌, map, refl, sym, cond, AllPairs, filter, find, Some, None, AllByRecursion, none-some, All-from_recursion, AllPairs-cons, arith}
+use Rattle.placing.proofs.Prelude.{◌≡◌, Bool, true, false, List, [], ◌∷◌, ◌++◌, map, refl, sym, cond, AllPairs, filter, find, Some, None, AllByRecursion, none-some, All-from_recursion, AllPairs-cons, arith, all_append, all_both, all_mapped, all_weaker}
 
 -- R holds of each element and each later one
 abbrev pub EachPair : {X : Type 0} → (X → X → Type 0) → List X → Type 0
 EachPair R [] = Unit {0}
 EachPair R (x ∷ xs) = AllByRecursion (R x) xs × EachPair R xs
-
-pub each_append :
-    {X : Type 0} (P : X → Type 0) (xs ys : List X)
-    → AllByRecursion P xs
-    → AllByRecursion P ys
-    → AllByRecursion P (xs ++ ys)
-each_append P [] ys first second = second
-each_append P (x ∷ xs) ys first second = (first.0, each_append P xs ys first.1 second)
-
-pub each_weaker :
-    {X : Type 0} (P Q : X → Type 0)
-    → ((x : X) → P x → Q x)
-    → (xs : List X)
-    → AllByRecursion P xs
-    → AllByRecursion Q xs
-each_weaker P Q weaker [] all = tt
-each_weaker P Q weaker (x ∷ xs) all = (weaker x all.0, each_weaker P Q weaker xs all.1)
-
--- what a function makes of elements, each of which has a property beside
-pub each_map :
-    {X Y : Type 0} (P : X → Type 0) (Q : Y → Type 0) (f : X → Y)
-    → ((x : X) → P x → Q (f x))
-    → (xs : List X)
-    → AllByRecursion P xs
-    → AllByRecursion Q (map f xs)
-each_map P Q f made [] all = tt
-each_map P Q f made (x ∷ xs) all = (made x all.0, each_map P Q f made xs all.1)
-
-pub each_both :
-    {X : Type 0} (P Q : X → Type 0) (xs : List X)
-    → AllByRecursion P xs
-    → AllByRecursion Q xs
-    → AllByRecursion (λ x. P x × Q x) xs
-each_both P Q [] first second = tt
-each_both P Q (x ∷ xs) first second = ((first.0, second.0), each_both P Q xs first.1 second.1)
 
 pub pairs_map :
     {X Y : Type 0} (P : X → Type 0) (R : X → X → Type 0) (S : Y → Y → Type 0) (f : X → Y)
@@ -50,8 +15,8 @@ pub pairs_map :
     → EachPair S (map f xs)
 pairs_map P R S f made [] all pairs = tt
 pairs_map P R S f made (x ∷ xs) all pairs = (
-  each_map (λ y. P y × R x y) (S (f x)) f (λ y both. made x y all.0 both.0 both.1) xs
-      (each_both P (R x) xs all.1 pairs.0),
+  all_mapped (λ y. P y × R x y) (S (f x)) f (λ y both. made x y all.0 both.0 both.1) xs
+      (all_both P (R x) xs all.1 pairs.0),
   pairs_map P R S f made xs all.1 pairs.1,
 )
 
@@ -63,7 +28,7 @@ pub pairs_append :
     → EachPair R (xs ++ ys)
 pairs_append R [] ys first second between = second
 pairs_append R (x ∷ xs) ys first second between = (
-  each_append (R x) xs ys first.0 between.0,
+  all_append (R x) xs ys first.0 between.0,
   pairs_append R xs ys first.1 second between.1,
 )
 
@@ -76,8 +41,8 @@ pub each_between :
     → AllByRecursion Q ys
     → AllByRecursion (λ x. AllByRecursion (R x) ys) xs
 each_between P Q R between xs ys first second =
-    each_weaker P (λ x. AllByRecursion (R x) ys)
-    (λ x has. each_weaker Q (R x) (λ y holds. between x y has holds) ys second) xs first
+    all_weaker P (λ x. AllByRecursion (R x) ys)
+    (λ x has. all_weaker Q (R x) (λ y holds. between x y has holds) ys second) xs first
 
 pairs_nil : {X : Type 0} (R : X → X → Type 0) → AllPairs R []
 pairs_nil R = λ i j d before within. absurd (omega arith)

@@ -1,23 +1,7 @@
 -- What a module has lies as its storage and AT say.
-use Rattle.placing.proofs.Prelude.{◌≡◌, ℕ, ◌+◌, List, [], ◌∷◌, ◌++◌, map, refl, sym, ap, ◌∙◌, append-nil, Option, option_map, zip, filter, filter_map, cons_option, append_assoc, filter-append, Home, InData, InConstants, Placed, BasedOn, Elsewhere, Nowhere, InFrame, TypedObject, TypedModule, size_of_object, Code, Data, Slot, bytes_in_data, is_object, constants_before, slot_of_list, slot_at, ModulePlacement, PlacedPiece, kind_of, piece_of, object_piece, list_piece, pieces_of_module, has_own_place, Bases, address_of_slot, address_by_home, addresses_after}
+use Rattle.placing.proofs.Prelude.{◌≡◌, ℕ, ◌+◌, List, [], ◌∷◌, ◌++◌, map, refl, sym, ap, ◌∙◌, option_map, zip, filter, filter_map, cons_option, filter-append, Home, InData, InConstants, Placed, BasedOn, Elsewhere, Nowhere, InFrame, TypedObject, TypedModule, size_of_object, Code, Data, Slot, bytes_in_data, is_object, constants_before, slot_of_list, slot_at, ModulePlacement, PlacedPiece, kind_of, piece_of, object_piece, list_piece, pieces_of_module, has_own_place, Bases, address_of_slot, address_by_home, map-append, addresses_of}
 use Rattle.placing.proofs.LawStorage.{slots_of, list_slots_of, all_slots, own_slots}
 use Rattle.placing.proofs.LawPieces.{slot_piece}
-
--- the addresses of objects that are still to come
-abbrev pub addresses_of : Bases → (before : List ℕ) → List (TypedObject × Option Slot) → List ℕ
-addresses_of bases before [] = []
-addresses_of bases before (object ∷ others) =
-    address_by_home bases before object.1 (object.0).home
-    ∷ addresses_of bases (before ++ address_by_home bases before object.1 (object.0).home ∷ []) others
-
-pub split_addresses :
-    (bases : Bases) (before : List ℕ) (objects : List (TypedObject × Option Slot))
-    → addresses_after bases before objects ≡ before ++ addresses_of bases before objects
-split_addresses bases before [] = sym (append-nil before)
-split_addresses bases before (object ∷ others) =
-    split_addresses bases (before ++ address_by_home bases before object.1 (object.0).home ∷ []) others
-    ∙ append_assoc before (address_by_home bases before object.1 (object.0).home ∷ [])
-    (addresses_of bases (before ++ address_by_home bases before object.1 (object.0).home ∷ []) others)
 
 -- objects that are numbered from one on, with their addresses
 abbrev pub addresses_from :
@@ -90,11 +74,6 @@ own_lists typed bases number (bytes ∷ others) =
     ap (λ rest. slot_piece bases (slot_of_list typed number bytes) ∷ rest)
     (own_lists typed bases (number + 1) others)
 
-map_append :
-    {A B : Type 0} (f : A → B) (first second : List A) → map f (first ++ second) ≡ map f first ++ map f second
-map_append f [] second = refl
-map_append f (x ∷ others) second = ap (λ rest. f x ∷ rest) (map_append f others second)
-
 -- where a module lies by its own passes
 abbrev pub placed_by_slots : Bases → TypedModule → ModulePlacement
 placed_by_slots bases typed = record {
@@ -121,5 +100,5 @@ own_pieces_are bases typed =
     (list_pieces typed bases 0 typed.constants.lists)
     ∙ ap (λ pieces. map (slot_piece bases) (all_slots (slots_of typed 0 0 typed.objects)) ++ pieces)
     (own_lists typed bases 0 typed.constants.lists)
-    ∙ sym (map_append (slot_piece bases) (all_slots (slots_of typed 0 0 typed.objects))
+    ∙ sym (map-append (slot_piece bases) (all_slots (slots_of typed 0 0 typed.objects))
     (list_slots_of typed 0 typed.constants.lists))

@@ -1,24 +1,15 @@
 -- The placement that a plan gives is lawful where the plan is not refused.
-use Rattle.placing.proofs.Prelude.{◌≡◌, ℕ, zero, suc, ◌+◌, ◌<◌, Bool, true, false, List, [], ◌∷◌, length, map, if◌then◌else◌, refl, sym, ap, subst, ◌∙◌, cond, arith, Option, Some, None, option_map, ◌||◌, zip, filter, flat_map, find, slice_index_or, All, Any, AllByRecursion, option_or, true≢false, none-some, length-map, recursion_from_All, All-from_recursion, Range, IsIn, Meets, Typed, module_view, TypedObject, TypedModule, IsStorable, data_bytes, ModulePlacement, Placement, PieceKind, StaticPiece, ConstantPiece, AtPiece, PlacedPiece, EndsInMemory, pieces_of_module, is_constant_piece, has_own_place, HasAddresses, LiesWhereAtSays, LiesIn, AreDisjoint, IsLawful, Plan, PassesMemory, RangesOverlap, ObjectMisplaced, code_range, data_range, stack_range, bases_from, placement_by, passes_memory, overlaps, segment_too_large, past_memory, overlapping, is_misplaced, placed_objects, first_misplaced, placing_refusal, CodePlan, HoldsConstants, HaveStorage, plan_view}
+use Rattle.placing.proofs.Prelude.{◌≡◌, ℕ, zero, suc, ◌+◌, ◌<◌, Bool, true, false, List, [], ◌∷◌, length, map, if◌then◌else◌, refl, sym, ap, subst, ◌∙◌, cond, arith, Some, None, ◌||◌, zip, filter, flat_map, find, slice_index_or, All, Any, AllByRecursion, option_or, true≢false, none-some, length-map, recursion_from_All, All-from_recursion, Range, IsIn, Meets, Typed, module_view, TypedObject, TypedModule, IsStorable, data_bytes, ModulePlacement, Placement, PieceKind, StaticPiece, ConstantPiece, AtPiece, PlacedPiece, EndsInMemory, pieces_of_module, is_constant_piece, has_own_place, HasAddresses, LiesWhereAtSays, LiesIn, AreDisjoint, IsLawful, Plan, PassesMemory, RangesOverlap, ObjectMisplaced, code_range, data_range, stack_range, bases_from, placement_by, passes_memory, overlaps, segment_too_large, past_memory, overlapping, is_misplaced, placed_objects, first_misplaced, placing_refusal, CodePlan, HoldsConstants, HaveStorage, plan_view, both_are_none, none_before_map, range_in_memory}
 use Rattle.placing.proofs.LawLists.{each_filter, none_found, pairs_all}
 use Rattle.placing.proofs.LawPieces.{LiesWithin, LiesByKind, InPlace}
-use Rattle.placing.proofs.LawAt.{no_overlap, ends_in_memory, three_false}
+use Rattle.placing.proofs.LawAt.{no_overlap, three_false}
 use Rattle.placing.proofs.LawPlacement.{NotMisplaced}
 use Rattle.placing.proofs.LawPrograms.{AllLie, module_by, modules_lie}
-
--- what is not refused
-both_none : {A : Type 0} (first second : Option A) → option_or first second ≡ None → (first ≡ None) × (second ≡ None)
-both_none None second none = (refl, none)
-both_none (Some value) second none = absurd (none-some value (sym none))
 
 no_answer :
     {A : Type 0} (value : A) (test : Bool) → (if test then Some value else None) ≡ None → test ≡ false
 no_answer value false none = refl
 no_answer value true none = absurd (none-some value (sym none))
-
-not_mapped : {A B : Type 0} (f : A → B) (found : Option A) → option_map f found ≡ None → found ≡ None
-not_mapped f None none = refl
-not_mapped f (Some value) none = absurd (none-some (f value) (sym none))
 
 -- what holds of the ranges of a plan that is not refused, and of its objects
 record NotRefused (plan : Plan) (modules : List TypedModule) (code_lengths : List ℕ) : Type 0 where
@@ -46,7 +37,7 @@ not_refused plan modules code_lengths none =
     option_or (past_memory code variables stack)
     (option_or (overlapping code variables stack) (first_misplaced modules (placement_by plan modules code_lengths)))
     ≡ None =
-    (both_none (segment_too_large code variables)
+    (both_are_none (segment_too_large code variables)
     (option_or (past_memory code variables stack)
     (option_or (overlapping code variables stack) (first_misplaced modules (placement_by plan modules code_lengths))))
     none).1 in
@@ -54,13 +45,13 @@ not_refused plan modules code_lengths none =
     (past_memory code variables stack ≡ None)
     × (option_or (overlapping code variables stack) (first_misplaced modules (placement_by plan modules code_lengths))
     ≡ None) =
-    both_none (past_memory code variables stack)
+    both_are_none (past_memory code variables stack)
     (option_or (overlapping code variables stack) (first_misplaced modules (placement_by plan modules code_lengths)))
     after_size in
     let last :
     (overlapping code variables stack ≡ None)
     × (first_misplaced modules (placement_by plan modules code_lengths) ≡ None) =
-    both_none (overlapping code variables stack) (first_misplaced modules (placement_by plan modules code_lengths))
+    both_are_none (overlapping code variables stack) (first_misplaced modules (placement_by plan modules code_lengths))
     past.1 in
     let passes : (passes_memory code ≡ false) × (passes_memory variables ≡ false) × (passes_memory stack ≡ false) =
     three_false (passes_memory code) (passes_memory variables) (passes_memory stack)
@@ -69,9 +60,9 @@ not_refused plan modules code_lengths none =
     three_false (overlaps code variables) (overlaps code stack) (overlaps variables stack)
     (no_answer RangesOverlap (overlaps code variables || overlaps code stack || overlaps variables stack) last.0) in
     record {
-      code_ends = ends_in_memory code passes.0;
-      data_ends = ends_in_memory variables passes.1;
-      stack_ends = ends_in_memory stack passes.2;
+      code_ends = range_in_memory code passes.0;
+      data_ends = range_in_memory variables passes.1;
+      stack_ends = range_in_memory stack passes.2;
       code_data = no_overlap code variables overlap.0;
       code_stack = no_overlap code stack overlap.1;
       data_stack = no_overlap variables stack overlap.2;
@@ -79,7 +70,7 @@ not_refused plan modules code_lengths none =
           none_found (is_misplaced code stack)
           (placed_objects modules
           (map module_by (zip modules (bases_from plan.code_base plan.data_base modules code_lengths))))
-          (not_mapped (λ (placed : TypedObject × ℕ). ObjectMisplaced (placed.0).name)
+          (none_before_map (λ (placed : TypedObject × ℕ). ObjectMisplaced (placed.0).name)
           (find (is_misplaced code stack)
           (placed_objects modules
           (map module_by (zip modules (bases_from plan.code_base plan.data_base modules code_lengths)))))

@@ -1,10 +1,10 @@
 -- The modules of a program lie apart from each other.
-use Rattle.placing.proofs.Prelude.{◌≡◌, ℕ, ◌+◌, ◌≤◌, false, List, [], map, refl, sym, ap, subst, ◌∙◌, zip, filter, filter_map, AllByRecursion, enumerate_from, length-map, recursion_from_All, All-from_recursion, Range, TypedObject, TypedModule, LooksBack, IsStorable, constant_bytes, data_bytes, storage_with, ModulePlacement, range_of, object_piece, list_piece, pieces_of_module, has_own_place, HasAddresses, LiesByHome, LiesWhereAtSays, AreDisjoint, Bases, address_of_slot, is_misplaced, addresses_after, module_placement_by}
-use Rattle.placing.proofs.LawLists.{EachPair, each_append, each_map, each_weaker, each_first, each_second, pairs_map}
+use Rattle.placing.proofs.Prelude.{◌≡◌, ℕ, ◌+◌, ◌≤◌, false, List, [], map, refl, sym, ap, subst, ◌∙◌, zip, filter, filter_map, AllByRecursion, enumerate_from, length-map, recursion_from_All, All-from_recursion, Range, TypedObject, TypedModule, LooksBack, IsStorable, constant_bytes, data_bytes, storage_with, ModulePlacement, range_of, object_piece, list_piece, pieces_of_module, has_own_place, HasAddresses, LiesByHome, LiesWhereAtSays, AreDisjoint, Bases, address_of_slot, is_misplaced, addresses_after, module_placement_by, all_append, all_mapped, all_weaker, addresses_of, split_addresses}
+use Rattle.placing.proofs.LawLists.{EachPair, each_first, each_second, pairs_map}
 use Rattle.placing.proofs.LawStorage.{Apart, slots_of, slots_are, list_slots_of, list_slots_are, Fits, all_slots, own_slots, slots_fit}
 use Rattle.placing.proofs.LawSlots.{SlotsApart, slots_apart}
 use Rattle.placing.proofs.LawPieces.{InPlace, slot_piece, slot_in_place, slots_disjoint}
-use Rattle.placing.proofs.LawModule.{addresses_of, split_addresses, placed_from, placed_by_slots, list_pieces, own_pieces_are}
+use Rattle.placing.proofs.LawModule.{placed_from, placed_by_slots, list_pieces, own_pieces_are}
 use Rattle.placing.proofs.LawAt.{objects_in_place, objects_where_at_says, length_addresses, length_lists}
 
 -- what holds of modules with their placements, in parts of CODE and of DATA
@@ -33,7 +33,7 @@ lies_by_slots code_length code stack bases typed storable holds code_within data
     let data_part : Range = range_of bases.data_base (data_bytes typed.objects) in
     let in_slots : AllByRecursion (λ slot. InPlace code_part data_part code stack (slot_piece bases slot))
     (own_slots typed) =
-    each_weaker (Fits typed) (λ slot. InPlace code_part data_part code stack (slot_piece bases slot))
+    all_weaker (Fits typed) (λ slot. InPlace code_part data_part code stack (slot_piece bases slot))
     (slot_in_place bases typed code_length code stack holds code_within data_within) (own_slots typed)
     (slots_fit typed storable) in
     record {
@@ -50,7 +50,7 @@ lies_by_slots code_length code stack bases typed storable holds code_within data
           (recursion_from_All (λ (numbered : ℕ × TypedObject). LooksBack numbered.0 (numbered.1).home)
           (enumerate_from 0 typed.objects) storable.at));
       in_place =
-          each_append (InPlace code_part data_part code stack)
+          all_append (InPlace code_part data_part code stack)
           (filter_map object_piece (placed_from typed bases [] 0 0 typed.objects))
           (map list_piece
           (zip typed.constants.lists (map (address_of_slot bases) (list_slots_of typed 0 typed.constants.lists))))
@@ -59,7 +59,7 @@ lies_by_slots code_length code stack bases typed storable holds code_within data
           (all_slots (slots_of typed 0 0 typed.objects)) (list_slots_of typed 0 typed.constants.lists) in_slots))
           (subst (AllByRecursion (InPlace code_part data_part code stack))
           (sym (list_pieces typed bases 0 typed.constants.lists))
-          (each_map (λ slot. InPlace code_part data_part code stack (slot_piece bases slot))
+          (all_mapped (λ slot. InPlace code_part data_part code stack (slot_piece bases slot))
           (InPlace code_part data_part code stack) (slot_piece bases) (λ slot lies. lies)
           (list_slots_of typed 0 typed.constants.lists)
           (each_second (λ slot. InPlace code_part data_part code stack (slot_piece bases slot))

@@ -1,6 +1,6 @@
 -- The modules of a program, one after another, lie apart.
-use Rattle.placing.proofs.Prelude.{◌≡◌, ℕ, ◌+◌, ◌<◌, ◌≤◌, true, List, [], ◌∷◌, length, map, sym, subst, arith, zip, filter, flat_map, sum, sum_by, AllByRecursion, false≢true, sum_by-cons, filter-append, Range, Meets, TypedModule, IsStorable, data_bytes, storage_with, ModulePlacement, PieceKind, StaticPiece, ConstantPiece, AtPiece, PlacedPiece, range_of, pieces_of_module, has_own_place, HasAddresses, LiesWhereAtSays, AreDisjoint, Bases, bases_from, module_placement_by, placed_objects, HoldsConstants}
-use Rattle.placing.proofs.LawLists.{EachPair, each_append, each_weaker, each_filter, each_between, each_first, each_second, pairs_append}
+use Rattle.placing.proofs.Prelude.{◌≡◌, ℕ, ◌+◌, ◌<◌, ◌≤◌, true, List, [], ◌∷◌, length, map, sym, subst, arith, zip, filter, flat_map, sum, sum_by, AllByRecursion, false≢true, sum_by-cons, filter-append, Range, Meets, TypedModule, IsStorable, data_bytes, storage_with, ModulePlacement, PieceKind, StaticPiece, ConstantPiece, AtPiece, PlacedPiece, range_of, pieces_of_module, has_own_place, HasAddresses, LiesWhereAtSays, AreDisjoint, Bases, bases_from, module_placement_by, placed_objects, HoldsConstants, all_append, all_weaker, first_below}
+use Rattle.placing.proofs.LawLists.{EachPair, each_filter, each_between, each_first, each_second, pairs_append}
 use Rattle.placing.proofs.LawStorage.{Apart, apart_swap}
 use Rattle.placing.proofs.LawPieces.{LiesWithin, LiesByKind, InPlace, never_meet}
 use Rattle.placing.proofs.LawPlacement.{Lies, NotMisplaced, module_lies}
@@ -72,11 +72,8 @@ first_part base one rest all is = λ x is_in. (is_in.0, below base one rest all 
 
 later_part : (base one rest all : ℕ) → one + rest ≡ all → LiesWithin (range_of base all) (range_of (base + one) rest)
 later_part base one rest all is = λ x is_in.
-    (above base one x is_in.0, below base one rest all x is is_in.1)
+    (first_below base one x is_in.0, below base one rest all x is is_in.1)
   where
-    above : (base one x : ℕ) → base + one ≤ x → base ≤ x
-    above base one x after = omega arith
-
     below : (base one rest all x : ℕ) → one + rest ≡ all → x < base + one + rest → x < base + all
     below base one rest all x is before = omega arith
 
@@ -100,7 +97,7 @@ wider :
     → AllByRecursion (InPlace code_part data_part code stack) pieces
     → AllByRecursion (InPlace wider_code wider_data code stack) pieces
 wider code_part data_part wider_code wider_data code stack codes datas pieces lie =
-    each_weaker (InPlace code_part data_part code stack) (InPlace wider_code wider_data code stack)
+    all_weaker (InPlace code_part data_part code stack) (InPlace wider_code wider_data code stack)
     (λ piece lies. record {
       ends = lies.ends;
       lies = wider_by_kind code_part data_part wider_code wider_data code stack piece.range piece.kind codes
@@ -148,7 +145,7 @@ one_more code_base data_base one_code code_rest one_data data_rest all_code all_
       complete = (lies.complete, rest.complete);
       where_at_says = (lies.where_at_says, rest.where_at_says);
       in_place =
-          each_append (InPlace all_c all_d code stack) (pieces_of_module first) (flat_map pieces_of_module others)
+          all_append (InPlace all_c all_d code stack) (pieces_of_module first) (flat_map pieces_of_module others)
           (wider c d all_c all_d code stack c_in d_in (pieces_of_module first) lies.in_place)
           (wider cs ds all_c all_d code stack cs_in ds_in (flat_map pieces_of_module others) rest.in_place);
       disjoint =

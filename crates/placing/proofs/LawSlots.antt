@@ -1,5 +1,5 @@
 -- In the storage of a module, no two slots of a segment have a byte in common.
-use Rattle.placing.proofs.Prelude.{◌≡◌, ℕ, ◌+◌, ◌≤◌, Bool, true, List, [], ◌∷◌, length, arith, AllByRecursion, cons_option, false≢true, eqb-true, ConstantObject, ConstantList, ConstantItem, Home, InData, InConstants, Placed, BasedOn, Elsewhere, Nowhere, InFrame, TypedObject, TypedModule, size_of_object, IsStorable, Segment, Code, Data, Slot, bytes_in_data, is_object, is_list, constants_before, slot_at}
+use Rattle.placing.proofs.Prelude.{◌≡◌, ℕ, ◌+◌, ◌≤◌, Bool, true, List, [], ◌∷◌, length, arith, AllByRecursion, cons_option, false≢true, eqb-true, ConstantObject, ConstantList, ConstantItem, Home, InData, InConstants, Placed, BasedOn, Elsewhere, Nowhere, InFrame, TypedObject, TypedModule, size_of_object, IsStorable, Segment, Code, Data, Slot, bytes_in_data, is_object, is_list, constants_before, slot_at, at_most_more}
 use Rattle.placing.proofs.LawLists.{EachPair, pairs_append}
 use Rattle.placing.proofs.LawStorage.{Apart, Stands, stand_apart, slots_of, list_slots_of, StandsByHome, ObjectsStand, ListsStand, objects_stand, lists_stand, all_slots, own_slots}
 
@@ -21,9 +21,6 @@ data_slot offset size = record { segment = Data; offset = offset; size = size }
 
 at_least_more : (low number : ℕ) → low ≤ number → low ≤ number + 1
 at_least_more low number above = omega arith
-
-at_least_later : (low in_data bytes : ℕ) → low ≤ in_data → low ≤ in_data + bytes
-at_least_later low in_data bytes above = omega arith
 
 -- a slot is apart from those of all objects from one on
 first_apart :
@@ -64,7 +61,7 @@ objects_apart typed slot low low_data with_data with_code number in_data (object
     stand.0
     (objects_apart typed slot low low_data with_data with_code (number + 1)
     (in_data + bytes_in_data object.home object) others (at_least_more low number above)
-    (at_least_later low_data in_data (bytes_in_data object.home object) after) stand.1)
+    (at_most_more low_data in_data (bytes_in_data object.home object) after) stand.1)
 
 -- and from those of all lists from one on
 lists_apart :

@@ -1,6 +1,5 @@
 -- In the storage of a module, no two slots of a segment have a byte in common, and each lies in its segment.
-use Rattle.placing.proofs.Prelude.{◌≡◌, ℕ, ◌+◌, ◌-◌, ◌<◌, ◌≤◌, Bool, true, false, List, [], ◌∷◌, ◌++◌, length, take, map, cond, refl, sym, ap, subst, ◌∙◌, arith, not, ◌||◌, ◌==◌, sum_by, take_while, filter_map, slice_get, Option, Some, AllByRecursion, cons_option, enumerate_from, list_any, option_map_or, false≢true, eq-eqb, eqb-true, append_assoc, length-append, sum_by-append, sum_by-cons, take_while-cons, take-append_seam, ConstantObject, ConstantList, ConstantItem, Home, InData, InConstants, Placed, BasedOn, Elsewhere, Nowhere, InFrame, TypedObject, TypedModule, size_of_object, object_in, list_in, constant_number, numbered_constant, numbers_from, IsStorable, size_of_constant, constant_bytes, Segment, Code, Data, Slot, bytes_in_data, data_bytes, is_object, is_list, constants_before, slot_of_object, slot_of_list, storage_with, slot_at}
-use Rattle.placing.proofs.LawLists.{each_append, each_weaker}
+use Rattle.placing.proofs.Prelude.{◌≡◌, ℕ, ◌+◌, ◌-◌, ◌<◌, ◌≤◌, Bool, true, false, List, [], ◌∷◌, ◌++◌, length, take, map, cond, refl, sym, ap, subst, ◌∙◌, arith, not, ◌||◌, ◌==◌, sum_by, take_while, filter_map, slice_get, Option, Some, AllByRecursion, cons_option, enumerate_from, list_any, option_map_or, false≢true, eq-eqb, eqb-true, append_assoc, length-append, sum_by-cons, take_while-cons, take-append_seam, ConstantObject, ConstantList, ConstantItem, Home, InData, InConstants, Placed, BasedOn, Elsewhere, Nowhere, InFrame, TypedObject, TypedModule, size_of_object, object_in, list_in, constant_number, numbered_constant, numbers_from, IsStorable, size_of_constant, constant_bytes, Segment, Code, Data, Slot, bytes_in_data, data_bytes, is_object, is_list, constants_before, slot_of_object, slot_of_list, storage_with, slot_at, all_append, all_weaker, data_push, got_first, or_left, or_right}
 
 -- so many numbers from one on, and so many from another on, have none in common
 abbrev pub Apart : (a m b n : ℕ) → Type 0
@@ -158,24 +157,15 @@ ListsStand typed number [] = Unit {0}
 ListsStand typed number (bytes ∷ others) =
     Stands typed (is_list number) (length bytes) × ListsStand typed (number + 1) others
 
--- each object with DATA stands among the constants, and each list
-either_true : (first second : Bool) → second ≡ true → (first || second) ≡ true
-either_true true second is = refl
-either_true false second is = is
-
-first_true : (first second : Bool) → first ≡ true → (first || second) ≡ true
-first_true true second is = refl
-first_true false second is = absurd (false≢true is)
-
 objects_met :
     (items : List ConstantItem)
     → AllByRecursion (λ (number : ℕ). list_any (is_object number) items ≡ true) (filter_map object_in items)
 objects_met [] = tt
 objects_met (ConstantObject object ∷ others) = (
-  first_true (object == object) (list_any (is_object object) others) (eq-eqb object object refl),
-  each_weaker (λ (number : ℕ). list_any (is_object number) others ≡ true)
+  or_left (object == object) (list_any (is_object object) others) (eq-eqb object object refl),
+  all_weaker (λ (number : ℕ). list_any (is_object number) others ≡ true)
       (λ (number : ℕ). list_any (is_object number) (ConstantObject object ∷ others) ≡ true)
-      (λ number met. either_true (object == number) (list_any (is_object number) others) met)
+      (λ number met. or_right (object == number) (list_any (is_object number) others) met)
       (filter_map object_in others) (objects_met others),
 )
 objects_met (ConstantList list ∷ others) = objects_met others
@@ -185,10 +175,10 @@ lists_met :
     → AllByRecursion (λ (number : ℕ). list_any (is_list number) items ≡ true) (filter_map list_in items)
 lists_met [] = tt
 lists_met (ConstantList list ∷ others) = (
-  first_true (list == list) (list_any (is_list list) others) (eq-eqb list list refl),
-  each_weaker (λ (number : ℕ). list_any (is_list number) others ≡ true)
+  or_left (list == list) (list_any (is_list list) others) (eq-eqb list list refl),
+  all_weaker (λ (number : ℕ). list_any (is_list number) others ≡ true)
       (λ (number : ℕ). list_any (is_list number) (ConstantList list ∷ others) ≡ true)
-      (λ number met. either_true (list == number) (list_any (is_list number) others) met)
+      (λ number met. or_right (list == number) (list_any (is_list number) others) met)
       (filter_map list_in others) (lists_met others),
 )
 lists_met (ConstantObject object ∷ others) = lists_met others
@@ -215,11 +205,6 @@ list_sized typed number bytes is (ConstantList other) same =
     ∙ ap (λ found. option_map_or length found 0) is
 list_sized typed number bytes is (ConstantObject object) same = absurd (false≢true same)
 
-get_seam : {A : Type 0} (before : List A) (first : A) (others : List A)
-    → slice_get (before ++ first ∷ others) (length before) ≡ Some first
-get_seam [] first others = refl
-get_seam (other ∷ before) first others = get_seam before first others
-
 get_first :
     {A : Type 0} (before : List A) (first : A) (others all : List A) (number : ℕ)
     → before ++ first ∷ others ≡ all
@@ -227,7 +212,7 @@ get_first :
     → slice_get all number ≡ Some first
 get_first before first others all number whole number_is =
     ap (slice_get all) number_is ∙ ap (λ items. slice_get items (length before)) (sym whole)
-    ∙ get_seam before first others
+    ∙ got_first before first others
 
 one_more :
     {A : Type 0} (before : List A) (first : A) (number : ℕ)
@@ -314,16 +299,6 @@ slot_is typed number in_data object (BasedOn base) is = refl
 slot_is typed number in_data object Elsewhere is = refl
 slot_is typed number in_data object Nowhere is = refl
 slot_is typed number in_data object (InFrame procedure) is = refl
-
-data_push :
-    (before : List TypedObject) (object : TypedObject)
-    → data_bytes (before ++ object ∷ []) ≡ data_bytes before + bytes_in_data object.home object
-data_push before object =
-    sum_by-append (λ (object : TypedObject). bytes_in_data object.home object) before (object ∷ [])
-    ∙ ap (λ n. data_bytes before + n) (from_zero (bytes_in_data object.home object))
-  where
-    from_zero : (n : ℕ) → 0 + n ≡ n
-    from_zero n = omega arith
 
 slots_after :
     (typed : TypedModule) (before objects : List TypedObject) (number in_data : ℕ)
@@ -431,7 +406,7 @@ from_nothing n = omega arith
 
 pub slots_fit : (typed : TypedModule) → IsStorable typed → AllByRecursion (Fits typed) (own_slots typed)
 slots_fit typed storable =
-    each_append (Fits typed) (all_slots (slots_of typed 0 0 typed.objects))
+    all_append (Fits typed) (all_slots (slots_of typed 0 0 typed.objects))
     (list_slots_of typed 0 typed.constants.lists)
     (objects_fit typed 0 0 typed.objects (objects_stand typed storable)
     (from_nothing (data_bytes typed.objects)))

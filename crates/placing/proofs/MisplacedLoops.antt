@@ -1,6 +1,6 @@
 -- The first misplaced object: among those of a module, and of all modules.
-use Rattle.placing.proofs.Prelude.{◌≡◌, ℕ, ◌+◌, ◌<◌, ◌≤◌, List, ◌++◌, length, drop, get_or, map, Option, None, Some, option_map, refl, ap, sym, ◌∙◌, flat_map, slice_get, zip, find, option_or, drop_of_length-le, flat_map-cons, find-append, Range, Typed, TypedObject, TypedModule, module_view, object_view, ModulePlacement, is_misplaced, placed_objects, view_first, CodeModulePlacement, module_placement_view, name_of_misplaced}
-use Rattle.placing.proofs.Passes.{found_first, found_none, zip_nothing}
+use Rattle.placing.proofs.Prelude.{◌≡◌, ℕ, ◌+◌, ◌<◌, ◌≤◌, List, ◌++◌, length, drop, get_or, map, Option, None, Some, option_map, refl, ap, sym, ◌∙◌, flat_map, slice_get, zip, find, option_or, drop_of_length-le, flat_map-cons, find-append, Range, Typed, TypedObject, TypedModule, module_view, object_view, ModulePlacement, is_misplaced, placed_objects, view_first, CodeModulePlacement, module_placement_view, name_of_misplaced, drop_past}
+use Rattle.placing.proofs.Passes.{found_first, zip_nothing}
 
 abbrev name_of : TypedObject × ℕ → List ℕ
 name_of placed = (placed.0).name
@@ -74,6 +74,6 @@ module _ (code stack : Range) (modules : List Typed) (placements : List CodeModu
   pub placements_ended : slice_get placements number ≡ None → None ≡ total
   placements_ended none =
       sym (ap (λ left. name_of_misplaced code stack (flat_map objects_of left))
-      (ap (λ left. zip (map module_view (drop index modules)) (map module_placement_view left)) (found_none placements number none)
+      (ap (λ left. zip (map module_view (drop index modules)) (map module_placement_view left)) (drop_past placements number none)
       ∙ zip_nothing (map module_view (drop index modules))))
       ∙ rest

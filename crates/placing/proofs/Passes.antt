@@ -1,5 +1,6 @@
 -- What is left of a list that is looked at by a number, and one pass over the modules.
-use Rattle.placing.proofs.Prelude.{◌≡◌, ℕ, zero, suc, ◌+◌, ◌-◌, ◌≤◌, List, [], ◌∷◌, ◌++◌, length, take, drop, get_or, map, None, Some, refl, ap, sym, ◌∙◌, add-one, append_assoc, arith, slice_get, sum, zip, drop-cons, take_all, map-append, sum_by-cons, slice_get_within, get_or_from_slice_get, none-some, Typed, module_view, Layout, Bases, ModulePlacement, module_placement_by, Storage, layout_view, CodeModulePlacement, module_placement_view, bases_after, placements_from, layout_sizes}
+use Rattle.placing.proofs.Prelude.{◌≡◌, ℕ, suc, ◌+◌, ◌-◌, ◌≤◌, List, [], ◌∷◌, ◌++◌, length, take, drop, get_or, map, Some, refl, ap, sym, ◌∙◌, add-one, append_assoc, arith, slice_get, sum, zip, drop-cons, take_all, map-append, sum_by-cons, slice_get_within, get_or_from_slice_get, Typed, module_view, Layout, Bases, ModulePlacement, module_placement_by, Storage, layout_view, CodeModulePlacement, module_placement_view, bases_after, placements_from, layout_sizes}
+pub use Rattle.trees.proofs.Lists.{drop_item, drop_past}
 
 -- where there is an item, and where there is none
 pub found_first :
@@ -10,15 +11,6 @@ found_first items number item found =
     drop-cons items number item (slice_get_within items number item found)
     ∙ ap (λ first. first ∷ drop (suc number) items) (get_or_from_slice_get items number item item found)
     ∙ ap (λ n. item ∷ drop n items) (sym (add-one number))
-
-pub found_none : {A : Type 0} (items : List A) (number : ℕ) → slice_get items number ≡ None → drop number items ≡ []
-found_none items number none = past items number none
-  where
-    past : {A : Type 0} (items : List A) (number : ℕ) → slice_get items number ≡ None → drop number items ≡ []
-    past [] zero none = refl
-    past [] (suc number) none = refl
-    past (item ∷ others) zero none = absurd (none-some item (sym none))
-    past (item ∷ others) (suc number) none = past others number none
 
 abbrev pub nothing : {B : Type 0} → List B
 nothing = []

@@ -1,5 +1,5 @@
 -- What the claims of pieces say: each may lie where it does, no two share a byte, and the table has their bytes.
-use Rattle.placing.proofs.Prelude.{◌≡◌, ℕ, ◌+◌, ◌<◌, ◌≤◌, Bool, true, false, not, List, [], ◌∷◌, length, get_or, Option, Some, None, refl, ap, sym, ◌∙◌, arith, ◌⊎◌, option_and_then, AllByRecursion, true≢false, inl, inr, ⊎_elim, and_parts, cases_lt, Range, IsIn, PieceKind, StaticPiece, ConstantPiece, AtPiece, PlacedPiece, EndsInMemory, has_own_place, AreDisjoint, claim_between, claim_if, may_hold_variables, may_hold_constants, ends_in_memory, ranges_meet, is_within, claim_by_kind, claim_piece, claim_pieces}
+use Rattle.placing.proofs.Prelude.{◌≡◌, ℕ, ◌+◌, ◌<◌, ◌≤◌, Bool, true, false, not, List, [], ◌∷◌, length, get_or, Option, Some, None, refl, ap, sym, ◌∙◌, arith, ◌⊎◌, option_and_then, AllByRecursion, true≢false, inl, inr, ⊎_elim, and_parts, cases_lt, Range, IsIn, PieceKind, StaticPiece, ConstantPiece, AtPiece, PlacedPiece, EndsInMemory, has_own_place, AreDisjoint, claim_between, claim_if, may_hold_variables, may_hold_constants, ends_in_memory, ranges_meet, is_within, claim_by_kind, claim_piece, claim_pieces, false_from_ne_true}
 use Rattle.placing.proofs.Claiming.{ends, three}
 use Rattle.placing.proofs.ClaimedBytes.{BytesClaimed, between_claimed, between_can}
 use Rattle.placing.proofs.SomePieces.{Some_of, Pairs_of}
@@ -240,13 +240,9 @@ pieces_can code stack (piece ∷ others) before long may apart free =
     let first = piece_can code stack piece before long may.0 (λ a has. free a (inl has)) in
     let one = piece_claimed code stack piece before first.0 long first.1 in
     let rest = pieces_can code stack others first.0 (one.same_length ∙ long) may.1 apart.1
-    (λ a have. still_free (get_or first.0 a false)
+    (λ a have. false_from_ne_true (get_or first.0 a false)
     (λ marked. ⊎_elim
     (λ (earlier : get_or before a false ≡ true). false_true (get_or before a false) (free a (inr have)) earlier)
     (λ (has : HasByte a piece). no_byte_of piece others (apart.0 has.0) a has.1 have)
     (one.came a marked))) in
     (rest.0, ap (option_and_then (claim_pieces code stack others)) first.1 ∙ rest.1)
-  where
-    still_free : (b : Bool) → (b ≡ true → ⊥) → b ≡ false
-    still_free true never = absurd (never refl)
-    still_free false never = refl

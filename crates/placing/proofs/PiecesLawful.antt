@@ -1,6 +1,6 @@
 -- Pieces lie lawfully just where their bytes can be claimed and those with AT may lie where they do.
-use Rattle.placing.proofs.Prelude.{◌≡◌, ℕ, zero, suc, ◌+◌, ◌-◌, ◌<◌, ◌≤◌, min, max, Bool, true, false, not, ◌&&◌, ◌||◌, nat_eq, nat_le, List, [], ◌∷◌, length, get_or, replicate, Some, refl, ap, sym, ◌∙◌, arith, ◌⊎◌, All, AllPairs, filter, AllByRecursion, true≢false, inl, inr, ⊎_elim, and_parts, and_from, le-leb, leb-true, eqb-true, eqb-false, length-replicate, All-from_recursion, Range, IsIn, Meets, PieceKind, StaticPiece, ConstantPiece, AtPiece, PlacedPiece, EndsInMemory, IsOneOf, has_own_place, is_constant_piece, AreDisjoint, LiesIn, claim_pieces, claimed_between, ends_in_memory, ranges_meet, is_within, may_hold_variables, may_lie_at, unclaimed}
-use Rattle.placing.proofs.Claiming.{ends, meets_decides, three, not_true}
+use Rattle.placing.proofs.Prelude.{◌≡◌, ℕ, zero, suc, ◌+◌, ◌-◌, ◌<◌, ◌≤◌, min, max, Bool, true, false, not, ◌&&◌, ◌||◌, nat_eq, nat_le, List, [], ◌∷◌, length, get_or, replicate, Some, refl, ap, sym, ◌∙◌, arith, ◌⊎◌, All, AllPairs, filter, AllByRecursion, true≢false, inl, inr, ⊎_elim, and_parts, and_from, le-leb, leb-true, eqb-true, eqb-false, length-replicate, All-from_recursion, Range, IsIn, Meets, PieceKind, StaticPiece, ConstantPiece, AtPiece, PlacedPiece, EndsInMemory, IsOneOf, has_own_place, is_constant_piece, AreDisjoint, LiesIn, claim_pieces, claimed_between, ends_in_memory, ranges_meet, is_within, may_hold_variables, may_lie_at, unclaimed, not-true}
+use Rattle.placing.proofs.Claiming.{ends, meets_decides, three}
 use Rattle.placing.proofs.ClaimedBytes.{between_all}
 use Rattle.placing.proofs.SomePieces.{Some_of, some_from_any, any_in_filter, all_in_filter, all_weaker, all_both, pairs_in_filter}
 use Rattle.placing.proofs.PieceClaims.{HasByte, HaveByte, allowed, MayLie, PiecesClaimed, variables_end, constants_end, false_true, pieces_claimed}
@@ -34,7 +34,7 @@ pub apart :
     → IsIn a right
     → ⊥
 apart left right is a first second =
-    false_true (ranges_meet left right) (not_true (ranges_meet left right) is) ((meets_decides left right).1 (a, first, second))
+    false_true (ranges_meet left right) (not-true (ranges_meet left right) is) ((meets_decides left right).1 (a, first, second))
 
 never : (b : Bool) → (b ≡ true → ⊥) → not b ≡ true
 never true none = absurd (none refl)

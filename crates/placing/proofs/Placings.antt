@@ -1,5 +1,5 @@
 -- The placement by a plan, and its refusal, by what is found in turn.
-use Rattle.placing.proofs.Prelude.{◌≡◌, ℕ, ◌+◌, ◌<◌, ◌≤◌, Bool, true, false, List, [], ◌∷◌, map, min, Option, None, Some, option_map, if◌then◌else◌, refl, ap, sym, ◌∙◌, arith, ◌||◌, find, sum, sum_by, zip, nat_lt, option_or, dec_le, lt-ltb, ltb-false, sum_by-cons, none-some, Range, Typed, TypedObject, TypedModule, module_view, Layout, Bases, ModulePlacement, Placement, range_of, Plan, SegmentTooLarge, ObjectMisplaced, code_range, data_range, stack_range, bases_from, module_placement_by, placement_by, placing_refusal, segment_too_large, past_memory, overlapping, is_misplaced, placed_objects, first_misplaced, Storage, data_bytes, storage_with, layout_view, CodeModulePlacement, CodePlan, module_placement_view, plan_view, refusal_of, placements_from, code_placements, data_sizes, layout_sizes, range_refusal, name_of_misplaced}
+use Rattle.placing.proofs.Prelude.{◌≡◌, ℕ, ◌+◌, ◌<◌, ◌≤◌, Bool, true, false, List, [], ◌∷◌, map, min, Option, None, Some, option_map, if◌then◌else◌, refl, ap, sym, ◌∙◌, arith, ◌||◌, find, sum, sum_by, zip, nat_lt, option_or, dec_le, lt-ltb, ltb-false, sum_by-cons, none-some, Range, Typed, TypedModule, module_view, Layout, Bases, ModulePlacement, Placement, range_of, Plan, SegmentTooLarge, ObjectMisplaced, code_range, data_range, stack_range, bases_from, module_placement_by, placement_by, placing_refusal, segment_too_large, past_memory, overlapping, is_misplaced, placed_objects, first_misplaced, Storage, data_bytes, storage_with, layout_view, CodeModulePlacement, CodePlan, module_placement_view, plan_view, refusal_of, placements_from, code_placements, data_sizes, layout_sizes, range_refusal, name_of_misplaced, both_are_none, misplaced_by_name, or-true}
 use Rattle.placing.specs.declared.fault.Fault.{Fault}
 use Rattle.placing.specs.declared.ranges.Ranges.{Ranges}
 
@@ -29,11 +29,6 @@ storages_are : (modules : List Typed) → map (λ (typed : Typed). storage_with 
 storages_are [] = refl
 storages_are (typed ∷ others) = ap (λ rest. storage_with (module_view typed) ∷ rest) (storages_are others)
 
--- ranges without a refusal
-both_none : {A : Type 0} (first second : Option A) → option_or first second ≡ None → (first ≡ None) × (second ≡ None)
-both_none None second none = (refl, none)
-both_none (Some value) second none = absurd (none-some value (sym none))
-
 small_of : (code variables : Bool) → (if code || variables then Some SegmentTooLarge else None) ≡ None → (code ≡ false) × (variables ≡ false)
 small_of false false none = (refl, refl)
 small_of true variables none = absurd (none-some SegmentTooLarge (sym none))
@@ -54,11 +49,7 @@ module _ (code_base data_base code_len data_len : ℕ) (stack : Range) where
   large_code code variables large = too_large code variables (ap (λ b. b || nat_lt 65535 variables.len) (lt-ltb 65535 code.len large))
 
   large_data : (code variables : Range) → 65535 < variables.len → range_refusal code variables stack ≡ Some SegmentTooLarge
-  large_data code variables large = too_large code variables (ap (λ b. nat_lt 65535 code.len || b) (lt-ltb 65535 variables.len large) ∙ any_or (nat_lt 65535 code.len))
-    where
-      any_or : (b : Bool) → (b || true) ≡ true
-      any_or true = refl
-      any_or false = refl
+  large_data code variables large = too_large code variables (ap (λ b. nat_lt 65535 code.len || b) (lt-ltb 65535 variables.len large) ∙ or-true (nat_lt 65535 code.len))
 
   pub capped_refusal : range_refusal capped_code capped_data stack ≡ range_refusal (range_of code_base code_len) (range_of data_base data_len) stack
   capped_refusal = elim (dec_le code_len 65535) [
@@ -78,7 +69,7 @@ module _ (code_base data_base code_len data_len : ℕ) (stack : Range) where
       let small : min code_len 4294967295 ≤ 65535 =
       ltb-false 65535 (min code_len 4294967295)
       (small_of (nat_lt 65535 (min code_len 4294967295)) (nat_lt 65535 (min data_len 4294967295))
-      (both_none (segment_too_large capped_code capped_data)
+      (both_are_none (segment_too_large capped_code capped_data)
       (option_or (past_memory capped_code capped_data stack) (overlapping capped_code capped_data stack)) none).0).0 in
       omega (arith, small)
 
@@ -100,19 +91,12 @@ refusal_split plan modules lengths =
     (overlapping (code_range plan lengths) (data_range plan modules) (stack_range plan))
     (first_misplaced modules (placement_by plan modules lengths))
 
-by_name :
-    (found : Option (TypedObject × ℕ))
-    → option_map (λ (placed : TypedObject × ℕ). ObjectMisplaced (placed.0).name) found
-    ≡ option_map ObjectMisplaced (option_map (λ (placed : TypedObject × ℕ). (placed.0).name) found)
-by_name None = refl
-by_name (Some placed) = refl
-
-misplaced_by_name :
+misplaced_is :
     (modules : List TypedModule) (placement : Placement)
     → first_misplaced modules placement
     ≡ option_map ObjectMisplaced (name_of_misplaced placement.code placement.stack (placed_objects modules placement.modules))
-misplaced_by_name modules placement =
-    by_name (find (is_misplaced placement.code placement.stack) (placed_objects modules placement.modules))
+misplaced_is modules placement =
+    misplaced_by_name (find (is_misplaced placement.code placement.stack) (placed_objects modules placement.modules))
 
 module _ (modules slice : List Typed) (layouts : List Layout) (lengths : List ℕ) (plan : CodePlan) (ranges : Ranges)
     (storage : map layout_view layouts ≡ map (λ (typed : Typed). storage_with (module_view typed)) modules)
@@ -190,7 +174,7 @@ module _ (modules slice : List Typed) (layouts : List Layout) (lengths : List �
           refusal_is
           ∙ ap (λ refused. option_or refused (first_misplaced views (placement_by (plan_view plan) views lengths))) ranges_pass
           ∙ sym (ap (first_misplaced views) placed_is)
-          ∙ misplaced_by_name views (record { modules = made; code = ranges.code; stack = ranges.stack })
+          ∙ misplaced_is views (record { modules = made; code = ranges.code; stack = ranges.stack })
           ∙ sym (ap (λ these. option_map ObjectMisplaced (name_of_misplaced ranges.code ranges.stack (placed_objects (map module_view these) made))) same)
           ∙ sym (ap (λ items. option_map ObjectMisplaced (name_of_misplaced ranges.code ranges.stack (placed_objects (map module_view slice) (map module_placement_view items)))) seen_is)
           ∙ sym (ap (option_map ObjectMisplaced) is)

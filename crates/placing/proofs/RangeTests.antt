@@ -1,12 +1,5 @@
 -- Tests of ranges, where a length stops at the greatest of 32 bits.
-use Rattle.placing.proofs.Prelude.{◌≡◌, ℕ, ◌+◌, ◌<◌, Bool, true, false, min, refl, ap, sym, ◌∙◌, arith, ◌↔◌, ◌||◌, IsTrue, dec_le, lt-ltb, Range, Meets, range_of, overlaps, passes_memory, may_not_lie, overlaps_meets}
-
--- two tests of one thing
-same_test : {P : Type 0} (a b : Bool) → IsTrue a ↔ P → IsTrue b ↔ P → a ≡ b
-same_test true true one other = refl
-same_test false false one other = refl
-same_test true false one other = sym (other.1 (one.0 refl))
-same_test false true one other = one.1 (other.0 refl)
+use Rattle.placing.proofs.Prelude.{◌≡◌, ℕ, ◌+◌, ◌<◌, Bool, true, min, ap, sym, ◌∙◌, arith, ◌↔◌, ◌||◌, IsTrue, dec_le, lt-ltb, Range, Meets, range_of, overlaps, passes_memory, may_not_lie, overlaps_meets, same_test}
 
 pub overlap_is : (result : Bool) (left right : Range) → IsTrue result ↔ Meets left right → result ≡ overlaps left right
 overlap_is result left right meets = same_test result (overlaps left right) meets (overlaps_meets left right)

@@ -1,5 +1,5 @@
 -- Sums over what is left of the lengths and of the layouts.
-use Rattle.placing.proofs.Prelude.{◌≡◌, ℕ, ◌+◌, ◌<◌, ◌≤◌, List, length, drop, get_or, map, min, ap, ◌∙◌, arith, sum, drop_of_length-le, sum_by-cons, Layout, Storage, layout_view, left_first, layout_sizes}
+use Rattle.placing.proofs.Prelude.{◌≡◌, ℕ, ◌+◌, ◌<◌, ◌≤◌, List, length, drop, get_or, map, min, ap, ◌∙◌, arith, sum, drop_of_length-le, sum_by-cons, Layout, Storage, layout_view, left_first, layout_sizes, capped_end}
 
 pub code_first :
     (lengths : List ℕ) (i : ℕ) (first : ℕ)
@@ -47,10 +47,6 @@ pub data_more :
 data_more layouts i first total all within is left =
     capped_more total first.data_size (layout_sizes (drop (i + 1) layouts)) (layout_sizes (drop i layouts)) all
     (data_first layouts i first within is) left
-
--- nothing is left at the end
-capped_end : (total rest all : ℕ) → rest ≡ 0 → total ≤ 4294967295 → min (total + rest) 4294967295 ≡ all → total ≡ all
-capped_end total rest all none capped left = omega arith
 
 pub code_end :
     (lengths : List ℕ) (i total all : ℕ)

@@ -1,8 +1,9 @@
 -- The CALL instruction: where the code from entries on does what calls mean, so does code from a CALL on.
-use Rattle.procedure_laws.proofs.Prelude.{◌≡◌, ◌≢◌, ℕ, suc, ◌+◌, ◌-◌, ◌*◌, ◌<◌, ◌≤◌, ◌==◌, inl, inr, Bool, true, false, if◌then◌else◌, List, [], ◌∷◌, length, slice_set, nat_lt, Option, refl, sym, ap, subst, ◌∙◌, arith, ltb-false, option_map_or, eqb-true, eqb-false, length-set, MEMORY_SIZE, byte_at, Event, ScalarType, Byte, Address, charge_of, TypedModule, TypedProcedure, Within, InProgram, Stack, Surroundings, called, called_for, callee_in, charged, entered, later_by, procedure_at, SourceState, More, Outside, Outcome, Gave, Stopped, taking_one, Call, Running, act, Registers, State, high_byte, low_byte, two_less, wrap, running, step_of, CallTo, word_of, Keeps, one_below, pushed, pushed_is_pushed, pushed_keeps, two_below, Bor, FramePlan, Activation, Arrives, IsReady, IsThere, LiesWell, Owns, FrameLies, Does, IsLeft, Lands, at_place, word_step, after_paid_step, gives, landed, keeps_both, keeps_wider, owns_more, ready_after_push, ArgumentsLie, CallsDo, InRegister, InWord, ResultLies, bytes_pushed, does_same, gives_then, CallsAreKnown, ComesBack, Entries, IsOfCall, ReturnLies, Shape, activation_in, context_in, ModuleCode, ModuleLies, surroundings_in}
+use Rattle.procedure_laws.proofs.Prelude.{◌≡◌, ℕ, suc, ◌+◌, ◌-◌, ◌*◌, ◌<◌, ◌≤◌, ◌==◌, inl, inr, Bool, true, false, if◌then◌else◌, List, [], ◌∷◌, length, slice_set, nat_lt, Option, refl, sym, ap, subst, ◌∙◌, arith, ltb-false, option_map_or, eqb-true, eqb-false, MEMORY_SIZE, byte_at, Event, ScalarType, Byte, Address, charge_of, TypedModule, TypedProcedure, Within, InProgram, Stack, Surroundings, called, called_for, callee_in, charged, entered, later_by, procedure_at, SourceState, More, Outside, Outcome, Gave, Stopped, taking_one, Call, Running, act, Registers, State, high_byte, low_byte, two_less, wrap, running, step_of, CallTo, word_of, Keeps, one_below, pushed, pushed_is_pushed, pushed_keeps, two_below, Bor, FramePlan, Activation, Arrives, IsReady, IsThere, LiesWell, Owns, FrameLies, Does, IsLeft, Lands, at_place, word_step, after_paid_step, gives, landed, keeps_both, keeps_wider, owns_more, ready_after_push, ArgumentsLie, CallsDo, InRegister, InWord, ResultLies, bytes_pushed, does_same, gives_then, CallsAreKnown, ComesBack, Entries, IsOfCall, ReturnLies, Shape, activation_in, context_in, ModuleCode, ModuleLies, surroundings_in, push_keeps}
 use Rattle.meaning.proofs.AgreementStatements.{call_is}
 use Rattle.asm8080.specs.declared.item.Item.TheVariants as items
 use Rattle.procedure_laws.proofs.Callees.{IsCallee, callee_of}
+use Rattle.procedure_laws.proofs.Numbers.{after_one_less, two_less_one}
 
 -- arguments lie where they do while the bytes above the stack pointer, A and HL stay
 pub register_kept : (scalar : ScalarType) (value : ℕ) (r now : Registers)
@@ -62,9 +63,6 @@ call_does script word entry place top r memory events same pointer limit room =
     ∙ (ap (λ n. running (record r { sp = n; pc = word }) (pushed top back memory) events) (lower top limit room)
     ∙ ap (λ n. running (record r { sp = wrap (top - 2); pc = n }) (pushed top back memory) events) same))
 
-one_of : (budget : ℕ) → budget ≢ 0 → suc (budget - 1) ≡ budget
-one_of budget some = omega (arith, some)
-
 -- a part that takes one of the budget: what follows may be paid by a step
 taking_does :
     {A : Type 0} {script : List (List ℕ)} {Good : A → SourceState → State → Type 0} (from : ℕ) (r : Registers)
@@ -91,7 +89,7 @@ taking_does {A = A} {script = script} {Good = Good} from r memory s go rest =
               (record { status_is = refl; events_are = refl }));
         }
     by_test false some =
-        let paid = one_of s.budget (eqb-false s.budget 0 some) in
+        let paid = after_one_less s.budget (eqb-false s.budget 0 some) in
         subst (λ (budget : ℕ).
         Does script budget 0 (at_place from r memory s.events) (go (record s { budget = s.budget - 1 })) Good)
         paid (rest (s.budget - 1) paid)
@@ -124,11 +122,8 @@ return_pushed top back memory room limit size =
     let is = pushed_is_pushed top (wrap back) memory room limit size in
     record {
       low = is.low;
-      high = ap (byte_at (pushed top (wrap back) memory)) (next top room) ∙ is.high;
+      high = ap (byte_at (pushed top (wrap back) memory)) (two_less_one top room) ∙ is.high;
     }
-  where
-    next : (top : ℕ) → 2 ≤ top → top - 2 + 1 ≡ top - 1
-    next top room = omega (arith, room)
 
 -- the bytes of a call below an activation are its own
 call_owned :
@@ -169,21 +164,6 @@ frame_stays activation floor above frame memory ended lies below kept frame_lies
     not_mine object offset within (inr mine) =
         let less : activation.level + activation.distance object + offset < above = mine.1 in
         omega (arith, less, below)
-
--- a PUSH changes two bytes of the activation's own
-push_keeps :
-    (activation : Activation) (top word : ℕ) (memory : List ℕ)
-    → activation.floor + 2 ≤ top
-    → Keeps (Owns activation top) memory (pushed top word memory)
-push_keeps activation top word memory room = record {
-  size =
-      length-set (slice_set memory (top - 1) (high_byte word)) (top - 2) (low_byte word)
-      ∙ length-set memory (top - 1) (high_byte word);
-  bytes = λ address outside.
-      pushed_keeps top word memory address
-      (λ same. outside (inr (inl (omega (arith, same, room), omega (arith, same, room)))))
-      (λ same. outside (inr (inl (omega (arith, same, room), omega (arith, same, room)))));
-}
 
 pub calls_do :
     (code : ModuleCode) (entries : Entries) (within : Within) (frame : Bor FramePlan) (bound number room : ℕ)

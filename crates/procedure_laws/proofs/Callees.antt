@@ -1,5 +1,5 @@
 -- What a call in a module calls: the procedure that it stands for, and the items of its CALL.
-use Rattle.procedure_laws.proofs.Prelude.{◌≡◌, ◌≢◌, ℕ, ◌+◌, ◌<◌, ◌≤◌, ◌⊎◌, inl, inr, get_or, Bool, true, false, [], ◌∷◌, length, slice_get, Option, Some, None, option_map, refl, sym, ap, subst, ◌∙◌, arith, IsSomeAnd, option_and_then, unwrap_or, slice_get_cases, slice_get_within, ExternalTarget, Visibility, TypedModule, TypedProcedure, DeclaredProcedure, InProgram, agree, is_public_procedure, procedure_meant, callee_in, procedure_at, wrap, Reference, AtLabel, AtTarget, CallTo, word_of, ProcedureKind, TreeProcedure, external_number, is_global_procedure, kind_of, items_of_call, module_call_items, Entries, ModuleCode, ModuleLies, surroundings_in}
+use Rattle.procedure_laws.proofs.Prelude.{◌≡◌, ◌≢◌, ℕ, ◌+◌, ◌<◌, ◌≤◌, ◌⊎◌, inl, inr, get_or, Bool, true, false, [], ◌∷◌, length, slice_get, Option, Some, None, option_map, refl, sym, ap, subst, ◌∙◌, arith, IsSomeAnd, option_and_then, unwrap_or, slice_get_cases, slice_get_within, ExternalTarget, Visibility, TypedModule, TypedProcedure, DeclaredProcedure, InProgram, agree, is_public_procedure, procedure_meant, callee_in, procedure_at, wrap, Reference, AtLabel, AtTarget, CallTo, word_of, ProcedureKind, TreeProcedure, external_number, is_global_procedure, kind_of, items_of_call, module_call_items, Entries, ModuleCode, ModuleLies, surroundings_in, not_external}
 use Rattle.typed_trees.specs.declared.parts.Visibility.TheVariants as visibilities
 use Rattle.layout.proofs.Meant.{MeansProcedure, external_procedure_meant, procedures_agree}
 use Rattle.asm8080.specs.declared.item.Item.TheVariants as items
@@ -57,11 +57,6 @@ record IsMeant (code : ModuleCode) (heading : TypedProcedure) (at : InProgram) :
   here : found.visibility ≢ visibilities.External
   types : found.parameter_types ≡ heading.parameter_types
   result : found.result ≡ heading.result
-
-not_external : (visibility : Visibility) → is_public_procedure visibility ≡ true → visibility ≢ visibilities.External
-not_external visibilities.Public is same = cc
-not_external visibilities.External is same = let bad : ⊥ = cc in absurd bad
-not_external visibilities.Private is same = cc
 
 meant_there :
     (code : ModuleCode) (heading : TypedProcedure) (at : InProgram)

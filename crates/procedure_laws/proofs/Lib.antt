@@ -2,6 +2,7 @@ pub use Rattle.statement_laws.proofs.CarriedOut
 pub use Rattle.statement_laws.proofs.Machine.SiteNodes
 pub use Rattle.statement_laws.proofs.Ranges.NumbersOfTrees
 mod Prelude
+pub mod Numbers
 pub mod Trees
 pub mod Ways
 pub mod Callees

@@ -1,5 +1,5 @@
 -- The main program, from its start on.
-use Rattle.procedure_laws.proofs.Prelude.{◌≡◌, ℕ, suc, ◌+◌, ◌-◌, ◌*◌, ◌≤◌, Bool, true, false, List, [], ◌∷◌, ◌++◌, length, refl, sym, ap, subst, arith, frame_bytes, InSegment, charge_of, height_of_list, TypedProcedure, WithinMain, done_list, later_by, Ended, Flow, Gave, Jumped, More, Onward, Outcome, Outside, Returned, SourceState, Stopped, then_do, main_done, run_of, Hlt, Sp, Halted, Running, HoldBytes, Registers, State, wrap, AtTarget, LoadPair, word_of, TreeModule, HasBody, reaches_end_of_list, nodes_of, IsReady, IsThere, LiesWell, Owns, Shares, Does, IsLeft, Lands, at_place, plain_first, word_first, gives, keeps_all, AreThere, both_there, place_at, no_facts_hold, no_facts, IsListCarriedOut, then_does_where, BodyContext, IsSoundBody, Leaves, CallsAreKnown, Entries, activation_in, body_in, main_shape, MainStands, ModuleCode, ModuleLies, surroundings_in, with_tree, CallsOfModuleFit, ListsAreDone}
+use Rattle.procedure_laws.proofs.Prelude.{◌≡◌, ℕ, suc, ◌+◌, ◌-◌, ◌*◌, ◌≤◌, Bool, true, false, List, [], ◌∷◌, ◌++◌, length, refl, sym, ap, subst, arith, frame_bytes, InSegment, charge_of, height_of_list, TypedProcedure, WithinMain, done_list, later_by, Ended, Flow, Gave, Jumped, More, Onward, Outcome, Outside, Returned, SourceState, Stopped, main_done, run_of, Hlt, Sp, Halted, Running, HoldBytes, Registers, State, wrap, AtTarget, LoadPair, word_of, TreeModule, HasBody, reaches_end_of_list, nodes_of, IsReady, IsThere, LiesWell, Owns, Shares, Does, IsLeft, Lands, at_place, plain_first, word_first, gives, keeps_all, AreThere, both_there, place_at, no_facts_hold, no_facts, IsListCarriedOut, then_does_where, BodyContext, IsSoundBody, Leaves, CallsAreKnown, Entries, activation_in, body_in, main_shape, MainStands, ModuleCode, ModuleLies, surroundings_in, with_tree, CallsOfModuleFit, ListsAreDone, no_jump, given_again}
 use Rattle.object_modules.specs.declared.segment.Segment.TheVariants.{Stack}
 use Rattle.asm8080.specs.declared.item.Item.TheVariants as items
 use Rattle.code_meaning.proofs.Standing.{after_word}
@@ -9,7 +9,7 @@ use Rattle.procedure_laws.proofs.CallInstructions.{charged_does}
 use Rattle.treecode_laws.proofs.Labels.{main_labels_differ}
 use Rattle.procedure_laws.proofs.ProcedureCalls.{charge_is}
 use Rattle.procedure_laws.proofs.Soundness.{body_sound, context_sound, main_planned, static_lies, there_in}
-use Rattle.procedure_laws.proofs.Ways.{IsLeftBy, LeavesBy, body_left, no_jump}
+use Rattle.procedure_laws.proofs.Ways.{IsLeftBy, LeavesBy, body_left}
 
 -- the machine halted after the events of the source
 abbrev pub IsHalted : Flow → SourceState → State → Type 0
@@ -24,12 +24,8 @@ gives_where :
     → Does script t.budget 0 end (Gave found t) Good)
     → Does script budget 0 from outcome Good
 gives_where {A = A} {script = script} {budget = budget} {from = from} outcome {Middle = Middle} {Good = Good} one rest =
-    subst (λ (given : Outcome A). Does script budget 0 from given Good) (ends outcome)
+    subst (λ (given : Outcome A). Does script budget 0 from given Good) (given_again outcome)
     (then_does_where outcome {go = λ found t. Gave found t} one rest)
-  where
-    ends : (of : Outcome A) → then_do of (λ found t. Gave found t) ≡ of
-    ends (Gave found t) = refl
-    ends (Stopped why t) = refl
 
 end_word : (address level : ℕ) → wrap address ≡ wrap level → wrap (0 + address) ≡ wrap level
 end_word address level same = omega (arith, same)

@@ -1,7 +1,7 @@
 -- A call from three parts: how its procedure begins, its statements, and how it returns.
-use Rattle.procedure_laws.proofs.Prelude.{◌≡◌, ℕ, ◌+◌, ◌-◌, ◌*◌, ◌<◌, ◌≤◌, ◌⊎◌, inl, inr, Bool, true, false, List, [], length, Option, refl, sym, ap, subst, ◌∙◌, arith, ScalarType, height_of_list, ListStands, TypedProcedure, TypesHoldInList, done_list, entered, value_of_flow, Flow, Gave, Jumped, Onward, Outcome, Returned, SourceState, then_do, Registers, State, wrap, Item, Keeps, Range, IsList, Activation, IsReady, IsThere, LiesWell, Owns, Arrives, Does, at_place, then_does, keeps_both, keeps_wider, Facts, Here, ResultLies, bytes_pushed, nodes_in, then_does_where, BodyContext, ComesToReturn, GoesOn, Leaves, ReturnStands, ListDoes, ComesBack, IsEntered, IsOfCall, ReturnLies, IsEndCode, BeginDoes, HasReturned, ReturnDoes}
+use Rattle.procedure_laws.proofs.Prelude.{◌≡◌, ℕ, ◌+◌, ◌-◌, ◌*◌, ◌<◌, ◌≤◌, ◌⊎◌, inl, inr, Bool, true, false, List, [], length, Option, refl, sym, ap, subst, ◌∙◌, arith, ScalarType, height_of_list, ListStands, TypedProcedure, TypesHoldInList, done_list, entered, value_of_flow, Flow, Gave, Jumped, Onward, Outcome, Returned, SourceState, then_do, Registers, State, wrap, Item, Keeps, Range, IsList, Activation, IsReady, IsThere, LiesWell, Owns, Arrives, Does, at_place, then_does, keeps_both, keeps_wider, Facts, Here, ResultLies, bytes_pushed, nodes_in, then_does_where, BodyContext, ComesToReturn, GoesOn, Leaves, ReturnStands, ListDoes, ComesBack, IsEntered, IsOfCall, ReturnLies, IsEndCode, BeginDoes, HasReturned, ReturnDoes, no_jump}
 use Rattle.procedure_laws.proofs.Ends.{end_does}
-use Rattle.procedure_laws.proofs.Ways.{IsLeftBy, LeavesBy, Ways, no_jump}
+use Rattle.procedure_laws.proofs.Ways.{IsLeftBy, LeavesBy, Ways}
 
 -- the bytes of an activation are those of its call
 pub owned_by_call :

@@ -1,5 +1,5 @@
 -- A module's own procedures do what calls of them mean, where calls of all procedures do so in runs of less.
-use Rattle.procedure_laws.proofs.Prelude.{◌≡◌, ◌≢◌, ℕ, zero, suc, ◌+◌, ◌-◌, ◌*◌, ◌<◌, ◌≤◌, ◌⊎◌, inl, inr, Bool, true, false, List, [], ◌∷◌, ◌++◌, length, slice_get, Some, All, refl, sym, ap, subst, ◌∙◌, arith, Bor, ScalarType, Visibility, charge_of, height_of_list, AreParameters, HasParameters, home_of_parameters, BodyIsSound, Home, TypedModule, TypedProcedure, TypesHoldInList, TypesHoldInProcedure, WithinProcedure, done_list, entered, later_by, SourceState, Registers, State, running, TreeModule, ProcedureKind, TreeProcedure, kind_of, IsProcedure, nodes_of, FramePlan, return_distance, return_of, parameter_count, has_parameters, numbered_at, IsThere, LiesWell, Does, at_place, AreThere, both_there, place_at, ArgumentsLie, FrameIsPlanned, bytes_pushed, BodyContext, IsSoundBody, CallsAreKnown, ComesBack, Entries, EntryDoes, IsEntered, Shape, activation_in, body_in, context_in, frame_shape, static_shape, ModuleCode, ModuleLies, ProcedureStands, bare, surroundings_in, Anywhere, with_tree, CallsOfModuleFit, IsBodyOf, ListsAreDone, ReentrantBegins, ReentrantReturns, StaticBegins, StaticReturns, frame_level, static_level, BeginDoes, ReturnDoes}
+use Rattle.procedure_laws.proofs.Prelude.{◌≡◌, ◌≢◌, ℕ, zero, suc, ◌+◌, ◌-◌, ◌*◌, ◌<◌, ◌≤◌, ◌⊎◌, inl, inr, Bool, true, false, List, [], ◌∷◌, ◌++◌, length, slice_get, Some, refl, sym, ap, subst, ◌∙◌, arith, Bor, ScalarType, Visibility, charge_of, height_of_list, AreParameters, HasParameters, home_of_parameters, BodyIsSound, Home, TypedModule, TypedProcedure, TypesHoldInList, TypesHoldInProcedure, WithinProcedure, done_list, entered, later_by, SourceState, Registers, State, running, TreeModule, ProcedureKind, TreeProcedure, kind_of, IsProcedure, nodes_of, FramePlan, return_distance, return_of, parameter_count, has_parameters, numbered_at, IsThere, LiesWell, Does, at_place, AreThere, both_there, place_at, ArgumentsLie, FrameIsPlanned, bytes_pushed, BodyContext, IsSoundBody, CallsAreKnown, ComesBack, Entries, EntryDoes, IsEntered, Shape, activation_in, body_in, context_in, frame_shape, static_shape, ModuleCode, ModuleLies, ProcedureStands, bare, surroundings_in, Anywhere, with_tree, CallsOfModuleFit, IsBodyOf, ListsAreDone, ReentrantBegins, ReentrantReturns, StaticBegins, StaticReturns, frame_level, static_level, BeginDoes, ReturnDoes, holds_for_item}
 use Rattle.typed_trees.specs.declared.parts.Visibility.TheVariants as visibilities
 use Rattle.treecode.specs.declared.procedure.ProcedureKind.TheVariants as kinds
 use Rattle.procedure_laws.proofs.Trees.{lies_anywhere}
@@ -8,16 +8,6 @@ use Rattle.treecode_laws.proofs.Labels.{procedure_labels_differ}
 use Rattle.procedure_laws.proofs.Parts.{entered_does}
 use Rattle.procedure_laws.proofs.Soundness.{body_sound, context_sound, frame_lies, frame_planned, static_lies, static_planned, there_in}
 use Rattle.procedure_laws.proofs.Ways.{IsLeftBy, body_left}
-
--- what holds of all items holds of one
-pub holds_at : {A : Type 0} (P : A → Type 0) (list : List A) (index : ℕ) (one : A)
-    → All P list → slice_get list index ≡ Some one → P one
-holds_at P [] index one all there = let bad : ⊥ = cc in absurd bad
-holds_at P (first ∷ others) zero one all there =
-    let same : first ≡ one = cc in
-    subst P same (all 0 first (omega arith))
-holds_at P (first ∷ others) (suc index) one all there =
-    holds_at P others index one (λ i d below. all (suc i) d (omega (arith, below))) there
 
 -- as many values as types
 pub as_many_values : (types : List ScalarType) (values : List ℕ) (top : ℕ) (r : Registers) (memory : List ℕ)
@@ -107,7 +97,7 @@ module _ (code : ModuleCode) (entries : Entries) (bound number : ℕ) (lies : Mo
 
     sound_jumps : BodyIsSound found.body
     sound_jumps =
-        holds_at (λ (one : TypedProcedure). BodyIsSound one.body) code.typed.procedures index found lies.jumps.procedures is
+        holds_for_item (λ (one : TypedProcedure). BodyIsSound one.body) code.typed.procedures index found lies.jumps.procedures is
 
     types_hold : TypesHoldInList code.typed (WithinProcedure index found.result) found.body
     types_hold =

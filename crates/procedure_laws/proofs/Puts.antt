@@ -1,5 +1,5 @@
 -- Values that are put into memory one after another, in either order.
-use Rattle.procedure_laws.proofs.Prelude.{◌≡◌, ◌≢◌, ℕ, zero, suc, ◌+◌, ◌/◌, ◌%◌, ◌<◌, ◌⊎◌, inl, inr, Bool, true, false, if◌then◌else◌, List, [], ◌∷◌, length, map, slice_get, slice_set, Some, refl, sym, ap, subst, ◌∙◌, arith, length-set, set_comm, MEMORY_SIZE, byte_at, ScalarType, Byte, Address, Surroundings, InMemory, is_constant, is_declared, place_of, write_scalar, Reason, UndeclaredByte, Constant, parameters_set, Gave, Outcome, Outside, Program, SourceState, Stopped, then_do, State, wrap, byte_kept, byte_put, Place, IsVariable, Does}
+use Rattle.procedure_laws.proofs.Prelude.{◌≡◌, ℕ, zero, suc, ◌+◌, ◌/◌, ◌%◌, ◌<◌, ◌⊎◌, inl, inr, Bool, true, false, if◌then◌else◌, List, [], ◌∷◌, length, map, slice_get, slice_set, Some, refl, sym, ap, subst, ◌∙◌, arith, length-set, set_comm, MEMORY_SIZE, byte_at, ScalarType, Byte, Address, Surroundings, InMemory, is_constant, is_declared, place_of, write_scalar, Reason, UndeclaredByte, Constant, parameters_set, Gave, Outcome, Outside, Program, SourceState, Stopped, then_do, State, wrap, byte_kept, byte_put, Place, IsVariable, Does, differs_from_next}
 
 -- a parameter in memory: its type, its object, its place and where that lies
 pub record Slot : Type 0 where
@@ -115,15 +115,12 @@ Lies Byte at value memory = byte_at memory at ≡ value % 256
 Lies Address at value memory =
     (byte_at memory at ≡ value % 256) × (byte_at memory (wrap (at + 1)) ≡ value / 256)
 
-differ_next : (at : ℕ) → at < MEMORY_SIZE → at ≢ wrap (at + 1)
-differ_next at small same = omega (arith, same, small)
-
 put_lies : (scalar : ScalarType) (at value : ℕ) (memory : List ℕ)
     → at < MEMORY_SIZE → length memory ≡ MEMORY_SIZE → Lies scalar at value (put scalar at value memory)
 put_lies Byte at value memory small size = byte_put memory at (value % 256) (omega (arith, small, size))
 put_lies Address at value memory small size =
     let inner = length-set memory at (value % 256) in (
-      byte_kept (slice_set memory at (value % 256)) (wrap (at + 1)) at (value / 256) (differ_next at small)
+      byte_kept (slice_set memory at (value % 256)) (wrap (at + 1)) at (value / 256) (differs_from_next at small)
           ∙ byte_put memory at (value % 256) (omega (arith, small, size)),
       byte_put (slice_set memory at (value % 256)) (wrap (at + 1)) (value / 256) (omega (arith, inner, size)),
     )

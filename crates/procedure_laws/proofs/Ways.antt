@@ -1,6 +1,6 @@
 -- How a body can be left: no jump leaves one in which each GOTO goes to a label of a list around it; its end is reached
 -- only where its form and known conditions let it be; and a main program does not return.
-use Rattle.procedure_laws.proofs.Prelude.{◌≡◌, ℕ, zero, suc, ◌+◌, ◌-◌, ◌<◌, ◌≤◌, ◌==◌, ◌||◌, Bool, true, false, not, List, [], ◌∷◌, length, slice_get, nat_le, nat_lt, Option, Some, None, cond, Any, option_map, arith, refl, sym, ap, subst, ◌∙◌, le-leb, LabelsOf, IsAmongLabels, labels_of_list, IsClosed, JumpsStay, JumpsStayInElse, JumpsStayInStatements, JumpsStayInList, LabelsStand, ListsStand, ListsStandInCases, ListsStandInElse, ListsStandInStatements, ListStands, TypedExpression, TypedIteration, TypedModule, TypedStatement, LabelStatement, NullStatement, AssignmentStatement, CallStatement, MoveStatement, ReturnStatement, HaltStatement, GotoStatement, IfStatement, DoStatement, WhileStatement, IterateStatement, CaseStatement, TypedElse, NoElse, ElseStatement, TypedStatements, NoStatements, MoreStatements, TypedList, ListOf, IsReturned, TypesHold, TypesHoldIn, TypesHoldInElse, TypesHoldInList, TypesHoldInStatements, Within, WithinMain, WithinProcedure, Storage, as_type, is_true, values_of, Surroundings, Later, Turn, WhileTurn, IterateTurn, after_turn, called_for, callee_in, caught_in, done, done_all, done_case, done_else, done_list, dropped, going_on, iterated, later_by, moved, read_variable, rest_from, rest_of, returned, step_value, stepped, stored_in_each, turn_of, value, values, write_variable, Outcome, Gave, Stopped, then_do, taking_one, Flow, Onward, Returned, Jumped, body_of_turn, Place, Number, known_number, known_value, ends_by, reaches_end, reaches_end_of_else, reaches_end_of_list, reaches_end_of_statements, Nodes, HaveOperands, Resolves, have_operands, place_of_number}
+use Rattle.procedure_laws.proofs.Prelude.{◌≡◌, ℕ, zero, suc, ◌+◌, ◌-◌, ◌≤◌, ◌==◌, Bool, true, false, not, List, [], ◌∷◌, length, slice_get, nat_le, nat_lt, Option, Some, None, cond, Any, option_map, arith, refl, sym, ap, subst, ◌∙◌, LabelsOf, IsAmongLabels, labels_of_list, IsClosed, JumpsStay, JumpsStayInElse, JumpsStayInStatements, JumpsStayInList, LabelsStand, ListsStand, ListsStandInCases, ListsStandInElse, ListsStandInStatements, ListStands, TypedExpression, TypedIteration, TypedModule, TypedStatement, LabelStatement, NullStatement, AssignmentStatement, CallStatement, MoveStatement, ReturnStatement, HaltStatement, GotoStatement, IfStatement, DoStatement, WhileStatement, IterateStatement, CaseStatement, TypedElse, NoElse, ElseStatement, TypedStatements, NoStatements, MoreStatements, TypedList, ListOf, IsReturned, TypesHold, TypesHoldIn, TypesHoldInElse, TypesHoldInList, TypesHoldInStatements, Within, WithinMain, WithinProcedure, Storage, as_type, is_true, values_of, Surroundings, Later, Turn, WhileTurn, IterateTurn, after_turn, called_for, callee_in, caught_in, done, done_all, done_case, done_else, done_list, dropped, going_on, iterated, later_by, moved, read_variable, rest_from, rest_of, returned, step_value, stepped, stored_in_each, turn_of, value, values, write_variable, Outcome, Gave, Stopped, then_do, taking_one, Flow, Onward, Returned, Jumped, body_of_turn, Place, Number, known_number, known_value, ends_by, reaches_end, reaches_end_of_else, reaches_end_of_list, reaches_end_of_statements, Nodes, HaveOperands, Resolves, have_operands, place_of_number, dropped_types, or_left, or_right, dropped_lists, jumps_dropped, outer_label}
 use Rattle.meaning.specs.{Meaning.{landed}, Outcomes.{State}}
 use Rattle.treecode.specs.declared.place.Home.{Home}
 use Rattle.treecode_laws.proofs.Operands.{known_gives}
@@ -78,33 +78,6 @@ reached reaches other returns labels Onward more leaves = more leaves
 reached reaches other returns labels (Returned found) more leaves = leaves
 reached reaches other returns labels (Jumped label) more leaves = leaves
 
--- a label of a list is found in it
-there_below : (items : List ℕ) (at : ℕ) → at < length items → slice_get items at ≡ None → ⊥
-there_below [] at below none = omega (arith, below)
-there_below (item ∷ others) zero below none = cc
-there_below (item ∷ others) (suc at) below none = there_below others at (omega (arith, below)) none
-
-found_by : (test : Bool) (first label : ℕ) (places : List ℕ) (body : TypedStatements) (found : Option ℕ)
-    → nat_le first label ≡ test → slice_get places (label - first) ≡ found
-    → cond test (option_map (λ place. dropped place body) found) None ≡ None
-    → IsAmongLabels label (labels_of_list first places) → ⊥
-found_by true first label places body (Some place) is at none among = cc
-found_by true first label places body None is at none among =
-    there_below places (label - first) (omega (arith, among.0, among.1)) at
-found_by false first label places body found is at none among =
-    let bad : false ≡ true = sym is ∙ le-leb first label among.0 in
-    cc
-
-outer_label : (first label : ℕ) (places : List ℕ) (body : TypedStatements) (labels : List LabelsOf)
-    → rest_from label (ListOf first places body) ≡ None
-    → Any (IsAmongLabels label) (labels_of_list first places ∷ labels) → Any (IsAmongLabels label) labels
-outer_label first label places body labels none (zero, one, below, same, among) =
-    let own : IsAmongLabels label (labels_of_list first places) =
-    subst (λ (these : LabelsOf). IsAmongLabels label these) (sym same) among in
-    absurd (found_by (nat_le first label) first label places body (slice_get places (label - first)) refl refl none own)
-outer_label first label places body labels none (suc index, one, below, same, among) =
-    (index, one, omega (arith, below), same, among)
-
 -- what is left of a list: it begins with a label
 record IsRest (label first : ℕ) (places : List ℕ) (body rest : TypedStatements) : Type 0 where
   place : ℕ
@@ -179,33 +152,6 @@ reaches_rest starts storage before other zero (MoreStatements first others) some
 reaches_rest starts storage before other (suc count) NoStatements some = absurd some
 reaches_rest starts storage before other (suc count) (MoreStatements first others) some =
     reaches_rest starts storage (reaches_end starts storage first) other count others some
-
-jumps_dropped : (labels : List LabelsOf) (count : ℕ) (body : TypedStatements)
-    → JumpsStayInStatements labels body → JumpsStayInStatements labels (dropped count body)
-jumps_dropped labels zero body jumps = jumps
-jumps_dropped labels (suc count) NoStatements jumps = tt
-jumps_dropped labels (suc count) (MoreStatements first others) jumps = jumps_dropped labels count others jumps.1
-
-stands_dropped : (count : ℕ) (body : TypedStatements)
-    → ListsStandInStatements body → ListsStandInStatements (dropped count body)
-stands_dropped zero body stands = stands
-stands_dropped (suc count) NoStatements stands = tt
-stands_dropped (suc count) (MoreStatements first others) stands = stands_dropped count others stands.1
-
-types_dropped : (typed : TypedModule) (within : Within) (count : ℕ) (body : TypedStatements)
-    → TypesHoldInStatements typed within body → TypesHoldInStatements typed within (dropped count body)
-types_dropped typed within zero body types = types
-types_dropped typed within (suc count) NoStatements types = tt
-types_dropped typed within (suc count) (MoreStatements first others) types =
-    types_dropped typed within count others types.1
-
-either_left : (one other : Bool) → one ≡ true → (one || other) ≡ true
-either_left true other same = refl
-either_left false other same = let bad : ⊥ = cc in absurd bad
-
-either_right : (one other : Bool) → other ≡ true → (one || other) ≡ true
-either_right true other same = refl
-either_right false other same = same
 
 module _ (typed : TypedModule) (within : Within) (nodes : Nodes) (storage : Storage) (address : Place → ℕ)
     (around : Surroundings) (resolves : Resolves around nodes.homes storage address)
@@ -438,7 +384,7 @@ module _ (typed : TypedModule) (within : Within) (nodes : Nodes) (storage : Stor
           (λ flow leaves.
           reached (reaches_end starts storage body) (reaches_end starts storage (IfStatement condition body otherwise))
           (may_return within) labels flow
-          (either_left (reaches_end starts storage body) (reaches_end_of_else starts storage otherwise)) leaves)
+          (or_left (reaches_end starts storage body) (reaches_end_of_else starts storage otherwise)) leaves)
           (statement_left body labels t jumps.0 stand.1 types.1))
           (λ same.
           left_wider (by (reaches_end_of_else starts storage otherwise) labels)
@@ -447,7 +393,7 @@ module _ (typed : TypedModule) (within : Within) (nodes : Nodes) (storage : Stor
           (λ flow leaves.
           reached (reaches_end_of_else starts storage otherwise)
           (reaches_end starts storage (IfStatement condition body otherwise)) (may_return within) labels flow
-          (either_right (reaches_end starts storage body) (reaches_end_of_else starts storage otherwise)) leaves)
+          (or_right (reaches_end starts storage body) (reaches_end_of_else starts storage otherwise)) leaves)
           (else_left otherwise labels t jumps.1 stand.2 types.2)))
       statement_left (DoStatement body) labels s jumps stand types = list_left body labels s jumps stand types
       statement_left (WhileStatement condition body) labels s jumps stand types =
@@ -543,8 +489,8 @@ module _ (typed : TypedModule) (within : Within) (nodes : Nodes) (storage : Stor
         (reaches_rest starts storage true true part.place body some)
         (statements_left (dropped part.place body) (labels_of_list first places ∷ labels) s
         (jumps_dropped (labels_of_list first places ∷ labels) part.place body good.jumps)
-        (stands_dropped part.place body good.stands.1)
-        (types_dropped typed within part.place body good.types)))
+        (dropped_lists part.place body good.stands.1)
+        (dropped_types typed within part.place body good.types)))
         (λ flow t leaves. catches first places body labels flow t good leaves))
       where
         part : IsRest label first places body rest
@@ -574,6 +520,3 @@ module _ (typed : TypedModule) (within : Within) (nodes : Nodes) (storage : Stor
       → IsLeftBy (by (reaches_end_of_list nodes.homes storage true body) []) (done_list (later_by count) around body s)
   body_left count body s closed stands types =
       list_left (later_by count) (later_left count) body [] s closed stands types
-
-pub no_jump : (label : ℕ) → Any (IsAmongLabels label) [] → ⊥
-no_jump label (index, one, below, same, among) = absurd (omega (arith, below))

@@ -1,6 +1,6 @@
 -- A machine that does what each run of a source does agrees with the source.
-use Rattle.program_laws.proofs.Prelude.{◌≡◌, ◌≢◌, ℕ, ◌+◌, ◌-◌, ◌≤◌, ◌<◌, List, refl, sym, ap, ◌∙◌, subst, arith, ⊎_elim, cases_lt, IsBeginning, Status, Halted, Illegal, Running, State, state_after, Stop, Ended, More, Outside, NeverOutside, Run, Agrees, ComesTo, Performs}
-use Rattle.isa8080.proofs.{Endings.{stays_state, state_after_sum}, Growing.{begins_itself, run_adds}}
+use Rattle.program_laws.proofs.Prelude.{◌≡◌, ◌≢◌, ℕ, ◌+◌, ◌-◌, ◌≤◌, ◌<◌, List, refl, sym, ap, ◌∙◌, subst, arith, ⊎_elim, cases_lt, IsBeginning, Status, Halted, Illegal, Running, State, state_after, Stop, Ended, More, Outside, NeverOutside, Run, Agrees, ComesTo, Performs, begins_itself}
+use Rattle.isa8080.proofs.{Endings.{stays_state, state_after_sum}, Growing.{run_adds}}
 
 module _ (script : List (List ℕ)) (start : State) where
   abbrev after : ℕ → State

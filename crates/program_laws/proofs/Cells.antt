@@ -1,5 +1,5 @@
 -- The bytes of a segment that was assembled: they are those of its items, each target at 0.
-use Rattle.program_laws.proofs.Prelude.{◌≡◌, ℕ, zero, suc, ◌+◌, ◌<◌, ◌≤◌, Bool, true, false, List, [], ◌∷◌, ◌++◌, length, map, replicate, Option, Some, None, option_map, is_some, refl, sym, ap, subst, ◌∙◌, arith, slice_get, unwrap_or, AllByRecursion, slice_get_within, slice_get-map, get_or_from_slice_get, MEMORY_SIZE, byte_at, wrap, bytes_of, Fix, FixKind, Low, High, Both, Target, Fixup, SetByte, after_fixup, bytes_resolved, first_byte_moved, moved_after, value_after, value_moved, Item, Plain, WithWord, Byte, Address, Gap, Mark, Assembled, Assembles, fixed_bytes, fixes_of_items, layout_at, places_of, set_bytes, Assembly, Layout, Stands, bytes_of_item, flags_of_items, size_of, BytesStand, SetBytesStand, flags_length, cells_of_items, fixed_items, set_of_items, item_length}
+use Rattle.program_laws.proofs.Prelude.{◌≡◌, ℕ, zero, suc, ◌+◌, ◌<◌, ◌≤◌, Bool, true, false, List, [], ◌∷◌, ◌++◌, length, map, replicate, Option, Some, None, option_map, is_some, refl, sym, ap, subst, ◌∙◌, arith, slice_get, unwrap_or, AllByRecursion, slice_get_within, slice_get-map, get_or_from_slice_get, MEMORY_SIZE, byte_at, wrap, bytes_of, Fix, FixKind, Low, High, Both, Target, Fixup, SetByte, after_fixup, bytes_resolved, first_byte_moved, moved_after, value_after, value_moved, Item, Plain, WithWord, Byte, Address, Gap, Mark, Assembled, Assembles, fixed_bytes, fixes_of_items, layout_at, places_of, set_bytes, Assembly, Layout, Stands, bytes_of_item, flags_of_items, size_of, BytesStand, SetBytesStand, flags_length, cells_of_items, fixed_items, set_of_items, item_length, set_length}
 
 -- each target at 0
 abbrev pub at_zero : Target → ℕ
@@ -241,11 +241,6 @@ flags_of_set (byte ∷ bytes) (true ∷ flags) same =
     ap (λ (rest : List Bool). true ∷ rest) (flags_of_set bytes flags (omega (arith, same)))
 flags_of_set (byte ∷ bytes) (false ∷ flags) same =
     ap (λ (rest : List Bool). false ∷ rest) (flags_of_set bytes flags (omega (arith, same)))
-
-pub set_length : (bytes : List ℕ) (flags : List Bool) → length (set_bytes bytes flags) ≡ length bytes
-set_length [] flags = refl
-set_length (byte ∷ bytes) [] = ap (λ n. suc n) (set_length bytes [])
-set_length (byte ∷ bytes) (flag ∷ flags) = ap (λ n. suc n) (set_length bytes flags)
 
 -- What was assembled has the bytes of its items.
 pub cells_are :

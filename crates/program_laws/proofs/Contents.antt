@@ -1,5 +1,5 @@
 -- Contents of tree code, as items of a segment, are the bytes that they are before the module has its place.
-use Rattle.program_laws.proofs.Prelude.{◌≡◌, ℕ, zero, suc, ◌+◌, ◌%◌, ◌/◌, ◌<◌, List, [], ◌∷◌, ◌++◌, map, replicate, Option, Some, None, option_map, refl, sym, ap, subst, ◌∙◌, arith, AllByRecursion, option_map_or, none-some, same_Some, Target, InSegment, External, ObjectModule, SetByte, Places, Named, Item, AtTarget, layout_at, Assembly, row_of, set_of_items, Content, ExternalName, Place, Extends, entry, high, low, Written, in_front, numbered, AreTargets, IsNamed, contents_items, KeepWords, name_at, places_of_contents, BeginWith, IsTarget}
+use Rattle.program_laws.proofs.Prelude.{◌≡◌, ℕ, zero, suc, ◌+◌, ◌%◌, ◌/◌, ◌<◌, List, [], ◌∷◌, ◌++◌, map, replicate, Option, Some, None, option_map, refl, sym, ap, subst, ◌∙◌, arith, AllByRecursion, option_map_or, none-some, same_Some, Target, InSegment, External, ObjectModule, SetByte, Places, Named, Item, AtTarget, layout_at, Assembly, row_of, set_of_items, Content, ExternalName, Place, Extends, entry, high, low, Written, in_front, numbered, AreTargets, IsNamed, contents_items, KeepWords, name_at, places_of_contents, BeginWith, IsTarget, word_of_high}
 use Rattle.object_modules.specs.declared.segment.Segment.TheVariants as object_segments
 use Rattle.asm8080.specs.declared.item.Item.TheVariants as items
 use Rattle.treecode.specs.declared.module.Content.TheVariants as contents
@@ -176,9 +176,6 @@ module _
       AllByRecursion HasByte (placed (items.Byte (low number) ∷ rest))
       → KeepWords (contents.Word (places.Number number) ∷ others)) is
       (λ last are all. (word_of_high number all.1.0, contents_keep others last are all.1.1))) all
-    where
-      word_of_high : (number : ℕ) → number / 256 < 256 → number < 65536
-      word_of_high number small = omega (arith, small)
   contents_keep (contents.Word (places.Code offset) ∷ others) made same all =
       in_front_of (items.Address (AtTarget (InSegment object_segments.Code) offset))
       (numbered written (items_from others)) made

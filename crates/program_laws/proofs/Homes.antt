@@ -1,20 +1,8 @@
 -- Where tree code has an object, by where the object lives.
-use Rattle.program_laws.proofs.Prelude.{◌≡◌, ℕ, zero, suc, ◌+◌, ◌<◌, List, [], ◌∷◌, ◌++◌, length, slice_get, get_or, Some, refl, ap, sym, ◌∙◌, arith, get_or_append_left, get_or_push, length_push, none-some, same_Some, TypedHome, BasedOn, InFrame, TypedObject, TypedModule, Storage, Home, Static, Place, Number, home_of_object, homes_from, homes_of, home_at}
+use Rattle.program_laws.proofs.Prelude.{◌≡◌, ℕ, zero, suc, ◌+◌, List, [], ◌∷◌, ◌++◌, length, slice_get, get_or, Some, refl, ap, sym, ◌∙◌, arith, get_or_push, length_push, none-some, same_Some, TypedHome, BasedOn, InFrame, TypedObject, TypedModule, Storage, Home, Static, Place, Number, home_of_object, homes_from, homes_of, home_at, earlier_kept}
 
 abbrev next_home : TypedModule → Storage → (before : List Home) → TypedObject → Home
 next_home typed storage before object = home_of_object typed storage before (length before) object.home
-
--- those before stay
-kept :
-    (typed : TypedModule) (storage : Storage) (before : List Home) (objects : List TypedObject)
-    (number : ℕ) (default : Home)
-    → number < length before
-    → get_or (homes_from typed storage before objects) number default ≡ get_or before number default
-kept typed storage before [] number default within = refl
-kept typed storage before (object ∷ others) number default within =
-    kept typed storage (before ++ next_home typed storage before object ∷ []) others number default
-    (omega (arith, within, length_push before (next_home typed storage before object)))
-    ∙ get_or_append_left before (next_home typed storage before object ∷ []) default number within
 
 -- the home of an object, by those of the objects before it
 pub record HomeIs (typed : TypedModule) (storage : Storage) (kind : TypedHome) (home : Home) : Type 0 where
@@ -35,7 +23,7 @@ home_from typed storage before (first ∷ others) zero object default found = re
       ap (λ (number : ℕ).
       get_or (homes_from typed storage (before ++ next_home typed storage before first ∷ []) others) number
       default) nothing_more
-      ∙ kept typed storage (before ++ next_home typed storage before first ∷ []) others (length before) default
+      ∙ earlier_kept typed storage (before ++ next_home typed storage before first ∷ []) others (length before) default
       (omega (arith, length_push before (next_home typed storage before first)))
       ∙ get_or_push before (next_home typed storage before first) default (length before) refl
       ∙ ap (λ (home : TypedHome). home_of_object typed storage before (length before) home)

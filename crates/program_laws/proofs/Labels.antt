@@ -1,9 +1,9 @@
 -- The labels of a module lie where its object module has them, and those of procedures by their headings.
-use Rattle.program_laws.proofs.Prelude.{◌≡◌, ◌≢◌, ℕ, ◌+◌, Bool, true, false, ◌||◌, List, ◌++◌, Some, None, refl, ap, sym, ◌∙◌, subst, arith, slice_get, unwrap_or, if◌then◌else◌, option_map_or, eq-eqb, lt-ltb, recursion_from_All, slice_get_within, Target, InSegment, ObjectModule, Visibility, TypedModule, TypedProcedure, Mark, place_of, KnowsLabels, Layout, is_bound, marks, offset_of, bound_in_parts, TreeProcedure, external_number, is_global_procedure, kind_of, some_within, Written, known_label, place_of_known, place_of_label, IsCodeOfMain, IsGenerated, IsMainCode, contents_items, has_main, module_layout, written_layout, IsSoundlyMade}
+use Rattle.program_laws.proofs.Prelude.{◌≡◌, ◌≢◌, ℕ, ◌+◌, Bool, true, false, ◌||◌, List, ◌++◌, Some, None, refl, ap, sym, ◌∙◌, subst, arith, slice_get, unwrap_or, if◌then◌else◌, option_map_or, eq-eqb, lt-ltb, recursion_from_All, slice_get_within, Target, InSegment, ObjectModule, Visibility, TypedModule, TypedProcedure, Mark, place_of, KnowsLabels, Layout, is_bound, marks, offset_of, bound_in_parts, TreeProcedure, external_number, is_global_procedure, kind_of, some_within, Written, known_label, place_of_known, place_of_label, IsCodeOfMain, IsGenerated, IsMainCode, contents_items, has_main, module_layout, written_layout, IsSoundlyMade, or_left, or_right}
 use Rattle.object_modules.specs.declared.segment.Segment.TheVariants as segments
 use Rattle.typed_trees.specs.declared.parts.Visibility.TheVariants as visibilities
 use Rattle.treecode.specs.declared.procedure.ProcedureKind.TheVariants as kinds
-use Rattle.program_laws.proofs.Marks.{bound_label_small, label_known, or_left, or_right, procedures_bound}
+use Rattle.program_laws.proofs.Marks.{bound_label_small, label_known, procedures_bound}
 use Rattle.program_laws.proofs.ModuleStands.{IsOwn}
 
 -- a procedure whose kind is EXTERNAL is so, and its name is the one of that number

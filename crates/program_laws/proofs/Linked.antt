@@ -1,6 +1,6 @@
 -- Modules of a program whose object modules are linked, placed and loaded lie in memory, and their procedures are entered
 -- where their code begins.
-use Rattle.program_laws.proofs.Prelude.{◌≡◌, ℕ, zero, suc, ◌+◌, ◌%◌, ◌≤◌, true, ◌&&◌, List, [], ◌∷◌, length, sum, Option, Some, option_map, refl, ap, sym, ◌∙◌, subst, arith, slice_get, slice_index, bytes_eq, option_map_or, option_and_then, position_from-zero, sum_by-cons, none-some, same_Some, slice_get-map, bytes_eq-Decides, MEMORY_SIZE, public_named, Image, ObjectModule, Public, address_of_public, piece_base, Visibility, Elsewhere, Nowhere, TypedModule, TypedObject, TypedProcedure, Bases, InProgram, first_found, is_public_procedure, procedure_meant, public_procedure_in, PlacingPlan, bases_from, placement_by, stack_range, address_of_location, location_by_home, location_of, locations_after, address_of_object, location_is, callee_in, Program, wrap, bases_of, code_lengths_of, plan_of, IsInMemory, placement_of, placed_by, IsHere, address_meant, both_hold, first_position, found_place, public_lies, bases_found, lies_at, place_of_label, HasTypes, around_in, ModuleIs, layout_of, made_of, public_address, targets_of, ModulesAre, entries_of, AreEntered, LiesInMemory}
+use Rattle.program_laws.proofs.Prelude.{◌≡◌, ℕ, zero, suc, ◌+◌, ◌%◌, ◌≤◌, true, ◌&&◌, List, [], ◌∷◌, length, sum, Option, Some, option_map, refl, ap, sym, ◌∙◌, subst, arith, slice_get, slice_index, bytes_eq, option_map_or, option_and_then, position_from-zero, sum_by-cons, none-some, same_Some, slice_get-map, bytes_eq-Decides, MEMORY_SIZE, public_named, Image, ObjectModule, Public, address_of_public, piece_base, Visibility, Elsewhere, Nowhere, TypedModule, TypedObject, TypedProcedure, Bases, InProgram, first_found, is_public_procedure, procedure_meant, public_procedure_in, PlacingPlan, bases_from, placement_by, stack_range, address_of_location, location_by_home, location_of, locations_after, address_of_object, location_is, callee_in, Program, wrap, bases_of, code_lengths_of, plan_of, IsInMemory, placement_of, placed_by, IsHere, address_meant, found_place, public_lies, bases_found, lies_at, place_of_label, HasTypes, around_in, ModuleIs, layout_of, made_of, public_address, targets_of, ModulesAre, entries_of, AreEntered, LiesInMemory, and_parts, first_position}
 use Rattle.object_modules.specs.declared.segment.Segment.TheVariants as segments
 use Rattle.typed_trees.specs.declared.parts.Visibility.TheVariants as visibilities
 use Rattle.image_laws.proofs.Memory.Modules.{address_for}
@@ -177,7 +177,7 @@ module _
           (sym (position_from-zero (λ (one : TypedProcedure). is_public_procedure one.visibility && bytes_eq one.name name)
           its.procedures) ∙ in_its)
           (λ number public at_number is_there holds.
-          let tests = both_hold (is_public_procedure public.visibility) (bytes_eq public.name name) holds in
+          let tests = and_parts (is_public_procedure public.visibility) (bytes_eq public.name name) holds in
           let number_is : place.number ≡ number = omega (arith, at_number) in
           let module_of : place.number_of_module ≡ at = omega (arith, same) in
           ap (λ n. wrap (entries_of modules_are (record { number_of_module = n; number = place.number }))) module_of

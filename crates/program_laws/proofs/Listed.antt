@@ -77,7 +77,7 @@ came_from f (first ∷ others) index made found =
     by (Some one) e (suc at) there rest = came_later f first others made (rest at there)
 
 -- items by their numbers
-numbered_in :
+pub numbered_in :
     {A : Type 0} (first : ℕ) (list : List A) (index : ℕ) (item : A)
     → slice_get list index ≡ Some item
     → InList (enumerate_from first list) (first + index, item)

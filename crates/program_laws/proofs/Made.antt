@@ -1,5 +1,5 @@
 -- Object modules that are made of the modules of a program are what linking, placing and loading want of them.
-use Rattle.program_laws.proofs.Prelude.{◌≡◌, ℕ, zero, suc, ◌≤◌, List, [], ◌∷◌, length, Option, Some, None, Ok, zip, refl, ap, subst, arith, All, slice_get, AllByRecursion, All-from_recursion, none-some, same_Some, MEMORY_SIZE, IsLoaded, Image, image_of, merge_of, IsObjectModule, ObjectModule, SetByte, ListsGlobals, IsStorable, TypedModule, constant_bytes, HoldConstants, constants_length, IsJoined, IsLawful, PlacingPlan, placing_refusal, Places, constant_places, AreObjectsOf, code_lengths_of, plan_of, HaveSegments, IsInMemory, placement_of, BeginWith, HaveImage, HaveNames, program_has_image, AreMadeOf, IsMadeOf}
+use Rattle.program_laws.proofs.Prelude.{◌≡◌, ℕ, zero, suc, ◌≤◌, List, [], ◌∷◌, length, Some, None, Ok, zip, refl, ap, subst, arith, All, slice_get, AllByRecursion, All-from_recursion, none-some, same_Some, MEMORY_SIZE, IsLoaded, Image, image_of, merge_of, IsObjectModule, ObjectModule, ListsGlobals, IsStorable, TypedModule, constant_bytes, HoldConstants, constants_length, IsJoined, IsLawful, PlacingPlan, placing_refusal, constant_places, AreObjectsOf, code_lengths_of, plan_of, HaveSegments, IsInMemory, placement_of, HaveImage, HaveNames, program_has_image, AreMadeOf, IsMadeOf, begin_length}
 use Rattle.program_laws.proofs.Names.{has_names}
 use Rattle.program_laws.proofs.Objects.{is_object_of}
 use Rattle.program_laws.proofs.Segments.{has_segments}
@@ -137,16 +137,6 @@ is_in_memory plan modules objects merged image before after joined made lawful m
   size = size;
 }
 
--- The code of each holds the constants of its module.
-begins_within :
-    (object : ObjectModule) (bytes : Places) (places : List (Option SetByte))
-    → BeginWith object bytes places
-    → length bytes ≤ length places
-begins_within object [] places begins = omega arith
-begins_within object (byte ∷ bytes) [] begins = absurd begins
-begins_within object (byte ∷ bytes) (here ∷ places) begins =
-    let rest = begins_within object bytes places begins.1 in omega (arith, rest)
-
 pub hold_constants :
     (modules : List TypedModule) (objects : List ObjectModule)
     → AreMadeOf modules objects
@@ -157,7 +147,7 @@ hold_constants (typed ∷ modules) [] made = absurd made
 hold_constants (typed ∷ modules) (object ∷ objects) made =
     let is = made.0 in
     let segments = has_segments typed is.storage is.tree object is.laid is.lowered is.valid is.generated in
-    let within = begins_within object (constant_places typed) object.code.places segments.code in
+    let within = begin_length object (constant_places typed) object.code.places segments.code in
     let size = constants_length typed is.laid.storable in (
       omega (arith, within, size),
       hold_constants modules objects made.1,

@@ -1,16 +1,8 @@
 -- The labels of procedures are bound in the code of their module, which knows them by numbers of its own.
-use Rattle.program_laws.proofs.Prelude.{◌≡◌, ℕ, zero, suc, ◌+◌, ◌<◌, Bool, true, false, ◌||◌, List, [], ◌∷◌, ◌++◌, Some, option_map, refl, ap, sym, ◌∙◌, subst, arith, slice_get, AllByRecursion, eq-eqb, eqb-true, none-some, same_Some, Item, Plain, WithWord, Byte, Address, Gap, Mark, KnowsLabels, is_bound, marks, bound_in_parts, TreeModule, ProcedureKind, TreeProcedure, entry, Written, numbered, numbered_reference, AreCodeOf, IsCodeOf, IsProcedureCode}
+use Rattle.program_laws.proofs.Prelude.{◌≡◌, ℕ, zero, suc, ◌+◌, ◌<◌, Bool, true, false, ◌||◌, List, [], ◌∷◌, ◌++◌, Some, option_map, refl, ap, sym, ◌∙◌, subst, arith, slice_get, AllByRecursion, eq-eqb, eqb-true, none-some, same_Some, Item, Plain, WithWord, Byte, Address, Gap, Mark, KnowsLabels, is_bound, marks, bound_in_parts, TreeModule, ProcedureKind, TreeProcedure, entry, Written, numbered, numbered_reference, AreCodeOf, IsCodeOf, IsProcedureCode, or_left, or_right}
 use Rattle.treecode.specs.declared.procedure.ProcedureKind.TheVariants as kinds
 use Rattle.program_laws.proofs.ModuleStands.{IsOwn}
 use Rattle.program_laws.proofs.Renumbered.{front_of, mapped}
-
-pub or_left : (one other : Bool) → one ≡ true → (one || other) ≡ true
-or_left true other is = refl
-or_left false other is = absurd (cc)
-
-pub or_right : (one other : Bool) → other ≡ true → (one || other) ≡ true
-or_right true other is = refl
-or_right false other is = is
 
 -- a procedure's code binds its label
 bound_by_code :

@@ -1,5 +1,5 @@
 -- The main program, the procedures and the routines of a module stand where its labels lie.
-use Rattle.program_laws.proofs.Prelude.{◌≡◌, ◌≢◌, ℕ, zero, suc, ◌+◌, ◌≤◌, Bool, true, List, [], ◌∷◌, ◌++◌, length, Some, refl, sym, ◌∙◌, subst, arith, slice_get, none-some, same_Some, Target, InSegment, ObjectModule, TypedModule, Program, Hlt, Sp, Item, LoadPair, Layout, Stands, stands_size, ProcedureKind, TreeProcedure, HasFrame, Activation, IsThere, both_there, Written, stack_end_item, AreCodeOf, AreRoutines, IsCodeOf, IsCodeOfMain, IsCodeOfRoutine, IsMainCode, IsProcedureCode, IsRoutineCode, all_routines, contents_items, has_main, RoutineIsAt, MainStands, ModuleCode, ProcedureStands, bare, LiesInMemory, module_layout, written_layout, IsSoundlyMade}
+use Rattle.program_laws.proofs.Prelude.{◌≡◌, ◌≢◌, ℕ, zero, suc, ◌+◌, ◌≤◌, Bool, true, List, [], ◌∷◌, ◌++◌, length, Some, refl, sym, ◌∙◌, subst, arith, slice_get, none-some, same_Some, Target, InSegment, ObjectModule, TypedModule, Program, Hlt, Sp, Item, LoadPair, Layout, Stands, stands_size, ProcedureKind, TreeProcedure, HasFrame, Activation, IsThere, both_there, Written, stack_end_item, AreCodeOf, AreRoutines, IsCodeOf, IsCodeOfMain, IsCodeOfRoutine, IsMainCode, IsProcedureCode, IsRoutineCode, all_routines, contents_items, has_main, RoutineIsAt, MainStands, ModuleCode, ProcedureStands, bare, LiesInMemory, module_layout, written_layout, IsSoundlyMade, zero-add}
 use Rattle.object_modules.specs.declared.segment.Segment.TheVariants as segments
 use Rattle.asm8080.specs.declared.item.Item.TheVariants as items
 use Rattle.runtime8080.specs.{declared.routine.Routine.{Routine}, Routines.{size_of_routine}}
@@ -16,9 +16,6 @@ after_label :
     → (activation.layout.place_of label ≡ from) × IsThere activation others from to
 after_label label others from to there =
     (there.stands.0, record { stands = there.stands.1; low = there.low; high = there.high })
-
-from_zero : (number : ℕ) → 0 + number ≡ number
-from_zero number = omega arith
 
 -- it is not EXTERNAL
 abbrev pub IsOwn : ProcedureKind → Type 0
@@ -254,7 +251,7 @@ module _
               (subst (λ (there : Bool). IsCodeOfMain sound.made.tree of.called sound.made.generated.start_label there own.main) has own.main_is)
               parts.first;
           procedures = λ procedure_number procedure found framed is_own.
-              subst (λ at. ProcedureStands code_of procedure (code_of.layout.place_of at)) (from_zero procedure_number)
+              subst (λ at. ProcedureStands code_of procedure (code_of.layout.place_of at)) (zero-add procedure_number)
               (procedures_stand code_of 0 procedure_number sound.made.tree.procedures.items procedure own.procedures
               parts.middle halves.middle own.procedures_are parts.second found framed is_own);
           routines = λ routine called.

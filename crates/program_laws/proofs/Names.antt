@@ -1,6 +1,6 @@
 -- The object module of a module has its names: its PUBLIC names in their order, EXTERNAL ones alone, and a start where it
 -- is a main module.
-use Rattle.program_laws.proofs.Prelude.{◌≡◌, ℕ, zero, suc, Bool, true, false, ◌||◌, List, [], ◌∷◌, map, Option, Some, None, option_map, is_some, if◌then◌else◌, refl, sym, ap, ap₂, subst, ◌∙◌, arith, All, filter, filter_map, nat_lt, not, slice_get, AllByRecursion, cons_option, option_and_then, bytes_eq, lt-ltb, All-from_recursion, recursion_from_All, none-some, same_Some, bytes_eq-Decides, ObjectModule, Public, is_among, GlobalItem, GlobalObject, GlobalProcedure, Visibility, IsHereIfPublic, ListsGlobals, is_global, is_shared, TypedStatements, TypedList, ListOf, TypedHome, InData, InConstants, Placed, BasedOn, Elsewhere, Nowhere, InFrame, TypedObject, TypedProcedure, TypedModule, of_all, Global, global_object, global_of, has_statement, Storage, Assembled, Range, ExternalName, PublicName, PublicPlace, TreeModule, Home, Place, public_item, public_object, public_procedure, publics_of, static_place, external_name, external_object, external_procedure, AreMoreStatements, AreNoStatements, AreStatements, IsList, IsListOf, IsLowered, Nodes, home_at, Written, place_of_label, ArePublicsOf, IsAtPlace, IsGenerated, IsPublicOf, has_main, used_names, IsLaidOut, HasNames, external_names_in, public_names_in}
+use Rattle.program_laws.proofs.Prelude.{◌≡◌, ℕ, zero, suc, Bool, true, false, ◌||◌, List, [], ◌∷◌, map, Option, Some, None, option_map, is_some, if◌then◌else◌, refl, sym, ap, ap₂, subst, ◌∙◌, arith, All, filter, filter_map, nat_lt, not, slice_get, AllByRecursion, cons_option, option_and_then, bytes_eq, lt-ltb, All-from_recursion, recursion_from_All, none-some, same_Some, bytes_eq-Decides, ObjectModule, Public, is_among, GlobalItem, GlobalObject, GlobalProcedure, Visibility, IsHereIfPublic, ListsGlobals, is_global, is_shared, TypedStatements, TypedList, ListOf, TypedHome, InData, InConstants, Placed, BasedOn, Elsewhere, Nowhere, InFrame, TypedObject, TypedProcedure, TypedModule, of_all, Global, global_object, global_of, has_statement, Storage, Assembled, Range, ExternalName, PublicName, PublicPlace, TreeModule, Home, Place, public_item, public_object, public_procedure, publics_of, static_place, external_name, external_object, external_procedure, AreMoreStatements, AreNoStatements, AreStatements, IsList, IsListOf, IsLowered, Nodes, home_at, Written, place_of_label, ArePublicsOf, IsAtPlace, IsGenerated, IsPublicOf, has_main, used_names, IsLaidOut, HasNames, external_names_in, public_names_in, or_right}
 use Rattle.typed_trees.specs.declared.parts.Visibility.TheVariants as visibilities
 use Rattle.layout.specs.Joined.{global_procedure}
 use Rattle.treecode.specs.declared.module.PublicPlace.TheVariants as public_places
@@ -195,11 +195,6 @@ public_names_are :
 unfolding publics_of
 public_names_are typed starts lists = (alike typed starts lists).publics
 
--- each EXTERNAL name is among them
-either : (first others : Bool) → others ≡ true → (first || others) ≡ true
-either true others is = refl
-either false others is = is
-
 among_at :
     (externals : List ExternalName) (index : ℕ) (external : ExternalName)
     → slice_get externals index ≡ Some external
@@ -211,7 +206,7 @@ among_at (first ∷ others) zero external found =
     ∙ ap (λ (same : Bool). same || is_among external.name (map external_of others))
     ((bytes_eq-Decides external.name external.name).1 refl)
 among_at (first ∷ others) (suc index) external found =
-    either (bytes_eq external.name first.name) (is_among external.name (map external_of others))
+    or_right (bytes_eq external.name first.name) (is_among external.name (map external_of others))
     (among_at others index external found)
 
 used_among :

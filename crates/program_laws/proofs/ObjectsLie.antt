@@ -1,5 +1,5 @@
 -- The objects of a module lie where it has them, at the addresses of its segments and its EXTERNAL names.
-use Rattle.program_laws.proofs.Prelude.{◌≡◌, ℕ, ◌+◌, ◌%◌, ◌<◌, ◌≤◌, ◌⊎◌, inl, inr, List, [], get_or, length, Option, Some, None, refl, ap, sym, subst, ◌∙◌, arith, slice_get, slice_index, zip, option_and_then, option_map_or, recursion_from_All, slice_get_cases, slice_get_past, Target, ObjectModule, HasPlace, IsStorable, InData, InConstants, Placed, BasedOn, Elsewhere, Nowhere, InFrame, TypedModule, TypedObject, object_meant, HasAddresses, LiesWhereAtSays, ModulePlacement, Location, address_of_location, location_by_home, location_of, locations_after, address_in, address_of_object, location_is, lies_at_location, of_all, Program, IsStatic, locations_length, got_both, in_module, LiesInMemory, bases_at, address_for}
+use Rattle.program_laws.proofs.Prelude.{◌≡◌, ℕ, ◌+◌, ◌%◌, ◌<◌, ◌≤◌, ◌⊎◌, inl, inr, List, [], get_or, length, Option, Some, None, refl, ap, sym, subst, ◌∙◌, arith, slice_get, slice_index, zip, option_and_then, option_map_or, recursion_from_All, slice_get_cases, slice_get_past, Target, ObjectModule, HasPlace, IsStorable, InData, InConstants, Placed, BasedOn, Elsewhere, Nowhere, InFrame, TypedModule, TypedObject, object_meant, HasAddresses, LiesWhereAtSays, ModulePlacement, Location, address_of_location, location_by_home, location_of, locations_after, address_in, address_of_object, location_is, lies_at_location, of_all, Program, IsStatic, locations_length, in_module, LiesInMemory, bases_at, address_for, got_both}
 use Rattle.typed_trees.specs.TypedTrees.{Home}
 use Rattle.layout.specs.Segments.{Absolute as AtNumber}
 

@@ -1,7 +1,7 @@
 -- A segment of an object module has the bytes of the items of its code, with the targets that the module has for them.
-use Rattle.program_laws.proofs.Prelude.{◌≡◌, ℕ, suc, ◌+◌, ◌≤◌, Bool, true, false, ◌&&◌, ◌||◌, not, ◌==◌, cond, List, [], ◌∷◌, length, map, find, Option, Some, None, option_map, refl, ap, subst, ◌∙◌, arith, IsTrue, nat_le, nat_lt, AllByRecursion, list_all, option_map_or, leb-true, ltb-true, Fix, Target, SEGMENT_LIMIT, Fixup, SetByte, is_page, is_target, is_valid_byte, is_valid_segment, words_are_whole, fixup_at, Assembled, fixed_bytes, layout_at, set_bytes, set_of_items, Written, retargeted, IsSegmentOf}
+use Rattle.program_laws.proofs.Prelude.{◌≡◌, ℕ, suc, ◌+◌, ◌≤◌, Bool, true, false, ◌&&◌, ◌||◌, not, ◌==◌, cond, List, [], ◌∷◌, length, map, find, Option, Some, None, option_map, refl, ap, subst, ◌∙◌, arith, IsTrue, nat_le, nat_lt, AllByRecursion, list_all, option_map_or, leb-true, ltb-true, Fix, Target, SEGMENT_LIMIT, Fixup, SetByte, is_page, is_target, is_valid_byte, is_valid_segment, words_are_whole, fixup_at, Assembled, fixed_bytes, layout_at, set_bytes, set_of_items, Written, retargeted, IsSegmentOf, and_parts, set_length}
 use Rattle.object_modules.specs.Module.{Places}
-use Rattle.program_laws.proofs.Cells.{HasByte, at_zero, cells_of_bytes, places_are, set_length}
+use Rattle.program_laws.proofs.Cells.{HasByte, at_zero, cells_of_bytes, places_are}
 
 -- a place whose fix has another target
 abbrev pub fixup_to : (Target → Target) → Fixup → Fixup
@@ -68,14 +68,6 @@ holds true true c d is = (refl, refl)
 holds true false c d is = absurd (cc)
 holds false b c d is = absurd (cc)
 
-first_holds : (a b : Bool) → (a && b) ≡ true → a ≡ true
-first_holds true b is = refl
-first_holds false b is = is
-
-second_holds : (a b : Bool) → (a && b) ≡ true → b ≡ true
-second_holds true b is = is
-second_holds false b is = absurd (cc)
-
 bytes_valid :
     (count : ℕ) (places : List (Option SetByte))
     → list_all (λ place. option_map_or (is_valid_byte count) place true) places ≡ true
@@ -84,13 +76,13 @@ bytes_valid count [] all = tt
 bytes_valid count (None ∷ others) all = (tt, bytes_valid count others all)
 bytes_valid count (Some here ∷ others) all = (
   ltb-true here.value 256
-      (first_holds (nat_lt here.value 256)
+      (and_parts (nat_lt here.value 256)
       (option_map_or (λ (fixup : Fixup). is_target count fixup.target) here.fixup true)
-      (first_holds (is_valid_byte count here)
-      (list_all (λ place. option_map_or (is_valid_byte count) place true) others) all)),
+      (and_parts (is_valid_byte count here)
+      (list_all (λ place. option_map_or (is_valid_byte count) place true) others) all).0).0,
   bytes_valid count others
-      (second_holds (is_valid_byte count here)
-      (list_all (λ place. option_map_or (is_valid_byte count) place true) others) all),
+      (and_parts (is_valid_byte count here)
+      (list_all (λ place. option_map_or (is_valid_byte count) place true) others) all).1,
 )
 
 -- its bytes, and how many they are

@@ -1,17 +1,19 @@
 -- The names that the proofs of this crate cite, passed on from one place. Declares nothing.
-pub use Rattle.std.proofs.{Common.{Bool, List, None, Ok, Option, Some, [], ap, append-nil, ap₂, arith, cond, false, find, get_or, inl, inr, is_some, length, map, min, not, option_map, refl, replicate, subst, suc, sum, sym, take, true, zero, zip, ℕ, ⊎_elim, ◌%◌, ◌&&◌, ◌++◌, ◌+◌, ◌-◌, ◌/◌, ◌<◌, ◌||◌, ◌∙◌, ◌∷◌, ◌≡◌, ◌≢◌, ◌≤◌, ◌⊎◌}, lemmas.Bool.{cases_lt, eq-eqb, eqb-true, false≢true, leb-true, lt-ltb, ltb-true}, lemmas.Iterator.Adapters.{position_from-zero}, lemmas.List.{get_or_append_left, get_or_push, length-append, length-map, length-replicate, length_push}, lemmas.List.Elements.{All-from_recursion, recursion_from_All}, lemmas.List.Folds.{find_at}, lemmas.List.FromFn.{length-enumerate_from}, lemmas.List.Sums.{sum_by-cons}, lemmas.Option.{get_or_from_slice_get, none-some, same_Some, slice_get-get_or, slice_get-map, slice_get_cases, slice_get_past, slice_get_within}, lemmas.Slice.Eq.{bytes_eq-Decides}}
-pub use Rattle.std.specs.{List.{AllByRecursion, cons_option, enumerate_from, list_all, list_any, position_or_len}, Option.{option_and_then, option_map_or, option_or}, Prelude.{All, IfSome, IsTrue, bytes_eq, count_by, filter, filter_map, if◌then◌else◌, nat_le, nat_lt, slice_get, slice_index, sum_by, unwrap_or, ◌==◌}}
+pub use Rattle.std.proofs.{Common.{Bool, List, None, Ok, Option, Some, [], ap, append-nil, ap₂, arith, cond, false, find, get_or, inl, inr, is_some, length, map, min, not, option_map, refl, replicate, subst, suc, sum, sym, take, true, zero, zero-add, zip, ℕ, ⊎_elim, ◌%◌, ◌&&◌, ◌++◌, ◌+◌, ◌-◌, ◌/◌, ◌<◌, ◌||◌, ◌∙◌, ◌∷◌, ◌≡◌, ◌≢◌, ◌≤◌, ◌⊎◌}, lemmas.Bool.{and_parts, cases_lt, eq-eqb, eqb-true, false≢true, leb-true, lt-ltb, ltb-true, or_left, or_right}, lemmas.Iterator.Adapters.{position_from-zero}, lemmas.List.{get_or_push, length-append, length-map, length-replicate, length_push}, lemmas.List.Elements.{All-from_recursion, recursion_from_All}, lemmas.List.Folds.{find_at}, lemmas.List.FromFn.{length-enumerate_from}, lemmas.List.Sums.{sum_by-cons}, lemmas.Option.{get_or_from_slice_get, none-some, same_Some, slice_get-get_or, slice_get-map, slice_get_cases, slice_get_past, slice_get_within}, lemmas.Slice.Eq.{bytes_eq-Decides}}
+pub use Rattle.std.specs.{List.{AllByRecursion, cons_option, enumerate_from, list_all, list_any, position_or_len}, Option.{option_and_then, option_map_or}, Prelude.{All, IfSome, IsTrue, bytes_eq, count_by, filter, filter_map, if◌then◌else◌, nat_le, nat_lt, slice_get, slice_index, sum_by, unwrap_or, ◌==◌}}
+pub use Rattle.mem80.proofs.{Lists.{got_both, got_numbered}, Numbers.{word_of_high}}
 pub use Rattle.mem80.specs.{Memory.{IsMemory, byte_at}, Pieces.{IsLoaded}, declared.memory.TheConstants.{MEMORY_SIZE}}
+pub use Rattle.ports.proofs.Beginnings.{begins_itself}
 pub use Rattle.ports.specs.{Events.{IsBeginning}, Input.{IsScript}, declared.event.Event.{Event}}
 pub use Rattle.typed_trees.specs.{Globals.{IsHereIfPublic, ListsGlobals, global_procedure, is_global, is_shared, shared_object, shared_procedure}, Sizes.{size_of_object}, Storable.{HasPlace, IsStorable}, TypedTrees.{BasedOn, Elsewhere, Home as TypedHome, InConstants, InData, InFrame, ListOf, MoreStatements, NoStatements, Nowhere, Placed, TypedList, TypedModule, TypedObject, TypedProcedure, TypedStatements}, Weight.{constant_bytes}, declared.parts.ConstantItem.{ConstantItem, TheVariants.{ConstantList, ConstantObject}}, declared.parts.GlobalItem.{GlobalItem, TheVariants.{GlobalObject, GlobalProcedure}}, declared.parts.InitialValue.{InitialValue, TheVariants.{ByteValue, LocationValue, WordValue}}, declared.parts.Visibility.{Visibility}}
-pub use Rattle.layout.proofs.{Declared.{Decides-declared}, Locations.{location_is}, PlacedLocations.{lies_at_location}, Placements.{HoldConstants}, Segments.{constants_length, of_all}, StartingBytes.{starts_as}}
-pub use Rattle.layout.specs.{Following.{Bases, address_of_slot, base_of}, Joined.{Global, InProgram, IsJoined, JoinRefusal, NotOneMain, declared_otherwise, first_found, global_object, global_of, has_statement, is_main, is_public_procedure, not_one_main, object_meant, procedure_meant, public_procedure_in, public_twice, without_public}, Lawful.{HasAddresses, IsLawful, LiesWhereAtSays}, Placement.{ModulePlacement}, Placing.{Plan as PlacingPlan, bases_from, stack_range}, Segments.{After, ExternalName as Named, Location, Places, SegmentByte, SegmentStart, address_of_location, constant_places, data_places, location_by_home, location_of, locations_after}, StartingMemory.{address_in, address_of_object}, Storage.{Storage, bytes_in_data, data_bytes, slot_of_list, storage_with}, declared.slot.Segment.TheVariants.{Data}, declared.slot.Slot.{Slot}}
-unfoldable pub use Rattle.layout.specs.{Joined.{join_refusal}, Placing.{placement_by, placing_refusal}, StartingMemory.{starting_memory}}
+pub use Rattle.layout.proofs.{Declared.{Decides-declared}, Locations.{location_is}, Mains.{main_counted}, Meant.{first_position}, PlacedLocations.{lies_at_location}, Placements.{HoldConstants}, Segments.{constants_length, of_all}, StartingBytes.{starts_as}}
+pub use Rattle.layout.specs.{Following.{Bases, address_of_slot, base_of}, Joined.{Global, InProgram, IsJoined, first_found, global_object, global_of, has_statement, is_main, is_public_procedure, object_meant, procedure_meant, public_procedure_in}, Lawful.{HasAddresses, IsLawful, LiesWhereAtSays}, Placement.{ModulePlacement}, Placing.{Plan as PlacingPlan, bases_from, stack_range}, Segments.{After, ExternalName as Named, Location, Places, SegmentByte, SegmentStart, address_of_location, constant_places, data_places, location_by_home, location_of, locations_after}, StartingMemory.{address_in, address_of_object}, Storage.{Storage, bytes_in_data, data_bytes, slot_of_list, storage_with}, declared.slot.Segment.TheVariants.{Data}, declared.slot.Slot.{Slot}}
+unfoldable pub use Rattle.layout.specs.{Placing.{placement_by, placing_refusal}, StartingMemory.{starting_memory}}
 pub use Rattle.meaning.specs.{Access.{InMemory, Surroundings, address_of as object_address, home_in, home_of}, Meaning.{address_of_list, based_place, callee_in, later_by}, Outcomes.{Ended, Gave, More, Onward, Outside, Program, State as SourceState, Stop}, Run.{NeverOutside, Run, main_done, number_of_main, run_of}}
 unfoldable pub use Rattle.meaning.specs.Run.{source_run}
 pub use Rattle.object_modules.specs.{Displacements.{linked_modules, public_named}, Image.{Image, image_of}, Module.{Fixup, IsObjectModule, ObjectModule, Places as ObjectPlaces, Public, SetByte, is_among, is_page, is_target, is_valid_byte, is_valid_segment, words_are_whole}, Moving.{after_fixup, bytes_resolved, first_byte_moved, moved_after, value_after, value_moved}, Runs.{fixup_at}, declared.segment.Fix.{Fix}, declared.segment.FixKind.{FixKind, TheVariants.{Both, High, Low}}, declared.segment.Segment.{Segment}, declared.segment.Target.{Target, TheVariants.{External, InSegment}}, declared.segment.TheConstants.{SEGMENT_LIMIT}}
 unfoldable pub use Rattle.object_modules.specs.Merge.{merge_of}
-pub use Rattle.image_laws.proofs.{Images.NoHighs.{NoHighs, assembled_highs, no_high_targets}, Images.Retargeted.{resolved_retargeted}, Images.Starts.{main_starts}, Memory.Addresses.{IsHere, locations_length}, Memory.Lists.{got_both, got_numbered, some_within}, Memory.Meanings.{address_meant, both_hold, first_position, found_place, public_lies}, Memory.Modules.{bases_found, is_linked, lies_at}, Memory.Starting.{starts_as_its_source}, Merges.Names.{program_has_image}}
+pub use Rattle.image_laws.proofs.{Images.NoHighs.{NoHighs, assembled_highs, no_high_targets}, Images.Retargeted.{resolved_retargeted}, Images.Starts.{main_starts}, Memory.Addresses.{IsHere, locations_length}, Memory.Lists.{some_within}, Memory.Meanings.{address_meant, found_place, public_lies}, Memory.Modules.{bases_found, begin_length, is_linked, lies_at}, Memory.Starting.{starts_as_its_source}, Merges.Names.{program_has_image}}
 pub use Rattle.image_laws.specs.{Names.{HasNames, external_names_in, public_names_in}, Objects.{IsObjectOf}, Segments.{BeginWith, HasPublic, HasSegments, IsPublicAt, IsTarget}, internal.AtPlans.{AreObjectsOf, bases_of, code_lengths_of, plan_of}, internal.InMemory.{StartsAt, address_of_public, piece_base}, internal.Linked.{placed_by}, internal.Names.{HaveImage, HaveNames}, internal.ProgramInMemory.{HaveSegments, IsInMemory, placement_of}}
 pub use Rattle.isa8080.specs.{Code.{bytes_of}, State.{HoldBytes, Registers, State, high_byte, low_byte, wrap}, Step.{running}, declared.instr.Instr.TheVariants.{Hlt}, declared.instr.Pair.TheVariants.{Sp}, declared.registers.Status.{Status, TheVariants.{Halted, Illegal, Running}}}
 unfoldable pub use Rattle.isa8080.specs.Step.{state_after}
@@ -21,6 +23,7 @@ pub use Rattle.treecode.specs.{Contents.{constant_object, constants_from, conten
 unfoldable pub use Rattle.treecode.specs.{Contents.{constants_of, publics_of, variables_of}, Homes.{homes_of}}
 pub use Rattle.treecode_laws.proofs.{Externals.{Finds, finds}, Homes.{any_lies, object_lies}, Lowered.{code_is, data_is, data_length_is}, Operands.{known_gives}, Slots.{data_offset, list_offset}}
 pub use Rattle.treecode_laws.specs.{Laid.{IsLaidOut, IsStored}, internal.Places.{IsStatic, KeepWords, location_of_place, name_at, places_of_contents}}
+pub use Rattle.frames.proofs.Homes.{earlier_kept}
 pub use Rattle.frames.specs.Frames.{HasFrame}
 pub use Rattle.steps8080.specs.{Externals.{Extends, entry}, Instructions.{high, low}, Writer.{Written, in_front, known_label, numbered, numbered_reference, place_of_known, place_of_label, stack_end_item}}
 pub use Rattle.procedure_laws.specs.{GeneratedModules.{AreCodeOf, ArePublicsOf, AreRoutines, AreTargets, IsAtPlace, IsCodeOf, IsCodeOfMain, IsCodeOfRoutine, IsGenerated, IsMainCode, IsNamed, IsOwnCode, IsProcedureCode, IsPublicOf, IsRoutineCode, IsSegmentOf, all_routines, contents_items, has_main, used_names}, Targets.{retargeted}}

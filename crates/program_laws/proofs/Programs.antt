@@ -1,5 +1,5 @@
 -- A program on the machine does what its source does.
-use Rattle.program_laws.proofs.Prelude.{◌≡◌, ℕ, suc, ◌+◌, ◌%◌, ◌<◌, ◌≤◌, Bool, true, false, not, cond, List, [], ◌∷◌, length, Option, Some, None, refl, sym, ap, subst, ◌∙◌, arith, ◌==◌, All, IfSome, slice_get, find, count_by, if◌then◌else◌, position_or_len, option_map_or, option_or, eqb-true, lt-ltb, find_at, sum_by-cons, same_Some, recursion_from_All, IsMemory, MEMORY_SIZE, Image, ObjectModule, Event, IsScript, TypedModule, IsJoined, JoinRefusal, NotOneMain, declared_otherwise, is_main, join_refusal, not_one_main, public_twice, without_public, linked_modules, StartsAt, piece_base, main_starts, starting_memory, Decides-declared, of_all, starts_as, plan_of, IsInMemory, placement_of, starts_as_its_source, Program, Shares, HoldBytes, Registers, wrap, HasTypes, IsTypedCode, has_types, Surroundings, later_by, AllCallsAreKnown, CallsFollow, ModuleDoes, around_in, calls_known, start_place, ModulesAre, entries_of, ModuleIs, made_of, public_address, targets_of, PlacingPlan, Gave, Onward, Stop, SourceState, NeverOutside, Run, main_done, number_of_main, run_of, source_run, running, state_after, Status, State, Arrived, EndsAs, IsLeft, Agrees, ComesTo, Performs}
+use Rattle.program_laws.proofs.Prelude.{◌≡◌, ℕ, suc, ◌+◌, ◌%◌, ◌<◌, ◌≤◌, Bool, true, false, not, cond, List, [], ◌∷◌, length, Option, Some, None, refl, sym, ap, subst, ◌∙◌, arith, All, IfSome, slice_get, find, count_by, if◌then◌else◌, position_or_len, option_map_or, lt-ltb, find_at, sum_by-cons, same_Some, recursion_from_All, IsMemory, MEMORY_SIZE, Image, ObjectModule, Event, IsScript, TypedModule, is_main, linked_modules, StartsAt, piece_base, main_starts, starting_memory, Decides-declared, of_all, starts_as, plan_of, IsInMemory, placement_of, starts_as_its_source, Program, Shares, HoldBytes, Registers, wrap, HasTypes, IsTypedCode, has_types, Surroundings, later_by, AllCallsAreKnown, CallsFollow, ModuleDoes, around_in, calls_known, start_place, ModulesAre, entries_of, ModuleIs, made_of, public_address, targets_of, PlacingPlan, Gave, Onward, Stop, SourceState, NeverOutside, Run, main_done, number_of_main, run_of, source_run, running, state_after, Status, State, Arrived, EndsAs, IsLeft, Agrees, ComesTo, Performs, zero-add, main_counted}
 use Rattle.object_modules.specs.declared.segment.Segment.TheVariants as segments
 use Rattle.program_laws.proofs.OneModule.{object_does, started}
 use Rattle.program_laws.proofs.Linked.{are_entered, lies_in_memory, program_of}
@@ -11,9 +11,6 @@ record FirstThat {X : Type 0} (passes : X → Bool) (all : List X) : Type 0 wher
   found : find passes all ≡ Some one
   within : position_or_len passes all < length all
   holds : passes one ≡ true
-
-none_more : (count : ℕ) → 0 + count ≡ count
-none_more count = omega arith
 
 first_that : {X : Type 0} (passes : X → Bool) (all : List X) → 1 ≤ count_by passes all → FirstThat passes all
 first_that passes [] some = absurd (omega (arith, some))
@@ -33,7 +30,7 @@ first_that {X} passes (first ∷ others) some = by (passes first) refl (λ more.
         let counted : count_by passes (first ∷ others) ≡ count_by passes others =
         sum_by-cons (λ x. cond (passes x) 1 0) first others
         ∙ ap (λ (test : Bool). cond test 1 0 + count_by passes others) is
-        ∙ none_more (count_by passes others) in
+        ∙ zero-add (count_by passes others) in
         let rest = later (omega (arith, some, counted)) in
         let less = rest.within in
         record {
@@ -67,25 +64,6 @@ performs script start budget run ends = record {
   more = λ is. came script budget start _ run.events
       (subst (λ (stop : Stop). EndsAs script budget start stop run.events) is ends);
 }
-
--- joined modules have one main module
-one_main : (modules : List TypedModule) → IsJoined modules → count_by is_main modules ≡ 1
-unfolding join_refusal
-one_main modules joined =
-    by_count (count_by is_main modules == 1) refl
-    (last_none (declared_otherwise modules) (not_one_main modules)
-    (last_none (public_twice modules) (option_or (declared_otherwise modules) (not_one_main modules))
-    (last_none (without_public modules) (option_or (public_twice modules) (option_or (declared_otherwise modules) (not_one_main modules))) joined)))
-  where
-    last_none : (one other : Option JoinRefusal) → option_or one other ≡ None → other ≡ None
-    last_none None other is = is
-    last_none (Some refusal) other is = let bad : ⊥ = cc in absurd bad
-
-    by_count : (test : Bool) → (count_by is_main modules == 1) ≡ test
-        → (if test then None else Some NotOneMain) ≡ None
-        → count_by is_main modules ≡ 1
-    by_count true is none = eqb-true (count_by is_main modules) 1 is
-    by_count false is none = let bad : ⊥ = cc in absurd bad
 
 module _
     (plan : PlacingPlan) (modules : List TypedModule) (objects : List ObjectModule) (merged : ObjectModule)
@@ -165,7 +143,7 @@ module _
         (sym start_is)
 
     main : FirstThat is_main modules
-    main = first_that is_main modules (omega (arith, one_main modules is.joined))
+    main = first_that is_main modules (omega (arith, main_counted modules is.joined))
 
     main_at : slice_get modules (position_or_len is_main modules) ≡ Some main.one
     main_at = sym (find_at is_main modules) ∙ main.found

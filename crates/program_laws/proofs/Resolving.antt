@@ -1,5 +1,5 @@
 -- The places of tree code have addresses where the program lies: those at which its objects and lists begin.
-use Rattle.program_laws.proofs.Prelude.{◌≡◌, ℕ, ◌+◌, ◌%◌, ◌<◌, Bool, List, length, zip, Option, Some, None, refl, sym, ap, ◌∙◌, arith, slice_get, slice_index, enumerate_from, option_map_or, recursion_from_All, length-map, length-enumerate_from, slice_get-get_or, MEMORY_SIZE, Target, InSegment, ObjectModule, TypedHome, InData, InConstants, Placed, BasedOn, Elsewhere, Nowhere, InFrame, TypedModule, TypedObject, Slot, address_of_slot, base_of, ModulePlacement, address_of_location, address_of_object, Storage, slot_of_list, storage_with, of_all, object_address, InMemory, Surroundings, home_in, home_of, address_of_list, based_place, Program, Gave, wrap, Layout, ExternalName, Home, Static, Place, static_place, homes_of, number_of_place, place_after, offset_of_list, home_at, Resolves, IsStatic, location_of_place, any_lies, IsStored, list_offset, got_both, got_numbered, some_within, place_at, IsGenerated, around_in, LiesInMemory, bases_at, address_for, module_layout, IsSoundlyMade}
+use Rattle.program_laws.proofs.Prelude.{◌≡◌, ℕ, ◌+◌, ◌%◌, ◌<◌, Bool, List, length, zip, Option, Some, None, refl, sym, ap, ◌∙◌, arith, slice_get, slice_index, enumerate_from, option_map_or, recursion_from_All, length-map, length-enumerate_from, slice_get-get_or, MEMORY_SIZE, Target, InSegment, ObjectModule, TypedHome, InData, InConstants, Placed, BasedOn, Elsewhere, Nowhere, InFrame, TypedModule, TypedObject, Slot, address_of_slot, base_of, ModulePlacement, address_of_location, address_of_object, Storage, slot_of_list, storage_with, of_all, object_address, InMemory, Surroundings, home_in, home_of, address_of_list, based_place, Program, Gave, wrap, Layout, ExternalName, Home, Static, Place, static_place, homes_of, number_of_place, place_after, offset_of_list, home_at, Resolves, IsStatic, location_of_place, any_lies, IsStored, list_offset, some_within, place_at, IsGenerated, around_in, LiesInMemory, bases_at, address_for, module_layout, IsSoundlyMade, got_both, got_numbered}
 use Rattle.object_modules.specs.declared.segment.Segment.TheVariants as segments
 use Rattle.layout.specs.declared.slot.Segment.TheVariants as slots
 use Rattle.meaning.specs.Outcomes.{State}

@@ -1,4 +1,3 @@
 mod Prelude
-pub mod Items
 pub mod PublicNames
 pub mod Sites

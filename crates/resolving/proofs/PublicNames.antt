@@ -1,11 +1,10 @@
 -- The tables of PUBLICs: how they are filled, and that they have the first one of each name.
-use Rattle.resolving.proofs.Prelude.{◌≡◌, ℕ, ◌+◌, ◌<◌, ◌≤◌, Bool, true, false, ◌&&◌, cond, List, [], ◌∷◌, ◌++◌, map, length, drop, get_or, is_some, Option, None, Some, option_map, if◌then◌else◌, refl, ap, sym, subst, ◌∙◌, true≢false, position, position_from, lookup, option_or, bytes_eq, nat_list_eq_equiv, position_from-zero, bytes_eq-Decides, Typed, CodeObject, CodeProcedure, TypedModule, module_view, object_view, procedure_view, InProgram, in_module, first_found, is_public_procedure, public_object_in, public_procedure_in, Table, found_at, with_found, with_public, with_items, with_modules, is_public_object, name_of_object, is_shown_procedure, name_of_procedure, objects_of, procedures_of, with_objects, with_procedures, with_all_objects, with_all_procedures, public_objects, public_procedures}
+use Rattle.resolving.proofs.Prelude.{◌≡◌, ℕ, ◌+◌, ◌<◌, ◌≤◌, Bool, true, false, ◌&&◌, cond, List, [], ◌∷◌, ◌++◌, map, length, drop, get_or, is_some, Option, None, Some, option_map, if◌then◌else◌, refl, ap, sym, subst, ◌∙◌, true≢false, position, position_from, lookup, option_or, bytes_eq, nat_list_eq_equiv, position_from-zero, bytes_eq-Decides, Typed, CodeObject, CodeProcedure, TypedModule, module_view, object_view, procedure_view, InProgram, in_module, first_found, is_public_procedure, public_object_in, public_procedure_in, Table, found_at, with_found, with_public, with_items, with_modules, is_public_object, name_of_object, is_shown_procedure, name_of_procedure, objects_of, procedures_of, with_objects, with_procedures, with_all_objects, with_all_procedures, public_objects, public_procedures, drop_item, at_drop_all}
 use Rattle.indexmap.specs.IndexMap.{insert_entry}
 use Rattle.symbols.specs.contracts.name.NamePartialEq.TheImpl.{eq-value}
 use Rattle.symbols.proofs.Keys.{same_keys}
 use Rattle.resolving.specs.declared.publics.Found.{Found}
 use Rattle.resolving.specs.Views.{found_view}
-use Rattle.resolving.proofs.Items.{at_item, at_end}
 
 pub found_some : (table : Table) (name : List ℕ) (found : Found) → Some found ≡ lookup (eq-value.it name) table → Some found ≡ lookup (bytes_eq name) table
 found_some table name found is = is ∙ ap (λ (same : List ℕ → List ℕ → Bool). lookup (same name) table) same_keys
@@ -40,13 +39,13 @@ module _ (table total : Table) (number_of_module : ℕ) (objects : List CodeObje
   unfolding with_objects
   object_put object after within is given =
       ap (λ left. with_objects left number_of_module (i + 1) (map object_view (drop (i + 1) objects))) given
-      ∙ sym (at_item (λ left. with_objects table number_of_module i (map object_view left)) objects i object within is)
+      ∙ sym (drop_item (λ left. with_objects table number_of_module i (map object_view left)) objects i object within is)
       ∙ rest
 
   pub objects_put : length objects ≤ i → table ≡ total
   unfolding with_objects
   objects_put past =
-      sym (at_end (λ left. with_objects table number_of_module i (map object_view left)) objects i past) ∙ rest
+      sym (at_drop_all (λ left. with_objects table number_of_module i (map object_view left)) objects i past) ∙ rest
 
 module _ (table total : Table) (number_of_module : ℕ) (procedures : List CodeProcedure) (i : ℕ)
     (rest : with_procedures table number_of_module i (map procedure_view (drop i procedures)) ≡ total) where
@@ -56,13 +55,13 @@ module _ (table total : Table) (number_of_module : ℕ) (procedures : List CodeP
   unfolding with_procedures
   procedure_put procedure after within is given =
       ap (λ left. with_procedures left number_of_module (i + 1) (map procedure_view (drop (i + 1) procedures))) given
-      ∙ sym (at_item (λ left. with_procedures table number_of_module i (map procedure_view left)) procedures i procedure within is)
+      ∙ sym (drop_item (λ left. with_procedures table number_of_module i (map procedure_view left)) procedures i procedure within is)
       ∙ rest
 
   pub procedures_put : length procedures ≤ i → table ≡ total
   unfolding with_procedures
   procedures_put past =
-      sym (at_end (λ left. with_procedures table number_of_module i (map procedure_view left)) procedures i past) ∙ rest
+      sym (at_drop_all (λ left. with_procedures table number_of_module i (map procedure_view left)) procedures i past) ∙ rest
 
 module _ (table total : Table) (modules : List Typed) (i : ℕ)
     (rest : with_all_objects table i (map module_view (drop i modules)) ≡ total) where
@@ -72,13 +71,13 @@ module _ (table total : Table) (modules : List Typed) (i : ℕ)
   unfolding with_objects with_all_objects
   objects_of_module_put typed after within is given =
       ap (λ left. with_all_objects left (i + 1) (map module_view (drop (i + 1) modules))) given
-      ∙ sym (at_item (λ left. with_all_objects table i (map module_view left)) modules i typed within is)
+      ∙ sym (drop_item (λ left. with_all_objects table i (map module_view left)) modules i typed within is)
       ∙ rest
 
   pub all_objects_put : length modules ≤ i → table ≡ total
   unfolding with_all_objects
   all_objects_put past =
-      sym (at_end (λ left. with_all_objects table i (map module_view left)) modules i past) ∙ rest
+      sym (at_drop_all (λ left. with_all_objects table i (map module_view left)) modules i past) ∙ rest
 
 module _ (table total : Table) (modules : List Typed) (i : ℕ)
     (rest : with_all_procedures table i (map module_view (drop i modules)) ≡ total) where
@@ -88,13 +87,13 @@ module _ (table total : Table) (modules : List Typed) (i : ℕ)
   unfolding with_procedures with_all_procedures
   procedures_of_module_put typed after within is given =
       ap (λ left. with_all_procedures left (i + 1) (map module_view (drop (i + 1) modules))) given
-      ∙ sym (at_item (λ left. with_all_procedures table i (map module_view left)) modules i typed within is)
+      ∙ sym (drop_item (λ left. with_all_procedures table i (map module_view left)) modules i typed within is)
       ∙ rest
 
   pub all_procedures_put : length modules ≤ i → table ≡ total
   unfolding with_all_procedures
   all_procedures_put past =
-      sym (at_end (λ left. with_all_procedures table i (map module_view left)) modules i past) ∙ rest
+      sym (at_drop_all (λ left. with_all_procedures table i (map module_view left)) modules i past) ∙ rest
 
 -- what is found in a table with one more entry
 looked_last : (test : List ℕ → Bool) (entries : Table) (name : List ℕ) (found : Found)

@@ -1,13 +1,8 @@
 -- The arithmetic of the shifts of an ADDRESS: words of two bytes, their halves and quarters, and the 24 bits of A, H
 -- and L doubled.
-use Rattle.runtime8080.proofs.Prelude.{◌≡◌, ℕ, suc, ◌+◌, ◌*◌, ◌/◌, ◌%◌, ◌^◌, ◌<◌, ◌≤◌, ◌==◌, Bool, true, false, not, nat_le, refl, sym, ap, ◌∙◌, arith, pow-add, bit_and, bit_xor, xor_assoc, xor_self, xor_zero_l, xor_zero_r, ones, div-div-eq-div-mul, div-eq_of_lt, mod-eq_of_lt, mul-div-mul_right, pow-le-pow_right, pow-suc, mul-mod_first, pow_pos, xor_mod, xor_of_8, xor_shr, leb-false, leb-true, bit, has_even_parity, word, wrap}
+use Rattle.runtime8080.proofs.Prelude.{◌≡◌, ℕ, suc, ◌+◌, ◌*◌, ◌/◌, ◌%◌, ◌^◌, ◌<◌, ◌≤◌, ◌==◌, Bool, true, false, not, nat_le, refl, sym, ap, ◌∙◌, arith, pow-add, bit_and, bit_xor, xor_assoc, xor_self, xor_zero_l, xor_zero_r, ones, div-div-eq-div-mul, div-eq_of_lt, mod-eq_of_lt, mul-div-mul_right, pow-le-pow_right, pow-suc, mul-mod_first, pow_pos, xor_mod, xor_of_8, xor_shr, leb-false, leb-true, bit, has_even_parity, word}
 use Rattle.runtime8080.proofs.Bits.{equal_below, turn_right}
-
-pub of_bytes : (w : ℕ) → word (w / 256) (w % 256) ≡ w
-of_bytes w = omega arith
-
-pub high_small : (n : ℕ) → wrap n / 256 < 256
-high_small n = omega arith
+use Rattle.runtime8080.proofs.Numbers.{product_at_most}
 
 pub low_small : (n : ℕ) → n % 256 < 256
 low_small n = omega arith
@@ -129,12 +124,9 @@ power_small k h = let more : 2 ^ k ≤ 2 ^ 8 = pow-le-pow_right (omega arith) h 
 
 below_limit : (x k : ℕ) → x < 65536 → k ≤ 8 → x * 2 ^ k < 16777216
 below_limit x k small few =
-    let product : x * 2 ^ k ≤ 65535 * 2 ^ k = mul-le x 65535 (2 ^ k) (omega arith) in
+    let product : x * 2 ^ k ≤ 65535 * 2 ^ k = product_at_most x 65535 (2 ^ k) (omega arith) in
     let power = power_small k few in
     omega arith
-  where
-    mul-le : (a b p : ℕ) → a ≤ b → a * p ≤ b * p
-    mul-le a b p h = grind arith
 
 not_cut : (x k : ℕ) → x < 65536 → k ≤ 8 → (x * 2 ^ k) % 16777216 ≡ x * 2 ^ k
 not_cut x k small few = mod-eq_of_lt (below_limit x k small few)

@@ -1,5 +1,5 @@
 -- Bytes, bit by bit: what holds of each byte is computed over all of them.
-use Rattle.runtime8080.proofs.Prelude.{◌≡◌, ℕ, zero, suc, ◌+◌, ◌-◌, ◌*◌, ◌/◌, ◌%◌, ◌^◌, ◌<◌, ◌≤◌, ◌==◌, true, refl, sym, ap, ◌∙◌, arith, pow-add, bit_and, agree_below, agree_below_at, eqb-true, div-eq_of_lt, pow-le-pow_right, turned}
+use Rattle.runtime8080.proofs.Prelude.{◌≡◌, ℕ, zero, suc, ◌+◌, ◌-◌, ◌*◌, ◌/◌, ◌%◌, ◌^◌, ◌<◌, ◌≤◌, ◌==◌, true, refl, sym, ap, ◌∙◌, arith, pow-add, bit_and, agree_below, agree_below_at, eqb-true, div-eq_of_lt, pow-le-pow_right, turned, high_of_pair}
 
 pub equal_below :
     (f g : ℕ → ℕ) (limit n : ℕ)
@@ -18,9 +18,6 @@ abbrev pub times : (f : ℕ → ℕ) → (count byte : ℕ) → ℕ
 times f zero byte = byte
 times f (suc count) byte = times f count (f byte)
 
-index_high : (count byte : ℕ) → byte < 256 → (256 * count + byte) / 256 ≡ count
-index_high count byte h = omega arith
-
 index_low : (count byte : ℕ) → byte < 256 → (256 * count + byte) % 256 ≡ byte
 index_low count byte h = omega arith
 
@@ -36,11 +33,11 @@ by_table :
     → byte < 256
     → f count byte ≡ g count byte
 by_table f g agree count byte few small =
-    ap (λ k. f k byte) (sym (index_high count byte small))
+    ap (λ k. f k byte) (sym (high_of_pair count byte small))
     ∙ (ap (f ((256 * count + byte) / 256)) (sym (index_low count byte small))
     ∙ (equal_below (λ k. f (k / 256) (k % 256)) (λ k. g (k / 256) (k % 256)) 2048 (256 * count + byte) agree
     (index_small count byte few small)
-    ∙ (ap (λ k. g k ((256 * count + byte) % 256)) (index_high count byte small)
+    ∙ (ap (λ k. g k ((256 * count + byte) % 256)) (high_of_pair count byte small)
     ∙ ap (g count) (index_low count byte small))))
 
 -- a byte turned once to the left, and to the right

@@ -1,5 +1,5 @@
 -- From what a routine does between its entry and its return to what a call of it does.
-use Rattle.runtime8080.proofs.Prelude.{◌≡◌, ℕ, suc, ◌+◌, ◌-◌, ◌<◌, ◌≤◌, List, refl, sym, ◌∙◌, subst, arith, slice_set, length-set, MEMORY_SIZE, byte_at, IsIn, Meets, Event, HoldBytes, Registers, State, high_byte, wrap, Comes, Keeps, below, at, returned, step_then, Alike, called, pushed, pushed_is_memory, pushed_is_pushed, pushed_keeps, returned_is, Routine, CALL_BYTES, Computes, HasReturned, Leaves, MayCall, Returns, memory_after, most_steps}
+use Rattle.runtime8080.proofs.Prelude.{◌≡◌, ℕ, suc, ◌+◌, ◌-◌, ◌<◌, ◌≤◌, List, refl, sym, ◌∙◌, subst, arith, slice_set, length-set, MEMORY_SIZE, byte_at, IsIn, Meets, Event, HoldBytes, Registers, State, high_byte, wrap, Comes, Keeps, below, at, returned, step_then, Alike, called, pushed, pushed_is_memory, pushed_is_pushed, pushed_keeps, returned_is, Routine, CALL_BYTES, Computes, HasReturned, Leaves, MayCall, Returns, memory_after, most_steps, wrapped_small}
 use Rattle.runtime8080.specs.declared.routine.Routine.TheVariants as routines
 
 -- What a routine does that writes no memory, from its first byte to where it has returned.
@@ -89,9 +89,6 @@ pushed_elsewhere level word memory address room out =
 
 pub two_fit : (level : ℕ) → CALL_BYTES ≤ level → 2 ≤ level
 two_fit level h = omega arith
-
-pub wrapped_small : (n : ℕ) → wrap n < MEMORY_SIZE
-wrapped_small n = omega arith
 
 -- the code stands in memory after the call
 pub code_stays :

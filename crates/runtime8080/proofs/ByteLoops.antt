@@ -1,6 +1,7 @@
 -- Loops of straight code that changes A alone.
-use Rattle.runtime8080.proofs.Prelude.{◌≡◌, ℕ, zero, suc, ◌+◌, ◌%◌, ◌<◌, List, refl, ap, ◌∙◌, arith, Instr, HoldBytes, Registers, effect, counted, once_counted, turns_below, turns_counted}
+use Rattle.runtime8080.proofs.Prelude.{◌≡◌, ℕ, zero, suc, ◌<◌, List, refl, ap, ◌∙◌, Instr, HoldBytes, Registers, effect, counted, once_counted, turns_below, turns_counted}
 use Rattle.runtime8080.proofs.Bits.{times}
+use Rattle.runtime8080.proofs.Numbers.{one_less_small, small_by}
 
 -- straight code changes A by a function, of the other registers none, and flags
 pub record ChangesA (body : List Instr) (f : ℕ → ℕ) : Type 0 where
@@ -26,12 +27,6 @@ pub record ChangedA (r after : Registers) (value : ℕ) : Type 0 where
   pub l : after.l ≡ r.l
   pub sp : after.sp ≡ r.sp
 
-a_byte : (n : ℕ) → (n + 254 + 1) % 256 < 256
-a_byte n = omega arith
-
-pub small_by : (n m : ℕ) → n ≡ m → m < 256 → n < 256
-small_by n m h small = omega arith
-
 pub after_turns :
     (body : List Instr) (f : ℕ → ℕ)
     → ChangesA body f
@@ -44,7 +39,7 @@ after_turns body f is zero r small = record {
   b = is.b r;
   c = is.c r;
   d = is.d r;
-  e = a_byte (effect body r).e;
+  e = one_less_small (effect body r).e;
   h = is.h r;
   l = is.l r;
   sp = is.sp r;
@@ -76,7 +71,7 @@ before_turns body f is zero r small = record {
   b = refl;
   c = refl;
   d = refl;
-  e = a_byte r.e;
+  e = one_less_small r.e;
   h = refl;
   l = refl;
   sp = refl;

@@ -1,8 +1,6 @@
 -- Blocks of bytes that are copied, and what stays of a memory.
-use Rattle.runtime8080.proofs.Prelude.{◌≡◌, ◌≢◌, ℕ, zero, suc, ◌+◌, ◌<◌, ◌==◌, Bool, true, false, List, length, refl, sym, ap, ◌∙◌, arith, slice_set, eqb-true, eq-eqb, length-set, All-get_or, MEMORY_SIZE, Range, IsMemory, byte_at, byte_small, IsIn, wrap, byte_kept, byte_put, memory_put, BlockMisses, copied}
-
-wrapped_small : (n : ℕ) → wrap n < MEMORY_SIZE
-wrapped_small n = omega arith
+use Rattle.runtime8080.proofs.Prelude.{◌≡◌, ℕ, zero, suc, ◌+◌, ◌<◌, ◌==◌, Bool, true, false, List, length, refl, sym, ap, ◌∙◌, arith, slice_set, eqb-true, length-set, All-get_or, MEMORY_SIZE, Range, IsMemory, byte_at, byte_small, IsIn, wrap, byte_kept, byte_put, memory_put, BlockMisses, copied, wrapped_small}
+use Rattle.runtime8080.proofs.Labels.{differs_by}
 
 first_wrapped : (start : ℕ) → wrap start ≡ wrap (start + 0)
 first_wrapped start = omega arith
@@ -53,9 +51,6 @@ abbrev pub DifferIn : Range → (memory other : List ℕ) → Type 0
 DifferIn range memory other =
     (address : ℕ) → (IsIn address range → ⊥) → byte_at other address ≡ byte_at memory address
 
-differ_by : (a b : ℕ) → (a == b) ≡ false → a ≢ b
-differ_by a b h e = let bad : true ≡ false = sym (eq-eqb a b e) ∙ h in cc
-
 put_both :
     (range : Range) (memory other : List ℕ) (place value value' : ℕ)
     → place < length memory
@@ -72,7 +67,7 @@ put_both range memory other place value value' fits fits' differ same address ou
         ∙ (byte_put other place value' fits' ∙ (same ∙ (sym (byte_put memory place value fits)
         ∙ ap (byte_at (slice_set memory place value)) (sym e))))
     go false h =
-        let other_place = differ_by address place h in
+        let other_place = differs_by address place h in
         byte_kept other place address value' other_place
         ∙ (differ address out ∙ sym (byte_kept memory place address value other_place))
 

@@ -1,13 +1,14 @@
 -- Divide: by a byte where D is 0, else by a word.
-use Rattle.runtime8080.proofs.Prelude.{◌≡◌, ◌≢◌, ℕ, zero, suc, ◌+◌, ◌-◌, ◌*◌, ◌/◌, ◌%◌, ◌<◌, ◌≤◌, ◌==◌, Bool, true, false, not, if◌then◌else◌, None, Some, List, [], ◌∷◌, refl, sym, ap, subst, ◌∙◌, arith, bit_or, or_self, eqb-true, eq-eqb, MEMORY_SIZE, Event, A, B, C, D, E, H, L, Of, NotZero, Or, Instr, Accumulate, Mov, Mvi, Ret, Xchg, HoldBytes, Registers, word, wrap, JumpWhere, AtLabel, Item, Plain, WithWord, Mark, Layout, Stands, comes_on, at, goes_past, jumps_where, returned, returns, effect, plain, steps_of, straight, word_is, stands_size, stands_still, Computes, IsRoutine, divide}
+use Rattle.runtime8080.proofs.Prelude.{◌≡◌, ◌≢◌, ℕ, zero, suc, ◌+◌, ◌-◌, ◌*◌, ◌/◌, ◌%◌, ◌<◌, ◌≤◌, ◌==◌, Bool, true, false, not, if◌then◌else◌, None, Some, List, [], ◌∷◌, refl, sym, ap, subst, ◌∙◌, arith, bit_or, eqb-true, eq-eqb, MEMORY_SIZE, Event, A, B, C, D, E, H, L, Of, NotZero, Or, Instr, Accumulate, Mov, Mvi, Ret, Xchg, HoldBytes, Registers, word, wrap, JumpWhere, AtLabel, Item, Plain, WithWord, Mark, Layout, Stands, comes_on, at, goes_past, jumps_where, returned, returns, effect, plain, steps_of, straight, word_is, stands_size, stands_still, Computes, IsRoutine, divide}
 use Rattle.runtime8080.specs.declared.routine.Routine.TheVariants as routines
 use Rattle.runtime8080.proofs.Bodies.{Body, held, returns_quietly}
-use Rattle.runtime8080.proofs.ByteLoops.{small_by}
 use Rattle.runtime8080.proofs.Quotients.{Quotient, eight_bits, sixteen_bits}
 use Rattle.runtime8080.proofs.Narrow
 use Rattle.runtime8080.proofs.Narrow.{narrow}
 use Rattle.runtime8080.proofs.Wide
 use Rattle.runtime8080.proofs.Wide.{wide}
+use Rattle.runtime8080.proofs.Numbers.{none_of_or, or_small, small_by}
+use Rattle.runtime8080.proofs.AddressBits.{word_small}
 
 abbrev head : List Instr
 head = Mov A (Of D) ∷ Accumulate Or (Of A) ∷ []
@@ -61,12 +62,6 @@ computed before after is = (
       sym ((is g.0).1) ∙ g.1),
 )
 
-or_small : (d : ℕ) → d < 256 → bit_or d d < 256
-or_small d h = small_by (bit_or d d) d (or_self d) h
-
-is_zero : (d : ℕ) → (bit_or d d == 0) ≡ true → d ≡ 0
-is_zero d h = sym (or_self d) ∙ eqb-true (bit_or d d) 0 h
-
 not_zero : (d : ℕ) → (bit_or d d == 0) ≡ false → 1 ≤ d
 not_zero zero h = let bad : true ≡ false = h in cc
 not_zero (suc d) h = omega arith
@@ -102,7 +97,7 @@ narrow_body script layout first from to r memory events stands limit are none =
     let after = effect (Mov E (Of A) ∷ []) r3 in
     let v = word r.h r.l in
     let u = returned after memory events in
-    let d = is_zero r.d none in
+    let d = none_of_or r.d none in
     let a = eqb-true (bit_or r.d r.d) 0 none in
     let last : Stands layout memory (after_narrow first) exit to = more.1.1.1.1.1.1.1.1.1.1.1.1.1.1 in
     record {
@@ -140,9 +135,6 @@ narrow_body script layout first from to r memory events stands limit are none =
           (ap (λ n. v / n) divisor ∙ divided.0, ap (λ n. v % n) divisor ∙ (divided.1 ∙ sym rest)));
       leaves = tt;
     }
-  where
-    word_small : (high low : ℕ) → high < 256 → low < 256 → word high low < 65536
-    word_small high low h l = omega arith
 
 high_less : (h d e : ℕ) → h < 256 → 1 ≤ d → word 0 h < word d e
 high_less h d e small some = omega arith

@@ -1,5 +1,5 @@
 -- The labels of a routine: items that may be added, by the labels that they bind.
-use Rattle.runtime8080.proofs.Prelude.{◌≡◌, ◌≢◌, ℕ, ◌≤◌, ◌==◌, Bool, true, false, not, ◌||◌, List, [], ◌∷◌, ◌++◌, All, IsTrue, refl, sym, subst, ◌∙◌, eqb-true, eq-eqb, All-nil, All-cons, Item, Plain, WithWord, Byte, Address, Gap, Mark, BindsNew, KnowsLabels, is_bound, marks, bound_more, not_equal, HasOwnLabels, FitItems, item_of}
+use Rattle.runtime8080.proofs.Prelude.{◌≡◌, ◌≢◌, ℕ, ◌≤◌, ◌==◌, Bool, true, false, not, List, [], ◌∷◌, ◌++◌, All, IsTrue, refl, sym, subst, ◌∙◌, eqb-true, eq-eqb, All-nil, All-cons, Item, Plain, WithWord, Byte, Address, Gap, Mark, BindsNew, KnowsLabels, is_bound, marks, bound_more, not_equal, HasOwnLabels, FitItems, item_of, or_from, or_parts}
 use Rattle.runtime8080.specs.declared.parts.Part.{Part}
 use Rattle.runtime8080.specs.declared.parts.Part.TheVariants.{Here}
 
@@ -110,31 +110,19 @@ fit_items labels items (Gap count ∷ others) known differ none = (
   fit_items labels (items ++ Gap count ∷ []) others known.1 differ (still_none items (Gap count) (bound_by others) (λ label. refl) none),
 )
 
-either_false : (here others : Bool) → here ≡ false → others ≡ false → (here || others) ≡ false
-either_false false others h g = g
-either_false true others h g = let bad : true ≡ false = h in cc
-
 -- a label that differs from those that are bound is not bound
 pub not_bound :
     (label : ℕ) (items : List Item) → Differs label (bound_by items) → is_bound label items ≡ false
 not_bound label [] h = refl
 not_bound label (Mark other ∷ others) h =
-    either_false (label == other) (is_bound label others) (not_equal label other h.0) (not_bound label others h.1)
+    or_from (label == other) (is_bound label others) (not_equal label other h.0) (not_bound label others h.1)
 not_bound label (Plain i ∷ others) h = not_bound label others h
 not_bound label (WithWord form reference ∷ others) h = not_bound label others h
 not_bound label (Byte value ∷ others) h = not_bound label others h
 not_bound label (Address reference ∷ others) h = not_bound label others h
 not_bound label (Gap count ∷ others) h = not_bound label others h
 
-first_false : (here others : Bool) → (here || others) ≡ false → here ≡ false
-first_false false others h = refl
-first_false true others h = let bad : true ≡ false = h in cc
-
-second_false : (here others : Bool) → (here || others) ≡ false → others ≡ false
-second_false false others h = h
-second_false true others h = let bad : true ≡ false = h in cc
-
-differs_by : (label other : ℕ) → (label == other) ≡ false → label ≢ other
+pub differs_by : (label other : ℕ) → (label == other) ≡ false → label ≢ other
 differs_by label other h e = let bad : true ≡ false = sym (eq-eqb label other e) ∙ h in cc
 
 -- and the other way round
@@ -142,8 +130,8 @@ pub unbound_differs :
     (label : ℕ) (items : List Item) → is_bound label items ≡ false → Differs label (bound_by items)
 unbound_differs label [] h = tt
 unbound_differs label (Mark other ∷ others) h = (
-  differs_by label other (first_false (label == other) (is_bound label others) h),
-  unbound_differs label others (second_false (label == other) (is_bound label others) h),
+  differs_by label other (or_parts (label == other) (is_bound label others) h).0,
+  unbound_differs label others (or_parts (label == other) (is_bound label others) h).1,
 )
 unbound_differs label (Plain i ∷ others) h = unbound_differs label others h
 unbound_differs label (WithWord form reference ∷ others) h = unbound_differs label others h

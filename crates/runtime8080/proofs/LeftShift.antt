@@ -1,9 +1,9 @@
 -- The shift of an ADDRESS to the left: by 16 or more it is 0, else it is doubled once for each that E counts.
-use Rattle.runtime8080.proofs.Prelude.{◌≡◌, ℕ, zero, suc, ◌+◌, ◌-◌, ◌*◌, ◌%◌, ◌^◌, ◌<◌, ◌≤◌, min, Bool, true, false, nat_lt, List, [], ◌∷◌, refl, sym, ap, ◌∙◌, arith, pow-add, pow-suc, mul-mod_first, leb-false, leb-true, MEMORY_SIZE, Event, E, A, Of, Hl, Carry, Compare, Instr, AccumulateImmediate, Dad, Lxi, Mov, Ret, HoldBytes, Registers, pair_of, word, wrap, JumpWhere, AtLabel, Item, Plain, WithWord, Mark, Layout, Stands, goes_past, jumps_where, returned, returns, effect, past, steps_of, straight, counted, loop_before, steps_below, tested_before, turns_below, word_is, stands_size, stands_still, IsRoutine, shift_left_address}
+use Rattle.runtime8080.proofs.Prelude.{◌≡◌, ℕ, zero, suc, ◌+◌, ◌-◌, ◌*◌, ◌%◌, ◌^◌, ◌<◌, ◌≤◌, min, Bool, true, false, nat_lt, List, [], ◌∷◌, refl, sym, ap, ◌∙◌, arith, pow-add, pow-suc, mul-mod_first, leb-false, leb-true, MEMORY_SIZE, Event, E, A, Of, Hl, Carry, Compare, Instr, AccumulateImmediate, Dad, Lxi, Mov, Ret, HoldBytes, Registers, pair_of, word, wrap, JumpWhere, AtLabel, Item, Plain, WithWord, Mark, Layout, Stands, goes_past, jumps_where, returned, returns, effect, past, steps_of, straight, counted, loop_before, steps_below, tested_before, turns_below, word_is, stands_size, stands_still, IsRoutine, shift_left_address, high_of_wrapped, word_of_halves}
 use Rattle.runtime8080.specs.declared.routine.Routine.TheVariants as routines
-use Rattle.runtime8080.proofs.AddressBits.{doubled_product, high_small, low_small, of_bytes}
+use Rattle.runtime8080.proofs.AddressBits.{doubled_product, low_small}
 use Rattle.runtime8080.proofs.Bodies.{Body, held, returns_quietly}
-use Rattle.runtime8080.proofs.ByteLoops.{small_by}
+use Rattle.runtime8080.proofs.Numbers.{one_less_small, small_by}
 
 -- E takes the count, which is compared with 16
 abbrev head : List Instr
@@ -29,9 +29,6 @@ record ChangedHl (r after : Registers) (value : ℕ) : Type 0 where
   e : after.e < 256
   sp : after.sp ≡ r.sp
 
-a_byte : (n : ℕ) → (n + 254 + 1) % 256 < 256
-a_byte n = omega arith
-
 not_shifted : (h l : ℕ) → h < 256 → l < 256 → word h l ≡ (word h l * 1) % MEMORY_SIZE
 not_shifted h l small_h small_l = omega arith
 
@@ -53,17 +50,17 @@ doubled zero r small_h small_l = record {
   b = refl;
   c = refl;
   d = refl;
-  e = a_byte r.e;
+  e = one_less_small r.e;
   sp = refl;
 }
 doubled (suc n) r small_h small_l =
     let x = pair_of Hl r in
     let r1 = counted r in
-    let more = doubled n (effect twice r1) (high_small (x + x)) (low_small (wrap (x + x))) in
+    let more = doubled n (effect twice r1) (high_of_wrapped (x + x)) (low_small (wrap (x + x))) in
     record {
       hl =
           more.hl
-          ∙ (ap (λ w. (w * 2 ^ n) % MEMORY_SIZE) (of_bytes (wrap (x + x))) ∙ once_more x n);
+          ∙ (ap (λ w. (w * 2 ^ n) % MEMORY_SIZE) (word_of_halves (wrap (x + x))) ∙ once_more x n);
       h = more.h;
       l = more.l;
       a = more.a;

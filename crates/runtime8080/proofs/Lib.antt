@@ -1,4 +1,5 @@
 mod Prelude
+pub mod Numbers
 pub mod Bodies
 pub mod Bits
 pub mod ByteLoops

@@ -1,5 +1,5 @@
 -- MOVE: a loop that copies a byte, with C counting the bytes of a page and B the pages.
-use Rattle.runtime8080.proofs.Prelude.{◌≡◌, ℕ, zero, suc, ◌+◌, ◌-◌, ◌*◌, ◌/◌, ◌%◌, ◌<◌, ◌≤◌, ◌==◌, true, false, not, List, [], ◌∷◌, refl, sym, ap, subst, ◌∙◌, arith, slice_set, eq-eqb, MEMORY_SIZE, IsMemory, byte_at, byte_small, IsIn, Event, A, B, C, Of, De, Hl, IndexDe, NotZero, Instr, Dcr, Inr, Inx, Ldax, MovToMemory, Ret, HoldBytes, Registers, State, word, wrap, JumpWhere, AtLabel, Item, Plain, WithWord, Mark, Layout, Stands, Comes, at, does, goes_past, jumps_where, returned, returns, effect, straight, not_zero, word_is, byte_kept, memory_put, stands_size, stands_still, BlockMisses, copied}
+use Rattle.runtime8080.proofs.Prelude.{◌≡◌, ℕ, zero, suc, ◌+◌, ◌-◌, ◌*◌, ◌/◌, ◌%◌, ◌<◌, ◌≤◌, ◌==◌, true, false, not, List, [], ◌∷◌, refl, sym, ap, subst, ◌∙◌, arith, slice_set, eq-eqb, MEMORY_SIZE, IsMemory, byte_at, byte_small, IsIn, Event, A, B, C, Of, De, Hl, IndexDe, NotZero, Instr, Dcr, Inr, Inx, Ldax, MovToMemory, Ret, HoldBytes, Registers, State, word, wrap, JumpWhere, AtLabel, Item, Plain, WithWord, Mark, Layout, Stands, Comes, at, does, goes_past, jumps_where, returned, returns, effect, straight, not_zero, word_is, byte_kept, memory_put, stands_size, stands_still, BlockMisses, copied, high_of_wrapped, word_of_halves, wrapped_next}
 use Rattle.runtime8080.proofs.Copies.{first_missed, others_missed}
 
 abbrev pub whole : (first : ℕ) → List Item
@@ -51,28 +51,19 @@ next_bytes r memory is are = record {
   a = byte_small memory (word r.d r.e) is;
   b = are.b;
   c = low_small (r.c + 254 + 1);
-  d = high_small (word r.d r.e + 1);
+  d = high_of_wrapped (word r.d r.e + 1);
   e = low_small (wrap (word r.d r.e + 1));
-  h = high_small (word r.h r.l + 1);
+  h = high_of_wrapped (word r.h r.l + 1);
   l = low_small (wrap (word r.h r.l + 1));
 }
   where
-    high_small : (n : ℕ) → wrap n / 256 < 256
-    high_small n = omega arith
-
     low_small : (n : ℕ) → n % 256 < 256
     low_small n = omega arith
 
 -- the address in a pair counts on
 counts_on : (high low place : ℕ) → word high low ≡ wrap place → word (wrap (word high low + 1) / 256) (wrap (word high low + 1) % 256) ≡ wrap (place + 1)
 counts_on high low place h =
-    of_bytes (wrap (word high low + 1)) ∙ (ap (λ n. wrap (n + 1)) h ∙ wrapped_again place)
-  where
-    of_bytes : (w : ℕ) → word (w / 256) (w % 256) ≡ w
-    of_bytes w = omega arith
-
-    wrapped_again : (place : ℕ) → wrap (wrap place + 1) ≡ wrap (place + 1)
-    wrapped_again place = omega arith
+    word_of_halves (wrap (word high low + 1)) ∙ (ap (λ n. wrap (n + 1)) h ∙ wrapped_next place)
 
 is_in : (start to address : ℕ) → start ≤ address → address < to → IsIn address (record { start = start; len = to - start })
 is_in start to address low high = (omega arith, omega arith)

@@ -1,7 +1,7 @@
 -- MOVE returns, with the block copied.
-use Rattle.runtime8080.proofs.Prelude.{◌≡◌, ℕ, zero, suc, ◌+◌, ◌-◌, ◌*◌, ◌%◌, ◌<◌, ◌≤◌, not, List, [], ◌∷◌, length, refl, sym, ap, subst, ◌∙◌, arith, eq-eqb, MEMORY_SIZE, IsMemory, byte_at, IsIn, Event, B, C, Of, NotZero, Zero, Instr, Dcr, Inr, Ret, HoldBytes, Registers, word, wrap, JumpWhere, AtLabel, Item, Plain, WithWord, Mark, Layout, Stands, Comes, below, at, goes_past, jumps_where, returned, returns, step_then, effect, straight, not_zero, word_is, stands_size, stands_still, IsPushed, called, pushed, pushed_is_memory, pushed_is_pushed, returned_is, BlockMisses, IsRoutine, CALL_BYTES, copied, move_bytes}
+use Rattle.runtime8080.proofs.Prelude.{◌≡◌, ℕ, zero, suc, ◌+◌, ◌-◌, ◌*◌, ◌%◌, ◌<◌, ◌≤◌, not, List, [], ◌∷◌, length, refl, sym, ap, subst, ◌∙◌, arith, eq-eqb, MEMORY_SIZE, IsMemory, byte_at, IsIn, Event, B, C, Of, NotZero, Zero, Instr, Dcr, Inr, Ret, HoldBytes, Registers, word, wrap, JumpWhere, AtLabel, Item, Plain, WithWord, Mark, Layout, Stands, Comes, below, at, goes_past, jumps_where, returned, returns, step_then, effect, straight, not_zero, word_is, stands_size, stands_still, IsPushed, called, pushed, pushed_is_memory, pushed_is_pushed, returned_is, BlockMisses, IsRoutine, CALL_BYTES, copied, move_bytes, equals_wrapped, word_in_memory, wrapped_small}
 use Rattle.runtime8080.specs.declared.routine.Routine.TheVariants as routines
-use Rattle.runtime8080.proofs.Bodies.{bytes_where, code_stays, held, in_spare, pushed_elsewhere, two_fit, wrapped_small}
+use Rattle.runtime8080.proofs.Bodies.{bytes_where, code_stays, held, in_spare, pushed_elsewhere, two_fit}
 use Rattle.runtime8080.proofs.Copies.{copied_differ, copied_is_memory, copied_keeps}
 use Rattle.runtime8080.proofs.MoveLoop.{loop, one_byte, whole}
 
@@ -22,12 +22,6 @@ byte_again n h = omega arith
 
 next_byte : (n : ℕ) → (n + 1) % 256 ≡ suc n % 256
 next_byte n = omega arith
-
-small_again : (n : ℕ) → n < MEMORY_SIZE → n ≡ wrap n
-small_again n h = omega arith
-
-word_small : (high low : ℕ) → high < 256 → low < 256 → word high low < MEMORY_SIZE
-word_small high low h l = omega arith
 
 -- a block that misses the code misses the end of it
 narrowed :
@@ -98,7 +92,7 @@ with_rest script layout first from to memory events r left c limit bound stands 
     let moved =
     loop script layout first top to events limit bound (256 * r.b + left) r.b left de hl r2 memory
     refl are.b (omega arith) (next_byte r.b) (same ∙ omega arith)
-    (small_again de (word_small r.d r.e are.d are.e)) (small_again hl (word_small r.h r.l are.h are.l)) is are2
+    (equals_wrapped de (word_in_memory r.d r.e are.d are.e)) (equals_wrapped hl (word_in_memory r.h r.l are.h are.l)) is are2
     (narrowed (word r.b r.c) (suc (256 * r.b + left)) hl from top to count (omega arith) (omega arith) misses) more.1.1.1 in
     let u = returned moved.after (copied (word r.b r.c) de hl memory) events in
     record {
@@ -140,7 +134,7 @@ with_pages script layout first from to memory events r page c b limit bound stan
     let moved =
     loop script layout first top to events limit bound (256 * page + 255) page 255 de hl r2 memory
     refl (omega arith) (omega arith) (same_b ∙ omega arith) (same ∙ omega arith)
-    (small_again de (word_small r.d r.e are.d are.e)) (small_again hl (word_small r.h r.l are.h are.l)) is are2
+    (equals_wrapped de (word_in_memory r.d r.e are.d are.e)) (equals_wrapped hl (word_in_memory r.h r.l are.h are.l)) is are2
     (narrowed (word r.b r.c) (suc (256 * page + 255)) hl from top to count (omega arith) (omega arith) misses) more.1.1.1 in
     let u = returned moved.after (copied (word r.b r.c) de hl memory) events in
     record {

@@ -1,8 +1,9 @@
 -- The quotient by a byte: HL is doubled into A, and where E fits into A it is taken away and L gains a bit; D
 -- counts the bits.
-use Rattle.runtime8080.proofs.Prelude.{◌≡◌, ℕ, zero, suc, ◌+◌, ◌-◌, ◌*◌, ◌/◌, ◌%◌, ◌<◌, ◌≤◌, ◌==◌, Bool, true, false, not, nat_le, nat_lt, List, [], ◌∷◌, refl, ap, subst, ◌∙◌, arith, leb-false, leb-true, MEMORY_SIZE, Event, bit, D, E, L, Of, Hl, Carry, NotZero, Compare, Subtract, Instr, Accumulate, Dad, Dcr, Inr, Ral, Registers, word, wrap, JumpWhere, AtLabel, Item, Plain, WithWord, Mark, Layout, Stands, Comes, comes_on, at, goes_past, jumps_where, effect, straight, counted_out, counts_on, one_less_is, word_is}
+use Rattle.runtime8080.proofs.Prelude.{◌≡◌, ℕ, zero, suc, ◌+◌, ◌-◌, ◌*◌, ◌/◌, ◌%◌, ◌<◌, ◌≤◌, ◌==◌, Bool, true, false, not, nat_le, nat_lt, List, [], ◌∷◌, refl, ap, subst, ◌∙◌, arith, leb-false, leb-true, MEMORY_SIZE, Event, bit, D, E, L, Of, Hl, Carry, NotZero, Compare, Subtract, Instr, Accumulate, Dad, Dcr, Inr, Ral, Registers, word, wrap, JumpWhere, AtLabel, Item, Plain, WithWord, Mark, Layout, Stands, Comes, comes_on, at, goes_past, jumps_where, effect, straight, counted_out, counts_on, one_less_is, word_is, high_of_wrapped, same_after, word_of_halves}
 use Rattle.runtime8080.proofs.Quotients.{Quotient, QuotientBit, no_bits, one_bit_more}
-use Rattle.runtime8080.proofs.Turns.{no_steps}
+use Rattle.runtime8080.proofs.AddressBits.{word_small}
+use Rattle.runtime8080.proofs.Numbers.{small_by}
 
 abbrev doubling : List Instr
 doubling = Dad Hl ∷ Ral ∷ []
@@ -60,9 +61,6 @@ record TakesBit
       (at (top + 1 + 1 + 3 + 1 + 3 + 1 + 1 + 1) after memory events)
   few : steps ≤ 8
   bit : Bit r after
-
-high_small : (n : ℕ) → wrap n / 256 < 256
-high_small n = omega arith
 
 low_small : (n : ℕ) → n % 256 < 256
 low_small n = omega arith
@@ -136,12 +134,6 @@ stays_byte a e v a1 false h low fits less small small_v is =
     let room : suc (a1 + (255 - e) + 1) ≤ 256 = leb-true (suc (a1 + (255 - e) + 1)) 256 fits in
     (omega arith, omega arith)
 
-word_small : (high low : ℕ) → high < 256 → low < 256 → word high low < 65536
-word_small high low h l = omega arith
-
-of_bytes : (w : ℕ) → word (w / 256) (w % 256) ≡ w
-of_bytes w = omega arith
-
 -- the low byte of what was doubled is even, so that one more does not carry
 one_more : (v : ℕ) → word ((v + v) % 65536 / 256) (((v + v) % 65536 % 256 + 1) % 256) ≡ (v + v) % 65536 + 1
 one_more v = omega arith
@@ -171,7 +163,7 @@ takes_fit script layout first third place to others r memory events stands limit
     let u = at (place + 1 + 1 + 1) r2 memory events in
     straight script layout taking (Mark third ∷ at_skip first others) place to r memory events 1 u refl stands (omega arith)
     (straight script layout counting (WithWord (JumpWhere NotZero) (AtLabel first) ∷ others) (place + 1 + 1) to r1 memory events 0 u refl stands.1.1.1 (omega arith)
-    (no_steps script u))
+    (same_after script u))
 
 takes_bit :
     (script : List (List ℕ)) (layout : Layout) (first second third top to : ℕ) (others : List Item)
@@ -205,7 +197,7 @@ takes_bit script layout first second third top to others r memory events stands 
         c = refl;
         d = refl;
         e = refl;
-        h = high_small (v + v);
+        h = high_of_wrapped (v + v);
         l = low_small (wrap (v + v) % 256 + 1);
         sp = refl;
         z = refl;
@@ -243,7 +235,7 @@ takes_bit script layout first second third top to others r memory events stands 
         c = refl;
         d = refl;
         e = refl;
-        h = high_small (v + v);
+        h = high_of_wrapped (v + v);
         l = low_small (wrap (v + v) % 256 + 1);
         sp = refl;
         z = refl;
@@ -275,7 +267,7 @@ takes_bit script layout first second third top to others r memory events stands 
           (jumps_where script 1 Carry (wrap (layout.place_of third)) (top + 1 + 1 + 3 + 1) place r2 memory events u stands.1.1.1.1.0 (omega arith) less
           (word_is (layout.place_of third) place stands.1.1.1.1.1.1.1.1.0 (omega arith))
           (straight script layout counting (WithWord (JumpWhere NotZero) (AtLabel first) ∷ others) place to r2 memory events 0 u refl stands.1.1.1.1.1.1.1.1.1 (omega arith)
-          (no_steps script u)))));
+          (same_after script u)))));
       few = omega arith;
       bit = record {
         a = doubled_small r.a (nat_le 65536 (v + v));
@@ -283,7 +275,7 @@ takes_bit script layout first second third top to others r memory events stands 
         c = refl;
         d = refl;
         e = refl;
-        h = high_small (v + v);
+        h = high_of_wrapped (v + v);
         l = low_small (wrap (v + v));
         sp = refl;
         z = refl;
@@ -293,7 +285,7 @@ takes_bit script layout first second third top to others r memory events stands 
           bit = 0;
           small = omega arith;
           same =
-              ap (λ n. 65536 * doubled_a r + n + r.e * 65536 * 0) (of_bytes (wrap (v + v)))
+              ap (λ n. 65536 * doubled_a r + n + r.e * 65536 * 0) (word_of_halves (wrap (v + v)))
               ∙ (stays_byte r.a r.e v (doubled_a r) (nat_le 65536 (v + v)) refl past less small are.e (word_small r.h r.l are.h are.l) refl).1;
         };
       };
@@ -320,9 +312,6 @@ pub record TakesBits
   pub run : Comes script steps (at top r memory events) (at exit after memory events)
   pub few : steps ≤ 9 * count
   pub bits : Bits count r after
-
-small_by : (n m : ℕ) → n ≡ m → m < 256 → n < 256
-small_by n m e h = omega arith
 
 less_than : (a e e' : ℕ) → e' ≡ e → a < e → a < e'
 less_than a e e' same h = omega arith
@@ -358,7 +347,7 @@ takes_bits script layout first second third top to others memory events stands l
       run =
           comes_on script taken.steps 1 (at top r memory events) (at place taken.after memory events) exit taken.run
           (goes_past script 0 NotZero (wrap (layout.place_of first)) place taken.after memory events exit
-          stands.1.1.1.1.1.1.1.1.1.1.0 fits (ap not bit.z ∙ counted_out r.d counter) (no_steps script exit));
+          stands.1.1.1.1.1.1.1.1.1.1.0 fits (ap not bit.z ∙ counted_out r.d counter) (same_after script exit));
       few = let count = taken.few in omega arith;
       bits = record {
         a = bit.a;

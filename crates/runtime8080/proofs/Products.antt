@@ -1,10 +1,10 @@
 -- Multiply: the bits of D, where it has any, and then those of E.
-use Rattle.runtime8080.proofs.Prelude.{◌≡◌, ℕ, suc, ◌+◌, ◌-◌, ◌*◌, ◌%◌, ◌<◌, ◌≤◌, ◌==◌, Bool, true, false, List, [], ◌∷◌, Some, refl, sym, ap, ◌∙◌, arith, bit_or, or_self, eqb-true, MEMORY_SIZE, Event, A, B, C, D, E, H, L, Of, Hl, Zero, Or, Instr, Accumulate, Lxi, Mov, Mvi, Ret, HoldBytes, Registers, word, wrap, JumpWhere, AtLabel, Item, Plain, WithWord, Mark, Layout, Stands, Comes, comes_on, at, goes_past, jumps_where, returned, returns, effect, past, steps_of, straight, word_is, stands_size, stands_still, IsRoutine, multiply}
+use Rattle.runtime8080.proofs.Prelude.{◌≡◌, ℕ, suc, ◌+◌, ◌-◌, ◌*◌, ◌%◌, ◌<◌, ◌≤◌, ◌==◌, Bool, true, false, List, [], ◌∷◌, Some, refl, sym, ap, ◌∙◌, arith, bit_or, or_self, MEMORY_SIZE, Event, A, B, C, D, E, H, L, Of, Hl, Zero, Or, Instr, Accumulate, Lxi, Mov, Mvi, Ret, HoldBytes, Registers, word, wrap, JumpWhere, AtLabel, Item, Plain, WithWord, Mark, Layout, Stands, Comes, comes_on, at, goes_past, jumps_where, returned, returns, effect, past, steps_of, straight, word_is, stands_size, stands_still, IsRoutine, multiply}
 use Rattle.runtime8080.specs.declared.routine.Routine.TheVariants as routines
 use Rattle.runtime8080.proofs.Bits.{equal_below}
 use Rattle.runtime8080.proofs.Bodies.{Body, held, returns_quietly}
-use Rattle.runtime8080.proofs.ByteLoops.{small_by}
 use Rattle.runtime8080.proofs.Turns.{absorbed, bits, highest, takes_bits}
+use Rattle.runtime8080.proofs.Numbers.{none_of_or, or_small, small_by}
 
 all_bits : (byte : ℕ) → byte < 256 → highest 8 byte ≡ byte
 all_bits byte h = equal_below (highest 8) (λ n. n) 256 byte refl h
@@ -80,12 +80,6 @@ ends script layout first place to r memory events stands limit small =
       sp = taken.bits.sp;
     }
 
-is_zero : (d : ℕ) → (bit_or d d == 0) ≡ true → d ≡ 0
-is_zero d h = sym (or_self d) ∙ eqb-true (bit_or d d) 0 h
-
-or_small : (d : ℕ) → d < 256 → bit_or d d < 256
-or_small d h = small_by (bit_or d d) d (or_self d) h
-
 product_of_zero : (y d : ℕ) → d ≡ 0 → 0 ≡ (y * d) % MEMORY_SIZE
 product_of_zero y d h = by_zero y ∙ ap (λ n. (y * n) % MEMORY_SIZE) (sym h)
   where
@@ -143,7 +137,7 @@ multiply_body script layout first from to r memory events stands limit are true 
         h = end.h;
         l = end.l;
       };
-      computes = ap Some (sym (end.hl ∙ product y r.d r.e 0 (product_of_zero y r.d (is_zero r.d is))));
+      computes = ap Some (sym (end.hl ∙ product y r.d r.e 0 (product_of_zero y r.d (none_of_or r.d is))));
       leaves = tt;
     }
 multiply_body script layout first from to r memory events stands limit are false is =

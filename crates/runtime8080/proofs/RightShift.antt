@@ -1,11 +1,11 @@
 -- The shift of an ADDRESS to the right: by 1 and 2 it is halved and quartered; by 3 to 7 the 24 bits of A, H and L are
 -- doubled, 8 less the count times, and the higher 16 of them are the value; by 8 or more the high byte takes the place
 -- of the low one, and the rest of the count begins anew.
-use Rattle.runtime8080.proofs.Prelude.{◌≡◌, ℕ, zero, suc, ◌+◌, ◌-◌, ◌*◌, ◌/◌, ◌%◌, ◌^◌, ◌<◌, ◌≤◌, ◌==◌, min, Bool, true, false, not, nat_le, nat_lt, List, [], ◌∷◌, refl, sym, ap, ◌∙◌, arith, eq-eqb, le-leb, leb-false, leb-true, lt-leb, MEMORY_SIZE, Event, A, H, L, Of, Hl, Carry, NoCarry, ParityOdd, Zero, Add, And, Compare, ExclusiveOr, Instr, Accumulate, AccumulateImmediate, Dad, Dcr, Mov, Mvi, Ral, Rar, Ret, ReturnIf, Rrc, bit, HoldBytes, Registers, State, word, wrap, JumpWhere, AtLabel, Item, Plain, WithWord, Mark, Layout, Stands, Comes, at, goes_past, jumps_where, returned, returns, returns_where, stays_here, effect, past, plain, steps_of, straight, not_equal, not_zero, one_less_is, word_is, stands_size, stands_still, IsRoutine, shift_right_address}
+use Rattle.runtime8080.proofs.Prelude.{◌≡◌, ℕ, zero, suc, ◌+◌, ◌-◌, ◌*◌, ◌/◌, ◌%◌, ◌^◌, ◌<◌, ◌≤◌, ◌==◌, min, Bool, true, false, not, nat_le, nat_lt, List, [], ◌∷◌, refl, sym, ap, ◌∙◌, arith, eq-eqb, le-leb, leb-false, leb-true, lt-leb, MEMORY_SIZE, Event, A, H, L, Of, Hl, Carry, NoCarry, ParityOdd, Zero, Add, And, Compare, ExclusiveOr, Instr, Accumulate, AccumulateImmediate, Dad, Dcr, Mov, Mvi, Ral, Rar, Ret, ReturnIf, Rrc, bit, HoldBytes, Registers, State, word, wrap, JumpWhere, AtLabel, Item, Plain, WithWord, Mark, Layout, Stands, Comes, at, goes_past, jumps_where, returned, returns, returns_where, stays_here, effect, past, plain, steps_of, straight, not_equal, not_zero, one_less_is, word_is, stands_size, stands_still, IsRoutine, shift_right_address, high_of_wrapped, word_of_halves}
 use Rattle.runtime8080.specs.declared.routine.Routine.TheVariants as routines
-use Rattle.runtime8080.proofs.AddressBits.{by_eight, even_of, half_small, halves, high_alone, high_small, low_small, none_left, not_doubled, odd_of, of_bytes, once_more, quarter_high_small, quarter_low_small, quarters, shifted_is, turned, turned_small, word_small}
+use Rattle.runtime8080.proofs.AddressBits.{by_eight, even_of, half_small, halves, high_alone, low_small, none_left, not_doubled, odd_of, once_more, quarter_high_small, quarter_low_small, quarters, shifted_is, turned, turned_small, word_small}
 use Rattle.runtime8080.proofs.Bodies.{Body, held, returns_quietly}
-use Rattle.runtime8080.proofs.ByteLoops.{small_by}
+use Rattle.runtime8080.proofs.Numbers.{small_by}
 
 abbrev head : List Instr
 head = AccumulateImmediate Add 254 ∷ []
@@ -122,7 +122,7 @@ bits_of r = 65536 * r.a + word r.h r.l
 one_doubling : (r : Registers) → r.a < 256 → r.h < 256 → r.l < 256 → bits_of (effect doubling r) ≡ (bits_of r + bits_of r) % 16777216
 one_doubling r a h l =
     let x = word r.h r.l in
-    ap (λ n. 65536 * (r.a * 2 % 256 + bit (nat_le 65536 (x + x))) + n) (of_bytes (wrap (x + x)))
+    ap (λ n. 65536 * (r.a * 2 % 256 + bit (nat_le 65536 (x + x))) + n) (word_of_halves (wrap (x + x)))
     ∙ turned r.a x (nat_le 65536 (x + x)) refl a (word_small r.h r.l h l)
 
 record Doubled (r after : Registers) (count : ℕ) : Type 0 where
@@ -144,7 +144,7 @@ doubled [] r a h l = record {
 doubled (label ∷ labels) r a h l =
     let x = word r.h r.l in
     let more =
-    doubled labels (effect doubling r) (turned_small r.a (nat_le 65536 (x + x)) a) (high_small (x + x)) (low_small (wrap (x + x))) in
+    doubled labels (effect doubling r) (turned_small r.a (nat_le 65536 (x + x)) a) (high_of_wrapped (x + x)) (low_small (wrap (x + x))) in
     record {
       bits =
           more.bits

@@ -1,5 +1,5 @@
 -- The rotations: a byte is turned once for each that the lowest three bits of E count.
-use Rattle.runtime8080.proofs.Prelude.{◌≡◌, ℕ, zero, suc, ◌+◌, ◌-◌, ◌*◌, ◌%◌, ◌<◌, ◌≤◌, true, List, [], ◌∷◌, refl, sym, ap, ◌∙◌, arith, bit_and, eq-eqb, MEMORY_SIZE, Event, D, E, A, Of, Zero, And, Instr, Rlc, Rrc, Mov, AccumulateImmediate, ReturnIf, Ret, HoldBytes, Registers, Item, Plain, Mark, Layout, Stands, size_of_instruction, returned, returns, returns_where, stays_here, effect, past, plain, steps_of, straight, touch_registers, loop_after, not_zero, steps_counted, tested_after, turns_counted, stands_still, turned, Routine, Computes, IsRoutine, Leaves, LeavesBcAndHl, most_steps, rotate_left, rotate_right}
+use Rattle.runtime8080.proofs.Prelude.{◌≡◌, ℕ, zero, suc, ◌+◌, ◌-◌, ◌*◌, ◌%◌, ◌<◌, ◌≤◌, true, List, [], ◌∷◌, refl, sym, ap, ◌∙◌, arith, bit_and, eq-eqb, MEMORY_SIZE, Event, D, E, A, Of, Zero, And, Instr, Rlc, Rrc, Mov, AccumulateImmediate, ReturnIf, Ret, HoldBytes, Registers, Item, Plain, Mark, Layout, Stands, size_of_instruction, returned, returns, returns_where, stays_here, effect, past, plain, steps_of, straight, touch_registers, loop_after, not_zero, steps_counted, tested_after, turns_counted, stands_still, turned, Routine, Computes, IsRoutine, Leaves, LeavesBcAndHl, most_steps, rotate_left, rotate_right, byte_is_low}
 use Rattle.runtime8080.specs.declared.routine.Routine.TheVariants as routines
 use Rattle.runtime8080.proofs.Bits.{low_three, times, turn_left, turn_right, turned_left, turned_right}
 use Rattle.runtime8080.proofs.Bodies.{Body, held, returns_quietly}
@@ -120,9 +120,6 @@ rotates routine turn f is first quiet layout from to script level s limit stands
 below_eight : (e : ℕ) → e % 8 < 8
 below_eight e = omega arith
 
-same_byte : (a : ℕ) → a < 256 → a ≡ a % 256
-same_byte a h = omega arith
-
 left_small : (byte : ℕ) → byte < 256 → turn_left byte < 256
 left_small byte h = omega arith
 
@@ -147,7 +144,7 @@ to_the_left = record {
   most = λ r. omega arith;
   computes = λ r after small is.
       is ∙ (turned_left (r.e % 8) r.a (below_eight r.e) small
-      ∙ ap (λ n. turned n (r.e % 8)) (same_byte r.a small));
+      ∙ ap (λ n. turned n (r.e % 8)) (byte_is_low r.a small));
   leaves = λ r after is. is;
 }
 
@@ -169,7 +166,7 @@ to_the_right = record {
   most = λ r. omega arith;
   computes = λ r after small is.
       is ∙ (turned_right (r.e % 8) r.a (below_eight r.e) small
-      ∙ ap (λ n. turned n ((8 - r.e % 8) % 8)) (same_byte r.a small));
+      ∙ ap (λ n. turned n ((8 - r.e % 8) % 8)) (byte_is_low r.a small));
   leaves = λ r after is. is;
 }
 

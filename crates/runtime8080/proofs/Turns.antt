@@ -1,9 +1,6 @@
 -- A product, bit by bit: HL is doubled, and gains BC where the next bit of A is 1; D counts the bits.
-use Rattle.runtime8080.proofs.Prelude.{◌≡◌, ℕ, zero, suc, ◌+◌, ◌*◌, ◌/◌, ◌%◌, ◌^◌, ◌<◌, ◌≤◌, ◌==◌, Bool, true, false, not, nat_le, List, [], ◌∷◌, refl, sym, ap, ◌∙◌, arith, add-mod, pow-suc, mul-mod_first, leb-false, leb-true, MEMORY_SIZE, Event, A, D, Of, Bc, Hl, NoCarry, NotZero, Add, Instr, Accumulate, Dad, Dcr, State, Registers, word, wrap, state_after, JumpWhere, AtLabel, Item, Plain, WithWord, Mark, Layout, Stands, Comes, comes_on, at, goes_past, jumps_where, effect, straight, counted_out, counts_on, one_less_is, word_is}
-
-pub no_steps : (script : List (List ℕ)) (s : State) → Comes script 0 s s
-unfolding state_after
-no_steps script s = refl
+use Rattle.runtime8080.proofs.Prelude.{◌≡◌, ℕ, zero, suc, ◌+◌, ◌*◌, ◌/◌, ◌%◌, ◌^◌, ◌<◌, ◌≤◌, ◌==◌, Bool, true, false, not, nat_le, List, [], ◌∷◌, refl, sym, ap, ◌∙◌, arith, add-mod, pow-suc, mul-mod_first, leb-false, leb-true, MEMORY_SIZE, Event, A, D, Of, Bc, Hl, NoCarry, NotZero, Add, Instr, Accumulate, Dad, Dcr, Registers, word, wrap, JumpWhere, AtLabel, Item, Plain, WithWord, Mark, Layout, Stands, Comes, comes_on, at, goes_past, jumps_where, effect, straight, counted_out, counts_on, one_less_is, word_is, high_of_wrapped, low_is_byte, same_after, word_of_halves}
+use Rattle.runtime8080.proofs.Numbers.{without_carry}
 
 abbrev doubling : List Instr
 doubling = Dad Hl ∷ Accumulate Add (Of A) ∷ []
@@ -32,17 +29,8 @@ record Bit (r after : Registers) : Type 0 where
   sp : after.sp ≡ r.sp
   z : after.flags.z ≡ ((r.d + 254 + 1) % 256 == 0)
 
-high_small : (n : ℕ) → wrap n / 256 < 256
-high_small n = omega arith
-
 low_small : (n : ℕ) → n % 256 < 256
 low_small n = omega arith
-
-of_bytes : (w : ℕ) → word (w / 256) (w % 256) ≡ w
-of_bytes w = omega arith
-
-plus_zero : (a : ℕ) → (a + a + 0) % 256 ≡ (a + a) % 256
-plus_zero a = omega arith
 
 no_bit : (a : ℕ) → nat_le 256 (a + a + 0) ≡ false → a / 128 ≡ 0
 no_bit a h = let small : a + a + 0 < 256 = leb-false 256 (a + a + 0) h in omega arith
@@ -96,13 +84,13 @@ takes_bit script layout label skip top to others r memory events stands limit fi
           (jumps_where script 1 NoCarry (wrap (layout.place_of skip)) (top + 1 + 1) (top + 1 + 1 + 3 + 1) r1 memory events u stands.1.1.0 (omega arith)
           (ap not bit) (word_is (layout.place_of skip) (top + 1 + 1 + 3 + 1) stands.1.1.1.1.0 (omega arith))
           (straight script layout (Dcr (Of D) ∷ []) (WithWord (JumpWhere NotZero) (AtLabel label) ∷ others) (top + 1 + 1 + 3 + 1) to r1 memory events 0 u refl stands.1.1.1.1.1 (omega arith)
-          (no_steps script u)));
+          (same_after script u)));
       few = omega arith;
       bit = record {
-        hl = of_bytes (wrap (x + x)) ∙ without x (word r.b r.c) (r.a / 128) (no_bit r.a bit);
-        h = high_small (x + x);
+        hl = word_of_halves (wrap (x + x)) ∙ without x (word r.b r.c) (r.a / 128) (no_bit r.a bit);
+        h = high_of_wrapped (x + x);
         l = low_small (wrap (x + x));
-        a = plus_zero r.a;
+        a = without_carry r.a;
         b = refl;
         c = refl;
         d = refl;
@@ -127,15 +115,15 @@ takes_bit script layout label skip top to others r memory events stands limit fi
           (goes_past script 2 NoCarry (wrap (layout.place_of skip)) (top + 1 + 1) r1 memory events u stands.1.1.0 (omega arith) (ap not bit)
           (straight script layout (Dad Bc ∷ []) (Mark skip ∷ after_skip label others) (top + 1 + 1 + 3) to r1 memory events 1 u refl stands.1.1.1 (omega arith)
           (straight script layout (Dcr (Of D) ∷ []) (WithWord (JumpWhere NotZero) (AtLabel label) ∷ others) (top + 1 + 1 + 3 + 1) to r2 memory events 0 u refl stands.1.1.1.1.1 (omega arith)
-          (no_steps script u))));
+          (same_after script u))));
       few = omega arith;
       bit = record {
         hl =
-            of_bytes (wrap (x1 + y))
-            ∙ (ap (λ n. wrap (n + y)) (of_bytes (wrap (x + x))) ∙ with_one x y (r.a / 128) (one_bit r.a small bit));
-        h = high_small (x1 + y);
+            word_of_halves (wrap (x1 + y))
+            ∙ (ap (λ n. wrap (n + y)) (word_of_halves (wrap (x + x))) ∙ with_one x y (r.a / 128) (one_bit r.a small bit));
+        h = high_of_wrapped (x1 + y);
         l = low_small (wrap (x1 + y));
-        a = plus_zero r.a;
+        a = without_carry r.a;
         b = refl;
         c = refl;
         d = refl;
@@ -194,9 +182,6 @@ more_bits x y t n q hl h =
     ∙ (ap (λ m. m % MEMORY_SIZE) (regrouped x y t (2 ^ n) q)
     ∙ ap (λ p. (x * p + y * (t * 2 ^ n + q)) % MEMORY_SIZE) (sym (pow-suc 2 n))))
 
-small_is : (n m : ℕ) → n ≡ m % 256 → n < 256
-small_is n m h = omega arith
-
 pub takes_bits :
     (script : List (List ℕ)) (layout : Layout) (label skip top to : ℕ) (others : List Item)
     (memory : List ℕ) (events : List Event)
@@ -219,16 +204,16 @@ takes_bits script layout label skip top to others memory events stands limit fit
       run =
           comes_on script taken.steps 1 (at top r memory events) (at (top + 1 + 1 + 3 + 1 + 1) taken.after memory events) exit taken.run
           (goes_past script 0 NotZero (wrap (layout.place_of label)) (top + 1 + 1 + 3 + 1 + 1) taken.after memory events exit
-          stands.1.1.1.1.1.1.0 fits (ap not bit.z ∙ counted_out r.d counter) (no_steps script exit));
+          stands.1.1.1.1.1.1.0 fits (ap not bit.z ∙ counted_out r.d counter) (same_after script exit));
       few = let small_count = taken.few in omega arith;
       bits = record {
         hl = bit.hl ∙ ap (λ m. m % MEMORY_SIZE) (one_sum (word r.h r.l) (word r.b r.c) (r.a / 128));
         h = bit.h;
         l = bit.l;
-        a = small_is taken.after.a (r.a + r.a) bit.a;
+        a = low_is_byte taken.after.a (r.a + r.a) bit.a;
         b = bit.b;
         c = bit.c;
-        d = small_is taken.after.d (r.d + 254 + 1) bit.d;
+        d = low_is_byte taken.after.d (r.d + 254 + 1) bit.d;
         e = bit.e;
         sp = bit.sp;
       };
@@ -240,7 +225,7 @@ takes_bits script layout label skip top to others memory events stands limit fit
     let place = top + 1 + 1 + 3 + 1 + 1 in
     let more =
     takes_bits script layout label skip top to others memory events stands limit fits bound n r1
-    (bit.d ∙ one_less_is r.d (suc n) counter (omega arith)) (omega arith) (small_is r1.a (r.a + r.a) bit.a) in
+    (bit.d ∙ one_less_is r.d (suc n) counter (omega arith)) (omega arith) (low_is_byte r1.a (r.a + r.a) bit.a) in
     let exit = at (place + 3) more.after memory events in
     let x = word r.h r.l in
     let y = word r.b r.c in

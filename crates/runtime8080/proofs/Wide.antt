@@ -1,8 +1,8 @@
 -- The quotient by a divisor above a byte: HL and B are doubled together, and where DE fits into HL it is taken
 -- away and B gains a bit; C counts the bits.
-use Rattle.runtime8080.proofs.Prelude.{◌≡◌, ℕ, zero, suc, ◌+◌, ◌-◌, ◌*◌, ◌/◌, ◌%◌, ◌^◌, ◌<◌, ◌≤◌, ◌==◌, Bool, true, false, not, nat_le, nat_lt, List, [], ◌∷◌, refl, sym, ap, subst, ◌∙◌, arith, pow-suc, leb-false, leb-true, pow_pos, MEMORY_SIZE, Event, bit, A, B, C, D, E, H, L, Of, Hl, Carry, NoCarry, NotZero, Add, Subtract, SubtractWithBorrow, Instr, Accumulate, Dad, Dcr, Inr, Mov, Registers, word, wrap, JumpWhere, AtLabel, Item, Plain, WithWord, Mark, Layout, Stands, Comes, comes_on, at, goes_past, jumps_where, effect, plain, straight, counted_out, counts_on, one_less_is, word_is}
+use Rattle.runtime8080.proofs.Prelude.{◌≡◌, ℕ, zero, suc, ◌+◌, ◌-◌, ◌*◌, ◌/◌, ◌%◌, ◌^◌, ◌<◌, ◌≤◌, ◌==◌, Bool, true, false, not, nat_le, nat_lt, List, [], ◌∷◌, refl, sym, ap, subst, ◌∙◌, arith, pow-suc, leb-false, leb-true, pow_pos, MEMORY_SIZE, Event, bit, A, B, C, D, E, H, L, Of, Hl, Carry, NoCarry, NotZero, Add, Subtract, SubtractWithBorrow, Instr, Accumulate, Dad, Dcr, Inr, Mov, Registers, word, wrap, JumpWhere, AtLabel, Item, Plain, WithWord, Mark, Layout, Stands, Comes, comes_on, at, goes_past, jumps_where, effect, plain, straight, counted_out, counts_on, one_less_is, word_is, high_of_wrapped, low_is_byte, same_after}
 use Rattle.runtime8080.proofs.Quotients.{Quotient, QuotientBit, no_bits, one_bit_more}
-use Rattle.runtime8080.proofs.Turns.{no_steps}
+use Rattle.runtime8080.proofs.Numbers.{product_at_most, without_carry, small_by}
 
 abbrev doubling : List Instr
 doubling = Dad Hl ∷ Mov A (Of B) ∷ Accumulate Add (Of A) ∷ Mov B (Of A) ∷ []
@@ -48,9 +48,6 @@ record CanDouble (r : Registers) : Type 0 where
   l : r.l < 256
   low : 2 * word r.h r.l + 2 ≤ 65536
 
-high_small : (n : ℕ) → wrap n / 256 < 256
-high_small n = omega arith
-
 low_small : (n : ℕ) → n % 256 < 256
 low_small n = omega arith
 
@@ -59,9 +56,6 @@ even_word v h = omega arith
 
 odd_word : (v : ℕ) → 2 * v + 2 ≤ 65536 → word ((v + v) % 65536 / 256) (((v + v) % 65536 % 256 + 1) % 256) ≡ 2 * v + 1
 odd_word v h = omega arith
-
-plus_zero : (b : ℕ) → (b + b + 0) % 256 ≡ (b + b) % 256
-plus_zero b = omega arith
 
 -- registers after the doubling
 record Doubled (r after : Registers) : Type 0 where
@@ -120,16 +114,16 @@ doubles script layout fifth sixth seventh top to others r memory events stands l
           straight script layout doubling (WithWord (JumpWhere NoCarry) (AtLabel sixth) ∷ Plain (Inr (Of L)) ∷ Mark sixth ∷ at_even fifth seventh others) top to r memory events 1 u refl stands (omega arith)
           (jumps_where script 0 NoCarry (wrap (layout.place_of sixth)) (top + 1 + 1 + 1 + 1) place r1 memory events u stands.1.1.1.1.0 (omega arith) (ap not carry)
           (word_is (layout.place_of sixth) place stands.1.1.1.1.1.1.0 fits)
-          (no_steps script u));
+          (same_after script u));
       few = omega arith;
       doubled = record {
         sum = sum_even v r.b (word r1.h r1.l) carry is;
         most = at_most (word r1.h r1.l) (2 * v) is;
-        b = plus_zero r.b;
+        b = without_carry r.b;
         c = refl;
         d = refl;
         e = refl;
-        h = high_small (v + v);
+        h = high_of_wrapped (v + v);
         l = low_small (wrap (v + v));
         sp = refl;
       };
@@ -148,16 +142,16 @@ doubles script layout fifth sixth seventh top to others r memory events stands l
           straight script layout doubling (WithWord (JumpWhere NoCarry) (AtLabel sixth) ∷ Plain (Inr (Of L)) ∷ Mark sixth ∷ at_even fifth seventh others) top to r memory events 2 u refl stands (omega arith)
           (goes_past script 1 NoCarry (wrap (layout.place_of sixth)) (top + 1 + 1 + 1 + 1) r1 memory events u stands.1.1.1.1.0 (omega arith) (ap not carry)
           (straight script layout odd (Mark sixth ∷ at_even fifth seventh others) (top + 1 + 1 + 1 + 1 + 3) to r1 memory events 0 u refl stands.1.1.1.1.1 fits
-          (no_steps script u)));
+          (same_after script u)));
       few = omega arith;
       doubled = record {
         sum = sum_odd v r.b (word r2.h r2.l) can.b carry is;
         most = at_most_one (word r2.h r2.l) (2 * v + 1) is;
-        b = plus_zero r.b;
+        b = without_carry r.b;
         c = refl;
         d = refl;
         e = refl;
-        h = high_small (v + v);
+        h = high_of_wrapped (v + v);
         l = low_small (wrap (v + v) % 256 + 1);
         sp = refl;
       };
@@ -276,7 +270,7 @@ compares script layout fifth seventh place to half others r memory events stands
           (jumps_where script 1 Carry (wrap (layout.place_of seventh)) (place + 1 + 1 + 1 + 1) top r1 memory events u stands.1.1.1.1.0 (omega arith) less
           (word_is (layout.place_of seventh) top stands.1.1.1.1.1.1.1.1.1.1.0 (omega arith))
           (straight script layout counting (WithWord (JumpWhere NotZero) (AtLabel fifth) ∷ others) top to r1 memory events 0 u refl stands.1.1.1.1.1.1.1.1.1.1.1 (omega arith)
-          (no_steps script u)));
+          (same_after script u)));
       few = omega arith;
       compared = record {
         quotient = 0;
@@ -313,7 +307,7 @@ compares script layout fifth seventh place to half others r memory events stands
           (goes_past script 6 Carry (wrap (layout.place_of seventh)) (place + 1 + 1 + 1 + 1) r1 memory events u stands.1.1.1.1.0 (omega arith) less
           (straight script layout taking (Mark seventh ∷ at_less fifth others) (place + 1 + 1 + 1 + 1 + 3) to r1 memory events 1 u refl stands.1.1.1.1.1 (omega arith)
           (straight script layout counting (WithWord (JumpWhere NotZero) (AtLabel fifth) ∷ others) top to r2 memory events 0 u refl stands.1.1.1.1.1.1.1.1.1.1.1 (omega arith)
-          (no_steps script u))));
+          (same_after script u))));
       few = omega arith;
       compared = record {
         quotient = 1;
@@ -387,9 +381,6 @@ record TakesBit
   sp : after.sp ≡ r.sp
   z : after.flags.z ≡ ((r.c + 254 + 1) % 256 == 0)
 
-small_as : (n m : ℕ) → n ≡ m → m < 256 → n < 256
-small_as n m e h = omega arith
-
 sum_both :
     (w b w1 b1 w2 b2 x q : ℕ)
     → 256 * w1 + b1 ≡ 2 * (256 * w + b)
@@ -420,7 +411,7 @@ takes_bit script layout fifth sixth seventh top to others r memory events stands
     let place = top + 1 + 1 + 1 + 1 + 3 + 1 in
     let second =
     compares script layout fifth seventh place to r.b others r1 memory events stands.1.1.1.1.1.1.1 limit fits
-    (record { b = one.b; d = small_as r1.d r.d one.d can.d; e = small_as r1.e r.e one.e can.e; h = one.h; l = one.l })
+    (record { b = one.b; d = small_by r1.d r.d one.d can.d; e = small_by r1.e r.e one.e can.e; h = one.h; l = one.l })
     (is_less r1) refl in
     let r2 = second.after in
     let two = second.compared in
@@ -456,19 +447,13 @@ takes_bit script layout fifth sixth seventh top to others r memory events stands
       z = two.z ∙ ap (λ n. (n + 254 + 1) % 256 == 0) one.c;
     }
 
-small_is : (n m : ℕ) → n ≡ m % 256 → n < 256
-small_is n m h = omega arith
-
-mul-le : (a b p : ℕ) → a ≤ b → a * p ≤ b * p
-mul-le a b p h = grind arith
-
 twice_power : (w p : ℕ) → (w + 1) * (p * 2) ≡ (2 * w + 2) * p
 twice_power w p = omega arith
 
 -- what is left of the room after a doubling
 room_after : (w w1 n : ℕ) → (w + 1) * 2 ^ suc n ≤ 65536 → w1 ≤ 2 * w + 1 → (w1 + 1) * 2 ^ n ≤ 65536
 room_after w w1 n h most =
-    let more : (w1 + 1) * 2 ^ n ≤ (2 * w + 2) * 2 ^ n = mul-le (w1 + 1) (2 * w + 2) (2 ^ n) (omega arith) in
+    let more : (w1 + 1) * 2 ^ n ≤ (2 * w + 2) * 2 ^ n = product_at_most (w1 + 1) (2 * w + 2) (2 ^ n) (omega arith) in
     let same : (w + 1) * 2 ^ suc n ≡ (2 * w + 2) * 2 ^ n =
     ap (λ p. (w + 1) * p) (pow-suc 2 n) ∙ twice_power w (2 ^ n) in
     le_by ((w1 + 1) * 2 ^ n) ((2 * w + 2) * 2 ^ n) ((w + 1) * 2 ^ suc n) more same h
@@ -480,7 +465,7 @@ room_after w w1 n h most =
 room_before : (w n : ℕ) → (w + 1) * 2 ^ suc n ≤ 65536 → 2 * w + 2 ≤ 65536
 room_before w n h =
     let power : 1 ≤ 2 ^ n = pow_pos n in
-    let more : 1 * (2 * w + 2) ≤ 2 ^ n * (2 * w + 2) = mul-le 1 (2 ^ n) (2 * w + 2) power in
+    let more : 1 * (2 * w + 2) ≤ 2 ^ n * (2 * w + 2) = product_at_most 1 (2 ^ n) (2 * w + 2) power in
     let same : (w + 1) * 2 ^ suc n ≡ 2 ^ n * (2 * w + 2) =
     ap (λ p. (w + 1) * p) (pow-suc 2 n) ∙ turned w (2 ^ n) in
     le_by (2 * w + 2) (2 ^ n * (2 * w + 2)) ((w + 1) * 2 ^ suc n) more same h
@@ -516,14 +501,14 @@ takes_bits script layout fifth sixth seventh top to others memory events stands 
       run =
           comes_on script taken.steps 1 (at top r memory events) (at place taken.after memory events) exit taken.run
           (goes_past script 0 NotZero (wrap (layout.place_of fifth)) place taken.after memory events exit
-          stands.1.1.1.1.1.1.1.1.1.1.1.1.1.1.1.1.1.1.1.0 fits (ap not taken.z ∙ counted_out r.c counter) (no_steps script exit));
+          stands.1.1.1.1.1.1.1.1.1.1.1.1.1.1.1.1.1.1.1.0 fits (ap not taken.z ∙ counted_out r.c counter) (same_after script exit));
       few = let count = taken.few in omega arith;
       bits = record {
         divides = one_bit_more (word r.d r.e * 256) 0 (both r) (both taken.after) (both taken.after) taken.divides (no_bits (word r.d r.e * 256) (both taken.after));
         less = taken.less;
         a = taken.a;
         b = taken.b;
-        c = small_is taken.after.c (r.c + 254 + 1) taken.c;
+        c = low_is_byte taken.after.c (r.c + 254 + 1) taken.c;
         d = taken.d;
         e = taken.e;
         h = taken.h;
@@ -544,8 +529,8 @@ takes_bits script layout fifth sixth seventh top to others memory events stands 
     (taken.c ∙ one_less_is r.c (suc n) counter (omega arith)) (omega arith)
     (record {
       b = taken.b;
-      d = small_as r1.d r.d taken.d can.d;
-      e = small_as r1.e r.e taken.e can.e;
+      d = small_by r1.d r.d taken.d can.d;
+      e = small_by r1.e r.e taken.e can.e;
       h = taken.h;
       l = taken.l;
       less = subst (λ k. word r1.h r1.l < k) (sym divisor) taken.less;

@@ -1,10 +1,5 @@
 -- The code of arguments, one by one.
-use Rattle.stack_compiler.proofs.Prelude.{◌≡◌, ℕ, suc, ◌+◌, ◌-◌, ◌<◌, ◌≤◌, List, [], ◌∷◌, ◌++◌, length, drop, replicate, get_or, Option, None, option_map, ap, refl, sym, ◌∙◌, arith, append_assoc, append-nil, TypedExpression, arguments_view, expression_view, Instruction, Drop, Push, InProgram, Site, arguments_code, called_code, count_of_arguments, expression_code, Found, found_view}
-use Rattle.stack_compiler.proofs.Items.{at_item, at_end}
-
-pub arguments_count : (items : List TypedExpression) → count_of_arguments (arguments_view items) ≡ length items
-arguments_count [] = refl
-arguments_count (first ∷ others) = ap suc (arguments_count others)
+use Rattle.stack_compiler.proofs.Prelude.{◌≡◌, ℕ, suc, ◌+◌, ◌-◌, ◌<◌, ◌≤◌, List, [], ◌∷◌, ◌++◌, length, drop, replicate, get_or, Option, None, option_map, ap, sym, ◌∙◌, arith, append_assoc, append-nil, TypedExpression, arguments_view, expression_view, Instruction, Drop, Push, InProgram, Site, arguments_code, called_code, expression_code, Found, found_view, drop_item, at_drop_all}
 
 module _ (site : Site) (made total : List Instruction) (arguments : List TypedExpression) (i : ℕ)
     (rest : made ++ arguments_code site (arguments_view (drop i arguments)) ≡ total) where
@@ -14,12 +9,12 @@ module _ (site : Site) (made total : List Instruction) (arguments : List TypedEx
   argument_emitted argument now within is given =
       ap (λ code. code ++ arguments_code site (arguments_view (drop (i + 1) arguments))) given
       ∙ append_assoc made (expression_code site (expression_view argument)) (arguments_code site (arguments_view (drop (i + 1) arguments)))
-      ∙ sym (at_item (λ left. made ++ arguments_code site (arguments_view left)) arguments i argument within is)
+      ∙ sym (drop_item (λ left. made ++ arguments_code site (arguments_view left)) arguments i argument within is)
       ∙ rest
 
   pub arguments_emitted : length arguments ≤ i → made ≡ total
   arguments_emitted past =
-      sym (append-nil made) ∙ sym (at_end (λ left. made ++ arguments_code site (arguments_view left)) arguments i past) ∙ rest
+      sym (append-nil made) ∙ sym (at_drop_all (λ left. made ++ arguments_code site (arguments_view left)) arguments i past) ∙ rest
 
 -- arguments that are dropped
 module _ (made total : List Instruction) (left : ℕ) (rest : made ++ replicate left Drop ≡ total) where

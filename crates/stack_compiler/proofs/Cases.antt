@@ -1,6 +1,5 @@
 -- DO CASE: the jumps that are filled in later are those of the definition.
-use Rattle.stack_compiler.proofs.Prelude.{◌≡◌, ℕ, zero, suc, ◌+◌, ◌-◌, ◌<◌, ◌≤◌, List, [], ◌∷◌, ◌++◌, length, set, drop, get_or, ap, sym, refl, ◌∙◌, arith, append_assoc, append-nil, length-append, CodeStatement, TypedStatements, NoStatements, MoreStatements, statement_view, statements_view, Instruction, Case, Jump, Site, cases_code, count_of_statements, entries_code, statement_code, Opening, opening, holes, passing, with_case, opened, closed}
-use Rattle.stack_compiler.proofs.Items.{at_item, at_end}
+use Rattle.stack_compiler.proofs.Prelude.{◌≡◌, ℕ, zero, suc, ◌+◌, ◌-◌, ◌<◌, ◌≤◌, List, [], ◌∷◌, ◌++◌, length, set, drop, get_or, ap, sym, refl, ◌∙◌, arith, append_assoc, append-nil, length-append, CodeStatement, TypedStatements, NoStatements, MoreStatements, statement_view, statements_view, Instruction, Case, Jump, Site, cases_code, count_of_statements, entries_code, statement_code, Opening, opening, holes, passing, with_case, opened, closed, drop_item, at_drop_all}
 use Rattle.stack_compiler.proofs.JumpsFilled.{filled}
 use Rattle.stack_compiler.proofs.StatementLoops.{statements_count}
 
@@ -185,7 +184,7 @@ module _ (site : Site) (code : List Instruction) (ends : List ℕ) (total : Open
       → opened site (i + 1) (opening c ends_now) (statements_view (drop (i + 1) statements)) ≡ total
   case_opened statement a b c ends_now within is one two three four =
       (λ j. opened site (i + 1) (opening (c_is j) ((four ∙ ap (λ one. ends ++ (length one ∷ [])) c_is) j)) (statements_view (drop (i + 1) statements)))
-      ∙ sym (at_item (λ left. opened site i (opening code ends) (statements_view left)) statements i statement within is)
+      ∙ sym (drop_item (λ left. opened site i (opening code ends) (statements_view left)) statements i statement within is)
       ∙ rest
     where
       c_is : c ≡ with_case site (passing code i) (statement_view statement)
@@ -194,13 +193,13 @@ module _ (site : Site) (code : List Instruction) (ends : List ℕ) (total : Open
   pub cases_opened : (last : List Instruction) → length statements ≤ i → i ≤ length statements → last ≡ passing code (length statements) → opening last ends ≡ total
   cases_opened last past within is =
       (λ j. opening ((is ∙ ap (passing code) (same (length statements) i past within)) j) ends)
-      ∙ sym (at_end (λ left. opened site i (opening code ends) (statements_view left)) statements i past)
+      ∙ sym (at_drop_all (λ left. opened site i (opening code ends) (statements_view left)) statements i past)
       ∙ rest
 
 module _ (code total : List Instruction) (ends : List ℕ) (i : ℕ) (rest : closed (drop i ends) code ≡ total) where
   pub end_closed : (end : ℕ) (now : List Instruction) → i < length ends → end ≡ get_or ends i end → now ≡ set code (end - 1) (Jump (length code - end)) → closed (drop (i + 1) ends) now ≡ total
   end_closed end now within is given =
-      ap (closed (drop (i + 1) ends)) given ∙ sym (at_item (λ left. closed left code) ends i end within is) ∙ rest
+      ap (closed (drop (i + 1) ends)) given ∙ sym (drop_item (λ left. closed left code) ends i end within is) ∙ rest
 
   pub ends_closed : length ends ≤ i → code ≡ total
-  ends_closed past = sym (at_end (λ left. closed left code) ends i past) ∙ rest
+  ends_closed past = sym (at_drop_all (λ left. closed left code) ends i past) ∙ rest

@@ -1,5 +1,4 @@
 mod Prelude
-pub mod Items
 pub mod Storages
 pub mod Arguments
 pub mod JumpsFilled

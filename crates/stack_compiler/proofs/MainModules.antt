@@ -1,8 +1,7 @@
 -- The main module: its number, and the code of a program.
-use Rattle.stack_compiler.proofs.Prelude.{◌≡◌, ℕ, ◌+◌, ◌<◌, ◌≤◌, Bool, true, false, cond, List, length, map, drop, get_or, None, Some, option_map, Result, ap, subst, sym, ◌∙◌, slice_get, IfOk, position_from, option_map_or, position_from-zero, slice_get-map, Typed, TypedModule, module_view, is_main, Placement, Program, number_of_main, Instruction, StackProgram, program_code, AreTablesOf}
+use Rattle.stack_compiler.proofs.Prelude.{◌≡◌, ℕ, ◌+◌, ◌<◌, ◌≤◌, Bool, true, false, cond, List, length, map, drop, get_or, None, Some, option_map, Result, ap, subst, sym, ◌∙◌, slice_get, IfOk, position_from, option_map_or, position_from-zero, slice_get-map, Typed, TypedModule, module_view, is_main, Placement, Program, number_of_main, Instruction, StackProgram, program_code, AreTablesOf, drop_item, at_drop_all}
 use Rattle.stack_compiler.specs.Compiled.{IsCompiled}
 use Rattle.stack_compiler.specs.internal.MainCode.{IsCodeOf}
-use Rattle.stack_compiler.proofs.Items.{at_item, at_end}
 
 -- the number of the first main module from a number on, or 0
 abbrev pub main_from : (number : ℕ) → List TypedModule → ℕ
@@ -16,7 +15,7 @@ module _ (total : ℕ) (modules : List Typed) (i : ℕ) (rest : main_from i (map
       → option_map_or (λ one. one) (cond main (Some i) (position_from is_main (i + 1) (map module_view (drop (i + 1) modules)))) 0 ≡ total
   main_step typed main within is given =
       ap (λ one. option_map_or (λ number. number) (cond one (Some i) (position_from is_main (i + 1) (map module_view (drop (i + 1) modules)))) 0) (sym given)
-      ∙ sym (at_item (λ left. main_from i (map module_view left)) modules i typed within is)
+      ∙ sym (drop_item (λ left. main_from i (map module_view left)) modules i typed within is)
       ∙ rest
 
   pub main_found : (typed : Typed) → i < length modules → typed ≡ get_or modules i typed → is_main (module_view typed) ≡ true → i ≡ total
@@ -27,7 +26,7 @@ module _ (total : ℕ) (modules : List Typed) (i : ℕ) (rest : main_from i (map
   main_passed typed within is given = main_step typed false within is given
 
   pub no_main : length modules ≤ i → 0 ≡ total
-  no_main past = sym (at_end (λ left. main_from i (map module_view left)) modules i past) ∙ rest
+  no_main past = sym (at_drop_all (λ left. main_from i (map module_view left)) modules i past) ∙ rest
 
 -- the code where there is a module of the number, and where there is none
 module_is : (modules : List Typed) (number : ℕ) (typed : Typed) (main : TypedModule) → slice_get modules number ≡ Some typed

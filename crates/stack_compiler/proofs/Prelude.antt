@@ -1,6 +1,7 @@
 -- The names that the proofs of this crate cite, passed on from one place. Declares nothing.
-pub use Rattle.std.proofs.{Common.{Bool, List, None, Option, Result, Some, [], add-one, ap, arith, cond, drop, false, get_or, length, map, nat_eq, option_map, refl, replicate, set, subst, suc, sym, true, true≢false, zero, ℕ, ◌%◌, ◌&&◌, ◌++◌, ◌+◌, ◌-◌, ◌<◌, ◌==◌, ◌∙◌, ◌∷◌, ◌≡◌, ◌≤◌}, Math.ListN.{drop_of_length-le}, Math.Seq.{drop-cons, set-append_seam}, lemmas.Grind.{common_steps}, lemmas.Iterator.Adapters.{position_from-zero}, lemmas.List.{append-nil, append_assoc, length-append, map-append}, lemmas.Option.{slice_get-map, slice_get_read}, lemmas.Result.{on_ok_weaker}}
+pub use Rattle.std.proofs.{Common.{Bool, List, None, Option, Result, Some, [], ap, arith, cond, drop, false, get_or, length, map, nat_eq, option_map, refl, replicate, set, subst, suc, sym, true, true≢false, zero, ℕ, ◌%◌, ◌&&◌, ◌++◌, ◌+◌, ◌-◌, ◌<◌, ◌==◌, ◌∙◌, ◌∷◌, ◌≡◌, ◌≤◌}, Math.Dec.{eqb-suc-suc, eqb-suc-zero, eqb-zero-suc}, Math.Seq.{set-append_seam}, lemmas.Iterator.Adapters.{position_from-zero}, lemmas.List.{append-nil, append_assoc, at_drop_all, length-append, map-append}, lemmas.Option.{slice_get-map, slice_get_read}, lemmas.Result.{on_ok_weaker}}
 pub use Rattle.std.specs.{List.{enumerate_from, position_from}, Option.{option_and_then, option_map_or}, Prelude.{IfOk, flat_map, slice_get, slice_index}}
+pub use Rattle.trees.proofs.Lists.{drop_item}
 pub use Rattle.trees.specs.declared.declaration.ScalarType.{ScalarType}
 pub use Rattle.typed_trees.specs.{TypedTrees.{At, BasedOn, Elsewhere, Home, InConstants, InData, InFrame, IterateStatement, MoreStatements, NoStatements, NoSubscript, Nowhere, PartOf, Placed, Subscript, TypedIteration, TypedList, TypedModule, TypedProcedure, TypedReference, TypedStatements}, Views.{arguments_view, else_view, expression_view, iteration_view, list_view, module_view, procedure_view, statement_view, statements_view, subscript_view, target_view}, declared.expression.TypedExpression.{TypedExpression}, declared.expression.TypedTarget.{TypedTarget}, declared.module.Typed.{Typed}, declared.module.TypedProcedure.{TypedProcedure as CodeProcedure}, declared.statement.TypedStatement.{TypedStatement as CodeStatement, TypedStatement}}
 pub use Rattle.layout.specs.{Joined.{InProgram, is_main}, Placement.{Placement}}

@@ -1,6 +1,5 @@
 -- The code of parameters, procedures and modules, one by one.
-use Rattle.stack_compiler.proofs.Prelude.{◌≡◌, ℕ, ◌+◌, ◌<◌, ◌≤◌, List, [], ◌∷◌, ◌++◌, length, map, drop, get_or, ap, refl, sym, ◌∙◌, arith, append_assoc, append-nil, flat_map, enumerate_from, ScalarType, Typed, CodeProcedure, TypedProcedure, TypedModule, module_view, procedure_view, Placement, home_of, Instruction, Begin, Discard, Push, Return, Site, list_code, main_code, module_code, parameter_code, parameters_code, procedure_code, program_code, site_of, surroundings_at, modules_code_from, procedures_code_from}
-use Rattle.stack_compiler.proofs.Items.{at_item, at_end}
+use Rattle.stack_compiler.proofs.Prelude.{◌≡◌, ℕ, ◌+◌, ◌<◌, ◌≤◌, List, [], ◌∷◌, ◌++◌, length, map, drop, get_or, ap, refl, sym, ◌∙◌, arith, append_assoc, append-nil, flat_map, enumerate_from, ScalarType, Typed, CodeProcedure, TypedProcedure, TypedModule, module_view, procedure_view, Placement, home_of, Instruction, Begin, Discard, Push, Return, Site, list_code, main_code, module_code, parameter_code, parameters_code, procedure_code, program_code, site_of, surroundings_at, modules_code_from, procedures_code_from, drop_item, at_drop_all}
 
 -- parameters
 module _ (site : Site) (made total : List Instruction) (scalars : List ScalarType) (objects : List ℕ) (i : ℕ)
@@ -11,7 +10,7 @@ module _ (site : Site) (made total : List Instruction) (scalars : List ScalarTyp
   parameter_emitted scalar object more one now within is has given pushed =
       ap (λ code. code ++ parameters_code site (i + 1) (drop (i + 1) scalars) more) (pushed ∙ ap (λ instruction. made ++ (instruction ∷ [])) given)
       ∙ append_assoc made (parameter_code site (home_of (surroundings_at site) object) i scalar object ∷ []) (parameters_code site (i + 1) (drop (i + 1) scalars) more)
-      ∙ sym (at_item (λ left. made ++ parameters_code site i left (object ∷ more)) scalars i scalar within is)
+      ∙ sym (drop_item (λ left. made ++ parameters_code site i left (object ∷ more)) scalars i scalar within is)
       ∙ ap (λ left. made ++ parameters_code site i (drop i scalars) left) (sym has)
       ∙ rest
 
@@ -32,7 +31,7 @@ module _ (site : Site) (made total : List Instruction) (scalars : List ScalarTyp
 
   pub parameters_emitted : length scalars ≤ i → made ≡ total
   parameters_emitted past =
-      sym (append-nil made) ∙ sym (at_end (λ left. made ++ parameters_code site i left objects) scalars i past) ∙ rest
+      sym (append-nil made) ∙ sym (at_drop_all (λ left. made ++ parameters_code site i left objects) scalars i past) ∙ rest
 
 -- a procedure
 pub procedure_made : (site : Site) (number : ℕ) (procedure : TypedProcedure) (old a b c d new : List Instruction)
@@ -57,12 +56,12 @@ module _ (site : Site) (made total : List Instruction) (procedures : List CodePr
   procedure_emitted procedure now within is given =
       ap (λ code. code ++ procedures_code_from site (i + 1) (map procedure_view (drop (i + 1) procedures))) given
       ∙ append_assoc made (procedure_code site (i, procedure_view procedure)) (procedures_code_from site (i + 1) (map procedure_view (drop (i + 1) procedures)))
-      ∙ sym (at_item (λ left. made ++ procedures_code_from site i (map procedure_view left)) procedures i procedure within is)
+      ∙ sym (drop_item (λ left. made ++ procedures_code_from site i (map procedure_view left)) procedures i procedure within is)
       ∙ rest
 
   pub procedures_emitted : length procedures ≤ i → made ≡ total
   procedures_emitted past =
-      sym (append-nil made) ∙ sym (at_end (λ left. made ++ procedures_code_from site i (map procedure_view left)) procedures i past) ∙ rest
+      sym (append-nil made) ∙ sym (at_drop_all (λ left. made ++ procedures_code_from site i (map procedure_view left)) procedures i past) ∙ rest
 
 -- the modules of a program
 module _ (all : List TypedModule) (placement : Placement) (made total : List Instruction) (modules : List Typed) (i : ℕ)
@@ -73,12 +72,12 @@ module _ (all : List TypedModule) (placement : Placement) (made total : List Ins
   module_emitted typed now within is given =
       ap (λ code. code ++ modules_code_from all placement (i + 1) (map module_view (drop (i + 1) modules))) given
       ∙ append_assoc made (procedures_code_from (site_of all placement i) 0 (map procedure_view typed.procedures.items)) (modules_code_from all placement (i + 1) (map module_view (drop (i + 1) modules)))
-      ∙ sym (at_item (λ left. made ++ modules_code_from all placement i (map module_view left)) modules i typed within is)
+      ∙ sym (drop_item (λ left. made ++ modules_code_from all placement i (map module_view left)) modules i typed within is)
       ∙ rest
 
   pub modules_emitted : length modules ≤ i → made ≡ total
   modules_emitted past =
-      sym (append-nil made) ∙ sym (at_end (λ left. made ++ modules_code_from all placement i (map module_view left)) modules i past) ∙ rest
+      sym (append-nil made) ∙ sym (at_drop_all (λ left. made ++ modules_code_from all placement i (map module_view left)) modules i past) ∙ rest
 
 -- they are those of the definition
 procedures_are : (site : Site) (number : ℕ) (procedures : List TypedProcedure)

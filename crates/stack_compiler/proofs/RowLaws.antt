@@ -1,15 +1,6 @@
 -- The tables tell where each procedure and each label stands in the code.
-use Rattle.stack_compiler.proofs.Prelude.{◌≡◌, ℕ, zero, suc, ◌+◌, ◌<◌, ◌≤◌, ◌==◌, Bool, true, false, ◌&&◌, cond, nat_eq, List, [], ◌∷◌, length, map, Option, None, Some, option_map, ap, refl, sym, ◌∙◌, arith, slice_get, slice_index, position_from, option_and_then, option_map_or, common_steps, position_from-zero, slice_get-map, TypedProcedure, TypedModule, InProgram, procedure_at, Instruction, Begin, Mark, Push, Drop, ReadAt, WriteAt, Read, Write, ReadFrame, WriteFrame, LocateFrame, Scale, Advance, Sum, Convert, Unary, Binary, BinaryWith, Function, Shift, Step, Input, Output, Move, Parameter, FrameParameter, Discard, Jump, JumpUnless, LoopBack, Case, Goto, Call, Return, Halt, Entry, ModuleTable, after_first, is_begin, is_mark, AreTablesOf, entry_in, label_in, Row, row_view, empty_row, started_entry, started_row, first_of, padded, updated, with_label, row_labelled, entry_begun, row_begun, noted, noted_all}
+use Rattle.stack_compiler.proofs.Prelude.{◌≡◌, ℕ, zero, suc, ◌+◌, ◌<◌, ◌≤◌, ◌==◌, Bool, true, false, ◌&&◌, cond, nat_eq, List, [], ◌∷◌, length, map, Option, None, Some, option_map, ap, refl, sym, ◌∙◌, arith, slice_get, slice_index, position_from, option_and_then, option_map_or, position_from-zero, slice_get-map, TypedProcedure, TypedModule, InProgram, procedure_at, Instruction, Begin, Mark, Push, Drop, ReadAt, WriteAt, Read, Write, ReadFrame, WriteFrame, LocateFrame, Scale, Advance, Sum, Convert, Unary, Binary, BinaryWith, Function, Shift, Step, Input, Output, Move, Parameter, FrameParameter, Discard, Jump, JumpUnless, LoopBack, Case, Goto, Call, Return, Halt, Entry, ModuleTable, after_first, is_begin, is_mark, AreTablesOf, entry_in, label_in, Row, row_view, empty_row, started_entry, started_row, first_of, padded, updated, with_label, row_labelled, entry_begun, row_begun, noted, noted_all, eqb-zero-suc, eqb-suc-zero, eqb-suc-suc}
 use Rattle.stack_compiler.proofs.RowLoops.{first_stands}
-
-none_is_no_successor : (n : ℕ) → nat_eq 0 (suc n) ≡ false
-none_is_no_successor n = grind (arith, common_steps)
-
-successor_is_none : (n : ℕ) → nat_eq (suc n) 0 ≡ false
-successor_is_none n = grind (arith, common_steps)
-
-equal_successors : (m n : ℕ) → nat_eq (suc m) (suc n) ≡ nat_eq m n
-equal_successors m n = grind (arith, common_steps)
 
 first_of_zero : (first : ℕ) → first_of first 0 ≡ first
 first_of_zero zero = refl
@@ -37,26 +28,26 @@ module _ {A : Type 0} (change : A → A) where
   updated_get : (items : List A) (number at : ℕ) → slice_get (updated change items number) at ≡ option_map (λ item. cond (at == number) (change item) item) (slice_get items at)
   updated_get [] number at = refl
   updated_get (item ∷ items) zero zero = refl
-  updated_get (item ∷ items) zero (suc at) = unchanged (nat_eq (suc at) 0) (slice_get items at) (successor_is_none at)
+  updated_get (item ∷ items) zero (suc at) = unchanged (nat_eq (suc at) 0) (slice_get items at) (eqb-suc-zero at)
   updated_get (item ∷ items) (suc number) zero =
-      ap (λ list. slice_get list 0) (updated_cons item items number) ∙ unchanged (nat_eq 0 (suc number)) (Some item) (none_is_no_successor number)
+      ap (λ list. slice_get list 0) (updated_cons item items number) ∙ unchanged (nat_eq 0 (suc number)) (Some item) (eqb-zero-suc number)
   updated_get (item ∷ items) (suc number) (suc at) =
       ap (λ list. slice_get list (suc at)) (updated_cons item items number)
       ∙ updated_get items number at
-      ∙ ap (λ same. option_map (λ item. cond same (change item) item) (slice_get items at)) (sym (equal_successors at number))
+      ∙ ap (λ same. option_map (λ item. cond same (change item) item) (slice_get items at)) (sym (eqb-suc-suc at number))
 
 updated_index : (change : ℕ → ℕ) (places : List ℕ) (number at : ℕ) → number < length places
     → slice_index (updated change places number) at ≡ cond (at == number) (change (slice_index places at)) (slice_index places at)
 updated_index change [] number at within = absurd (omega arith)
 updated_index change (place ∷ places) zero zero within = refl
 updated_index change (place ∷ places) zero (suc at) within =
-    ap (λ same. cond same (change (slice_index places at)) (slice_index places at)) (sym (successor_is_none at))
+    ap (λ same. cond same (change (slice_index places at)) (slice_index places at)) (sym (eqb-suc-zero at))
 updated_index change (place ∷ places) (suc number) zero within =
-    ap (λ list. slice_index list 0) (updated_cons change place places number) ∙ ap (λ same. cond same (change place) place) (sym (none_is_no_successor number))
+    ap (λ list. slice_index list 0) (updated_cons change place places number) ∙ ap (λ same. cond same (change place) place) (sym (eqb-zero-suc number))
 updated_index change (place ∷ places) (suc number) (suc at) within =
     ap (λ list. slice_index list (suc at)) (updated_cons change place places number)
     ∙ updated_index change places number at (omega arith)
-    ∙ ap (λ same. cond same (change (slice_index places at)) (slice_index places at)) (sym (equal_successors at number))
+    ∙ ap (λ same. cond same (change (slice_index places at)) (slice_index places at)) (sym (eqb-suc-suc at number))
 
 padded_index : (places : List ℕ) (count at : ℕ) → slice_index (padded 0 places count) at ≡ slice_index places at
 padded_index places zero at = refl
@@ -103,23 +94,23 @@ module _ (label after l : ℕ) where
 
   marked_label : (rows : List Row) (n m : ℕ) → label_at (marked rows n) m l ≡ first_of (label_at rows m l) (cond (m == n && l == label) after 0)
   marked_label [] zero zero = with_label_index [] label after l
-  marked_label [] zero (suc m) = never 0 (nat_eq (suc m) 0) (l == label) (successor_is_none m)
+  marked_label [] zero (suc m) = never 0 (nat_eq (suc m) 0) (l == label) (eqb-suc-zero m)
   marked_label [] (suc n) zero =
       ap (λ rows. label_at rows 0 l) (updated_cons (row_labelled label after) empty_row (padded empty_row [] (suc n)) n)
-      ∙ never 0 (nat_eq 0 (suc n)) (l == label) (none_is_no_successor n)
+      ∙ never 0 (nat_eq 0 (suc n)) (l == label) (eqb-zero-suc n)
   marked_label [] (suc n) (suc m) =
       ap (λ rows. label_at rows (suc m) l) (updated_cons (row_labelled label after) empty_row (padded empty_row [] (suc n)) n)
       ∙ marked_label [] n m
-      ∙ ap (λ same. first_of 0 (cond (same && l == label) after 0)) (sym (equal_successors m n))
+      ∙ ap (λ same. first_of 0 (cond (same && l == label) after 0)) (sym (eqb-suc-suc m n))
   marked_label (row ∷ rows) zero zero = with_label_index row.labels label after l
-  marked_label (row ∷ rows) zero (suc m) = never (label_at rows m l) (nat_eq (suc m) 0) (l == label) (successor_is_none m)
+  marked_label (row ∷ rows) zero (suc m) = never (label_at rows m l) (nat_eq (suc m) 0) (l == label) (eqb-suc-zero m)
   marked_label (row ∷ rows) (suc n) zero =
       ap (λ rows. label_at rows 0 l) (updated_cons (row_labelled label after) row (padded empty_row rows (suc n)) n)
-      ∙ never (slice_index row.labels l) (nat_eq 0 (suc n)) (l == label) (none_is_no_successor n)
+      ∙ never (slice_index row.labels l) (nat_eq 0 (suc n)) (l == label) (eqb-zero-suc n)
   marked_label (row ∷ rows) (suc n) (suc m) =
       ap (λ rows. label_at rows (suc m) l) (updated_cons (row_labelled label after) row (padded empty_row rows (suc n)) n)
       ∙ marked_label rows n m
-      ∙ ap (λ same. first_of (label_at rows m l) (cond (same && l == label) after 0)) (sym (equal_successors m n))
+      ∙ ap (λ same. first_of (label_at rows m l) (cond (same && l == label) after 0)) (sym (eqb-suc-suc m n))
 
   marked_keeps : (number : ℕ) (same : Bool) (found : Option Row) → entry_of_row number (option_map (λ row. cond same (row_labelled label after row) row) found) ≡ entry_of_row number found
   marked_keeps number same None = refl

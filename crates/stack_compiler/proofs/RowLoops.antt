@@ -1,6 +1,5 @@
 -- The loops that fill the tables.
-use Rattle.stack_compiler.proofs.Prelude.{◌≡◌, ℕ, zero, suc, ◌+◌, ◌<◌, ◌≤◌, List, [], ◌∷◌, ◌++◌, length, map, drop, set, get_or, Some, option_map, ap, refl, sym, ◌∙◌, arith, slice_get, option_map_or, append_assoc, append-nil, map-append, slice_get-map, Typed, CodeProcedure, module_view, procedure_view, Instruction, Entry, ModuleTable, Row, row_view, empty_row, started_entry, started_row, first_of, padded, updated, noted, noted_all}
-use Rattle.stack_compiler.proofs.Items.{at_item, at_end}
+use Rattle.stack_compiler.proofs.Prelude.{◌≡◌, ℕ, zero, suc, ◌+◌, ◌<◌, ◌≤◌, List, [], ◌∷◌, ◌++◌, length, map, drop, set, get_or, Some, option_map, ap, refl, sym, ◌∙◌, arith, slice_get, option_map_or, append_assoc, append-nil, map-append, slice_get-map, Typed, CodeProcedure, module_view, procedure_view, Instruction, Entry, ModuleTable, Row, row_view, empty_row, started_entry, started_row, first_of, padded, updated, noted, noted_all, drop_item, at_drop_all}
 
 pub first_is_none : (first second : ℕ) → first ≡ 0 → second ≡ first_of first second
 first_is_none first second is = ap (λ one. first_of one second) (sym is)
@@ -50,12 +49,12 @@ module _ (made total : List Entry) (procedures : List CodeProcedure) (i : ℕ)
   entry_started procedure entry within is given =
       ap (λ one. (made ++ (one ∷ [])) ++ map started_entry (map procedure_view (drop (i + 1) procedures))) given
       ∙ append_assoc made (started_entry (procedure_view procedure) ∷ []) (map started_entry (map procedure_view (drop (i + 1) procedures)))
-      ∙ sym (at_item (λ left. made ++ map started_entry (map procedure_view left)) procedures i procedure within is)
+      ∙ sym (drop_item (λ left. made ++ map started_entry (map procedure_view left)) procedures i procedure within is)
       ∙ rest
 
   pub entries_started : length procedures ≤ i → made ≡ total
   entries_started past =
-      sym (append-nil made) ∙ sym (at_end (λ left. made ++ map started_entry (map procedure_view left)) procedures i past) ∙ rest
+      sym (append-nil made) ∙ sym (at_drop_all (λ left. made ++ map started_entry (map procedure_view left)) procedures i past) ∙ rest
 
 module _ (made : List ModuleTable) (total : List Row) (modules : List Typed) (i : ℕ)
     (rest : map row_view made ++ map started_row (map module_view (drop i modules)) ≡ total) where
@@ -64,21 +63,21 @@ module _ (made : List ModuleTable) (total : List Row) (modules : List Typed) (i 
   table_started typed table within is given =
       ap (λ rows. rows ++ map started_row (map module_view (drop (i + 1) modules))) (map-append row_view made (table ∷ []) ∙ ap (λ row. map row_view made ++ (row ∷ [])) given)
       ∙ append_assoc (map row_view made) (started_row (module_view typed) ∷ []) (map started_row (map module_view (drop (i + 1) modules)))
-      ∙ sym (at_item (λ left. map row_view made ++ map started_row (map module_view left)) modules i typed within is)
+      ∙ sym (drop_item (λ left. map row_view made ++ map started_row (map module_view left)) modules i typed within is)
       ∙ rest
 
   pub tables_started : length modules ≤ i → map row_view made ≡ total
   tables_started past =
-      sym (append-nil (map row_view made)) ∙ sym (at_end (λ left. map row_view made ++ map started_row (map module_view left)) modules i past) ∙ rest
+      sym (append-nil (map row_view made)) ∙ sym (at_drop_all (λ left. map row_view made ++ map started_row (map module_view left)) modules i past) ∙ rest
 
 module _ (rows total : List Row) (code : List Instruction) (i : ℕ) (rest : noted_all rows i (drop i code) ≡ total) where
   pub instruction_noted : (instruction : Instruction) (now : List Row) → i < length code → instruction ≡ get_or code i instruction → now ≡ noted rows (i + 1) instruction
       → noted_all now (i + 1) (drop (i + 1) code) ≡ total
   instruction_noted instruction now within is given =
-      ap (λ one. noted_all one (i + 1) (drop (i + 1) code)) given ∙ sym (at_item (noted_all rows i) code i instruction within is) ∙ rest
+      ap (λ one. noted_all one (i + 1) (drop (i + 1) code)) given ∙ sym (drop_item (noted_all rows i) code i instruction within is) ∙ rest
 
   pub code_noted : length code ≤ i → rows ≡ total
-  code_noted past = sym (at_end (noted_all rows i) code i past) ∙ rest
+  code_noted past = sym (at_drop_all (noted_all rows i) code i past) ∙ rest
 
 -- a table in the place of one
 row_set : (tables : List ModuleTable) (number : ℕ) (now : ModuleTable) → map row_view (set tables number now) ≡ set (map row_view tables) number (row_view now)

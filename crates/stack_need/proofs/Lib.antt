@@ -1,6 +1,5 @@
 mod Prelude
 mod Elements
-mod Items
 mod Graph
 mod Bodies
 mod Needs

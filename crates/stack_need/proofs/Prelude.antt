@@ -1,6 +1,7 @@
 -- The names that the proofs of this crate cite, passed on from one place. Declares nothing.
-pub use Rattle.std.proofs.{Common.{Bool, Contains, List, None, Option, Some, [], add-one, ap, arith, cond, drop, false, filter_map, find, get_or, inl, inr, leb-false, leb-true, length, ltb-true, map, max, min, nat_le, nat_lt, option_map, refl, replicate, slice_get, slice_index, slice_index_or, slice_set, subst, suc, sym, take, true, zero, ℕ, ◌%◌, ◌&&◌, ◌++◌, ◌+◌, ◌-◌, ◌<◌, ◌==◌, ◌∙◌, ◌∷◌, ◌≡◌, ◌≢◌, ◌≤◌, ◌⊎◌}, Math.Dec.{eqb-suc-zero}, Math.ListN.{drop_of_length-le}, Math.Seq.{drop-cons}, lemmas.Iterator.Adapters.{position_from-zero}, lemmas.List.{length-map, length-replicate, length-reverse, length-set, reverse-append}, lemmas.Option.{slice_get-map}}
+pub use Rattle.std.proofs.{Common.{Bool, Contains, List, None, Option, Some, [], ap, arith, cond, drop, false, filter_map, find, inl, inr, leb-false, leb-true, length, ltb-true, map, max, min, nat_le, nat_lt, option_map, refl, replicate, slice_get, slice_index, slice_index_or, slice_set, subst, suc, sym, take, true, zero, ℕ, ◌%◌, ◌&&◌, ◌++◌, ◌+◌, ◌-◌, ◌<◌, ◌==◌, ◌∙◌, ◌∷◌, ◌≡◌, ◌≢◌, ◌≤◌, ◌⊎◌}, Math.Dec.{eqb-suc-zero}, lemmas.Iterator.Adapters.{position_from-zero}, lemmas.List.{length-map, length-replicate, length-reverse, length-set, reverse-append}, lemmas.Option.{slice_get-map, slice_get_within}}
 pub use Rattle.std.specs.{List.{AllByRecursion, cons_option, position_from}, Option.{option_and_then, option_map_or}, Prelude.{reverse}}
+pub use Rattle.mem80.proofs.Lists.{take_found}
 pub use Rattle.trees.specs.{declared.declaration.ScalarType.{ScalarType, TheVariants.{Address, Byte}}}
 pub use Rattle.typed_trees.specs.{TypedTrees.{AssignmentNode, AssignmentStatement, At, BasedOn, BinaryNode, CallNode, CallStatement, CaseStatement, ConversionNode, DoStatement, ElseStatement, Elsewhere, FunctionNode, GotoStatement, HaltStatement, Home, IfStatement, InConstants, InData, InFrame, InputNode, IterateStatement, LabelStatement, ListNode, ListOf, LocationNode, MoreArguments, MoreStatements, MoveStatement, NoArguments, NoElse, NoStatements, NoSubscript, Nowhere, NullStatement, NumberNode, PartOf, Placed, ReturnStatement, SentTo, ShiftNode, StoredIn, Subscript, TypedArguments, TypedElse, TypedExpression, TypedIteration, TypedList, TypedModule, TypedProcedure, TypedReference, TypedStatement, TypedStatements, TypedTarget, UnaryNode, ValueNode, WhileStatement}, Views.{arguments_view, module_view, procedure_view, statements_view, target_view}}
 unfoldable pub use Rattle.typed_trees.specs.Charge.{charge_of}

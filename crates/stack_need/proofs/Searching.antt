@@ -1,26 +1,15 @@
 -- A step of a search: what holds along it, and what it comes to.
-use Rattle.stack_need.proofs.Prelude.{◌≡◌, ℕ, zero, suc, ◌+◌, ◌<◌, ◌≤◌, List, [], ◌∷◌, ◌++◌, length, take, max, slice_get, slice_set, Option, Some, None, Contains, arith, refl, ap, sym, subst, ◌∙◌, inl, inr, AllByRecursion, length-set, Visit, Mark, New, Open, Done, Progress, Body, HasCycle, IsChain, callees_of, charge_in, end_of_chain, NeedOf, of_body, GreatestOf, of_none, of_more, HasNeed, Searched, begun, finished, mark_of, need_shown, passed, stepped, stepped_to, GoesTo, HasPassed, IsOnPath, IsTrueOf, Leads, Searches, left, waiting}
+use Rattle.stack_need.proofs.Prelude.{◌≡◌, ℕ, zero, suc, ◌+◌, ◌<◌, ◌≤◌, List, [], ◌∷◌, ◌++◌, length, take, max, slice_get, slice_set, Option, Some, None, Contains, arith, refl, ap, sym, subst, ◌∙◌, inl, inr, AllByRecursion, length-set, Visit, Mark, New, Open, Done, Progress, Body, HasCycle, IsChain, callees_of, charge_in, end_of_chain, NeedOf, of_body, GreatestOf, of_none, of_more, HasNeed, Searched, begun, finished, mark_of, need_shown, passed, stepped, stepped_to, GoesTo, HasPassed, IsOnPath, IsTrueOf, Leads, Searches, left, waiting, slice_get_within, take_found}
 use Rattle.stack_need.specs.internal.Search.{called}
 use Rattle.stack_need.proofs.Elements.{at_head, in_tail}
 use Rattle.stack_need.proofs.Marks.{done_is_not_open, known, mark_set, opened}
 use Rattle.stack_need.proofs.Needs.{chain_more, end_more}
-
--- what stands in a list at a place
-within_list : {A : Type 0} (items : List A) (place : ℕ) (item : A) → slice_get items place ≡ Some item → place < length items
-within_list [] place item is = let bad : ⊥ = cc in absurd bad
-within_list (first ∷ others) zero item is = omega arith
-within_list (first ∷ others) (suc place) item is = let rest : place < length others = within_list others place item is in omega (arith, rest)
 
 past_list : {A : Type 0} (items : List A) (place : ℕ) → slice_get items place ≡ None → take place items ≡ items
 past_list [] zero is = refl
 past_list [] (suc place) is = refl
 past_list (first ∷ others) zero is = let bad : ⊥ = cc in absurd bad
 past_list (first ∷ others) (suc place) is = ap (λ rest. first ∷ rest) (past_list others place is)
-
-one_more : {A : Type 0} (items : List A) (place : ℕ) (item : A) → slice_get items place ≡ Some item → take (suc place) items ≡ take place items ++ item ∷ []
-one_more [] place item is = let bad : ⊥ = cc in absurd bad
-one_more (first ∷ others) zero item is = let same : first ≡ item = cc in ap (λ one. one ∷ []) same
-one_more (first ∷ others) (suc place) item is = ap (λ rest. first ∷ rest) (one_more others place item is)
 
 among_list : {A : Type 0} (items : List A) (place : ℕ) (item : A) → slice_get items place ≡ Some item → Contains items item
 among_list [] place item is = let bad : ⊥ = cc in absurd bad
@@ -37,7 +26,7 @@ module _ (graph : List Body) where
   passes : (visit : Visit) (callee need : ℕ) → slice_get (callees_of graph visit.body) visit.next ≡ Some callee → HasPassed graph visit → HasNeed graph callee need → HasPassed graph (passed visit need)
   passes visit callee need is before one =
       let more : take visit.next (callees_of graph visit.body) ++ callee ∷ [] ≡ take (visit.next + 1) (callees_of graph visit.body) =
-      sym (one_more (callees_of graph visit.body) visit.next callee is) ∙ ap (λ count. take count (callees_of graph visit.body)) (let same : suc visit.next ≡ visit.next + 1 = omega arith in same) in (
+      sym (take_found (callees_of graph visit.body) visit.next callee is) ∙ ap (λ count. take count (callees_of graph visit.body)) (let same : suc visit.next ≡ visit.next + 1 = omega arith in same) in (
         max before.0 one.0,
         (
           subst (λ bodies. GreatestOf graph bodies (max before.0 one.0)) more (greatest_more (take visit.next (callees_of graph visit.body)) before.0 callee one.0 before.1.0 one.1.0),
@@ -139,7 +128,7 @@ module _ (graph : List Body) where
   goes_on root callee New visit s mark is before = begins root callee visit s mark is before
   goes_on root callee Open visit s mark is before = cycle_found root callee visit s.path is before.leads (before.marks.is_open callee mark)
   goes_on root callee (Done need) visit s mark is before =
-      let within : visit.next < length (callees_of graph visit.body) = within_list (callees_of graph visit.body) visit.next callee is in (
+      let within : visit.next < length (callees_of graph visit.body) = slice_get_within (callees_of graph visit.body) visit.next callee is in (
         record {
           marks = record { size = before.marks.size; done = before.marks.done; is_open = before.marks.is_open };
           leads = leads_still root need visit s.path before.leads;

@@ -1,5 +1,5 @@
 -- IF.
-use Rattle.statement_laws.proofs.Prelude.{◌≡◌, ℕ, ◌+◌, ◌*◌, ◌%◌, ◌<◌, ◌≤◌, ◌==◌, max, Bool, true, false, not, if◌then◌else◌, nat_eq, List, [], ◌∷◌, ◌++◌, slice_get, Option, Some, None, refl, sym, ap, subst, ◌∙◌, arith, same_Some, height_of, height_of_else, height_of_statement, ListsStand, ListsStandInElse, TypedExpression, TypedStatement, GotoStatement, TypedElse, NoElse, ElseStatement, TypesHold, TypesHoldIn, TypesHoldInElse, done, done_else, value, SourceState, Outcome, Gave, then_do, Flow, Onward, Returned, Jumped, is_true, Registers, State, AtLabel, Jump, ExpressionNumber, Statement, StatementNumber, IsElse, IsExpressionIn, IsGoto, IsIf, IsNoElse, IsSomeElse, IsStatement, IsStatementForm, IsStatementNode, statement, HasRoom, IsReady, IsThere, Does, at_place, word_step, after_step, gives, then_does, no_facts_hold, Facts, LabelNumber, no_facts, label_of, jump_item, Site, number, knowing, Planned, body_label, both_steps, branch, computed_if_steps, goto_label, goto_label_of, has_one_jump, if_steps, statement_if_any, tested_if_steps, then_steps, nth_label, Here, jump_on_steps, known_here, site_of, statement_steps, nodes_in, jumps_once, StepsStand, JumpThere, MarkThere, NoneThere, BranchDoes, Goes, Know, PartDoes, Parts, Passes, number_means, does_same, gives_then, has_less_room, script_of, BodyContext, IsSoundBody, Leaves, StatementDoes, StatementStands}
+use Rattle.statement_laws.proofs.Prelude.{◌≡◌, ℕ, ◌+◌, ◌*◌, ◌%◌, ◌<◌, ◌≤◌, ◌==◌, max, Bool, true, false, not, if◌then◌else◌, nat_eq, List, [], ◌∷◌, ◌++◌, slice_get, Option, Some, None, refl, sym, ap, subst, ◌∙◌, arith, same_Some, height_of, height_of_else, height_of_statement, ListsStand, ListsStandInElse, TypedExpression, TypedStatement, GotoStatement, TypedElse, NoElse, ElseStatement, TypesHold, TypesHoldIn, TypesHoldInElse, done, done_else, value, SourceState, Outcome, Gave, then_do, Flow, Onward, Returned, Jumped, is_true, Registers, State, AtLabel, Jump, ExpressionNumber, Statement, StatementNumber, IsElse, IsExpressionIn, IsGoto, IsIf, IsNoElse, IsSomeElse, IsStatement, IsStatementForm, IsStatementNode, statement, HasRoom, IsReady, IsThere, Does, at_place, word_step, after_step, gives, then_does, no_facts_hold, Facts, LabelNumber, no_facts, label_of, jump_item, Site, number, knowing, Planned, body_label, both_steps, branch, computed_if_steps, goto_label, goto_label_of, has_one_jump, if_steps, statement_if_any, tested_if_steps, then_steps, nth_label, Here, jump_on_steps, known_here, site_of, statement_steps, nodes_in, jumps_once, StepsStand, JumpThere, MarkThere, NoneThere, BranchDoes, Goes, Know, PartDoes, Parts, Passes, number_means, does_same, gives_then, script_of, BodyContext, IsSoundBody, Leaves, StatementDoes, StatementStands, room_for}
 use Rattle.treecode.specs.declared.statement.Statement.TheVariants as statements
 use Rattle.steps8080.specs.declared.step.Step.TheVariants as steps
 use Rattle.statement_laws.proofs.FirstSteps.{Stand, ended, going, jumped_first, meet_first, part_first, statement_first, turn_first}
@@ -159,7 +159,7 @@ module _
         statement_then
         (does_later s.budget less
         (does bound then_tree then_is then_types then_lists base t r memory (omega (arith, less, below))
-        (has_less_room (2 + 2 * height_of_statement then_tree) (omega (arith, fits)) room) ready knows))
+        (room_for (2 + 2 * height_of_statement then_tree) (omega (arith, fits)) room) ready knows))
         (λ u now kept fewer goes there known_there. rest u now kept (omega (arith, fewer, less)) goes there known_there)
 
     -- the second one
@@ -190,7 +190,7 @@ module _
         (statement_then
         (does_later s.budget less
         (does bound else_statement else_is types_there lists_there.1 base t r memory (omega (arith, less, below))
-        (has_less_room (2 + 2 * height_of_statement else_statement) (omega (arith, fits, high)) room) ready knows))
+        (room_for (2 + 2 * height_of_statement else_statement) (omega (arith, fits, high)) room) ready knows))
         (λ u now kept fewer goes there known_there. rest u now kept (omega (arith, fewer, less)) goes there known_there))
 
     -- the second one, if there is one
@@ -244,7 +244,7 @@ module _
         (Leaves at base to last s.budget)
     by_condition label sense from middle known r memory does ready knows goes passes =
         then_does
-        (does _ test is types at.context.activation.level base s r memory below (has_less_room (2 * height_of test) (omega (arith, fits)) room)
+        (does _ test is types at.context.activation.level base s r memory below (room_for (2 * height_of test) (omega (arith, fits)) room)
         ready knows)
         (λ n t end parts less. by n t end parts less)
       where

@@ -1,7 +1,9 @@
 pub use Rattle.task_laws.proofs.CarriedOut
 pub use Rattle.task_laws.proofs.Machine
 pub use Rattle.task_laws.proofs.Ranges
+pub use Rattle.task_laws.proofs.Stores
 mod Prelude
+pub mod Numbers
 pub mod FirstSteps
 pub mod Outcomes
 pub mod Lists

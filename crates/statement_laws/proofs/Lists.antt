@@ -1,5 +1,5 @@
 -- A list whose statements do what they say does so: with jumps that go on at its labels.
-use Rattle.statement_laws.proofs.Prelude.{◌≡◌, ◌≢◌, ℕ, zero, suc, ◌+◌, ◌*◌, ◌<◌, ◌≤◌, ◌⊎◌, inl, inr, max, true, List, [], ◌∷◌, length, slice_get, slice_index_or, AllPairs, Option, Some, None, refl, sym, ap, subst, ◌∙◌, arith, cases_lt, same_Some, height_of_statement, height_of_statements, ListStands, ListsStandInStatements, TypedStatement, LabelStatement, TypedStatements, NoStatements, MoreStatements, ListOf, TypesHoldInStatements, Later, caught_in, done_all, dropped, going_on, later_by, rest_from, rest_of, SourceState, Outcome, then_do, Flow, Onward, Returned, Jumped, onto_is, rest_at, Registers, State, Range, Statement, StatementNumber, AreStatements, AreNoStatements, AreMoreStatements, IsListOf, IsStatement, IsStatementNode, IsLabel, HasRoom, IsReady, Does, at_place, gives, then_does, no_facts_hold, Facts, no_facts, body_label, Here, nodes_in, Know, does_same, has_less_room, script_of, BodyContext, ComesToLabel, IsSoundBody, LabelLies, Leaves, ListDoes, StatementDoes}
+use Rattle.statement_laws.proofs.Prelude.{◌≡◌, ◌≢◌, ℕ, zero, suc, ◌+◌, ◌*◌, ◌<◌, ◌≤◌, ◌⊎◌, inl, inr, max, true, List, [], ◌∷◌, length, slice_get, slice_index_or, AllPairs, Option, Some, None, refl, sym, ap, subst, ◌∙◌, arith, cases_lt, same_Some, height_of_statement, height_of_statements, ListStands, ListsStandInStatements, TypedStatement, LabelStatement, TypedStatements, NoStatements, MoreStatements, ListOf, TypesHoldInStatements, Later, caught_in, done_all, dropped, going_on, later_by, rest_from, rest_of, SourceState, Outcome, then_do, Flow, Onward, Returned, Jumped, onto_is, rest_at, Registers, State, Range, Statement, StatementNumber, AreStatements, AreNoStatements, AreMoreStatements, IsListOf, IsStatement, IsStatementNode, IsLabel, HasRoom, IsReady, Does, at_place, gives, then_does, no_facts_hold, Facts, no_facts, body_label, Here, nodes_in, Know, does_same, script_of, BodyContext, ComesToLabel, IsSoundBody, LabelLies, Leaves, ListDoes, StatementDoes, room_for}
 use Rattle.meaning.specs.Meaning.{landed}
 use Rattle.treecode.specs.declared.statement.Statement.TheVariants as statements
 use Rattle.treecode_laws.proofs.Labels.{same_number}
@@ -71,7 +71,7 @@ all_do at {here = here} {last = last} {to = to} {bound = bound} (MoreDo {middle 
     let below = stage.below in
     then_does
     (does bound tree (subst (λ (n : StatementNumber). IsStatement (nodes_in at.context) at.context.storage at.labels bound n.index tree) same is)
-    types.0 lists.0 base s r memory below (has_less_room (2 + 2 * height_of_statement tree) parts.0 stage.room) stage.ready stage.known)
+    types.0 lists.0 base s r memory below (room_for (2 + 2 * height_of_statement tree) parts.0 stage.room) stage.ready stage.known)
     (λ flow t end leaves less.
     goes_then at base middle place last to s.budget
     (λ u. done_all at.context.later at.context.activation.around others u) flow t end less leaves

@@ -1,5 +1,5 @@
 -- RETURN.
-use Rattle.statement_laws.proofs.Prelude.{◌≡◌, ℕ, zero, suc, ◌+◌, ◌-◌, ◌*◌, ◌/◌, ◌%◌, ◌≤◌, Bool, true, false, if◌then◌else◌, nat_eq, List, [], ◌∷◌, ◌++◌, replicate, Option, Some, None, refl, sym, ap, subst, ◌∙◌, arith, ScalarType, height_of_optional, TypedExpression, IsReturned, TypesHold, Within, WithinMain, WithinProcedure, returned, SourceState, Gave, Returned, Instr, Registers, Item, size_of_instruction, ExpressionNumber, ProcedureKind, IsNoValue, IsOptional, IsReturn, IsSomeValue, IsThere, Does, at_place, gives, Facts, value_task, NoneWritten, PlainWritten, Body, Planned, all, part, Here, AreCarriedOut, NoneCarriedOut, StepCarriedOut, carried_steps, here_after, waiting_after, drop_steps, kept_steps, pops_steps, return_of_frame_steps, return_over_any_steps, return_over_steps, return_steps, return_steps_by, return_of_steps, returned_value_steps, statement_steps, ResultLies, nodes_in, at_value, script_of, BodyContext, IsSoundBody, IsWithin, Leaves, StatementStands}
+use Rattle.statement_laws.proofs.Prelude.{◌≡◌, ℕ, zero, suc, ◌+◌, ◌-◌, ◌*◌, ◌/◌, ◌%◌, ◌≤◌, Bool, true, false, if◌then◌else◌, nat_eq, List, [], ◌∷◌, ◌++◌, replicate, Option, Some, None, refl, sym, ap, subst, ◌∙◌, arith, ScalarType, height_of_optional, TypedExpression, IsReturned, TypesHold, Within, WithinMain, WithinProcedure, returned, SourceState, Gave, Returned, Instr, Registers, Item, size_of_instruction, ExpressionNumber, ProcedureKind, IsNoValue, IsOptional, IsReturn, IsSomeValue, IsThere, Does, at_place, gives, Facts, value_task, NoneWritten, PlainWritten, Body, Planned, all, part, Here, AreCarriedOut, NoneCarriedOut, StepCarriedOut, carried_steps, here_after, waiting_after, drop_steps, kept_steps, pops_steps, return_of_frame_steps, return_over_any_steps, return_over_steps, return_steps, return_steps_by, return_of_steps, returned_value_steps, statement_steps, ResultLies, nodes_in, at_value, script_of, BodyContext, IsSoundBody, IsWithin, Leaves, StatementStands, at_most_more}
 use Rattle.trees.specs.declared.declaration.ScalarType.TheVariants as scalars
 use Rattle.asm8080.specs.declared.item.Item.TheVariants as items
 use Rattle.treecode.specs.declared.procedure.ProcedureKind.TheVariants as kinds
@@ -109,9 +109,6 @@ pub record AreItems (at : BodyContext) (here : Here) (from : ℕ) (steps : List 
   pub written : AreCarriedOut at.body at.context.called here None steps list last
   pub there : IsThere at.context.activation list from to
 
-past : (start from size : ℕ) → start ≤ from → start ≤ from + size
-past start from size low = omega (arith, low)
-
 instructions_there :
     (at : BodyContext) (others : List Planned) {steps : List Planned} (are : AreInstructions steps)
     {here last : Here} {from to : ℕ}
@@ -125,7 +122,7 @@ instructions_there at others NoInstruction {here = here} {from = from} low high 
 instructions_there at others (MoreInstructions {i = i} {others = more} are) {here = here} {from = from} low high stand =
     let first = plain_first stand in
     let rest = instructions_there at others are
-    (past at.context.activation.around.program.placement.code.start from (size_of_instruction i) low) first.there.high first.rest in
+    (at_most_more at.context.activation.around.program.placement.code.start from (size_of_instruction i) low) first.there.high first.rest in
     record {
       last = rest.last;
       list = items.Plain i ∷ rest.list;

@@ -1,5 +1,5 @@
 -- Labels, null statements, calls, HALT, GOTO and DO.
-use Rattle.statement_laws.proofs.Prelude.{◌≡◌, ℕ, ◌+◌, ◌*◌, [], slice_get, Some, refl, sym, subst, ◌∙◌, arith, same_Some, count_of_arguments, height_of_arguments, height_of_statement, ListsStand, TypedStatement, DoStatement, TypesHoldIn, called_for, callee_in, done, values, Gave, Onward, Jumped, Hlt, Halted, State, AtLabel, Jump, Range, Statement, StatementNumber, IsCall, IsDo, IsGoto, IsHalt, IsLabel, IsNull, IsStatementForm, IsStatementNode, Does, IsLeft, at_place, plain_step, word_step, after_step, landed, then_does, no_facts_hold, Facts, body_label, Here, statement_steps, nodes_in, then_again, does_same, has_less_room, script_of, Behaves, BodyContext, IsSoundBody, Leaves, StatementDoes, StatementStands}
+use Rattle.statement_laws.proofs.Prelude.{◌≡◌, ℕ, ◌+◌, ◌*◌, [], slice_get, Some, refl, sym, subst, ◌∙◌, arith, same_Some, count_of_arguments, height_of_arguments, height_of_statement, ListsStand, TypedStatement, DoStatement, TypesHoldIn, called_for, callee_in, done, values, Gave, Onward, Jumped, Hlt, Halted, State, AtLabel, Jump, Range, Statement, StatementNumber, IsCall, IsDo, IsGoto, IsHalt, IsLabel, IsNull, IsStatementForm, IsStatementNode, Does, IsLeft, at_place, plain_step, word_step, after_step, landed, then_does, no_facts_hold, Facts, body_label, Here, statement_steps, nodes_in, then_again, does_same, script_of, Behaves, BodyContext, IsSoundBody, Leaves, StatementDoes, StatementStands, room_for}
 use Rattle.treecode.specs.declared.statement.Statement.TheVariants as statements
 use Rattle.statement_laws.proofs.FirstSteps.{ended, jump_first, list_first, mark_first, part_first, plain_first}
 use Rattle.statement_laws.proofs.Outcomes.{ends_onward, taking_does, to_label}
@@ -57,7 +57,7 @@ call_does at before procedure arguments label from after to stands bound _ (IsCa
     let around = at.context.activation.around in
     does_same _ (sym (then_again (values later around trees s) (λ given t. called_for later (callee_in around procedure) given around t) (λ found t. Gave Onward t)))
     (then_does
-    (first.does _ _ trees are types.0 types.1 at.context.activation.level base s r memory below (has_less_room (2 * (1 + count_of_arguments trees + height_of_arguments trees)) (omega arith) room) ready known tt)
+    (first.does _ _ trees are types.0 types.1 at.context.activation.level base s r memory below (room_for (2 * (1 + count_of_arguments trees + height_of_arguments trees)) (omega arith) room) ready known tt)
     (λ found t end arrives less.
     subst (λ (there : State). Does (script_of at.context) t.budget 0 there (Gave Onward t) (Leaves at base to after s.budget))
     (sym arrives.is_at)

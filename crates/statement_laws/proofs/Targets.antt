@@ -1,8 +1,9 @@
 -- Targets that get a value that is in a register, one after another.
-use Rattle.statement_laws.proofs.Prelude.{◌≡◌, ℕ, zero, suc, ◌+◌, ◌-◌, ◌*◌, ◌%◌, ◌<◌, ◌≤◌, Bool, true, false, ◌||◌, if◌then◌else◌, nat_eq, nat_lt, List, [], ◌∷◌, ◌++◌, slice_get, Option, Some, None, refl, sym, ap, subst, ◌∙◌, arith, option_and_then, eqb-false, eqb-true, lt-ltb, ScalarType, Byte, Address, height_of, height_of_target, height_of_targets, type_of, TypedExpression, TypedTarget, StoredIn, SentTo, TypesHold, TypesHoldInTarget, TypesHoldInTargets, write_scalar, located, stored, stored_in_each, value, SourceState, Outcome, Gave, then_do, Onward, as_type, values_of, Registers, State, write_event, ExpressionNumber, Range, Target, AreTargets, IsExpression, IsSent, IsStored, IsTarget, MoreTargets, NoTargets, target_at, Does, at_place, Facts, Site, value_task, Planned, any_target, from_type, store_at, takes_word, part, steps_from, Here, InRegister, nodes_in, ByteIsGiven, StoreDoes, TaskDoes, WordIsGiven, then_again, at_byte, at_word, does_same, script_of, at_store, BodyContext, IsSoundBody, Leaves}
+use Rattle.statement_laws.proofs.Prelude.{◌≡◌, ℕ, suc, ◌+◌, ◌-◌, ◌*◌, ◌%◌, ◌<◌, ◌≤◌, Bool, true, false, if◌then◌else◌, nat_lt, List, [], ◌∷◌, ◌++◌, slice_get, Option, Some, None, refl, sym, ap, subst, ◌∙◌, arith, option_and_then, lt-ltb, ScalarType, Byte, Address, height_of, height_of_target, height_of_targets, type_of, TypedExpression, TypedTarget, StoredIn, SentTo, TypesHold, TypesHoldInTarget, TypesHoldInTargets, write_scalar, located, stored, stored_in_each, value, SourceState, Outcome, Gave, then_do, Onward, as_type, values_of, Registers, State, write_event, ExpressionNumber, Range, Target, AreTargets, IsExpression, IsSent, IsStored, IsTarget, MoreTargets, NoTargets, target_at, Does, at_place, Facts, Site, value_task, Planned, from_type, store_at, takes_word, part, steps_from, Here, InRegister, nodes_in, ByteIsGiven, StoreDoes, TaskDoes, WordIsGiven, then_again, at_byte, at_word, does_same, script_of, at_store, BodyContext, IsSoundBody, Leaves, low_of_byte, value_is_word}
 use Rattle.steps8080.specs.declared.step.Task.TheVariants as tasks
 use Rattle.statement_laws.proofs.FirstSteps.{Stand, ended, going, part_first}
 use Rattle.statement_laws.proofs.Outcomes.{Between, ends_onward}
+use Rattle.statement_laws.proofs.Numbers.{low_of_low}
 
 -- the target of a value that is there in a type
 abbrev pub retyped : TypedTarget → ScalarType → TypedTarget
@@ -78,10 +79,6 @@ as_register Address number = number
 low_small : (n : ℕ) → n % 256 < 256
 low_small n = omega arith
 
-no_greater : (scalar : ScalarType) (n : ℕ) → n < values_of scalar → n < 65536
-no_greater Byte n small = omega (arith, small)
-no_greater Address n small = small
-
 -- a value into a register of any type
 pub at_any_value :
     {B : Type 0} {need more bound : ℕ} {base : List ℕ} {t : SourceState} {facts found_facts : Facts}
@@ -108,31 +105,25 @@ at_any_value {found_facts = found_facts} {r = r} {memory = memory} {tree = tree}
 at_any_value {found_facts = found_facts} {r = r} {memory = memory} {tree = tree} at Address from middle of does node types fewer stage rest =
     at_word from middle of does node types fewer stage
     (λ found u now memory_now is (given : WordIsGiven at.context found_facts of (type_of tree) r memory found now memory_now) next.
-    rest found u now memory_now (given.h, given.l) (no_greater (type_of tree) found given.small) given.small next)
+    rest found u now memory_now (given.h, given.l) (value_is_word (type_of tree) found given.small) given.small next)
 
 -- what a register has of a value suits a target: an ADDRESS always, a BYTE where the value or the target is one
 pub address_suits : (tree : TypedTarget) (number : ℕ) → Suits tree number (as_register Address number)
 address_suits (StoredIn from to part) number = refl
 address_suits (SentTo from port) number = refl
 
-low_twice : (n : ℕ) → n % 256 % 256 ≡ n % 256
-low_twice n = omega arith
-
-low_itself : (n : ℕ) → n < 256 → n % 256 ≡ n
-low_itself n small = omega (arith, small)
-
 pub small_suits : (tree : TypedTarget) (number : ℕ) → number < 256 → Suits tree number (as_register Byte number)
-small_suits (StoredIn from to part) number small = ap (as_type to) (low_itself number small)
-small_suits (SentTo from port) number small = low_twice number
+small_suits (StoredIn from to part) number small = ap (as_type to) (low_of_byte number small)
+small_suits (SentTo from port) number small = low_of_low number
 
 pub byte_suits :
     (at : BodyContext) (bound : ℕ) (target : Target) (tree : TypedTarget) (number : ℕ)
     → IsTarget (nodes_in at.context) at.context.storage bound target tree
     → takes_word target ≡ false
     → Suits tree number (as_register Byte number)
-byte_suits at bound _ _ number (IsStored {to = Byte} is) no_word = low_twice number
+byte_suits at bound _ _ number (IsStored {to = Byte} is) no_word = low_of_low number
 byte_suits at bound _ _ number (IsStored {to = Address} is) no_word = let never : ⊥ = cc in absurd never
-byte_suits at bound _ _ number IsSent no_word = low_twice number
+byte_suits at bound _ _ number IsSent no_word = low_of_low number
 
 -- the target of an index
 pub target_of_index :
@@ -194,37 +185,3 @@ targets_stored {at = at} {need = need} {base = base} {to = to} {before = before}
     targets_stored scalar there targets number other are (suc index) (going here.goes_on store.known) store.middle u now memory_now sound
     (omega (arith, place)) (omega (arith, count)) types.1 suits small (omega (arith, fits))
     (λ some. wanted (lt-ltb index (targets.count - 1) (omega (arith, some, count)))) goes store.rest next))
-
-either_false : (one other : Bool) → (one || other) ≡ false → (one ≡ false) × (other ≡ false)
-either_false true other is = let never : ⊥ = cc in absurd never
-either_false false other is = (refl, is)
-
--- no target passes a test
-pub none_passes :
-    (test : Target → Bool) (at : BodyContext) (targets : Range) (index left place : ℕ) (target : Target)
-    → any_target test at.body targets index left ≡ false
-    → index ≤ place
-    → place < index + left
-    → target_at at.body.tree.now targets place ≡ Some target
-    → test target ≡ false
-none_passes test at targets index zero place target none low high is = absurd (omega (arith, low, high))
-none_passes test at targets index (suc left) place target none low high is =
-    by (nat_eq index place) refl
-    (λ more fewer. none_passes test at targets (suc index) left place target (either_false _ _ none).1 more fewer is)
-  where
-    parts : ((elim (target_at at.body.tree.now targets index) as (λ (given : Option Target). Bool) [ Some found ↦ test found | None ↦ false ]) ≡ false)
-        × (any_target test at.body targets (suc index) left ≡ false)
-    parts = either_false _ _ none
-
-    here : index ≡ place → test target ≡ false
-    here same =
-        sym (ap (λ (given : Option Target). elim given as (λ (one : Option Target). Bool) [ Some found ↦ test found | None ↦ false ])
-        (ap (λ (n : ℕ). target_at at.body.tree.now targets n) same ∙ is))
-        ∙ parts.0
-
-    by : (same : Bool) → nat_eq index place ≡ same
-        → (suc index ≤ place → place < suc index + left → test target ≡ false)
-        → test target ≡ false
-    by true same further = here (eqb-true index place same)
-    by false differ further =
-        let other = eqb-false index place differ in further (omega (arith, low, other)) (omega (arith, high))

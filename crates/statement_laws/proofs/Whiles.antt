@@ -1,5 +1,5 @@
 -- DO WHILE.
-use Rattle.statement_laws.proofs.Prelude.{◌≡◌, ℕ, zero, suc, ◌+◌, ◌-◌, ◌*◌, ◌%◌, ◌<◌, ◌≤◌, max, Bool, true, false, if◌then◌else◌, nat_eq, nat_lt, List, [], ◌∷◌, ◌++◌, Option, Some, None, refl, sym, ap, subst, ◌∙◌, arith, ltb-false, height_of, height_of_list, ListStands, TypedExpression, TypedList, TypedStatements, ListOf, WhileStatement, TypesHold, TypesHoldInList, Later, WhileTurn, after_turn, done, done_list, going_on, value, SourceState, Outcome, Gave, then_do, taking_one, Flow, Onward, Returned, Jumped, is_true, again_is, Nop, Registers, State, AtLabel, Jump, ExpressionNumber, Range, AreNoStatements, AreStatements, IsExpressionIn, IsList, IsListOf, IsWhile, HasRoom, IsReady, IsThere, Does, at_place, plain_step, word_step, after_step, gives, then_does, no_facts_hold, Facts, LabelNumber, after_form, no_facts, label_of, jump_item, Site, number, knowing, branch, forever_steps, tested_while_steps, jump, mark, nth_label, Here, jump_on_steps, site_of, statement_steps, nodes_in, StepsStand, JumpThere, NoneThere, BranchDoes, Goes, Know, PartDoes, Parts, Passes, number_means, does_same, has_less_room, script_of, Behaves, BodyContext, IsSoundBody, Leaves, ListDoes, StatementStands}
+use Rattle.statement_laws.proofs.Prelude.{◌≡◌, ℕ, zero, suc, ◌+◌, ◌-◌, ◌*◌, ◌%◌, ◌<◌, ◌≤◌, max, Bool, true, false, if◌then◌else◌, nat_eq, nat_lt, List, [], ◌∷◌, ◌++◌, Option, Some, None, refl, sym, ap, subst, ◌∙◌, arith, ltb-false, height_of, height_of_list, ListStands, TypedExpression, TypedList, TypedStatements, ListOf, WhileStatement, TypesHold, TypesHoldInList, Later, WhileTurn, after_turn, done, done_list, going_on, value, SourceState, Outcome, Gave, then_do, taking_one, Flow, Onward, Returned, Jumped, is_true, again_is, Nop, Registers, State, AtLabel, Jump, ExpressionNumber, Range, AreNoStatements, AreStatements, IsExpressionIn, IsList, IsListOf, IsWhile, HasRoom, IsReady, IsThere, Does, at_place, plain_step, word_step, after_step, gives, then_does, no_facts_hold, Facts, LabelNumber, after_form, no_facts, label_of, jump_item, Site, number, knowing, branch, forever_steps, tested_while_steps, jump, mark, nth_label, Here, jump_on_steps, site_of, statement_steps, nodes_in, StepsStand, JumpThere, NoneThere, BranchDoes, Goes, Know, PartDoes, Parts, Passes, number_means, does_same, script_of, Behaves, BodyContext, IsSoundBody, Leaves, ListDoes, StatementStands, room_for}
 use Rattle.treecode.specs.declared.statement.Statement.TheVariants as statements
 use Rattle.statements8080.specs.declared.plan.Planned.TheVariants as planned
 use Rattle.statement_laws.proofs.FirstSteps.{Stand, ended, going, jump_first, jump_on_first, list_first, mark_first, part_first, plain_first, reaches_first}
@@ -85,7 +85,7 @@ module _
         turns fuel before u r memory test less below fewer ready =
             then_does
             (list_does bound body is_list list_types lists base u r memory (omega (arith, fewer, below))
-            (has_less_room (2 + 2 * height_of_list body) list_fits room) ready no_facts_hold)
+            (room_for (2 + 2 * height_of_list body) list_fits room) ready no_facts_hold)
             (λ flow v end leaves spent.
             turn_ends h pt before flow v end below (omega (arith, spent, fewer))
             (leaves_later at base pt h u.budget before flow v end (omega (arith, fewer)) leaves)
@@ -121,7 +121,7 @@ module _
         from_test zero s r memory less below ready = absurd (omega (arith, less))
         from_test (suc fuel) s r memory less below ready =
             then_does
-            (branch_does _ tree is types at.context.activation.level base s r memory below (has_less_room (2 * height_of tree) fits room)
+            (branch_does _ tree is types at.context.activation.level base s r memory below (room_for (2 * height_of tree) fits room)
             ready no_facts_hold)
             (λ n t end parts spent. tested fuel s.budget n t end (from_test fuel) (omega (arith, less)) below spent parts)
 
@@ -152,7 +152,7 @@ module _
         from_top (suc fuel) before u r memory less below fewer ready =
             then_does
             (list_does bound body is_list list_types lists base u r memory (omega (arith, fewer, below))
-            (has_less_room (2 + 2 * height_of_list body) list_fits room) ready no_facts_hold)
+            (room_for (2 + 2 * height_of_list body) list_fits room) ready no_facts_hold)
             (λ flow v end leaves spent.
             turn_ends h place before flow v end below (omega (arith, spent, fewer))
             (leaves_later at base place h u.budget before flow v end (omega (arith, fewer)) leaves)
@@ -261,7 +261,7 @@ tested_does at before condition list label from after to sound stands bound _ (I
         (Leaves at base to after s.budget)) (empty_list at bound list body s none is_list)
         (then_does
         (list_does bound body is_list types.1 lists base s r memory below
-        (has_less_room (2 + 2 * height_of_list body) (omega arith) room) ready no_facts_hold)
+        (room_for (2 + 2 * height_of_list body) (omega arith) room) ready no_facts_hold)
         (λ flow t end leaves less.
         goes_then at base h pt after to s.budget
         (λ u. done at.context.later at.context.activation.around (WhileStatement test body) u) flow t end less leaves

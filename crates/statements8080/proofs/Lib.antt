@@ -1,3 +1,4 @@
 mod Prelude
 pub mod Adding
 pub mod Jumps
+pub mod Targets

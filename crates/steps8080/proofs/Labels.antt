@@ -1,5 +1,5 @@
 -- Flags of labels, and the code that changes them.
-use Rattle.steps8080.proofs.Prelude.{◌≡◌, ℕ, zero, suc, ◌<◌, ◌≤◌, Bool, true, false, not, ◌||◌, List, [], ◌∷◌, ◌++◌, length, IsTrue, slice_index_or, refl, sym, subst, ap, ◌∙◌, arith, ⊎_elim, cases_lt, get_or_past, list_any-append, Assembly, IsAssembly, is_bound, marks, unbound_from}
+use Rattle.steps8080.proofs.Prelude.{◌≡◌, ℕ, zero, suc, ◌<◌, ◌≤◌, Bool, true, false, not, List, [], ◌∷◌, ◌++◌, length, IsTrue, slice_index_or, refl, sym, subst, ap, ◌∙◌, arith, ⊎_elim, cases_lt, get_or_past, list_any-append, Assembly, IsAssembly, is_bound, marks, unbound_from, or_from}
 use Rattle.runtime8080.specs.{declared.routine.Routine.{Routine}, Routines.{AddsRoutine}}
 use Rattle.steps8080.specs.internal.Labels.{Follows}
 
@@ -35,11 +35,6 @@ pub unchanged :
     → after ≡ before
     → Follows flags after
 unchanged flags before after follows same = subst (Follows flags) (sym same) follows
-
-neither : (here there : Bool) → here ≡ false → there ≡ false → (here || there) ≡ false
-neither false false h t = refl
-neither true there h t = h
-neither false true h t = t
 
 off_of : (flag : Bool) → IsTrue (not flag) → flag ≡ false
 off_of false h = refl
@@ -89,7 +84,7 @@ routine_added flags short long size count newsize newcount before after routine 
         let second : is_bound label adds.items ≡ false = off_of _ (adds.new label (omega (arith, low, counted))) in
         ap (is_bound label) adds.added
         ∙ list_any-append (marks label) before.items adds.items
-        ∙ neither _ _ first second
+        ∙ or_from _ _ first second
 
     own : count ≤ label → label < newcount → is_bound label after.items ≡ false
     own high under =

@@ -4,7 +4,8 @@ use Rattle.words.specs.declared.vocabulary.Mark.TheVariants as marks
 use Rattle.words.specs.declared.vocabulary.ReservedWord.TheVariants as words
 use Rattle.syntax.proofs.ListLaws.{items-sound, items-reads, gave, first_fault}
 use Rattle.syntax.proofs.ReaderLemmas.{if_false, if_cases, bind_ok, bind_at, same_reading, at_word-is, place_of_word-is, next_name-is, mark-ok, name-ok, string-ok}
-use Rattle.syntax.proofs.DeclarationParts.{Spelled, respelled, Lengthens, constant-lengthens, offsets-lengthens, restricted-spelled, restricted-reads, scalar-spelled, dimension-spelled, dimension-reads, member-spelled, member-reads}
+use Rattle.syntax.proofs.DeclarationParts.{Spelled, respelled, Lengthens, offsets-lengthens, restricted-spelled, restricted-reads, scalar-spelled, dimension-spelled, dimension-reads, member-spelled, member-reads}
+use Rattle.syntax.proofs.ExpressionSound.{constant-long}
 
 -- without faults of the items there is none of the list
 no_fault : {A : Type 0} (all : List A) → first_fault (λ _. None) all ≡ None
@@ -94,7 +95,7 @@ dimension-lengthens (Count n) r = omega arith
 dimension-lengthens Implied r = omega arith
 
 origin-lengthens : Lengthens origin_symbols
-origin-lengthens (ConstantOrigin c) r = omega (arith, constant-lengthens c r)
+origin-lengthens (ConstantOrigin c) r = omega (arith, constant-long c r)
 origin-lengthens (LocationOrigin n) r = omega arith
 
 restricted-lengthens : Lengthens restricted_symbols

@@ -1,9 +1,10 @@
 -- What is read as a restricted expression, a type, a dimension or a member is spelled so, and what is spelled
 -- so is read.
-use Rattle.syntax.proofs.Prelude.{◌≡◌, inl, inr, ℕ, zero, suc, ◌+◌, ◌≤◌, ◌<◌, false, List, [], ◌∷◌, drop, length, Option, Some, None, Ok, Err, refl, sym, ◌∙◌, ap, arith, Dimension, Count, Implied, Member, ScalarType, Byte, Address, Sign, Plus, Minus, Number, optional, constant_symbols, origin_symbols, sign_symbol, offsets_symbols, restricted_symbols, scalar_symbols, count_symbols, dimension_symbols, member_symbols, Symbol, NameSymbol, NumberSymbol, MarkSymbol, ConstantTree, NumberConstant, StringConstant, OriginTree, ConstantOrigin, LocationOrigin, OffsetTree, RestrictedTree, origin, next_sign, offset_then, offsets, all_offsets, restricted, next_scalar, scalar_of, scalar, result_of, result_type, count, dimension_inside, dimension, member, Parser, Reading, ◌>>=◌, at_mark, at_word, mark, name, number, constant}
+use Rattle.syntax.proofs.Prelude.{◌≡◌, inl, inr, ℕ, zero, suc, ◌+◌, ◌≤◌, false, List, [], ◌∷◌, drop, length, Option, Some, None, Ok, Err, refl, sym, ◌∙◌, ap, arith, Dimension, Count, Implied, Member, ScalarType, Byte, Address, Sign, Plus, Minus, Number, optional, constant_symbols, origin_symbols, sign_symbol, offsets_symbols, restricted_symbols, scalar_symbols, count_symbols, dimension_symbols, member_symbols, Symbol, NameSymbol, NumberSymbol, MarkSymbol, ConstantTree, NumberConstant, StringConstant, OriginTree, ConstantOrigin, LocationOrigin, OffsetTree, RestrictedTree, origin, next_sign, offset_then, offsets, all_offsets, restricted, next_scalar, scalar_of, scalar, result_of, result_type, count, dimension_inside, dimension, member, Parser, Reading, ◌>>=◌, at_mark, at_word, mark, name, number, constant}
 use Rattle.words.specs.declared.vocabulary.Mark.TheVariants as marks
 use Rattle.words.specs.declared.vocabulary.ReservedWord.TheVariants as words
 use Rattle.syntax.proofs.ReaderLemmas.{if_false, if_cases, bind_ok, bind_at, read, same_reading, at_mark-is, at_word-is, mark-ok, name-ok, number-ok, constant-ok, constant-at}
+use Rattle.syntax.proofs.ExpressionSound.{constant-long}
 
 -- what is read is spelled so
 abbrev pub Spelled : {A : Type 0} → (Parser A) → (A → List Symbol → List Symbol) → Type 0
@@ -80,15 +81,11 @@ all_offsets-spelled s r os e = offsets-spelled (length s) s r os e
 abbrev pub Lengthens : {A : Type 0} → (A → List Symbol → List Symbol) → Type 0
 Lengthens {A} spell = (a : A) (r : List Symbol) → length r ≤ length (spell a r)
 
-pub constant-lengthens : (c : ConstantTree) (r : List Symbol) → length r < length (constant_symbols c r)
-constant-lengthens (NumberConstant n) r = omega arith
-constant-lengthens (StringConstant t) r = omega arith
-
 pub offsets-lengthens : (os : List OffsetTree) (r : List Symbol)
     → length r + length os ≤ length (offsets_symbols os r)
 offsets-lengthens [] r = omega arith
 offsets-lengthens (o ∷ os) r =
-    omega (arith, constant-lengthens o.constant (offsets_symbols os r), offsets-lengthens os r)
+    omega (arith, constant-long o.constant (offsets_symbols os r), offsets-lengthens os r)
 
 -- offsets matter only after a constant
 offset_then-same : (again other : Parser (List OffsetTree)) (g : Option Sign) (s : List Symbol)
@@ -126,8 +123,8 @@ offsets-enough (suc count) (suc more) (x ∷ s) l h =
     offset_then-same (offsets count) (offsets more) (next_sign (x ∷ s)) (x ∷ s)
     (λ r c e.
     let short : length (constant_symbols c r) ≡ length s = sym (ap length (constant-ok s r c e)) in
-    offsets-enough count more r (omega (arith, short, constant-lengthens c r))
-    (omega (arith, short, constant-lengthens c r)))
+    offsets-enough count more r (omega (arith, short, constant-long c r))
+    (omega (arith, short, constant-long c r)))
 
 -- {(`+` | `-`) constant}, without a count
 pub all_offsets-step : (s : List Symbol) → all_offsets s ≡ offset_then all_offsets (next_sign s) s
@@ -137,7 +134,7 @@ all_offsets-step (x ∷ s) =
     offset_then-same (offsets (length s)) all_offsets (next_sign (x ∷ s)) (x ∷ s)
     (λ r c e.
     let short : length (constant_symbols c r) ≡ length s = sym (ap length (constant-ok s r c e)) in
-    offsets-enough (length s) (length r) r (omega (arith, short, constant-lengthens c r)) (omega arith))
+    offsets-enough (length s) (length r) r (omega (arith, short, constant-long c r)) (omega arith))
 
 pub all_offsets-reads : (os : List OffsetTree) (r : List Symbol)
     → next_sign r ≡ None

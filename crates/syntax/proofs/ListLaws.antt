@@ -10,7 +10,7 @@ item_then item again symbols = do
   Ok (first.0 ∷ others.0, others.1)
 
 -- an item alone matters where what goes on is the same
-item_then-same : {A : Type 0} (item : Parser A) (again other : Parser (List A)) (s : List Symbol)
+pub item_then-same : {A : Type 0} (item : Parser A) (again other : Parser (List A)) (s : List Symbol)
     → ((a : A) (r : List Symbol) → item s ≡ read a r → again r ≡ other r)
     → item_then item again s ≡ item_then item other s
 item_then-same {A} item again other s same = go (item s) same

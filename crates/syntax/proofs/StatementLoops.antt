@@ -1,6 +1,6 @@
 -- How the loops over statements and declarations go on.
 use Rattle.syntax.proofs.Prelude.{◌≡◌, ℕ, zero, suc, ◌≤◌, ◌<◌, Bool, true, false, List, [], ◌∷◌, ◌++◌, length, Option, Some, None, Ok, Err, if◌then◌else◌, refl, sym, ◌∙◌, ap, arith, End, Declaration, Statement, Symbol, StatementTree, StatementTrees, MoreStatements, DeclarationTree, DeclarationTrees, MoreDeclarations, statement_tree, statement_trees, declaration_tree, declaration_trees, FailsBy, statements_before, after_statements, declarations_before, after_declarations, many, many_items, Shrinks, Parser, Cause, Unexpected, Reading, ◌>>=◌, at_word, statement, declaration, statements, declarations, statements_of, declarations_of, ends_declarations}
-use Rattle.syntax.proofs.ListLaws.{item_then, many-step, many-end, many-nothing, Starts}
+use Rattle.syntax.proofs.ListLaws.{item_then, many-step, many-end, many-nothing, Starts, item_then-same}
 use Rattle.syntax.proofs.StatementLaws.{statement-shrinks, declaration-shrinks}
 use Rattle.syntax.proofs.ReaderLemmas.{read, if_true, if_false}
 
@@ -81,18 +81,6 @@ pub statements-end : (room : ℕ) (made : List Statement) (s : List Symbol) → 
 statements-end room made s end =
     rw (many-end (at_word End) (statement true room) s end) (ap (λ t. read t s) (statements_before-none made))
 
--- an item alone matters where what goes on is the same
-item_then-equal : {A : Type 0} (item : Parser A) (again other : Parser (List A)) (s : List Symbol)
-    → ((a : A) (r : List Symbol) → item s ≡ read a r → again r ≡ other r)
-    → item_then item again s ≡ item_then item other s
-item_then-equal {A} item again other s same = go (item s) same
-  where
-    go : (r : Reading A) → ((a : A) (rest : List Symbol) → r ≡ read a rest → again rest ≡ other rest)
-        → (r >>= (λ first. again first.1 >>= (λ others. read (first.0 ∷ others.0) others.1)))
-        ≡ (r >>= (λ first. other first.1 >>= (λ others. read (first.0 ∷ others.0) others.1)))
-    go (Ok x) h = ap (λ t. t >>= (λ others. read (x.0 ∷ others.0) others.1)) (h x.0 x.1 refl)
-    go (Err c) h = refl
-
 -- any count that is enough gives the same, where the list ends with the symbols
 many_items-ended : {A : Type 0} (ends : List Symbol → Bool) (item : Parser A) → Shrinks item → ends [] ≡ true
     → (count more : ℕ) (s : List Symbol)
@@ -112,7 +100,7 @@ many_items-ended ends item shrinks ended zero more (x ∷ s) l h = absurd (omega
 many_items-ended ends item shrinks ended (suc count) zero (x ∷ s) l h = absurd (omega arith)
 many_items-ended ends item shrinks ended (suc count) (suc more) (x ∷ s) l h =
     ap (λ t. if ends (x ∷ s) then read [] (x ∷ s) else t)
-    (item_then-equal item (many_items ends item count) (many_items ends item more) (x ∷ s)
+    (item_then-same item (many_items ends item count) (many_items ends item more) (x ∷ s)
     (λ a r e. let short : length r < length (x ∷ s) = shrinks (x ∷ s) r a e in many_items-ended ends item
     shrinks ended count more r (omega arith) (omega arith)))
 
@@ -127,7 +115,7 @@ unfolding many
 many-ended ends item shrinks ended [] goes = absurd cc
 many-ended ends item shrinks ended (x ∷ s) goes =
     if_false (ends (x ∷ s)) _ _ goes
-    ∙ item_then-equal item (many_items ends item (length s)) (many ends item) (x ∷ s)
+    ∙ item_then-same item (many_items ends item (length s)) (many ends item) (x ∷ s)
     (λ a r e. let short : length r < length (x ∷ s) = shrinks (x ∷ s) r a e in many_items-ended ends item
     shrinks ended (length s) (length r) r (omega arith) (omega arith))
 

@@ -1,11 +1,8 @@
 -- How the loop over the targets of an assignment goes on.
-use Rattle.syntax.proofs.Prelude.{◌≡◌, ℕ, ◌<◌, true, false, List, [], ◌∷◌, ◌++◌, drop, length, map, Option, Some, None, Ok, Err, refl, sym, ◌∙◌, ap, arith, map-append, Comma, Reference, Symbol, ReferenceTree, reference_tree, expression, reference, FailsBy, all_more_items, Keeps, after_items, Cause, Reading, at_mark}
+use Rattle.syntax.proofs.Prelude.{◌≡◌, ℕ, ◌<◌, true, false, List, [], ◌∷◌, ◌++◌, drop, length, map, Option, Some, None, Ok, Err, refl, sym, ◌∙◌, ap, arith, map-append, Comma, Reference, Symbol, ReferenceTree, reference_tree, expression, reference, FailsBy, all_more_items, after_items, Cause, Reading, at_mark}
 use Rattle.syntax.proofs.ExpressionLaws.{reference-shrinks}
 use Rattle.syntax.proofs.ListLoops.{more-step, more-fails, more-ends}
-
-reference-keeps : (room : ℕ) → Keeps (reference (expression room))
-reference-keeps room s r t e =
-    let smaller : length r < length s = reference-shrinks room s r t e in omega arith
+use Rattle.syntax.proofs.ExpressionSound.{reference-keeps}
 
 -- a target
 pub targets-more : (room : ℕ) (made : List Reference) (x : Reference) (s r : List Symbol)

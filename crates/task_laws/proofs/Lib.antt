@@ -1,4 +1,7 @@
 mod Prelude
+pub mod Numbers
+pub mod Heights
+pub mod Agreement
 pub mod Machine
 pub mod Calls
 pub mod Places

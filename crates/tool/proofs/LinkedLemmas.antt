@@ -1,18 +1,11 @@
 -- Object modules that have a merge and an image are linked and placed.
-use Rattle.tool.proofs.Prelude.{◌≡◌, List, Result, Ok, Err, sym, ap, subst, ◌∙◌, Image, PlacementRefusal, image_of, LinkRefusal, merge_of, ObjectModule, Plan, GivesItsImage, Absolute, IsPlaced, HaveImage, IsImageOfObjects, GivesImageOfObjects}
+use Rattle.tool.proofs.Prelude.{◌≡◌, List, Result, Ok, Err, sym, subst, ◌∙◌, Image, PlacementRefusal, image_of, LinkRefusal, merge_of, ObjectModule, Plan, GivesItsImage, Absolute, IsPlaced, HaveImage, IsImageOfObjects, GivesImageOfObjects, same_Ok}
 use Rattle.placing.specs.Views as of_placement
 use Rattle.locate.specs.Locating.{plan_view}
 
 pub is_linked : (plan : Plan) (objects : List ObjectModule) (merged : ObjectModule) (image : Absolute)
     → merge_of objects ≡ Ok merged → IsPlaced (plan_view plan) merged image → IsImageOfObjects plan objects image
 is_linked plan objects merged image merge placed = record { merged = merged; merge = merge; placed = placed }
-
-same_value : {A E : Type 0} (value other : A) → ◌≡◌ {A = Result A E} (Ok value) (Ok other) → value ≡ other
-same_value {A} {E} value other same = ap given same
-  where
-    given : Result A E → A
-    given (Ok found) = found
-    given (Err failure) = value
 
 module _ (plan : Plan) (objects : List ObjectModule) (have : HaveImage (of_placement.plan_view plan) objects) where
   -- none of them is refused
@@ -23,7 +16,7 @@ module _ (plan : Plan) (objects : List ObjectModule) (have : HaveImage (of_place
   pub not_refused_to_locate : (merged : ObjectModule) (refusal : PlacementRefusal) → merge_of objects ≡ Ok merged
       → image_of (plan_view plan) merged ≡ Err refusal → ⊥
   not_refused_to_locate merged refusal merge is =
-      let same : have.merged ≡ merged = same_value have.merged merged (sym have.merge ∙ merge) in
+      let same : have.merged ≡ merged = same_Ok have.merged merged (sym have.merge ∙ merge) in
       let bad : ◌≡◌ {A = Result Image PlacementRefusal} (Ok have.image) (Err refusal) =
       sym have.placed ∙ subst (λ (object : ObjectModule). image_of (plan_view plan) object ≡ Err refusal) (sym same) is in cc
 
@@ -32,4 +25,4 @@ pub gives : (plan : Plan) (objects : List ObjectModule) (merged : ObjectModule) 
     → merge_of objects ≡ Ok merged → GivesItsImage (plan_view plan) merged image → GivesImageOfObjects plan objects image
 gives plan objects merged image merge given other other_merge =
     subst (λ (object : ObjectModule). GivesItsImage (plan_view plan) object image)
-    (same_value merged other (sym merge ∙ other_merge)) given
+    (same_Ok merged other (sym merge ∙ other_merge)) given

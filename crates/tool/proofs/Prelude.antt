@@ -1,6 +1,7 @@
 -- The names that the proofs of this crate cite, passed on from one place. Declares nothing.
 pub use Rattle.std.proofs.{Common.{All, Err, List, None, Ok, Option, Result, Some, [], add-one, ap, append-nil, append_assoc, arith, drop, get_or, inl, inr, length, map, refl, rules, subst, suc, sym, zero, zip, ℕ, ⊎_elim, ◌++◌, ◌+◌, ◌<◌, ◌∙◌, ◌∷◌, ◌≡◌, ◌≤◌, ◌⊎◌}, Math.ListN.{drop_of_length-le}, Math.Seq.{drop-cons}, lemmas.Bool.{cases_lt}, lemmas.List.{get_or-map, length-map}, lemmas.List.Elements.{All-cons, All-from_recursion, All-nil}}
 pub use Rattle.std.specs.{Io.KnownBytes.{Appends}, List.{AllByRecursion, AllZip}, Prelude.{IsErrAnd}}
+pub use Rattle.mem80.proofs.Results.{same_Ok}
 pub use Rattle.mem80.specs.{Memory.{IsMemory}, declared.plan.Plan.{Plan}}
 pub use Rattle.typed_trees.specs.{Jumps.{JumpsAreSound}, TypedTrees.{TypedModule}, Views.{module_view}, declared.module.Typed.{Typed}}
 pub use Rattle.layout.specs.{Joined.{IsJoined}, Lawful.{IsLawful}, Placement.{Placement}, Sound.{IsSoundlyTyped}, Storage.{Storage, storage_with}, Views.{layout_view}, declared.slot.Layout.{Layout}}

@@ -1,5 +1,5 @@
 -- Lowering an expression adds nodes that represent it, and keeps the nodes before.
-use Rattle.treecode.proofs.Prelude.{◌≡◌, ℕ, zero, suc, ◌+◌, ◌<◌, ◌≤◌, List, [], ◌∷◌, ◌++◌, length, Option, Some, slice_get, refl, sym, ap, ◌∙◌, subst, arith, type_of, TypedExpression, NumberNode, ValueNode, LocationNode, ListNode, ConversionNode, AssignmentNode, UnaryNode, BinaryNode, CallNode, FunctionNode, ShiftNode, InputNode, TypedReference, PartOf, Subscript, NoSubscript, At, TypedTarget, StoredIn, SentTo, TypedArguments, NoArguments, MoreArguments, Storage, Expression, ExpressionForm, ExpressionNumber, Range, Reference, IndexNode, Target, IsExpression, IsNode, IsForm, IsNumber, IsValue, IsLocation, IsConstantList, IsConversion, IsEmbedded, IsUnary, IsBinary, IsCallOf, IsFunction, IsShift, IsInput, IsReference, IsPart, IsSubscript, IsAbsent, IsIndex, IsTarget, IsStored, IsSent, AreArguments, AreNone, AreMore, Nodes, KeepTraits, expression_of, element_of, expression_in, form_in, numbers_in, part_of, put_arguments, put_expression, reference_in, subscript_in, target_in, with_both, with_item, Grows, Holds, NumbersRise, PartsAreBelow, ReferenceIsBelow, SubscriptIsBelow, TargetIsBelow}
+use Rattle.treecode.proofs.Prelude.{◌≡◌, ℕ, zero, suc, ◌+◌, ◌<◌, ◌≤◌, List, [], ◌∷◌, ◌++◌, length, Option, Some, slice_get, refl, sym, ap, ◌∙◌, subst, arith, type_of, TypedExpression, NumberNode, ValueNode, LocationNode, ListNode, ConversionNode, AssignmentNode, UnaryNode, BinaryNode, CallNode, FunctionNode, ShiftNode, InputNode, TypedReference, PartOf, Subscript, NoSubscript, At, TypedTarget, StoredIn, SentTo, TypedArguments, NoArguments, MoreArguments, Storage, Expression, ExpressionForm, ExpressionNumber, Range, Reference, IndexNode, Target, IsExpression, IsNode, IsForm, IsNumber, IsValue, IsLocation, IsConstantList, IsConversion, IsEmbedded, IsUnary, IsBinary, IsCallOf, IsFunction, IsShift, IsInput, IsReference, IsPart, IsSubscript, IsAbsent, IsIndex, IsTarget, IsStored, IsSent, AreArguments, AreNone, AreMore, Nodes, KeepTraits, expression_of, element_of, expression_in, form_in, numbers_in, part_of, put_arguments, put_expression, reference_in, subscript_in, target_in, with_both, with_item, Grows, Holds, NumbersRise, PartsAreBelow, ReferenceIsBelow, SubscriptIsBelow, TargetIsBelow, got_first}
 use Rattle.treecode.specs.declared.expression.ExpressionForm.TheVariants as forms
 use Rattle.treecode.specs.declared.reference.Target.TheVariants as targets
 pub use Rattle.treecode.specs.internal.Sound.{AreSound, Leads}
@@ -101,11 +101,6 @@ both_added R of nodes first second one two then = record {
   is = then two.leads one.is two.is;
 }
 
--- the last item of a list with one more
-pub last_found : {A : Type 0} (xs : List A) (last : A) → slice_get (xs ++ last ∷ []) (length xs) ≡ Some last
-last_found [] last = refl
-last_found (first ∷ xs) last = last_found xs last
-
 pub one_more : {A : Type 0} (xs : List A) (last : A) → length (xs ++ last ∷ []) ≡ suc (length xs)
 one_more [] last = refl
 one_more (first ∷ xs) last = ap suc (one_more xs last)
@@ -195,7 +190,7 @@ module _ (storage : Storage) where
       → Added (AsForm tree) nodes made → Added (AsExpression tree) nodes (put_expression (type_of tree) made)
   put_is nodes tree made added = record {
     leads = leads_on added.leads leads;
-    is = IsNode below (last_found xs new) (own_scalar made.0 (type_of tree) made.1)
+    is = IsNode below (got_first xs new []) (own_scalar made.0 (type_of tree) made.1)
         (form_stays made.0 after storage leads.grows (length xs) (omega arith) added.is);
   }
     where

@@ -1,11 +1,12 @@
 -- Lowering a statement adds nodes that represent it, and keeps the nodes before.
-use Rattle.treecode.proofs.Prelude.{◌≡◌, ℕ, suc, ◌+◌, ◌<◌, min, max, Bool, true, false, ◌||◌, List, [], ◌∷◌, ◌++◌, length, Option, Some, None, slice_get, unwrap_or, refl, sym, ap, ◌∙◌, subst, arith, Any, append_assoc, append-nil, height_of, height_of_else, height_of_iteration, height_of_list, height_of_optional, height_of_statement, height_of_statements, height_of_targets, IsAmongLabels, JumpsStay, JumpsStayInElse, JumpsStayInList, JumpsStayInStatements, LabelsOf, ListStands, ListsStand, ListsStandInElse, labels_of_list, TypedExpression, TypedTarget, TypedArguments, TypedIteration, TypedStatement, LabelStatement, NullStatement, AssignmentStatement, CallStatement, MoveStatement, ReturnStatement, HaltStatement, GotoStatement, IfStatement, DoStatement, WhileStatement, IterateStatement, CaseStatement, TypedElse, NoElse, ElseStatement, TypedStatements, NoStatements, MoreStatements, TypedList, ListOf, Storage, ExpressionNumber, Home, Place, Iteration, Statement, StatementNumber, AddedList, AddedStatement, known_number, known_value, IsStatement, IsStatementNode, IsStatementForm, IsLabel, IsNull, IsAssignment, IsCall, IsMove, IsReturn, IsHalt, IsGoto, IsIf, IsDo, IsWhile, IsIterate, IsCase, IsElse, IsNoElse, IsSomeElse, AreStatements, AreNoStatements, AreMoreStatements, IsList, IsListOf, ends_by, labels_numbered, labels_numbered_in_else, labels_numbered_in_list, labels_numbered_in_statements, numbers_from, reaches_end, reaches_end_of_else, reaches_end_of_list, reaches_end_of_statements, Nodes, KeepTraits, height_at, known_at, number_at, Holds, Items, Walk, assigned_in, call_in, either_ends, else_in, height_of_move, items_after, items_in, iteration_in, label_in, list_in, moved_in, noted, number_of_added, numbered, optional_in, put_case, put_do, put_if, put_iterate, put_list, put_statement, put_while, returned_in, statement_in, targets_in, value_in}
+use Rattle.treecode.proofs.Prelude.{◌≡◌, ℕ, suc, ◌+◌, ◌<◌, min, max, Bool, true, false, ◌||◌, List, [], ◌∷◌, ◌++◌, length, Option, Some, None, slice_get, unwrap_or, refl, sym, ap, ◌∙◌, subst, arith, Any, append_assoc, append-nil, height_of, height_of_else, height_of_iteration, height_of_list, height_of_optional, height_of_statement, height_of_statements, height_of_targets, IsAmongLabels, JumpsStay, JumpsStayInElse, JumpsStayInList, JumpsStayInStatements, LabelsOf, ListStands, ListsStand, ListsStandInElse, labels_of_list, TypedExpression, TypedTarget, TypedArguments, TypedIteration, TypedStatement, LabelStatement, NullStatement, AssignmentStatement, CallStatement, MoveStatement, ReturnStatement, HaltStatement, GotoStatement, IfStatement, DoStatement, WhileStatement, IterateStatement, CaseStatement, TypedElse, NoElse, ElseStatement, TypedStatements, NoStatements, MoreStatements, TypedList, ListOf, Storage, ExpressionNumber, Home, Place, Iteration, Statement, StatementNumber, AddedList, AddedStatement, known_number, known_value, IsStatement, IsStatementNode, IsStatementForm, IsLabel, IsNull, IsAssignment, IsCall, IsMove, IsReturn, IsHalt, IsGoto, IsIf, IsDo, IsWhile, IsIterate, IsCase, IsElse, IsNoElse, IsSomeElse, AreStatements, AreNoStatements, AreMoreStatements, IsList, IsListOf, ends_by, labels_numbered, labels_numbered_in_else, labels_numbered_in_list, labels_numbered_in_statements, numbers_from, reaches_end, reaches_end_of_else, reaches_end_of_list, reaches_end_of_statements, Nodes, KeepTraits, height_at, known_at, number_at, Holds, Items, Walk, assigned_in, call_in, either_ends, else_in, height_of_move, items_after, items_in, iteration_in, label_in, list_in, moved_in, noted, number_of_added, numbered, optional_in, put_case, put_do, put_if, put_iterate, put_list, put_statement, put_while, returned_in, statement_in, targets_in, value_in, got_first}
 use Rattle.treecode.specs.declared.statement.Statement.TheVariants as statements
-use Rattle.treecode.proofs.AddedExpressions.{AreSound, AsExpression, Leads, found_after, last_found, leads_nowhere, leads_on, one_more, sound_after}
+use Rattle.treecode.proofs.AddedExpressions.{AreSound, AsExpression, Leads, found_after, leads_nowhere, leads_on, one_more, sound_after}
 use Rattle.treecode.proofs.AddedValues.{AsIteration, AsOptional, AsTargets, Noted, Steps, call_added, iteration_added, optional_added, same_steps, steps_nowhere, steps_on, targets_added, value_added}
 use Rattle.treecode.proofs.Grown.{expression_in_stays, holds_with_more, iteration_stays, statement_form_stays, statement_stays}
 use Rattle.treecode.proofs.KeptValues.{height_kept, known_kept}
 use Rattle.treecode.proofs.LabelNumbers.{AreNumbered, HasNumber, Knows, LabelIsAround, StandAround, cases_stand, knows_after, knows_list, labels_numbered_from, labels_stand, no_label_around}
+use Rattle.treecode.proofs.Maxima.{nothing_higher, two_heights}
 
 -- the numbers of labels that are known stay known
 knows_steps : {walk after : Walk} {height : ℕ} {known : List ℕ} {around : List LabelsOf} → Steps walk after height
@@ -60,13 +61,6 @@ move_height start before count source destination one two three e f g h =
     four_more start before (max (max one two) three) (max (max count source) destination) e
     (higher_two (max one two) three (max count source) destination (higher_two one two count source f g) h)
     ∙ ap (λ (height : ℕ). max start (min (4 + height) 65535)) (grouped_max count source destination)
-
-nothing_higher : (start : ℕ) → start ≡ max start (min 0 65535)
-nothing_higher start = omega arith
-
-two_heights : (start one two middle last : ℕ) → middle ≡ max start (min one 65535)
-    → last ≡ max middle (min two 65535) → last ≡ max start (min (max one two) 65535)
-two_heights start one two middle last e f = omega arith
 
 three_heights : (start one two three middle other last : ℕ) → middle ≡ max start (min one 65535)
     → other ≡ max middle (min two 65535) → last ≡ max other (min three 65535)
@@ -147,7 +141,7 @@ module _ (storage : Storage) where
     knows = knows;
     height = height;
     ends = ends_so;
-    is = λ total holds. IsStatementNode below (last_found xs statement)
+    is = λ total holds. IsStatementNode below (got_first xs statement [])
         (statement_form_stays now.nodes after storage put.grows total (length xs) (omega arith) (form total holds));
   }
     where

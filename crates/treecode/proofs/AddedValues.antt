@@ -4,6 +4,7 @@ use Rattle.typed_trees.specs.Charge.{height_of_arguments}
 use Rattle.treecode.proofs.AddedExpressions.{Added, AreSound, AsArguments, AsExpression, AsTarget, Leads, arguments_added, expression_added, found_after, leads_nowhere, leads_on, sound_after, target_added}
 use Rattle.treecode.proofs.Grown.{expression_in_stays, holds_with_more, target_stays}
 use Rattle.treecode.proofs.KeptValues.{form_height, height_kept, target_height}
+use Rattle.treecode.proofs.Maxima.{nothing_higher, two_heights}
 
 -- nodes are added, and a height is noted
 pub record Steps (walk after : Walk) (level : ℕ) : Type 0 where
@@ -12,25 +13,18 @@ pub record Steps (walk after : Walk) (level : ℕ) : Type 0 where
   pub count : after.label_count ≡ walk.label_count
   pub height : after.height ≡ max walk.height (min level 65535)
 
-highest : (start one two middle last : ℕ) → middle ≡ max start (min one 65535) → last ≡ max middle (min two 65535)
-    → last ≡ max start (min (max one two) 65535)
-highest start one two middle last e f = omega arith
-
 pub steps_on : {walk middle after : Walk} {one two : ℕ} → Steps walk middle one → Steps middle after two
     → Steps walk after (max one two)
 steps_on {walk = walk} {middle = middle} {after = after} {one = one} {two = two} first second = record {
   leads = leads_on first.leads second.leads;
   labels = second.labels ∙ first.labels;
   count = second.count ∙ first.count;
-  height = highest walk.height one two middle.height after.height first.height second.height;
+  height = two_heights walk.height one two middle.height after.height first.height second.height;
 }
-
-no_height : (start : ℕ) → start ≡ max start (min 0 65535)
-no_height start = omega arith
 
 pub steps_nowhere : (walk : Walk) → AreSound walk.nodes → Steps walk walk 0
 steps_nowhere walk sound =
-    record { leads = leads_nowhere walk.nodes sound; labels = refl; count = refl; height = no_height walk.height }
+    record { leads = leads_nowhere walk.nodes sound; labels = refl; count = refl; height = nothing_higher walk.height }
 
 -- one height is another
 pub same_steps : {walk after : Walk} {one two : ℕ} → one ≡ two → Steps walk after one → Steps walk after two

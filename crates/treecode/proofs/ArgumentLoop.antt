@@ -1,7 +1,6 @@
 -- The arguments of a call, one by one.
-use Rattle.treecode.proofs.Prelude.{◌≡◌, ℕ, ◌+◌, ◌<◌, ◌≤◌, List, [], ◌∷◌, ◌++◌, length, drop, get_or, ap, sym, ◌∙◌, append_assoc, append-nil, arguments_view, expression_view, Storage, ExpressionNumber, Nodes, expression_in, numbers_in, with_both, with_item}
+use Rattle.treecode.proofs.Prelude.{◌≡◌, ℕ, ◌+◌, ◌<◌, ◌≤◌, List, [], ◌∷◌, ◌++◌, length, drop, get_or, ap, sym, ◌∙◌, append_assoc, append-nil, arguments_view, expression_view, Storage, ExpressionNumber, Nodes, expression_in, numbers_in, with_both, with_item, drop_item, at_drop_all}
 use Rattle.typed_trees.specs.declared.expression.TypedExpression.{TypedExpression}
-use Rattle.treecode.proofs.Items.{at_item, at_end}
 
 -- numbers after others
 abbrev pub after_numbers : List ExpressionNumber → List ExpressionNumber → List ExpressionNumber
@@ -23,7 +22,7 @@ module _ (storage : Storage) (nodes : Nodes) (numbers : List ExpressionNumber)
       ∙ sym (ap (λ (made : Nodes × ExpressionNumber). with_item (after_numbers numbers)
       (with_both (λ one more. one ∷ more) made
       (λ (given : Nodes). numbers_in storage given (arguments_view (drop (i + 1) arguments))))) given)
-      ∙ sym (at_item (λ all. with_item (after_numbers numbers) (numbers_in storage nodes (arguments_view all)))
+      ∙ sym (drop_item (λ all. with_item (after_numbers numbers) (numbers_in storage nodes (arguments_view all)))
       arguments i argument within is)
       ∙ rest
     where
@@ -33,6 +32,6 @@ module _ (storage : Storage) (nodes : Nodes) (numbers : List ExpressionNumber)
   pub arguments_all_added : length arguments ≤ i → (nodes, numbers) ≡ total
   arguments_all_added past =
       ap (λ (all : List ExpressionNumber). (nodes, all)) (sym (append-nil numbers))
-      ∙ sym (at_end (λ all. with_item (after_numbers numbers) (numbers_in storage nodes (arguments_view all)))
+      ∙ sym (at_drop_all (λ all. with_item (after_numbers numbers) (numbers_in storage nodes (arguments_view all)))
       arguments i past)
       ∙ rest

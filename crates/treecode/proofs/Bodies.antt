@@ -1,18 +1,10 @@
 -- The bodies of procedures represent their trees.
-use Rattle.treecode.proofs.Prelude.{◌≡◌, ◌⊎◌, ℕ, zero, suc, ◌+◌, ◌<◌, ◌≤◌, min, max, true, List, [], ◌∷◌, length, map, set, get_or, Option, Some, None, option_map, slice_get, inl, inr, refl, sym, ap, ◌∙◌, subst, arith, slice_set, option_map_or, get_or_from_slice_get, slice_get-get_or, slice_get-map, slice_get_within, Procedure, procedure_view, height_of_list, BodyIsSound, TypedProcedure, Storage, Home, TreeProcedure, AddedList, parameters_of, HasBody, labels_numbered_in_list, reaches_end_of_list, Nodes, Outside, AreComplete, BodiesAreSound, HasHeading, IsBody, MainIsComplete, SameHeading, completed, with_body, AreSound, Leads, Walk, begun, list_in}
+use Rattle.treecode.proofs.Prelude.{◌≡◌, ◌⊎◌, ℕ, zero, suc, ◌+◌, ◌<◌, ◌≤◌, min, max, true, List, [], ◌∷◌, length, map, set, get_or, Option, Some, None, option_map, slice_get, inl, inr, refl, sym, ap, ◌∙◌, subst, arith, slice_set, option_map_or, get_or_from_slice_get, slice_get-get_or, slice_get-map, slice_get_within, Procedure, procedure_view, height_of_list, BodyIsSound, TypedProcedure, Storage, Home, TreeProcedure, AddedList, parameters_of, HasBody, labels_numbered_in_list, reaches_end_of_list, Nodes, Outside, AreComplete, BodiesAreSound, HasHeading, IsBody, MainIsComplete, SameHeading, completed, with_body, AreSound, Leads, Walk, begun, list_in, length-set, same_Some}
 use Rattle.treecode.specs.declared.procedures.Body.{Body}
 use Rattle.treecode.proofs.AddedExpressions.{leads_nowhere, leads_on}
 use Rattle.treecode.proofs.AddedStatements.{ListIs, list_added}
 use Rattle.treecode.proofs.Grown.{list_stays, nothing_found}
 use Rattle.treecode.proofs.LabelNumbers.{Knows}
-
-or_else : {A : Type 0} → A → Option A → A
-or_else other None = other
-or_else other (Some x) = x
-
-some_same : {A : Type 0} {x y : A} → Some x ≡ Some y → x ≡ y
-unfolding or_else
-some_same {x = x} e = ap (λ one. or_else x one) e
 
 from_none : (count height : ℕ) → count ≡ max 0 (min height 65535) → count ≡ min height 65535
 from_none count height e = omega arith
@@ -86,16 +78,11 @@ module _ (storage : Storage) where
 set_found : {A : Type 0} (xs : List A) (index other : ℕ) (y z : A) → slice_get (set xs index y) other ≡ Some z
     → ((other ≡ index) × (y ≡ z)) ⊎ (slice_get xs other ≡ Some z)
 set_found [] index other y z e = inr e
-set_found (x ∷ xs) zero zero y z e = inl (refl, some_same e)
+set_found (x ∷ xs) zero zero y z e = inl (refl, same_Some _ _ e)
 set_found (x ∷ xs) zero (suc other) y z e = inr e
 set_found (x ∷ xs) (suc index) zero y z e = inr e
 set_found (x ∷ xs) (suc index) (suc other) y z e =
     elim (set_found xs index other y z e) [ inl is ↦ inl (ap suc is.0, is.1) | inr found ↦ inr found ]
-
-set_length : {A : Type 0} (xs : List A) (index : ℕ) (y : A) → length (set xs index y) ≡ length xs
-set_length [] index y = refl
-set_length (x ∷ xs) zero y = refl
-set_length (x ∷ xs) (suc index) y = ap suc (set_length xs index y)
 
 below_or_at : (number count : ℕ) → number < count + 1 → (number ≡ count) ⊎ (number < count)
 below_or_at zero zero below = inl refl
@@ -135,7 +122,7 @@ module _ (storage : Storage) (first now after : Walk) (before middle : Outside) 
         leads = leads_on done.leads leads;
         others = ap (λ (one : Outside). record one { procedures = set middle.procedures count (completed procedure body) })
             done.others;
-        count = set_length middle.procedures count (completed procedure body) ∙ done.count;
+        count = length-set middle.procedures count (completed procedure body) ∙ done.count;
         headed = λ number one given.
             elim (set_found middle.procedures count number (completed procedure body) one given) [
               | inl same ↦ heading_on before.procedures number procedure one
@@ -147,7 +134,7 @@ module _ (storage : Storage) (first now after : Walk) (before middle : Outside) 
         complete = λ number one of below given heading.
             elim (set_found middle.procedures count number (completed procedure body) one given) [
               | inl same ↦ own one of same.1
-                  (some_same (sym at ∙ ap (λ (index : ℕ). slice_get headings index) (sym same.0) ∙ heading))
+                  (same_Some _ _ (sym at ∙ ap (λ (index : ℕ). slice_get headings index) (sym same.0) ∙ heading))
               | inr other ↦ elim (below_or_at number count below) [
                 | inl same ↦ own_again number one of same heading given
                 | inr less ↦ body_stays storage now.nodes after.nodes one of leads
@@ -175,10 +162,10 @@ module _ (storage : Storage) (first now after : Walk) (before middle : Outside) 
           → HasBody after.nodes storage one of
       own_again number one of same heading given =
           own one of
-          (some_same (sym (found_set middle.procedures count procedure (completed procedure body) found)
+          (same_Some _ _ (sym (found_set middle.procedures count procedure (completed procedure body) found)
           ∙ ap (λ (index : ℕ). slice_get (set middle.procedures count (completed procedure body)) index) (sym same)
           ∙ given))
-          (some_same (sym at ∙ ap (λ (index : ℕ). slice_get headings index) (sym same) ∙ heading))
+          (same_Some _ _ (sym at ∙ ap (λ (index : ℕ). slice_get headings index) (sym same) ∙ heading))
 
   -- without such a procedure
   pub none_more_complete : slice_get middle.procedures count ≡ None

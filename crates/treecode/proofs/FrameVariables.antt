@@ -1,10 +1,5 @@
 -- A variable that is added to the frame of a procedure.
-use Rattle.treecode.proofs.Prelude.{◌≡◌, ℕ, ◌<◌, ◌≤◌, List, length, map, get_or, min, Option, Some, Result, Ok, Err, IfOk, option_map, slice_get, slice_set, sym, ap, ◌∙◌, option_map_or, map-set, slice_get-get_or, slice_get-map, slice_get_past, FrameVariable, TreeProcedure, Heading, heading_of, variable_number, with_variable, with_variable_in}
-
-pub if_ok_then : {T E : Type 0} (P Q : T → Type 0) (result : Result T E) → ((value : T) → P value → Q value)
-    → IfOk result P → IfOk result Q
-if_ok_then P Q (Ok value) onward given = onward value given
-if_ok_then P Q (Err fault) onward given = given
+use Rattle.treecode.proofs.Prelude.{◌≡◌, ℕ, ◌<◌, ◌≤◌, List, length, map, get_or, min, Option, Some, option_map, slice_get, slice_set, sym, ap, ◌∙◌, option_map_or, map-set, slice_get-get_or, slice_get-map, slice_get_past, FrameVariable, TreeProcedure, Heading, heading_of, variable_number, with_variable, with_variable_in}
 
 module _ (all : List TreeProcedure) (number : ℕ) where
   heading_found : (old : TreeProcedure) → number < length all → old ≡ get_or all number old

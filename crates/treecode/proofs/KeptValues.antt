@@ -10,7 +10,7 @@ node_traits nodes number expression keeps at =
     ap (λ (found : Option Expression). option_map_or (λ (e : Expression). e.traits) found no_traits) at
     ∙ keeps number expression at
 
-known_of_node : (nodes : Nodes) (number : ℕ) (expression : Expression) → KeepTraits nodes
+pub known_of_node : (nodes : Nodes) (number : ℕ) (expression : Expression) → KeepTraits nodes
     → slice_get nodes.expressions number ≡ Some expression
     → known_at nodes (record { index = number }) ≡ known_of nodes expression.traits.scalar expression.form
 unfolding traits_of

@@ -1,5 +1,5 @@
 -- The meaning of an expression with a known value: that value, without a change of the state.
-use Rattle.treecode.proofs.Prelude.{◌≡◌, ℕ, ◌+◌, ◌-◌, ◌*◌, ◌%◌, ◌<◌, ◌&&◌, List, Option, Some, None, option_map, refl, sym, ap, ◌∙◌, arith, length, option_and_then, mul-mod_second, ScalarType, Byte, Address, BinaryOperator, UnaryOperator, ShiftFunction, UnaryFunction, Low, High, Double, type_of, type_of_function, type_of_result, TypedExpression, NumberNode, ValueNode, LocationNode, ListNode, ConversionNode, AssignmentNode, UnaryNode, BinaryNode, CallNode, FunctionNode, ShiftNode, InputNode, TypedReference, PartOf, Subscript, NoSubscript, At, Storage, Surroundings, home_of, Displacement, Later, address_in_memory, based_place, computed, displaced, displacement, located, no_displacement, value, State, Outcome, Gave, then_do, as_type, function_of, result_of, result_of_one, shifted, Home, Place, Number, Code, Data, External, place_after, converted_place, function_of_place, known_distance, known_number, known_place, known_subscript, known_value, place_of_part, result_of_known, shift_of_known, home_at}
+use Rattle.treecode.proofs.Prelude.{◌≡◌, ℕ, ◌+◌, ◌-◌, ◌%◌, ◌<◌, ◌&&◌, List, Option, Some, None, option_map, refl, sym, ap, ◌∙◌, arith, length, option_and_then, mul-mod_second, ScalarType, Byte, Address, BinaryOperator, UnaryOperator, ShiftFunction, UnaryFunction, Low, High, Double, type_of, type_of_function, type_of_result, TypedExpression, NumberNode, ValueNode, LocationNode, ListNode, ConversionNode, AssignmentNode, UnaryNode, BinaryNode, CallNode, FunctionNode, ShiftNode, InputNode, TypedReference, PartOf, Subscript, NoSubscript, At, Storage, Surroundings, home_of, Displacement, Later, address_in_memory, based_place, computed, displaced, displacement, located, no_displacement, value, State, Outcome, Gave, then_do, as_type, function_of, result_of, result_of_one, shifted, Home, Place, Number, Code, Data, External, place_after, converted_place, function_of_place, known_distance, known_number, known_place, known_subscript, known_value, place_of_part, result_of_known, shift_of_known, home_at, mul_comm, sum_turned}
 use Rattle.trees.specs.declared.expression.BinaryOperator.TheVariants as operators
 use Rattle.treecode.specs.declared.place.Home.TheVariants as homes
 use Rattle.treecode.specs.Resolved.{Resolves, HaveOperands, SubscriptHasOperands, PartHasOperands}
@@ -179,10 +179,7 @@ module _ (around : Surroundings) (starts : List Home) (storage : Storage) (addre
   sum_before operands place d is_address =
       ap (λ of. result_of of operators.Add (address (Number d)) (address place)) is_address
       ∙ ap (λ k. Some ((k + address place) % 65536)) (resolves.number d)
-      ∙ ap Some (turned (address place) d ∙ sym (resolves.after place d))
-    where
-      turned : (a b : ℕ) → (b + a) % 65536 ≡ (a + b) % 65536
-      turned a b = omega arith
+      ∙ ap Some (sum_turned (address place) d ∙ sym (resolves.after place d))
 
   difference_after : (operands : ScalarType) (place : Place) (d : ℕ) → operands ≡ Address
       → result_of operands operators.Subtract (address place) (address (Number d))
@@ -269,15 +266,12 @@ module _ (around : Surroundings) (starts : List Home) (storage : Storage) (addre
   tells_index stride of (Some (External o n)) outcome count told = tt
   tells_index stride of (Some (Number n)) outcome count told = (
     displaced stride count n,
-    ap (λ k. k % 65536) (commuted stride n)
+    ap (λ k. k % 65536) (mul_comm stride n)
         ∙ sym (mul-mod_second n stride 65536),
     (λ (s : State). ap (λ (given : Outcome ℕ). then_do given (λ number t. Gave
         (displaced stride count number) t)) (told.0 s)
         ∙ ap (λ (number : ℕ). Gave (displaced stride count number) s) (resolves.number n)),
   )
-    where
-      commuted : (a b : ℕ) → a * b ≡ b * a
-      commuted a b = grind (arith)
 
   tells_location : (later : Later) (object offset : ℕ) (home : Home) (subscript member_subscript : Subscript)
       (first second : Option ℕ) → home_at starts object ≡ home

@@ -1,6 +1,6 @@
 -- The numbers that the labels of a body get; each label in the body has one.
-use Rattle.treecode.proofs.Prelude.{◌≡◌, ◌⊎◌, ℕ, zero, suc, ◌+◌, ◌<◌, ◌≤◌, List, [], ◌∷◌, ◌++◌, length, Option, Some, slice_get, slice_index_or, inl, inr, refl, sym, ap, ◌∙◌, subst, arith, Any, append_assoc, append-nil, LabelsOf, IsAmongLabels, LabelsStand, IsNoLabel, ListsStand, ListsStandInStatements, ListsStandInCases, labels_of_list, TypedStatement, LabelStatement, TypedStatements, NoStatements, MoreStatements, numbers_from, number_in, with_number, Walk, numbered, with_label}
-use Rattle.treecode.proofs.AddedExpressions.{last_found, one_more}
+use Rattle.treecode.proofs.Prelude.{◌≡◌, ◌⊎◌, ℕ, zero, suc, ◌+◌, ◌<◌, ◌≤◌, List, [], ◌∷◌, ◌++◌, length, Option, Some, slice_get, slice_index_or, inl, inr, refl, sym, ap, ◌∙◌, subst, arith, Any, append_assoc, append-nil, LabelsOf, IsAmongLabels, LabelsStand, IsNoLabel, ListsStand, ListsStandInStatements, ListsStandInCases, labels_of_list, TypedStatement, LabelStatement, TypedStatements, NoStatements, MoreStatements, numbers_from, number_in, with_number, Walk, numbered, with_label, any_later, got_first}
+use Rattle.treecode.proofs.AddedExpressions.{one_more}
 use Rattle.treecode.proofs.Grown.{holds_with_more}
 
 -- the number for an index in a table with one more
@@ -36,7 +36,7 @@ own_label : (labels : List (Option ℕ)) (known : List ℕ) (first count label :
 own_label labels known first count label counted e = record {
   number = count;
   is = ap (λ (one : ℕ). number_in (with_number labels first count) one) (sym e) ∙ same_number labels first count;
-  at = ap (λ (one : ℕ). slice_get (known ++ first ∷ []) one) counted ∙ last_found known first ∙ ap Some e;
+  at = ap (λ (one : ℕ). slice_get (known ++ first ∷ []) one) counted ∙ got_first known first [] ∙ ap Some e;
 }
 
 -- one more label
@@ -54,7 +54,7 @@ one_label labels known first count label counted (inr has) =
       }
     ]
 
-at_or_after : (first label : ℕ) → first ≤ label → (first ≡ label) ⊎ (suc first ≤ label)
+pub at_or_after : (first label : ℕ) → first ≤ label → (first ≡ label) ⊎ (suc first ≤ label)
 at_or_after zero zero within = inl refl
 at_or_after zero (suc label) within = inr (omega arith)
 at_or_after (suc first) zero within = absurd (omega arith)
@@ -120,9 +120,6 @@ first_or_later {P = P} first others any = by_index any.0 any.1 any.2 any.3 any.4
     by_index zero x below is holds = inl (subst P (sym is) holds)
     by_index (suc index) x below is holds = inr (index, x, omega arith, is, holds)
 
-pub later : {A : Type 0} {P : A → Type 0} (first : A) (others : List A) → Any P others → Any P (first ∷ others)
-later first others any = (suc any.0, any.1, omega arith, any.3, any.4)
-
 -- the labels of the lists around have numbers
 pub record Knows (labels : List (Option ℕ)) (count : ℕ) (known : List ℕ) (around : List LabelsOf) : Type 0 where
   pub counted : count ≡ length known
@@ -151,7 +148,7 @@ pub knows_after : (labels : List (Option ℕ)) (count : ℕ) (known : List ℕ) 
     → Knows labels count known (first ∷ around) → Knows labels count known around
 knows_after labels count known first around knows = record {
   counted = knows.counted;
-  found = λ label any. knows.found label (later first around any);
+  found = λ label any. knows.found label (any_later first around any);
 }
 
 -- a label statement has a label of one of the lists around

@@ -1,4 +1,5 @@
 mod Prelude
+pub mod Maxima
 pub mod HighestArguments
 pub mod SameTraits
 pub mod SameMemory
@@ -7,7 +8,6 @@ pub mod Grown
 pub mod KeptValues
 pub mod KnownMeans
 pub mod AddedExpressions
-pub mod Items
 pub mod PutNodes
 pub mod ArgumentLoop
 pub mod LabelNumbers

@@ -1,11 +1,5 @@
 -- A number that is put into a table.
-use Rattle.treecode.proofs.Prelude.{◌≡◌, ℕ, zero, suc, ◌+◌, ◌-◌, ◌≤◌, List, [], ◌∷◌, ◌++◌, length, replicate, take, Option, Some, None, slice_set, refl, ap, ◌∙◌, arith, append-nil, reaching, with_number}
-
-take_all : {A : Type 0} (xs : List A) (count : ℕ) → length xs ≤ count → take count xs ≡ xs
-take_all [] zero within = refl
-take_all [] (suc count) within = refl
-take_all (x ∷ xs) zero within = absurd (omega arith)
-take_all (x ∷ xs) (suc count) within = ap (λ more. x ∷ more) (take_all xs count (omega arith))
+use Rattle.treecode.proofs.Prelude.{◌≡◌, ℕ, zero, suc, ◌+◌, ◌-◌, ◌≤◌, List, [], ◌∷◌, ◌++◌, length, replicate, take, Option, Some, None, slice_set, refl, ap, ◌∙◌, arith, append-nil, reaching, with_number, take_whole}
 
 pub reached : (entries now : List (Option ℕ)) (index count : ℕ) → count ≡ length entries → count ≤ index
     → now ≡ take (index + 1) entries ++ replicate (index + 1 - count) None
@@ -13,7 +7,7 @@ pub reached : (entries now : List (Option ℕ)) (index count : ℕ) → count �
 reached entries now index count counted past is =
     is
     ∙ ap (λ (front : List (Option ℕ)). front ++ replicate (index + 1 - count) None)
-    (take_all entries (index + 1) (up count (length entries) counted past))
+    (take_whole entries (index + 1) (up count (length entries) counted past))
     ∙ ap (λ (gap : ℕ). entries ++ replicate gap None) (same_gap count (length entries) counted)
   where
     up : (count total : ℕ) → count ≡ total → count ≤ index → total ≤ index + 1

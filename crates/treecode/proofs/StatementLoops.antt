@@ -1,7 +1,6 @@
 -- Targets and statements in a row, one by one.
-use Rattle.treecode.proofs.Prelude.{◌≡◌, ℕ, ◌+◌, ◌<◌, ◌≤◌, Bool, List, [], ◌∷◌, ◌++◌, length, map, drop, get_or, ap, sym, ◌∙◌, append_assoc, append-nil, statement_view, statements_view, target_view, Storage, Target, StatementNumber, AddedStatement, target_in, with_both, with_item, Items, Walk, goal_with, goals_in, items_after, items_in, statement_in}
+use Rattle.treecode.proofs.Prelude.{◌≡◌, ℕ, ◌+◌, ◌<◌, ◌≤◌, Bool, List, [], ◌∷◌, ◌++◌, length, map, drop, get_or, ap, sym, ◌∙◌, append_assoc, append-nil, statement_view, statements_view, target_view, Storage, Target, StatementNumber, AddedStatement, target_in, with_both, with_item, Items, Walk, goal_with, goals_in, items_after, items_in, statement_in, drop_item, at_drop_all}
 use Rattle.typed_trees.specs.{declared.expression.TypedTarget.{TypedTarget}, declared.statement.TypedStatement.{TypedStatement}}
-use Rattle.treecode.proofs.Items.{at_item, at_end}
 
 -- targets after others
 abbrev pub after_targets : List Target → List Target → List Target
@@ -21,7 +20,7 @@ module _ (storage : Storage) (walk : Walk) (added : List Target) (total : Walk �
       ∙ sym (ap (λ (made : Walk × Target). with_item (after_targets added)
       (with_both (λ first more. first ∷ more) made
       (λ (given : Walk). goals_in storage given (map target_view (drop (i + 1) targets))))) given)
-      ∙ sym (at_item (λ all. with_item (after_targets added) (goals_in storage walk (map target_view all)))
+      ∙ sym (drop_item (λ all. with_item (after_targets added) (goals_in storage walk (map target_view all)))
       targets i target within is)
       ∙ rest
     where
@@ -31,7 +30,7 @@ module _ (storage : Storage) (walk : Walk) (added : List Target) (total : Walk �
   pub goals_all_added : length targets ≤ i → (walk, added) ≡ total
   goals_all_added past =
       ap (λ (all : List Target). (walk, all)) (sym (append-nil added))
-      ∙ sym (at_end (λ all. with_item (after_targets added) (goals_in storage walk (map target_view all)))
+      ∙ sym (at_drop_all (λ all. with_item (after_targets added) (goals_in storage walk (map target_view all)))
       targets i past)
       ∙ rest
 
@@ -52,7 +51,7 @@ module _ (storage : Storage) (walk : Walk) (ends : Bool) (numbers : List Stateme
       ∙ sym (ap (λ (made : Walk × AddedStatement). with_item (items_after numbers)
       (with_item (items_after ((made.1).number ∷ []))
       (items_in storage made.0 (made.1).reaches_its_end (statements_view (drop (i + 1) statements))))) given)
-      ∙ sym (at_item (λ all. with_item (items_after numbers) (items_in storage walk ends (statements_view all)))
+      ∙ sym (drop_item (λ all. with_item (items_after numbers) (items_in storage walk ends (statements_view all)))
       statements i statement within is)
       ∙ rest
     where
@@ -63,6 +62,6 @@ module _ (storage : Storage) (walk : Walk) (ends : Bool) (numbers : List Stateme
   items_all_added past =
       ap (λ (all : List StatementNumber). (walk, record { numbers = all; reaches_its_end = ends }))
       (sym (append-nil numbers))
-      ∙ sym (at_end (λ all. with_item (items_after numbers) (items_in storage walk ends (statements_view all)))
+      ∙ sym (at_drop_all (λ all. with_item (items_after numbers) (items_in storage walk ends (statements_view all)))
       statements i past)
       ∙ rest

@@ -1,30 +1,15 @@
 -- The traits of nodes follow from their parts, and their numbers rise, when an expression is added with its
 -- own traits.
-use Rattle.treecode.proofs.Prelude.{◌≡◌, ◌⊎◌, ℕ, zero, suc, ◌<◌, ◌≤◌, List, [], ◌∷◌, ◌++◌, length, Option, Some, None, slice_get, inl, inr, refl, sym, ap, ◌∙◌, subst, arith, slice_get_within, ScalarType, Expression, ExpressionForm, ExpressionNumber, Nodes, KeepTraits, expression_of, traits_of, PartsAreBelow, NumbersRise}
+use Rattle.treecode.proofs.Prelude.{◌≡◌, ◌⊎◌, ℕ, zero, suc, ◌<◌, ◌≤◌, List, [], ◌∷◌, ◌++◌, length, Some, slice_get, inl, inr, refl, sym, ap, ◌∙◌, subst, arith, slice_get_within, ScalarType, Expression, ExpressionForm, ExpressionNumber, Nodes, KeepTraits, expression_of, traits_of, PartsAreBelow, NumbersRise, got_before, same_Some}
 use Rattle.treecode.specs.declared.expression.ExpressionForm.TheVariants as forms
 use Rattle.treecode.proofs.Grown.{nothing_found}
 use Rattle.treecode.proofs.SameMemory.{all_same, parts_up}
-
--- below its length, a list with more after it is the same
-pub same_before : {A : Type 0} (xs ys : List A) (index : ℕ) → index < length xs
-    → slice_get (xs ++ ys) index ≡ slice_get xs index
-same_before [] ys index below = absurd (omega arith)
-same_before (first ∷ xs) ys zero below = refl
-same_before (first ∷ xs) ys (suc index) below = same_before xs ys index (omega arith)
-
-or_else : {A : Type 0} → A → Option A → A
-or_else other None = other
-or_else other (Some x) = x
-
-same_found : {A : Type 0} {a b : A} → Some a ≡ Some b → a ≡ b
-unfolding or_else
-same_found {a = a} e = ap (λ one. or_else a one) e
 
 -- an item of a list with one more is in the list, or is the last one
 pub found_or_last : {A : Type 0} (xs : List A) (last x : A) (index : ℕ)
     → slice_get (xs ++ last ∷ []) index ≡ Some x
     → (slice_get xs index ≡ Some x) ⊎ ((index ≡ length xs) × (last ≡ x))
-found_or_last [] last x zero e = inr (refl, same_found e)
+found_or_last [] last x zero e = inr (refl, same_Some _ _ e)
 found_or_last [] last x (suc index) e = absurd (nothing_found e)
 found_or_last (first ∷ xs) last x zero e = inl e
 found_or_last (first ∷ xs) last x (suc index) e =
@@ -52,7 +37,7 @@ module _ (nodes : Nodes) (scalar : ScalarType) (form : ExpressionForm) (rises : 
       → traits_of (with_expression nodes (expression_of nodes scalar form)) of one ≡ traits_of nodes of one
   same_after of one parts =
       all_same nodes (with_expression nodes (expression_of nodes scalar form)) (length nodes.expressions) refl
-      (λ (number : ℕ) less. same_before nodes.expressions (expression_of nodes scalar form ∷ []) number less)
+      (λ (number : ℕ) less. got_before nodes.expressions (expression_of nodes scalar form ∷ []) number less)
       (λ (index : ℕ) (number : ExpressionNumber) e. e) rises of one parts
 
   pub traits_kept : KeepTraits nodes → KeepTraits (with_expression nodes (expression_of nodes scalar form))

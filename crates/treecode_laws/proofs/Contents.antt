@@ -198,12 +198,12 @@ constants_keep typed starts (item ∷ others) before keep =
     (constants_keep typed starts others (with_constant typed starts item before) keep)
 
 -- values have the same size in both forms
-same_size : (value : InitialValue) → bytes_of_value value ≡ size_of_value value
+pub same_size : (value : InitialValue) → bytes_of_value value ≡ size_of_value value
 same_size (ByteValue byte) = refl
 same_size (WordValue word) = refl
 same_size (LocationValue object offset) = refl
 
-same_sizes : (values : List InitialValue) → sum_by bytes_of_value values ≡ sum_by size_of_value values
+pub same_sizes : (values : List InitialValue) → sum_by bytes_of_value values ≡ sum_by size_of_value values
 same_sizes [] = refl
 same_sizes (value ∷ values) =
     sum_by-cons bytes_of_value value values

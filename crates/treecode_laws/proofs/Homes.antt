@@ -1,5 +1,5 @@
 -- The home of an object in tree code is its location before the module is placed.
-use Rattle.treecode_laws.proofs.Prelude.{◌≡◌, ℕ, zero, suc, ◌<◌, ◌≤◌, ◌⊎◌, inl, inr, List, [], ◌∷◌, ◌++◌, length, take, Option, Some, None, Ok, refl, ap, sym, subst, ◌∙◌, append-nil, arith, IsSomeAnd, slice_get, unwrap_or, AllByRecursion, enumerate_from, option_map_or, append_assoc, length-append, get_or_past, recursion_from_All, none-some, slice_get_past, unwrap_or-slice_get, AtNumber, AtObject, ListsGlobals, size_of_object, HasPlace, LooksBack, LooksAtPlace, IsStorable, TypedHome, InData, InConstants, Placed, BasedOn, Elsewhere, Nowhere, InFrame, TypedObject, TypedModule, Slot, Location, SegmentStart, Absolute, After, further_on, location_in, location_by_home, locations_after, location_of, Storage, data_bytes, is_object, constants_before, slot_of_object, storage_of, External, Home, Place, static_place, external_number, external_place, externals_of, home_after, home_of_object, homes_from, homes_of, is_global_object, place_after, place_of_slot, home_at, IsLaidOut, location_of_place, IsStatic}
+use Rattle.treecode_laws.proofs.Prelude.{◌≡◌, ℕ, zero, suc, ◌<◌, ◌≤◌, ◌⊎◌, inl, inr, List, [], ◌∷◌, ◌++◌, length, take, Option, Some, None, Ok, refl, ap, sym, subst, ◌∙◌, append-nil, arith, IsSomeAnd, slice_get, unwrap_or, AllByRecursion, enumerate_from, option_map_or, append_assoc, length-append, get_or_past, recursion_from_All, none-some, slice_get_past, unwrap_or-slice_get, AtNumber, AtObject, ListsGlobals, size_of_object, HasPlace, LooksBack, LooksAtPlace, IsStorable, TypedHome, InData, InConstants, Placed, BasedOn, Elsewhere, Nowhere, InFrame, TypedObject, TypedModule, Slot, Location, SegmentStart, Absolute, After, further_on, location_in, location_by_home, locations_after, location_of, Storage, data_bytes, is_object, constants_before, slot_of_object, storage_of, External, Home, Place, static_place, external_number, external_place, externals_of, home_after, home_of_object, homes_from, homes_of, is_global_object, place_after, place_of_slot, home_at, IsLaidOut, location_of_place, IsStatic, got_before, got_first}
 use Rattle.layout.specs.declared.slot.Segment.TheVariants as segments
 use Rattle.layout.specs.Segments.{ExternalName}
 use Rattle.treecode.specs.declared.place.Home.TheVariants as homes
@@ -72,15 +72,6 @@ has_place_is_static Elsewhere has = tt
 has_place_is_static Nowhere has = tt
 has_place_is_static (InFrame procedure) has = absurd has
 
--- an item in front of others
-front :
-    {A : Type 0} (part after : List A) (number : ℕ)
-    → number < length part
-    → slice_get (part ++ after) number ≡ slice_get part number
-front [] after number below = absurd (omega (arith, below))
-front (first ∷ part) after zero below = refl
-front (first ∷ part) after (suc number) below = front part after number (omega (arith, below))
-
 last :
     {A : Type 0} (part : List A) (item : A)
     → slice_get (part ++ (item ∷ [])) (length part) ≡ Some item
@@ -152,7 +143,7 @@ next typed storage before others starts locations object
         let there : LiesAt (externals_of typed) target.home (home_at starts other)
         (location_in locations other) =
         lie.each other target
-        (sym (front before (object ∷ others) other back)
+        (sym (got_before before (object ∷ others) other back)
         ∙ ap (λ (objects : List TypedObject). slice_get objects other) whole ∙ e) in
         let both = after_static (externals_of typed) (home_at starts other)
         (location_in locations other) offset
@@ -192,7 +183,7 @@ home_front :
 home_front starts home number below =
     sym (unwrap_or-slice_get (starts ++ (home ∷ [])) number (homes.Static (places.Number 0)))
     ∙ ap (λ (found : Option Home). unwrap_or found (homes.Static (places.Number 0)))
-    (front starts (home ∷ []) number below)
+    (got_before starts (home ∷ []) number below)
     ∙ unwrap_or-slice_get starts number (homes.Static (places.Number 0))
 
 home_last : (starts : List Home) (home : Home) → home_at (starts ++ (home ∷ [])) (length starts) ≡ home
@@ -232,7 +223,7 @@ lie_more typed before object starts home locations location lies lie = record {
             (subst (λ (got : Option Location).
             LiesAt (externals_of typed) found_object.home (home_at starts number)
             (option_map_or (λ (location : Location). location) got (Absolute 0)))
-            (sym (front locations (location ∷ []) number (omega (arith, there.0, lie.locations_length))))
+            (sym (got_before locations (location ∷ []) number (omega (arith, there.0, lie.locations_length))))
             (lie.each number found_object there.1))
         | inr there ↦
             subst (λ (found_home : Home).
@@ -284,15 +275,9 @@ walk typed storage before (object ∷ others) starts locations laid whole back a
     (location_by_home typed locations n object object.home)) (sym lie.locations_length)
     (next typed storage before others starts locations object object.home laid whole
     (ap (λ (objects : List TypedObject). slice_get objects (length before)) (sym whole)
-    ∙ seam before object others)
+    ∙ got_first before object others)
     refl back.0 at.0 lie)))
     lie)
-  where
-    seam :
-        {A : Type 0} (part : List A) (item : A) (after : List A)
-        → slice_get (part ++ (item ∷ after)) (length part) ≡ Some item
-    seam [] item after = refl
-    seam (first ∷ part) item after = seam part item after
 
 all_lie :
     (typed : TypedModule) (storage : Storage)

@@ -1,9 +1,6 @@
 -- Quiet expressions change nothing, and their values depend only on memory and frame.
-use Rattle.treecode_laws.proofs.Prelude.{◌≡◌, ◌+◌, ◌&&◌, true, false, and_parts, false≢true, TypedExpression, NumberNode, ValueNode, LocationNode, ListNode, ConversionNode, AssignmentNode, UnaryNode, BinaryNode, CallNode, FunctionNode, ShiftNode, InputNode, TypedReference, PartOf, Subscript, NoSubscript, At, Surroundings, home_of, read_scalar, Later, address_in_memory, address_of_list, based_place, computed, displaced, displacement, located, no_displacement, value, State, Gave, then_do, as_type, function_of, result_of, result_of_one, shifted, IsQuiet, is_quiet, part_is_quiet, index_is_quiet}
+use Rattle.treecode_laws.proofs.Prelude.{◌≡◌, ◌+◌, ◌&&◌, true, and_parts, false≢true, TypedExpression, NumberNode, ValueNode, LocationNode, ListNode, ConversionNode, AssignmentNode, UnaryNode, BinaryNode, CallNode, FunctionNode, ShiftNode, InputNode, TypedReference, PartOf, Subscript, NoSubscript, At, Surroundings, home_of, read_scalar, Later, address_in_memory, address_of_list, based_place, computed, displaced, displacement, located, no_displacement, value, State, Gave, then_do, as_type, function_of, result_of, result_of_one, shifted, IsQuiet, is_quiet, part_is_quiet, index_is_quiet}
 use Rattle.treecode_laws.proofs.Evaluating.{quiet_base, quiet_computed, quiet_gave, quiet_scalar, quiet_then}
-
-pub false_is_true : {A : Type 0} → false ≡ true → A
-false_is_true e = absurd (false≢true e)
 
 module _ (later : Later) (around : Surroundings) where
   mutual
@@ -22,7 +19,7 @@ module _ (later : Later) (around : Surroundings) where
     quiet_value (ConversionNode scalar inner) quiet =
         quiet_then (λ s. value later around inner s) (λ number t. Gave (as_type scalar number) t)
         (quiet_value inner quiet) (λ number. quiet_gave (as_type scalar number))
-    quiet_value (AssignmentNode target inner) quiet = false_is_true quiet
+    quiet_value (AssignmentNode target inner) quiet = absurd (false≢true quiet)
     quiet_value (UnaryNode scalar operator operand) quiet =
         quiet_then (λ s. value later around operand s)
         (λ number t. Gave (result_of_one scalar operator number) t)
@@ -37,7 +34,7 @@ module _ (later : Later) (around : Surroundings) where
         quiet_then (λ t. value later around right t)
         (λ two u. computed (result_of operands operator one two) u)
         (quiet_value right both.1) (λ two. quiet_computed (result_of operands operator one two)))
-    quiet_value (CallNode procedure scalar given) quiet = false_is_true quiet
+    quiet_value (CallNode procedure scalar given) quiet = absurd (false≢true quiet)
     quiet_value (FunctionNode function operand) quiet =
         quiet_then (λ s. value later around operand s) (λ number t. Gave (function_of function number) t)
         (quiet_value operand quiet) (λ number. quiet_gave (function_of function number))
@@ -50,7 +47,7 @@ module _ (later : Later) (around : Surroundings) where
         (λ number.
         quiet_then (λ t. value later around count t) (λ by u. Gave (shifted scalar function number by) u)
         (quiet_value count both.1) (λ by. quiet_gave (shifted scalar function number by)))
-    quiet_value (InputNode port) quiet = false_is_true quiet
+    quiet_value (InputNode port) quiet = absurd (false≢true quiet)
 
     -- the location of a part of an object with quiet subscripts
     pub quiet_location : (reference : TypedReference) → part_is_quiet reference ≡ true

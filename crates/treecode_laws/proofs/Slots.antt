@@ -1,5 +1,5 @@
 -- The slots of the objects of a module in its storage.
-use Rattle.treecode_laws.proofs.Prelude.{◌≡◌, ℕ, zero, suc, ◌+◌, ◌%◌, ◌≤◌, Bool, true, false, cond, List, [], ◌∷◌, map, take, Option, Some, None, Ok, Err, refl, ap, sym, subst, ◌∙◌, arith, nat_le, ◌&&◌, not, slice_get, slice_index_or, sum_by, take_while, unwrap_or, if◌then◌else◌, enumerate_from, list_all, option_map_or, leb-true, sum_by-cons, sum_by-take-le, take_while-cons, none-some, get_or_from_slice_get, ConstantItem, InitialValue, size_of_object, InConstants, TypedObject, TypedModule, size_of_constant, constant_bytes, DataTooLarge, ConstantsTooLarge, Slot, SEGMENT_LIMIT, Storage, bytes_in_data, data_bytes, bytes_in_constants, fits_as_object, fits_as_list, constants_before, is_list, slot_of_object, slot_of_list, storage_of, storage_with, offset_of_list, IsStored}
+use Rattle.treecode_laws.proofs.Prelude.{◌≡◌, ℕ, zero, suc, ◌%◌, ◌≤◌, Bool, true, false, cond, List, [], ◌∷◌, take, Option, Some, None, Ok, Err, refl, ap, sym, subst, ◌∙◌, arith, nat_le, ◌&&◌, not, slice_get, slice_index_or, sum_by, take_while, unwrap_or, if◌then◌else◌, list_all, option_map_or, leb-true, sum_by-cons, sum_by-take-le, take_while-cons, none-some, get_or_from_slice_get, ConstantItem, InitialValue, size_of_object, InConstants, TypedObject, TypedModule, size_of_constant, constant_bytes, DataTooLarge, ConstantsTooLarge, Slot, SEGMENT_LIMIT, Storage, bytes_in_data, data_bytes, bytes_in_constants, fits_as_object, fits_as_list, constants_before, is_list, slot_of_object, slot_of_list, storage_of, storage_with, offset_of_list, IsStored, and_parts, got_numbered}
 
 pub stored :
     (typed : TypedModule) (storage : Storage) → storage_of typed ≡ Ok storage → IsStored typed storage
@@ -29,22 +29,6 @@ stored typed storage is =
     by true data_is true constants_is false objects_is lists e = absurd (cc)
     by true data_is false constants_is objects objects_is lists e = absurd (cc)
     by false data_is constants constants_is objects objects_is lists e = absurd (cc)
-
--- the value of a function at a numbered item
-got_numbered :
-    {A B : Type 0} (f : ℕ × A → B) (items : List A) (first index number : ℕ) (item : A)
-    → slice_get items index ≡ Some item
-    → number ≡ first + index
-    → slice_get (map f (enumerate_from first items)) index ≡ Some (f (number, item))
-got_numbered f [] first index number item found at = absurd (none-some item found)
-got_numbered f (here ∷ others) first zero number item found at =
-    ap (λ n. Some (f (n, here))) (from at)
-    ∙ ap (λ item. Some (f (number, item))) (ap (λ (found : Option _). unwrap_or found here) found)
-  where
-    from : number ≡ first + 0 → first ≡ number
-    from at = omega (arith, at)
-got_numbered f (here ∷ others) first (suc index) number item found at =
-    got_numbered f others (first + 1) index number item found (omega (arith, at))
 
 -- the slot of an object in the storage
 pub slot_is :
@@ -132,17 +116,9 @@ fits_each [] number object all found = absurd (none-some object found)
 fits_each (first ∷ others) zero object all found =
     subst (λ (object : TypedObject). fits_as_object object ≡ true)
     (ap (λ (found : Option TypedObject). unwrap_or found first) found)
-    (left (fits_as_object first) (list_all fits_as_object others) all)
-  where
-    left : (one other : Bool) → (one && other) ≡ true → one ≡ true
-    left true other e = refl
-    left false other e = e
+    (and_parts (fits_as_object first) (list_all fits_as_object others) all).0
 fits_each (first ∷ others) (suc number) object all found =
-    fits_each others number object (right (fits_as_object first) (list_all fits_as_object others) all) found
-  where
-    right : (one other : Bool) → (one && other) ≡ true → other ≡ true
-    right true other e = e
-    right false other e = absurd (cc)
+    fits_each others number object (and_parts (fits_as_object first) (list_all fits_as_object others) all).1 found
 
 pub constant_small :
     (typed : TypedModule) (storage : Storage) (number : ℕ) (object : TypedObject) (values : List InitialValue)

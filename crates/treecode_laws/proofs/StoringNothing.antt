@@ -1,7 +1,6 @@
 -- Expressions that store nothing at most add events.
-use Rattle.treecode_laws.proofs.Prelude.{◌≡◌, ◌+◌, ◌&&◌, true, and_parts, TypedExpression, NumberNode, ValueNode, LocationNode, ListNode, ConversionNode, AssignmentNode, UnaryNode, BinaryNode, CallNode, FunctionNode, ShiftNode, InputNode, TypedReference, PartOf, Subscript, NoSubscript, At, Surroundings, home_of, read_scalar, Later, address_in_memory, based_place, computed, displaced, displacement, located, value, State, Gave, then_do, as_type, function_of, result_of, result_of_one, shifted, StoresNothing, stores_nothing, part_stores_nothing, index_stores_nothing}
+use Rattle.treecode_laws.proofs.Prelude.{◌≡◌, ◌+◌, ◌&&◌, true, and_parts, TypedExpression, NumberNode, ValueNode, LocationNode, ListNode, ConversionNode, AssignmentNode, UnaryNode, BinaryNode, CallNode, FunctionNode, ShiftNode, InputNode, TypedReference, PartOf, Subscript, NoSubscript, At, Surroundings, home_of, read_scalar, Later, address_in_memory, based_place, computed, displaced, displacement, located, value, State, Gave, then_do, as_type, function_of, result_of, result_of_one, shifted, StoresNothing, stores_nothing, part_stores_nothing, index_stores_nothing, false≢true}
 use Rattle.treecode_laws.proofs.Evaluating.{adds_nothing, quiet_adds_nothing, quiet_base, quiet_computed, quiet_scalar, storing_nothing_then, takes_in}
-use Rattle.treecode_laws.proofs.QuietTrees.{false_is_true}
 
 module _ (later : Later) (around : Surroundings) where
   mutual
@@ -21,7 +20,7 @@ module _ (later : Later) (around : Surroundings) where
     value_adds (ConversionNode scalar inner) nothing =
         storing_nothing_then (λ s. value later around inner s) (λ number t. Gave (as_type scalar number) t)
         (value_adds inner nothing) (λ number. adds_nothing)
-    value_adds (AssignmentNode target inner) nothing = false_is_true nothing
+    value_adds (AssignmentNode target inner) nothing = absurd (false≢true nothing)
     value_adds (UnaryNode scalar operator operand) nothing =
         storing_nothing_then (λ s. value later around operand s)
         (λ number t. Gave (result_of_one scalar operator number) t) (value_adds operand nothing)
@@ -36,7 +35,7 @@ module _ (later : Later) (around : Surroundings) where
         storing_nothing_then (λ t. value later around right t)
         (λ two u. computed (result_of operands operator one two) u) (value_adds right both.1)
         (λ two. quiet_adds_nothing _ (quiet_computed (result_of operands operator one two))))
-    value_adds (CallNode procedure scalar given) nothing = false_is_true nothing
+    value_adds (CallNode procedure scalar given) nothing = absurd (false≢true nothing)
     value_adds (FunctionNode function operand) nothing =
         storing_nothing_then (λ s. value later around operand s)
         (λ number t. Gave (function_of function number) t) (value_adds operand nothing)

@@ -1,2 +1,3 @@
 pub use Rattle.symbols.proofs.Keys
+pub mod Lists
 pub mod Views

@@ -1,5 +1,5 @@
 -- Scalars filled by one value after another.
-use Rattle.typed_expressions.proofs.Prelude.{◌≡◌, ℕ, ◌+◌, ◌-◌, ◌/◌, ◌<◌, ◌≤◌, List, [], ◌∷◌, ◌++◌, length, Ok, Err, Option, Some, refl, ap, sym, ◌∙◌, append_assoc, arith, length-append, map, nat_le, nat_lt, subst, true, tests, rules, drop, get_or, repeat, add-div_right, ScalarType, Byte, Address, Restricted, RestrictedTree, OriginTree, ConstantOrigin, LocationOrigin, OffsetTree, NumberConstant, StringConstant, StringTree, restricted_tree, InitialValue, ByteValue, WordValue, LocationValue, scalars_of_element, scalars_of_elements, ObjectType, WrongConstant, Checked, ◌>>=◌, require, found, number_of_characters, Filled, RestrictedValue, ANumber, FromObject, OtherModulesToo, AsListed, restricted_value, line_of_origin, filled_with, and_before, fill, fill_characters, fill_scalar, fill_string, fill_value, contents, contents_as_listed, enough_elements, elements_for, Known, FailsBy, Fault, onto, values_filled, elements_listed, fails_more, then_then, state_ended, state_fails}
+use Rattle.typed_expressions.proofs.Prelude.{◌≡◌, ℕ, ◌+◌, ◌-◌, ◌/◌, ◌<◌, ◌≤◌, List, [], ◌∷◌, ◌++◌, length, Ok, Err, Option, Some, refl, ap, sym, ◌∙◌, append_assoc, arith, length-append, map, nat_le, nat_lt, subst, true, tests, rules, drop, get_or, repeat, add-div_right, ScalarType, Byte, Address, Restricted, RestrictedTree, OriginTree, ConstantOrigin, LocationOrigin, OffsetTree, NumberConstant, StringConstant, StringTree, restricted_tree, InitialValue, ByteValue, WordValue, LocationValue, scalars_of_element, scalars_of_elements, ObjectType, WrongConstant, Checked, ◌>>=◌, require, found, number_of_characters, Filled, RestrictedValue, ANumber, FromObject, OtherModulesToo, AsListed, restricted_value, line_of_origin, filled_with, and_before, fill, fill_characters, fill_scalar, fill_string, fill_value, contents, contents_as_listed, enough_elements, elements_for, Known, FailsBy, Fault, onto, values_filled, elements_listed, fails_more, then_then, state_ended, state_fails, append-nil}
 use Rattle.typed_expressions.proofs.LeftScalars.{repeat_empty}
 
 -- values and then more of them
@@ -29,11 +29,6 @@ pub values_first : (known : Known) (value : Restricted) (others : List Restricte
 values_first known value others state =
     onto_then state.values (fill_value known state.left (restricted_tree value).origin (restricted_tree value).offsets) (fill known (map restricted_tree others))
 
--- the values alone, of what begins with none
-nothing_after : {A : Type 0} (items : List A) → items ++ [] ≡ items
-nothing_after [] = refl
-nothing_after (first ∷ others) = ap (λ all. first ∷ all) (nothing_after others)
-
 abbrev values_of : Checked Filled → Checked (List InitialValue)
 values_of checked = checked >>= (λ (filled : Filled). Ok filled.values)
 
@@ -50,7 +45,7 @@ module _ (known : Known) (values : List Restricted) (i : ℕ) (scalars : List Sc
   all_filled past =
       values_started
       ∙ ap values_of (state_ended (onto_value known) (onto_values known) (values_first known) values i now (onto_values known values start) (Ok (record { values = now.values ++ []; left = now.left })) past left refl)
-      ∙ ap (λ made. Ok made) (nothing_after now.values)
+      ∙ ap (λ made. Ok made) (append-nil now.values)
 
   pub some_fails : (value : Restricted) (fault : Option Fault) → i < length values → value ≡ get_or values i value
       → FailsBy fault (onto_value known value now) → FailsBy fault (values_filled known (map restricted_tree values) scalars)

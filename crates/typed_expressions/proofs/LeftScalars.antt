@@ -1,5 +1,5 @@
 -- The scalars that are left of an object.
-use Rattle.typed_expressions.proofs.Prelude.{◌≡◌, ℕ, suc, zero, ◌+◌, ◌-◌, ◌<◌, ◌≤◌, List, [], ◌∷◌, ◌++◌, length, drop, replicate, Some, None, refl, ap, sym, ◌∙◌, add-one, arith, length-append, append_assoc, slice_get, flat_map, repeat, drop_of_length-le, drop_more, length-replicate, flat_map-map, get_or_from_slice_get, slice_get_within, slice_get-get_or, Byte, ObjectType, ScalarObject, StructureObject, scalars_of_element, scalars_of_elements, runs_of, run_of_member, scalars_of_run, runs_from, left_of}
+use Rattle.typed_expressions.proofs.Prelude.{◌≡◌, ℕ, suc, zero, ◌+◌, ◌-◌, ◌<◌, ◌≤◌, List, [], ◌∷◌, ◌++◌, length, replicate, Some, None, refl, ap, sym, ◌∙◌, add-one, arith, length-append, append_assoc, slice_get, flat_map, repeat, drop_of_length-le, length-replicate, flat_map-map, slice_get-get_or, Byte, ObjectType, ScalarObject, StructureObject, scalars_of_element, scalars_of_elements, runs_of, run_of_member, scalars_of_run, runs_from, left_of, drop_found}
 use Rattle.typed_expressions.specs.declared.scalars.Run.{Run}
 use Rattle.typed_expressions.specs.declared.scalars.Scalars.{Scalars}
 
@@ -7,10 +7,6 @@ use Rattle.typed_expressions.specs.declared.scalars.Scalars.{Scalars}
 pub element_runs : (t : ObjectType) → runs_from t 0 ≡ scalars_of_element t
 element_runs (ScalarObject scalar) = refl
 element_runs (StructureObject members) = flat_map-map scalars_of_run run_of_member members
-
-drop_found : {A : Type 0} (items : List A) (i : ℕ) (item : A) → slice_get items i ≡ Some item → drop i items ≡ item ∷ drop (i + 1) items
-drop_found items i item is =
-    drop_more items i item (slice_get_within items i item is) ∙ ap (λ first. first ∷ drop (i + 1) items) (get_or_from_slice_get items i item item is)
 
 pub run_found : (t : ObjectType) (i : ℕ) (run : Run) → slice_get (runs_of t) i ≡ Some run → runs_from t i ≡ scalars_of_run run ++ runs_from t (i + 1)
 run_found t i run is = ap (λ runs. flat_map scalars_of_run runs) (drop_found (runs_of t) i run is)

@@ -1,11 +1,5 @@
 -- The heights of lists, item by item.
-use Rattle.typed_trees.proofs.Prelude.{◌≡◌, ℕ, suc, ◌+◌, ◌<◌, ◌≤◌, max, List, [], ◌∷◌, length, map, drop, get_or, add-one, refl, sym, ap, ◌∙◌, arith, drop_of_length-le, drop-cons, TypedExpression, TypedTarget, TypedStatement, count_of_arguments, height_of, height_of_arguments, height_of_statement, height_of_statements, height_of_target, height_of_targets, arguments_view, expression_view, statement_view, statements_view, target_view}
-
-drop_item : {A B : Type 0} (view : List A → B) (items : List A) (i : ℕ) (item : A) → i < length items → item ≡ get_or items i item → view (drop i items) ≡ view (item ∷ drop (i + 1) items)
-drop_item view items i item within is =
-    ap view (drop-cons items i item within)
-    ∙ ap (λ first. view (first ∷ drop (suc i) items)) (sym is)
-    ∙ ap (λ n. view (item ∷ drop n items)) (sym (add-one i))
+use Rattle.typed_trees.proofs.Prelude.{◌≡◌, ℕ, ◌+◌, ◌<◌, ◌≤◌, max, List, [], ◌∷◌, length, map, drop, get_or, refl, ap, ◌∙◌, arith, drop_of_length-le, TypedExpression, TypedTarget, TypedStatement, count_of_arguments, height_of, height_of_arguments, height_of_statement, height_of_statements, height_of_target, height_of_targets, arguments_view, expression_view, statement_view, statements_view, target_view, drop_item}
 
 pub arguments_more : (items : List TypedExpression) (i : ℕ) (item : TypedExpression) → i < length items → item ≡ get_or items i item
     → height_of_arguments (arguments_view (drop i items)) ≡ max (height_of (expression_view item)) (height_of_arguments (arguments_view (drop (i + 1) items)))

@@ -1,4 +1,6 @@
+pub use Rattle.trees.proofs.Lists
 mod Prelude
+pub mod Counted
 pub mod Views
 pub mod Capped
 pub mod MemberTable

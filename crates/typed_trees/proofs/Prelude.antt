@@ -1,6 +1,7 @@
 -- The names that the proofs of this crate cite, passed on from one place. Declares nothing.
 pub use Rattle.std.proofs.{Common.{Bool, List, None, Option, Some, [], add-one, ap, arith, cond, drop, false, get_or, if◌then◌else◌, is_some, le-ltb, length, lt-ltb, map, max, min, mul-le-mul_right, mul_comm, nat_lt, not, one-mul, position, refl, slice_get, subst, suc, suc-mul, sum_by, sym, take, true, true≢false, zero, ℕ, ◌*◌, ◌++◌, ◌+◌, ◌<◌, ◌||◌, ◌∙◌, ◌∷◌, ◌≡◌, ◌≤◌}, Math.Decide.{dec_le, dec_lt}, Math.ListN.{drop_of_length-le}, Math.Seq.{drop-cons}, lemmas.Cmp.{nat_list_eq_equiv}, lemmas.List.Elements.{All-from_recursion, All-nil}, lemmas.List.Sums.{sum_by-cons, sum_by_push}, lemmas.Nat.{mul-le}, lemmas.Option.{slice_get-map}}
 pub use Rattle.std.specs.{List.{AllByRecursion, position_or_len}, Map.{keys_of, lookup}, Option.{option_map}, Prelude.{IsSomeAnd}, Str.{bytes_eq}}
+pub use Rattle.trees.proofs.Lists.{drop_item}
 pub use Rattle.trees.specs.{declared.declaration.ScalarType.{ScalarType, TheVariants.{Address, Byte}}, declared.expression.BinaryOperator.TheVariants.{Multiply, Subtract}}
 pub use Rattle.typed_trees.specs.Charge.{count_of_arguments, height_of, height_of_arguments, height_of_statement, height_of_statements, height_of_target, height_of_targets}
 pub use Rattle.typed_trees.specs.Numbers.{NumbersFit, NumbersFitIfSome, NumbersFitIn, NumbersFitInArguments, NumbersFitInElse, NumbersFitInHead, NumbersFitInModule, NumbersFitInProcedure, NumbersFitInStatements, NumbersFitInSubscript, NumbersFitInTarget, NumbersFitInTargets}

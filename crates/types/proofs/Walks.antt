@@ -1,5 +1,5 @@
 -- Lists of statements, statement by statement.
-use Rattle.types.proofs.Prelude.{◌≡◌, ℕ, ◌+◌, ◌<◌, ◌≤◌, List, [], ◌∷◌, ◌++◌, length, drop, get_or, Option, Ok, Err, refl, ap, sym, ◌∙◌, Identifier, Tree, statement_tree, statement_trees, Statement, TypedStatement, TypedStatements, NoStatements, MoreStatements, statement_view, statements_view, Checked, ◌>>=◌, Block, Progress, after_labels, declare_labels, places_from, with_here, alone, cases, labelled, statements, Listing, with_statement, statements_after, Fault, FailsBy, in_front, statement_with_labels, drop_item, made_goes_on, made_fails, made_ended}
+use Rattle.types.proofs.Prelude.{◌≡◌, ℕ, ◌+◌, ◌<◌, ◌≤◌, List, [], ◌∷◌, ◌++◌, length, drop, get_or, Option, Ok, Err, refl, ap, sym, ◌∙◌, Identifier, Tree, statement_tree, statement_trees, Statement, TypedStatement, TypedStatements, NoStatements, MoreStatements, statement_view, statements_view, Checked, ◌>>=◌, Block, Progress, after_labels, declare_labels, places_from, with_here, alone, cases, labelled, statements, Listing, with_statement, statements_after, Fault, FailsBy, in_front, statement_with_labels, made_goes_on, made_fails, made_ended, drop_item}
 use Rattle.types.proofs.Listings.{before_more, before_none, label_after, statement_in_front, places_on}
 
 -- the statements of a DO CASE

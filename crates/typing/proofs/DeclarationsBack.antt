@@ -1,8 +1,10 @@
 -- Declarations and headings: what they add to the tables.
-use Rattle.typing.proofs.Prelude.{◌≡◌, ℕ, List, [], ◌∷◌, ◌++◌, map, take, drop, length, Some, slice_get, slice_set, nat_le, not, ◌||◌, refl, sym, ap, ◌∙◌, subst, append_assoc, append-nil, map-append, set-append_seam, ScalarType, Identifier, ItemTree, ElementTree, LiterallyElement, ItemElement, HeadingTree, DeclarationTrees, StatementTrees, Here, into_body, out_of_body, is_declared_again, is_parameter_again, with_object, with_procedure, with_parameter, with_definition, declared_by, OBJECT_LIMIT, FRAME_LIMIT, PARAMETER_LIMIT, Home, InData, InConstants, Placed, BasedOn, Elsewhere, Nowhere, InFrame, TypedList, TypedObject, TypedProcedure, TypedModule, Constants, DeclaredTwice, MisplacedAttribute, TooLarge, require, line_of, Block, Progress, is_external, is_reentrant, declares_parameter, declare_names, TypedItem, object_named, with_constant, with_typed_object, with_objects, typed_item, size_of_item, line_of_item, declare_item, declare_definition, declare_element, declare_elements, declare_parameters, no_more_parameters, check_visibility, check_reentrant, parameter_types, procedure_with, empty_list, with_heading, open_procedure, close_procedure, with_here, plain_statements, untyped_list}
+use Rattle.typing.proofs.Prelude.{◌≡◌, ℕ, List, [], ◌∷◌, ◌++◌, map, take, drop, length, Some, slice_get, slice_set, nat_le, not, ◌||◌, refl, sym, ap, ◌∙◌, subst, append_assoc, append-nil, map-append, ScalarType, Identifier, ItemTree, ElementTree, LiterallyElement, ItemElement, HeadingTree, DeclarationTrees, StatementTrees, Here, into_body, out_of_body, is_declared_again, is_parameter_again, with_object, with_procedure, with_parameter, with_definition, declared_by, OBJECT_LIMIT, FRAME_LIMIT, PARAMETER_LIMIT, TypedList, TypedObject, TypedProcedure, TypedModule, DeclaredTwice, MisplacedAttribute, TooLarge, require, line_of, Block, Progress, is_external, is_reentrant, declares_parameter, declare_names, TypedItem, object_named, with_typed_object, with_objects, typed_item, size_of_item, line_of_item, declare_item, declare_definition, declare_element, declare_elements, declare_parameters, no_more_parameters, check_visibility, check_reentrant, parameter_types, procedure_with, empty_list, with_heading, open_procedure, close_procedure, with_here, plain_statements, untyped_list}
 use Rattle.typing.proofs.Kept.{Gives, gives_ok, in_turn, gives_after, then_more}
 use Rattle.typing.proofs.Tables.{Fits, Keeps, keeps_append, with_object-fits, with_procedure-fits, with_parameter-fits, with_definition-fits, into_body-fits, out_of_body-fits}
 use Rattle.typing.proofs.Walked.{object_names, procedure_names, Holds, Reaches, bodies_back, Walked, walked_then, walked_as, walked_nothing, walked_to}
+use Rattle.typing.proofs.Types.TypesWalked.{closed_table}
+use Rattle.typing.proofs.ConstantTables.{lists_kept}
 
 abbrev names_of : List Identifier → List (List ℕ)
 names_of identifiers = map (λ (identifier : Identifier). identifier.name) identifiers
@@ -29,16 +31,6 @@ record ObjectsAdded (names : List Identifier) (before after : Progress) : Type 0
   procedures : after.known.procedures ≡ before.known.procedures
   lists : after.constants.lists ≡ before.constants.lists
 
-same_lists : (home : Home) (object : ℕ) (constants : Constants)
-    → (with_constant home object constants).lists ≡ constants.lists
-same_lists (InData values) object constants = refl
-same_lists (InConstants values) object constants = refl
-same_lists (Placed at) object constants = refl
-same_lists (BasedOn base) object constants = refl
-same_lists Elsewhere object constants = refl
-same_lists Nowhere object constants = refl
-same_lists (InFrame procedure) object constants = refl
-
 with_objects-adds : (block : Block) (item : TypedItem) (names : List Identifier) (progress : Progress)
     → Gives (ObjectsAdded names progress) (with_objects block item names progress)
 with_objects-adds block item [] progress = gives_ok (record {
@@ -60,7 +52,7 @@ with_objects-adds block item (name ∷ others) progress =
           ∙ append_assoc (object_names objects) (name.name ∷ []) (names_of others);
       kept = λ number x e. rest.kept number x (keeps_append objects (object ∷ []) number x e);
       procedures = rest.procedures;
-      lists = rest.lists ∙ same_lists object.home (length objects) progress.constants;
+      lists = rest.lists ∙ lists_kept object.home (length objects) progress.constants;
     }
 
 -- of a declaration nothing is given back beside the bodies in it
@@ -188,15 +180,7 @@ open_procedure-opens block heading declared progress holds =
     gives_after (check_reentrant heading.linkage heading.reentrant) λ reentrant.
     gives_ok (opened_with heading declared progress here fits)
 
--- at its end its entry takes the place of the one of its heading, and nothing else in the table changes
-closed_table : (before : List TypedProcedure) (first last : TypedProcedure) (added table : List TypedProcedure)
-    → table ≡ (before ++ first ∷ []) ++ added
-    → slice_set table (length before) last ≡ before ++ last ∷ added
-closed_table before first last added table is =
-    ap (λ k. slice_set k (length before) last) (is ∙ append_assoc before (first ∷ []) added)
-    ∙ set-append_seam before first added last
-
-same_names : (before : List TypedProcedure) (first last : TypedProcedure) (added table : List TypedProcedure)
+pub same_names : (before : List TypedProcedure) (first last : TypedProcedure) (added table : List TypedProcedure)
     → first.name ≡ last.name
     → table ≡ (before ++ first ∷ []) ++ added
     → procedure_names (slice_set table (length before) last) ≡ procedure_names table

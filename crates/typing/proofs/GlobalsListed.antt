@@ -1,5 +1,5 @@
 -- The globals of a text so far are listed, and go on to be as its tables grow.
-use Rattle.typing.proofs.Prelude.{◌≡◌, ℕ, ◌+◌, Bool, true, false, List, [], ◌∷◌, ◌++◌, length, Option, None, Some, if◌then◌else◌, cond, nat_le, refl, sym, ap, ◌∙◌, append-nil, arith, filter_map, All, is_none, is_some, ◌&&◌, cons_option, enumerate_from, option_map_or, All-append, All-cons, All-nil, filter_map-append, Linkage, Public, External, Identifier, SubjectTree, ItemTree, HeadingTree, AtAddress, GlobalItem, GlobalObject, GlobalProcedure, InitialValue, Home, InData, InConstants, Placed, BasedOn, Elsewhere, Nowhere, InFrame, TypedObject, TypedProcedure, TypedModule, shared_object, shared_procedure, is_shared, is_global, global_object, global_procedure, IsHereIfPublic, ListsGlobals, FRAME_LIMIT, TooLarge, require, Known, line_of, Owner, TheModule, OfProcedure, Block, Progress, with_global, is_public_linkage, is_external_linkage, is_module_level, TypedItem, base_of, typed_base, extents_of, typed_type, check_linkage, typed_at, typed_contents, is_data, home_with_values, object_named, with_typed_object, with_objects, typed_item, visibility_of}
+use Rattle.typing.proofs.Prelude.{◌≡◌, ℕ, ◌+◌, Bool, true, false, List, [], ◌∷◌, ◌++◌, length, Option, None, Some, if◌then◌else◌, cond, nat_le, refl, sym, ap, ◌∙◌, append-nil, arith, filter_map, All, is_none, is_some, ◌&&◌, cons_option, enumerate_from, option_map_or, All-append, All-cons, All-nil, filter_map-append, Linkage, Public, External, Identifier, SubjectTree, ItemTree, HeadingTree, AtAddress, GlobalItem, GlobalObject, GlobalProcedure, InitialValue, Home, InData, InConstants, Placed, BasedOn, Elsewhere, Nowhere, InFrame, TypedObject, TypedProcedure, TypedModule, shared_object, shared_procedure, is_shared, is_global, global_object, global_procedure, IsHereIfPublic, ListsGlobals, FRAME_LIMIT, TooLarge, require, Known, line_of, Owner, TheModule, OfProcedure, Block, Progress, with_global, is_public_linkage, is_external_linkage, is_module_level, TypedItem, base_of, typed_base, extents_of, typed_type, check_linkage, typed_at, typed_contents, is_data, home_with_values, object_named, with_typed_object, with_objects, typed_item, visibility_of, and_parts}
 use Rattle.typing.proofs.Kept.{Gives, then_more, gives_ok, gives_after, in_turn, required}
 use Rattle.typing.proofs.Storage.Storable.{enumerate_more}
 use Rattle.typing.proofs.Types.TypesKept.{Heading, headings}
@@ -151,11 +151,7 @@ linkage_is_free : (block : Block) (item : ItemTree) (linkage : Option Linkage)
 linkage_is_free block item None = gives_ok (λ is. absurd cc)
 linkage_is_free block item (Some linkage) =
     then_more (required (is_module_level block && is_none (base_of item.subject)) _ _) λ _ is some.
-    by (is_module_level block) (is_none (base_of item.subject)) is
-  where
-    by : (one other : Bool) → (one && other) ≡ true → other ≡ true
-    by true other e = e
-    by false other e = absurd cc
+    (and_parts (is_module_level block) (is_none (base_of item.subject)) is).1
 
 pub typed_item_fits : (known : Known) (block : Block) (item : ItemTree)
     → Gives (λ (typed : TypedItem). LinkageFits typed.linkage typed.home) (typed_item known block item)

@@ -1,4 +1,6 @@
 mod Prelude
+pub mod Options
+pub mod ConstantTables
 pub mod Steps
 pub mod Jumps
 pub mod Parts

@@ -1,11 +1,5 @@
 -- Loops over lists: what is given for all items is what is given for those that are left, with what was made in front.
-use Rattle.typing.proofs.Prelude.{◌≡◌, ℕ, suc, ◌+◌, ◌<◌, ◌≤◌, List, [], ◌∷◌, length, drop, get_or, Option, None, Some, Result, Ok, Err, refl, ap, sym, subst, ◌∙◌, add-one, drop_of_length-le, drop-cons, Failure, Fault, Checked, ◌>>=◌, FailsBy, Answers, Gives, Leaves, fault_in, in_front}
-
-pub drop_item : {A B : Type 0} (view : List A → B) (items : List A) (i : ℕ) (item : A) → i < length items → item ≡ get_or items i item → view (drop i items) ≡ view (item ∷ drop (i + 1) items)
-drop_item view items i item within is =
-    ap view (drop-cons items i item within)
-    ∙ ap (λ first. view (first ∷ drop (suc i) items)) (sym is)
-    ∙ ap (λ n. view (item ∷ drop n items)) (sym (add-one i))
+use Rattle.typing.proofs.Prelude.{◌≡◌, ℕ, ◌+◌, ◌<◌, ◌≤◌, List, [], ◌∷◌, length, drop, get_or, Option, None, Some, Result, Ok, Err, refl, ap, sym, subst, ◌∙◌, drop_of_length-le, Failure, Fault, Checked, ◌>>=◌, FailsBy, Answers, Gives, Leaves, fault_in, in_front, drop_item}
 
 pub fails_more : {A B : Type 0} (fault : Option Fault) (first : Result A Fault) (next : A → Result B Fault) → FailsBy fault first → FailsBy fault (first >>= next)
 fails_more None first next fails = tt

@@ -1,8 +1,10 @@
 -- The names that the proofs of this crate cite, passed on from one place. Declares nothing.
+pub use mathlib.Core.Bool.{or_assoc}
 pub use Rattle.indexmap.specs.{IndexMap.{insert_entry}, IndexSet.{insert_key}}
-pub use Rattle.std.proofs.{Common.{Bool, Err, List, None, Ok, Option, Result, Some, [], add-one, ap, append-nil, append_assoc, ap₂, arith, cond, div-add-mod', drop, false, get_or, if◌then◌else◌, inl, inr, length, length-append, map, min, mod-lt, nat_le, one-mul, refl, replicate, slice_get, slice_index_or, slice_set, subst, suc, suc-mul, sum_by, sym, take, true, unwrap_or, zero, zero-le, zero-mul, ℕ, ◌*◌, ◌++◌, ◌+◌, ◌-◌, ◌<◌, ◌==◌, ◌∙◌, ◌∷◌, ◌≡◌, ◌≢◌, ◌≤◌, ◌⊎◌}, Math.ListN.{drop_of_length-le}, Math.Seq.{drop-cons, set-append_seam}, lemmas.Bool.{eq-eqb, eqb-false, eqb-true, leb-true, ne_eqb}, lemmas.List.{length-map, map-append, take-append-drop}, lemmas.List.Concat.{flat_map-append}, lemmas.List.Elements.{All-append, All-cons, All-from_recursion, All-nil, All-set, All-weaker, Contains-append_left, Contains-append_right, filter_map-append, recursion_from_All}, lemmas.List.Kept.{AllPairs-cons}, lemmas.List.Sums.{sum_by-append, sum_by-cons}, lemmas.Option.{none-some, slice_get-map, slice_get_within}, lemmas.Slice.Eq.{bytes_eq-Decides}}
+pub use Rattle.std.proofs.{Common.{Bool, Err, List, None, Ok, Option, Result, Some, [], ap, append-nil, append_assoc, ap₂, arith, cond, div-add-mod', drop, false, get_or, if◌then◌else◌, inl, inr, length, length-append, map, min, mod-lt, nat_le, one-mul, refl, replicate, slice_get, slice_index_or, slice_set, subst, suc, suc-mul, sum_by, sym, take, true, unwrap_or, zero, zero-le, zero-mul, ℕ, ◌*◌, ◌++◌, ◌+◌, ◌-◌, ◌<◌, ◌==◌, ◌∙◌, ◌∷◌, ◌≡◌, ◌≢◌, ◌≤◌, ◌⊎◌}, Math.ListN.{drop_of_length-le}, Math.Seq.{set-append_seam}, lemmas.Bool.{and_parts, eq-eqb, eqb-false, eqb-true, leb-true, ne_eqb, not-true, or_left, or_parts, or_right}, lemmas.List.{length-map, map-append, take-append-drop}, lemmas.List.Concat.{flat_map-append}, lemmas.List.Elements.{All-append, All-cons, All-from_recursion, All-nil, All-set, All-weaker, Contains-append_left, Contains-append_right, filter_map-append, recursion_from_All}, lemmas.List.Kept.{AllPairs-cons}, lemmas.List.Sums.{sum_by-append, sum_by-cons}, lemmas.Option.{none-some, slice_get-map, slice_get_within}, lemmas.Slice.Eq.{bytes_eq-Decides}}
 pub use Rattle.std.specs.{List.{AllByRecursion, cons_option, enumerate_from, flat_map, list_any, repeat}, Map.{lookup}, Option.{option_map, option_map_or, option_or}, Prelude.{All, AllPairs, Any, Contains, IfOk, IfSome, IsSomeAnd, codes, filter_map, is_none, is_some, nat_lt, not, ◌&&◌, ◌||◌}, Str.{bytes_eq}}
 pub use Rattle.failure.specs.declared.Failure.{Failure}
+pub use Rattle.trees.proofs.Lists.{any_later, drop_item, got_first, some_and}
 pub use Rattle.trees.specs.{Trees.{ArgumentTrees, AssignmentNode, AssignmentStatement, AtTree, BinaryNode, CallStatement, CaseStatement, ConstantLeaf, ConstantOrigin, ConstantTree, DeclarationTree, DeclarationTrees, DeclareTree, DoStatement, ElementTree, ElseStatement, ElseTree, ExpressionTree, GotoStatement, GroupSubject, HaltStatement, HeadingTree, IfStatement, ItemElement, ItemTree, ItemTypeTree, IterateStatement, IterationTree, LabelledStatement, ListLeaf, LiterallyElement, LocationLeaf, LocationOrigin, MemberOf, MemberTree, ModuleTree, MoreArguments, MoreDeclarations, MoreStatements, NoArguments, NoDeclarations, NoElse, NoMember, NoStatements, NullStatement, NumberConstant, OffsetTree, OriginTree, ParenthesizedNode, ProcedureTree, ReferenceLeaf, ReferenceTo, ReferenceTree, RestrictedTree, ReturnStatement, ScalarItem, SingleSubject, StatementKindTree, StatementTree, StatementTrees, StringConstant, StringTree, StructureItem, SubjectTree, UnaryNode, ValueListTree, WhileStatement}, declared.declaration.Dimension.{Dimension, TheVariants.{Count, Implied}}, declared.declaration.Linkage.{Linkage, TheVariants.{External, Public}}, declared.declaration.Member.{Member}, declared.declaration.ScalarType.{ScalarType, TheVariants.{Address, Byte}}, declared.expression.BinaryOperator.{BinaryOperator, TheVariants.{Divide, Modulo, Multiply}}, declared.identifier.Identifier.{Identifier}, declared.identifier.Number.{Number}, declared.identifier.Place.{Place}}
 pub use Rattle.names.specs.{Binding.{IsFirstFault, fault_of, first_fault}, BuiltIns.{binding_of, built_ins, jump_of}, Environment.{Body, Here, Names, after_body, at_the_start, body_after_block, body_with_name, declared_around, declared_in, empty_body, entity_of, into_block, into_body, into_list, is_among, is_declared_again, is_label_again, is_parameter_again, known_in, label_of, numbered_from, out_of_block, out_of_body, out_of_list, with_definition, with_label, with_object, with_parameter, with_procedure}, Events.{Declaration, Event, Seen, Use, declares_label, declares_object, declares_procedure, events_of, in_list, labels_of, see_all, see_alone, see_cases, see_declaration, see_declarations, see_element, see_else, see_kind, see_statements, uses_at}, Uses.{declared_by, names_in_arguments, names_in_expression, names_in_item, names_in_iteration, names_in_member, names_in_optional, names_in_reference, names_in_restricted, names_in_subject}, declared.entity.Binding.{Binding, TheVariants.{BuiltInName, Declared, UnknownLabel}}, declared.entity.BuiltIn.{BuiltIn, TheVariants.{Move}}, declared.entity.Entity.{Entity, TheVariants.{Definition, Label, Object, Procedure}}}
 unfoldable pub use Rattle.names.specs.{BuiltIns.{built_in_of}, Events.{declares, in_turn, jumps_to, moves, nothing, see_item, uses_of}}

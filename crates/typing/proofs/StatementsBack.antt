@@ -63,7 +63,7 @@ labelled_first tables number labels statement others proper =
     ∙ takes_labels tables statement others (without_names labels) proper
 
 -- labels before a statement
-declare_labels-fit : (objects procedures : List (List ℕ)) (labels : List Identifier) (here : Here)
+pub declare_labels-fit : (objects procedures : List (List ℕ)) (labels : List Identifier) (here : Here)
     → Fits objects procedures here
     → Gives (Fits objects procedures) (declare_labels labels here)
 declare_labels-fit objects procedures [] here fits = gives_ok fits

@@ -1,5 +1,5 @@
 -- Names that stand for objects and procedures of tables, at every place of a text.
-use Rattle.typing.proofs.Prelude.{◌≡◌, ℕ, suc, zero, ◌+◌, Bool, true, false, List, [], ◌∷◌, ◌++◌, length, drop, Option, None, Some, if◌then◌else◌, slice_get, refl, sym, ap, ◌∙◌, subst, length-append, lookup, option_or, bytes_eq, bytes_eq-Decides, Identifier, Entity, Object, Procedure, Label, Definition, Names, Body, Here, known_in, declared_in, declared_around, label_of, entity_of, empty_body, body_with_name, at_the_start, into_block, out_of_block, body_after_block, into_body, out_of_body, after_body, into_list, out_of_list, numbered_from, with_object, with_procedure, with_definition, with_parameter, with_label}
+use Rattle.typing.proofs.Prelude.{◌≡◌, ℕ, suc, zero, ◌+◌, Bool, true, false, List, [], ◌∷◌, ◌++◌, length, drop, Option, None, Some, if◌then◌else◌, slice_get, refl, sym, ap, ◌∙◌, subst, length-append, lookup, option_or, bytes_eq, bytes_eq-Decides, Identifier, Entity, Object, Procedure, Label, Definition, Names, Body, Here, known_in, declared_in, declared_around, label_of, entity_of, empty_body, body_with_name, at_the_start, into_block, out_of_block, body_after_block, into_body, out_of_body, after_body, into_list, out_of_list, numbered_from, with_object, with_procedure, with_definition, with_parameter, with_label, got_first}
 
 -- whether what an entity is has a name in tables of names
 abbrev pub IsNamed : (objects procedures : List (List ℕ)) → Entity → List ℕ → Type 0
@@ -124,10 +124,6 @@ pub keeps_append : {X : Type 0} (before more : List X) → Keeps before (before 
 keeps_append [] more number x e = absurd cc
 keeps_append (first ∷ before) more zero x e = e
 keeps_append (first ∷ before) more (suc number) x e = keeps_append before more number x e
-
-pub at_the_end : {X : Type 0} (before : List X) (x : X) → slice_get (before ++ x ∷ []) (length before) ≡ Some x
-at_the_end [] x = refl
-at_the_end (first ∷ before) x = at_the_end before x
 
 named_later : (objects procedures objects' procedures' : List (List ℕ))
     → Keeps objects objects'
@@ -314,7 +310,7 @@ count_after before name count e =
 number_after : (before : List (List ℕ)) (name : List ℕ) (count : ℕ)
     → count ≡ length before → slice_get (before ++ name ∷ []) count ≡ Some name
 number_after before name count e =
-    ap (λ k. slice_get (before ++ name ∷ []) k) e ∙ at_the_end before name
+    ap (λ k. slice_get (before ++ name ∷ []) k) e ∙ got_first before name []
 
 -- an object or a procedure is the next in its table
 pub with_object-fits : {objects procedures : List (List ℕ)} {here : Here} (name : List ℕ)

@@ -1,5 +1,5 @@
 -- What an item takes of its text.
-use Rattle.words.proofs.Prelude.{◌≡◌, ℕ, suc, ◌+◌, ◌<◌, ◌≤◌, List, [], ◌∷◌, length, take, Bool, true, false, cond, Option, None, Some, Result, Ok, Err, refl, sym, ap, ◌∙◌, arith, not, ◌&&◌, ◌||◌, eqb, find, list_all, prefix_len, take_while, starts_with, nat_lt, nat_eq, IfOk, option_map_or, is_ascii_alphabetic, is_ascii_digit, length-take, length-prefix_len, prefix_len-le-length, Cause, bytes_eq-Decides, nat_tests, Mark, Item, Spelled, Wrong, LONGEST_NAME, is_word_byte, is_blank, is_printable, is_comment_byte, item_at, comment_or_mark, name_of, name_item, kind_of_name, number_item, number_of, FitsIn, further, string_end, string_item, comment_end, comment_item}
+use Rattle.words.proofs.Prelude.{◌≡◌, ℕ, suc, ◌+◌, ◌<◌, ◌≤◌, List, [], ◌∷◌, length, take, Bool, true, false, cond, Option, None, Some, Result, Ok, Err, refl, sym, ap, ◌∙◌, arith, not, ◌&&◌, ◌||◌, eqb, find, list_all, prefix_len, take_while, starts_with, nat_lt, nat_eq, IfOk, option_map_or, is_ascii_alphabetic, is_ascii_digit, length-take, length-prefix_len, prefix_len-le-length, Cause, bytes_eq-Decides, nat_tests, Mark, Item, Spelled, Wrong, LONGEST_NAME, is_word_byte, is_blank, is_printable, is_comment_byte, item_at, comment_or_mark, name_of, name_item, kind_of_name, number_item, number_of, FitsIn, further, string_end, string_item, comment_end, comment_item, and_parts}
 use Rattle.words.specs.declared.items.Cause.TheVariants.{LongName, BadNumber, BadCharacter}
 use Rattle.words.specs.declared.vocabulary.Kind.TheVariants.{Number}
 use Rattle.words.specs.Marks.{marks, mark_at, mark_item}
@@ -80,14 +80,6 @@ comment_fits : (size : ℕ) (end : Result ℕ Cause)
 comment_fits size (Ok length) ends = (omega arith, omega arith)
 comment_fits size (Err cause) ends = tt
 
-pub and_first : (a b : Bool) → (a && b) ≡ true → a ≡ true
-and_first true b both = refl
-and_first false b both = both
-
-pub and_second : (a b : Bool) → (a && b) ≡ true → b ≡ true
-and_second true b both = both
-and_second false b both = absurd (cc)
-
 or_middle : (a b c : Bool) → b ≡ true → (a || b || c) ≡ true
 or_middle true b c holds = refl
 or_middle false b c holds = ap (λ b. b || c) holds
@@ -110,7 +102,7 @@ found : {A : Type 0} (p q : A → Bool) (xs : List A) (x : A)
     → (p x ≡ true) × (q x ≡ true)
 found p q [] x all is = absurd (cc)
 found p q (y ∷ ys) x all is =
-    found_if p q (p y) (find p ys) y x refl (and_first (q y) (list_all q ys) all) (found p q ys x (and_second (q y) (list_all q ys) all)) is
+    found_if p q (p y) (find p ys) y x refl (and_parts (q y) (list_all q ys) all).0 (found p q ys x (and_parts (q y) (list_all q ys) all).1) is
 
 -- a mark of the table that the text begins with
 mark_in_text : (text : List ℕ) (mark : List ℕ × Mark)

@@ -1,5 +1,5 @@
 -- The characters of a name, byte by byte.
-use Rattle.words.proofs.Prelude.{◌≡◌, ◌≢◌, ℕ, List, [], ◌∷◌, ◌++◌, length, map, not, eqb, false, ap, ◌∙◌, arith, cond, Bool, true, refl, filter, count_by, to_ascii_uppercase, length-map, map-append, length-filter, filter-append, nat_tests, bytes_eq, bytes_eq-Decides, name_of}
+use Rattle.words.proofs.Prelude.{◌≡◌, ◌≢◌, ℕ, List, [], ◌∷◌, ◌++◌, length, map, not, eqb, false, ap, ◌∙◌, arith, cond, filter, count_by, to_ascii_uppercase, length-map, map-append, length-filter, filter-append, nat_tests, bytes_eq, bytes_eq-Decides, name_of, false_from_ne_true}
 
 -- a name has as many characters as bytes other than `$`
 pub length-name_of : (text : List ℕ) → length (name_of text) ≡ count_by (λ b. not (eqb b 36)) text
@@ -15,10 +15,6 @@ name_of-character b significant =
     let fails : eqb b 36 ≡ false = grind (arith, nat_tests) in
     ap (λ test. map to_ascii_uppercase (cond (not test) (b ∷ []) [])) fails
 
-not_true : (b : Bool) → (b ≡ true → ⊥) → b ≡ false
-not_true true never = absurd (never refl)
-not_true false never = refl
-
 -- lists of different lengths are not equal
 pub other_length : (xs ys : List ℕ) → length xs ≢ length ys → bytes_eq xs ys ≡ false
-other_length xs ys differ = not_true (bytes_eq xs ys) (λ same. differ (ap length ((bytes_eq-Decides xs ys).0 same)))
+other_length xs ys differ = false_from_ne_true (bytes_eq xs ys) (λ same. differ (ap length ((bytes_eq-Decides xs ys).0 same)))

@@ -1,8 +1,8 @@
 -- The facts after an instruction are true after it.
-use Rattle.code_meaning.proofs.Prelude.{◌≡◌, ℕ, ◌==◌, Bool, true, false, if◌then◌else◌, List, bit_and, bit_or, Option, refl, IsMemory, Instr, Nop, Lxi, Stax, Ldax, Shld, Lhld, Sta, Lda, Inx, Dcx, Dad, Inr, Dcr, Mvi, Rlc, Rrc, Ral, Rar, Daa, Cma, Stc, Cmc, Mov, MovToMemory, Hlt, Accumulate, AccumulateImmediate, ReturnIf, JumpIf, CallIf, Ret, Jmp, Call, Rst, Pop, Push, Out, In, Xthl, Xchg, Pchl, Sphl, Di, Ei, Operand, Of, M, Operation, Add, AddWithCarry, Subtract, SubtractWithBorrow, And, ExclusiveOr, Or, Compare, Bc, De, Hl, Sp, B, C, D, E, H, L, A, StackBc, StackDe, StackHl, Psw, HoldBytes, Registers, State, high_byte, holds, low_byte, pushed_of, act, jump, push, return, WordForm, LoadPair, StoreHl, LoadHl, StoreA, LoadA, Jump, JumpWhere, CallTo, CallWhere, instruction_with, Location, Place, Number, Facts, after, after_operation_with, after_word, without_hl, without_memory, Activation, Asks, WordAsks, AllHold, ByteHolds, Distances, FactsHold, place_at}
+use Rattle.code_meaning.proofs.Prelude.{◌≡◌, ℕ, ◌==◌, Bool, true, false, if◌then◌else◌, List, bit_and, bit_or, Option, refl, IsMemory, Instr, Nop, Lxi, Stax, Ldax, Shld, Lhld, Sta, Lda, Inx, Dcx, Dad, Inr, Dcr, Mvi, Rlc, Rrc, Ral, Rar, Daa, Cma, Stc, Cmc, Mov, MovToMemory, Hlt, Accumulate, AccumulateImmediate, ReturnIf, JumpIf, CallIf, Ret, Jmp, Call, Rst, Pop, Push, Out, In, Xthl, Xchg, Pchl, Sphl, Di, Ei, Operand, Of, M, Operation, Add, AddWithCarry, Subtract, SubtractWithBorrow, And, ExclusiveOr, Or, Compare, Bc, De, Hl, Sp, B, C, D, E, H, L, A, StackBc, StackDe, StackHl, Psw, HoldBytes, Registers, State, high_byte, holds, low_byte, pushed_of, act, jump, push, return, WordForm, LoadPair, StoreHl, LoadHl, StoreA, LoadA, Jump, JumpWhere, CallTo, CallWhere, instruction_with, Location, Place, Number, Facts, after, after_operation_with, after_word, without_hl, without_memory, Activation, Asks, WordAsks, AllHold, ByteHolds, Distances, FactsHold, place_at, word_of_halves}
 use lib.Bits.{and_self, or_self}
 use Rattle.code_meaning.proofs.Facts.Changes.{facts_stay, no_facts_hold, with_result_holds, without_a_holds, without_hl_holds, without_memory_holds, without_register_holds, without_zero_holds}
-use Rattle.code_meaning.proofs.Facts.Stores.{halves, high_holds, loaded_byte, loaded_word, low_holds, pushed_stays, put_byte, stored_byte, stored_word}
+use Rattle.code_meaning.proofs.Facts.Stores.{high_holds, loaded_byte, loaded_word, low_holds, pushed_stays, put_byte, stored_byte, stored_word}
 
 -- the state that a test chooses
 either_holds :
@@ -30,7 +30,7 @@ facts_after_word script activation distance facts (LoadPair Sp) place s is bytes
 facts_after_word script activation distance facts (LoadPair Hl) place s is bytes asks hold = record {
   byte_holds = hold.byte_holds;
   word_holds = tt;
-  address_holds = halves (place_at activation.layout place);
+  address_holds = word_of_halves (place_at activation.layout place);
   zero_holds = hold.zero_holds;
 }
 facts_after_word script activation distance facts StoreHl place s is bytes asks hold = record {

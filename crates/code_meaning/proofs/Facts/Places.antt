@@ -1,5 +1,5 @@
 -- Addresses of places and locations at a distance from others, and of equal ones.
-use Rattle.code_meaning.proofs.Prelude.{◌≡◌, ℕ, ◌+◌, ◌%◌, ◌<◌, ◌==◌, true, false, true≢false, sym, ap, ◌∙◌, arith, eqb-true, MEMORY_SIZE, wrap, Layout, left_true, right_true, Place, Number, Code, Data, External, Location, Static, Frame, place_after, location_after, before, same_place, same_location, Activation, Distances, location_at, place_at}
+use Rattle.code_meaning.proofs.Prelude.{◌≡◌, ℕ, ◌+◌, ◌%◌, ◌<◌, ◌==◌, true, ap, ◌∙◌, arith, eqb-true, MEMORY_SIZE, wrap, Layout, Place, Number, Code, Data, External, Location, Static, Frame, place_after, location_after, before, same_place, same_location, Activation, Distances, location_at, place_at, false≢true, and_parts}
 use Rattle.object_modules.specs.declared.segment.Segment.TheVariants as segments
 use Rattle.object_modules.specs.declared.segment.Target.TheVariants as targets
 
@@ -38,32 +38,29 @@ after_before activation distance location small =
     ap (λ n. wrap (n + 1)) (location_after_is activation distance location 65535)
     ∙ back_and_on (location_at activation distance location) small
 
-pub never : {A : Type 0} → false ≡ true → A
-never {A = A} same = absurd (true≢false (sym same))
-
 same_places :
     (layout : Layout) (one other : Place) → same_place one other ≡ true → place_at layout one ≡ place_at layout other
 same_places layout (Number one) (Number other) same = eqb-true one other same
-same_places layout (Number one) (Code other) same = never same
-same_places layout (Number one) (Data other) same = never same
-same_places layout (Number one) (External other name) same = never same
-same_places layout (Code one) (Number other) same = never same
+same_places layout (Number one) (Code other) same = absurd (false≢true same)
+same_places layout (Number one) (Data other) same = absurd (false≢true same)
+same_places layout (Number one) (External other name) same = absurd (false≢true same)
+same_places layout (Code one) (Number other) same = absurd (false≢true same)
 same_places layout (Code one) (Code other) same =
     ap (λ n. place_at layout (Code n)) (eqb-true one other same)
-same_places layout (Code one) (Data other) same = never same
-same_places layout (Code one) (External other name) same = never same
-same_places layout (Data one) (Number other) same = never same
-same_places layout (Data one) (Code other) same = never same
+same_places layout (Code one) (Data other) same = absurd (false≢true same)
+same_places layout (Code one) (External other name) same = absurd (false≢true same)
+same_places layout (Data one) (Number other) same = absurd (false≢true same)
+same_places layout (Data one) (Code other) same = absurd (false≢true same)
 same_places layout (Data one) (Data other) same =
     ap (λ n. place_at layout (Data n)) (eqb-true one other same)
-same_places layout (Data one) (External other name) same = never same
-same_places layout (External one name) (Number other) same = never same
-same_places layout (External one name) (Code other) same = never same
-same_places layout (External one name) (Data other) same = never same
+same_places layout (Data one) (External other name) same = absurd (false≢true same)
+same_places layout (External one name) (Number other) same = absurd (false≢true same)
+same_places layout (External one name) (Code other) same = absurd (false≢true same)
+same_places layout (External one name) (Data other) same = absurd (false≢true same)
 same_places layout (External one name) (External other other_name) same =
-    ap (λ n. place_at layout (External n name)) (eqb-true one other (left_true (one == other) (name == other_name) same))
+    ap (λ n. place_at layout (External n name)) (eqb-true one other (and_parts (one == other) (name == other_name) same).0)
     ∙ ap (λ n. place_at layout (External other n))
-    (eqb-true name other_name (right_true (one == other) (name == other_name) same))
+    (eqb-true name other_name (and_parts (one == other) (name == other_name) same).1)
 
 -- equal locations have the same address
 pub same_locations :
@@ -71,10 +68,10 @@ pub same_locations :
     → same_location one other ≡ true
     → location_at activation distance one ≡ location_at activation distance other
 same_locations activation distance (Static one) (Static other) same = same_places activation.layout one other same
-same_locations activation distance (Static one) (Frame variable other) same = never same
-same_locations activation distance (Frame variable one) (Static other) same = never same
+same_locations activation distance (Static one) (Frame variable other) same = absurd (false≢true same)
+same_locations activation distance (Frame variable one) (Static other) same = absurd (false≢true same)
 same_locations activation distance (Frame variable one) (Frame other_variable other) same =
     ap (λ n. location_at activation distance (Frame n one))
-    (eqb-true variable other_variable (left_true (variable == other_variable) (one == other) same))
+    (eqb-true variable other_variable (and_parts (variable == other_variable) (one == other) same).0)
     ∙ ap (λ n. location_at activation distance (Frame other_variable n))
-    (eqb-true one other (right_true (variable == other_variable) (one == other) same))
+    (eqb-true one other (and_parts (variable == other_variable) (one == other) same).1)

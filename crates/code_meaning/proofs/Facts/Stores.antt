@@ -1,17 +1,8 @@
 -- The contents of registers after bytes and words were loaded and stored.
-use Rattle.code_meaning.proofs.Prelude.{◌≡◌, ◌≢◌, ℕ, ◌+◌, ◌*◌, ◌/◌, ◌%◌, ◌<◌, List, length, slice_set, Option, Some, None, option_map, sym, ap, ◌∙◌, arith, length-set, MEMORY_SIZE, IsMemory, byte_at, word_at, high_byte, low_byte, one_less, two_less, word, wrap, byte_kept, byte_put, Location, location_after, Activation, AddressAsks, IsSteadyByte, PushAsks, AddressHolds, ByteHolds, Distances, IsByteAt, IsSteady, IsWordAt, WordHolds, location_at}
+use Rattle.code_meaning.proofs.Prelude.{◌≡◌, ℕ, ◌+◌, ◌<◌, List, length, slice_set, Option, Some, None, option_map, sym, ap, ◌∙◌, arith, length-set, MEMORY_SIZE, IsMemory, byte_at, word_at, high_byte, low_byte, one_less, two_less, word, wrap, byte_kept, byte_put, Location, location_after, Activation, AddressAsks, IsSteadyByte, PushAsks, AddressHolds, ByteHolds, Distances, IsByteAt, IsSteady, IsWordAt, WordHolds, location_at, word_in_memory}
 use Rattle.mem80.proofs.MemoryLemmas.{byte_small}
 use Rattle.code_meaning.proofs.Facts.Places.{location_after_is}
-
--- a word from its halves
-pub halves : (number : ℕ) → word (number / 256) (number % 256) ≡ number
-halves number = omega arith
-
-low_of : (low high : ℕ) → low < 256 → low_byte (low + 256 * high) ≡ low
-low_of low high small = omega (arith, small)
-
-high_of : (low high : ℕ) → low < 256 → high_byte (low + 256 * high) ≡ high
-high_of low high small = omega (arith, small)
+use Rattle.code_meaning.proofs.Numbers.{differs_from_next, high_of_sum, low_of_sum, word_high_byte, word_low_byte}
 
 -- a word that was loaded
 pub loaded_word :
@@ -23,8 +14,8 @@ loaded_word activation memory address is steady =
     let low = byte_at memory address in
     let high = byte_at memory (wrap (address + 1)) in
     record {
-      low_is = (low_of low high (byte_small memory address is), steady.0);
-      high_is = (high_of low high (byte_small memory address is), steady.1);
+      low_is = (low_of_sum low high (byte_small memory address is), steady.0);
+      high_is = (high_of_sum low high (byte_small memory address is), steady.1);
     }
 
 -- a byte that was stored
@@ -37,15 +28,6 @@ stored_byte activation memory address byte is steady =
     let size = is.size in
     let inside : address < MEMORY_SIZE = steady.1 in
     (sym (byte_put memory address byte (omega (arith, size, inside))), steady.0)
-
-word_low : (high low : ℕ) → low < 256 → low_byte (word high low) ≡ low
-word_low high low small = omega (arith, small)
-
-word_high : (high low : ℕ) → low < 256 → high_byte (word high low) ≡ high
-word_high high low small = omega (arith, small)
-
-next_differs : (address : ℕ) → address < MEMORY_SIZE → address ≢ wrap (address + 1)
-next_differs address inside = omega (arith, inside)
 
 -- a word that was stored
 pub stored_word :
@@ -65,10 +47,10 @@ stored_word activation memory address high low is small steady =
     let long : length middle ≡ length memory = length-set memory address first in
     let next : wrap (address + 1) < MEMORY_SIZE = steady.1.1 in
     let next_is : byte_at (slice_set middle (wrap (address + 1)) last) (wrap (address + 1)) ≡ high
-    = byte_put middle (wrap (address + 1)) last (omega (arith, size, long, next)) ∙ word_high high low small in
+    = byte_put middle (wrap (address + 1)) last (omega (arith, size, long, next)) ∙ word_high_byte high low small in
     let here_is : byte_at (slice_set middle (wrap (address + 1)) last) address ≡ low
-    = byte_kept middle (wrap (address + 1)) address last (next_differs address inside)
-    ∙ byte_put memory address first (omega (arith, size, inside)) ∙ word_low high low small in
+    = byte_kept middle (wrap (address + 1)) address last (differs_from_next address inside)
+    ∙ byte_put memory address first (omega (arith, size, inside)) ∙ word_low_byte high low small in
     record {
       low_is = (sym here_is, steady.0.0);
       high_is = (sym next_is, steady.1.0);
@@ -83,9 +65,6 @@ pub loaded_byte :
 loaded_byte activation distance None h l memory asks holds = tt
 loaded_byte activation distance (Some location) h l memory asks holds = (ap (byte_at memory) holds, asks)
 
-word_inside : (high low : ℕ) → high < 256 → low < 256 → word high low < MEMORY_SIZE
-word_inside high low one two = omega (arith, one, two)
-
 -- a byte that was stored there
 pub put_byte :
     (activation : Activation) (distance : Distances) (held : Option Location) (a h l : ℕ) (memory : List ℕ)
@@ -98,7 +77,7 @@ pub put_byte :
 put_byte activation distance None a h l memory is one two asks holds = tt
 put_byte activation distance (Some location) a h l memory is one two asks holds =
     let size = is.size in
-    let inside : word h l < MEMORY_SIZE = word_inside h l one two in (
+    let inside : word h l < MEMORY_SIZE = word_in_memory h l one two in (
       sym (byte_put memory (word h l) a (omega (arith, size, inside)))
           ∙ ap (byte_at (slice_set memory (word h l) a)) holds,
       asks,

@@ -1,6 +1,6 @@
 -- Uses of facts: an instruction copies a byte from a register that is known to hold it.
-use Rattle.code_meaning.proofs.Prelude.{◌≡◌, ℕ, ◌<◌, ◌⊎◌, inl, inr, Bool, true, false, ◌||◌, if◌then◌else◌, List, Option, Some, None, refl, ap, subst, ◌∙◌, MEMORY_SIZE, byte_at, Instr, A, H, L, State, word, act, with_registers, Location, Facts, before, byte_for_l, byte_from_hl, holds_byte, is_at, copy, load, Activation, AddressHolds, ByteHolds, Distances, FactsHold, IsByteAt, IsWordAt, WordHolds, location_at}
-use Rattle.code_meaning.proofs.Facts.Places.{after_before, never, same_locations}
+use Rattle.code_meaning.proofs.Prelude.{◌≡◌, ℕ, ◌<◌, ◌⊎◌, inl, inr, Bool, true, false, ◌||◌, if◌then◌else◌, List, Option, Some, None, refl, ap, subst, ◌∙◌, MEMORY_SIZE, byte_at, Instr, A, H, L, State, word, act, with_registers, Location, Facts, before, byte_for_l, byte_from_hl, holds_byte, is_at, copy, load, Activation, AddressHolds, ByteHolds, Distances, FactsHold, IsByteAt, IsWordAt, WordHolds, location_at, false≢true}
+use Rattle.code_meaning.proofs.Facts.Places.{after_before, same_locations}
 
 -- A holds the byte at a location,
 pub byte_in_a_is :
@@ -9,7 +9,7 @@ pub byte_in_a_is :
     → is_at held location ≡ true
     → ByteHolds activation distance held a memory
     → IsByteAt activation memory (location_at activation distance location) a
-byte_in_a_is activation distance None location a memory here holds = never here
+byte_in_a_is activation distance None location a memory here holds = absurd (false≢true here)
 byte_in_a_is activation distance (Some other) location a memory here holds =
     subst (λ (address : ℕ). IsByteAt activation memory address a) (same_locations activation distance other location here)
     holds
@@ -21,7 +21,7 @@ pub word_in_hl_is :
     → is_at held location ≡ true
     → WordHolds activation distance held h l memory
     → IsWordAt activation memory (location_at activation distance location) h l
-word_in_hl_is activation distance None location h l memory here holds = never here
+word_in_hl_is activation distance None location h l memory here holds = absurd (false≢true here)
 word_in_hl_is activation distance (Some other) location h l memory here holds =
     subst (λ (address : ℕ). IsWordAt activation memory address h l) (same_locations activation distance other location here)
     holds
@@ -32,7 +32,7 @@ pub address_in_hl_is :
     → is_at held location ≡ true
     → AddressHolds activation distance held h l
     → word h l ≡ location_at activation distance location
-address_in_hl_is activation distance None location h l here holds = never here
+address_in_hl_is activation distance None location h l here holds = absurd (false≢true here)
 address_in_hl_is activation distance (Some other) location h l here holds =
     holds ∙ same_locations activation distance other location here
 
@@ -155,4 +155,4 @@ held_byte_is activation distance facts location a h l zero_flag memory small tol
         inr (inl is.low_is)
     by_test false false true a_is low_is high_is any =
         inr (inr (byte_in_h_is activation distance facts.word_in_hl location h l memory small high_is hold.word_holds))
-    by_test false false false a_is low_is high_is any = never any
+    by_test false false false a_is low_is high_is any = absurd (false≢true any)

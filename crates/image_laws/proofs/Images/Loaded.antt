@@ -1,5 +1,5 @@
 -- What a memory has at the addresses of the segments of a placed module.
-use Rattle.image_laws.proofs.Prelude.{◌≡◌, ℕ, suc, ◌+◌, ◌-◌, ◌<◌, ◌≤◌, inl, inr, cond, List, [], ◌∷◌, length, slice_get, Option, Some, None, unwrap_or, refl, ap, subst, ◌∙◌, arith, option_flatten, option_or, lt-ltb, le-ltb, cases_lt, slice_get_past, byte_at, IsLoaded, Segment, Code, Data, Plan, gain_at, placed_bytes, at_address, image_at, ObjectModule, places_of, IsAllowed, SetBytesStand, BytesAreLoaded, RunsAreLoaded}
+use Rattle.image_laws.proofs.Prelude.{◌≡◌, ℕ, suc, ◌+◌, ◌-◌, ◌<◌, ◌≤◌, inl, inr, cond, List, [], ◌∷◌, length, slice_get, Option, Some, None, unwrap_or, ap, subst, ◌∙◌, arith, option_flatten, option_or, lt-ltb, le-ltb, cases_lt, slice_get_past, byte_at, IsLoaded, Segment, Code, Data, Plan, gain_at, placed_bytes, at_address, image_at, ObjectModule, places_of, IsAllowed, SetBytesStand, BytesAreLoaded, RunsAreLoaded, or_none_same}
 use Rattle.isa8080.specs.State.{wrap}
 use Rattle.image_laws.proofs.Images.Pieces.{resolved_length}
 
@@ -74,10 +74,6 @@ at_elsewhere base address bytes h =
           ]
     ]
 
-or_none : (x : Option ℕ) → option_or x None ≡ x
-or_none None = refl
-or_none (Some value) = refl
-
 -- the length of what is placed
 pub placed_length :
     (plan : Plan) (object : ObjectModule) (segment : Segment)
@@ -106,7 +102,7 @@ code_byte plan object k is h =
     at_elsewhere plan.data_base (plan.code_base + k) (placed_bytes plan object Data)
     (λ a b. both_segments plan object is (plan.code_base + k) (omega arith) (omega (arith, h)) a b) in
     ap (option_or (at_address plan.code_base (placed_bytes plan object Code) (plan.code_base + k))) other
-    ∙ or_none (at_address plan.code_base (placed_bytes plan object Code) (plan.code_base + k))
+    ∙ or_none_same (at_address plan.code_base (placed_bytes plan object Code) (plan.code_base + k))
     ∙ at_within plan.code_base k (placed_bytes plan object Code)
 
 data_byte :

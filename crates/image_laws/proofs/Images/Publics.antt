@@ -1,9 +1,5 @@
 -- Where the publics of the modules of a merge lie.
-use Rattle.image_laws.proofs.Prelude.{◌≡◌, ℕ, ◌+◌, ◌%◌, Bool, true, false, cond, not, List, [], ◌∷◌, ◌++◌, All, map, Some, slice_get, Option, option_and_then, refl, ap, sym, subst, ◌∙◌, arith, AllByRecursion, bytes_eq, and_parts, or_parts, All-from_recursion, bytes_eq-Decides, External, Linked, all_publics, displacement_in, linked_modules, public_moved, public_named, publics_moved, Plan, base_of, public_names, Public, ObjectModule, are_new, is_among, public_name, merge_is, names_from, none_repeated, PublicLies, PublicsLie, address_of_public, address_of_target, piece_base}
-
-not_true : (b : Bool) → not b ≡ true → b ≡ false
-not_true false h = refl
-not_true true h = absurd (let bad : false ≡ true = h in cc)
+use Rattle.image_laws.proofs.Prelude.{◌≡◌, ℕ, ◌+◌, ◌%◌, true, false, cond, not, List, [], ◌∷◌, All, map, Some, slice_get, Option, option_and_then, refl, ap, sym, subst, ◌∙◌, arith, AllByRecursion, bytes_eq, and_parts, or_parts, All-from_recursion, bytes_eq-Decides, External, Linked, all_publics, displacement_in, linked_modules, public_moved, public_named, publics_moved, Plan, base_of, public_names, Public, ObjectModule, are_new, is_among, public_name, merge_is, names_from, none_repeated, PublicLies, PublicsLie, address_of_public, address_of_target, piece_base, all_halves, not-true}
 
 among_fewer :
     (name : List ℕ) (known : List (List ℕ)) (publics : List Public)
@@ -24,12 +20,9 @@ new_names known (public ∷ others) h =
     let cut =
     and_parts (not (is_among public.name known))
     (are_new (map public_name others) (public.name ∷ known)) h in (
-      not_true (is_among public.name known) cut.0,
+      not-true (is_among public.name known) cut.0,
       among_fewer public.name known others (new_names (public.name ∷ known) others cut.1),
     )
-
-same_name : (name : List ℕ) → bytes_eq name name ≡ true
-same_name name = (bytes_eq-Decides name name).1 refl
 
 -- each of publics with different names is the one that its name finds
 abbrev FindsItself : List Public → Public → Type 0
@@ -63,19 +56,11 @@ each_found known [] h = tt
 each_found known (first ∷ others) h =
     let cut =
     and_parts (not (is_among first.name known)) (are_new (map public_name others) (first.name ∷ known)) h in (
-      ap (λ b. cond b (Some first) (public_named others first.name)) (same_name first.name),
+      ap (λ b. cond b (Some first) (public_named others first.name)) ((bytes_eq-Decides first.name first.name).1 refl),
       found_after first others others
           (name_differs first known others (new_names (first.name ∷ known) others cut.1))
           (each_found (first.name ∷ known) others cut.1),
     )
-
--- Facts of all publics are facts of those of each module.
-by_parts :
-    {A : Type 0} (P : A → Type 0) (xs ys : List A) → AllByRecursion P (xs ++ ys)
-    → AllByRecursion P xs × AllByRecursion P ys
-by_parts P [] ys all = (tt, all)
-by_parts P (x ∷ xs) ys all =
-    let later = by_parts P xs ys all.1 in ((all.0, later.0), later.1)
 
 module _ (plan : Plan) (merged : ObjectModule) where
   public_lies :
@@ -101,7 +86,7 @@ module _ (plan : Plan) (merged : ObjectModule) where
       → AllByRecursion (λ (one : Linked). All (PublicLies plan merged one) (one.object).publics) linked
   modules_lie [] all = tt
   modules_lie (one ∷ others) all =
-      let cut = by_parts (FindsItself merged.publics) (publics_moved one) (all_publics others) all in (
+      let cut = all_halves (FindsItself merged.publics) (publics_moved one) (all_publics others) all in (
         All-from_recursion (PublicLies plan merged one) (one.object).publics
             (module_lies one (one.object).publics cut.0),
         modules_lie others cut.1,

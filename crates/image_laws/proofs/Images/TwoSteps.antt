@@ -1,6 +1,6 @@
 -- Bytes that are fixed in two steps, when modules are merged and when the merge is placed, are those that are
 -- fixed in one.
-use Rattle.image_laws.proofs.Prelude.{◌≡◌, ℕ, ◌+◌, ◌/◌, ◌%◌, ◌==◌, Bool, true, false, not, ◌||◌, List, [], ◌∷◌, filter_map, map, Option, Some, None, option_map, option_and_then, refl, ap, sym, ◌∙◌, arith, list_any, cons_option, option_map_or, and_parts, or_parts, eqb-true, FixKind, Low, High, Both, Target, Fixup, SetByte, begins_word, is_plain, words_are_whole, first_byte_moved, second_byte_moved, after_fixup, value_after, value_moved, fixup_moved, byte_moved, moved_after, moved, bytes_resolved, high_at, word_before, value_stays}
+use Rattle.image_laws.proofs.Prelude.{◌≡◌, ℕ, ◌+◌, ◌/◌, ◌%◌, ◌==◌, Bool, true, false, not, ◌||◌, List, [], ◌∷◌, filter_map, map, Option, Some, None, option_map, option_and_then, refl, ap, sym, ◌∙◌, arith, list_any, cons_option, option_map_or, and_parts, or_parts, eqb-true, FixKind, Low, High, Both, Target, Fixup, SetByte, begins_word, is_plain, words_are_whole, first_byte_moved, second_byte_moved, after_fixup, value_after, value_moved, fixup_moved, byte_moved, moved_after, moved, bytes_resolved, high_at, word_before, value_stays, not-false}
 
 -- what targets gain in one step is what they gain in two, modulo 65536
 abbrev pub GainInTwo : (first second whole : Target → ℕ) → (kept : Target → Option Target) → Type 0
@@ -57,10 +57,6 @@ no_word : (b : Bool) → (not b || false) ≡ true → b ≡ false
 no_word false h = refl
 no_word true h = absurd (let bad : false ≡ true = h in cc)
 
-no_part : (b : Bool) → not b ≡ false → b ≡ true
-no_part true h = refl
-no_part false h = absurd (let bad : true ≡ false = h in cc)
-
 -- Each byte.
 module _
     (first second whole : Target → ℕ) (kept : Target → Option Target)
@@ -95,7 +91,7 @@ module _
       pages : first target % 256 ≡ 0
       pages =
           let is = or_parts (gains_part first target) false high in
-          eqb-true (first target % 256) 0 (no_part (first target % 256 == 0) is.0)
+          eqb-true (first target % 256) 0 (not-false (first target % 256 == 0) is.0)
 
       go : (other : Option Target)
           → whole target % 65536 ≡ (first target + option_map_or second other 0) % 65536

@@ -1,8 +1,7 @@
 -- In the placement that a plan gives each object of a module, but for EXTERNAL ones, lies at the address of its
 -- location.
-use Rattle.image_laws.proofs.Prelude.{◌≡◌, ℕ, zero, suc, ◌+◌, List, [], ◌∷◌, ◌++◌, length, Option, Some, None, refl, ap, sym, subst, ◌∙◌, length-append, arith, slice_get, slice_index, unwrap_or, zip, none-some, get_or_from_slice_get, HasPlace, IsStorable, Home, InData, InConstants, Placed, BasedOn, Elsewhere, Nowhere, InFrame, TypedObject, TypedModule, Slot, Bases, FollowsBases, HasAddresses, LiesWhereAtSays, ModulePlacement, address_by_home, addresses_after, module_placement_by, Location, address_of_location, location_by_home, location_of, locations_after, slot_of_object, storage_with, location_is, AreBases, lies_at_location}
+use Rattle.image_laws.proofs.Prelude.{◌≡◌, ℕ, zero, suc, ◌+◌, List, [], ◌∷◌, ◌++◌, length, Option, Some, None, refl, ap, sym, subst, ◌∙◌, length-append, arith, slice_get, slice_index, unwrap_or, zip, none-some, get_or_from_slice_get, HasPlace, IsStorable, Home, InData, InConstants, Placed, BasedOn, Elsewhere, Nowhere, InFrame, TypedObject, TypedModule, Slot, Bases, FollowsBases, HasAddresses, LiesWhereAtSays, ModulePlacement, address_by_home, addresses_after, module_placement_by, Location, address_of_location, location_by_home, location_of, locations_after, slot_of_object, storage_with, location_is, AreBases, lies_at_location, got_behind, got_both, got_in_front, got_numbered}
 use Rattle.layout.specs.Segments.{Target, Absolute}
-use Rattle.image_laws.proofs.Memory.Lists.{got_both, got_numbered, in_back, in_front}
 
 -- an object without a place of its own, and in no other module: its address says nothing and is 0
 abbrev HasNone : Home → Type 0
@@ -18,7 +17,7 @@ address_kept :
 address_kept bases before [] number address found = found
 address_kept bases before (object ∷ others) number address found =
     address_kept bases (before ++ address_by_home bases before object.1 (object.0).home ∷ []) others number address
-    (in_front before (address_by_home bases before object.1 (object.0).home ∷ []) number address found)
+    (got_in_front before (address_by_home bases before object.1 (object.0).home ∷ []) number address found)
 
 none_is_zero :
     (bases : Bases) (before : List ℕ) (object : TypedObject) (home : Home)
@@ -48,7 +47,7 @@ address_without bases before (first ∷ others) zero number object at found none
     ∙ none_is_zero bases before object object.home none in
     address_kept bases (before ++ address_by_home bases before first.1 (first.0).home ∷ []) others number 0
     (ap (slice_get (before ++ address_by_home bases before first.1 (first.0).home ∷ [])) at
-    ∙ in_back before (address_by_home bases before first.1 (first.0).home ∷ []) 0
+    ∙ got_behind before (address_by_home bases before first.1 (first.0).home ∷ []) 0
     ∙ ap (λ (n : ℕ). Some n) address)
 address_without bases before (first ∷ others) (suc index) number object at found none =
     address_without bases (before ++ address_by_home bases before first.1 (first.0).home ∷ []) others index number

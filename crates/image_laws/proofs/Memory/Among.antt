@@ -1,5 +1,5 @@
 -- Contents and pieces among those of a program, by the modules and the places that they come from.
-use Rattle.image_laws.proofs.Prelude.{◌≡◌, ℕ, zero, suc, ◌+◌, ◌⊎◌, inl, inr, Bool, true, false, ◌&&◌, ◌||◌, List, [], ◌∷◌, ◌++◌, map, flat_map, Option, Some, None, unwrap_or, refl, ap, sym, subst, ◌∙◌, arith, if◌then◌else◌, filter, filter_map, slice_get, zip, AllByRecursion, cons_option, enumerate_from, list_any, none-some, Contents, IsAmong}
+use Rattle.image_laws.proofs.Prelude.{◌≡◌, ℕ, zero, suc, ◌+◌, ◌⊎◌, inl, inr, Bool, true, false, ◌&&◌, ◌||◌, List, [], ◌∷◌, ◌++◌, map, flat_map, Option, Some, None, unwrap_or, refl, ap, sym, subst, ◌∙◌, arith, if◌then◌else◌, filter, filter_map, slice_get, zip, AllByRecursion, cons_option, enumerate_from, list_any, none-some, Contents, IsAmong, one_moved}
 
 -- the items of two lists at one place
 pub of_zip :
@@ -28,10 +28,7 @@ of_numbered first (x ∷ items) zero one found then_is =
     plus_none : (n : ℕ) → n ≡ n + 0
     plus_none n = omega arith
 of_numbered first (x ∷ items) (suc number) one found then_is =
-    of_numbered (first + 1) items number one found (λ same there. then_is (same ∙ next first number) there)
-  where
-    next : (first number : ℕ) → first + 1 + number ≡ first + suc number
-    next first number = omega arith
+    of_numbered (first + 1) items number one found (λ same there. then_is (same ∙ one_moved first number) there)
 
 pub numbered :
     {X : Type 0} (first : ℕ) (items : List X) (number at : ℕ) (item : X)

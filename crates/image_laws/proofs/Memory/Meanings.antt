@@ -1,6 +1,6 @@
 -- The addresses that a run of the source has for objects are those that the targets of the object modules have: an
 -- EXTERNAL object lies where the public of its name does.
-use Rattle.image_laws.proofs.Prelude.{◌≡◌, ℕ, zero, suc, ◌+◌, ◌-◌, ◌%◌, ◌<◌, ◌≤◌, Bool, true, false, cond, List, [], ◌∷◌, ◌++◌, length, replicate, flat_map, Option, Some, None, unwrap_or, refl, ap, ap₂, sym, subst, ◌∙◌, arith, All, IsSomeAnd, ◌&&◌, nat_lt, slice_get, slice_index, list_all, position_from, option_and_then, option_map_or, option_or, bytes_eq, ltb-true, position_from-zero, recursion_from_All, none-some, slice_get_past, bytes_eq-Decides, MEMORY_SIZE, InitialValue, ByteValue, WordValue, LocationValue, IsHereIfPublic, ListsGlobals, size_of_object, bytes_filled, Home, InData, InConstants, Placed, BasedOn, Elsewhere, Nowhere, InFrame, TypedObject, TypedModule, InProgram, first_found, in_module, object_meant, public_object_in, ModulePlacement, PlacingPlan, Location, After, SegmentStart, ExternalName, address_of_location, location_by_home, location_of, locations_after, AtNumber, address_in, address_of_object, bytes_of_value, bytes_of_word, values_in, location_is, MeansObject, external_object_meant, addresses, set, starting_bytes, of_all, Linked, linked_modules, public_named, Plan, Image, IsObjectModule, ObjectModule, Public, is_valid_public, may_have_publics, PublicLies, address_of_public, piece_base, plan_of, IsInMemory, placement_of, IsLinked, HasPublic, IsPublicAt}
+use Rattle.image_laws.proofs.Prelude.{◌≡◌, ℕ, zero, suc, ◌+◌, ◌-◌, ◌%◌, ◌<◌, ◌≤◌, Bool, true, List, [], ◌∷◌, ◌++◌, length, replicate, flat_map, Option, Some, None, unwrap_or, refl, ap, ap₂, sym, subst, ◌∙◌, arith, All, IsSomeAnd, ◌&&◌, nat_lt, slice_get, slice_index, list_all, option_and_then, option_map_or, option_or, bytes_eq, ltb-true, position_from-zero, recursion_from_All, none-some, slice_get_past, bytes_eq-Decides, MEMORY_SIZE, InitialValue, ByteValue, WordValue, LocationValue, IsHereIfPublic, ListsGlobals, size_of_object, bytes_filled, Home, InData, InConstants, Placed, BasedOn, Elsewhere, Nowhere, InFrame, TypedObject, TypedModule, InProgram, first_found, in_module, object_meant, public_object_in, ModulePlacement, PlacingPlan, Location, After, SegmentStart, ExternalName, address_of_location, location_by_home, location_of, locations_after, AtNumber, address_in, address_of_object, bytes_of_value, bytes_of_word, values_in, location_is, MeansObject, external_object_meant, addresses, set, starting_bytes, of_all, Linked, linked_modules, public_named, Plan, Image, IsObjectModule, ObjectModule, Public, is_valid_public, may_have_publics, PublicLies, address_of_public, piece_base, plan_of, IsInMemory, placement_of, IsLinked, HasPublic, IsPublicAt, and_parts, first_position}
 use Rattle.layout.specs.declared.slot.Segment.TheVariants as slots
 use Rattle.image_laws.proofs.Images.Publics.{publics_lie}
 use Rattle.image_laws.proofs.Memory.Addresses.{IsHere, locations_length}
@@ -15,23 +15,6 @@ here_if_public (BasedOn base) is = tt
 here_if_public Nowhere is = tt
 here_if_public (InFrame procedure) is = tt
 here_if_public Elsewhere is = absurd is
-
--- the position of the first that passes a test
-pub first_position : {X : Type 0} {A : Type 0} (p : X → Bool) (from : ℕ) (all : List X) (number : ℕ)
-    → position_from p from all ≡ Some number
-    → ((at : ℕ) (x : X) → number ≡ from + at → slice_get all at ≡ Some x → p x ≡ true → A) → A
-first_position p from [] number e then_is = absurd (none-some number e)
-first_position {X} {A} p from (first ∷ all) number e then_is =
-    by (p first) refl e
-    (λ later. first_position p (from + 1) all number later
-    (λ at x same there holds. then_is (suc at) x (omega (arith, same)) there holds))
-  where
-    by : (test : Bool) → p first ≡ test → cond test (Some from) (position_from p (from + 1) all) ≡ Some number
-        → (position_from p (from + 1) all ≡ Some number → A) → A
-    by true is e rest =
-        let same : from ≡ number = ap (λ (found : Option ℕ). unwrap_or found from) e in
-        then_is 0 first (omega (arith, same)) refl is
-    by false is e rest = rest e
 
 -- what is found in modules is found in one of them
 pub found_place : {A : Type 0} (from : ℕ) (in_one : TypedModule → Option ℕ) (modules : List TypedModule)
@@ -58,11 +41,6 @@ found_place {A} from in_one (first ∷ others) place e then_is =
         nothing_more : (n : ℕ) → n + 0 ≡ n
         nothing_more n = omega arith
 
--- both of two tests
-pub both_hold : (one other : Bool) → (one && other) ≡ true → (one ≡ true) × (other ≡ true)
-both_hold true other e = (refl, e)
-both_hold false other e = absurd (let bad : false ≡ true = e in cc)
-
 each_holds :
     {X : Type 0} (p : X → Bool) (all : List X) (number : ℕ) (item : X)
     → list_all p all ≡ true
@@ -70,9 +48,9 @@ each_holds :
     → p item ≡ true
 each_holds p [] number item holds found = absurd (none-some item found)
 each_holds p (first ∷ all) zero item holds found =
-    ap p (sym (ap (λ (found : Option _). unwrap_or found first) found)) ∙ (both_hold (p first) (list_all p all) holds).0
+    ap p (sym (ap (λ (found : Option _). unwrap_or found first) found)) ∙ (and_parts (p first) (list_all p all) holds).0
 each_holds p (first ∷ all) (suc number) item holds found =
-    each_holds p all number item (both_hold (p first) (list_all p all) holds).1 found
+    each_holds p all number item (and_parts (p first) (list_all p all) holds).1 found
 
 -- what is not found is past the end
 past_end :
@@ -143,7 +121,7 @@ module _
         of_all IsObjectModule objects number_of_module at.linked.object
         (recursion_from_All IsObjectModule objects (is.placed).valid) at.object_found in
         ltb-true public.offset 65536
-        (both_hold (may_have_publics public.segment) (nat_lt public.offset 65536)
+        (and_parts (may_have_publics public.segment) (nat_lt public.offset 65536)
         (each_holds is_valid_public (at.linked.object).publics place public valid.publics found)).1
 
     -- where an object of this module lies
@@ -214,7 +192,7 @@ module _
             (sym (position_from-zero (λ (object' : TypedObject). object'.is_public && bytes_eq object'.name object.name)
             its.objects) ∙ found_in)
             (λ number_there public at_number is_there holds.
-            let tests = both_hold public.is_public (bytes_eq public.name object.name) holds in
+            let tests = and_parts public.is_public (bytes_eq public.name object.name) holds in
             let in_its : slice_get its.objects place.number ≡ Some public =
             subst (λ (n : ℕ). slice_get its.objects n ≡ Some public) (omega (arith, at_number)) is_there in
             ap (λ (n : ℕ).

@@ -1,12 +1,11 @@
 -- Each module of a program in memory: its object module, where that is linked, and where its segments begin.
-use Rattle.image_laws.proofs.Prelude.{◌≡◌, ℕ, zero, suc, ◌+◌, ◌%◌, ◌<◌, ◌≤◌, List, [], ◌∷◌, length, Option, Some, None, option_map, unwrap_or, refl, ap, sym, subst, ◌∙◌, arith, slice_get, slice_index, zip, option_and_then, recursion_from_All, none-some, slice_get-map, slice_get-get_or, slice_get_within, MEMORY_SIZE, byte_at, IsStorable, TypedObject, TypedModule, SlotSegment, Slot, Bases, LiesInSlot, HasAddresses, LiesWhereAtSays, PlacingPlan, bases_from, module_placement_by, placement_by, ModuleTarget, SegmentStart, ExternalName, Places, address_of_location, constant_places, data_places, location_of, places_in, slot_of_object, storage_with, module_follows, resolved_length, constants_length, data_length, of_all, Target, InSegment, External, Linked, code_end, data_end, linked_after, linked_from, linked_modules, public_named, Image, SetByte, ObjectModule, BytesAreLoaded, address_of_public, address_of_target, IsObjectOf, AreObjectsOf, StandsAt, bases_of, code_lengths_of, plan_of, HaveSegments, IsInMemory, placement_of, IsLinked, placed_by, BeginWith, HasSegments, IsTarget}
+use Rattle.image_laws.proofs.Prelude.{◌≡◌, ℕ, zero, suc, ◌+◌, ◌%◌, ◌<◌, ◌≤◌, List, [], ◌∷◌, length, Option, Some, None, option_map, unwrap_or, refl, ap, sym, subst, ◌∙◌, arith, slice_get, slice_index, zip, option_and_then, recursion_from_All, none-some, slice_get-map, slice_get-get_or, slice_get_within, MEMORY_SIZE, byte_at, IsStorable, TypedObject, TypedModule, SlotSegment, Slot, Bases, LiesInSlot, HasAddresses, LiesWhereAtSays, PlacingPlan, bases_from, module_placement_by, placement_by, ModuleTarget, SegmentStart, ExternalName, Places, address_of_location, constant_places, data_places, location_of, places_in, slot_of_object, storage_with, module_follows, resolved_length, constants_length, data_length, of_all, Target, InSegment, External, Linked, code_end, data_end, linked_after, linked_from, linked_modules, public_named, Image, SetByte, ObjectModule, BytesAreLoaded, address_of_public, address_of_target, IsObjectOf, AreObjectsOf, StandsAt, bases_of, code_lengths_of, plan_of, HaveSegments, IsInMemory, placement_of, IsLinked, placed_by, BeginWith, HasSegments, IsTarget, got_both, got_numbered}
 use Rattle.layout.specs.declared.slot.Segment.TheVariants as slots
 use Rattle.layout.specs.{Following.{base_of}, Segments.{resolved}}
 use Rattle.image_laws.proofs.Programs.Bases.{bases_agree}
 use Rattle.image_laws.proofs.Programs.Standing.{program_stands}
 use Rattle.image_laws.proofs.Memory.Addresses.{IsHere, lies_here}
 use Rattle.image_laws.proofs.Memory.Bytes.{bytes_alike}
-use Rattle.image_laws.proofs.Memory.Lists.{got_both, got_numbered}
 
 -- a module among those that are linked
 record LinkedAt (objects : List ObjectModule) (all : List Linked) (number : ℕ) (typed : TypedModule) : Type 0 where
@@ -65,7 +64,7 @@ targets_alike plan merged linked (ExternalName name) (External number) is =
 targets_alike plan merged linked (ExternalName name) (InSegment segment) is = absurd is
 
 -- what begins with bytes has no fewer
-begin_length :
+pub begin_length :
     (object : ObjectModule) (bytes : Places) (places : List (Option SetByte))
     → BeginWith object bytes places
     → length bytes ≤ length places

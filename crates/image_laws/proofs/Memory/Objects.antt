@@ -1,17 +1,10 @@
 -- What stands in memory where objects and constant lists lie: the bytes that INITIAL or DATA fill them with, and what stood
 -- there before where nothing fills them.
-use Rattle.image_laws.proofs.Prelude.{◌≡◌, ℕ, zero, suc, ◌+◌, ◌-◌, ◌%◌, ◌<◌, ◌≤◌, List, [], ◌∷◌, ◌++◌, length, map, flat_map, replicate, take, Option, Some, None, option_map, unwrap_or, refl, ap, sym, subst, ◌∙◌, ⊎_elim, arith, slice_get, slice_index, cases_lt, length-map, sum_by-cons, slice_get-map, get_or_from_slice_get, byte_at, InitialValue, size_of_object, bytes_filled, Home, InData, InConstants, Placed, BasedOn, Elsewhere, Nowhere, InFrame, TypedObject, TypedModule, Slot, address_of_slot, PlacingPlan, address_of_object, bytes_of_value, values_in, bytes_in_data, data_bytes, slot_of_list, slot_of_object, storage_with, set, starting_bytes, list_resolved, object_resolved, bytes_written, Image, ObjectModule, bases_of, IsInMemory, placement_of, IsLinked, placed_by}
+use Rattle.image_laws.proofs.Prelude.{◌≡◌, ℕ, zero, suc, ◌+◌, ◌-◌, ◌%◌, ◌<◌, ◌≤◌, List, [], ◌∷◌, ◌++◌, length, flat_map, replicate, take, Option, Some, None, option_map, unwrap_or, refl, ap, sym, subst, ◌∙◌, ⊎_elim, arith, slice_get, slice_index, cases_lt, length-map, sum_by-cons, slice_get-map, get_or_from_slice_get, byte_at, InitialValue, size_of_object, bytes_filled, Home, InData, InConstants, Placed, BasedOn, Elsewhere, Nowhere, InFrame, TypedObject, TypedModule, Slot, address_of_slot, PlacingPlan, address_of_object, bytes_of_value, values_in, bytes_in_data, data_bytes, slot_of_list, slot_of_object, storage_with, set, starting_bytes, list_resolved, object_resolved, bytes_written, Image, ObjectModule, bases_of, IsInMemory, placement_of, IsLinked, placed_by, map-append, got_behind, got_in_front, got_numbered}
 use Rattle.layout.specs.declared.slot.Segment.TheVariants as slots
 use Rattle.layout.specs.Following.{base_of}
-use Rattle.image_laws.proofs.Memory.Lists.{got_numbered, in_back, in_front}
 use Rattle.image_laws.proofs.Memory.Meanings.{bytes_meant}
 use Rattle.image_laws.proofs.Memory.Modules.{address_for, in_slot, stands_there}
-
--- bytes that are set, of one value after another
-map_both :
-    {X Y : Type 0} (f : X → Y) (one other : List X) → map f (one ++ other) ≡ map f one ++ map f other
-map_both f [] other = refl
-map_both f (first ∷ one) other = ap (λ rest. f first ∷ rest) (map_both f one other)
 
 all_set :
     (address_of : ℕ → ℕ) (values : List InitialValue)
@@ -20,7 +13,7 @@ all_set :
 all_set address_of [] = refl
 all_set address_of (value ∷ values) =
     ap (λ (rest : List (Option ℕ)). set (bytes_of_value address_of value) ++ rest) (all_set address_of values)
-    ∙ sym (map_both (λ (byte : ℕ). Some byte) (bytes_of_value address_of value)
+    ∙ sym (map-append (λ (byte : ℕ). Some byte) (bytes_of_value address_of value)
     (flat_map (bytes_of_value address_of) values))
 
 -- the bytes that fill an object, and how many they are
@@ -33,7 +26,7 @@ pub filled_byte :
     → slice_get (filling address_of object) index ≡ Some byte
     → slice_get (starting_bytes address_of object) index ≡ Some (Some byte)
 filled_byte address_of object index byte found =
-    in_front (flat_map (λ (value : InitialValue). set (bytes_of_value address_of value)) (values_in object.home))
+    got_in_front (flat_map (λ (value : InitialValue). set (bytes_of_value address_of value)) (values_in object.home))
     (replicate (size_of_object object - bytes_filled object.home) None) index (Some byte)
     (ap (λ (bytes : List (Option ℕ)). slice_get bytes index) (all_set address_of (values_in object.home))
     ∙ slice_get-map (λ (byte : ℕ). Some byte) (filling address_of object) index
@@ -60,7 +53,7 @@ empty_byte address_of object index past within =
     ∙ length-map (filling address_of object) (λ (byte : ℕ). Some byte) in
     let there : index ≡ length some + (index - length some) = omega (arith, count, past) in
     ap (slice_get (some ++ none)) there
-    ∙ in_back some none (index - length some)
+    ∙ got_behind some none (index - length some)
     ∙ empty (size_of_object object - bytes_filled object.home) (index - length some)
     (omega (arith, size, count, past, within))
 

@@ -1,9 +1,8 @@
 -- Where it is declared the memory is the one that a run of the source starts with.
-use Rattle.image_laws.proofs.Prelude.{◌≡◌, ℕ, suc, ◌+◌, ◌-◌, ◌%◌, ◌<◌, ◌≤◌, ◌⊎◌, inl, inr, Bool, true, false, ◌&&◌, List, [], ◌∷◌, length, map, flat_map, take, Option, Some, None, option_map, unwrap_or, refl, ap, sym, subst, ◌∙◌, ⊎_elim, arith, filter_map, slice_get, slice_index, sum, zip, AllByRecursion, enumerate_from, list_any, cases_lt, All-from_recursion, recursion_from_All, sum_by-cons, none-some, slice_get-get_or, slice_get_within, get_or_from_slice_get, byte_at, IsIn, size_of_object, Home, InData, InConstants, Placed, BasedOn, Elsewhere, Nowhere, InFrame, TypedObject, TypedModule, Slot, Bases, StaticPiece, ConstantPiece, AtPiece, ModulePlacement, PlacedPiece, EndsInMemory, kind_of, piece_of, range_of, holds_byte, is_constant, is_constant_piece, is_declared, list_piece, object_piece, pieces_of, pieces_of_module, PlacingPlan, bases_from, placement_by, Contents, Covers, IsAmong, StartsAs, address_of_object, bytes_of_value, values_in, contents_of, contents_of_list, contents_of_module, contents_of_object, starting_memory, data_bytes, slot_of_object, Decides-declared, Decides-holds, writable_not_in_code, of_all, starts_as, merge_is, Code, Data, linked_modules, Image, joined, ObjectModule, length_of, AreObjectsOf, bases_of, code_lengths_of, plan_of, IsInMemory, StartsAsItsSource, placement_of, IsLinked, placed_by}
+use Rattle.image_laws.proofs.Prelude.{◌≡◌, ℕ, suc, ◌+◌, ◌-◌, ◌%◌, ◌<◌, ◌≤◌, ◌⊎◌, inl, inr, Bool, true, false, ◌&&◌, List, [], ◌∷◌, length, map, flat_map, take, Some, None, option_map, refl, ap, sym, subst, ◌∙◌, ⊎_elim, arith, filter_map, slice_get, slice_index, sum, zip, AllByRecursion, enumerate_from, list_any, cases_lt, All-from_recursion, recursion_from_All, sum_by-cons, none-some, slice_get-get_or, slice_get_within, get_or_from_slice_get, byte_at, IsIn, size_of_object, Home, InData, InConstants, Placed, BasedOn, Elsewhere, Nowhere, InFrame, TypedObject, TypedModule, Slot, Bases, StaticPiece, ConstantPiece, AtPiece, ModulePlacement, PlacedPiece, EndsInMemory, kind_of, piece_of, range_of, holds_byte, is_constant, is_constant_piece, is_declared, list_piece, object_piece, pieces_of, pieces_of_module, PlacingPlan, bases_from, placement_by, Contents, Covers, IsAmong, StartsAs, address_of_object, bytes_of_value, values_in, contents_of, contents_of_list, contents_of_module, contents_of_object, starting_memory, data_bytes, slot_of_object, Decides-declared, Decides-holds, writable_not_in_code, of_all, starts_as, merge_is, Code, Data, linked_modules, Image, joined, ObjectModule, length_of, AreObjectsOf, bases_of, code_lengths_of, plan_of, IsInMemory, StartsAsItsSource, placement_of, IsLinked, placed_by, and_parts, same_Some, got_both}
 use Rattle.image_laws.proofs.Images.Objects.{others_stay}
 use Rattle.image_laws.proofs.Programs.Lengths.{code_length_is, data_length_is, data_sum}
 use Rattle.image_laws.proofs.Memory.Among.{any_either, any_of_filter, any_of_filter_map, any_of_flat_map, any_of_map, among_back, among_either, among_front, in_flat_map, in_map, numbered, of_among, of_any, of_flat_map, of_map, of_numbered, of_zip}
-use Rattle.image_laws.proofs.Memory.Lists.{got_both}
 use Rattle.image_laws.proofs.Memory.Modules.{bases_found, in_slot, is_linked}
 use Rattle.image_laws.proofs.Memory.Objects.{empty_byte, filled_byte, filling, in_an_object, list_byte, object_byte}
 
@@ -61,9 +60,6 @@ module_of code data_base (typed ∷ others) (object ∷ objects) address are pas
     (omega (arith, below, total))
     (λ number one bases typed_is bases_is past below. then_is (suc number) one bases typed_is bases_is past below))
     (cases_lt address (data_base + data_bytes typed.objects))
-
-same_item : {X : Type 0} (one other : X) → Some one ≡ Some other → one ≡ other
-same_item one other same = ap (λ (found : Option _). unwrap_or found one) same
 
 module _
     (plan : PlacingPlan) (modules : List TypedModule) (objects : List ObjectModule) (merged : ObjectModule)
@@ -157,7 +153,7 @@ module _
         at = linked number_of_module typed typed_is
 
         placed_same : placed ≡ placed_by plan at.linked typed
-        placed_same = same_item placed (placed_by plan at.linked typed) (sym placed_is ∙ at.placed)
+        placed_same = same_Some placed (placed_by plan at.linked typed) (sym placed_is ∙ at.placed)
 
         P : Contents → Type 0
         P wanted = index < length wanted.1 → byte_at after (wanted.0 + index) ≡ slice_index wanted.1 index
@@ -311,11 +307,7 @@ module _
         at = linked number_of_module typed typed_is
 
         placed_same : placed ≡ placed_by plan at.linked typed
-        placed_same = same_item placed (placed_by plan at.linked typed) (sym placed_is ∙ at.placed)
-
-        both_true : (one other : Bool) → (one && other) ≡ true → (one ≡ true) × (other ≡ true)
-        both_true true other e = (refl, e)
-        both_true false other e = absurd (let bad : false ≡ true = e in cc)
+        placed_same = same_Some placed (placed_by plan at.linked typed) (sym placed_is ∙ at.placed)
 
         moved :
             (number : ℕ) (object : TypedObject) (slot : Slot) (start : ℕ)
@@ -344,7 +336,7 @@ module _
             → byte_at after address ≡ byte_at before address
         by_home number object start piece (InConstants values) object_is start_is home_is piece_is constant within =
             let whole : piece_of start object ConstantPiece ≡ piece =
-            same_item (piece_of start object ConstantPiece) piece piece_is in
+            same_Some (piece_of start object ConstantPiece) piece piece_is in
             let inside : IsIn address (range_of start (size_of_object object)) =
             subst (λ (piece : PlacedPiece). IsIn address piece.range) (sym whole) within in
             moved number object _ start object_is (ap (slot_of_object typed number object) home_is)
@@ -353,10 +345,10 @@ module _
             inside.0 inside.1
         by_home number object start piece (InData values) object_is start_is home_is piece_is constant within =
             let bad : false ≡ true =
-            ap is_constant_piece (same_item (piece_of start object StaticPiece) piece piece_is) ∙ constant in absurd cc
+            ap is_constant_piece (same_Some (piece_of start object StaticPiece) piece piece_is) ∙ constant in absurd cc
         by_home number object start piece (Placed at) object_is start_is home_is piece_is constant within =
             let bad : false ≡ true =
-            ap is_constant_piece (same_item (piece_of start object AtPiece) piece piece_is) ∙ constant in absurd cc
+            ap is_constant_piece (same_Some (piece_of start object AtPiece) piece piece_is) ∙ constant in absurd cc
         by_home number object start piece (BasedOn base) object_is start_is home_is piece_is constant within =
             absurd (none-some piece piece_is)
         by_home number object start piece Elsewhere object_is start_is home_is piece_is constant within =
@@ -390,7 +382,7 @@ module _
             any_of_filter_map (λ (piece : PlacedPiece). is_constant_piece piece && holds_byte address piece) object_piece
             (zip typed.objects placed.objects) object
             (λ number one piece found gives there.
-            let tests = both_true (is_constant_piece piece) (holds_byte address piece) there in
+            let tests = and_parts (is_constant_piece piece) (holds_byte address piece) there in
             of_zip typed.objects placed.objects number one found
             (λ object_is start_is.
             by_home number one.0 one.1 piece (one.0).home object_is start_is refl gives tests.0
@@ -401,7 +393,7 @@ module _
             (sym (any_of_map (λ (piece : PlacedPiece). is_constant_piece piece && holds_byte address piece) list_piece
             (zip typed.constants.lists placed.lists)) ∙ list)
             (λ number one found there.
-            by_list number one found (both_true true (holds_byte address (list_piece one)) there).1)
+            by_list number one found (and_parts true (holds_byte address (list_piece one)) there).1)
 
     uncovered_constant :
         (address : ℕ)
@@ -430,7 +422,7 @@ module _
         (λ number typed bases typed_is bases_is past_base below_end.
         let at = linked number typed typed_is in
         let same : bases ≡ bases_of plan at.linked =
-        same_item bases (bases_of plan at.linked)
+        same_Some bases (bases_of plan at.linked)
         (sym bases_is ∙ bases_found plan modules objects number at.linked is.made at.found) in
         let base : bases.data_base ≡ (bases_of plan at.linked).data_base = ap (λ (bases : Bases). bases.data_base) same in
         let room : (bases_of plan at.linked).data_base + data_bytes typed.objects ≤ 65536 =

@@ -1,6 +1,6 @@
 -- Names of the object modules of a program are found, stand once, and one of the modules is the main one.
-use Rattle.image_laws.proofs.Prelude.{◌≡◌, ℕ, ◌+◌, Bool, true, false, ◌%◌, ◌||◌, ◌==◌, cond, List, [], ◌∷◌, ◌++◌, length, map, Option, Some, None, option_map, is_some, if◌then◌else◌, refl, ap, ap₂, sym, subst, ◌∙◌, arith, count_by, filter, find, flat_map, not, AllByRecursion, cons_option, list_any, option_and_then, option_map_or, option_or, bytes_eq, eqb-true, map-append, filter-append, recursion_from_All, sum_by-cons, none-some, bytes_eq-Decides, TypedModule, Global, IsJoined, declared_otherwise, externals_of, first_repeated, globals_of, is_main, join_refusal, lacks_public, not_one_main, public_twice, publics_of, without_public, Linked, code_end, data_end, linked_after, linked_from, linked_modules, placed, placement_refusal, main_modules, public_names, repeated_after, unless_refused, unresolved, ObjectModule, is_among, SegmentTooLarge, plan_of, refusal_of_merge}
-use Rattle.layout.specs.Joined.{NotOneMain, public_named}
+use Rattle.image_laws.proofs.Prelude.{◌≡◌, ℕ, ◌+◌, Bool, true, false, ◌%◌, ◌||◌, cond, List, [], ◌∷◌, ◌++◌, length, map, Option, Some, None, option_map, is_some, if◌then◌else◌, refl, ap, ap₂, sym, subst, ◌∙◌, arith, count_by, filter, find, flat_map, not, AllByRecursion, cons_option, list_any, option_and_then, option_map_or, option_or, bytes_eq, map-append, filter-append, recursion_from_All, sum_by-cons, none-some, bytes_eq-Decides, TypedModule, Global, IsJoined, declared_otherwise, externals_of, first_repeated, globals_of, is_main, join_refusal, lacks_public, not_one_main, public_twice, publics_of, without_public, Linked, code_end, data_end, linked_after, linked_from, linked_modules, placed, placement_refusal, main_modules, public_names, repeated_after, unless_refused, unresolved, ObjectModule, is_among, SegmentTooLarge, plan_of, refusal_of_merge, or_right, all_append, both_are_none, none_before_map, one_is_main}
+use Rattle.layout.specs.Joined.{public_named}
 use Rattle.image_laws.proofs.Programs.Made.{merge_made}
 use Rattle.image_laws.proofs.Programs.Refusals.{ranges_refused}
 use Rattle.image_laws.specs.Names.{external_names_in, shared_in}
@@ -53,10 +53,6 @@ found_among (global ∷ publics) name some =
     equal : bytes_eq global.name name ≡ true → bytes_eq name global.name ≡ true
     equal same = (bytes_eq-Decides name global.name).1 (sym ((bytes_eq-Decides global.name name).0 same))
 
-    later : (one other : Bool) → other ≡ true → (one || other) ≡ true
-    later true other is = refl
-    later false other is = is
-
     by : (same : Bool)
         → bytes_eq global.name name ≡ same
         → is_some (if same then Some global else public_named publics name) ≡ true
@@ -64,7 +60,7 @@ found_among (global ∷ publics) name some =
         → (bytes_eq name global.name || is_among name (map name_of publics)) ≡ true
     by true e some rest =
         ap (λ (test : Bool). test || is_among name (map name_of publics)) (equal e)
-    by false e some rest = later (bytes_eq name global.name) (is_among name (map name_of publics)) (rest some)
+    by false e some rest = or_right (bytes_eq name global.name) (is_among name (map name_of publics)) (rest some)
 
 -- each of these externals has a public
 has_public :
@@ -140,11 +136,6 @@ externals_split typed modules =
     ap (map name_of) (filter-append is_outside (shared_in typed) (globals_of modules))
     ∙ map-append name_of (filter is_outside (shared_in typed)) (externals_of modules)
 
-all_append : {X : Type 0} (P : X → Type 0) (one other : List X)
-    → AllByRecursion P one → AllByRecursion P other → AllByRecursion P (one ++ other)
-all_append P [] other first second = second
-all_append P (x ∷ one) other first second = (first.0, all_append P one other first.1 second)
-
 externals_known :
     (modules : List TypedModule) (objects : List ObjectModule)
     → HaveNames modules objects
@@ -207,23 +198,6 @@ mains_are code data_before (typed ∷ modules) (object ∷ objects) have =
     by (Some offset) false e rest same = absurd (let bad : true ≡ false = e in cc)
     by None true e rest same = absurd (let bad : false ≡ true = e in cc)
 
--- what a program is not refused for
-both_none : {A : Type 0} (first second : Option A) → option_or first second ≡ None → (first ≡ None) × (second ≡ None)
-both_none None second none = (refl, none)
-both_none (Some value) second none = absurd (none-some value (sym none))
-
-not_mapped : {A B : Type 0} (f : A → B) (found : Option A) → option_map f found ≡ None → found ≡ None
-not_mapped f None none = refl
-not_mapped f (Some value) none = absurd (none-some (f value) (sym none))
-
-one_main : (modules : List TypedModule) → not_one_main modules ≡ None → count_by is_main modules ≡ 1
-one_main modules none = by (count_by is_main modules == 1) refl none
-  where
-    by : (one : Bool) → (count_by is_main modules == 1) ≡ one → (if one then None else Some NotOneMain) ≡ None
-        → count_by is_main modules ≡ 1
-    by true e none = eqb-true (count_by is_main modules) 1 e
-    by false e none = absurd (none-some NotOneMain (sym none))
-
 record IsWhole (modules : List TypedModule) : Type 0 where
   publics : first_repeated [] (publics_of modules) ≡ None
   externals : find (lacks_public (publics_of modules)) (externals_of modules) ≡ None
@@ -232,14 +206,14 @@ record IsWhole (modules : List TypedModule) : Type 0 where
 whole : (modules : List TypedModule) → IsJoined modules → IsWhole modules
 unfolding join_refusal
 whole modules joined =
-    let first = both_none (without_public modules)
+    let first = both_are_none (without_public modules)
     (option_or (public_twice modules) (option_or (declared_otherwise modules) (not_one_main modules))) joined in
-    let second = both_none (public_twice modules) (option_or (declared_otherwise modules) (not_one_main modules)) first.1 in
-    let third = both_none (declared_otherwise modules) (not_one_main modules) second.1 in
+    let second = both_are_none (public_twice modules) (option_or (declared_otherwise modules) (not_one_main modules)) first.1 in
+    let third = both_are_none (declared_otherwise modules) (not_one_main modules) second.1 in
     record {
-      publics = not_mapped _ (first_repeated [] (publics_of modules)) second.0;
-      externals = not_mapped _ (find (lacks_public (publics_of modules)) (externals_of modules)) first.0;
-      main = one_main modules third.1;
+      publics = none_before_map _ (first_repeated [] (publics_of modules)) second.0;
+      externals = none_before_map _ (find (lacks_public (publics_of modules)) (externals_of modules)) first.0;
+      main = one_is_main modules third.1;
     }
 
 -- Object modules of a program that may lie by a plan have a merge, and that an image.

@@ -1,5 +1,5 @@
 -- A merge is refused for its lengths just where its program is.
-use Rattle.image_laws.proofs.Prelude.{◌≡◌, ℕ, ◌==◌, Bool, true, false, cond, not, ◌||◌, nat_lt, List, [], ◌∷◌, length, find, Option, Some, None, option_map, refl, ap, sym, ◌∙◌, list_any, option_or, first_that_holds, TypedObject, TypedModule, PlacingPlan, PassesMemory, RangesOverlap, SegmentTooLarge, ObjectMisplaced, code_range, data_range, is_misplaced, overlaps, passes_memory, placed_objects, placement_by, placing_refusal, stack_range, Linked, all_publics, linked_modules, DuplicatePublic, HighByteMoves, NotOneMain, SegmentTooLong, UnresolvedExternal, link_refusal, main_modules, public_names, repeated_after, some_high_byte_moves, some_segment_is_too_long, unresolved, LengthsAgree, LengthsRefused, code_lengths_of}
+use Rattle.image_laws.proofs.Prelude.{◌≡◌, ℕ, ◌==◌, Bool, true, false, cond, not, ◌||◌, nat_lt, List, [], ◌∷◌, length, find, Option, Some, None, option_map, refl, ap, sym, ◌∙◌, list_any, option_or, first_that_holds, TypedObject, TypedModule, PlacingPlan, PassesMemory, RangesOverlap, SegmentTooLarge, ObjectMisplaced, code_range, data_range, is_misplaced, overlaps, passes_memory, placed_objects, placement_by, placing_refusal, stack_range, Linked, all_publics, linked_modules, DuplicatePublic, HighByteMoves, NotOneMain, SegmentTooLong, UnresolvedExternal, link_refusal, main_modules, public_names, repeated_after, some_high_byte_moves, some_segment_is_too_long, unresolved, LengthsAgree, LengthsRefused, code_lengths_of, misplaced_by_name}
 use Rattle.image_laws.proofs.Programs.Lengths.{same_lengths}
 
 -- Of causes that are judged in turn, which one is told.
@@ -47,13 +47,6 @@ misplaced_name plan modules code_lengths =
     (placement_by plan modules code_lengths).stack)
     (placed_objects modules (placement_by plan modules code_lengths).modules))
 
-misplaced_told :
-    (found : Option (TypedObject × ℕ))
-    → option_map (λ (placed : TypedObject × ℕ). ObjectMisplaced (placed.0).name) found
-    ≡ option_map ObjectMisplaced (option_map (λ (placed : TypedObject × ℕ). (placed.0).name) found)
-misplaced_told None = refl
-misplaced_told (Some placed) = refl
-
 -- whether a segment of a program is too large, passes the end of memory, or meets another
 abbrev pub is_large : PlacingPlan → List TypedModule → (code_lengths : List ℕ) → Bool
 is_large plan modules code_lengths =
@@ -84,7 +77,7 @@ program_refusal plan modules code_lengths =
     option_or (cond (is_large plan modules code_lengths) (Some SegmentTooLarge) None)
     (option_or (cond (passes plan modules code_lengths) (Some PassesMemory) None)
     (option_or (cond (meets plan modules code_lengths) (Some RangesOverlap) None) last)))
-    (misplaced_told
+    (misplaced_by_name
     (find (is_misplaced (placement_by plan modules code_lengths).code
     (placement_by plan modules code_lengths).stack)
     (placed_objects modules (placement_by plan modules code_lengths).modules)))

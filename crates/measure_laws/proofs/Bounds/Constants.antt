@@ -1,19 +1,8 @@
 -- The constants of a module take as many bytes as its objects with DATA and its constant lists, and its data as many as
 -- its objects without AT and DATA.
-use Rattle.measure_laws.proofs.Prelude.{◌≡◌, ℕ, zero, suc, ◌+◌, ◌-◌, ◌≤◌, ◌==◌, Bool, true, false, ◌&&◌, min, if◌then◌else◌, nat_le, nat_lt, List, [], ◌∷◌, ◌++◌, length, map, slice_get, sum_by, Option, Some, None, refl, subst, arith, All, option_map_or, eqb-true, sum_by-cons, ConstantItem, ConstantObject, ConstantList, InitialValue, ByteValue, WordValue, LocationValue, size_of_object, IsStorable, bytes_filled, size_of_value, TypedHome, InData, InConstants, Placed, BasedOn, Elsewhere, Nowhere, InFrame, TypedObject, TypedModule, constant_bytes, size_of_constant, bytes_in_data, data_bytes, size_of_items, Content, Word, Gap, Home, constant_object, constants_from, constants_of, content_of, bytes_of_value, with_constant, with_gap, with_gap_if_any, with_object, static_object, variables_from, variables_of, contents_items}
+use Rattle.measure_laws.proofs.Prelude.{◌≡◌, ℕ, suc, ◌+◌, ◌-◌, ◌≤◌, ◌==◌, Bool, true, false, ◌&&◌, min, if◌then◌else◌, nat_le, nat_lt, List, [], ◌∷◌, ◌++◌, length, map, slice_get, sum_by, Option, Some, None, refl, arith, All, option_map_or, eqb-true, sum_by-cons, ConstantItem, ConstantObject, ConstantList, InitialValue, ByteValue, WordValue, LocationValue, size_of_object, IsStorable, bytes_filled, size_of_value, TypedHome, InData, InConstants, Placed, BasedOn, Elsewhere, Nowhere, InFrame, TypedObject, TypedModule, constant_bytes, size_of_constant, bytes_in_data, data_bytes, size_of_items, Content, Word, Gap, Home, constant_object, constants_from, constants_of, content_of, bytes_of_value, with_constant, with_gap, with_gap_if_any, with_object, static_object, variables_from, variables_of, contents_items, same_sizes, holds_for_item}
 use Rattle.treecode.specs.declared.module.Content.TheVariants.{Byte}
 use Rattle.treecode.specs.declared.place.Place.TheVariants as places
-
--- a property of all items holds for one
-pub holds_at :
-    {A : Type 0} (P : A → Type 0) (list : List A) (index : ℕ) (one : A)
-    → All P list → slice_get list index ≡ Some one → P one
-holds_at P [] index one all there = let bad : ⊥ = cc in absurd bad
-holds_at P (first ∷ others) zero one all there =
-    let same : first ≡ one = cc in
-    subst P same (all 0 first (omega arith))
-holds_at P (first ∷ others) (suc index) one all there =
-    holds_at P others index one (λ i d below. all (suc i) d (omega (arith, below))) there
 
 -- the size of contents in bytes
 abbrev bytes_of_content : Content → ℕ
@@ -77,22 +66,6 @@ values_take starts [] = refl
 values_take starts (value ∷ values) =
     omega (arith, value_takes starts value, values_take starts values, sum_by-cons size_of_value value values)
 
-same_size : (value : InitialValue) → bytes_of_value value ≡ size_of_value value
-same_size (ByteValue byte) = refl
-same_size (WordValue word) = refl
-same_size (LocationValue object offset) = refl
-
-same_sizes : (values : List InitialValue) → sum_by bytes_of_value values ≡ sum_by size_of_value values
-same_sizes [] = refl
-same_sizes (value ∷ values) =
-    omega (
-      arith,
-      same_size value,
-      same_sizes values,
-      sum_by-cons bytes_of_value value values,
-      sum_by-cons size_of_value value values,
-    )
-
 -- an object with DATA; its values fill no more bytes than it has
 object_takes :
     (starts : List Home) (object : TypedObject) (values : List InitialValue) (before : List Content)
@@ -145,7 +118,7 @@ constant_takes typed starts (ConstantObject number) before storable = by (slice_
     by None is = omega arith
     by (Some object) is =
         constant_object_takes starts object object.home before
-        (holds_at (λ (one : TypedObject). bytes_filled one.home ≤ size_of_object one) typed.objects number object
+        (holds_for_item (λ (one : TypedObject). bytes_filled one.home ≤ size_of_object one) typed.objects number object
         storable.filled is)
 constant_takes typed starts (ConstantList number) before storable = by (slice_get typed.constants.lists number)
   where

@@ -1,5 +1,5 @@
 -- Planned steps fit if each of them does.
-use Rattle.measure_laws.proofs.Prelude.{◌≡◌, ℕ, ◌+◌, ◌≤◌, Bool, List, [], ◌∷◌, ◌++◌, Option, arith, Instr, Nop, Lxi, Stax, Ldax, Shld, Lhld, Sta, Lda, Inx, Dcx, Dad, Inr, Dcr, Mvi, Rlc, Rrc, Ral, Rar, Daa, Cma, Stc, Cmc, Mov, MovToMemory, Hlt, Accumulate, AccumulateImmediate, ReturnIf, JumpIf, CallIf, Ret, Jmp, Call, Rst, Pop, Push, Out, In, Xthl, Xchg, Pchl, Sphl, Di, Ei, Item, size_of_items, size_of_instruction, size_in_parts, Facts, Body, Planned, Here, AreCarriedOut, ListCarriedOut, NoneCarriedOut, StatementCarriedOut, StepCarriedOut, StepsFit}
+use Rattle.measure_laws.proofs.Prelude.{◌≡◌, ℕ, ◌+◌, ◌≤◌, Bool, List, [], ◌∷◌, ◌++◌, Option, arith, Item, size_of_items, size_in_parts, Facts, Body, Planned, Here, AreCarriedOut, ListCarriedOut, NoneCarriedOut, StatementCarriedOut, StepCarriedOut, StepsFit}
 
 -- the code of steps with others after them
 record Parted
@@ -98,50 +98,3 @@ pub less_fits :
     → least ≤ most
     → StepsFit body called steps most
 less_fits within less = record { fits = λ done. omega (arith, less, within.fits done) }
-
--- no instruction has more than three bytes
-pub at_most_three : (i : Instr) → size_of_instruction i ≤ 3
-at_most_three Nop = omega arith
-at_most_three (Lxi pair word) = omega arith
-at_most_three (Stax pair) = omega arith
-at_most_three (Ldax pair) = omega arith
-at_most_three (Shld word) = omega arith
-at_most_three (Lhld word) = omega arith
-at_most_three (Sta word) = omega arith
-at_most_three (Lda word) = omega arith
-at_most_three (Inx pair) = omega arith
-at_most_three (Dcx pair) = omega arith
-at_most_three (Dad pair) = omega arith
-at_most_three (Inr operand) = omega arith
-at_most_three (Dcr operand) = omega arith
-at_most_three (Mvi operand value) = omega arith
-at_most_three Rlc = omega arith
-at_most_three Rrc = omega arith
-at_most_three Ral = omega arith
-at_most_three Rar = omega arith
-at_most_three Daa = omega arith
-at_most_three Cma = omega arith
-at_most_three Stc = omega arith
-at_most_three Cmc = omega arith
-at_most_three (Mov register operand) = omega arith
-at_most_three (MovToMemory register) = omega arith
-at_most_three Hlt = omega arith
-at_most_three (Accumulate operation operand) = omega arith
-at_most_three (AccumulateImmediate operation value) = omega arith
-at_most_three (ReturnIf condition) = omega arith
-at_most_three (JumpIf condition word) = omega arith
-at_most_three (CallIf condition word) = omega arith
-at_most_three Ret = omega arith
-at_most_three (Jmp word) = omega arith
-at_most_three (Call word) = omega arith
-at_most_three (Rst number) = omega arith
-at_most_three (Pop pair) = omega arith
-at_most_three (Push pair) = omega arith
-at_most_three (Out port) = omega arith
-at_most_three (In port) = omega arith
-at_most_three Xthl = omega arith
-at_most_three Xchg = omega arith
-at_most_three Pchl = omega arith
-at_most_three Sphl = omega arith
-at_most_three Di = omega arith
-at_most_three Ei = omega arith

@@ -1,9 +1,9 @@
 -- The code of a module takes at most as many bytes as its bound.
-use Rattle.measure_laws.proofs.Prelude.{◌≡◌, ℕ, suc, ◌+◌, ◌*◌, ◌≤◌, Bool, true, false, List, [], ◌∷◌, ◌++◌, length, slice_get, sum_by, Some, refl, sym, ap, subst, ◌∙◌, arith, sum_by-cons, HasParameters, BodyIsSound, TypedModule, TypedProcedure, TypesHoldInList, TypesHoldInProcedure, Within, WithinMain, WithinProcedure, code_bound, constant_bytes, weight_of, weight_of_list, Storage, Code, ObjectModule, length_of, Hlt, Item, set_bytes, size_of_items, size_in_parts, places_length, set_length, Routine, size_of_routine, TreeModule, ProcedureKind, TreeProcedure, HasBody, IsList, IsLowered, IsProcedure, labels_numbered_in_list, nodes_of, has_frame, parameter_count, has_parameters, numbered_at, Written, has_routine, Body, Here, site_of, AreCodeOf, AreRoutines, IsCodeOf, IsCodeOfMain, IsCodeOfRoutine, IsCodeWritten, IsEndCode, IsGenerated, IsOwnCode, IsProcedureCode, all_routines, contents_items, has_main, with_targets, bytes_for, IsSound, AllPartsFit, ListFits}
+use Rattle.measure_laws.proofs.Prelude.{◌≡◌, ℕ, suc, ◌+◌, ◌*◌, ◌≤◌, Bool, true, false, List, [], ◌∷◌, ◌++◌, length, slice_get, sum_by, Some, refl, sym, ap, subst, ◌∙◌, arith, sum_by-cons, HasParameters, BodyIsSound, TypedModule, TypedProcedure, TypesHoldInList, TypesHoldInProcedure, Within, WithinMain, WithinProcedure, code_bound, constant_bytes, weight_of, weight_of_list, Storage, Code, ObjectModule, length_of, Hlt, Item, set_bytes, size_of_items, size_in_parts, places_length, set_length, Routine, size_of_routine, TreeModule, ProcedureKind, TreeProcedure, HasBody, IsList, IsLowered, IsProcedure, labels_numbered_in_list, nodes_of, has_frame, parameter_count, has_parameters, numbered_at, Written, has_routine, Body, Here, site_of, AreCodeOf, AreRoutines, IsCodeOf, IsCodeOfMain, IsCodeOfRoutine, IsCodeWritten, IsEndCode, IsGenerated, IsOwnCode, IsProcedureCode, all_routines, contents_items, has_main, with_targets, bytes_for, IsSound, AllPartsFit, ListFits, holds_for_item}
 use Rattle.typed_trees.specs.Weight.{weight_of_procedure}
 use Rattle.asm8080.specs.declared.item.Item.TheVariants as items
 use Rattle.treecode.specs.declared.procedure.ProcedureKind.TheVariants as kinds
-use Rattle.measure_laws.proofs.Bounds.Constants.{constants_fit, holds_at}
+use Rattle.measure_laws.proofs.Bounds.Constants.{constants_fit}
 use Rattle.measure_laws.proofs.Bounds.Entries.{entry_fits}
 use Rattle.measure_laws.proofs.Bounds.Numbering.{numbered_size}
 use Rattle.measure_laws.proofs.Bounds.Returns.{end_fits}
@@ -124,7 +124,7 @@ module _
             (body_fits code.body (WithinProcedure number heading.result) procedure heading code.tree_is
             (omega (arith, few, as_many, has.count)) is.has_body
             (numbered_at (TypesHoldInProcedure typed) typed.procedures number heading sound.types.procedures found)
-            (holds_at (λ (one : TypedProcedure). BodyIsSound one.body) typed.procedures number heading
+            (holds_for_item (λ (one : TypedProcedure). BodyIsSound one.body) typed.procedures number heading
             sound.jumps.procedures found)).fits code.written in
             let ends = end_within code.body code.last procedure.reaches_its_end code.ending code.ends in
             omega (

@@ -3,7 +3,8 @@ use Rattle.measure_laws.proofs.Prelude.{◌≡◌, ℕ, zero, suc, ◌+◌, ◌*
 use Rattle.treecode.specs.declared.procedure.ProcedureKind.TheVariants as kinds
 use Rattle.steps8080.specs.declared.step.Step.TheVariants as steps
 use Rattle.statements8080.specs.declared.plan.Planned.TheVariants as planned
-use Rattle.measure_laws.proofs.Bounds.Fitting.{at_most_three, less_fits, no_size, none_fit, then_fit}
+use Rattle.measure_laws.proofs.Bounds.Fitting.{less_fits, no_size, none_fit, then_fit}
+use Rattle.measure_laws.proofs.Sizes.Addresses.{instruction_small}
 
 -- the greatest size of steps without parts in bytes
 abbrev pub bytes_of_step : Step → ℕ
@@ -50,7 +51,7 @@ pub steps_within :
     → size_of_items items ≤ bytes_of_steps list
 steps_within [] none NoneWritten = omega arith
 steps_within (steps.Plain i ∷ others) none (PlainWritten rest) =
-    omega (arith, at_most_three i, steps_within others none.1 rest)
+    omega (arith, instruction_small i, steps_within others none.1 rest)
 steps_within (steps.Word form place ∷ others) none (WordWritten rest) =
     omega (arith, steps_within others none.1 rest)
 steps_within (steps.Jump form label ∷ others) none (JumpWritten rest) =

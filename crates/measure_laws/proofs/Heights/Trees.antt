@@ -1,5 +1,5 @@
 -- The parts of the tree with this number need no more bytes than the tree.
-use Rattle.measure_laws.proofs.Prelude.{◌≡◌, ℕ, ◌+◌, ◌-◌, ◌*◌, ◌≤◌, List, length, Option, Some, None, IsSomeAnd, slice_get, refl, sym, ap, subst, ◌∙◌, arith, same_Some, ScalarType, count_of_arguments, height_of, height_of_arguments, height_of_reference, height_of_subscript, type_of, MoreArguments, NoArguments, SentTo, StoredIn, TypedArguments, TypedExpression, TypedModule, TypedProcedure, TypedReference, TypedTarget, Takes, TypesHold, TypesHoldInArguments, TypesHoldInReference, TypesHoldInSubscript, TypesHoldInTarget, Within, types_of, Storage, Expression, ExpressionForm, ExpressionNumber, Range, TreeModule, Reference, IndexNode, AreArguments, AreMore, AreNone, IsAbsent, IsBinary, IsCallOf, IsConstantList, IsConversion, IsEmbedded, IsExpression, IsForm, IsFunction, IsIndex, IsInput, IsLocation, IsNode, IsNumber, IsPart, IsReference, IsShift, IsSubscript, IsUnary, IsValue, Nodes, nodes_of, Site, expression, taken_by, AimHolds, AreGiven, HasParts, IsBelow, IsOperand, Source}
+use Rattle.measure_laws.proofs.Prelude.{◌≡◌, ℕ, ◌+◌, ◌-◌, ◌*◌, ◌≤◌, List, length, Option, Some, None, IsSomeAnd, slice_get, refl, sym, ap, subst, ◌∙◌, arith, same_Some, ScalarType, count_of_arguments, height_of, height_of_arguments, height_of_reference, height_of_subscript, type_of, SentTo, StoredIn, TypedArguments, TypedExpression, TypedModule, TypedProcedure, TypedReference, TypedTarget, Takes, TypesHold, TypesHoldInArguments, TypesHoldInReference, TypesHoldInSubscript, TypesHoldInTarget, Within, types_of, Storage, Expression, ExpressionForm, ExpressionNumber, Range, TreeModule, Reference, IndexNode, AreArguments, AreMore, AreNone, IsAbsent, IsBinary, IsCallOf, IsConstantList, IsConversion, IsEmbedded, IsExpression, IsForm, IsFunction, IsIndex, IsInput, IsLocation, IsNode, IsNumber, IsPart, IsReference, IsShift, IsSubscript, IsUnary, IsValue, Nodes, nodes_of, Site, expression, taken_by, AimHolds, AreGiven, HasParts, IsBelow, IsOperand, Source, types_count}
 use Rattle.typed_trees.specs.TypedTrees.{Subscript}
 
 -- as many arguments as there are trees, and as many types
@@ -10,11 +10,6 @@ pub count_is :
 count_is nodes storage AreNone = refl
 count_is nodes storage (AreMore {count = count} {others = others} there one more) =
     let rest : count ≡ count_of_arguments others = count_is nodes storage more in omega (arith, rest)
-
-types_count : (trees : TypedArguments) → length (types_of trees) ≡ count_of_arguments trees
-types_count NoArguments = refl
-types_count (MoreArguments first others) =
-    let rest : length (types_of others) ≡ count_of_arguments others = types_count others in omega (arith, rest)
 
 -- a call pops the arguments that were pushed for it
 pub call_takes :

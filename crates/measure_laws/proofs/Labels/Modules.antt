@@ -1,5 +1,5 @@
 -- The code of a module refers to labels that it binds, and to those of routines that are called.
-use Rattle.measure_laws.proofs.Prelude.{◌≡◌, inl, inr, refl, sym, ap, subst, ℕ, zero, suc, ◌+◌, Bool, true, false, List, [], ◌∷◌, ◌++◌, length, Option, Some, None, arith, All, slice_get, none-some, same_Some, BodyIsSound, JumpsAreSound, TypedModule, TypedProcedure, Storage, Hlt, Item, Content, TreeModule, Place, ProcedureKind, TreeProcedure, HasBody, IsList, IsLowered, labels_numbered_in_list, nodes_of, address_items, items_of_call, module_call_items, module_label_of_routine, Body, Here, site_of, AreCodeOf, IsCodeOf, IsCodeOfMain, IsEndCode, IsOwnCode, IsProcedureCode, content_items, contents_items, has_main, ItemsBind, ItemsGo, HasItsPlace, LabelsHavePlaces, ListGoes}
+use Rattle.measure_laws.proofs.Prelude.{◌≡◌, inl, inr, refl, sym, ap, subst, ℕ, zero, suc, ◌+◌, Bool, true, false, List, [], ◌∷◌, ◌++◌, length, Option, Some, None, arith, slice_get, none-some, same_Some, BodyIsSound, JumpsAreSound, TypedModule, TypedProcedure, Storage, Hlt, Item, Content, TreeModule, Place, ProcedureKind, TreeProcedure, HasBody, IsList, IsLowered, labels_numbered_in_list, nodes_of, address_items, items_of_call, module_call_items, module_label_of_routine, Body, Here, site_of, AreCodeOf, IsCodeOf, IsCodeOfMain, IsEndCode, IsOwnCode, IsProcedureCode, content_items, contents_items, has_main, ItemsBind, ItemsGo, HasItsPlace, LabelsHavePlaces, ListGoes, holds_for_item}
 use Rattle.asm8080.specs.declared.item.Item.TheVariants as items
 use Rattle.treecode.specs.declared.module.Content.TheVariants as contents
 use Rattle.treecode.specs.declared.place.Place.TheVariants as places
@@ -9,15 +9,6 @@ use Rattle.measure_laws.proofs.Labels.Carried.{plan_bound, plan_carried}
 use Rattle.measure_laws.proofs.Labels.Entering.{entry_go}
 use Rattle.measure_laws.proofs.Labels.Statements.{AroundGo, LabelsDiffer, list_goes}
 use Rattle.measure_laws.proofs.Labels.Written.{Knows, bound_after, bound_first, items_both}
-
--- a property of all holds for one
-holds_at :
-    {A : Type 0} (P : A → Type 0) (list : List A) (index : ℕ) (one : A)
-    → All P list → slice_get list index ≡ Some one → P one
-holds_at P [] index one all there = absurd (none-some one there)
-holds_at P (first ∷ others) zero one all there = subst P (same_Some first one there) (all 0 first (omega arith))
-holds_at P (first ∷ others) (suc index) one all there =
-    holds_at P others index one (λ i d below. all (suc i) d (omega (arith, below))) there
 
 -- a constant refers to no label
 address_goes : (ok : ℕ → Type 0) (place : Place) → ItemsGo ok (address_items place)
@@ -280,7 +271,7 @@ module _
         let has = lowered.procedures number procedure heading tree_there typed_there in
         let one =
         code_goes number procedure heading procedure.kind are.0 has.has_body
-        (holds_at (λ (one : TypedProcedure). BodyIsSound one.body) typed.procedures number heading
+        (holds_for_item (λ (one : TypedProcedure). BodyIsSound one.body) typed.procedures number heading
         jumps.procedures typed_there)
         (differ heading number typed_there)
         (λ label given. inside label (bound_first label are.0 are.1 given)) are.2 in

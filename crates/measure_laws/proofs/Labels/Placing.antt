@@ -1,7 +1,6 @@
 -- The labels that the code of a soundly typed module refers to have their places.
-use Rattle.measure_laws.proofs.Prelude.{◌≡◌, ℕ, Bool, List, Some, slice_get, BodyIsSound, TypedModule, TypedProcedure, Storage, Item, TreeModule, IsLowered, labels_numbered_in_list, IsOwnCode, IsSound, LabelsHavePlaces}
+use Rattle.measure_laws.proofs.Prelude.{◌≡◌, ℕ, Bool, List, Some, slice_get, BodyIsSound, TypedModule, TypedProcedure, Storage, Item, TreeModule, IsLowered, labels_numbered_in_list, IsOwnCode, IsSound, LabelsHavePlaces, holds_for_item}
 use Rattle.treecode_laws.proofs.Labels.{main_label_has_one_number, procedure_label_has_one_number}
-use Rattle.measure_laws.proofs.Bounds.Constants.{holds_at}
 use Rattle.measure_laws.proofs.Labels.Modules.{own_code_goes}
 use Rattle.measure_laws.proofs.Labels.Statements.{LabelsDiffer}
 
@@ -13,7 +12,7 @@ body_differs :
     → LabelsDiffer (labels_numbered_in_list procedure.body)
 body_differs typed procedure index sound there =
     procedure_label_has_one_number typed index procedure sound.jumps
-    (holds_at (λ (given : TypedProcedure). BodyIsSound given.body) typed.procedures index procedure
+    (holds_for_item (λ (given : TypedProcedure). BodyIsSound given.body) typed.procedures index procedure
     sound.jumps.procedures there).stands there
 
 main_differs : (typed : TypedModule) → IsSound typed → LabelsDiffer (labels_numbered_in_list typed.main.body)

@@ -1,5 +1,5 @@
 -- The code of statements refers to labels that it binds, and to those of the lists around it.
-use Rattle.measure_laws.proofs.Prelude.{◌≡◌, ◌⊎◌, inl, inr, refl, sym, ap, ◌∙◌, subst, ℕ, zero, suc, ◌+◌, ◌<◌, ◌≤◌, Bool, true, false, List, [], ◌∷◌, ◌++◌, length, Option, Some, None, Any, arith, slice_get, nat_lt, if◌then◌else◌, option_and_then, ltb-true, none-some, same_Some, IsAmongLabels, JumpsStay, JumpsStayInElse, JumpsStayInList, JumpsStayInStatements, LabelsOf, LabelsStand, ListStands, ListsStand, ListsStandInCases, ListsStandInElse, ListsStandInStatements, labels_of_list, LabelStatement, MoreStatements, NoStatements, TypedElse, TypedList, TypedStatement, TypedStatements, Storage, Item, Range, StatementNumber, AreMoreStatements, AreNoStatements, AreStatements, IsAssignment, IsCall, IsCase, IsDo, IsElse, IsGoto, IsHalt, IsIf, IsIterate, IsLabel, IsList, IsListOf, IsMove, IsNoElse, IsNull, IsReturn, IsSomeElse, IsStatement, IsStatementForm, IsStatementNode, IsWhile, item_of, nodes_of, statement, Facts, LabelNumber, knowing, Body, body_label, goto_label, goto_label_of, Here, AreAllCarriedOut, AreCarriedOut, IsCarriedOut, IsListCarriedOut, ListPlanned, StatementPlanned, site_of, statement_steps, ItemsBind, ItemsGo, ListGoes, PlanBinds, StatementGoes}
+use Rattle.measure_laws.proofs.Prelude.{◌≡◌, inl, inr, refl, sym, ap, ◌∙◌, subst, ℕ, ◌+◌, ◌<◌, ◌≤◌, Bool, true, false, List, [], ◌∷◌, ◌++◌, length, Option, Some, None, Any, arith, slice_get, nat_lt, if◌then◌else◌, option_and_then, ltb-true, none-some, same_Some, IsAmongLabels, JumpsStay, JumpsStayInElse, JumpsStayInList, JumpsStayInStatements, LabelsOf, LabelsStand, ListStands, ListsStand, ListsStandInCases, ListsStandInElse, ListsStandInStatements, labels_of_list, LabelStatement, MoreStatements, NoStatements, TypedElse, TypedList, TypedStatement, TypedStatements, Storage, Item, Range, StatementNumber, AreMoreStatements, AreNoStatements, AreStatements, IsAssignment, IsCall, IsCase, IsDo, IsElse, IsGoto, IsHalt, IsIf, IsIterate, IsLabel, IsList, IsListOf, IsMove, IsNoElse, IsNull, IsReturn, IsSomeElse, IsStatement, IsStatementForm, IsStatementNode, IsWhile, item_of, nodes_of, statement, Facts, LabelNumber, knowing, Body, body_label, goto_label, goto_label_of, Here, AreAllCarriedOut, AreCarriedOut, IsCarriedOut, IsListCarriedOut, ListPlanned, StatementPlanned, site_of, statement_steps, ItemsBind, ItemsGo, ListGoes, PlanBinds, StatementGoes, at_or_after}
 use Rattle.treecode.specs.declared.statement.Statement.{Statement}
 use Rattle.treecode.specs.declared.statement.Statement.TheVariants as statements
 use Rattle.treecode.proofs.LabelNumbers.{first_or_later}
@@ -25,7 +25,7 @@ abbrev pub LabelsDiffer : (labels : List ℕ) → Type 0
 LabelsDiffer labels =
     (one other label : ℕ) → slice_get labels one ≡ Some label → slice_get labels other ≡ Some label → one ≡ other
 
-cases_stand : (trees : TypedStatements) → ListsStandInCases trees → ListsStandInStatements trees
+pub cases_stand : (trees : TypedStatements) → ListsStandInCases trees → ListsStandInStatements trees
 cases_stand NoStatements stand = tt
 cases_stand (MoreStatements first others) stand = (stand.1, cases_stand others stand.2)
 
@@ -59,15 +59,6 @@ stands_at :
     → item_of table range index ≡ Some one
     → StandsAt table range index one
 stands_at table range index one is = stands_by table range index one (nat_lt index range.count) refl is
-
-here_or_past : (one other : ℕ) → one ≤ other → (one ≡ other) ⊎ (suc one ≤ other)
-here_or_past zero zero less = inl refl
-here_or_past zero (suc other) less = inr (omega arith)
-here_or_past (suc one) zero less = absurd (omega (arith, less))
-here_or_past (suc one) (suc other) less = elim (here_or_past one other (omega (arith, less))) [
-  | inl same ↦ inl (ap suc same)
-  | inr more ↦ inr (omega (arith, more))
-]
 
 module _
     (ok : ℕ → Type 0) (body : Body) (called : List Bool) (storage : Storage) (labels : List ℕ)
@@ -110,7 +101,7 @@ module _
     list_binds label place [] wanted (AreMoreStatements {tree = LabelStatement number} named is are) stand done low high =
         absurd stand
     list_binds label place (first ∷ places) wanted (AreMoreStatements {number = entry} {tree = LabelStatement number} named is are) stand (generated.MoreStatements {here = here} {middle = middle} {number = other} {list = list} {more = more} found done rest) low high =
-        elim (here_or_past label wanted low) [
+        elim (at_or_after label wanted low) [
           | inl same ↦
               let one : other ≡ entry = same_Some other entry (sym found ∙ named) in
               let has = label_binds entry is
@@ -294,7 +285,7 @@ module _
       one_goes around place one AreNoStatements stand stay outer low high there =
           absurd (omega (arith, low, high))
       one_goes around place one (AreMoreStatements {first = first} {number = number} named is are) stand stay outer low high there =
-          elim (here_or_past first place low) [
+          elim (at_or_after first place low) [
             | inl same ↦
                 let number_is : number ≡ one =
                 same_Some number one

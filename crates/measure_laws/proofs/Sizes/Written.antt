@@ -1,5 +1,5 @@
 -- The items of steps take at most as many bytes as the steps, if the same holds for the code of each task.
-use Rattle.measure_laws.proofs.Prelude.{◌≡◌, ℕ, ◌+◌, ◌≤◌, Bool, true, false, List, [], ◌∷◌, ◌++◌, Option, Some, None, slice_get, if◌then◌else◌, arith, Storage, Item, size_of_items, ProcedureKind, TreeProcedure, Facts, Part, Step, Site, AreWritten, CallWritten, ChangeWritten, HoldsWritten, IsWritten, JumpWritten, MarkWritten, NoneWritten, PartWritten, PlainWritten, RoutineWritten, TestWritten, WordWritten, call_items, items_of_call, knowing, test_items, test_of_a, task_steps, size_of_steps, AreOfTrees, Fit, size_of_task}
+use Rattle.measure_laws.proofs.Prelude.{ℕ, ◌≤◌, Bool, true, false, List, [], ◌∷◌, Option, Some, None, slice_get, if◌then◌else◌, arith, Storage, Item, size_of_items, ProcedureKind, TreeProcedure, Facts, Part, Step, Site, AreWritten, CallWritten, ChangeWritten, HoldsWritten, IsWritten, JumpWritten, MarkWritten, NoneWritten, PartWritten, PlainWritten, RoutineWritten, TestWritten, WordWritten, call_items, items_of_call, knowing, test_items, test_of_a, task_steps, size_of_steps, AreOfTrees, Fit, size_of_task, size_in_parts}
 use Rattle.asm8080.specs.declared.item.Item.TheVariants as items
 use Rattle.treecode.specs.declared.procedure.ProcedureKind.TheVariants as kinds
 use Rattle.exprgen8080.specs.Emission.{Planned}
@@ -24,14 +24,6 @@ size_of_test facts = by facts.zero_shows_a
     by : (shows : Bool) → size_of_items (if shows then [] else items.Plain test_of_a ∷ []) ≤ 1
     by true = omega arith
     by false = omega arith
-
-pub items_joined :
-    (first others : List Item) → size_of_items (first ++ others) ≡ size_of_items first + size_of_items others
-items_joined [] others = omega arith
-items_joined (item ∷ first) others =
-    let more : size_of_items (first ++ others) ≡ size_of_items first + size_of_items others =
-    items_joined first others in
-    omega (arith, more)
 
 -- the code of each task for a tree fits, if it is written at all
 abbrev pub TasksFit : Site → Storage → (called : List Bool) → Type 0
@@ -74,11 +66,11 @@ mutual
   steps_written site storage called fit are (CallWritten {procedure = procedure} {others = others} {more = more} rest) =
       let after : size_of_items more ≤ size_of_steps (size_of_task site) others =
       steps_written site storage called fit are rest in
-      omega (arith, after, size_of_call site procedure, items_joined (call_items site procedure) more)
+      omega (arith, after, size_of_call site procedure, size_in_parts (call_items site procedure) more)
   steps_written site storage called fit are (TestWritten {facts = facts} {others = others} {more = more} rest) =
       let after : size_of_items more ≤ size_of_steps (size_of_task site) others =
       steps_written site storage called fit are rest in
-      omega (arith, after, size_of_test facts, items_joined (test_items facts) more)
+      omega (arith, after, size_of_test facts, size_in_parts (test_items facts) more)
   steps_written site storage called fit are (HoldsWritten {others = others} {more = more} rest) =
       let after : size_of_items more ≤ size_of_steps (size_of_task site) others =
       steps_written site storage called fit are rest in
@@ -92,7 +84,7 @@ mutual
       part_written site storage called fit are.0 one in
       let after : size_of_items more ≤ size_of_steps (size_of_task site) others =
       steps_written site storage called fit are.1 rest in
-      omega (arith, before, after, items_joined first more)
+      omega (arith, before, after, size_in_parts first more)
 
   -- the items of a part
   pub part_written :

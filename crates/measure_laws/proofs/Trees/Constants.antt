@@ -1,5 +1,5 @@
 -- The constants of tree code take as many bytes as the objects with DATA and the constant lists of the module.
-use Rattle.measure_laws.proofs.Prelude.{◌≡◌, ℕ, suc, ◌+◌, ◌-◌, ◌≤◌, ◌==◌, Bool, true, false, ◌&&◌, min, if◌then◌else◌, nat_le, nat_lt, List, [], ◌∷◌, ◌++◌, length, map, slice_get, Option, Some, None, refl, sym, subst, ◌∙◌, arith, filter_map, sum_by, AllByRecursion, cons_option, enumerate_from, option_map_or, eqb-true, recursion_from_All, sum_by-append, sum_by-cons, same_Some, ConstantItem, ConstantObject, ConstantList, InitialValue, ByteValue, WordValue, LocationValue, size_of_object, IsStorable, bytes_filled, constant_number, numbered_constant, object_in, size_of_value, TypedHome, InData, InConstants, Placed, BasedOn, Elsewhere, Nowhere, InFrame, TypedObject, TypedModule, constant_bytes, size_of_constant, Storage, bytes_in_constants, Content, Word, Gap, Home, constant_object, constants_from, constants_of, content_of, bytes_of_value, with_constant, with_gap, with_gap_if_any, with_object, constant_small, size_of_content, size_of_contents}
+use Rattle.measure_laws.proofs.Prelude.{◌≡◌, ℕ, suc, ◌+◌, ◌-◌, ◌≤◌, ◌==◌, Bool, true, false, ◌&&◌, min, if◌then◌else◌, nat_le, nat_lt, List, [], ◌∷◌, ◌++◌, length, map, slice_get, Option, Some, None, refl, sym, subst, ◌∙◌, arith, filter_map, sum_by, AllByRecursion, cons_option, enumerate_from, option_map_or, eqb-true, recursion_from_All, sum_by-append, sum_by-cons, same_Some, ConstantItem, ConstantObject, ConstantList, InitialValue, ByteValue, WordValue, LocationValue, size_of_object, IsStorable, bytes_filled, constant_number, numbered_constant, object_in, size_of_value, TypedHome, InData, InConstants, Placed, BasedOn, Elsewhere, Nowhere, InFrame, TypedObject, TypedModule, constant_bytes, size_of_constant, Storage, bytes_in_constants, Content, Word, Gap, Home, constant_object, constants_from, constants_of, content_of, bytes_of_value, with_constant, with_gap, with_gap_if_any, with_object, constant_small, size_of_content, size_of_contents, same_sizes}
 use Rattle.layout.proofs.Segments.{of_all}
 use Rattle.treecode.specs.declared.module.Content.TheVariants.{Byte}
 use Rattle.treecode_laws.specs.Laid.{IsStored}
@@ -65,22 +65,6 @@ values_size starts (value ∷ values) =
       values_size starts values,
       sum_by-cons size_of_value value values,
       sum_by-cons size_of_content (content_of starts value) (map (content_of starts) values),
-    )
-
-same_size : (value : InitialValue) → bytes_of_value value ≡ size_of_value value
-same_size (ByteValue byte) = refl
-same_size (WordValue word) = refl
-same_size (LocationValue object offset) = refl
-
-same_sizes : (values : List InitialValue) → sum_by bytes_of_value values ≡ sum_by size_of_value values
-same_sizes [] = refl
-same_sizes (value ∷ values) =
-    omega (
-      arith,
-      same_size value,
-      same_sizes values,
-      sum_by-cons bytes_of_value value values,
-      sum_by-cons size_of_value value values,
     )
 
 -- an object that is no larger than a segment, and not filled past its end

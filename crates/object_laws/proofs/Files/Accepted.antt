@@ -1,7 +1,8 @@
 -- What a part may be that stands after others, and what the names, the entries and the publics of a file are.
-use Rattle.object_laws.proofs.Prelude.{◌≡◌, ℕ, ◌<◌, ◌≤◌, Bool, true, false, not, ◌&&◌, ◌||◌, nat_lt, nat_le, List, [], ◌∷◌, ◌++◌, length, map, flat_map, filter_map, slice_get, IfSome, Option, Some, None, refl, ap, sym, ◌∙◌, arith, list_all, list_any, AllByRecursion, option_map_or, bytes_eq, and_parts, and_from, lt-ltb, append_assoc, map-append, list_all-append, BODY_LIMIT, RecordKind, none_holds, is_name, Fault, WrongBody, ContentMisplaced, FixMisplaced, WrongAlignment, Segment, Public, is_among, are_new, may_have_publics, is_valid_public, Definition, Part, HeaderPart, ExternalNamesPart, PublicsPart, ContentPart, ExternalReferencesPart, RelocationPart, IntersegmentPart, ModuleEndPart, EndOfFilePart, kind_of_part, body_of, rank_of, may_come_after, may_follow, is_empty, entries_of, externals_of, definition_names, names_of, content_of, latest_content, are_names, is_body, is_served, fits_segment, fit_content, part_fault, is_accepted, are_accepted, publics_of, start_of_end, start_in}
+use Rattle.object_laws.proofs.Prelude.{◌≡◌, ℕ, ◌<◌, ◌≤◌, Bool, true, false, not, ◌&&◌, ◌||◌, nat_lt, nat_le, List, [], ◌∷◌, ◌++◌, length, map, flat_map, filter_map, slice_get, IfSome, Option, Some, None, refl, ap, sym, ◌∙◌, arith, list_all, list_any, AllByRecursion, option_map_or, bytes_eq, and_parts, and_from, lt-ltb, append_assoc, map-append, list_all-append, BODY_LIMIT, RecordKind, none_holds, is_name, Fault, WrongBody, ContentMisplaced, FixMisplaced, WrongAlignment, Segment, Public, is_among, are_new, may_have_publics, is_valid_public, Definition, Part, HeaderPart, ExternalNamesPart, PublicsPart, ContentPart, ExternalReferencesPart, RelocationPart, IntersegmentPart, ModuleEndPart, EndOfFilePart, kind_of_part, body_of, rank_of, may_come_after, may_follow, is_empty, entries_of, externals_of, definition_names, names_of, content_of, latest_content, are_names, is_body, is_served, fits_segment, fit_content, part_fault, is_accepted, are_accepted, publics_of, start_of_end, start_in, not-false}
 use Rattle.omf80.specs.declared.kind.RecordKind.TheVariants as kinds
 use Rattle.object_laws.proofs.Files.Bytes.{InRange}
+use Rattle.object_laws.proofs.Booleans.{or_swap}
 
 -- the rules that a part keeps to after these
 pub record Fits (before : List Part) (part : Part) : Type 0 where
@@ -10,11 +11,7 @@ pub record Fits (before : List Part) (part : Part) : Type 0 where
   pub placed : option_map_or (λ content. not (fits_segment before content)) (content_of part) false ≡ false
   pub fixes : fit_content before part (latest_content before) ≡ true
 
-pub kept : (b : Bool) → not b ≡ false → b ≡ true
-kept true h = refl
-kept false h = absurd (let bad : true ≡ false = h in cc)
-
-no_fault_there : (fault : Option Fault) → option_map_or (λ (_ : Fault). false) fault true ≡ true → fault ≡ None
+pub no_fault_there : (fault : Option Fault) → option_map_or (λ (_ : Fault). false) fault true ≡ true → fault ≡ None
 no_fault_there None h = refl
 no_fault_there (Some fault) h = absurd (let bad : false ≡ true = h in cc)
 
@@ -34,9 +31,9 @@ part_fits before part accepted =
     let d = none_holds fixes.0 FixMisplaced [] c.1 in
     record {
       follows = second.1;
-      body = kept (is_body before part) a.0;
+      body = not-false (is_body before part) a.0;
       placed = c.0;
-      fixes = kept (fit_content before part (latest_content before)) d.0;
+      fixes = not-false (fit_content before part (latest_content before)) d.0;
     }
 
 -- the first of parts, and the others
@@ -59,11 +56,6 @@ new_alike (name ∷ others) left right same =
     ap (λ t. not t && are_new others (name ∷ left)) (same name)
     ∙ ap (λ t. not (is_among name right) && t)
     (new_alike others (name ∷ left) (name ∷ right) (λ n. ap (λ t. bytes_eq n name || t) (same n)))
-
-or_swap : (a b c : Bool) → (a || (b || c)) ≡ (b || (a || c))
-or_swap true true c = refl
-or_swap true false c = refl
-or_swap false b c = refl
 
 -- one in the middle stands in front
 pub any_moved :

@@ -1,21 +1,18 @@
 -- Readers that count: with enough steps it doesn't matter how many there are, so each reads one item and
 -- then the rest.
 use Rattle.object_laws.proofs.Prelude.{◌≡◌, ℕ, zero, suc, ◌+◌, ◌*◌, ◌<◌, ◌≤◌, ◌==◌, nat_le, List, [], ◌∷◌, length, take, drop, Option, Some, None, option_map, option_and_then, Result, refl, ap, sym, ◌∙◌, arith, length-drop, none-some, cond_some, option_and_then_some, some_pair_parts, record_end, Fault, Part, Front, word_in_front, name_in_front, ended_name, listed_name_in_front, definition_in_front, at_most, all_in, first_part, fault_at, judged_by, judged_after, option_map_some}
+use Rattle.object_laws.proofs.Files.FrontsAgain.{at_most_nothing}
 
 -- what is read of bytes takes one of them at least
 abbrev pub Shortens : {A : Type 0} → (List ℕ → Front A) → Type 0
 Shortens {A} front =
     (bytes : List ℕ) (x : A) (rest : List ℕ) → front bytes ≡ Some (x, rest) → length rest < length bytes
 
-nothing : {A : Type 0} (front : List ℕ → Front A) (count : ℕ) → at_most count front [] ≡ Some []
-nothing front zero = refl
-nothing front (suc count) = refl
-
 pub any_count :
     {A : Type 0} (front : List ℕ → Front A) → Shortens front
     → (count other : ℕ) (bytes : List ℕ) → length bytes ≤ count → length bytes ≤ other
     → at_most count front bytes ≡ at_most other front bytes
-any_count front shortens count other [] h k = nothing front count ∙ sym (nothing front other)
+any_count front shortens count other [] h k = at_most_nothing front count ∙ sym (at_most_nothing front other)
 any_count front shortens zero other (byte ∷ rest) h k = absurd (omega arith)
 any_count front shortens (suc count) zero (byte ∷ rest) h k = absurd (omega arith)
 any_count {A} front shortens (suc count) (suc other) (byte ∷ rest) h k =

@@ -1,5 +1,5 @@
 -- What numbers a part of a file has: each is one that the bytes of its record can say.
-use Rattle.object_laws.proofs.Prelude.{ℕ, zero, suc, ◌/◌, ◌<◌, List, [], ◌∷◌, ◌++◌, flat_map, get_or, IfSome, Option, Some, None, arith, AllByRecursion, record_bytes, without_checksum, IsBytes, SegmentEntry, Definition, Reference, Part, HeaderPart, ExternalNamesPart, PublicsPart, ContentPart, ExternalReferencesPart, RelocationPart, IntersegmentPart, ModuleEndPart, EndOfFilePart, name_bytes, segment_entry_bytes, definition_bytes, reference_bytes, body_of, part_bytes}
+use Rattle.object_laws.proofs.Prelude.{ℕ, zero, suc, ◌<◌, List, [], ◌∷◌, ◌++◌, flat_map, get_or, IfSome, Option, Some, None, arith, AllByRecursion, record_bytes, without_checksum, IsBytes, SegmentEntry, Definition, Reference, Part, HeaderPart, ExternalNamesPart, PublicsPart, ContentPart, ExternalReferencesPart, RelocationPart, IntersegmentPart, ModuleEndPart, EndOfFilePart, name_bytes, segment_entry_bytes, definition_bytes, reference_bytes, body_of, part_bytes, word_of_high}
 use Rattle.mem80.specs.Sums.{checksum_of}
 
 -- each number of the part is a byte, or a word
@@ -27,15 +27,12 @@ byte_at [] i all = omega arith
 byte_at (byte ∷ others) zero all = all.0
 byte_at (byte ∷ others) (suc i) all = byte_at others i all.1
 
-word_range : (number : ℕ) → number / 256 < 256 → number < 65536
-word_range number h = omega arith
-
 entries_range :
     (entries : List SegmentEntry) → IsBytes (flat_map segment_entry_bytes entries)
     → AllByRecursion (λ (entry : SegmentEntry). entry.length < 65536) entries
 entries_range [] all = tt
 entries_range (entry ∷ others) all =
-    (word_range entry.length all.1.1.0, entries_range others all.1.1.1.1)
+    (word_of_high entry.length all.1.1.0, entries_range others all.1.1.1.1)
 
 definitions_range :
     (definitions : List Definition) → IsBytes (flat_map definition_bytes definitions)
@@ -43,18 +40,18 @@ definitions_range :
 definitions_range [] all = tt
 definitions_range (definition ∷ others) all =
     let cut = bytes_parts (definition_bytes definition) (flat_map definition_bytes others) all in
-    (word_range definition.offset cut.0.1.0, definitions_range others cut.1)
+    (word_of_high definition.offset cut.0.1.0, definitions_range others cut.1)
 
 references_range :
     (references : List Reference) → IsBytes (flat_map reference_bytes references)
     → AllByRecursion (λ (reference : Reference). reference.external < 65536) references
 references_range [] all = tt
 references_range (reference ∷ others) all =
-    (word_range reference.external all.1.0, references_range others all.1.1.1.1)
+    (word_of_high reference.external all.1.0, references_range others all.1.1.1.1)
 
 start_range : (start : Option ℕ) → IsBytes (body_of (ModuleEndPart start)) → IfSome start (λ offset. offset < 65536)
 start_range None all = tt
-start_range (Some offset) all = word_range offset all.1.1.1.0
+start_range (Some offset) all = word_of_high offset all.1.1.1.0
 
 body_range : (part : Part) → IsBytes (body_of part) → InRange part
 body_range (HeaderPart name translator version entries) all =

@@ -1,9 +1,9 @@
 -- The contents of a file: those of a segment ascend, so each place is set by one of them alone, with a fix
 -- that is within it.
-use Rattle.object_laws.proofs.Prelude.{◌≡◌, ℕ, zero, suc, ◌+◌, ◌-◌, ◌<◌, ◌≤◌, Bool, true, false, cond, not, ◌&&◌, ◌||◌, nat_lt, nat_le, List, [], ◌∷◌, ◌++◌, length, map, flat_map, find, Option, Some, None, option_map, refl, ap, sym, subst, ◌∙◌, le_trans, arith, list_all, list_any, range_with_len, AllByRecursion, option_map_or, and_parts, and_from, or_left, or_right, or_parts, lt-ltb, ltb-true, le-leb, leb-true, eqb-true, none-some, same_Some, append-nil, length-append, IsBytes, find_passes, Fix, Segment, Fixup, SetByte, width_of, is_both, begins_word, is_plain, words_are_whole, holds_bytes, is_target, is_valid_byte, SegmentEntry, Content, Part, HeaderPart, ExternalNamesPart, PublicsPart, ContentPart, ExternalReferencesPart, RelocationPart, IntersegmentPart, ModuleEndPart, EndOfFilePart, segment_number, segment_of, same_segment, is_empty, entries_of, externals_of, length_in, stated_length_of, content_end, end_by_content, filled_to, leading_fixes, is_within, fix_end, are_accepted, FixedContent, fixed_contents, holds_place, set_at, set_in}
+use Rattle.object_laws.proofs.Prelude.{◌≡◌, ℕ, zero, suc, ◌+◌, ◌-◌, ◌<◌, ◌≤◌, Bool, true, false, cond, not, ◌&&◌, ◌||◌, nat_lt, nat_le, List, [], ◌∷◌, ◌++◌, length, map, flat_map, find, Option, Some, None, option_map, refl, ap, sym, subst, ◌∙◌, le_trans, arith, list_all, list_any, range_with_len, AllByRecursion, option_map_or, and_parts, and_from, or_left, or_right, or_parts, lt-ltb, ltb-true, le-leb, leb-true, eqb-true, none-some, same_Some, append-nil, length-append, IsBytes, find_passes, Fix, Segment, Fixup, SetByte, width_of, is_both, begins_word, is_plain, words_are_whole, holds_bytes, is_target, is_valid_byte, SegmentEntry, Content, Part, HeaderPart, ExternalNamesPart, PublicsPart, ContentPart, ExternalReferencesPart, RelocationPart, IntersegmentPart, ModuleEndPart, EndOfFilePart, segment_number, segment_of, same_segment, is_empty, entries_of, externals_of, length_in, stated_length_of, content_end, end_by_content, filled_to, leading_fixes, is_within, fix_end, are_accepted, FixedContent, fixed_contents, holds_place, set_at, set_in, not-false}
 use Rattle.object_laws.proofs.Files.FrontsAgain.{segment_again}
 use Rattle.object_laws.proofs.Files.Bytes.{InRange, byte_at}
-use Rattle.object_laws.proofs.Files.Accepted.{both_fit, kept, no_entries_in}
+use Rattle.object_laws.proofs.Files.Accepted.{both_fit, no_entries_in}
 use Rattle.object_laws.proofs.Files.FixesOfContents.{begins_at, word_at, clash, word_is, has_target, fixes_sound}
 
 -- what a content with its fixes keeps to, in a segment of a size, with so many external names
@@ -72,7 +72,7 @@ own_content count entries segment latest earlier content others f same =
     let next = next_follow count entries latest earlier (ContentPart content) others f in
     let body = and_parts (holds_bytes content.segment) (not (is_empty content.bytes)) cut.0.body in
     let placed = and_parts (nat_le (content_end content) (stated_length_of content.segment before))
-    (nat_le (filled_to content.segment before) content.offset) (kept _ cut.0.placed) in
+    (nat_le (filled_to content.segment before) content.offset) (not-false _ cut.0.placed) in
     let is : content.segment ≡ segment = same_is content.segment segment same in
     let size : stated_length_of content.segment before ≡ length_in entries segment =
     ap (λ e. length_in e content.segment) f.header ∙ ap (length_in entries) is in

@@ -1,7 +1,8 @@
 -- A file with parts is judged as these, and one with a first fault as that: so there is one answer for each file.
-use Rattle.object_laws.proofs.Prelude.{◌≡◌, ℕ, zero, suc, ◌+◌, ◌<◌, ◌≤◌, true, false, cond, ◌==◌, ◌&&◌, nat_le, List, [], ◌∷◌, ◌++◌, length, drop, flat_map, reverse, slice_index, Option, Some, None, option_map, option_and_then, Ok, Err, refl, ap, sym, ◌∙◌, arith, option_or, option_map_or, leb-true, append_assoc, append-nil, reverse-append, reverse-reverse, length-append, BODY_LIMIT, RecordKind, kind_of_type, record_end, first_body, record_bytes, record_fault, ReadAgain, read_again, Fault, OutOfOrder, WrongBody, rank_of, may_come_after, is_empty, is_ended, may_follow, Part, kind_of_part, body_of, part_bytes, part_in, first_part, part_fault, is_accepted, are_accepted, fault_from_record, fault_of_record, fault_at, IsFileOf, HasFirstFault, judged_by, judged_after, parts_of, both}
+use Rattle.object_laws.proofs.Prelude.{◌≡◌, ℕ, zero, suc, ◌+◌, ◌<◌, ◌≤◌, true, false, cond, ◌==◌, ◌&&◌, nat_le, List, [], ◌∷◌, ◌++◌, length, drop, flat_map, reverse, slice_index, Some, None, option_map, option_and_then, Ok, Err, refl, ap, sym, ◌∙◌, arith, option_or, option_map_or, leb-true, append_assoc, append-nil, reverse-append, reverse-reverse, length-append, BODY_LIMIT, RecordKind, kind_of_type, record_end, first_body, record_bytes, record_fault, ReadAgain, read_again, Fault, OutOfOrder, WrongBody, rank_of, may_come_after, is_empty, is_ended, may_follow, Part, kind_of_part, body_of, part_bytes, part_in, first_part, part_fault, is_accepted, are_accepted, fault_from_record, fault_of_record, fault_at, IsFileOf, HasFirstFault, judged_by, judged_after, parts_of, and_parts}
 use Rattle.omf80.specs.declared.kind.RecordKind.TheVariants as kinds
 use Rattle.object_laws.proofs.Files.PartsAgain.{part_again}
+use Rattle.object_laws.proofs.Files.Accepted.{no_fault_there}
 
 -- nothing follows the end of the file
 open_after : (latest kind : RecordKind) → may_come_after latest kind ≡ true → (rank_of latest == 5) ≡ false
@@ -27,10 +28,6 @@ not_ended_before : (before : List Part) (kind : RecordKind) → may_follow befor
 not_ended_before [] kind h = refl
 not_ended_before (latest ∷ others) kind h = open_after (kind_of_part latest) kind h
 
-no_fault_there : (fault : Option Fault) → option_map_or (λ (_ : Fault). false) fault true ≡ true → fault ≡ None
-no_fault_there None h = refl
-no_fault_there (Some fault) h = absurd (let bad : false ≡ true = h in cc)
-
 -- a part that may stand after others, with bytes after it: it is read, and judged without a fault
 pub record JudgedAgain (before : List Part) (part : Part) (rest bytes : List ℕ) : Type 0 where
   pub no_fault : fault_at before bytes ≡ None
@@ -43,9 +40,9 @@ judged_again :
 unfolding fault_at
 judged_again before part rest bytes accepted r =
     let kind : RecordKind = kind_of_part part in
-    let first = both (nat_le (length (body_of part)) BODY_LIMIT && may_follow before kind)
+    let first = and_parts (nat_le (length (body_of part)) BODY_LIMIT && may_follow before kind)
     (option_map_or (λ (_ : Fault). false) (part_fault before part) true) accepted in
-    let second = both (nat_le (length (body_of part)) BODY_LIMIT) (may_follow before kind) first.0 in
+    let second = and_parts (nat_le (length (body_of part)) BODY_LIMIT) (may_follow before kind) first.0 in
     let no_fault : part_fault before part ≡ None = no_fault_there (part_fault before part) first.1 in
     let of_record : fault_of_record before kind (body_of part) ≡ None =
     ap (λ follows.
@@ -73,9 +70,9 @@ judged_again before part rest bytes accepted r =
 
 pub limit_of : (before : List Part) (part : Part) → is_accepted before part ≡ true → length (body_of part) ≤ BODY_LIMIT
 limit_of before part accepted =
-    let first = both (nat_le (length (body_of part)) BODY_LIMIT && may_follow before (kind_of_part part))
+    let first = and_parts (nat_le (length (body_of part)) BODY_LIMIT && may_follow before (kind_of_part part))
     (option_map_or (λ (_ : Fault). false) (part_fault before part) true) accepted in
-    let second = both (nat_le (length (body_of part)) BODY_LIMIT) (may_follow before (kind_of_part part)) first.0 in
+    let second = and_parts (nat_le (length (body_of part)) BODY_LIMIT) (may_follow before (kind_of_part part)) first.0 in
     leb-true (length (body_of part)) BODY_LIMIT second.0
 
 -- the judgement of bytes that begin with a part goes on after it
@@ -110,7 +107,7 @@ onward_past :
 onward_past [] before rest count accepted h = record { left = count; enough = h; same = refl }
 onward_past (part ∷ later) before rest zero accepted h = absurd (omega arith)
 onward_past (part ∷ later) before rest (suc count) accepted h =
-    let t = both (is_accepted before part) (are_accepted (part ∷ before) later) accepted in
+    let t = and_parts (is_accepted before part) (are_accepted (part ∷ before) later) accepted in
     let after : List ℕ = flat_map part_bytes later ++ rest in
     let grouped : (part_bytes part ++ flat_map part_bytes later) ++ rest ≡ part_bytes part ++ after =
     append_assoc (part_bytes part) (flat_map part_bytes later) rest in

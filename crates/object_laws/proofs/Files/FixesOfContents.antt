@@ -1,8 +1,10 @@
 -- The fixes that stand after a content of a file: what they are fixed to, that they lie within it, and that no
 -- word begins right before another of them.
-use Rattle.object_laws.proofs.Prelude.{◌≡◌, ℕ, suc, ◌+◌, ◌<◌, ◌≤◌, ◌==◌, Bool, true, false, cond, not, ◌&&◌, ◌||◌, nat_lt, List, [], ◌∷◌, ◌++◌, length, map, flat_map, take, Some, None, refl, ap, sym, ◌∙◌, arith, list_all, list_any, prefix_len, AllByRecursion, option_or, and_parts, and_from, lt-ltb, ltb-true, eqb-true, list_all-append, list_any-append, Fix, FixKind, Low, High, Both, Segment, Absolute, Code, Data, Stack, InSegment, width_of, is_both, holds_bytes, is_movable, is_target, Reference, Content, Part, HeaderPart, ExternalNamesPart, PublicsPart, ContentPart, ExternalReferencesPart, RelocationPart, IntersegmentPart, ModuleEndPart, EndOfFilePart, kind_of_part, is_empty, is_fix_record, externals_of, content_of, latest_content, fixes_of, leading_fixes, is_other_segment, is_body, is_within, fix_end, share_a_byte, are_apart, fit_content, are_accepted}
+use Rattle.object_laws.proofs.Prelude.{◌≡◌, ℕ, ◌+◌, ◌<◌, ◌≤◌, ◌==◌, Bool, true, false, not, ◌&&◌, ◌||◌, nat_lt, List, [], ◌∷◌, ◌++◌, length, map, flat_map, Some, None, refl, ap, sym, ◌∙◌, arith, list_all, list_any, AllByRecursion, option_or, and_parts, and_from, lt-ltb, ltb-true, eqb-true, list_all-append, list_any-append, Fix, FixKind, Low, High, Both, Segment, Absolute, Code, Data, Stack, InSegment, width_of, is_both, holds_bytes, is_movable, is_target, Reference, Content, Part, HeaderPart, ExternalNamesPart, PublicsPart, ContentPart, ExternalReferencesPart, RelocationPart, IntersegmentPart, ModuleEndPart, EndOfFilePart, kind_of_part, is_empty, is_fix_record, externals_of, content_of, latest_content, fixes_of, leading_fixes, is_other_segment, is_body, is_within, fix_end, share_a_byte, are_apart, fit_content, are_accepted, not-true}
 use Rattle.object_laws.proofs.Files.Bytes.{InRange}
 use Rattle.object_laws.proofs.Files.Accepted.{both_fit, any_moved}
+use Rattle.object_laws.proofs.Texts.Accepting.{leading_none, leading_more}
+use Rattle.object_laws.proofs.Texts.Counted.{has_width}
 
 -- a fix begins at a place, and one of a word does
 abbrev pub begins_at : (offset : ℕ) → Fix → Bool
@@ -33,11 +35,6 @@ both_width Low h = absurd (let bad : false ≡ true = h in cc)
 both_width High h = absurd (let bad : false ≡ true = h in cc)
 both_width Both h = refl
 
-some_width : (kind : FixKind) → 0 < width_of kind
-some_width Low = omega arith
-some_width High = omega arith
-some_width Both = omega arith
-
 -- where a word begins, and how long it is
 pub record IsWord (offset : ℕ) (fix : Fix) : Type 0 where
   pub begins : fix.offset ≡ offset
@@ -57,16 +54,12 @@ share_second offset fix next h k =
     let begins : fix.offset ≡ offset = w.begins in
     let width : width_of fix.kind ≡ 2 = w.width in
     let at : next.offset ≡ offset + 1 = eqb-true next.offset (offset + 1) k in
-    let some : 0 < width_of next.kind = some_width next.kind in
+    let some : 0 < width_of next.kind = has_width next.kind in
     let a : fix.offset < fix_end next = omega arith in
     let b : next.offset < fix_end fix = omega arith in
     let c : nat_lt fix.offset (fix_end next) ≡ true = lt-ltb fix.offset (fix_end next) a in
     let d : nat_lt next.offset (fix_end fix) ≡ true = lt-ltb next.offset (fix_end fix) b in
     (and_from _ _ c d, and_from _ _ d c)
-
-not_false : (b : Bool) → not b ≡ true → b ≡ false
-not_false true h = absurd (let bad : false ≡ true = h in cc)
-not_false false h = refl
 
 -- one more fix, apart from the others
 clash_more :
@@ -105,7 +98,7 @@ clash_all offset [] others h k = k
 clash_all offset (fix ∷ rest) others h k =
     let cut = and_parts (not (list_any (share_a_byte fix) others)) (are_apart rest (fix ∷ others)) h in
     sym (clash_moved offset rest fix others)
-    ∙ clash_all offset rest (fix ∷ others) cut.1 (clash_more offset fix others (not_false _ cut.0) k)
+    ∙ clash_all offset rest (fix ∷ others) cut.1 (clash_more offset fix others (not-true _ cut.0) k)
 
 or_turned : (a b c : Bool) → ((a || b) || c) ≡ (b || (a || c))
 or_turned true true c = refl
@@ -126,24 +119,6 @@ clash_turned :
 clash_turned offset xs ys zs =
     ap (λ t. t && list_any (begins_at (offset + 1)) ((xs ++ ys) ++ zs)) (any_turned (word_at offset) xs ys zs)
     ∙ ap (λ t. list_any (word_at offset) (ys ++ (xs ++ zs)) && t) (any_turned (begins_at (offset + 1)) xs ys zs)
-
--- the fix records in front of parts
-leading_more :
-    (own : Segment) (part : Part) (others : List Part) → is_fix_record (kind_of_part part) ≡ true
-    → leading_fixes own (part ∷ others) ≡ fixes_of own part ++ leading_fixes own others
-leading_more own part others h =
-    let count : ℕ = prefix_len (λ (p : Part). is_fix_record (kind_of_part p)) others in
-    let more : 1 + count ≡ suc count = omega arith in
-    ap (λ b. flat_map (fixes_of own) (take (cond b (1 + count) 0) (part ∷ others))) h
-    ∙ ap (λ n. flat_map (fixes_of own) (take n (part ∷ others))) more
-
-leading_none :
-    (own : Segment) (part : Part) (others : List Part) → is_fix_record (kind_of_part part) ≡ false
-    → leading_fixes own (part ∷ others) ≡ []
-leading_none own part others h =
-    ap (λ b.
-    flat_map (fixes_of own)
-    (take (cond b (1 + prefix_len (λ (p : Part). is_fix_record (kind_of_part p)) others) 0) (part ∷ others))) h
 
 fix_part_alone :
     (part : Part) → is_fix_record (kind_of_part part) ≡ true → (content_of part ≡ None) × (externals_of part ≡ [])

@@ -104,7 +104,7 @@ at_most_step {A} front count (byte ∷ others) x rest h e =
     ap (option_and_then
     (λ (read : A × List ℕ). option_map (λ (later : List A). read.0 ∷ later) (at_most count front read.1))) e
 
-at_most_nothing : {A : Type 0} (front : List ℕ → Front A) (count : ℕ) → at_most count front [] ≡ Some []
+pub at_most_nothing : {A : Type 0} (front : List ℕ → Front A) (count : ℕ) → at_most count front [] ≡ Some []
 at_most_nothing front zero = refl
 at_most_nothing front (suc count) = refl
 

@@ -1,13 +1,5 @@
 -- What the judgement of a file gives: the parts of the file, or its first fault.
-use Rattle.object_laws.proofs.Prelude.{◌≡◌, ℕ, zero, suc, ◌<◌, ◌≤◌, Bool, true, false, cond, ◌&&◌, List, [], ◌∷◌, ◌++◌, length, drop, flat_map, reverse, slice_index, Option, Some, None, option_map, option_and_then, Result, Ok, Err, refl, ap, sym, subst, ◌∙◌, arith, option_or, option_map_or, le-leb, append_assoc, append-nil, reverse-append, BODY_LIMIT, RecordKind, kind_of_type, record_end, first_body, record_bytes, record_fault, type_byte, IsBytes, Begins, begins, Fault, OutOfOrder, WrongBody, is_empty, is_ended, may_follow, Part, kind_of_part, body_of, part_bytes, part_in, first_part, part_fault, is_accepted, are_accepted, fault_from_record, fault_of_record, fault_at, IsFileOf, HasFirstFault, judged_by, judged_after, parts_of, part_back}
-
-option_or_none : {A : Type 0} (a b : Option A) → option_or a b ≡ None → (a ≡ None) × (b ≡ None)
-option_or_none None b h = (refl, h)
-option_or_none (Some x) b h = absurd (let bad : Some x ≡ None = h in cc)
-
-option_map_none : {A B : Type 0} (f : A → B) (o : Option A) → option_map f o ≡ None → o ≡ None
-option_map_none f None h = refl
-option_map_none f (Some x) h = absurd (let bad : Some (f x) ≡ None = h in cc)
+use Rattle.object_laws.proofs.Prelude.{◌≡◌, ℕ, zero, suc, ◌<◌, ◌≤◌, Bool, true, false, cond, ◌&&◌, List, [], ◌∷◌, ◌++◌, length, drop, flat_map, reverse, slice_index, Option, Some, None, option_map, option_and_then, Result, Ok, Err, refl, ap, sym, subst, ◌∙◌, arith, option_or, option_map_or, le-leb, append_assoc, append-nil, reverse-append, BODY_LIMIT, RecordKind, kind_of_type, record_end, first_body, record_bytes, record_fault, type_byte, IsBytes, Begins, begins, Fault, OutOfOrder, WrongBody, is_empty, is_ended, may_follow, Part, kind_of_part, body_of, part_bytes, part_in, first_part, part_fault, is_accepted, are_accepted, fault_from_record, fault_of_record, fault_at, IsFileOf, HasFirstFault, judged_by, judged_after, parts_of, part_back, both_are_none, none_before_map}
 
 -- a part that is next in a file
 pub record Next (before : List Part) (bytes : List ℕ) : Type 0 where
@@ -67,8 +59,8 @@ not_ended :
     ≡ None
     → Next before bytes
 not_ended before bytes all h =
-    let parts = option_or_none _ _ h in
-    let b = begins bytes all (option_map_none fault_from_record (record_fault bytes) parts.0) in
+    let parts = both_are_none _ _ h in
+    let b = begins bytes all (none_before_map fault_from_record (record_fault bytes) parts.0) in
     next_by before bytes b
     (allowed before b.kind (first_body bytes)
     (sym (ap (option_and_then (λ kind. fault_of_record before kind (first_body bytes))) b.of_type) ∙ parts.1))

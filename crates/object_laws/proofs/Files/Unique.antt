@@ -1,21 +1,7 @@
 -- A file spells one module at most, and only where it has no fault; and it has one first fault at most.
-use Rattle.object_laws.proofs.Prelude.{◌≡◌, ℕ, List, Result, Ok, Err, refl, sym, ap, ◌∙◌, Fault, ObjectModule, Part, module_of, IsFileOf, Spells, HasFirstFault, parts_of, module_from, judgement_of, IsBytes}
+use Rattle.object_laws.proofs.Prelude.{◌≡◌, ℕ, List, Result, Ok, Err, refl, sym, ap, ◌∙◌, Fault, ObjectModule, Part, module_of, IsFileOf, Spells, HasFirstFault, parts_of, module_from, judgement_of, IsBytes, same_Err, same_Ok}
 use Rattle.object_laws.proofs.Files.Judged.{JudgesFile, parts_law}
 use Rattle.object_laws.proofs.Files.FilesAgain.{parts_are, fault_is}
-
-same_Ok : {A E : Type 0} (x y : A) → ◌≡◌ {A = Result A E} (Ok x) (Ok y) → x ≡ y
-same_Ok {A} {E} x y h = ap value h
-  where
-    value : Result A E → A
-    value (Ok v) = v
-    value (Err e) = x
-
-same_Err : {A E : Type 0} (x y : E) → ◌≡◌ {A = Result A E} (Err x) (Err y) → x ≡ y
-same_Err {A} {E} x y h = ap fault h
-  where
-    fault : Result A E → E
-    fault (Ok v) = x
-    fault (Err e) = e
 
 pub same_parts : (bytes : List ℕ) (left right : List Part) → IsFileOf bytes left → IsFileOf bytes right → left ≡ right
 same_parts bytes left right l r = same_Ok {E = Fault} left right (sym (parts_are bytes left l) ∙ parts_are bytes right r)

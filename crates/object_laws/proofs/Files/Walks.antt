@@ -1,5 +1,5 @@
 -- The parts of a file are read from its bytes alone, and its module is what a walk over it tells.
-use Rattle.object_laws.proofs.Prelude.{◌≡◌, ℕ, zero, suc, ◌+◌, ◌<◌, ◌≤◌, true, List, [], ◌∷◌, ◌++◌, length, drop, flat_map, option_and_then, refl, ap, sym, ◌∙◌, arith, length-drop, length-append, BODY_LIMIT, record_end, record_fault, first_body, read_again, Part, kind_of_part, body_of, part_bytes, part_in, is_accepted, are_accepted, module_of, IsFileOf, walk_over, module_by, sound_part, before_parts, parts_within, parts_from, both}
+use Rattle.object_laws.proofs.Prelude.{◌≡◌, ℕ, zero, suc, ◌+◌, ◌<◌, ◌≤◌, true, List, [], ◌∷◌, ◌++◌, length, drop, flat_map, option_and_then, refl, ap, sym, ◌∙◌, arith, length-drop, length-append, BODY_LIMIT, record_end, record_fault, first_body, read_again, Part, kind_of_part, body_of, part_bytes, part_in, is_accepted, are_accepted, module_of, IsFileOf, walk_over, module_by, sound_part, before_parts, parts_within, parts_from, and_parts}
 use Rattle.object_laws.proofs.Files.PartsAgain.{part_again}
 use Rattle.object_laws.proofs.Files.FilesAgain.{limit_of, has_bytes}
 
@@ -62,7 +62,7 @@ parts_again :
     (before later : List Part) → are_accepted before later ≡ true → parts_from (flat_map part_bytes later) ≡ later
 parts_again before [] accepted = nothing_left
 parts_again before (part ∷ later) accepted =
-    let t = both (is_accepted before part) (are_accepted (part ∷ before) later) accepted in
+    let t = and_parts (is_accepted before part) (are_accepted (part ∷ before) later) accepted in
     part_first part (flat_map part_bytes later) (limit_of before part t.0)
     ∙ ap (λ left. part ∷ left) (parts_again (part ∷ before) later t.1)
 

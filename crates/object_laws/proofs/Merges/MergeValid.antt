@@ -1,5 +1,5 @@
 -- A merge of valid modules is a valid module.
-use Rattle.object_laws.proofs.Prelude.{◌≡◌, ℕ, suc, ◌+◌, ◌-◌, ◌%◌, ◌<◌, ◌≤◌, ◌==◌, Bool, true, false, cond, not, ◌&&◌, ◌||◌, nat_lt, nat_le, List, [], ◌∷◌, ◌++◌, length, map, filter_map, sum_by, replicate, slice_get, IfSome, All, Option, Some, None, option_map, option_and_then, Result, Ok, Err, refl, ap, sym, subst, ◌∙◌, arith, list_all, list_any, cons_option, AllByRecursion, option_map_or, option_or, and_parts, and_from, or_parts, lt-ltb, le-leb, leb-true, ltb-false, ltb-true, map-append, length-append, list_all-append, first_that_holds, none_holds, is_name, Alignment, Byte, Page, Segment, Target, InSegment, External, SetByte, Places, Public, ObjectModule, words_are_whole, is_among, are_new, is_movable, is_target, is_page, is_valid_segment, may_have_publics, is_valid_public, IsObjectModule, start_after, Linked, code_end, data_end, displacement_in, linked_after, linked_from, linked_modules, public_moved, publics_moved, all_publics, public_meant, target_of_public, target_kept, LinkRefusal, DuplicatePublic, UnresolvedExternal, SegmentTooLong, NotOneMain, HighByteMoves, joined_after, places_moved, code_piece, data_piece, joined_alignment, main_modules, joined, repeated_after, public_names, unresolved, last_end, is_too_long, some_segment_is_too_long, some_high_byte_moves, refusal_of, unless_refused, link_refusal, merge_of}
+use Rattle.object_laws.proofs.Prelude.{◌≡◌, ℕ, suc, ◌+◌, ◌-◌, ◌%◌, ◌<◌, ◌≤◌, ◌==◌, Bool, true, false, cond, not, ◌&&◌, ◌||◌, nat_lt, nat_le, List, [], ◌∷◌, ◌++◌, length, map, filter_map, sum_by, replicate, slice_get, IfSome, All, Option, Some, None, option_map, option_and_then, Result, Ok, Err, refl, ap, sym, subst, ◌∙◌, arith, list_all, list_any, cons_option, AllByRecursion, option_map_or, option_or, and_parts, and_from, or_parts, lt-ltb, le-leb, leb-true, ltb-false, ltb-true, map-append, length-append, list_all-append, first_that_holds, none_holds, is_name, Alignment, Byte, Page, Segment, Target, InSegment, External, SetByte, Places, Public, ObjectModule, words_are_whole, is_among, are_new, is_movable, is_target, is_page, is_valid_segment, may_have_publics, is_valid_public, IsObjectModule, start_after, Linked, code_end, data_end, displacement_in, linked_after, linked_from, linked_modules, public_moved, publics_moved, all_publics, public_meant, target_of_public, target_kept, LinkRefusal, DuplicatePublic, UnresolvedExternal, SegmentTooLong, NotOneMain, HighByteMoves, joined_after, places_moved, code_piece, data_piece, joined_alignment, main_modules, joined, repeated_after, public_names, unresolved, last_end, is_too_long, some_segment_is_too_long, some_high_byte_moves, refusal_of, unless_refused, link_refusal, merge_of, both_are_none, none_before_map}
 use Rattle.object_laws.proofs.Files.Accepted.{public_name}
 use Rattle.object_laws.proofs.Merges.MovedValid.{are_valid, Keeps, moved_valid, moved_whole, moved_length, Piece, joined_valid, joined_whole, PiecesFollow, end_after, joined_length}
 
@@ -22,14 +22,6 @@ unless_ok {A} {R} value None result h = (ap given h, refl)
     given (Err r) = value
 unless_ok value (Some refusal) result h = absurd (let bad : Err refusal ≡ Ok result = h in cc)
 
-no_first : {A : Type 0} (left right : Option A) → option_or left right ≡ None → (left ≡ None) × (right ≡ None)
-no_first None right h = (refl, h)
-no_first (Some x) right h = absurd (let bad : Some x ≡ None = h in cc)
-
-no_map : {A B : Type 0} (f : A → B) (o : Option A) → option_map f o ≡ None → o ≡ None
-no_map f None h = refl
-no_map f (Some x) h = absurd (let bad : Some (f x) ≡ None = h in cc)
-
 pub merge_is : (objects : List ObjectModule) (object : ObjectModule) → merge_of objects ≡ Ok object → IsMerge objects object
 unfolding merge_of link_refusal
 merge_is objects object h =
@@ -38,17 +30,17 @@ merge_is objects object h =
     let long : Bool × LinkRefusal = (some_segment_is_too_long objects linked, SegmentTooLong) in
     let mains : Bool × LinkRefusal = (not (length (main_modules linked) == 1), NotOneMain) in
     let high : Bool × LinkRefusal = (list_any (some_high_byte_moves (all_publics linked)) linked, HighByteMoves) in
-    let first = no_first (option_map DuplicatePublic (repeated_after [] (public_names objects)))
+    let first = both_are_none (option_map DuplicatePublic (repeated_after [] (public_names objects)))
     (option_or (option_map UnresolvedExternal (unresolved objects)) (first_that_holds (long ∷ mains ∷ high ∷ []))) is.1 in
-    let second = no_first (option_map UnresolvedExternal (unresolved objects))
+    let second = both_are_none (option_map UnresolvedExternal (unresolved objects))
     (first_that_holds (long ∷ mains ∷ high ∷ [])) first.1 in
     let third = none_holds long.0 SegmentTooLong (mains ∷ high ∷ []) second.1 in
     let fourth = none_holds mains.0 NotOneMain (high ∷ []) third.1 in
     let fifth = none_holds high.0 HighByteMoves [] fourth.1 in
     record {
       said = sym is.0;
-      repeated = no_map DuplicatePublic (repeated_after [] (public_names objects)) first.0;
-      resolved = no_map UnresolvedExternal (unresolved objects) second.0;
+      repeated = none_before_map DuplicatePublic (repeated_after [] (public_names objects)) first.0;
+      resolved = none_before_map UnresolvedExternal (unresolved objects) second.0;
       fits = third.0;
       main = fourth.0;
       high = fifth.0;

@@ -1,5 +1,5 @@
 -- Places that are moved and joined stay valid: each byte, each word, and how many there are.
-use Rattle.object_laws.proofs.Prelude.{◌≡◌, ℕ, zero, suc, ◌+◌, ◌-◌, ◌<◌, ◌≤◌, Bool, true, false, not, ◌||◌, nat_lt, List, [], ◌∷◌, ◌++◌, length, replicate, slice_get, Option, Some, None, option_map, option_and_then, refl, ap, ◌∙◌, arith, list_all, AllByRecursion, option_map_or, option_flatten, and_parts, and_from, lt-ltb, ltb-true, length-append, length-replicate, list_all-append, FixKind, Low, High, Both, Target, Fixup, SetByte, is_both, begins_word, is_plain, words_are_whole, is_target, is_valid_byte, first_byte_moved, after_fixup, value_after, value_moved, fixup_moved, byte_moved, moved_after, joined_after}
+use Rattle.object_laws.proofs.Prelude.{◌≡◌, ℕ, zero, suc, ◌+◌, ◌-◌, ◌≤◌, Bool, true, false, not, ◌||◌, nat_lt, List, [], ◌∷◌, ◌++◌, length, replicate, slice_get, Option, Some, None, option_map, option_and_then, refl, ap, ◌∙◌, arith, list_all, AllByRecursion, option_map_or, option_flatten, and_parts, and_from, lt-ltb, ltb-true, length-append, length-replicate, list_all-append, Target, Fixup, SetByte, is_both, begins_word, is_plain, words_are_whole, is_target, is_valid_byte, fixup_moved, byte_moved, moved_after, joined_after, moved_is_byte}
 
 -- each place has a valid byte, or none
 abbrev pub are_valid : (count : ℕ) → List (Option SetByte) → Bool
@@ -10,37 +10,6 @@ abbrev pub Keeps : (count : ℕ) → (kept : Target → Option Target) → Type 
 Keeps count kept =
     (target : Target) → is_target count target ≡ true
     → option_map_or (λ (other : Target). is_target 0 other) (kept target) true ≡ true
-
--- values
-first_byte : (kind : FixKind) (value gain : ℕ) → first_byte_moved kind value gain < 256
-first_byte Low value gain = omega arith
-first_byte High value gain = omega arith
-first_byte Both value gain = omega arith
-
-by_kind :
-    (gain_of : Target → ℕ) (first value : ℕ) (kind : FixKind) (target : Target) → value < 256
-    → after_fixup gain_of first value (Some (record { kind = kind; target = target })) < 256
-by_kind gain_of first value Low target h = h
-by_kind gain_of first value High target h = h
-by_kind gain_of first value Both target h = omega arith
-
-by_fixup :
-    (gain_of : Target → ℕ) (first value : ℕ) (fixup : Option Fixup) → value < 256
-    → after_fixup gain_of first value fixup < 256
-by_fixup gain_of first value None h = h
-by_fixup gain_of first value (Some fixup) h = by_kind gain_of first value fixup.kind fixup.target h
-
-by_place :
-    (gain_of : Target → ℕ) (before : Option SetByte) (value : ℕ) → value < 256
-    → value_after gain_of before value < 256
-by_place gain_of None value h = h
-by_place gain_of (Some before) value h = by_fixup gain_of before.value value before.fixup h
-
-value_range :
-    (gain_of : Target → ℕ) (before : Option SetByte) (value : ℕ) (fixup : Option Fixup) → value < 256
-    → value_moved gain_of before (record { value = value; fixup = fixup }) < 256
-value_range gain_of before value None h = by_place gain_of before value h
-value_range gain_of before value (Some fixup) h = first_byte fixup.kind value (gain_of fixup.target)
 
 fixup_valid :
     (count : ℕ) (kept : Target → Option Target) (fixup : Option Fixup) → Keeps count kept
@@ -63,7 +32,7 @@ place_moved_valid count gain_of kept before None keeps h = refl
 place_moved_valid count gain_of kept before (Some here) keeps h =
     let cut = and_parts (nat_lt here.value 256) _ h in
     and_from _ _
-    (lt-ltb _ 256 (value_range gain_of before here.value here.fixup (ltb-true here.value 256 cut.0)))
+    (lt-ltb _ 256 (moved_is_byte gain_of before here.value here.fixup (ltb-true here.value 256 cut.0)))
     (fixup_valid count kept here.fixup keeps cut.1)
 
 pub moved_valid :

@@ -1,6 +1,5 @@
 -- A piece run by run: each run takes the fixes in front that begin within it, and its bytes are moved by these.
-use Rattle.object_laws.proofs.Prelude.{◌≡◌, ℕ, suc, ◌+◌, ◌<◌, ◌≤◌, Bool, true, false, cond, not, ◌||◌, ◌==◌, List, [], ◌∷◌, ◌++◌, length, map, flat_map, Option, Some, None, refl, ap, sym, subst, ◌∙◌, le_trans, arith, AllByRecursion, and_parts, and_from, eq-eqb, ne_eqb, lt-ltb, le-ltb, length-map, Fix, Target, Fixup, SetByte, begins_word, is_plain, words_are_whole, bytes_of_run, fixes_of_run, Run, before_runs, runs_from, fixes_from, run_at, before_fixes, fixes_below, fixes_past, run_end, run_fixed, runs_fixed}
-use Rattle.object_laws.proofs.Merges.FixesOfPlaces.{fixes_step}
+use Rattle.object_laws.proofs.Prelude.{◌≡◌, ℕ, suc, ◌+◌, ◌<◌, ◌≤◌, Bool, true, false, cond, not, ◌||◌, ◌==◌, List, [], ◌∷◌, ◌++◌, length, map, flat_map, Option, Some, None, refl, ap, sym, subst, ◌∙◌, le_trans, arith, AllByRecursion, and_parts, and_from, eq-eqb, ne_eqb, lt-ltb, le-ltb, length-map, Fix, Target, Fixup, SetByte, begins_word, is_plain, words_are_whole, bytes_of_run, fixes_of_run, Run, before_runs, runs_from, fixes_from, run_at, before_fixes, fixes_below, fixes_past, run_end, run_fixed, runs_fixed, fixes_step}
 use Rattle.object_laws.proofs.Merges.RunsMoved.{FirstFrom, first_from, fixes_later, row_of, values_of, bytes_moved}
 use Rattle.object_laws.proofs.Merges.PlacesKept.{AllFrom, all_earlier, all_from}
 use Rattle.object_laws.proofs.Merges.PiecesJoined.{run_placed}
@@ -51,7 +50,7 @@ fixes_within offset end (here ∷ others) h =
     (before_below offset end here.fixup (fixes_from (offset + 1) others) (omega (arith, h))
     (fixes_within (offset + 1) end others (omega (arith, h))))
 
-past_append : (end : ℕ) (xs ys : List Fix) → AllPast end xs → AllPast end ys → AllPast end (xs ++ ys)
+pub past_append : (end : ℕ) (xs ys : List Fix) → AllPast end xs → AllPast end ys → AllPast end (xs ++ ys)
 past_append end [] ys x y = y
 past_append end (fix ∷ others) ys x y = (x.0, past_append end others ys x.1 y)
 

@@ -1,5 +1,6 @@
 -- Places are those of the segment that keeps their longest runs and their fixes.
-use Rattle.object_laws.proofs.Prelude.{◌≡◌, ℕ, suc, ◌+◌, ◌-◌, ◌<◌, ◌≤◌, Bool, true, false, cond, not, ◌&&◌, ◌||◌, ◌==◌, nat_lt, nat_le, List, [], ◌∷◌, length, map, find, slice_get, slice_index, Option, Some, None, option_map, refl, ap, sym, ◌∙◌, true≢false, le_refl, arith, list_all, range_with_len, AllByRecursion, option_map_or, option_flatten, and_parts, and_from, and_left, or_left, or_right, eqb-true, eq-eqb, ne_eqb, le-leb, lt-leb, lt-ltb, le-ltb, leb-true, ltb-true, ltb-false, Alignment, Fix, FixKind, Low, High, Both, Segment, Absolute, Code, Data, Stack, Target, is_empty, same_segment, Fixup, SetByte, width_of, is_both, begins_word, is_plain, words_are_whole, fix_end, is_within, bytes_of_run, fixup_at, FixedContent, holds_place, set_at, set_in, StoredSegment, IsStored, are_longest, fixes_ascend, is_in_a_run, content_of_run, places_stored, Run, before_runs, runs_from, run_at, before_fixes, place_fixes}
+use Rattle.object_laws.proofs.Prelude.{◌≡◌, ℕ, suc, ◌+◌, ◌-◌, ◌<◌, ◌≤◌, Bool, true, false, cond, not, ◌&&◌, ◌||◌, ◌==◌, nat_lt, nat_le, List, [], ◌∷◌, length, map, find, slice_get, slice_index, Option, Some, None, option_map, refl, ap, sym, ◌∙◌, true≢false, le_refl, arith, list_all, range_with_len, AllByRecursion, option_map_or, option_flatten, and_parts, and_from, and_left, or_left, or_right, eqb-true, eq-eqb, ne_eqb, le-leb, lt-leb, lt-ltb, le-ltb, leb-true, ltb-true, ltb-false, Alignment, Fix, FixKind, Low, High, Both, Segment, Target, is_empty, Fixup, SetByte, width_of, is_both, begins_word, is_plain, words_are_whole, fix_end, is_within, bytes_of_run, fixup_at, FixedContent, holds_place, set_at, set_in, StoredSegment, IsStored, are_longest, fixes_ascend, is_in_a_run, content_of_run, places_stored, Run, before_runs, runs_from, run_at, before_fixes, place_fixes, and_right, map_cond}
+use Rattle.object_laws.proofs.Texts.ContentsAccepted.{same_self}
 
 -- the segment that keeps places
 abbrev pub stored_of : Alignment → List (Option SetByte) → StoredSegment
@@ -23,18 +24,6 @@ place_by fixes (run ∷ others) x = cond (has_place x run) (Some (byte_by fixes 
 
 abbrev content_by : Segment → List Fix → Run ℕ → FixedContent
 content_by segment fixes run = record { content = content_of_run segment run; fixes = fixes }
-
-same_self : (segment : Segment) → same_segment segment segment ≡ true
-same_self Absolute = refl
-same_self Code = refl
-same_self Data = refl
-same_self Stack = refl
-
-map_cond :
-    {A B : Type 0} (f : A → B) (b : Bool) (x : A) (rest : Option A)
-    → option_map f (cond b (Some x) rest) ≡ cond b (Some (f x)) (option_map f rest)
-map_cond f true x rest = refl
-map_cond f false x rest = refl
 
 set_is :
     (segment : Segment) (fixes : List Fix) (runs : List (Run ℕ)) (x : ℕ)
@@ -150,11 +139,7 @@ past_one :
 past_one fixes offset value x others h =
     ap (λ b.
     cond b (Some (byte_by fixes x (run_at offset (value ∷ [])))) (place_by fixes others x))
-    (ap (λ b. nat_le offset x && b) (le-ltb x (offset + 1) (omega (arith, h))) ∙ nothing (nat_le offset x))
-  where
-    nothing : (b : Bool) → (b && false) ≡ false
-    nothing true = refl
-    nothing false = refl
+    (ap (λ b. nat_le offset x && b) (le-ltb x (offset + 1) (omega (arith, h))) ∙ and_right (nat_le offset x) false refl)
 
 past_first :
     (fixes : List Fix) (offset value x : ℕ) (next : Run ℕ) (others : List (Run ℕ)) → offset < x

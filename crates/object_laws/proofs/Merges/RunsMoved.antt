@@ -1,6 +1,5 @@
 -- Runs of places that move: each run by itself, its bytes by its fixes one after another.
-use Rattle.object_laws.proofs.Prelude.{◌≡◌, ℕ, suc, ◌+◌, ◌-◌, ◌≤◌, Bool, true, false, cond, not, ◌||◌, ◌==◌, List, [], ◌∷◌, ◌++◌, length, map, slice_index, slice_set, Option, Some, None, refl, ap, sym, subst, ◌∙◌, le_refl, arith, AllByRecursion, option_map_or, and_parts, eq-eqb, ne_eqb, Fix, FixKind, Low, High, Both, Target, Fixup, SetByte, begins_word, is_plain, words_are_whole, first_byte_moved, second_byte_moved, value_after, value_moved, byte_moved, moved_after, Run, before_runs, runs_from, fixes_from, run_at, before_fixes, items_moved, run_moved, bytes_fixed, bytes_after}
-use Rattle.object_laws.proofs.Merges.FixesOfPlaces.{fixes_step}
+use Rattle.object_laws.proofs.Prelude.{◌≡◌, ℕ, suc, ◌+◌, ◌-◌, ◌≤◌, Bool, true, false, cond, not, ◌||◌, ◌==◌, List, [], ◌∷◌, ◌++◌, length, map, slice_index, slice_set, Option, Some, None, refl, ap, sym, subst, ◌∙◌, le_refl, arith, AllByRecursion, option_map_or, and_parts, eq-eqb, ne_eqb, Fix, FixKind, Low, High, Both, Target, Fixup, SetByte, begins_word, is_plain, words_are_whole, first_byte_moved, second_byte_moved, value_after, value_moved, byte_moved, moved_after, Run, before_runs, runs_from, fixes_from, run_at, before_fixes, items_moved, run_moved, bytes_fixed, bytes_after, none_either_way, fixes_step}
 use Rattle.object_laws.proofs.Merges.Moves.{value_stays}
 
 -- a run begins no earlier than the places do
@@ -36,10 +35,6 @@ first_moved gain_of kept before offset (run ∷ others) =
     run_at run.offset (items_moved gain_of kept (cond (run.offset == offset) before None) run.items)
     ∷ map (run_moved gain_of kept) others
 
-none_alike : (b : Bool) → ◌≡◌ {A = Option SetByte} (cond b None None) None
-none_alike true = refl
-none_alike false = refl
-
 -- nothing is right before
 alone :
     (gain_of : Target → ℕ) (kept : Target → Option Target) (offset : ℕ) (runs : List (Run SetByte))
@@ -48,7 +43,7 @@ alone gain_of kept offset [] = refl
 alone gain_of kept offset (run ∷ others) =
     ap (λ (b : Option SetByte).
     (run_at run.offset (items_moved gain_of kept b run.items)) ∷ map (run_moved gain_of kept) others)
-    (none_alike (run.offset == offset))
+    (none_either_way (run.offset == offset))
 
 not_first :
     (gain_of : Target → ℕ) (kept : Target → Option Target) (before : Option SetByte) (offset : ℕ)

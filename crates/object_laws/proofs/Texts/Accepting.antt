@@ -1,7 +1,6 @@
 -- When a part may stand after others, rule by rule, and what the parts before a place tell after some more.
-use Rattle.object_laws.proofs.Prelude.{◌≡◌, ℕ, ◌+◌, ◌<◌, ◌≤◌, ◌==◌, Bool, true, false, cond, not, ◌&&◌, nat_le, List, [], ◌∷◌, ◌++◌, length, map, flat_map, take_while, Option, Some, None, refl, ap, sym, subst, ◌∙◌, arith, AllByRecursion, list_all, option_or, option_map_or, and_parts, and_from, le-leb, length-append, take_while-cons, BODY_LIMIT, RecordKind, first_that_holds, Fault, WrongBody, ContentMisplaced, FixMisplaced, WrongAlignment, Segment, Content, Part, kind_of_part, body_of, rank_of, is_fix_record, may_come_after, is_empty, may_follow, entries_of, content_of, latest_content, end_by_content, filled_to, fixes_of, leading_fixes, is_body, is_served, fits_segment, is_within, are_apart, fit_content, part_fault, is_accepted, are_accepted}
+use Rattle.object_laws.proofs.Prelude.{◌≡◌, ℕ, ◌+◌, ◌<◌, ◌≤◌, ◌==◌, Bool, true, false, cond, not, ◌&&◌, nat_le, List, [], ◌∷◌, ◌++◌, length, flat_map, take_while, Option, Some, None, refl, ap, sym, subst, ◌∙◌, arith, AllByRecursion, list_all, option_or, option_map_or, and_parts, and_from, le-leb, length-append, take_while-cons, BODY_LIMIT, RecordKind, first_that_holds, Fault, WrongBody, ContentMisplaced, FixMisplaced, WrongAlignment, Segment, Content, Part, kind_of_part, body_of, rank_of, is_fix_record, may_come_after, is_empty, may_follow, entries_of, content_of, latest_content, end_by_content, filled_to, fixes_of, leading_fixes, is_body, is_served, fits_segment, is_within, are_apart, fit_content, part_fault, is_accepted, are_accepted, all_append}
 use Rattle.omf80.specs.declared.kind.RecordKind.TheVariants as kinds
-use Rattle.object_laws.proofs.Texts.Groups.{all_append}
 use Rattle.object_laws.proofs.Texts.Counted.{times, times_append}
 
 -- parts with later ones in front, the latest first
@@ -211,21 +210,3 @@ pub all_flat_map :
     → AllByRecursion P (flat_map f xs)
 all_flat_map P f [] h = tt
 all_flat_map P f (x ∷ xs) h = all_append P (f x) (flat_map f xs) h.0 (all_flat_map P f xs h.1)
-
-pub all_mapped :
-    {X A : Type 0} (Q : X → Type 0) (P : A → Type 0) (f : X → A) → ((x : X) → Q x → P (f x)) → (xs : List X)
-    → AllByRecursion Q xs → AllByRecursion P (map f xs)
-all_mapped Q P f h [] all = tt
-all_mapped Q P f h (x ∷ xs) all = (h x all.0, all_mapped Q P f h xs all.1)
-
-pub all_weaker :
-    {A : Type 0} (Q P : A → Type 0) → ((x : A) → Q x → P x) → (xs : List A) → AllByRecursion Q xs
-    → AllByRecursion P xs
-all_weaker Q P h [] all = tt
-all_weaker Q P h (x ∷ xs) all = (h x all.0, all_weaker Q P h xs all.1)
-
-pub all_both :
-    {A : Type 0} (P Q : A → Type 0) (xs : List A) → AllByRecursion P xs → AllByRecursion Q xs
-    → AllByRecursion (λ x. P x × Q x) xs
-all_both P Q [] h k = tt
-all_both P Q (x ∷ xs) h k = ((h.0, k.0), all_both P Q xs h.1 k.1)

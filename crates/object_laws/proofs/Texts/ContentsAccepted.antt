@@ -1,12 +1,12 @@
 -- The contents that are written may stand where they stand, and so may their fix records.
-use Rattle.object_laws.proofs.Prelude.{◌≡◌, ℕ, suc, ◌+◌, ◌-◌, ◌<◌, ◌≤◌, ◌==◌, Bool, true, false, cond, not, ◌&&◌, nat_lt, nat_le, List, [], ◌∷◌, ◌++◌, length, map, flat_map, filter_map, Some, None, refl, ap, sym, subst, ◌∙◌, arith, AllByRecursion, cons_option, list_all, option_or, option_map_or, and_parts, and_from, le-leb, length-map, list_all-append, BODY_LIMIT, word_bytes, Fix, FixKind, Segment, Absolute, Code, Data, Stack, Target, InSegment, External, SetByte, holds_bytes, is_movable, is_target, Reference, Content, Part, ContentPart, ExternalReferencesPart, RelocationPart, IntersegmentPart, kind_of_part, body_of, fix_kind_number, reference_bytes, is_empty, same_segment, rank_of, is_fix_record, entries_of, externals_of, content_of, length_in, end_by_content, stated_length_of, latest_content, content_end, filled_to, fixes_of, leading_fixes, is_served, is_other_segment, is_body, fits_segment, fix_end, is_within, are_apart, fit_content, is_accepted, are_accepted, publics_of, name_of_header, start_of_end, Run, packed, fixes_from, fix_kinds, reference_for, offset_for, external_fix_parts, relocation_parts, intersegment_parts, other_segments, fix_parts, content_parts}
-use Rattle.object_laws.proofs.Texts.Groups.{total, Fits, packed_fit, packed_joined, length_total, count_total, all_append, all_in_groups}
+use Rattle.object_laws.proofs.Prelude.{◌≡◌, ℕ, suc, ◌+◌, ◌-◌, ◌<◌, ◌≤◌, ◌==◌, Bool, true, false, cond, not, ◌&&◌, nat_lt, nat_le, List, [], ◌∷◌, ◌++◌, length, map, flat_map, filter_map, Some, None, refl, ap, sym, subst, ◌∙◌, arith, AllByRecursion, cons_option, list_all, option_or, option_map_or, and_parts, and_from, le-leb, length-map, list_all-append, BODY_LIMIT, word_bytes, Fix, FixKind, Segment, Absolute, Code, Data, Stack, Target, InSegment, External, SetByte, holds_bytes, is_movable, is_target, Reference, Content, Part, ContentPart, ExternalReferencesPart, RelocationPart, IntersegmentPart, kind_of_part, body_of, fix_kind_number, reference_bytes, is_empty, same_segment, rank_of, is_fix_record, entries_of, externals_of, content_of, length_in, end_by_content, stated_length_of, latest_content, content_end, filled_to, fixes_of, leading_fixes, is_served, is_other_segment, is_body, fits_segment, fix_end, is_within, are_apart, fit_content, is_accepted, are_accepted, publics_of, name_of_header, start_of_end, Run, packed, fixes_from, fix_kinds, reference_for, offset_for, external_fix_parts, relocation_parts, intersegment_parts, other_segments, fix_parts, content_parts, all_append, all_both, all_mapped, all_weaker}
+use Rattle.object_laws.proofs.Texts.Groups.{total, Fits, packed_fit, packed_joined, length_total, count_total, all_in_groups}
 use Rattle.object_laws.proofs.Texts.Counted.{times, times_append, covers, once_apart}
 use Rattle.object_laws.proofs.Texts.Runs.{InOrder, order_ends}
 use Rattle.object_laws.proofs.Texts.Cuts.{IsCut}
 use Rattle.object_laws.proofs.Texts.Fixes.{fixes_once, fixes_within, HasTarget, fixes_have_targets}
 use Rattle.object_laws.proofs.Texts.Laid.{InOneClass, fix_parts_laid, all_classed, times_laid, all_laid}
-use Rattle.object_laws.proofs.Texts.Accepting.{onto, accepted_append, accepted_by, fit_nothing, UpTo, up_to_onto, follows_content, AtContents, follows_fix, flat_map_onto, filled_onto, leading_more, leading_none, some_items, all_pass, all_flat_map, all_mapped, all_weaker, all_both}
+use Rattle.object_laws.proofs.Texts.Accepting.{onto, accepted_append, accepted_by, fit_nothing, UpTo, up_to_onto, follows_content, AtContents, follows_fix, flat_map_onto, filled_onto, leading_more, leading_none, some_items, all_pass, all_flat_map}
 
 -- a fix record of a content, in a file with so many external names
 pub record IsFixPart (content : Content) (external_count : ℕ) (part : Part) : Type 0 where

@@ -1,10 +1,10 @@
 -- What the contents that are written tell, place by place, is what the places of their segment are.
-use Rattle.object_laws.proofs.Prelude.{◌≡◌, ℕ, zero, suc, ◌+◌, ◌-◌, ◌<◌, ◌≤◌, Bool, true, false, cond, ◌&&◌, nat_lt, nat_le, List, [], ◌∷◌, ◌++◌, length, map, flat_map, find, slice_get, slice_index, Option, Some, None, option_map, refl, ap, sym, ◌∙◌, arith, AllByRecursion, range_with_len, option_or, option_flatten, and_parts, leb-true, ltb-true, append_assoc, slice_get-map, get_or_from_slice_get, Fix, Segment, Fixup, SetByte, holds_bytes, Content, Part, HeaderPart, ExternalNamesPart, PublicsPart, ContentPart, ExternalReferencesPart, RelocationPart, IntersegmentPart, ModuleEndPart, EndOfFilePart, kind_of_part, same_segment, is_fix_record, content_of, content_end, fixes_of, leading_fixes, FixedContent, fixed_contents, holds_place, set_at, set_in, Run, fixes_from, fix_parts, content_parts}
+use Rattle.object_laws.proofs.Prelude.{◌≡◌, ℕ, zero, suc, ◌+◌, ◌-◌, ◌<◌, ◌≤◌, Bool, true, false, cond, ◌&&◌, nat_lt, nat_le, List, [], ◌∷◌, ◌++◌, length, map, flat_map, find, slice_get, slice_index, Option, Some, None, option_map, refl, ap, sym, ◌∙◌, arith, AllByRecursion, range_with_len, option_or, option_flatten, and_parts, leb-true, ltb-true, append_assoc, slice_get-map, get_or_from_slice_get, Fix, Segment, Fixup, SetByte, holds_bytes, Content, Part, HeaderPart, ExternalNamesPart, PublicsPart, ContentPart, ExternalReferencesPart, RelocationPart, IntersegmentPart, ModuleEndPart, EndOfFilePart, kind_of_part, same_segment, is_fix_record, content_of, content_end, fixes_of, leading_fixes, FixedContent, fixed_contents, holds_place, set_at, set_in, Run, fixes_from, fix_parts, content_parts, all_weaker}
 use Rattle.object_laws.proofs.Texts.Runs.{item_at}
 use Rattle.object_laws.proofs.Texts.Cuts.{IsCut}
 use Rattle.object_laws.proofs.Texts.Fixes.{begins_at, begins_once, fixup_of, fix_found, fixes_have_targets}
 use Rattle.object_laws.proofs.Texts.Laid.{classes, laid, fix_parts_laid, all_classed, find_laid}
-use Rattle.object_laws.proofs.Texts.Accepting.{leading_more, leading_none, all_weaker}
+use Rattle.object_laws.proofs.Texts.Accepting.{leading_more, leading_none}
 use Rattle.object_laws.proofs.Texts.ContentsAccepted.{IsFixPart, fix_parts_are, content_for, HasTargets, content_end_is, same_self}
 
 -- no fix record comes first

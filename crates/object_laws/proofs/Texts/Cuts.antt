@@ -1,6 +1,6 @@
 -- The contents that runs are cut into: they stand in order, tell each place as the runs do, and cut no word.
-use Rattle.object_laws.proofs.Prelude.{◌≡◌, ℕ, zero, suc, ◌+◌, ◌-◌, ◌<◌, ◌≤◌, Bool, true, false, cond, not, ◌&&◌, ◌||◌, nat_lt, nat_le, List, [], ◌∷◌, ◌++◌, length, map, flat_map, slice_get, Option, Some, None, refl, ap, sym, subst, ◌∙◌, ⊎_elim, arith, AllByRecursion, onto_first, option_flatten, and_parts, cond-false, cond_both, le-ltb, ltb-false, cases_lt, length-append, Fixup, SetByte, begins_word, is_plain, words_are_whole, Run, content_limit, groups_after, groups_of, bytes_wanted, placed_from, contents_of_run}
-use Rattle.object_laws.proofs.Texts.Groups.{Fits, joined, groups_joined, groups_fit, all_append}
+use Rattle.object_laws.proofs.Prelude.{◌≡◌, ℕ, zero, suc, ◌+◌, ◌-◌, ◌<◌, ◌≤◌, Bool, true, false, cond, not, ◌&&◌, ◌||◌, nat_lt, nat_le, List, [], ◌∷◌, ◌++◌, length, map, flat_map, slice_get, Option, Some, None, refl, ap, sym, subst, ◌∙◌, ⊎_elim, arith, AllByRecursion, onto_first, option_flatten, and_parts, cond-false, cond_both, le-ltb, ltb-false, cases_lt, length-append, Fixup, SetByte, begins_word, is_plain, words_are_whole, Run, content_limit, groups_after, groups_of, bytes_wanted, placed_from, contents_of_run, all_append, got_before}
+use Rattle.object_laws.proofs.Texts.Groups.{Fits, joined, groups_joined, groups_fit}
 use Rattle.object_laws.proofs.Texts.Runs.{InOrder, item_at, item_inside, item_past, item_before, order_earlier, AreWhole, whole_plain, whole_word, IsWholeRun}
 
 -- a byte where no fix begins is no word
@@ -175,12 +175,6 @@ contents_in_order from to (run ∷ others) o =
     (subst (λ items. InOrder (run.offset + length items) to (flat_map contents_of_run others))
     (sym (run_groups_joined run)) (contents_in_order (run.offset + length run.items) to others o.2)))
 
--- an item of one list after another
-got_left : {A : Type 0} (xs ys : List A) (k : ℕ) → k < length xs → slice_get (xs ++ ys) k ≡ slice_get xs k
-got_left [] ys k h = absurd (omega (arith, h))
-got_left (x ∷ xs) ys zero h = refl
-got_left (x ∷ xs) ys (suc k) h = got_left xs ys k (omega (arith, h))
-
 got_right : {A : Type 0} (xs ys : List A) (k n : ℕ) → n ≡ length xs + k → slice_get (xs ++ ys) n ≡ slice_get ys k
 got_right [] ys k n e = ap (slice_get ys) (let s : n ≡ k = omega (arith, e) in s)
 got_right (x ∷ xs) ys k zero e = absurd (omega (arith, e))
@@ -214,7 +208,7 @@ placed_item {A} place offset (group ∷ groups) others =
     ⊎_elim
     (λ (h : place < offset + length group).
     item_inside place first after from h
-    ∙ sym (got_left group (joined groups) (place - offset) (omega (arith, from, h)))
+    ∙ sym (got_before group (joined groups) (place - offset) (omega (arith, from, h)))
     ∙ sym (item_inside place whole others from (omega (arith, h, longer))))
     (λ (h : offset + length group ≤ place).
     item_past place first after h ∙ next

@@ -136,12 +136,6 @@ pub all_halves :
 all_halves P [] ys all = (tt, all)
 all_halves P (x ∷ xs) ys all = let h = all_halves P xs ys all.1 in ((all.0, h.0), h.1)
 
-pub all_append :
-    {A : Type 0} (P : A → Type 0) (xs ys : List A) → AllByRecursion P xs → AllByRecursion P ys
-    → AllByRecursion P (xs ++ ys)
-all_append P [] ys h k = k
-all_append P (x ∷ xs) ys h k = (h.0, all_append P xs ys h.1 k)
-
 -- what holds of all items holds of those in each group
 pub all_in_groups :
     {A : Type 0} (P : A → Type 0) (groups : List (List A))

@@ -1,9 +1,9 @@
 -- The records of names that are written: what they tell, and that they may stand where they stand.
-use Rattle.object_laws.proofs.Prelude.{◌≡◌, ℕ, ◌+◌, ◌-◌, ◌≤◌, Bool, true, false, cond, List, [], ◌∷◌, ◌++◌, length, map, flat_map, None, refl, ap, sym, subst, ◌∙◌, arith, AllByRecursion, bytes_eq, eqb-true, map-append, same_Some, BODY_LIMIT, Segment, Absolute, Code, Data, Stack, Public, may_have_publics, Definition, Part, ExternalNamesPart, PublicsPart, kind_of_part, segment_number, listed_name_bytes, definition_bytes, segment_of, same_segment, rank_of, entries_of, externals_of, definition_names, names_of, content_of, latest_content, are_accepted, publics_of, name_of_header, start_of_end, packed, external_parts, publics_in_segment, definition_of, public_parts}
+use Rattle.object_laws.proofs.Prelude.{◌≡◌, ℕ, ◌+◌, ◌-◌, ◌≤◌, Bool, true, false, cond, List, [], ◌∷◌, ◌++◌, length, map, flat_map, None, refl, ap, sym, subst, ◌∙◌, arith, AllByRecursion, bytes_eq, eqb-true, map-append, same_Some, BODY_LIMIT, Segment, Absolute, Code, Data, Stack, Public, may_have_publics, Definition, Part, ExternalNamesPart, PublicsPart, kind_of_part, segment_number, listed_name_bytes, definition_bytes, segment_of, same_segment, rank_of, entries_of, externals_of, definition_names, names_of, content_of, latest_content, are_accepted, publics_of, name_of_header, start_of_end, packed, external_parts, publics_in_segment, definition_of, public_parts, all_weaker}
 use Rattle.object_laws.proofs.Files.FrontsAgain.{segment_again}
 use Rattle.object_laws.proofs.Texts.Groups.{joined, packed_fit, packed_joined, all_in_groups}
 use Rattle.object_laws.proofs.Texts.Counted.{times}
-use Rattle.object_laws.proofs.Texts.Accepting.{UpTo, all_weaker}
+use Rattle.object_laws.proofs.Texts.Accepting.{UpTo}
 use Rattle.object_laws.proofs.Texts.NamesAccepted.{IsName, IsNamed, listed_short, definition_short, externals_accepted, publics_accepted}
 
 -- a record of names

@@ -1,10 +1,10 @@
 -- The records that are written for the contents of a segment: what they are, and what they leave as it was.
-use Rattle.object_laws.proofs.Prelude.{◌≡◌, ℕ, ◌+◌, ◌≤◌, ◌==◌, Bool, true, false, cond, nat_lt, List, [], ◌∷◌, length, flat_map, slice_get, Option, Some, None, IfSome, refl, ap, sym, subst, ◌∙◌, arith, AllByRecursion, list_all, option_map_or, option_flatten, and_parts, Segment, Fixup, SetByte, is_target, is_valid_byte, words_are_whole, Content, Part, ContentPart, kind_of_part, same_segment, rank_of, entries_of, externals_of, content_of, length_in, content_end, end_by_content, filled_to, publics_of, name_of_header, start_of_end, Run, before_runs, runs_from, contents_of_run, fixes_from, fix_parts, content_parts}
-use Rattle.object_laws.proofs.Texts.Groups.{all_append, all_in_groups}
+use Rattle.object_laws.proofs.Prelude.{◌≡◌, ℕ, ◌+◌, ◌≤◌, ◌==◌, Bool, true, false, cond, nat_lt, List, [], ◌∷◌, length, flat_map, slice_get, Option, Some, None, IfSome, refl, ap, sym, subst, ◌∙◌, arith, AllByRecursion, list_all, option_map_or, option_flatten, and_parts, Segment, Fixup, SetByte, is_target, is_valid_byte, words_are_whole, Content, Part, ContentPart, kind_of_part, same_segment, rank_of, entries_of, externals_of, content_of, length_in, content_end, end_by_content, filled_to, publics_of, name_of_header, start_of_end, Run, before_runs, runs_from, contents_of_run, fixes_from, fix_parts, content_parts, all_append, all_weaker}
+use Rattle.object_laws.proofs.Texts.Groups.{all_in_groups}
 use Rattle.object_laws.proofs.Texts.Runs.{InOrder, item_at, runs_in_order, runs_tell, runs_whole}
 use Rattle.object_laws.proofs.Texts.Cuts.{IsCut, all_cut, placed_hold, run_groups, run_groups_joined, contents_in_order, contents_tell}
 use Rattle.object_laws.proofs.Texts.Fixes.{HasTarget, fixes_have_targets}
-use Rattle.object_laws.proofs.Texts.Accepting.{onto, up_to_onto, flat_map_onto, filled_onto, all_flat_map, all_weaker}
+use Rattle.object_laws.proofs.Texts.Accepting.{onto, up_to_onto, flat_map_onto, filled_onto, all_flat_map}
 use Rattle.object_laws.proofs.Texts.ContentsAccepted.{IsFixPart, fix_parts_are, content_for, HasTargets, BeforeContents}
 
 -- what holds of the bytes of places holds of those of their runs

@@ -1,8 +1,8 @@
 -- The one text of a module is a file of the records that are written, and these say the module.
-use Rattle.object_laws.proofs.Prelude.{◌≡◌, ℕ, ◌+◌, ◌≤◌, Bool, true, not, ◌&&◌, ◌||◌, nat_lt, nat_le, List, [], ◌∷◌, ◌++◌, length, map, flat_map, Option, Some, None, refl, ap, subst, ◌∙◌, arith, AllByRecursion, list_all, option_map_or, bytes_eq, and_parts, and_from, append-nil, flat_map-append, is_name, BODY_LIMIT, Segment, Absolute, Code, Data, SEGMENT_LIMIT, Places, Public, ObjectModule, words_are_whole, is_page, is_valid_byte, is_valid_segment, linkage_names, IsObjectModule, Part, ModuleEndPart, EndOfFilePart, kind_of_part, body_of, rank_of, entries_of, externals_of, names_of, content_of, latest_content, length_in, filled_to, end_by_content, is_accepted, are_accepted, name_of_header, start_of_end, header_for, external_parts, public_parts, segment_parts, written_parts}
-use Rattle.object_laws.proofs.Texts.Groups.{all_append, all_halves}
+use Rattle.object_laws.proofs.Prelude.{◌≡◌, ℕ, ◌+◌, ◌≤◌, Bool, true, not, ◌&&◌, ◌||◌, nat_lt, nat_le, List, [], ◌∷◌, ◌++◌, length, map, flat_map, Option, Some, None, refl, ap, subst, ◌∙◌, arith, AllByRecursion, list_all, option_map_or, bytes_eq, and_parts, and_from, append-nil, flat_map-append, is_name, BODY_LIMIT, Segment, Absolute, Code, Data, SEGMENT_LIMIT, Places, Public, ObjectModule, words_are_whole, is_page, is_valid_byte, is_valid_segment, linkage_names, IsObjectModule, Part, ModuleEndPart, EndOfFilePart, kind_of_part, body_of, rank_of, entries_of, externals_of, names_of, content_of, latest_content, length_in, filled_to, end_by_content, is_accepted, are_accepted, name_of_header, start_of_end, header_for, external_parts, public_parts, segment_parts, written_parts, all_append, all_weaker}
+use Rattle.object_laws.proofs.Texts.Groups.{all_halves}
 use Rattle.object_laws.proofs.Texts.Counted.{times, times_append, new_once}
-use Rattle.object_laws.proofs.Texts.Accepting.{onto, accepted_append, onto_append, accepted_by, fit_nothing, UpTo, up_to_onto, up_to_more, follows_end, flat_map_onto, times_onto, length_onto, latest_onto, filled_onto, each_passes, all_weaker}
+use Rattle.object_laws.proofs.Texts.Accepting.{onto, accepted_append, onto_append, accepted_by, fit_nothing, UpTo, up_to_onto, up_to_more, follows_end, flat_map_onto, times_onto, length_onto, latest_onto, filled_onto, each_passes}
 use Rattle.object_laws.proofs.Texts.NamesAccepted.{IsName}
 use Rattle.object_laws.proofs.Texts.NamesWritten.{IsNamesPart, external_parts_are, names_of_externals, externals_again, externals_stage, names_in, HasName, public_parts_are, no_externals_there, names_of_publics, publics_stage, publics_counted}
 use Rattle.object_laws.proofs.Texts.ContentsAccepted.{BeforeContents, contents_accepted}

@@ -1,9 +1,8 @@
 -- The records that are written for a module say it again, so its text spells it and no other module, and anything
 -- after its text is out of order.
-use Rattle.object_laws.proofs.Prelude.{◌≡◌, ℕ, ◌+◌, true, cond, List, [], ◌∷◌, ◌++◌, length, map, flat_map, filter_map, reverse, slice_get, slice_index, Option, Some, None, option_map, option_and_then, refl, ap, sym, subst, ◌∙◌, AllByRecursion, cons_option, range_with_len, option_or, option_flatten, append_assoc, append-nil, reverse-append, flat_map-append, kind_of_type, first_body, record_fault, Fault, OutOfOrder, Alignment, Segment, Absolute, Code, Data, Stack, SetByte, Places, Public, ObjectModule, IsObjectModule, SegmentEntry, Part, ModuleEndPart, EndOfFilePart, is_ended, entries_of, externals_of, content_of, length_in, stated_length_of, are_accepted, fault_from_record, fault_of_record, fault_at, FixedContent, fixed_contents, set_in, alignment_in, places_in, publics_of, start_of_end, first_in, start_in, module_of, IsFileOf, Spells, HasFirstFault, header_for, external_parts, publics_in_segment, public_parts, segment_parts, written_parts, text_of, with_publics_in_order}
+use Rattle.object_laws.proofs.Prelude.{◌≡◌, ℕ, ◌+◌, true, cond, List, [], ◌∷◌, ◌++◌, length, map, flat_map, filter_map, reverse, slice_get, slice_index, Option, Some, None, option_map, option_and_then, refl, ap, sym, subst, ◌∙◌, AllByRecursion, cons_option, range_with_len, option_or, option_flatten, append_assoc, append-nil, reverse-append, flat_map-append, kind_of_type, first_body, record_fault, Fault, OutOfOrder, Alignment, Segment, Absolute, Code, Data, Stack, SetByte, Places, Public, ObjectModule, IsObjectModule, SegmentEntry, Part, ModuleEndPart, EndOfFilePart, is_ended, entries_of, externals_of, content_of, length_in, stated_length_of, are_accepted, fault_from_record, fault_of_record, fault_at, FixedContent, fixed_contents, set_in, alignment_in, places_in, publics_of, start_of_end, first_in, start_in, module_of, IsFileOf, Spells, HasFirstFault, header_for, external_parts, publics_in_segment, public_parts, segment_parts, written_parts, text_of, with_publics_in_order, all_weaker}
 use Rattle.object_laws.proofs.Files.Unique.{spells_one, no_fault, one_fault}
 use Rattle.object_laws.proofs.Texts.Runs.{item_at}
-use Rattle.object_laws.proofs.Texts.Accepting.{all_weaker}
 use Rattle.object_laws.proofs.Texts.NamesWritten.{IsNamesPart, no_publics_there, publics_again}
 use Rattle.object_laws.proofs.Texts.ContentsTold.{fixed_skip, fixed_for, no_fix_first, fixed_cuts, set_in_cuts, set_past_cuts, places_again}
 use Rattle.object_laws.proofs.Texts.Headed.{entries_for, code_length_is, data_length_is, stack_length_is, code_alignment_is, data_alignment_is}

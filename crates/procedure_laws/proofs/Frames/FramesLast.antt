@@ -3,6 +3,7 @@ use Rattle.procedure_laws.proofs.Prelude.{◌≡◌, ℕ, suc, ◌+◌, ◌-◌,
 use Rattle.isa8080.proofs.FlagBytes.{flag_byte_small}
 use Rattle.procedure_laws.proofs.CallInstructions.{word_kept}
 use Rattle.procedure_laws.proofs.Frames.FramesSet.{LieInWords}
+use Rattle.procedure_laws.proofs.Numbers.{two_less_one}
 
 -- the steps of the last argument, and what is known of it, by the last parameter
 pub steps_of_last :
@@ -65,9 +66,6 @@ last_pushed script Address place top r memory events pointer limit room =
 high_of : (a f value : ℕ) → f < 256 → a ≡ value → word a f / 256 ≡ value
 high_of a f value small is = omega (arith, small, is)
 
-next_byte : (top : ℕ) → 2 ≤ top → top - 2 + 1 ≡ top - 1
-next_byte top room = omega (arith, room)
-
 low_of : (h l value : ℕ) → l < 256 → l ≡ value % 256 → word h l % 256 ≡ value % 256
 low_of h l value small is = omega (arith, small, is)
 
@@ -81,13 +79,13 @@ pub last_in_word :
     → InRegister scalar value r
     → InWord scalar value (pushed top (pushed_word scalar r) memory) (top - 2)
 last_in_word Byte value top r memory room limit size bytes is =
-    ap (byte_at (pushed top (pushed_word Byte r) memory)) (next_byte top room)
+    ap (byte_at (pushed top (pushed_word Byte r) memory)) (two_less_one top room)
     ∙ (pushed_is_pushed top (pushed_word Byte r) memory room limit size).high
     ∙ high_of r.a (flag_byte r.flags) value (flag_byte_small r.flags) is
 last_in_word Address value top r memory room limit size bytes is = (
   (pushed_is_pushed top (pushed_word Address r) memory room limit size).low
       ∙ low_of r.h r.l value bytes.l is.1,
-  ap (byte_at (pushed top (pushed_word Address r) memory)) (next_byte top room)
+  ap (byte_at (pushed top (pushed_word Address r) memory)) (two_less_one top room)
       ∙ (pushed_is_pushed top (pushed_word Address r) memory room limit size).high
       ∙ high_of r.h r.l (value / 256) bytes.l is.0,
 )

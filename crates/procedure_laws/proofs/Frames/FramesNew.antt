@@ -1,5 +1,5 @@
 -- A new frame: zeros for its variables lie where the plan has them, and its parameters lie in their words.
-use Rattle.procedure_laws.proofs.Prelude.{◌≡◌, ℕ, zero, suc, ◌+◌, ◌-◌, ◌<◌, ◌≤◌, inl, inr, Bool, true, false, if◌then◌else◌, List, [], ◌∷◌, length, map, replicate, slice_get, slice_index_or, Option, Some, None, IsSomeAnd, refl, sym, ap, subst, ◌∙◌, arith, option_map_or, get_or-replicate, length-replicate, eqb-true, none-some, byte_at, ScalarType, Visibility, AreParameters, HasParameters, IsParameter, home_of_parameters, is_in_frame, IsScalar, size_of_object, size_of_scalar, BasedOn, Elsewhere, Home, InConstants, InData, InFrame, Nowhere, Placed, TypedModule, TypedObject, TypedProcedure, InTheFrame, home_in, place_in, place_of, frame_of, is_frame_of, TreeProcedure, kind_of, IsProcedure, nodes_of, FramePlan, IsPlanOf, distance_of, parameter_distance, frame_number, listed, scalar_size, has_parameters, Entries, activation_in, frame_shape, size_in_frame, ModuleCode, ModuleLies, surroundings_in}
+use Rattle.procedure_laws.proofs.Prelude.{◌≡◌, ℕ, zero, suc, ◌+◌, ◌-◌, ◌<◌, ◌≤◌, inl, inr, Bool, true, false, if◌then◌else◌, List, [], ◌∷◌, length, map, replicate, slice_get, slice_index_or, Option, Some, None, IsSomeAnd, refl, sym, ap, subst, ◌∙◌, arith, option_map_or, get_or-replicate, length-replicate, eqb-true, none-some, byte_at, ScalarType, Visibility, AreParameters, HasParameters, IsParameter, home_of_parameters, is_in_frame, IsScalar, size_of_object, size_of_scalar, BasedOn, Elsewhere, Home, InConstants, InData, InFrame, Nowhere, Placed, TypedModule, TypedObject, TypedProcedure, InTheFrame, home_in, place_in, place_of, frame_of, is_frame_of, TreeProcedure, kind_of, IsProcedure, nodes_of, FramePlan, IsPlanOf, distance_of, parameter_distance, frame_number, listed, scalar_size, has_parameters, Entries, activation_in, frame_shape, size_in_frame, ModuleCode, ModuleLies, surroundings_in, zero-add}
 use Rattle.typed_trees.specs.declared.parts.Visibility.TheVariants as visibilities
 use Rattle.treecode.specs.declared.procedure.ProcedureKind.TheVariants as kinds
 use Rattle.procedure_laws.proofs.Frames.FramesPlanned.{parameter_lies, variable_lies}
@@ -274,11 +274,8 @@ module _ (code : ModuleCode) (entries : Entries) (index : ℕ) (procedure : Tree
       (home_reentrant code.typed index found (sym lowered.kind ∙ kind))
       (has_parameters code.typed index found lies.parameters stands).objects)
       (omega (arith, count))
-      (λ place parameter its. ap (λ (place : ℕ). slice_get found.parameters place) (from_zero place) ∙ its)
+      (λ place parameter its. ap (λ (place : ℕ). slice_get found.parameters place) (zero-add place) ∙ its)
     where
-      from_zero : (place : ℕ) → 0 + place ≡ place
-      from_zero place = omega arith
-
       count : length found.parameters ≡ length found.parameter_types
       count =
           as_many_parameters code.typed (home_of_parameters index found.is_reentrant found.visibility) found.parameter_types

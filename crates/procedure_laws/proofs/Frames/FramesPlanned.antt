@@ -1,43 +1,5 @@
 -- Where the variables and the parameters in the frame of a procedure lie by the plan of its frame.
-use Rattle.procedure_laws.proofs.Prelude.{◌≡◌, ◌≢◌, ℕ, zero, suc, [], ◌∷◌, ◌+◌, ◌-◌, ◌%◌, ◌<◌, ◌≤◌, min, Bool, true, false, List, length, take, slice_get, Option, Some, None, refl, ap, sym, ◌∙◌, subst, nat_lt, arith, mod-eq_of_lt, ltb-true, ltb-false, AllPairs, option_map, unwrap_or, true≢false, none-some, get_or_from_slice_get, slice_get-map, slice_get_within, ScalarType, FramesFit, HasParameters, ParametersFit, IsScalar, size_of_object, size_of_scalar, InFrame, TypedModule, TypedObject, TypedProcedure, Storage, FrameVariable, TreeProcedure, frame_number, frame_variable, parameter_number, IsProcedure, Nodes, FramePlan, IsPlanOf, bytes_by_parameter, distance_by_parameter, distance_in, distance_of, parameter_distance, variable_bytes, TakeBytes, bytes_are, object_fits, scalar_size, entries, parameter_count, entry_is, frame_fits, framed, has_parameters, none_found}
-
--- the variables before one, and that one, are among all
-ends_within :
-    (frame : List FrameVariable) (number : ℕ) (variable : FrameVariable)
-    → slice_get frame number ≡ Some variable
-    → variable_bytes (take number frame) + bytes_by_parameter variable.size variable.parameter
-    ≤ variable_bytes frame
-ends_within [] number variable found = absurd (none-some variable found)
-ends_within (first ∷ others) zero variable found =
-    subst (λ (variable : FrameVariable).
-    0 + bytes_by_parameter variable.size variable.parameter ≤ variable_bytes (first ∷ others))
-    (ap (λ (found : Option FrameVariable). unwrap_or found first) found) (omega arith)
-ends_within (first ∷ others) (suc number) variable found =
-    omega (arith, ends_within others number variable found)
-
--- items that differ stand once
-pub one_index :
-    (items : List ℕ) (one other item : ℕ)
-    → AllPairs (λ (first second : ℕ). first ≢ second) items
-    → slice_get items one ≡ Some item
-    → slice_get items other ≡ Some item
-    → one ≡ other
-one_index items one other item differ here there = by_test (nat_lt one other) refl
-  where
-    by_other : (test : Bool) → nat_lt other one ≡ test → nat_lt one other ≡ false → one ≡ other
-    by_other true below not_below =
-        absurd (differ other one item (ltb-true other one below) (slice_get_within items one item here)
-        (get_or_from_slice_get items other item item there ∙ sym (get_or_from_slice_get items one item item here)))
-    by_other false below not_below =
-        let first = ltb-false other one below in
-        let second = ltb-false one other not_below in
-        omega (arith, first, second)
-
-    by_test : (test : Bool) → nat_lt one other ≡ test → one ≡ other
-    by_test true below =
-        absurd (differ one other item (ltb-true one other below) (slice_get_within items other item there)
-        (get_or_from_slice_get items one item item here ∙ sym (get_or_from_slice_get items other item item there)))
-    by_test false below = by_other (nat_lt other one) refl below
+use Rattle.procedure_laws.proofs.Prelude.{◌≡◌, ℕ, ◌+◌, ◌-◌, ◌%◌, ◌<◌, ◌≤◌, min, false, List, length, take, slice_get, Option, Some, None, refl, ap, sym, ◌∙◌, subst, arith, mod-eq_of_lt, option_map, true≢false, slice_get-map, slice_get_within, ScalarType, FramesFit, HasParameters, ParametersFit, IsScalar, size_of_object, size_of_scalar, InFrame, TypedModule, TypedObject, TypedProcedure, Storage, FrameVariable, TreeProcedure, frame_number, frame_variable, parameter_number, IsProcedure, Nodes, FramePlan, IsPlanOf, bytes_by_parameter, distance_by_parameter, distance_in, distance_of, parameter_distance, variable_bytes, TakeBytes, bytes_are, object_fits, scalar_size, entries, parameter_count, entry_is, frame_fits, framed, has_parameters, none_found, same_number, ends_within}
 
 module _ (typed : TypedModule) (nodes : Nodes) (storage : Storage) (index : ℕ) (procedure : TreeProcedure)
     (heading : TypedProcedure) (plan : FramePlan) (sized : TakeBytes typed) (fit : ParametersFit typed)
@@ -143,7 +105,7 @@ module _ (typed : TypedModule) (nodes : Nodes) (storage : Storage) (index : ℕ)
           let few : length heading.parameters ≤ 16 = has.count in
           let within = slice_get_within heading.parameters search object found_there in
           mod-eq_of_lt (omega (arith, few, within))
-          ∙ one_index heading.parameters search place object has.differ found_there listed
+          ∙ same_number heading.parameters search place object has.differ found_there listed
 
       by_search : (search : Option ℕ)
           → parameter_number typed.procedures object ≡ search

@@ -1,6 +1,6 @@
 -- The parameters are set in a new frame: beside the memory that the machine has in the end, in which each argument lies in
 -- the word of its parameter.
-use Rattle.procedure_laws.proofs.Prelude.{◌≡◌, ◌≢◌, ℕ, zero, suc, ◌+◌, ◌-◌, ◌/◌, ◌%◌, ◌<◌, ◌≤◌, ◌==◌, ◌⊎◌, inl, inr, Bool, true, false, List, [], ◌∷◌, length, slice_set, refl, sym, ap, subst, ◌∙◌, arith, cases_lt, eqb-true, eqb-false, length-set, get_or-set_same, get_or-set_other, IsMemory, byte_at, byte_small, ScalarType, Byte, Address, size_of_scalar, InTheFrame, Surroundings, frame_bytes, place_of, write_scalar, parameters_set, Gave, Outcome, SourceState, then_do, byte_kept, byte_put, parameter_distance, word_distance, Activation, FrameLies, InWord}
+use Rattle.procedure_laws.proofs.Prelude.{◌≡◌, ◌≢◌, ℕ, ◌+◌, ◌-◌, ◌/◌, ◌%◌, ◌<◌, ◌==◌, ◌⊎◌, inl, inr, Bool, true, false, List, [], ◌∷◌, length, slice_set, refl, sym, ap, subst, ◌∙◌, arith, eqb-true, eqb-false, length-set, get_or-set_same, get_or-set_other, IsMemory, byte_at, byte_small, ScalarType, Byte, Address, size_of_scalar, InTheFrame, Surroundings, frame_bytes, place_of, write_scalar, parameters_set, Gave, Outcome, SourceState, then_do, byte_kept, byte_put, parameter_distance, word_distance, Activation, FrameLies, InWord, sized_in_frame}
 use Rattle.meaning.specs.Access.{Place}
 
 -- a frame lies in a memory, but for some of its bytes
@@ -27,11 +27,6 @@ opens wider lies = record {
 abbrev with_byte : List (List ℕ) → (object offset byte : ℕ) → List (List ℕ)
 with_byte frame object offset byte = slice_set frame object (slice_set (frame_bytes frame object) offset byte)
 
-past : (frame : List (List ℕ)) (object : ℕ) → length frame ≤ object → frame_bytes frame object ≡ []
-past [] object less = refl
-past (first ∷ frame) zero less = absurd (omega (arith, less))
-past (first ∷ frame) (suc object) less = past frame object (omega (arith, less))
-
 -- an open byte that is put is closed
 byte_set :
     {activation : Activation} {frame : List (List ℕ)} {memory : List ℕ} {Open : (object offset : ℕ) → Type 0}
@@ -47,17 +42,10 @@ byte_set {activation = activation} {frame = frame} {memory = memory} {Open = Ope
       bytes = λ other place other_within closed. bytes_by other place other_within closed (other == object) refl;
     }
   where
-    by_cases : (object < length frame) ⊎ (length frame ≤ object) → object < length frame
-    by_cases (inl less) = less
-    by_cases (inr more) =
-        let size = lies.sizes object in
-        let none : length (frame_bytes frame object) ≡ 0 = ap (λ (xs : List ℕ). length xs) (past frame object more) in
-        absurd (omega (arith, size, none, within))
-
     here : frame_bytes (with_byte frame object offset byte) object ≡ slice_set (frame_bytes frame object) offset byte
     here =
         get_or-set_same frame object (slice_set (frame_bytes frame object) offset byte) []
-        (by_cases (cases_lt object (length frame)))
+        (sized_in_frame activation frame object offset within (lies.sizes object))
 
     elsewhere : (other : ℕ) → other ≢ object
         → frame_bytes (with_byte frame object offset byte) other ≡ frame_bytes frame other

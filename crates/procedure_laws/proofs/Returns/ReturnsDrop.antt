@@ -1,8 +1,9 @@
 -- Bytes are dropped from the stack before a return; the result stays where it is.
-use Rattle.procedure_laws.proofs.Prelude.{◌≡◌, ℕ, zero, suc, ◌+◌, ◌-◌, ◌*◌, ◌/◌, ◌%◌, ◌<◌, ◌≤◌, nat_le, Bool, true, false, if◌then◌else◌, List, [], ◌∷◌, ◌++◌, replicate, Option, Some, None, refl, sym, ap, subst, ◌∙◌, arith, append_assoc, MEMORY_SIZE, IsMemory, byte_at, byte_small, Event, ScalarType, Byte, Address, SourceState, Outcome, Dad, Inx, Lxi, Pop, Sphl, Xchg, Hl, Sp, StackPair, StackBc, act, HoldBytes, Registers, State, word, wrap, with_popped, AgreesIn, IsPushed, pop_does, LiesWell, Does, at_place, Planned, plain, Here, drop_steps, kept_steps, pops_steps, ResultLies, BodyContext}
+use Rattle.procedure_laws.proofs.Prelude.{◌≡◌, ℕ, zero, suc, ◌+◌, ◌*◌, ◌/◌, ◌%◌, ◌<◌, ◌≤◌, nat_le, Bool, true, false, if◌then◌else◌, List, [], ◌∷◌, ◌++◌, replicate, Option, Some, None, refl, sym, ap, subst, ◌∙◌, arith, append_assoc, MEMORY_SIZE, IsMemory, byte_at, byte_small, Event, ScalarType, Byte, Address, SourceState, Outcome, Dad, Inx, Lxi, Pop, Sphl, Xchg, Hl, Sp, StackPair, StackBc, act, HoldBytes, Registers, State, word, wrap, with_popped, AgreesIn, IsPushed, pop_does, LiesWell, Does, at_place, Planned, plain, Here, drop_steps, kept_steps, pops_steps, ResultLies, BodyContext, high_of_two, low_of_two, wrapped_next}
 use Rattle.procedure_laws.proofs.Frames.FramesSteps.{StepsLie, plain_goes}
 use Rattle.procedure_laws.proofs.Returns.StaticReturns.{result_kept}
 use Rattle.procedure_laws.proofs.Zeros.{same_steps}
+use Rattle.procedure_laws.proofs.Numbers.{two_less_again, two_more_less, two_more_one}
 
 -- registers with the stack pointer there, where A, DE and HL are those of others
 pub record IsAt (top : ℕ) (kept now : Registers) : Type 0 where
@@ -32,21 +33,9 @@ pub is_pushed : (top : ℕ) (memory : List ℕ) → IsMemory memory → IsPushed
 is_pushed top memory is =
     let low = byte_small memory top is in
     record {
-      high = ap (byte_at memory) (next top) ∙ high_is (byte_at memory top) (byte_at memory (top + 1)) low;
-      low = ap (byte_at memory) (here top) ∙ low_is (byte_at memory top) (byte_at memory (top + 1)) low;
+      high = ap (byte_at memory) (two_more_one top) ∙ high_of_two (byte_at memory top) (byte_at memory (top + 1)) low;
+      low = ap (byte_at memory) (two_less_again top) ∙ low_of_two (byte_at memory top) (byte_at memory (top + 1)) low;
     }
-  where
-    next : (top : ℕ) → top + 2 - 1 ≡ top + 1
-    next top = omega arith
-
-    here : (top : ℕ) → top + 2 - 2 ≡ top
-    here top = omega arith
-
-    high_is : (low high : ℕ) → low < 256 → high ≡ (low + 256 * high) / 256
-    high_is low high small = omega (arith, small)
-
-    low_is : (low high : ℕ) → low < 256 → low ≡ (low + 256 * high) % 256
-    low_is low high small = omega (arith, small)
 
 pub word_small : (top : ℕ) (memory : List ℕ) → IsMemory memory → word_there memory top < MEMORY_SIZE
 word_small top memory is =
@@ -64,11 +53,8 @@ pub pop_is :
     → act script (Pop pair) (at_place place now memory events)
     ≡ at_place place (record (with_popped pair (word_there memory top) now) { sp = wrap (top + 2) }) memory events
 pop_is script pair place top now memory events pointer limit is =
-    pop_does script pair place (top + 2) (word_there memory top) now memory events (pointer ∙ ap wrap (back top)) (omega arith)
+    pop_does script pair place (top + 2) (word_there memory top) now memory events (pointer ∙ ap wrap (two_more_less top)) (omega arith)
     limit (is_pushed top memory is)
-  where
-    back : (top : ℕ) → top ≡ top + 2 - 2
-    back top = omega arith
 
 -- words of a sum in HL
 pub halves : (n : ℕ) → n < MEMORY_SIZE → word (n / 256) (n % 256) ≡ n
@@ -150,7 +136,7 @@ module _ {A : Type 0} {budget : ℕ} {outcome : Outcome A} {Good : A → SourceS
         e = is.e;
         h = is.h;
         l = is.l;
-        pointer = ap (λ (sp : ℕ). wrap (sp + 1)) is.pointer ∙ over top;
+        pointer = ap (λ (sp : ℕ). wrap (sp + 1)) is.pointer ∙ wrapped_next top;
         registers = record {
           a = is.registers.a;
           b = is.registers.b;
@@ -163,9 +149,6 @@ module _ {A : Type 0} {budget : ℕ} {outcome : Outcome A} {Good : A → SourceS
       })
       (subst (λ (end : ℕ). GoesOnAt at last others budget outcome Good events end to kept memory) (up bytes top) rest))
     where
-      over : (top : ℕ) → wrap (wrap top + 1) ≡ wrap (top + 1)
-      over top = omega arith
-
       up : (bytes top : ℕ) → top + suc bytes ≡ top + 1 + bytes
       up bytes top = omega arith
 

@@ -1,5 +1,5 @@
 -- A return over the words of arguments above the return address, and then all returns of REENTRANT procedures.
-use Rattle.procedure_laws.proofs.Prelude.{◌≡◌, ◌≢◌, ℕ, zero, suc, ◌+◌, ◌-◌, ◌*◌, ◌/◌, ◌%◌, ◌<◌, ◌≤◌, nat_eq, min, inr, Bool, true, false, if◌then◌else◌, List, [], ◌∷◌, ◌++◌, length, slice_get, Option, Some, None, refl, sym, ap, subst, ◌∙◌, arith, eqb-true, length-set, MEMORY_SIZE, byte_at, ScalarType, Byte, Address, Gave, SourceState, Pchl, Pop, Push, Ret, StackDe, StackHl, HoldBytes, Registers, State, high_byte, low_byte, word, wrap, with_popped, running, pushed, pushed_is_memory, pushed_is_pushed, pushed_keeps, push_does, LiesWell, Shares, Does, at_place, gives, keeps_all, plain, Here, pops_steps, return_over_any_steps, return_over_steps, ResultLies, BodyContext, IsOfCall, ReturnLies, HasReturned}
+use Rattle.procedure_laws.proofs.Prelude.{◌≡◌, ◌≢◌, ℕ, zero, suc, ◌+◌, ◌-◌, ◌*◌, ◌/◌, ◌%◌, ◌<◌, ◌≤◌, nat_eq, min, inr, Bool, true, false, if◌then◌else◌, List, [], ◌∷◌, ◌++◌, length, slice_get, Option, Some, None, refl, sym, ap, subst, ◌∙◌, arith, eqb-true, length-set, MEMORY_SIZE, byte_at, ScalarType, Byte, Address, Gave, SourceState, Pchl, Pop, Push, Ret, StackDe, StackHl, HoldBytes, Registers, State, high_byte, low_byte, word, wrap, with_popped, running, pushed, pushed_is_memory, pushed_is_pushed, pushed_keeps, push_does, LiesWell, Shares, Does, at_place, gives, keeps_all, plain, Here, pops_steps, return_over_any_steps, return_over_steps, ResultLies, BodyContext, IsOfCall, ReturnLies, HasReturned, add-zero}
 use Rattle.procedure_laws.proofs.Frames.FramesSteps.{StepsLie, plain_goes}
 use Rattle.procedure_laws.proofs.Returns.ReturnsDrop.{IsBack, pop_is, word_small, word_there, words_dropped}
 use Rattle.procedure_laws.proofs.Returns.StaticReturns.{result_kept, return_does}
@@ -62,8 +62,8 @@ module _ (at : BodyContext) (result : Option ScalarType) (value above back : ℕ
       (λ value t end. HasReturned at result above back memory value t end))
       (sym (return_does at.context.activation.around.program.script (from + 1) top back now memory t.events is.pointer limit
       (record {
-        low = ap (byte_at memory) (at_top top) ∙ return_lies.low;
-        high = ap (λ (n : ℕ). byte_at memory (n + 1)) (at_top top) ∙ return_lies.high;
+        low = ap (byte_at memory) (add-zero top) ∙ return_lies.low;
+        high = ap (λ (n : ℕ). byte_at memory (n + 1)) (add-zero top) ∙ return_lies.high;
       })))
       (returned_so (record now { sp = wrap (top + 2) })
       (record {
@@ -78,9 +78,6 @@ module _ (at : BodyContext) (result : Option ScalarType) (value above back : ℕ
       (ap wrap same)
       (result_kept result value now (record now { sp = wrap (top + 2) }) memory memory refl refl refl is.lies)))
     where
-      at_top : (top : ℕ) → top + 0 ≡ top
-      at_top top = omega arith
-
       limit : top + 2 ≤ MEMORY_SIZE
       limit = let whole = above_in_memory in omega (arith, same, whole)
 

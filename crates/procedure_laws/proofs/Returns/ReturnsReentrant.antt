@@ -1,10 +1,11 @@
 -- A REENTRANT procedure returns: its frame is dropped, and the words of its other arguments.
-use Rattle.procedure_laws.proofs.Prelude.{◌≡◌, ◌≢◌, ℕ, suc, ◌+◌, ◌-◌, ◌*◌, ◌<◌, ◌≤◌, nat_eq, min, Bool, true, false, if◌then◌else◌, ◌++◌, length, refl, sym, ap, subst, ◌∙◌, arith, eqb-true, eqb-false, MEMORY_SIZE, HasParameters, Gave, SourceState, State, ProcedureKind, TreeProcedure, IsProcedure, nodes_of, return_distance, return_of, parameter_count, frame_fits, has_parameters, LiesWell, Does, at_place, Body, drop_steps, return_of_frame_steps, return_over_any_steps, return_steps, return_steps_by, Entries, ReturnLies, ModuleCode, ModuleLies, ReentrantReturns, frame_level, reentrant_body, HasReturned}
+use Rattle.procedure_laws.proofs.Prelude.{◌≡◌, ℕ, ◌+◌, ◌-◌, ◌*◌, ◌<◌, ◌≤◌, nat_eq, min, Bool, true, false, if◌then◌else◌, ◌++◌, length, refl, sym, ap, subst, ◌∙◌, arith, eqb-true, eqb-false, MEMORY_SIZE, HasParameters, Gave, SourceState, State, ProcedureKind, TreeProcedure, IsProcedure, nodes_of, return_distance, return_of, parameter_count, frame_fits, has_parameters, LiesWell, Does, at_place, Body, drop_steps, return_of_frame_steps, return_over_any_steps, return_steps, return_steps_by, Entries, ReturnLies, ModuleCode, ModuleLies, ReentrantReturns, frame_level, reentrant_body, HasReturned}
 use Rattle.treecode.specs.declared.procedure.ProcedureKind.TheVariants as kinds
 use Rattle.procedure_laws.proofs.ProcedureCalls.{return_is}
 use Rattle.procedure_laws.proofs.Returns.ReturnsDrop.{frame_dropped}
 use Rattle.procedure_laws.proofs.Returns.ReturnsOver.{over_returns}
 use Rattle.procedure_laws.proofs.Zeros.{same_steps}
+use Rattle.procedure_laws.proofs.Numbers.{after_one_less}
 
 -- the bytes that are dropped are those below the return address
 abbrev dropped : (bytes count : ℕ) → ℕ
@@ -13,9 +14,6 @@ dropped bytes count = min (bytes + (if nat_eq count 0 then 0 else 2)) 65535
 dropped_is : (bytes count : ℕ) → bytes ≤ 1024 → dropped bytes count ≡ return_distance bytes count
 dropped_is bytes count few = by_test (nat_eq count 0) refl
   where
-    one_of : (count : ℕ) → count ≢ 0 → suc (count - 1) ≡ count
-    one_of count some = omega (arith, some)
-
     by_test : (test : Bool) → nat_eq count 0 ≡ test
         → min (bytes + (if test then 0 else 2)) 65535 ≡ return_distance bytes count
     by_test true same =
@@ -23,7 +21,7 @@ dropped_is bytes count few = by_test (nat_eq count 0) refl
         whole ∙ ap (return_distance bytes) (sym (eqb-true count 0 same))
     by_test false same =
         let whole : min (bytes + 2) 65535 ≡ bytes + 2 = omega (arith, few) in
-        whole ∙ ap (return_distance bytes) (one_of count (eqb-false count 0 same))
+        whole ∙ ap (return_distance bytes) (after_one_less count (eqb-false count 0 same))
 
 steps_are :
     (body : Body) → body.procedure.now.kind ≡ kinds.Reentrant

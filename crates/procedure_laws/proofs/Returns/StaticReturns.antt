@@ -3,6 +3,7 @@ use Rattle.procedure_laws.proofs.Prelude.{◌≡◌, ℕ, ◌+◌, ◌-◌, ◌*
 use Rattle.asm8080.proofs.Stack as stack
 use Rattle.treecode.specs.declared.procedure.ProcedureKind.TheVariants as kinds
 use Rattle.procedure_laws.proofs.Ends.{plain_planned}
+use Rattle.procedure_laws.proofs.Numbers.{two_more_less}
 
 -- a result lies where it does at another place of the program, with another stack pointer
 pub result_kept : (result : Option ScalarType) (value : ℕ) (r now : Registers) (memory ended : List ℕ)
@@ -11,9 +12,6 @@ pub result_kept : (result : Option ScalarType) (value : ℕ) (r now : Registers)
 result_kept None value r now memory ended a h l lies = tt
 result_kept (Some Byte) value r now memory ended a h l lies = a ∙ lies
 result_kept (Some Address) value r now memory ended a h l lies = (h ∙ lies.0, l ∙ lies.1)
-
-down : (level : ℕ) → level ≡ level + 2 - 2
-down level = omega arith
 
 first_byte : (level : ℕ) → level + 2 - 2 ≡ level + 0
 first_byte level = omega arith
@@ -30,7 +28,7 @@ pub return_does :
     → act script Ret (at_place place r memory events)
     ≡ at_place back (record r { sp = wrap (level + 2) }) memory events
 return_does script place level back r memory events pointer limit return_lies =
-    stack.return_does script place (level + 2) (wrap back) r memory events (pointer ∙ ap wrap (down level)) (omega arith) limit
+    stack.return_does script place (level + 2) (wrap back) r memory events (pointer ∙ ap wrap (two_more_less level)) (omega arith) limit
     (record {
       high = ap (byte_at memory) (next_byte level) ∙ return_lies.high;
       low = ap (byte_at memory) (first_byte level) ∙ return_lies.low;

@@ -1,14 +1,12 @@
 -- The arguments that a procedure which is not REENTRANT finds on the stack, under the return address.
-use Rattle.procedure_laws.proofs.Prelude.{◌≡◌, ℕ, ◌+◌, ◌-◌, ◌*◌, ◌<◌, ◌≤◌, Bool, true, false, if◌then◌else◌, List, [], ◌∷◌, ◌++◌, length, slice_get, Some, None, refl, sym, ap, subst, ◌∙◌, arith, append_assoc, same_Some, MEMORY_SIZE, byte_at, byte_small, Event, ScalarType, Byte, Address, frame_bytes, Outcome, SourceState, Pop, Push, Xthl, StackDe, StackHl, HoldBytes, Registers, State, high_byte, low_byte, wrap, Item, pushed, pushed_is_pushed, Static, Parameter, IsThere, Does, at_place, Facts, after, after_word, word_item, Planned, plain, Here, AreCarriedOut, argument_facts, argument_step, below_return_steps, exchanged_steps, is_address, known_at, known_from, popped_from, pushed_arguments_steps, InRegister, InWord, IsSound, BodyContext, ReturnLies}
+use Rattle.procedure_laws.proofs.Prelude.{◌≡◌, ℕ, ◌+◌, ◌-◌, ◌*◌, ◌<◌, ◌≤◌, Bool, true, false, if◌then◌else◌, List, [], ◌∷◌, ◌++◌, length, slice_get, Some, None, refl, sym, ap, subst, ◌∙◌, arith, append_assoc, same_Some, MEMORY_SIZE, byte_at, byte_small, Event, ScalarType, Byte, Address, frame_bytes, Outcome, SourceState, Pop, Push, Xthl, StackDe, StackHl, HoldBytes, Registers, State, high_byte, low_byte, wrap, Item, pushed, pushed_is_pushed, Static, Parameter, IsThere, Does, at_place, Facts, after, after_word, word_item, Planned, plain, Here, AreCarriedOut, argument_facts, argument_step, below_return_steps, exchanged_steps, is_address, known_at, known_from, popped_from, pushed_arguments_steps, InRegister, InWord, IsSound, BodyContext, ReturnLies, high_of_sum, low_of_sum, wrapped_small}
 use Rattle.asm8080.specs.declared.item.Item.TheVariants as items
 use Rattle.statements8080.specs.Plans.{word}
 use Rattle.procedure_laws.proofs.Planned.{IsBehind, plain_behind, word_behind}
 use Rattle.procedure_laws.proofs.Puts.{Slot, put, put_down}
-use Rattle.procedure_laws.proofs.Static.StaticLoops.{Held, IsTaken, PartedThere, held_then, high_of, low_of, loop_does, nth_is, plain_parted, store_is, word_parted}
+use Rattle.procedure_laws.proofs.Static.StaticLoops.{Held, IsTaken, PartedThere, held_then, loop_does, nth_is, plain_parted, store_is, word_parted}
 use Rattle.procedure_laws.proofs.Static.StaticStages.{Underway, exchange_goes, pop_goes, push_goes, store_form, store_goes}
-
-back_small : (back : ℕ) → wrap back < MEMORY_SIZE
-back_small back = omega arith
+use Rattle.procedure_laws.proofs.Numbers.{two_more_less}
 
 joined : (word : ℕ) → 256 * high_byte word + low_byte word ≡ word
 joined word = omega arith
@@ -20,13 +18,10 @@ pub pushed_return : (level back word : ℕ) (memory : List ℕ) → word ≡ wra
 pushed_return level back word memory same limit size =
     let is = pushed_is_pushed (level + 2) word memory (omega arith) limit size in
     record {
-      low = ap (byte_at (pushed (level + 2) word memory)) (this level) ∙ is.low ∙ ap low_byte same;
+      low = ap (byte_at (pushed (level + 2) word memory)) (two_more_less level) ∙ is.low ∙ ap low_byte same;
       high = ap (byte_at (pushed (level + 2) word memory)) (next level) ∙ is.high ∙ ap high_byte same;
     }
   where
-    this : (level : ℕ) → level ≡ level + 2 - 2
-    this level = omega arith
-
     next : (level : ℕ) → level + 1 ≡ level + 2 - 1
     next level = omega arith
 
@@ -78,7 +73,7 @@ module _ (at : BodyContext) (sound : IsSound at.context)
       → Does at.context.activation.around.program.script budget 0 (at_place from r memory events) outcome Good
   unfolding pushed_arguments_steps limit
   pushed_does rest facts here last list from to source memory r written there on held go =
-      pop_goes at sound no_frame (top + 2 + 2 * length others) entered frame none StackDe (wrap back) r (back_small back)
+      pop_goes at sound no_frame (top + 2 + 2 * length others) entered frame none StackDe (wrap back) r (wrapped_small back)
       (on.stack top start (omega (arith, high)) ∙ return_lies.low)
       (on.stack (top + 1) (omega (arith, start)) (omega (arith, high)) ∙ return_lies.high) (omega (arith, limit))
       first_parts.one on
@@ -174,7 +169,7 @@ module _ (at : BodyContext) (sound : IsSound at.context)
       → Does at.context.activation.around.program.script budget 0 (at_place from r memory events) outcome Good
   unfolding exchanged_steps known_from known_at limit
   exchanged_does only rest facts here last list from to source memory r alone address written there on held go =
-      pop_goes at sound no_frame (top + 2 + 2 * length others) entered frame none StackHl (wrap back) r (back_small back)
+      pop_goes at sound no_frame (top + 2 + 2 * length others) entered frame none StackHl (wrap back) r (wrapped_small back)
       (on.stack top start (omega (arith, high)) ∙ return_lies.low)
       (on.stack (top + 1) (omega (arith, start)) (omega (arith, high)) ∙ return_lies.high) (omega (arith, limit))
       first_parts.one on
@@ -183,8 +178,8 @@ module _ (at : BodyContext) (sound : IsSound at.context)
       (byte_at memory (top + 2) + 256 * byte_at memory (top + 2 + 1))
       (record r { h = high_byte (wrap back); l = low_byte (wrap back); sp = wrap (top + 2) })
       (omega (arith, low_small, high_small))
-      (sym (low_of (byte_at memory (top + 2)) (byte_at memory (top + 2 + 1)) low_small))
-      (sym (high_of (byte_at memory (top + 2)) (byte_at memory (top + 2 + 1)) low_small)) (omega (arith, start))
+      (sym (low_of_sum (byte_at memory (top + 2)) (byte_at memory (top + 2 + 1)) low_small))
+      (sym (high_of_sum (byte_at memory (top + 2)) (byte_at memory (top + 2 + 1)) low_small)) (omega (arith, start))
       (omega (arith, one_long)) high second_parts.one
       (subst (λ (known : Facts).
       Underway at (top + 2 + 2 * length others) entered entered known (top + 2) source
@@ -295,9 +290,9 @@ module _ (at : BodyContext) (sound : IsSound at.context)
 
       word_now : InRegister Address one.value now
       word_now = (
-        high_of (byte_at memory (top + 2)) (byte_at memory (top + 2 + 1)) low_small
+        high_of_sum (byte_at memory (top + 2)) (byte_at memory (top + 2 + 1)) low_small
             ∙ on.stack (top + 2 + 1) (omega (arith, start)) (omega (arith, high, one_long)) ∙ word_there.1,
-        low_of (byte_at memory (top + 2)) (byte_at memory (top + 2 + 1)) low_small
+        low_of_sum (byte_at memory (top + 2)) (byte_at memory (top + 2 + 1)) low_small
             ∙ on.stack (top + 2) (omega (arith, start)) (omega (arith, high, one_long)) ∙ word_there.0,
       )
 

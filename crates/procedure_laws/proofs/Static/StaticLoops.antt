@@ -1,10 +1,11 @@
 -- Arguments on the stack go to their parameters, from the last of them on.
-use Rattle.procedure_laws.proofs.Prelude.{◌≡◌, ℕ, zero, suc, ◌+◌, ◌-◌, ◌*◌, ◌/◌, ◌%◌, ◌<◌, ◌≤◌, false, List, [], ◌∷◌, ◌++◌, length, slice_get, Option, Some, None, refl, sym, ap, subst, ◌∙◌, arith, MEMORY_SIZE, byte_at, byte_small, Event, ScalarType, Byte, Address, frame_bytes, Outcome, SourceState, Instr, Pop, HoldBytes, Registers, State, high_byte, low_byte, with_popped, wrap, Item, WordForm, size_of_instruction, Location, Static, Place, Parameter, Activation, IsThere, IsVariable, Does, at_place, both_there, place_at, Facts, after, after_word, word_item, Planned, plain, Here, AreCarriedOut, argument_facts, known_at, known_from, pair_of, popped_argument_steps, popped_at, popped_from, store_argument, with_argument, InRegister, InWord, IsSound, popped_bytes, BodyContext}
+use Rattle.procedure_laws.proofs.Prelude.{◌≡◌, ℕ, zero, suc, ◌+◌, ◌-◌, ◌*◌, ◌/◌, ◌%◌, ◌<◌, ◌≤◌, false, List, [], ◌∷◌, ◌++◌, length, slice_get, Option, Some, None, refl, sym, ap, subst, ◌∙◌, arith, MEMORY_SIZE, byte_at, byte_small, Event, ScalarType, Byte, Address, frame_bytes, Outcome, SourceState, Instr, Pop, HoldBytes, Registers, State, with_popped, wrap, Item, WordForm, size_of_instruction, Location, Static, Place, Parameter, Activation, IsThere, IsVariable, Does, at_place, both_there, place_at, Facts, after, after_word, word_item, Planned, plain, Here, AreCarriedOut, argument_facts, known_at, known_from, pair_of, popped_argument_steps, popped_at, popped_from, store_argument, with_argument, InRegister, InWord, IsSound, popped_bytes, BodyContext, byte_as_low, high_of_sum, low_of_sum}
 use Rattle.asm8080.specs.declared.item.Item.TheVariants as items
 use Rattle.statements8080.specs.Plans.{word}
 use Rattle.procedure_laws.proofs.Planned.{IsBehind, plain_behind, word_behind}
 use Rattle.procedure_laws.proofs.Puts.{IsPart, Slot, put, put_down, put_nth}
 use Rattle.procedure_laws.proofs.Static.StaticStages.{Underway, pop_goes, store_form, store_goes}
+use Rattle.procedure_laws.proofs.CallInstructions.{word_kept}
 
 -- items after the first one
 pub record PartedThere (activation : Activation) (first others : List Item) (from middle to : ℕ) : Type 0 where
@@ -80,21 +81,15 @@ nth_is (suc index) (first ∷ slots) (number ∷ values) memory slot value there
 word_small : (low high : ℕ) → low < 256 → high < 256 → low + 256 * high < MEMORY_SIZE
 word_small low high one other = omega (arith, one, other)
 
-pub low_of : (low high : ℕ) → low < 256 → low_byte (low + 256 * high) ≡ low
-low_of low high small = omega (arith, small)
-
-pub high_of : (low high : ℕ) → low < 256 → high_byte (low + 256 * high) ≡ high
-high_of low high small = omega (arith, small)
-
 in_register : (scalar : ScalarType) (value low high sp : ℕ) (r : Registers) (memory : List ℕ) (address : ℕ)
     → low < 256
     → low ≡ byte_at memory address
     → high ≡ byte_at memory (address + 1)
     → InWord scalar value memory address
     → InRegister scalar value (record (with_popped (pair_of scalar) (low + 256 * high) r) { sp = sp })
-in_register Byte value low high sp r memory address small one other lies = high_of low high small ∙ other ∙ lies
+in_register Byte value low high sp r memory address small one other lies = high_of_sum low high small ∙ other ∙ lies
 in_register Address value low high sp r memory address small one other lies =
-    (high_of low high small ∙ other ∙ lies.1, low_of low high small ∙ one ∙ lies.0)
+    (high_of_sum low high small ∙ other ∙ lies.1, low_of_sum low high small ∙ one ∙ lies.0)
 
 same_d : (scalar : ScalarType) (word sp : ℕ) (r : Registers)
     → (record (with_popped (pair_of scalar) word r) { sp = sp }).d ≡ r.d
@@ -105,9 +100,6 @@ same_e : (scalar : ScalarType) (word sp : ℕ) (r : Registers)
     → (record (with_popped (pair_of scalar) word r) { sp = sp }).e ≡ r.e
 same_e Byte word sp r = refl
 same_e Address word sp r = refl
-
-small_value : (a value : ℕ) → a ≡ value → a < 256 → a ≡ value % 256
-small_value a value same small = omega (arith, same, small)
 
 -- a value that is in its register is known to be there
 pub held_then : (scalar : ScalarType) (slots : List Slot) (values : List ℕ) (facts : Facts) (r now : Registers)
@@ -122,7 +114,7 @@ pub held_then : (scalar : ScalarType) (slots : List Slot) (values : List ℕ) (f
 held_then Byte slots values facts r now value location held lies bytes pair byte before =
     let same = pair refl in
     record {
-      byte = (value, small_value now.a value lies bytes.a, held);
+      byte = (value, byte_as_low now.a value lies bytes.a, held);
       word =
           subst (λ (h : ℕ). HeldWord slots values facts.word_in_hl h now.l) (sym same.0)
           (subst (λ (l : ℕ). HeldWord slots values facts.word_in_hl r.h l) (sym same.1) before.word);
@@ -163,13 +155,6 @@ pub record IsTaken
   pub variables : (address : ℕ) → IsPart slot.scalar slot.at address
       → IsVariable at.context.activation.around.program address
   pub word : InWord slot.scalar value stacked address
-
-in_word_kept : (scalar : ScalarType) (value address : ℕ) (one other : List ℕ)
-    → byte_at other address ≡ byte_at one address
-    → byte_at other (address + 1) ≡ byte_at one (address + 1)
-    → InWord scalar value one address → InWord scalar value other address
-in_word_kept Byte value address one other low high lies = high ∙ lies
-in_word_kept Address value address one other low high lies = (low ∙ lies.0, high ∙ lies.1)
 
 module _ (at : BodyContext) (sound : IsSound at.context)
     (no_frame : (object : ℕ) → at.context.activation.size object ≡ 0)
@@ -242,8 +227,8 @@ module _ (at : BodyContext) (sound : IsSound at.context)
       pop_goes at sound no_frame above entered frame none (pair_of one.slot.scalar)
       (byte_at memory top + 256 * byte_at memory (top + 1)) r
       (word_small (byte_at memory top) (byte_at memory (top + 1)) low_small high_small)
-      (sym (low_of (byte_at memory top) (byte_at memory (top + 1)) low_small))
-      (sym (high_of (byte_at memory top) (byte_at memory (top + 1)) low_small)) limit first_parts.one on
+      (sym (low_of_sum (byte_at memory top) (byte_at memory (top + 1)) low_small))
+      (sym (high_of_sum (byte_at memory top) (byte_at memory (top + 1)) low_small)) limit first_parts.one on
       (λ popped.
       store_goes at sound no_frame above entered frame none one.slot one.value now one.lies one.variables one.small
       lies_now second_parts.one
@@ -319,7 +304,7 @@ module _ (at : BodyContext) (sound : IsSound at.context)
 
       word_there : InWord one.slot.scalar one.value memory top
       word_there =
-          in_word_kept one.slot.scalar one.value top stacked memory
+          word_kept one.slot.scalar one.value top stacked memory
           (on.stack top (omega (arith, top_is, start)) (omega (arith, top_is, few, high)))
           (on.stack (top + 1) (omega (arith, top_is, start)) (omega (arith, top_is, few, high)))
           (subst (λ (address : ℕ). InWord one.slot.scalar one.value stacked address) address_is one.word)

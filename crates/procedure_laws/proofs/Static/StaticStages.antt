@@ -1,8 +1,9 @@
 -- A machine within the code by which a procedure that is not REENTRANT takes its arguments, and what it does that comes
 -- to an instruction of it.
-use Rattle.procedure_laws.proofs.Prelude.{◌≡◌, ◌≢◌, ℕ, ◌+◌, ◌-◌, ◌*◌, ◌/◌, ◌%◌, ◌<◌, ◌≤◌, inl, inr, List, [], ◌∷◌, Option, Some, None, length, slice_set, refl, sym, ap, subst, ◌∙◌, arith, length-set, set_comm, MEMORY_SIZE, byte_at, word_at, Event, ScalarType, Byte, Address, frame_bytes, Outcome, SourceState, Instr, Pop, Push, Xthl, StackPair, Psw, StackBc, StackDe, StackHl, act, HoldBytes, Registers, State, high_byte, low_byte, with_popped, wrap, WordForm, StoreA, StoreHl, instruction_with, Keeps, size_of_instruction, pushed, pushed_is_memory, pushed_keeps, pop_does, push_does, Location, Frame, Static, Place, Activation, FrameLies, IsReady, IsThere, IsVariable, LiesWell, Owns, Shares, Does, at_place, plain_first, keeps_all, keeps_put, ready_with_variable, Asks, WordAsks, AddressHolds, ByteHolds, Distances, FactsHold, IsByteAt, IsSteady, IsWordAt, WordHolds, location_at, place_at, facts_after, facts_after_word, declared_is_steady, push_asks, Facts, after, after_word, word_item, Context, InRegister, IsSound, distances_in, Know, bytes_at_place, popped_bytes, word_acts, BodyContext, IsOfCall}
+use Rattle.procedure_laws.proofs.Prelude.{◌≡◌, ◌≢◌, ℕ, ◌+◌, ◌-◌, ◌*◌, ◌/◌, ◌%◌, ◌<◌, ◌≤◌, inl, inr, List, [], ◌∷◌, Option, Some, None, length, slice_set, refl, sym, ap, subst, ◌∙◌, arith, length-set, set_comm, MEMORY_SIZE, byte_at, word_at, Event, ScalarType, Byte, Address, frame_bytes, Outcome, SourceState, Instr, Pop, Push, Xthl, StackPair, Psw, StackBc, StackDe, StackHl, act, HoldBytes, Registers, State, high_byte, low_byte, with_popped, wrap, WordForm, StoreA, StoreHl, instruction_with, Keeps, size_of_instruction, pushed, pushed_is_memory, pushed_keeps, pop_does, push_does, Location, Frame, Static, Place, Activation, FrameLies, IsReady, IsThere, IsVariable, LiesWell, Owns, Shares, Does, at_place, plain_first, keeps_all, keeps_put, ready_with_variable, Asks, WordAsks, AddressHolds, ByteHolds, Distances, FactsHold, IsByteAt, IsSteady, IsWordAt, WordHolds, location_at, place_at, facts_after, facts_after_word, declared_is_steady, push_asks, Facts, after, after_word, word_item, Context, InRegister, IsSound, distances_in, Know, bytes_at_place, popped_bytes, word_acts, BodyContext, IsOfCall, byte_as_low, word_of_two}
 use Rattle.asm8080.specs.declared.item.Item.TheVariants as items
 use Rattle.procedure_laws.proofs.Puts.{IsPart, Slot, put, put_kept}
+use Rattle.procedure_laws.proofs.Numbers.{two_less_again, two_more_one, wrapped_two_more}
 
 -- the instruction that stores a value of a type from its register
 abbrev pub store_form : ScalarType → WordForm
@@ -100,9 +101,6 @@ pub record Underway
       → address < at.context.activation.around.program.placement.stack.start
       + at.context.activation.around.program.placement.stack.len
       → byte_at memory address ≡ byte_at stacked address
-
-byte_small : (byte value : ℕ) → byte ≡ value → byte < 256 → byte ≡ value % 256
-byte_small byte value same small = omega (arith, same, small)
 
 low_is : (h l value : ℕ) → h ≡ value / 256 → l ≡ value % 256 → low_byte (256 * h + l) ≡ value % 256
 low_is h l value high low = omega (arith, high, low)
@@ -261,7 +259,7 @@ module _ (at : BodyContext) (sound : IsSound at.context)
       ≡ at_place place r (put scalar start value memory) events
   store_acts Byte start value place r memory events lies bytes =
       ap (λ (byte : ℕ). at_place place r (slice_set memory start byte) events)
-      (byte_small r.a value lies bytes.a)
+      (byte_as_low r.a value lies bytes.a)
   store_acts Address start value place r memory events lies bytes =
       ap (λ (byte : ℕ).
       at_place place r
@@ -318,12 +316,6 @@ module _ (at : BodyContext) (sound : IsSound at.context)
   pop_asks facts StackHl r = tt
   pop_asks facts Psw r = tt
 
-  pop_size : (pair : StackPair) → size_of_instruction (Pop pair) ≡ 1
-  pop_size StackBc = refl
-  pop_size StackDe = refl
-  pop_size StackHl = refl
-  pop_size Psw = refl
-
   -- a word is taken from the stack
   pub pop_goes :
       {A : Type 0} {outcome : Outcome A} {Good : A → SourceState → State → Type 0} {budget : ℕ}
@@ -347,10 +339,10 @@ module _ (at : BodyContext) (sound : IsSound at.context)
       (pop_asks facts pair (record r { pc = wrap (from + size_of_instruction (Pop pair)) }))
       (pop_does at.context.activation.around.program.script pair
       (from + size_of_instruction (Pop pair)) (top + 2) word r memory events
-      (on.pointer ∙ back top) (omega arith) limit
+      (on.pointer ∙ wrapped_two_more top) (omega arith) limit
       (record {
-        high = ap (byte_at memory) (next top) ∙ high;
-        low = ap (byte_at memory) (this top) ∙ low;
+        high = ap (byte_at memory) (two_more_one top) ∙ high;
+        low = ap (byte_at memory) (two_less_again top) ∙ low;
       }))
       (λ known. rest (record {
         pointer = refl;
@@ -360,15 +352,6 @@ module _ (at : BodyContext) (sound : IsSound at.context)
         kept = on.kept;
         stack = on.stack;
       }))
-    where
-      back : (top : ℕ) → wrap top ≡ wrap (top + 2 - 2)
-      back top = omega arith
-
-      next : (top : ℕ) → top + 2 - 1 ≡ top + 1
-      next top = omega arith
-
-      this : (top : ℕ) → top + 2 - 2 ≡ top
-      this top = omega arith
 
   -- two bytes of the stack below a level are written
   stack_written :
@@ -479,13 +462,10 @@ module _ (at : BodyContext) (sound : IsSound at.context)
       tt acts
       (λ known.
       rest (stack_written (top + 2) (256 * r.h + r.l) (record r { h = high_byte word; l = low_byte word })
-      (omega (arith, low)) high end (omega (arith, h, l)) on (on.pointer ∙ back top)
+      (omega (arith, low)) high end (omega (arith, h, l)) on (on.pointer ∙ wrapped_two_more top)
       (record { a = bytes.a; b = bytes.b; c = bytes.c; d = bytes.d; e = bytes.e; h = omega (arith, small); l = omega arith })
       known))
     where
-      back : (top : ℕ) → wrap top ≡ wrap (top + 2 - 2)
-      back top = omega arith
-
       limit : top + 2 ≤ MEMORY_SIZE
       limit =
           let stack = sound.lies.placed.stack_in_memory in
@@ -497,19 +477,13 @@ module _ (at : BodyContext) (sound : IsSound at.context)
       at_next : (top : ℕ) → top + 2 ≤ MEMORY_SIZE → wrap (top + 2 - 2 + 1) ≡ top + 2 - 1
       at_next top limit = omega (arith, limit)
 
-      is_top : (top : ℕ) → top + 2 - 2 ≡ top
-      is_top top = omega arith
-
       is_next : (top : ℕ) → top + 2 ≤ MEMORY_SIZE → (top + 1) % MEMORY_SIZE ≡ top + 1
       is_next top limit = omega (arith, limit)
 
-      joined : (low high word : ℕ) → low ≡ low_byte word → high ≡ high_byte word → low + 256 * high ≡ word
-      joined low high word one other = omega (arith, one, other)
-
       word_is : word_at memory (top + 2 - 2) ≡ word
       word_is =
-          ap (λ (address : ℕ). word_at memory address) (is_top top)
-          ∙ joined (byte_at memory top) (byte_at memory ((top + 1) % MEMORY_SIZE)) word low_byte_is
+          ap (λ (address : ℕ). word_at memory address) (two_less_again top)
+          ∙ word_of_two (byte_at memory top) (byte_at memory ((top + 1) % MEMORY_SIZE)) word low_byte_is
           (ap (byte_at memory) (is_next top limit) ∙ high_byte_is)
 
       acts : act at.context.activation.around.program.script Xthl (at_place (from + 1) r memory events)

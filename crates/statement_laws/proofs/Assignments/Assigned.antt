@@ -1,12 +1,12 @@
 -- An assignment does what it says.
-use Rattle.statement_laws.proofs.Prelude.{◌≡◌, ℕ, suc, ◌+◌, ◌*◌, ◌<◌, ◌≤◌, max, Bool, true, false, if◌then◌else◌, is_some, nat_eq, List, [], ◌∷◌, ◌++◌, Option, Some, None, refl, sym, ap, subst, ◌∙◌, arith, eqb-true, ScalarType, Byte, Address, height_of, height_of_targets, type_of, TypedExpression, TypedTarget, TypesHold, TypesHoldInTargets, stored, stored_in_each, value, SourceState, Outcome, Gave, then_do, Flow, Onward, values_of, Registers, Expression, ExpressionNumber, Range, Target, AreTargets, IsAssignment, IsExpressionIn, IsTarget, MoreTargets, NoTargets, target_at, Does, at_place, Facts, Site, number, scalar, value_task, knowing, Planned, any_target, assignment_steps, each_at, each_steps, several_by, several_steps, single_steps, stores_steps, takes_byte, takes_word, together_steps, types_by, value_steps, part, steps_from, Here, site_of, statement_steps, nodes_in, then_again, number_means, node_of, does_same, script_of, without_more, BodyContext, IsSoundBody, Leaves, StatementStands}
+use Rattle.statement_laws.proofs.Prelude.{◌≡◌, ℕ, suc, ◌+◌, ◌*◌, ◌<◌, ◌≤◌, max, Bool, true, false, if◌then◌else◌, is_some, nat_eq, List, [], ◌∷◌, ◌++◌, Option, Some, None, refl, sym, ap, subst, ◌∙◌, arith, eqb-true, ScalarType, Byte, Address, height_of, height_of_targets, type_of, TypedExpression, TypedTarget, TypesHold, TypesHoldInTargets, stored, stored_in_each, value, SourceState, Outcome, Gave, then_do, Flow, Onward, values_of, Registers, Expression, ExpressionNumber, Range, Target, AreTargets, IsAssignment, IsExpressionIn, IsTarget, MoreTargets, NoTargets, target_at, Does, at_place, Facts, Site, number, scalar, value_task, knowing, Planned, any_target, assignment_steps, each_at, each_steps, several_by, several_steps, single_steps, stores_steps, takes_byte, takes_word, together_steps, types_by, value_steps, part, steps_from, Here, site_of, statement_steps, nodes_in, then_again, number_means, node_of, does_same, script_of, without_more, BodyContext, IsSoundBody, Leaves, StatementStands, none_passes}
 use Rattle.treecode.specs.declared.statement.Statement.TheVariants as statements
 use Rattle.statement_laws.proofs.Assignments.Assignments.{Counted, single_does}
 use Rattle.statement_laws.proofs.Assignments.Firsts.{then_each}
 use Rattle.statement_laws.proofs.FirstSteps.{Stand, ended, going, part_first}
 use Rattle.statement_laws.proofs.Outcomes.{Between, ends_onward}
 use Rattle.statement_laws.proofs.Simple.{FormDoes}
-use Rattle.statement_laws.proofs.Targets.{Suits, address_suits, as_register, at_any_value, byte_suits, none_passes, small_suits, target_of_index, targets_stored}
+use Rattle.statement_laws.proofs.Targets.{Suits, address_suits, as_register, at_any_value, byte_suits, small_suits, target_of_index, targets_stored}
 
 values_are : (there : ScalarType) (of : ExpressionNumber) → value_steps of there ≡ part (value_task there of) 0 ∷ []
 unfolding value_task
@@ -134,7 +134,7 @@ module _
         together Byte from s r memory
         (λ n bound place target one small found less target_is.
         byte_suits at bound target one n target_is
-        (none_passes takes_word at targets 0 targets.count place target none (omega arith) (omega (arith, less)) found))
+        (none_passes takes_word at.body targets 0 targets.count place target none (omega arith) (omega (arith, less)) found))
         stand stage
     several false true from s r memory none stand stage =
         together Address from s r memory (λ n bound place target one small found less target_is. address_suits one n) stand stage

@@ -1,5 +1,5 @@
 -- Assignments.
-use Rattle.statement_laws.proofs.Prelude.{◌≡◌, ℕ, ◌+◌, ◌*◌, ◌%◌, ◌<◌, ◌≤◌, Bool, true, false, if◌then◌else◌, List, [], ◌∷◌, ◌++◌, Option, Some, None, refl, sym, ap, subst, ◌∙◌, arith, ScalarType, Byte, Address, height_of, height_of_reference, height_of_target, type_of, TypedExpression, TypedReference, TypedTarget, SentTo, StoredIn, RefersToScalar, TypesHold, TypesHoldInReference, TypesHoldInTarget, value, SourceState, Outcome, Gave, values_of, Instr, MovToMemory, A, Registers, State, ExpressionNumber, Reference, Target, Stored, Sent, IsExpressionIn, IsReference, IsSent, IsStored, IsTarget, Facts, Site, location_of, number, scalar, value_task, knowing, Planned, byte_steps, count_of, from_byte_steps, from_word_steps, is_address_first, number_steps, other_byte_steps, other_word_steps, single_steps, word_steps, is_near, part, Here, site_of, nodes_in, number_small, number_means, BodyContext, IsSoundBody}
+use Rattle.statement_laws.proofs.Prelude.{◌≡◌, ℕ, ◌+◌, ◌*◌, ◌<◌, ◌≤◌, Bool, true, false, if◌then◌else◌, List, [], ◌∷◌, ◌++◌, Option, Some, None, refl, sym, ap, ◌∙◌, ScalarType, Byte, Address, height_of, height_of_reference, height_of_target, type_of, TypedExpression, TypedReference, TypedTarget, SentTo, StoredIn, RefersToScalar, TypesHold, TypesHoldInReference, TypesHoldInTarget, value, SourceState, Outcome, Gave, Instr, MovToMemory, A, Registers, State, ExpressionNumber, Reference, Target, Stored, Sent, IsExpressionIn, IsReference, IsSent, IsStored, IsTarget, Facts, Site, location_of, number, value_task, knowing, Planned, byte_steps, count_of, from_byte_steps, from_word_steps, is_address_first, number_steps, other_byte_steps, other_word_steps, single_steps, word_steps, is_near, part, Here, site_of, nodes_in, number_small, number_means, BodyContext, IsSoundBody, value_is_word}
 use Rattle.steps8080.specs.declared.step.Task.TheVariants as tasks
 use Rattle.statements8080.specs.Plans.{plain}
 use Rattle.statement_laws.proofs.Assignments.Firsts.{address_first_does}
@@ -7,13 +7,7 @@ use Rattle.statement_laws.proofs.FirstSteps.{Stand}
 use Rattle.statement_laws.proofs.Outcomes.{Between}
 use Rattle.statement_laws.proofs.Assignments.Singles.{Goal, Rest, byte_number, through, word_number}
 use Rattle.statement_laws.proofs.Targets.{small_suits}
-
-as_number : (scalar : ScalarType) (n : ℕ) → n < values_of scalar → n < 65536
-as_number Byte n small = omega (arith, small)
-as_number Address n small = small
-
-byte_is_small : (scalar : ScalarType) (n : ℕ) → scalar ≡ Byte → n < values_of scalar → n < 256
-byte_is_small scalar n same small = subst (λ (s : ScalarType). n < values_of s) same small
+use Rattle.statement_laws.proofs.Numbers.{byte_is_small, low_of_low}
 
 -- one target that gets a value
 module _
@@ -58,7 +52,7 @@ module _
 
     number_fits : (n : ℕ) → number site of ≡ Some n → n < 65536
     number_fits n known =
-        as_number (type_of tree) n
+        value_is_word (type_of tree) n
         (number_small facts n sound.sound is types (ap (λ (one : Site). number (knowing one facts) of) sound.site ∙ known))
 
     -- a BYTE
@@ -79,9 +73,6 @@ module _
     byte_single from_scalar bound reference part_tree from here s r memory counted goes stand reference_is refers part_types tall stage rest =
         by_number (number site of) refl stand
       where
-        low_again : (n : ℕ) → n % 256 % 256 ≡ n % 256
-        low_again n = omega arith
-
         by_order : (first : Bool) → is_address_first site reference of ≡ first
             → Stand at here None from
             ((if first
@@ -95,7 +86,7 @@ module _
         by_order false order stand =
             through at sound facts need base of tree is types fits go Good others last to Byte Byte bound (Stored Byte Byte reference)
             (StoredIn Byte Byte part_tree) from here s r memory goes stand (IsStored reference_is) (refl, refers, part_types) tall
-            (λ n small. low_again n) stage rest
+            (λ n small. low_of_low n) stage rest
 
         by_count : (counts : Option Instr) → number site of ≡ None → count_of site reference of ≡ counts
             → Stand at here None from
@@ -205,7 +196,4 @@ module _
         target_types.2 tall stage rest
     single_does bound _ _ from here s r memory counted goes stand (IsSent {port = port} {from = from_scalar}) target_types tall stage rest =
         through at sound facts need base of tree is types fits go Good others last to from_scalar Byte bound (Sent from_scalar port)
-        (SentTo from_scalar port) from here s r memory goes stand IsSent (refl, target_types.1) tall (λ n small. low_again n) stage rest
-      where
-        low_again : (n : ℕ) → n % 256 % 256 ≡ n % 256
-        low_again n = omega arith
+        (SentTo from_scalar port) from here s r memory goes stand IsSent (refl, target_types.1) tall (λ n small. low_of_low n) stage rest

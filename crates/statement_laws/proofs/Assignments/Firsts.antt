@@ -1,21 +1,11 @@
 -- A BYTE whose address comes before its value.
-use Rattle.statement_laws.proofs.Prelude.{◌≡◌, ℕ, ◌+◌, ◌*◌, ◌%◌, ◌≤◌, Bool, true, false, ◌&&◌, not, List, ◌∷◌, Option, Some, None, refl, sym, ap, subst, ◌∙◌, arith, ScalarType, Byte, height_of, height_of_reference, type_of, TypedExpression, TypedReference, StoredIn, RefersToScalar, TypesHold, TypesHoldInReference, write_byte, write_scalar, located, value, SourceState, Ended, More, Outside, Outcome, Gave, Stopped, then_do, as_type, MovToMemory, A, Registers, State, word, ExpressionNumber, Reference, IndexNode, IsExpressionIn, IsReference, reference_is_quiet, subscript_is_quiet, AreAlike, AreSame, BothOutside, GoesOutside, stores_nothing, free_stores_nothing, location_exchanged, Does, IsSteady, place_at, address_asks, Facts, is_free, keeps_of_address, knowing, Planned, is_address_first, is_quiet_subscript, part, Here, distances_in, nodes_in, ByteIsGiven, address_on_machine, located_fits, free_is, quiet_is, at_byte, does_same, BodyContext, IsSoundBody}
+use Rattle.statement_laws.proofs.Prelude.{◌≡◌, ℕ, ◌+◌, ◌*◌, ◌≤◌, Bool, true, false, ◌&&◌, not, List, ◌∷◌, Option, Some, None, refl, sym, ap, subst, ◌∙◌, arith, ScalarType, Byte, height_of, height_of_reference, type_of, TypedExpression, TypedReference, StoredIn, RefersToScalar, TypesHold, TypesHoldInReference, write_byte, write_scalar, located, value, SourceState, Outcome, Gave, Stopped, then_do, as_type, MovToMemory, A, Registers, State, word, ExpressionNumber, Reference, IndexNode, IsExpressionIn, IsReference, reference_is_quiet, subscript_is_quiet, AreAlike, AreSame, BothOutside, stores_nothing, free_stores_nothing, location_exchanged, Does, IsSteady, place_at, address_asks, Facts, is_free, keeps_of_address, knowing, Planned, is_address_first, is_quiet_subscript, part, Here, distances_in, nodes_in, ByteIsGiven, address_on_machine, located_fits, free_is, quiet_is, at_byte, does_same, BodyContext, IsSoundBody, and_from, does_outside}
 use Rattle.steps8080.specs.declared.step.Task.TheVariants as tasks
 use Rattle.statements8080.specs.Plans.{plain}
 use Rattle.statement_laws.proofs.FirstSteps.{Stand, part_first, plain_first}
 use Rattle.statement_laws.proofs.Outcomes.{Between}
 use Rattle.statement_laws.proofs.Assignments.Singles.{Goal, Rest, at_address, byte_goes}
-
--- what goes outside is done by any machine
-does_outside :
-    {A : Type 0} {script : List (List ℕ)} {budget more : ℕ} {from : State} {Good : A → SourceState → State → Type 0}
-    (outcome : Outcome A)
-    → GoesOutside outcome
-    → Does script budget more from outcome Good
-does_outside (Gave found t) outside = absurd outside
-does_outside (Stopped (Outside reason) t) outside = record { told = tt }
-does_outside (Stopped Ended t) outside = absurd outside
-does_outside (Stopped More t) outside = absurd outside
+use Rattle.statement_laws.proofs.Numbers.{low_of_low}
 
 -- what may be had in place of what is meant
 pub does_alike :
@@ -46,9 +36,6 @@ quiet_subscript :
     → subscript_is_quiet (nodes_in at.context) subscript ≡ true
 quiet_subscript at facts None quiet = refl
 quiet_subscript at facts (Some given) quiet = sym (quiet_is (knowing at.context.site facts) given.index) ∙ quiet
-
-both_true : {one other : Bool} → one ≡ true → other ≡ true → (one && other) ≡ true
-both_true first second = cc
 
 last_parts : (one two three four : Bool) → (one && two && three && four) ≡ true
     → (two ≡ true) × (three ≡ true) × (four ≡ true)
@@ -89,7 +76,7 @@ address_first_does at sound facts need base of tree is types fits go Good others
     (is_quiet_subscript (knowing at.context.site facts) reference.member_subscript) first_is in
     let free : is_free (knowing at.context.site facts) of ≡ true = parts.0 in
     let quiet : reference_is_quiet (nodes_in at.context) reference ≡ true =
-    both_true (quiet_subscript at facts reference.subscript parts.1) (quiet_subscript at facts reference.member_subscript parts.2) in
+    and_from _ _ (quiet_subscript at facts reference.subscript parts.1) (quiet_subscript at facts reference.member_subscript parts.2) in
     let nothing : stores_nothing tree ≡ true =
     free_stores_nothing (nodes_in at.context) at.context.storage sound.sound.lowered.traits is
     (sym (free_is (knowing at.context.site facts) of) ∙ free) in
@@ -115,7 +102,7 @@ address_first_does at sound facts need base of tree is types fits go Good others
     let hl : word after_now.h after_now.l ≡ address_on_machine at.context.activation place =
     ap (λ (h : ℕ). word h after_now.l) alone.h ∙ ap (λ (l : ℕ). word now.h l) alone.l ∙ given.hl in
     does_same _
-    (ap (λ (m : ℕ). then_do (write_byte program place m u) go) (twice n ∙ sym in_a.a))
+    (ap (λ (m : ℕ). then_do (write_byte program place m u) go) (low_of_low n ∙ sym in_a.a))
     (byte_goes at (MovToMemory A) byte.middle place after_now.a u after_now after_now held go sound move.there
     there.ready.registers.a hl
     (located_fits at.context Byte part_tree place s t sound.sound refers found)
@@ -124,6 +111,3 @@ address_first_does at sound facts need base of tree is types fits go Good others
     there.known.address_holds (subst (λ (m : ℕ). IsSteady at.context.activation m) (sym hl) steady.0))
     refl refl there.ready.registers there
     (λ v last_stage. rest _ _ v after_now _ goes move.rest last_stage))))))
-  where
-    twice : (n : ℕ) → n % 256 % 256 ≡ n % 256
-    twice n = omega arith

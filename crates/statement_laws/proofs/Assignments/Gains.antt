@@ -1,5 +1,5 @@
 -- Steps to spare: a store makes one, which what follows it may spend.
-use Rattle.statement_laws.proofs.Prelude.{ℕ, ◌+◌, ◌*◌, ◌<◌, ◌≤◌, false, List, sym, ap, subst, arith, ScalarType, height_of_target, TypedTarget, TypesHoldInTarget, stored, SourceState, Ended, More, Outside, Outcome, Gave, Stopped, then_do, values_of, Registers, State, comes_on, Target, IsTarget, Does, Lands, Told, at_place, told_on, Facts, from_type, InRegister, nodes_in, StoreDoes, does_same, has_less_room, script_of, BodyContext}
+use Rattle.statement_laws.proofs.Prelude.{ℕ, ◌+◌, ◌*◌, ◌<◌, ◌≤◌, false, List, sym, ap, subst, arith, ScalarType, height_of_target, TypedTarget, TypesHoldInTarget, stored, SourceState, Ended, More, Outside, Outcome, Gave, Stopped, then_do, values_of, Registers, State, comes_on, Target, IsTarget, Does, Lands, Told, at_place, told_on, Facts, from_type, InRegister, nodes_in, StoreDoes, does_same, script_of, BodyContext, room_for}
 use Rattle.statement_laws.proofs.Outcomes.{Between}
 use Rattle.statement_laws.proofs.Targets.{Suits, retyped, retyped_height, retyped_is, retyped_types, stored_alike}
 
@@ -78,7 +78,7 @@ target_spares {need = need} {bound = bound} {base = base} {t = t} {facts = facts
     (then_spares (stored context.later context.activation.around (retyped tree there) other t)
     (does bound other there (retyped tree there) (retyped_is at bound target tree there is) (retyped_types at scalar there tree types) small
     context.activation.level base t r memory stage.below
-    (has_less_room {need = need} (2 + 2 * height_of_target (retyped tree there)) (omega (arith, high, fits)) stage.room)
+    (room_for {need = need} (2 + 2 * height_of_target (retyped tree there)) (omega (arith, high, fits)) stage.room)
     stage.ready stage.known has)
     (λ given u end arrives spent.
     let below = stage.below in

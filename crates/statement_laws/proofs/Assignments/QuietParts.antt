@@ -1,8 +1,8 @@
 -- References that are seen to be the same are located without a change, at one address.
-use Rattle.statement_laws.proofs.Prelude.{◌≡◌, ℕ, ◌+◌, ◌%◌, ◌⊎◌, inl, inr, Bool, true, false, ◌&&◌, nat_eq, List, Option, Some, None, option_map, refl, sym, ap, subst, ◌∙◌, arith, and_parts, eqb-true, ScalarType, PartOf, Subscript, TypedExpression, TypedReference, ValueNode, RefersToScalar, TypesHold, TypesHoldInReference, TypesHoldInSubscript, home_of, read_scalar, Displacement, based_place, displaced, displacement, located, no_displacement, value, SourceState, Outcome, Gave, then_do, as_type, Registers, Expression, ExpressionForm, ExpressionNumber, Location, Reference, IndexNode, IsAbsent, IsExpression, IsForm, IsIndex, IsNumber, IsPart, IsReference, IsSubscript, IsValue, IsLocation, IsConstantList, IsConversion, IsEmbedded, IsUnary, IsBinary, IsCallOf, IsFunction, IsShift, IsInput, Answer, Fails, Found, IsQuiet, outcome_of, quiet_base, quiet_gave, quiet_scalar, quiet_then, IsReady, Facts, location_of, number, knowing, are_same, are_same_leaf, are_same_scalar, are_same_subscripts, inside_conversion, scalar_at, scalar_of_form, unconverted, Context, IsSound, nodes_in, address_on_machine, refers_is_referred, number_means, lies_there, node_of}
+use Rattle.statement_laws.proofs.Prelude.{◌≡◌, ℕ, ◌+◌, ◌%◌, ◌⊎◌, inl, inr, Bool, true, false, ◌&&◌, nat_eq, List, Option, Some, None, option_map, refl, sym, ap, subst, ◌∙◌, arith, and_parts, eqb-true, ScalarType, PartOf, Subscript, TypedExpression, TypedReference, ValueNode, RefersToScalar, TypesHold, TypesHoldInReference, TypesHoldInSubscript, home_of, read_scalar, Displacement, based_place, displaced, displacement, located, no_displacement, value, SourceState, Outcome, Gave, then_do, as_type, Registers, Expression, ExpressionForm, ExpressionNumber, Location, Reference, IndexNode, IsAbsent, IsExpression, IsForm, IsIndex, IsNumber, IsPart, IsReference, IsSubscript, IsValue, IsLocation, IsConstantList, IsConversion, IsEmbedded, IsUnary, IsBinary, IsCallOf, IsFunction, IsShift, IsInput, Answer, Fails, Found, IsQuiet, outcome_of, quiet_base, quiet_gave, quiet_scalar, quiet_then, IsReady, Facts, location_of, number, knowing, are_same, are_same_leaf, are_same_scalar, are_same_subscripts, inside_conversion, scalar_at, scalar_of_form, unconverted, Context, IsSound, nodes_in, address_on_machine, refers_is_referred, number_means, lies_there, node_of, or_cases, same_both}
 use Rattle.meaning.specs.Access.{Place}
-use Rattle.statement_laws.proofs.Assignments.SameParts.{either_true, same_bases, same_displacements}
-use Rattle.statement_laws.proofs.Assignments.SameValues.{gave_before, given_same, one_scalar}
+use Rattle.statement_laws.proofs.Assignments.SameParts.{same_bases, same_displacements}
+use Rattle.statement_laws.proofs.Assignments.SameValues.{gave_before, one_scalar}
 
 -- what is quiet leaves the state as it is
 pub quiet_state :
@@ -13,7 +13,7 @@ pub quiet_state :
 quiet_state {A = A} go s t found quiet same = by (quiet.answer s.memory s.frame) (sym (quiet.gives s) ∙ same)
   where
     by : (answer : Answer A) → outcome_of answer s ≡ Gave found t → t ≡ s
-    by (Found one) is = sym (given_same one found s t is).1
+    by (Found one) is = sym (same_both one found s t is).1
     by (Fails reason) is = let never : ⊥ = cc in absurd never
 
 module _ (context : Context) (sound : IsSound context) (facts : Facts) where
@@ -197,7 +197,7 @@ module _ (context : Context) (sound : IsSound context) (facts : Facts) where
       quiet_added _ _ _ _ (IsIndex {stride = stride} {count = count} {number = left} {index = index} is) (IsIndex {stride = other_stride} {count = other_count} {number = right} {index = other_index} other_is) one_types other_types same =
           let parts = and_parts (nat_eq (stride % 65536) (other_stride % 65536)) _ same in
           let quiet = quiet_indexes left right index other_index is other_is one_types.0 other_types.0
-          (either_true (are_same_leaf (knowing context.site facts) left right)
+          (or_cases (are_same_leaf (knowing context.site facts) left right)
           (are_same_scalar (knowing context.site facts) (unconverted (knowing context.site facts) left)
           (unconverted (knowing context.site facts) right)) parts.1) in (
             quiet_then (of_tree index) (λ n t. Gave (displaced stride count n) t) quiet.0 (λ n. quiet_gave (displaced stride count n)),

@@ -1,8 +1,9 @@
 -- References that are seen to be the same have one address on the machine, and to locate them changes nothing.
-use Rattle.statement_laws.proofs.Prelude.{◌≡◌, ℕ, ◌+◌, ◌*◌, ◌%◌, ◌<◌, ◌⊎◌, inl, inr, Bool, true, false, ◌||◌, nat_eq, List, Option, Some, None, refl, sym, ap, subst, ◌∙◌, arith, and_parts, eqb-true, mul-mod_first, MEMORY_SIZE, ScalarType, Address, type_of, BasedOn, InFrame, Subscript, TypedExpression, TypesHold, TypesHoldInSubscript, InMemory, place_of, read_scalar, Displacement, based_place, displaced, displacement, value, SourceState, Gave, as_type, Registers, Expression, ExpressionForm, ExpressionNumber, IndexNode, IsAbsent, IsExpression, IsForm, IsIndex, IsNumber, IsSubscript, IsValue, IsLocation, IsConstantList, IsConversion, IsEmbedded, IsUnary, IsBinary, IsCallOf, IsFunction, IsShift, IsInput, IsReady, Facts, knowing, are_same_leaf, are_same_scalar, are_same_subscripts, inside_conversion, unconverted, Context, IsSound, nodes_in, address_on_machine, node_of}
+use Rattle.statement_laws.proofs.Prelude.{◌≡◌, ℕ, ◌+◌, ◌*◌, ◌%◌, ◌<◌, ◌⊎◌, inl, inr, Bool, true, ◌||◌, nat_eq, List, Option, Some, None, refl, sym, ap, subst, ◌∙◌, arith, and_parts, eqb-true, mul-mod_first, MEMORY_SIZE, ScalarType, Address, type_of, BasedOn, InFrame, Subscript, TypedExpression, TypesHold, TypesHoldInSubscript, InMemory, place_of, read_scalar, Displacement, based_place, displaced, displacement, value, SourceState, Gave, as_type, Registers, Expression, ExpressionForm, ExpressionNumber, IndexNode, IsAbsent, IsExpression, IsForm, IsIndex, IsNumber, IsSubscript, IsValue, IsLocation, IsConstantList, IsConversion, IsEmbedded, IsUnary, IsBinary, IsCallOf, IsFunction, IsShift, IsInput, IsReady, Facts, knowing, are_same_leaf, are_same_scalar, are_same_subscripts, inside_conversion, unconverted, Context, IsSound, nodes_in, address_on_machine, node_of, or_cases, same_both}
 use Rattle.typed_trees.specs.TypedTrees.{Home}
 use Rattle.meaning.specs.Access.{Place}
-use Rattle.statement_laws.proofs.Assignments.SameValues.{gave_before, given_same, same_leaves, same_scalars}
+use Rattle.statement_laws.proofs.Assignments.SameValues.{gave_before, same_leaves, same_scalars}
+use Rattle.statement_laws.proofs.Numbers.{sums_alike}
 
 -- the same number of bytes in memory, in two places of one object, is at one address
 pub same_bases :
@@ -15,31 +16,21 @@ same_bases context (BasedOn base) object one other one_inside other_inside s t u
     let read = read_scalar context.activation.around.program Address (place_of context.activation.around base) s in
     let a = gave_before read (λ start v. Gave (InMemory ((start + one) % MEMORY_SIZE)) v) p t first in
     let b = gave_before read (λ start v. Gave (InMemory ((start + other) % MEMORY_SIZE)) v) q u second in
-    let starts = (given_same a.first b.first a.t b.t (sym a.is ∙ b.is)).0 in
-    sym (ap (address_on_machine context.activation) (given_same _ p a.t t a.next).0)
+    let starts = (same_both a.first b.first a.t b.t (sym a.is ∙ b.is)).0 in
+    sym (ap (address_on_machine context.activation) (same_both _ p a.t t a.next).0)
     ∙ sums a.first b.first one other starts same
-    ∙ ap (address_on_machine context.activation) (given_same _ q b.t u b.next).0
+    ∙ ap (address_on_machine context.activation) (same_both _ q b.t u b.next).0
   where
     sums : (m n one other : ℕ) → m ≡ n → one % 65536 ≡ other % 65536 → (m + one) % 65536 ≡ (n + other) % 65536
     sums m n one other is same = omega (arith, is, same)
 same_bases context (InFrame procedure) object one other one_inside other_inside s t u p q same first second =
-    sym (ap (address_on_machine context.activation) (given_same _ p s t first).0)
-    ∙ sums (context.activation.level + context.activation.distance object) one other same
-    ∙ ap (address_on_machine context.activation) (given_same _ q s u second).0
-  where
-    sums : (m one other : ℕ) → one % 65536 ≡ other % 65536 → (m + one) % 65536 ≡ (m + other) % 65536
-    sums m one other same = omega (arith, same)
+    sym (ap (address_on_machine context.activation) (same_both _ p s t first).0)
+    ∙ sums_alike (context.activation.level + context.activation.distance object) one other same
+    ∙ ap (address_on_machine context.activation) (same_both _ q s u second).0
 same_bases context home object one other one_inside other_inside s t u p q same first second =
-    sym (ap (address_on_machine context.activation) (given_same _ p s t first).0)
-    ∙ sums _ one other same
-    ∙ ap (address_on_machine context.activation) (given_same _ q s u second).0
-  where
-    sums : (m one other : ℕ) → one % 65536 ≡ other % 65536 → (m + one) % 65536 ≡ (m + other) % 65536
-    sums m one other same = omega (arith, same)
-
-pub either_true : (one other : Bool) → (one || other) ≡ true → (one ≡ true) ⊎ (other ≡ true)
-either_true true other is = inl refl
-either_true false other is = inr is
+    sym (ap (address_on_machine context.activation) (same_both _ p s t first).0)
+    ∙ sums_alike _ one other same
+    ∙ ap (address_on_machine context.activation) (same_both _ q s u second).0
 
 module _
     (context : Context) (sound : IsSound context) (top : ℕ) (base : List ℕ) (s : SourceState) (r : Registers) (memory : List ℕ)
@@ -74,7 +65,7 @@ module _
           n = first.first;
           t = first.t;
           gives = first.is;
-          same = λ small. sym (given_same (as_type scalar first.first) found first.t t first.next).0
+          same = λ small. sym (same_both (as_type scalar first.first) found first.t t first.next).0
               ∙ ap (λ (one : ScalarType). as_type one first.first) type ∙ whole first.first small;
         }
       where
@@ -133,7 +124,7 @@ module _
         → value context.later context.activation.around other s ≡ Gave b u
         → a ≡ b
     same_indexes left right one other a b t u one_is other_is one_types other_types same first second =
-        by (either_true (are_same_leaf (knowing context.site facts) left.index right.index)
+        by (or_cases (are_same_leaf (knowing context.site facts) left.index right.index)
         (are_same_scalar (knowing context.site facts) (unconverted (knowing context.site facts) left.index)
         (unconverted (knowing context.site facts) right.index)) same)
       where
@@ -163,7 +154,7 @@ module _
         → displacement context.later context.activation.around other s ≡ Gave b u
         → a.bytes % 65536 ≡ b.bytes % 65536
     same_displacements _ _ _ _ a b t u IsAbsent IsAbsent one_types other_types same first second =
-        ap (λ (d : Displacement). d.bytes % 65536) (sym (given_same _ a s t first).0 ∙ (given_same _ b s u second).0)
+        ap (λ (d : Displacement). d.bytes % 65536) (sym (same_both _ a s t first).0 ∙ (same_both _ b s u second).0)
     same_displacements _ _ _ _ a b t u (IsIndex {stride = stride} {count = count} {number = number} {index = index} is) (IsIndex {stride = other_stride} {count = other_count} {number = other_number} {index = other_index} other_is) one_types other_types same first second =
         let parts = and_parts (nat_eq (stride % 65536) (other_stride % 65536)) _ same in
         let strides : stride % 65536 ≡ other_stride % 65536 = eqb-true (stride % 65536) (other_stride % 65536) parts.0 in
@@ -173,11 +164,11 @@ module _
         let equal : x.first ≡ y.first =
         same_indexes (record { index = number; stride = stride % 65536 }) (record { index = other_number; stride = other_stride % 65536 })
         index other_index x.first y.first x.t y.t is other_is one_types other_types parts.1 x.is y.is in
-        ap (λ (d : Displacement). d.bytes % 65536) (sym (given_same _ a x.t t x.next).0)
+        ap (λ (d : Displacement). d.bytes % 65536) (sym (same_both _ a x.t t x.next).0)
         ∙ sym (mul-mod_first stride x.first 65536)
         ∙ ap (λ (m : ℕ). (m * x.first) % 65536) strides
         ∙ ap (λ (n : ℕ). (other_stride % 65536 * n) % 65536) equal
         ∙ mul-mod_first other_stride y.first 65536
-        ∙ ap (λ (d : Displacement). d.bytes % 65536) (given_same _ b y.t u y.next).0
+        ∙ ap (λ (d : Displacement). d.bytes % 65536) (same_both _ b y.t u y.next).0
     same_displacements _ _ _ _ a b t u IsAbsent (IsIndex other_is) one_types other_types same first second = let never : ⊥ = cc in absurd never
     same_displacements _ _ _ _ a b t u (IsIndex is) IsAbsent one_types other_types same first second = let never : ⊥ = cc in absurd never

@@ -1,5 +1,5 @@
 -- Scalars at one place have one value, which is that of the machine's memory.
-use Rattle.statement_laws.proofs.Prelude.{◌≡◌, ℕ, ◌+◌, ◌*◌, ◌<◌, ◌≤◌, Bool, true, false, if◌then◌else◌, nat_eq, List, Option, Some, None, option_map, refl, sym, ap, ◌∙◌, arith, and_parts, eqb-true, same_Some, byte_at, byte_small, ScalarType, Byte, Address, type_of, size_of_scalar, TypedExpression, TypedReference, ValueNode, RefersToScalar, TypesHold, TypesHoldInReference, UndeclaredByte, InMemory, InTheFrame, is_declared, next_place, read_byte, read_scalar, value, SourceState, Outside, Outcome, Gave, Stopped, then_do, Registers, wrap, Expression, ExpressionForm, ExpressionNumber, Location, Reference, IsExpression, IsForm, IsReference, IsNumber, IsValue, IsLocation, IsConstantList, IsConversion, IsEmbedded, IsUnary, IsBinary, IsCallOf, IsFunction, IsShift, IsInput, IsReady, declared_is_steady, IsSteady, location_at, same_locations, Facts, same_location, location_of, number, knowing, are_same_leaf, are_same_placed, are_same_scalar, same_scalar, scalar_at, scalar_of_form, Context, IsSound, distances_in, nodes_in, address_on_machine, located_fits, refers_is_referred, number_means, lies_there, node_of, FitsIn, frame_is, of_frame, first_fits, next_address, second_fits}
+use Rattle.statement_laws.proofs.Prelude.{◌≡◌, ℕ, ◌+◌, ◌*◌, ◌<◌, ◌≤◌, Bool, true, false, if◌then◌else◌, nat_eq, List, Option, Some, None, option_map, refl, sym, ap, ◌∙◌, arith, and_parts, eqb-true, same_Some, byte_at, byte_small, ScalarType, Byte, Address, type_of, size_of_scalar, TypedExpression, TypedReference, ValueNode, RefersToScalar, TypesHold, TypesHoldInReference, UndeclaredByte, InMemory, InTheFrame, is_declared, next_place, read_byte, read_scalar, value, SourceState, Outside, Outcome, Gave, Stopped, then_do, Registers, wrap, Expression, ExpressionForm, ExpressionNumber, Location, Reference, IsExpression, IsForm, IsReference, IsNumber, IsValue, IsLocation, IsConstantList, IsConversion, IsEmbedded, IsUnary, IsBinary, IsCallOf, IsFunction, IsShift, IsInput, IsReady, declared_is_steady, IsSteady, location_at, same_locations, Facts, same_location, location_of, number, knowing, are_same_leaf, are_same_placed, are_same_scalar, same_scalar, scalar_at, scalar_of_form, Context, IsSound, distances_in, nodes_in, address_on_machine, located_fits, refers_is_referred, number_means, lies_there, node_of, FitsIn, frame_is, of_frame, first_fits, next_address, second_fits, same_both, scalars_agree}
 use Rattle.meaning.specs.Access.{Place}
 
 -- what a part gave that others follow
@@ -16,9 +16,6 @@ pub gave_before :
     → GaveBefore outcome go found u
 gave_before (Gave first t) go found u same = record { first = first; t = t; is = refl; next = same }
 gave_before (Stopped why t) go found u same = let never : ⊥ = cc in absurd never
-
-pub given_same : {A : Type 0} (one other : A) (t u : SourceState) → Gave one t ≡ Gave other u → (one ≡ other) × (t ≡ u)
-given_same one other t u same = (cc, cc)
 
 -- the value of a scalar in a memory of the machine
 abbrev pub scalar_in : ScalarType → List ℕ → (address : ℕ) → ℕ
@@ -46,14 +43,14 @@ module _
             → (if declared then Gave (byte_at s.memory address) s else Stopped (Outside UndeclaredByte) s) ≡ Gave found t
             → ByteIs (InMemory address) found t
         by true is same =
-            let parts = given_same (byte_at s.memory address) found s t same in
+            let parts = same_both (byte_at s.memory address) found s t same in
             record { same = sym parts.1; is = sym parts.0 ∙ sym (ready.shares.declared address is); steady = declared_is_steady context.activation address sound.lies is }
         by false is same = let never : ⊥ = cc in absurd never
     byte_is (InTheFrame object offset true) found t fits same =
         let within : offset + 1 ≤ context.activation.size object = fits refl in
         let less : offset < context.activation.size object = omega (arith, within) in
         let is = frame_is context object offset sound less in
-        let parts = given_same _ found s t same in
+        let parts = same_both _ found s t same in
         record {
           same = sym parts.1;
           is = sym parts.0 ∙ sym (ap (byte_at memory) is ∙ ready.frame_lies.bytes object offset less);
@@ -76,7 +73,7 @@ module _
         let high = gave_before (read_byte program (next_place place) low.t) (λ high v. Gave (low.first + 256 * high) v) found t low.next in
         let two = byte_is (next_place place) high.first high.t (second_fits context.activation place fits)
         (ap (λ (u : SourceState). read_byte program (next_place place) u) (sym one.same) ∙ high.is) in
-        sym (given_same (low.first + 256 * high.first) found high.t t high.next).0
+        sym (same_both (low.first + 256 * high.first) found high.t t high.next).0
         ∙ ap (λ (n : ℕ). n + 256 * high.first) one.is
         ∙ ap (λ (n : ℕ). byte_at memory (address_on_machine context.activation place) + 256 * n)
         (two.is ∙ ap (λ (n : ℕ). byte_at memory n) (next_address context.activation place))
@@ -156,12 +153,6 @@ module _
         by (IsShift first second) there type types same = let never : ⊥ = cc in absurd never
         by IsInput there type types same = let never : ⊥ = cc in absurd never
 
-    same_types : (one other : ScalarType) → same_scalar one other ≡ true → one ≡ other
-    same_types Byte Byte same = refl
-    same_types Address Address same = refl
-    same_types Byte Address same = let never : ⊥ = cc in absurd never
-    same_types Address Byte same = let never : ⊥ = cc in absurd never
-
     -- two expressions whose values are one scalar's
     pub record OneScalar (facts : Facts) (left right : ExpressionNumber) : Type 0 where
       pub first : Location
@@ -186,7 +177,7 @@ module _
             → OneScalar facts left right
         by (Some one) (Some other) first second same =
             let parts = and_parts (same_scalar one.1 other.1) (same_location one.0 other.0) same in
-            let types = same_types one.1 other.1 parts.0 in
+            let types = scalars_agree one.1 other.1 parts.0 in
             record {
               first = one.0;
               second = other.0;
@@ -250,8 +241,8 @@ module _
             ] ≡ true
             → a ≡ b
         by (Some x) (Some y) one_known other_known same =
-            (given_same a x t s (sym first ∙ number_means facts x sound one_is one_types one_known s)).0
+            (same_both a x t s (sym first ∙ number_means facts x sound one_is one_types one_known s)).0
             ∙ eqb-true x y same
-            ∙ sym (given_same b y u s (sym second ∙ number_means facts y sound other_is other_types other_known s)).0
+            ∙ sym (same_both b y u s (sym second ∙ number_means facts y sound other_is other_types other_known s)).0
         by (Some x) None one_known other_known same = scalars same
         by None m one_known other_known same = scalars same

@@ -1,5 +1,5 @@
 -- One target that gets a value.
-use Rattle.statement_laws.proofs.Prelude.{◌≡◌, ℕ, ◌+◌, ◌*◌, ◌/◌, ◌%◌, ◌<◌, ◌≤◌, true, false, List, [], ◌∷◌, ◌++◌, slice_set, None, refl, sym, ap, subst, ◌∙◌, arith, ScalarType, Byte, Address, height_of, height_of_reference, height_of_target, type_of, TypedExpression, TypedReference, TypedTarget, StoredIn, RefersToScalar, TypesHold, TypesHoldInReference, TypesHoldInTarget, next_place, write_byte, write_scalar, located, stored, value, SourceState, Outcome, Gave, then_do, as_type, values_of, Instr, Mvi, M, act, HoldBytes, Registers, State, high_byte, low_byte, word, wrap, size_of_instruction, ExpressionNumber, Reference, Target, IsExpressionIn, IsReference, IsTarget, IsReady, IsThere, Does, at_place, Asks, IsSteadyByte, Facts, after, high, low, value_task, Planned, from_type, number_steps, part, Here, distances_in, nodes_in, AddressDoes, AddressIsGiven, address_on_machine, then_again, located_fits, refers_is_referred, FitsIn, ready_with_registers, registers_go, at_carried, does_same, script_of, without_more, plain_gains, first_fits, next_address, second_fits, byte_written, BodyContext, IsSoundBody}
+use Rattle.statement_laws.proofs.Prelude.{◌≡◌, ℕ, ◌+◌, ◌*◌, ◌/◌, ◌%◌, ◌<◌, ◌≤◌, true, false, List, [], ◌∷◌, ◌++◌, slice_set, None, refl, sym, ap, subst, ◌∙◌, arith, ScalarType, Byte, Address, height_of, height_of_reference, height_of_target, type_of, TypedExpression, TypedReference, TypedTarget, StoredIn, RefersToScalar, TypesHold, TypesHoldInReference, TypesHoldInTarget, next_place, write_byte, write_scalar, located, stored, value, SourceState, Outcome, Gave, then_do, as_type, values_of, Instr, Mvi, M, act, HoldBytes, Registers, State, high_byte, low_byte, word, wrap, size_of_instruction, ExpressionNumber, Reference, Target, IsExpressionIn, IsReference, IsTarget, IsReady, IsThere, Does, at_place, Asks, IsSteadyByte, Facts, after, high, low, value_task, Planned, from_type, number_steps, part, Here, distances_in, nodes_in, AddressDoes, AddressIsGiven, address_on_machine, then_again, located_fits, refers_is_referred, FitsIn, ready_with_registers, registers_go, at_carried, does_same, script_of, without_more, plain_gains, first_fits, next_address, second_fits, byte_written, BodyContext, IsSoundBody, next_word}
 use Rattle.meaning.specs.Access.{Place}
 use Rattle.asm8080.specs.declared.item.Item.TheVariants as items
 use Rattle.steps8080.specs.declared.step.Task.TheVariants as tasks
@@ -8,6 +8,7 @@ use Rattle.statement_laws.proofs.FirstSteps.{Stand, going, part_first, plain_fir
 use Rattle.statement_laws.proofs.Assignments.Gains.{target_spares}
 use Rattle.statement_laws.proofs.Outcomes.{Between}
 use Rattle.statement_laws.proofs.Targets.{as_register, at_any_value, Suits}
+use Rattle.statement_laws.proofs.Numbers.{low_of_low}
 
 -- an instruction that writes a byte at the address in HL, which makes a step to spare
 pub byte_goes :
@@ -76,12 +77,6 @@ at_address {bound = bound} {found = found} {r = r} {memory = memory} {tree = tre
     at_carried from middle found
     (does bound tree is (refers_is_referred at.context scalar tree refers) types) fits tt
     (λ place now memory_now (given : AddressIsGiven at.context found reference r memory place now memory_now). given.known) stage rest
-
-low_again : (n : ℕ) → n % 256 % 256 ≡ n % 256
-low_again n = omega arith
-
-after_one : (h l address : ℕ) → word h l ≡ address → word (high_byte (wrap (word h l + 1))) (low_byte (wrap (word h l + 1))) ≡ wrap (address + 1)
-after_one h l address is = omega (arith, is)
 
 -- a single target
 module _
@@ -170,7 +165,7 @@ module _
           (λ place u now kept found given next.
           let held = next.ready.registers in
           does_same _
-          (ap (λ (n : ℕ). then_do (write_byte at.context.activation.around.program place n u) go) (low_again known))
+          (ap (λ (n : ℕ). then_do (write_byte at.context.activation.around.program place n u) go) (low_of_low known))
           (byte_goes at (Mvi M (low known)) first.middle place (known % 256) u now now kept go sound second.there (omega arith) given.hl
           (located_fits at.context Byte part_tree place s u sound.sound refers found) (λ steady. tt) refl refl held next
           (λ v there_now. rest (going here.goes_on (after first.known (Mvi M (low known)))) _ v now _ goes second.rest there_now)))))
@@ -221,7 +216,7 @@ module _
           (record { a = held.a; b = held.b; c = held.c; d = held.d; e = held.e; h = omega arith; l = omega arith })
           (λ on_two.
           byte_goes at (Mvi M (high known)) _ (next_place place) (known / 256) v two two _ go sound fourth.there (omega (arith, small))
-          (after_one now.h now.l (address_on_machine at.context.activation place) given.hl ∙ sym (next_address at.context.activation place))
+          (next_word now.h now.l (address_on_machine at.context.activation place) given.hl ∙ sym (next_address at.context.activation place))
           (second_fits at.context.activation place two_fit) (λ steady. tt) refl refl on_two.ready.registers
           (record { below = once.below; room = once.room; ready = on_two.ready; known = on_two.known })
           (λ w there_now. rest (going here.goes_on _) _ w two _ goes fourth.rest there_now)))))))))

@@ -1,5 +1,5 @@
 -- The statement that DO CASE chooses, and the jump into it.
-use Rattle.statement_laws.proofs.Prelude.{◌≡◌, ℕ, zero, suc, ◌+◌, ◌*◌, ◌<◌, ◌≤◌, max, Bool, true, nat_eq, if◌then◌else◌, List, slice_get, Option, Some, None, refl, sym, ap, subst, ◌∙◌, arith, option_and_then, lt-ltb, eq-eqb, height_of_statement, height_of_statements, ListsStand, ListsStandInCases, TypedStatement, TypedStatements, NoStatements, MoreStatements, TypesHoldIn, TypesHoldInStatements, done, done_case, SourceState, Outcome, Gave, Flow, Onward, Returned, Jumped, Registers, State, step_of, Range, Statement, StatementNumber, AreStatements, AreNoStatements, AreMoreStatements, IsGoto, IsNull, IsStatement, IsStatementForm, IsStatementNode, Nodes, nodes_of, item, statement, Does, at_place, after_step, gives, Facts, LabelNumber, Site, body_label, entry_of, entry_of_statement, label_at, Here, nodes_in, Stage, does_same, script_of, BodyContext, IsSoundBody, Leaves}
+use Rattle.statement_laws.proofs.Prelude.{◌≡◌, ℕ, zero, suc, ◌+◌, ◌*◌, ◌<◌, ◌≤◌, max, Bool, true, nat_eq, if◌then◌else◌, List, slice_get, Option, Some, None, refl, sym, ap, subst, ◌∙◌, arith, option_and_then, lt-ltb, eq-eqb, height_of_statement, height_of_statements, ListsStand, ListsStandInCases, TypedStatement, TypedStatements, NoStatements, MoreStatements, TypesHoldIn, TypesHoldInStatements, done, done_case, SourceState, Outcome, Gave, Flow, Onward, Returned, Jumped, Registers, State, step_of, Range, Statement, StatementNumber, AreStatements, AreNoStatements, AreMoreStatements, IsGoto, IsNull, IsStatement, IsStatementForm, IsStatementNode, Nodes, nodes_of, item, statement, Does, at_place, after_step, gives, Facts, LabelNumber, Site, body_label, entry_of, entry_of_statement, label_at, Here, nodes_in, Stage, does_same, script_of, BodyContext, IsSoundBody, Leaves, suc_moved}
 use Rattle.treecode.specs.declared.statement.Statement.TheVariants as statements
 use Rattle.statement_laws.proofs.Cases.CaseTables.{EntriesStand, EntryStands, reaches_end}
 use Rattle.statement_laws.proofs.Loops.LoopTurns.{step_pays}
@@ -15,9 +15,6 @@ pub record IsNth (at : BodyContext) (first number bound : ℕ) (trees : TypedSta
   pub height : height_of_statement tree ≤ height_of_statements trees
   pub means : (t : SourceState) → done_case at.context.later at.context.activation.around trees number t
       ≡ done at.context.later at.context.activation.around tree t
-
-next_there : (first number : ℕ) → suc first + number ≡ first + suc number
-next_there first number = omega arith
 
 left_less : (a b : ℕ) → a ≤ max a b
 left_less a b = omega arith
@@ -49,7 +46,7 @@ nth_is at bound first _ (MoreStatements tree others) (suc number) (AreMoreStatem
     record {
       found = more.found;
       tree = more.tree;
-      is_there = subst (λ (n : ℕ). slice_get (nodes_in at.context).lists n ≡ Some more.found) (next_there first number) more.is_there;
+      is_there = subst (λ (n : ℕ). slice_get (nodes_in at.context).lists n ≡ Some more.found) (suc_moved first number) more.is_there;
       is = more.is;
       types = more.types;
       lists = more.lists;

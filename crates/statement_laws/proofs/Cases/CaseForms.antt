@@ -1,16 +1,14 @@
 -- DO CASE: the number comes into DE by its type, or is known, or there are no statements.
-use Rattle.statement_laws.proofs.Prelude.{◌≡◌, ℕ, ◌+◌, ◌*◌, ◌/◌, ◌%◌, ◌<◌, ◌≤◌, nat_lt, List, [], ◌∷◌, ◌++◌, sym, ap, subst, ◌∙◌, arith, ltb-true, ltb-false, lt-ltb, le-ltb, ScalarType, Byte, Address, height_of, height_of_statements, type_of, TypedExpression, TypedStatements, TypesHold, done_case, SourceState, Outcome, then_do, Flow, values_of, Instr, AccumulateImmediate, Xchg, Compare, Subtract, SubtractWithBorrow, A, D, E, H, L, Registers, State, word, ExpressionNumber, Range, IsExpressionIn, Does, at_place, borrow_shows, same_test, Facts, LabelNumber, Step, copy, high, low, set, plain, Here, nodes_in, PartThere, effect, value_in, Stage, at_instructions, has_less_room, script_of, then_does_where, BodyContext, Leaves}
+use Rattle.statement_laws.proofs.Prelude.{◌≡◌, ℕ, ◌+◌, ◌*◌, ◌/◌, ◌%◌, ◌<◌, ◌≤◌, nat_lt, List, [], ◌∷◌, ◌++◌, sym, ap, subst, ◌∙◌, arith, ltb-true, ltb-false, lt-ltb, le-ltb, ScalarType, Byte, Address, height_of, height_of_statements, type_of, TypedExpression, TypedStatements, TypesHold, done_case, SourceState, Outcome, then_do, Flow, values_of, Instr, AccumulateImmediate, Xchg, Compare, Subtract, SubtractWithBorrow, A, D, E, H, L, Registers, State, word, ExpressionNumber, Range, IsExpressionIn, Does, at_place, borrow_shows, same_test, Facts, LabelNumber, Step, copy, high, low, set, plain, Here, nodes_in, PartThere, effect, value_in, Stage, at_instructions, script_of, then_does_where, BodyContext, Leaves, low_of_byte, room_for}
 use Rattle.steps8080.specs.declared.step.Step.TheVariants as steps
 use Rattle.steps8080.specs.declared.step.Task.TheVariants as tasks
 use Rattle.statement_laws.proofs.Cases.Cases.{CaseParts, ChoiceStands, bounded, bounded_goes, chosen}
 use Rattle.statement_laws.proofs.Loops.LoopCode.{Steps}
 use Rattle.statement_laws.proofs.Loops.WordCode.{word_is_less}
+use Rattle.statement_laws.proofs.Numbers.{whole_of_halves}
 
 of_type : (tree : TypedExpression) (scalar : ScalarType) (n : ℕ) → type_of tree ≡ scalar → n < values_of (type_of tree) → n < values_of scalar
 of_type tree scalar n same small = subst (λ (one : ScalarType). n < values_of one) same small
-
-itself : (n : ℕ) → n < 256 → n % 256 ≡ n
-itself n small = omega (arith, small)
 
 -- a BYTE comes into A
 byte_value :
@@ -33,12 +31,12 @@ byte_value :
     → Does (script_of at.context) s.budget 0 (at_place from r memory s.events) (then_do (value_in at.context tree s) go) Good
 byte_value at {base = base} {need = need} {tree = tree} {Good = Good} choice go s r memory is types scalar fits (PartThere {found = found} {middle = middle} does rest) stage next =
     then_does_where (value_in at.context tree s)
-    (does _ tree is types at.context.activation.level base s r memory stage.below (has_less_room (2 * height_of tree) fits stage.room) stage.ready stage.known tt)
+    (does _ tree is types at.context.activation.level base s r memory stage.below (room_for (2 * height_of tree) fits stage.room) stage.ready stage.known tt)
     (λ n u end gave arrives spent.
     let below = stage.below in
     let small : n < 256 = of_type tree Byte n scalar (arrives.holds).small in
     subst (λ (state : State). Does (script_of at.context) u.budget 0 state (go n u) Good) (sym arrives.is_at)
-    (next n u arrives.r arrives.memory found middle small ((arrives.holds).a ∙ itself n small) spent rest
+    (next n u arrives.r arrives.memory found middle small ((arrives.holds).a ∙ low_of_byte n small) spent rest
     (record { below = omega (arith, below, spent); room = stage.room; ready = arrives.ready; known = (arrives.holds).known })))
 
 -- an ADDRESS comes into HL
@@ -63,7 +61,7 @@ word_value :
     → Does (script_of at.context) s.budget 0 (at_place from r memory s.events) (then_do (value_in at.context tree s) go) Good
 word_value at {base = base} {need = need} {tree = tree} {Good = Good} choice go s r memory is types scalar fits (PartThere {found = found} {middle = middle} does rest) stage next =
     then_does_where (value_in at.context tree s)
-    (does _ tree is types at.context.activation.level base s r memory stage.below (has_less_room (2 * height_of tree) fits stage.room) stage.ready stage.known tt)
+    (does _ tree is types at.context.activation.level base s r memory stage.below (room_for (2 * height_of tree) fits stage.room) stage.ready stage.known tt)
     (λ n u end gave arrives spent.
     let below = stage.below in
     let small : n < 65536 = of_type tree Address n scalar (arrives.holds).small in
@@ -76,12 +74,6 @@ byte_in_de a = omega arith
 
 whole : (h l n : ℕ) → h ≡ n / 256 → l ≡ n % 256 → word h l ≡ n
 whole h l n one two = omega (arith, one, two)
-
-whole_too : (h l n : ℕ) → h ≡ n / 256 → l ≡ n % 256 → 256 * h + l ≡ n
-whole_too h l n one two = omega (arith, one, two)
-
-low_number : (n : ℕ) → n < 256 → n % 256 ≡ n
-low_number n small = omega (arith, small)
 
 -- a number whose low byte is 0 is compared by its high byte
 pub high_is_less : (h l n : ℕ) → l < 256 → n < 65536 → n % 256 ≡ 0 → nat_lt h (n / 256) ≡ nat_lt (256 * h + l) n
@@ -136,7 +128,7 @@ byte_bounded {at = at} {trees = trees} list table own end choice s r memory asks
     byte_value at choice (λ n t. done_case at.context.later at.context.activation.around trees n t) s r memory asks.is asks.types scalar asks.fits stands.code_stands stage
     (λ n u now memory_now found middle small a spent rest there.
     bounded_goes list table own end (byte_compare list.count) byte_bring n u now asks.parts asks.trees_fit stands rest (tt, tt) (tt, (tt, tt))
-    (borrow_shows now.a (list.count % 256) (omega arith) ∙ ap (nat_lt now.a) (low_number list.count few) ∙ ap (λ (x : ℕ). nat_lt x list.count) a)
+    (borrow_shows now.a (list.count % 256) (omega arith) ∙ ap (nat_lt now.a) (low_of_byte list.count few) ∙ ap (λ (x : ℕ). nat_lt x list.count) a)
     (byte_in_de now.a ∙ a) spent there)
 
 pub byte_unbounded :
@@ -172,7 +164,7 @@ high_bounded {at = at} {trees = trees} list table own end choice s r memory asks
     bounded_goes list table own end (high_compare list.count) (Xchg ∷ []) n u now asks.parts asks.trees_fit stands rest (tt, (tt, tt)) (tt, tt)
     (borrow_shows now.h (list.count / 256) (omega (arith, few))
     ∙ high_is_less now.h now.l list.count there.ready.registers.l few none
-    ∙ ap (λ (x : ℕ). nat_lt x list.count) (whole_too now.h now.l n h l))
+    ∙ ap (λ (x : ℕ). nat_lt x list.count) (whole_of_halves now.h now.l n h l))
     (whole now.h now.l n h l) spent there)
 
 pub word_bounded :
@@ -189,7 +181,7 @@ word_bounded {at = at} {trees = trees} list table own end choice s r memory asks
     (λ n u now memory_now found middle small h l spent rest there.
     bounded_goes list table own end (word_compare list.count) (Xchg ∷ []) n u now asks.parts asks.trees_fit stands rest (tt, (tt, (tt, (tt, tt)))) (tt, tt)
     (word_is_less now.h now.l list.count there.ready.registers.l few
-    ∙ ap (λ (x : ℕ). nat_lt x list.count) (whole_too now.h now.l n h l))
+    ∙ ap (λ (x : ℕ). nat_lt x list.count) (whole_of_halves now.h now.l n h l))
     (whole now.h now.l n h l) spent there)
 
 pub word_unbounded :

@@ -1,5 +1,5 @@
 -- The table of DO CASE and the statements after it.
-use Rattle.statement_laws.proofs.Prelude.{◌≡◌, ℕ, zero, suc, ◌+◌, ◌-◌, ◌*◌, ◌<◌, Bool, true, false, nat_lt, nat_eq, if◌then◌else◌, List, [], ◌∷◌, ◌++◌, Option, Some, None, refl, sym, ap, subst, ◌∙◌, arith, ltb-false, same_Some, SourceState, Gave, Onward, Registers, AtLabel, Jump, Range, StatementNumber, item, IsThere, Does, at_place, word_step, after_step, gives, Facts, LabelNumber, after_form, no_facts, jump_item, Planned, cases_end_steps, entry_of, statement_at, jump, label_at, mark, steps_from, Here, jump_on_steps, JumpThere, Know, Stage, script_of, BodyContext, IsSoundBody, Leaves, StatementDoes}
+use Rattle.statement_laws.proofs.Prelude.{◌≡◌, ℕ, zero, suc, ◌+◌, ◌-◌, ◌*◌, ◌<◌, Bool, true, false, nat_lt, nat_eq, if◌then◌else◌, List, [], ◌∷◌, ◌++◌, Option, Some, None, refl, sym, ap, subst, ◌∙◌, arith, ltb-false, same_Some, SourceState, Gave, Onward, Registers, AtLabel, Jump, Range, StatementNumber, item, IsThere, Does, at_place, word_step, after_step, gives, Facts, LabelNumber, after_form, no_facts, jump_item, Planned, cases_end_steps, entry_of, statement_at, jump, label_at, mark, steps_from, Here, jump_on_steps, JumpThere, Know, Stage, script_of, BodyContext, IsSoundBody, Leaves, StatementDoes, add-zero, suc_moved}
 use Rattle.steps8080.specs.declared.step.Step.TheVariants as steps
 use Rattle.statements8080.specs.declared.plan.Planned.TheVariants as planned
 use Rattle.statement_laws.proofs.Loops.LoopCode.{Steps}
@@ -51,12 +51,9 @@ table_parted {at = at} {last = last} {waiting = waiting} {to = to} {others = oth
         same_index : (n : ℕ) → n ≡ n + 0
         same_index n = omega arith
     nth (suc k) less first others =
-        subst (λ (n : ℕ). IsThere at.context.activation (jump_item Jump (entry n) ∷ []) (from + 3 * suc k) (from + 3 * suc k + 3)) (next_index index k)
+        subst (λ (n : ℕ). IsThere at.context.activation (jump_item Jump (entry n) ∷ []) (from + 3 * suc k) (from + 3 * suc k + 3)) (suc_moved index k)
         (subst (λ (place : ℕ). IsThere at.context.activation (jump_item Jump (entry (suc index + k)) ∷ []) place (place + 3)) (one_more from k)
         (others k (omega (arith, less))))
-      where
-        next_index : (n k : ℕ) → suc n + k ≡ n + suc k
-        next_index n k = omega arith
 
 -- a statement of the list after the table: where it is entered, and that it goes on to the end
 pub record EntryStands (at : BodyContext) (own : LabelNumber) (found : StatementNumber) (after : Here) (to : ℕ) : Type 0 where
@@ -105,12 +102,6 @@ abbrev pub behind_table : BodyContext → Range → (own end : LabelNumber) → 
 behind_table at list own end index left =
     steps_from (λ (n : ℕ). statement_at at.body list own end n) index left ++ cases_end_steps end
 
-shifted : (index k : ℕ) → suc index + k ≡ index + suc k
-shifted index k = omega arith
-
-same_index : (index : ℕ) → index + 0 ≡ index
-same_index index = omega arith
-
 -- a statement before others
 joined :
     {at : BodyContext} {after : Here} {to : ℕ} (list : Range) (own end : LabelNumber) (from middle index left : ℕ)
@@ -134,11 +125,11 @@ joined {at = at} {after = after} {to = to} list own end from middle index left m
     nth zero found less is own_is =
         subst (λ (n : ℕ). item at.body.tree.now list n ≡ Some found
         → nat_eq (entry_of at.body list n (label_at own n) end).index (label_at own n).index ≡ true
-        → EntryStands at (label_at own n) found after to) (sym (same_index index)) (first found) is own_is
+        → EntryStands at (label_at own n) found after to) (sym (add-zero index)) (first found) is own_is
     nth (suc k) found less is own_is =
         subst (λ (n : ℕ). item at.body.tree.now list n ≡ Some found
         → nat_eq (entry_of at.body list n (label_at own n) end).index (label_at own n).index ≡ true
-        → EntryStands at (label_at own n) found after to) (shifted index k)
+        → EntryStands at (label_at own n) found after to) (suc_moved index k)
         (more.entries k found (omega (arith, less))) is own_is
 
 no_statement : {A : Type 0} {one : Option StatementNumber} {found : StatementNumber} → one ≡ None → one ≡ Some found → A

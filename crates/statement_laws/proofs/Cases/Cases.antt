@@ -1,5 +1,5 @@
 -- Code of DO CASE does what it says.
-use Rattle.statement_laws.proofs.Prelude.{◌≡◌, ℕ, ◌+◌, ◌*◌, ◌<◌, ◌≤◌, not, Bool, true, false, nat_lt, List, [], ◌∷◌, ◌++◌, map, Option, None, refl, sym, ap, subst, ◌∙◌, arith, ltb-true, ltb-false, height_of_statements, ListsStandInCases, TypedStatements, TypesHoldInStatements, done_case, SourceState, Outcome, Gave, Flow, Onward, NoCarry, Dad, Pchl, De, Hl, Registers, State, high_byte, low_byte, word, wrap, running, AtLabel, Jump, JumpWhere, LoadPair, Range, AreStatements, Does, at_place, plain_step, word_step, after_step, no_facts_hold, Facts, LabelNumber, Step, no_facts, plain, cases_end_steps, entry_of, into_table_steps, statements_steps, table_at, table_steps, Instr, label_at, Here, Context, nodes_in, JumpThere, MarkThere, NoneThere, PlainThere, AreOnRegisters, effect, ready_with_registers, Stage, at_instructions, does_same, script_of, BodyContext, IsSoundBody, Leaves, IsThere, jump_item}
+use Rattle.statement_laws.proofs.Prelude.{◌≡◌, ℕ, ◌+◌, ◌*◌, ◌<◌, ◌≤◌, true, nat_lt, List, [], ◌∷◌, ◌++◌, map, Option, None, refl, sym, ap, subst, ◌∙◌, arith, ltb-true, ltb-false, height_of_statements, ListsStandInCases, TypedStatements, TypesHoldInStatements, done_case, SourceState, Outcome, Gave, Flow, Onward, NoCarry, Dad, Pchl, De, Hl, Registers, State, high_byte, low_byte, word, wrap, running, AtLabel, Jump, JumpWhere, LoadPair, Range, AreStatements, Does, at_place, plain_step, word_step, after_step, no_facts_hold, Facts, LabelNumber, Step, no_facts, plain, cases_end_steps, entry_of, into_table_steps, statements_steps, table_at, table_steps, Instr, label_at, Here, Context, nodes_in, JumpThere, MarkThere, NoneThere, PlainThere, AreOnRegisters, effect, ready_with_registers, Stage, at_instructions, does_same, script_of, BodyContext, IsSoundBody, Leaves, IsThere, jump_item, not-false, not-true, word_of_bytes}
 use Rattle.steps8080.specs.declared.step.Step.TheVariants as steps
 use Rattle.statements8080.specs.declared.plan.Planned.TheVariants as planned
 use Rattle.statement_laws.proofs.Cases.CaseChoices.{IsNth, enters, from_none, nth_is, past_all}
@@ -11,9 +11,6 @@ use Rattle.statement_laws.proofs.Loops.LoopCode.{Steps, jump_then, knowing_nothi
 -- three times a number after an address
 three_times : (table n : ℕ) → wrap (wrap (wrap (wrap table + n) + n) + n) ≡ wrap (table + 3 * n)
 three_times table n = omega arith
-
-halves : (n : ℕ) → word (high_byte n) (low_byte n) ≡ n
-halves n = omega arith
 
 small_high : (n : ℕ) → high_byte (wrap n) < 256
 small_high n = omega arith
@@ -81,11 +78,11 @@ into_table_goes {at = at} {base = base} {need = need} {from = from} {facts = fac
     (loaded start refl refl refl refl stage place)
     (λ middle found steps_left added.
     pchl_then (place + 3 * number) u (effect (Dad De ∷ Dad De ∷ Dad De ∷ []) start) memory sound
-    (halves (wrap (word (high_byte (wrap (word (high_byte (wrap (word start.h start.l + n))) (low_byte (wrap (word start.h start.l + n))) + n)))
+    (word_of_bytes (wrap (word (high_byte (wrap (word (high_byte (wrap (word start.h start.l + n))) (low_byte (wrap (word start.h start.l + n))) + n)))
     (low_byte (wrap (word (high_byte (wrap (word start.h start.l + n))) (low_byte (wrap (word start.h start.l + n))) + n))) + n))
-    ∙ ap (λ (x : ℕ). wrap (x + n)) (halves (wrap (word (high_byte (wrap (word start.h start.l + n))) (low_byte (wrap (word start.h start.l + n))) + n))
-    ∙ ap (λ (x : ℕ). wrap (x + n)) (halves (wrap (word start.h start.l + n))
-    ∙ ap (λ (x : ℕ). wrap (x + n)) (halves (wrap place))))
+    ∙ ap (λ (x : ℕ). wrap (x + n)) (word_of_bytes (wrap (word (high_byte (wrap (word start.h start.l + n))) (low_byte (wrap (word start.h start.l + n))) + n))
+    ∙ ap (λ (x : ℕ). wrap (x + n)) (word_of_bytes (wrap (word start.h start.l + n))
+    ∙ ap (λ (x : ℕ). wrap (x + n)) (word_of_bytes (wrap place))))
     ∙ three_times place n
     ∙ ap (λ (x : ℕ). wrap (place + 3 * x)) de)
     steps_left added
@@ -214,14 +211,6 @@ chosen {at = at} {base = base} {to = to} {need = need} {budget = budget} {after 
 abbrev pub bounded : (compare bring : List Instr) → (end : LabelNumber) → List Step
 bounded compare bring end = plain compare ++ (steps.Jump (JumpWhere NoCarry) end ∷ (plain bring ++ []))
 
-not_less : (b : Bool) → not b ≡ true → b ≡ false
-not_less false same = refl
-not_less true same = sym same
-
-is_less : (b : Bool) → not b ≡ false → b ≡ true
-is_less true same = refl
-is_less false same = sym same
-
 -- a number that is compared
 pub bounded_goes :
     {at : BodyContext} {base : List ℕ} {to need bound from budget : ℕ} {after : Here} {trees : TypedStatements} {before facts : Facts}
@@ -244,12 +233,12 @@ bounded_goes {at = at} {base = base} {to = to} {need = need} {bound = bound} {bu
     (λ middle found rest compared.
     jump_then parts.sound.sound rest compared
     (λ taken step.
-    let past = ltb-false number list.count (sym flag ∙ not_less (effect compare r).flags.cy taken) in
+    let past = ltb-false number list.count (sym flag ∙ not-true (effect compare r).flags.cy taken) in
     does_same (Gave Onward u) (past_all at bound list.first list.count trees number u parts.are past)
     (after_step (step ∙ ap (λ (n : ℕ). at_place n (effect compare r) memory u.events) (stands.entries).end_is)
     (reaches_end u (effect compare r) memory (stands.entries).after_is compared)))
     (λ passed rest_two.
-    let less = ltb-true number list.count (sym flag ∙ is_less (effect compare r).flags.cy passed) in
+    let less = ltb-true number list.count (sym flag ∙ not-false (effect compare r).flags.cy passed) in
     at_instructions bring [] parts.sound.sound on_too rest_two compared
     (λ middle_two found_two over_code brought.
     chosen list table own end number u (effect bring (effect compare r)) parts fits stands over_code less de fewer brought)))

@@ -1,5 +1,5 @@
 -- Code of DO CASE does what it says.
-use Rattle.statement_laws.proofs.Prelude.{◌≡◌, ℕ, ◌+◌, ◌*◌, ◌%◌, ◌≤◌, max, Bool, true, false, nat_lt, nat_eq, if◌then◌else◌, List, [], ◌∷◌, ◌++◌, slice_get, Option, Some, None, refl, sym, ap, subst, ◌∙◌, arith, option_and_then, ltb-true, ltb-false, eqb-true, same_Some, ScalarType, Byte, Address, height_of, height_of_statement, height_of_statements, type_of, ListsStand, TypedExpression, TypedStatement, TypedStatements, TypesHoldIn, done, done_case, SourceState, Outcome, Gave, then_do, Onward, NoCarry, AccumulateImmediate, Xchg, Compare, Subtract, SubtractWithBorrow, A, D, E, H, L, Registers, JumpWhere, ExpressionNumber, Range, Statement, StatementNumber, IsCase, IsExpression, IsStatementForm, IsStatementNode, Nodes, nodes_of, item, HasRoom, Does, at_place, gives, Facts, LabelNumber, copy, high, low, set, label_of, plain, Site, number, scalar, knowing, Planned, case_steps, cases_end_steps, choice_at_steps, choice_steps, computed_case_steps, into_table_steps, known_case_steps, number_in_de_steps, statements_steps, table_steps, all, jump, nth_label, part, plan, Here, statement_steps, Context, IsSound, nodes_in, node_of, number_means, value_in, Stage, at_effects, does_same, script_of, PartThere, Know, BodyContext, IsSoundBody, Leaves, StatementDoes, StatementStands}
+use Rattle.statement_laws.proofs.Prelude.{◌≡◌, ℕ, ◌+◌, ◌*◌, ◌%◌, ◌≤◌, max, Bool, true, false, nat_lt, nat_eq, if◌then◌else◌, List, [], ◌∷◌, ◌++◌, slice_get, Option, Some, None, refl, sym, ap, subst, ◌∙◌, arith, option_and_then, ltb-true, ltb-false, eqb-true, same_Some, ScalarType, Byte, Address, height_of, height_of_statement, height_of_statements, type_of, ListsStand, TypedExpression, TypedStatement, TypedStatements, TypesHoldIn, done, done_case, SourceState, Outcome, Gave, then_do, Onward, NoCarry, AccumulateImmediate, Xchg, Compare, Subtract, SubtractWithBorrow, A, D, E, H, L, Registers, JumpWhere, ExpressionNumber, Range, Statement, StatementNumber, IsCase, IsStatementForm, IsStatementNode, Nodes, nodes_of, item, HasRoom, Does, at_place, gives, Facts, LabelNumber, copy, high, low, set, label_of, plain, Site, number, scalar, knowing, Planned, case_steps, cases_end_steps, choice_at_steps, choice_steps, computed_case_steps, into_table_steps, known_case_steps, number_in_de_steps, statements_steps, table_steps, all, jump, nth_label, part, plan, Here, statement_steps, nodes_in, number_means, value_in, Stage, at_effects, does_same, script_of, PartThere, Know, BodyContext, IsSoundBody, Leaves, StatementDoes, StatementStands, scalar_is}
 use Rattle.treecode.specs.declared.statement.Statement.TheVariants as statements
 use Rattle.steps8080.specs.declared.step.Step.TheVariants as steps
 use Rattle.steps8080.specs.declared.step.Task.TheVariants as tasks
@@ -16,17 +16,6 @@ abbrev pub behind_number : BodyContext → Range → (table own end : LabelNumbe
 behind_number at list table own end =
     into_table_steps table
     ++ (table_steps at.body list own end ++ (statements_steps at.body list own end ++ cases_end_steps end))
-
--- the type of an expression as code sees it
-type_is :
-    {context : Context} {bound : ℕ} {of : ExpressionNumber} {tree : TypedExpression} (facts : Facts)
-    → IsSound context
-    → IsExpression (nodes_in context) context.storage bound of.index tree
-    → scalar (knowing context.site facts) of ≡ type_of tree
-unfolding scalar
-type_is {of = of} facts sound node =
-    let is = node_of {number = of} sound node in
-    ap (λ entry. elim (entry) [ Some found ↦ found.traits.scalar | None ↦ Byte ]) (is.at_site facts) ∙ is.scalar
 
 -- a choice that is computed
 computed_goes :
@@ -251,4 +240,4 @@ case_does at before of choice list label from after to sound found stand bound t
             by_count true none stand = effects_go list choice s r memory asks (eqb-true list.count 0 none) stand stage
             by_count false none stand =
                 computed_goes list (label_of label) (nth_label label 2) (nth_label label 1) choice s r memory
-                (scalar site choice) asks (sym (type_is before sound.sound choice_is)) stand stage
+                (scalar site choice) asks (sym (scalar_is before sound.sound choice_is)) stand stage

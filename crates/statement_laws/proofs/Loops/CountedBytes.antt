@@ -1,5 +1,5 @@
 -- A BYTE that is counted by 1 up to a last value that is known, with the test at the end.
-use Rattle.statement_laws.proofs.Prelude.{◌≡◌, ℕ, ◌+◌, ◌%◌, ◌<◌, ◌≤◌, ◌==◌, Bool, true, false, not, nat_lt, List, [], ◌∷◌, slice_set, refl, sym, ap, subst, ◌∙◌, arith, ltb-true, ltb-false, eqb-true, eqb-false, byte_at, Byte, step_value, value, SourceState, Outcome, Gave, then_do, Onward, Carry, NotZero, AccumulateImmediate, Inr, M, Compare, increment_of, subtract_of, Registers, word, JumpWhere, byte_put, Does, at_place, borrow_shows, count_shows, Facts, LabelNumber, Step, load, low, Know, at_instructions, does_same, script_of, BodyContext, IsSoundBody}
+use Rattle.statement_laws.proofs.Prelude.{◌≡◌, ℕ, ◌+◌, ◌%◌, ◌<◌, ◌≤◌, ◌==◌, true, false, not, nat_lt, List, [], ◌∷◌, slice_set, refl, sym, ap, subst, ◌∙◌, arith, ltb-true, ltb-false, eqb-true, eqb-false, byte_at, Byte, step_value, value, SourceState, Outcome, Gave, then_do, Onward, Carry, NotZero, AccumulateImmediate, Inr, M, Compare, increment_of, subtract_of, Registers, word, JumpWhere, byte_put, Does, at_place, borrow_shows, count_shows, Facts, LabelNumber, Step, load, low, Know, at_instructions, does_same, script_of, BodyContext, IsSoundBody, not-false, not-true}
 use Rattle.isa8080.specs.declared.instr.Register.TheVariants as registers
 use Rattle.steps8080.specs.declared.step.Step.TheVariants as steps
 use Rattle.statement_laws.proofs.Loops.CountedVariables.{IsCounted, variable_address, variable_place}
@@ -94,7 +94,7 @@ counts_to_top {at = at} loop last limit turn turn_facts t r memory counts great 
     ∙ sym (one_more_now number) in
     jump_then sound last_steps ready_now
     (λ taken step.
-    let differ : (number == 255) ≡ false = not_true (number == 255) (ap not (sym is_zero) ∙ taken) in
+    let differ : (number == 255) ≡ false = not-true (number == 255) (ap not (sym is_zero) ∙ taken) in
     let is_not = eqb-false number 255 differ in
     turns_again loop Byte last (number + 1) u counts.sound counts.scalar (counts.last_is u) counted ready_now.ready
     (strict u.budget t.budget limit loop.budget budget_is fewer counts.less) is_put
@@ -104,7 +104,7 @@ counts_to_top {at = at} loop last limit turn turn_facts t r memory counts great 
     (record { below = ready_now.below; room = ready_now.room; ready = ready_now.ready; known = counts.enters after left holds.hl })
     step))
     (λ passed rest.
-    let same : (number == 255) ≡ true = not_false (number == 255) (ap not (sym is_zero) ∙ passed) in
+    let same : (number == 255) ≡ true = not-false (number == 255) (ap not (sym is_zero) ∙ passed) in
     let is = eqb-true number 255 same in
     let over = Rattle.statement_laws.proofs.Loops.LoopCode.steps_over rest in
     turns_end loop Byte last (number + 1) u counts.sound counts.scalar (counts.last_is u) counted ready_now.ready
@@ -113,14 +113,6 @@ counts_to_top {at = at} loop last limit turn turn_facts t r memory counts great 
     (subst (λ (place : ℕ). Does (script_of at.context) u.budget 0 (at_place place after left u.events) (Gave Onward u) (Out loop)) (sym over.1)
     (goes u after left (stays u.budget t.budget limit budget_is fewer)
     (subst (λ (facts : Facts). StageAt at loop.need loop.base u facts after left) over.0 ready_now))))))))
-  where
-    not_true : (b : Bool) → not b ≡ true → b ≡ false
-    not_true false same = refl
-    not_true true same = sym same
-
-    not_false : (b : Bool) → not b ≡ false → b ≡ true
-    not_false true same = refl
-    not_false false same = sym same
 
 -- to less than 255
 pub counts_to :

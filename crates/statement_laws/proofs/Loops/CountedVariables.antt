@@ -1,5 +1,5 @@
 -- The variable of an iterative DO: where the source has it, and where the machine does.
-use Rattle.statement_laws.proofs.Prelude.{◌≡◌, ℕ, ◌+◌, ◌%◌, ◌<◌, ◌≤◌, Bool, true, false, List, Option, Some, None, refl, sym, ap, subst, ◌∙◌, arith, IsSomeAnd, slice_get, ScalarType, IsScalar, IsScalarOf, size_of_scalar, TypedHome, InData, InConstants, Placed, BasedOn, Elsewhere, Nowhere, InFrame, ObjectType, ScalarObject, PartOf, NoSubscript, TypedIteration, TypedModule, TypedObject, TypedReference, Counts, IsSeen, LiesFor, RefersToScalar, TypesHoldInReference, Within, SourcePlace, Surroundings, place_in, place_of, based_place, SourceState, Gave, Home, Location, home_at, keeps_both, keeps_of_part, no_facts, Begins, BeginsAtBase, BeginsInFrame, BeginsInMemory, IsReference, IsPart, IsAbsent, location_at, Facts, base_after, base_of, keeps_of_address, base_location, location_of, split, knowing, whole, Context, IsSound, distances_in, nodes_in, IsReferred, address_on_machine, begins_there, has_some, home_there, located_fits, refers_is_referred, lies_there, located_in, FitsIn}
+use Rattle.statement_laws.proofs.Prelude.{◌≡◌, ℕ, ◌+◌, ◌%◌, ◌<◌, ◌≤◌, true, false, List, Option, Some, None, refl, sym, ap, subst, ◌∙◌, arith, IsSomeAnd, slice_get, ScalarType, IsScalar, IsScalarOf, size_of_scalar, TypedHome, InData, InConstants, Placed, BasedOn, Elsewhere, Nowhere, InFrame, ObjectType, ScalarObject, PartOf, NoSubscript, TypedIteration, TypedModule, TypedObject, TypedReference, Counts, IsSeen, LiesFor, RefersToScalar, TypesHoldInReference, Within, SourcePlace, place_in, place_of, based_place, SourceState, Gave, Home, Location, home_at, keeps_both, keeps_of_part, no_facts, Begins, BeginsAtBase, BeginsInFrame, BeginsInMemory, IsReference, IsPart, IsAbsent, location_at, Facts, base_after, base_of, keeps_of_address, base_location, location_of, split, knowing, whole, Context, IsSound, distances_in, nodes_in, IsReferred, address_on_machine, begins_there, has_some, home_there, located_fits, refers_is_referred, lies_there, located_in, FitsIn, not_based, same_given}
 use Rattle.layout.specs.Storage.{Storage}
 use Rattle.treecode.specs.declared.place.Home.TheVariants as homes
 use Rattle.treecode.specs.declared.traits.Keeps.{Keeps}
@@ -47,24 +47,8 @@ seen context Elsewhere lies = lies
 seen context Nowhere lies = lies
 seen context (InFrame procedure) lies = lies
 
--- an object that is not BASED lies where it begins
-not_based :
-    (within : Within) (kind : TypedHome) (around : Surroundings) (object bytes : ℕ) (is_inside : Bool) (s : SourceState)
-    → LiesFor within kind
-    → based_place kind around object bytes is_inside s ≡ Gave (place_in kind around object bytes is_inside) s
-not_based within (BasedOn base) around object bytes is_inside s lies = absurd lies
-not_based within (InData values) around object bytes is_inside s lies = refl
-not_based within (InConstants values) around object bytes is_inside s lies = refl
-not_based within (Placed at) around object bytes is_inside s lies = refl
-not_based within Elsewhere around object bytes is_inside s lies = refl
-not_based within Nowhere around object bytes is_inside s lies = refl
-not_based within (InFrame procedure) around object bytes is_inside s lies = refl
-
 nothing_yet : SourceState
 nothing_yet = record { memory = Rattle.std.proofs.Common.[]; frame = Rattle.std.proofs.Common.[]; events = Rattle.std.proofs.Common.[]; budget = 0 }
-
-same_place : {one other : SourcePlace} {t u : SourceState} → Gave one t ≡ Gave other u → one ≡ other
-same_place same = cc
 
 -- where tree code knows the location of an object, it has the address of its place
 address_is :
@@ -77,7 +61,7 @@ address_is :
 address_is context variable facts location sound referred means same =
     let lies = lies_there facts location sound (whole_is context 0 variable) referred (whole_types context variable) same in
     ap (address_on_machine context.activation)
-    (same_place (sym (means nothing_yet) ∙ lies.means nothing_yet))
+    (same_given (sym (means nothing_yet) ∙ lies.means nothing_yet))
     ∙ lies.is_at
 
 -- a home that has a location, whose address leaves A and DE alone

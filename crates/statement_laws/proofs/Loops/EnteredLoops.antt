@@ -1,5 +1,5 @@
 -- An iterative DO enters its turns: where it is known that there is one, or that there is none, and by a test before it.
-use Rattle.statement_laws.proofs.Prelude.{◌≡◌, ℕ, ◌-◌, ◌<◌, ◌≤◌, true, List, None, sym, ap, subst, ◌∙◌, arith, ltb-true, ltb-false, ScalarType, Byte, Address, value, write_variable, write_scalar, SourceState, Outcome, Gave, then_do, Flow, Onward, as_type, values_of, Registers, State, Facts, Planned, IsReady, Does, at_place, Know, script_of, then_does_where, without_more, BodyContext, IsSoundBody}
+use Rattle.statement_laws.proofs.Prelude.{◌≡◌, ℕ, ◌-◌, ◌<◌, ◌≤◌, true, List, None, sym, ap, subst, ◌∙◌, arith, ltb-true, ltb-false, ScalarType, value, write_variable, write_scalar, SourceState, Outcome, Gave, then_do, Flow, Onward, as_type, Registers, State, Facts, Planned, IsReady, Does, at_place, Know, script_of, then_does_where, without_more, BodyContext, IsSoundBody, as_type_fits}
 use Rattle.statement_laws.proofs.Loops.CountedVariables.{IsCounted, variable_address, variable_place}
 use Rattle.statement_laws.proofs.Loops.FirstValues.{written_is}
 use Rattle.statement_laws.proofs.Loops.LoopMeaning.{IsSteadyScalar, scalar_at, tested}
@@ -25,16 +25,12 @@ pub first_value_is :
     → IsSteadyScalar at.context.activation scalar (variable_address at.context (loop.head).variable)
     → scalar_at scalar memory_now (variable_address at.context (loop.head).variable) ≡ as_type scalar first
 first_value_is {at = at} loop scalar first s u sound same counted first_is is ready ready_now steady =
-    written_is scalar (as_type scalar first) s u sound.sound counted (of_type scalar first) ready
+    written_is scalar (as_type scalar first) s u sound.sound counted (as_type_fits scalar first) ready
     (sym (ap (λ (scalar : ScalarType). write_scalar at.context.activation.around.program scalar (variable_place at.context (loop.head).variable) (as_type scalar first) s) same)
     ∙ sym (ap (λ (one : Outcome ℕ). then_do one
     (λ number t. write_variable at.context.activation.around loop.head (as_type (loop.head).scalar number) t)) (first_is s))
     ∙ is)
     ready_now steady
-  where
-    of_type : (scalar : ScalarType) (n : ℕ) → as_type scalar n < values_of scalar
-    of_type Byte n = omega arith
-    of_type Address n = omega arith
 
 -- the turns that are entered at a place
 pub record TurnsAt {at : BodyContext} (loop : Loop at) (known : Facts) (place : ℕ) : Type 0 where

@@ -1,5 +1,5 @@
 -- The first value of the variable of an iterative DO is there after its store.
-use Rattle.statement_laws.proofs.Prelude.{◌≡◌, ℕ, ◌+◌, ◌*◌, ◌/◌, ◌%◌, ◌<◌, ◌≤◌, Bool, true, false, if◌then◌else◌, List, [], slice_set, refl, sym, ap, subst, ◌∙◌, arith, MEMORY_SIZE, byte_at, ScalarType, Byte, Address, size_of_scalar, UndeclaredByte, Constant, InMemory, InTheFrame, is_constant, is_declared, next_place, write_byte, write_scalar, SourceState, Outside, Outcome, Gave, Stopped, then_do, values_of, Registers, State, wrap, running, byte_put, Does, Lands, Activation, IsReady, gives, Context, IsSound, address_on_machine, FitsIn, frame_is, script_of, byte_written, first_fits, next_address, second_fits, word_written}
+use Rattle.statement_laws.proofs.Prelude.{◌≡◌, ℕ, ◌+◌, ◌*◌, ◌/◌, ◌%◌, ◌<◌, ◌≤◌, Bool, true, false, if◌then◌else◌, List, [], slice_set, refl, sym, ap, subst, ◌∙◌, arith, MEMORY_SIZE, byte_at, ScalarType, Byte, Address, size_of_scalar, UndeclaredByte, Constant, InMemory, InTheFrame, is_constant, is_declared, next_place, write_byte, write_scalar, SourceState, Outside, Outcome, Gave, Stopped, then_do, values_of, Registers, State, wrap, running, byte_put, Does, Lands, Activation, IsReady, gives, Context, IsSound, address_on_machine, FitsIn, frame_is, script_of, byte_written, first_fits, next_address, second_fits, word_written, low_of_byte}
 use Rattle.meaning.specs.Access.{Place}
 use Rattle.statement_laws.proofs.Loops.CountedVariables.{IsCounted, variable_address, variable_place}
 use Rattle.statement_laws.proofs.Loops.LoopMeaning.{IsSteadyScalar, scalar_at}
@@ -127,9 +127,6 @@ nowhere = running (record {
   flags = record { s = false; z = false; ac = false; p = false; cy = false };
 }) [] []
 
-byte_itself : (n : ℕ) → n < 256 → n % 256 ≡ n
-byte_itself n small = omega (arith, small)
-
 -- the value that was written is there
 pub written_is :
     {context : Context} {top other_top : ℕ} {base other_base memory memory_now : List ℕ} {r now : Registers} {variable : ℕ}
@@ -157,7 +154,7 @@ written_is {context = context} {top = top} {base = base} {memory = memory} {r = 
     let below = good.1 in
     same_written Byte (variable_place context variable) number s sound counted.fits is ready_now good.0
     ∙ byte_put memory address (number % 256) (omega (arith, size, below))
-    ∙ byte_itself number small
+    ∙ low_of_byte number small
 written_is {context = context} {top = top} {base = base} {memory = memory} {r = r} {variable = variable} Address number s u sound counted small ready is ready_now steady =
     let address : ℕ = variable_address context variable in
     let size = ready.shares.is_memory.size in

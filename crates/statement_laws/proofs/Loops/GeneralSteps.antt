@@ -1,5 +1,5 @@
 -- The step of an iterative DO in its general form does what it means, in each of its forms.
-use Rattle.statement_laws.proofs.Prelude.{◌≡◌, ℕ, ◌*◌, ◌<◌, ◌≤◌, Bool, true, false, not, ◌&&◌, nat_lt, if◌then◌else◌, List, [], ◌∷◌, ◌++◌, map, Option, Some, None, refl, sym, ap, subst, ◌∙◌, arith, IfSome, ltb-true, ScalarType, Byte, Address, height_of_optional, type_of, TypedExpression, TypesHold, step_value, value, SourceState, Gave, then_do, Onward, values_of, Carry, NotZero, Zero, Accumulate, Dad, Inr, Inx, MovToMemory, Xchg, M, Add, AddWithCarry, Or, De, Hl, A, D, E, JumpWhere, LoadPair, StoreHl, ExpressionNumber, Range, Location, Place, Iteration, IsOptional, IsNoValue, IsSomeValue, Facts, LabelNumber, copy, load, set, with_register, Site, known, number, place_in_memory, scalar_of, Counter, Planned, whole, counts_by_one, counter_place, add_de_steps, add_steps, count_at_hl_steps, count_steps, is_byte, is_byte_type, loop_labels, step_in_de_steps, step_steps, sum_of_byte_steps, sum_of_word_steps, add_byte_steps, add_word_to_byte_steps, jump, nth_label, part, Here, load_word_steps, site_of, knowing, nodes_in, number_means, does_same, BodyContext, IsSoundBody}
+use Rattle.statement_laws.proofs.Prelude.{◌≡◌, ℕ, ◌*◌, ◌<◌, ◌≤◌, Bool, true, false, not, ◌&&◌, nat_lt, if◌then◌else◌, List, [], ◌∷◌, ◌++◌, map, Option, Some, None, refl, sym, ap, subst, ◌∙◌, arith, IfSome, ltb-true, ScalarType, Byte, Address, height_of_optional, type_of, TypedExpression, TypesHold, step_value, value, SourceState, Gave, then_do, Onward, values_of, Carry, NotZero, Zero, Accumulate, Dad, Inr, Inx, MovToMemory, Xchg, M, Add, AddWithCarry, Or, De, Hl, A, D, E, JumpWhere, LoadPair, StoreHl, ExpressionNumber, Range, Location, Place, Iteration, IsOptional, IsNoValue, IsSomeValue, Facts, LabelNumber, copy, load, set, with_register, Site, known, number, place_in_memory, scalar_of, Counter, Planned, whole, counts_by_one, counter_place, add_de_steps, add_steps, count_at_hl_steps, count_steps, is_byte, is_byte_type, loop_labels, step_in_de_steps, step_steps, sum_of_byte_steps, sum_of_word_steps, add_byte_steps, add_word_to_byte_steps, jump, nth_label, part, Here, load_word_steps, site_of, knowing, nodes_in, number_means, does_same, BodyContext, IsSoundBody, same_given}
 use Rattle.treecode.specs.declared.place.Location.TheVariants as locations
 use Rattle.steps8080.specs.declared.step.Step.TheVariants as steps
 use Rattle.steps8080.specs.declared.step.Task.TheVariants as tasks
@@ -121,9 +121,6 @@ module _
         → n < values_of (type_of tree) → n < 256
     surely_byte step tree added byte s u n gave small = by (number site step) refl byte
       where
-        same_number : {one other : ℕ} {t v : SourceState} → Gave one t ≡ Gave other v → one ≡ other
-        same_number same = cc
-
         by_type : (scalar : ScalarType) → type_of tree ≡ scalar → is_byte_type scalar ≡ true → n < 256
         by_type Byte is byte = subst (λ (one : ScalarType). n < values_of one) is small
         by_type Address is byte = let never : ⊥ = cc in absurd never
@@ -134,7 +131,7 @@ module _
         by (Some known) is byte =
             let means = number_means facts known sound.sound added.is added.types
             (ap (λ (one : Site). number (knowing one facts) step) sound.site ∙ is) s in
-            let same : n ≡ known = same_number (sym gave ∙ means) in
+            let same : n ≡ known = same_given (sym gave ∙ means) in
             let less = ltb-true known 256 byte in
             omega (arith, same, less)
         by None is byte = by_type (scalar_of site step) (sym (scalar_there at sound facts step tree added.is)) byte

@@ -1,5 +1,5 @@
 -- What is known of the head of an iterative DO: its numbers, and the variable by which its code counts.
-use Rattle.statement_laws.proofs.Prelude.{◌≡◌, ℕ, ◌+◌, ◌*◌, ◌<◌, Bool, true, false, nat_eq, nat_le, List, Option, Some, None, refl, sym, ap, ◌∙◌, arith, IfSome, eqb-true, same_Some, ScalarType, Byte, Address, height_of_statement, type_of, ListStands, IterateStatement, TypedExpression, TypedIteration, TypedList, TypesHold, TypesHoldInHead, TypesHoldInList, step_value, value, SourceState, Gave, as_type, values_of, Registers, ExpressionNumber, Range, Location, Iteration, IsExpressionIn, IsIteration, IsList, IsNoValue, IsOptional, IsSomeValue, IsReady, Facts, Site, location_of, number, knowing, whole, converted, counter_of, counts_by_one, has_a_turn, Here, site_of, nodes_in, number_small, number_means, BodyContext, IsSoundBody}
+use Rattle.statement_laws.proofs.Prelude.{◌≡◌, ℕ, ◌+◌, ◌*◌, ◌<◌, Bool, true, false, nat_eq, nat_le, List, Option, Some, None, refl, sym, ap, ◌∙◌, arith, IfSome, eqb-true, same_Some, ScalarType, Byte, Address, height_of_statement, type_of, ListStands, IterateStatement, TypedExpression, TypedIteration, TypedList, TypesHold, TypesHoldInHead, TypesHoldInList, step_value, value, SourceState, Gave, as_type, Registers, ExpressionNumber, Range, Location, Iteration, IsExpressionIn, IsIteration, IsList, IsNoValue, IsOptional, IsSomeValue, IsReady, Facts, Site, location_of, number, knowing, whole, converted, counter_of, counts_by_one, has_a_turn, Here, site_of, nodes_in, number_small, number_means, BodyContext, IsSoundBody, value_is_word}
 use Rattle.statement_laws.proofs.Loops.CountedVariables.{is_counted, variable_address}
 use Rattle.statement_laws.proofs.Loops.EnteredLoops.{first_value_is}
 use Rattle.statement_laws.proofs.Loops.FirstStored.{first_stored}
@@ -89,10 +89,6 @@ one_step at facts sound (IsSomeValue {number = of} {tree = tree} is) types one s
         ∙ ap (λ (n : ℕ). Gave n s) (eqb-true n 1 same)
     by None known same = let never : ⊥ = cc in absurd never
 
-no_greater : (scalar : ScalarType) (n : ℕ) → n < values_of scalar → n < 65536
-no_greater Byte n small = omega (arith, small)
-no_greater Address n small = small
-
 -- a number of the head is its value
 pub number_of_head :
     {at : BodyContext} {of : ExpressionNumber} {tree : TypedExpression} (facts : Facts) (n : ℕ)
@@ -104,7 +100,7 @@ pub number_of_head :
 number_of_head {of = of} {tree = tree} facts n sound is types known =
     let there = ap (λ (one : Site). number (knowing one facts) of) sound.site ∙ known in (
       number_means facts n sound.sound is types there,
-      no_greater (type_of tree) n (number_small facts n sound.sound is types there),
+      value_is_word (type_of tree) n (number_small facts n sound.sound is types there),
     )
 
 -- counting by 1 to a number

@@ -1,5 +1,5 @@
 -- Turns of an iterative DO that counts by 1 to a known last value, with the test at the end.
-use Rattle.statement_laws.proofs.Prelude.{◌≡◌, ℕ, ◌+◌, ◌<◌, ◌≤◌, Bool, true, false, nat_le, if◌then◌else◌, List, [], ◌∷◌, ◌++◌, Option, Some, None, refl, sym, ap, subst, ◌∙◌, arith, leb-true, leb-false, ScalarType, Byte, Address, next_turn, step_value, value, SourceState, Outcome, Gave, then_do, Onward, as_type, Registers, wrap, Range, Location, Place, Iteration, Facts, LabelNumber, no_facts, plain, location_of, knowing, Counter, Planned, whole, address_fact, word_fact, asked_mark, next_byte_steps, arriving, common, known_here, load_word_steps, met, site_of, Site, Does, at_place, script_of, word_known, BodyContext, IsSoundBody, write_scalar}
+use Rattle.statement_laws.proofs.Prelude.{◌≡◌, ℕ, ◌+◌, ◌<◌, ◌≤◌, Bool, true, false, nat_le, if◌then◌else◌, List, [], ◌∷◌, ◌++◌, Option, Some, None, refl, sym, ap, subst, ◌∙◌, arith, leb-true, leb-false, ScalarType, Byte, Address, next_turn, step_value, value, SourceState, Outcome, Gave, then_do, Onward, as_type, Registers, wrap, Range, Location, Place, Iteration, Facts, LabelNumber, no_facts, plain, location_of, knowing, Counter, Planned, whole, address_fact, word_fact, asked_mark, next_byte_steps, arriving, common, known_here, load_word_steps, met, site_of, Site, Does, at_place, script_of, word_known, BodyContext, IsSoundBody, write_scalar, same_Some}
 use Rattle.treecode.specs.declared.place.Location.TheVariants as locations
 use Rattle.statements8080.specs.declared.plan.Planned.TheVariants as planned
 use Rattle.statement_laws.proofs.Loops.CountedBytes.{CountsBytes, Goes, count_to, count_to_top, counts_to, counts_to_top}
@@ -221,7 +221,7 @@ word_turns {at = at} loop head list last is_tested end turn facts from place ite
     counted = counted_as loop head list Address iterates to_known.scalar_is
 
     lies : counted.location ≡ locations.Static place
-    lies = Rattle.task_laws.proofs.Loads.Loads.same_location_found (sym (counted.located facts) ∙ is)
+    lies = same_Some _ _ (sym (counted.located facts) ∙ is)
 
     at_place_is : address ≡ Rattle.code_meaning.specs.Holding.location_at at.context.activation
         (Rattle.task_laws.specs.Contexts.distances_in at.context) (locations.Static place)
@@ -272,5 +272,5 @@ word_turns {at = at} loop head list last is_tested end turn facts from place ite
         word_loaded iterates.sound.sound counted (let enough = iterates.enough in omega (arith, enough)) loads there steady.0 steady.1
         (λ in_hl memory_then holds on.
         counts_word loop last limit turn turn_facts place u in_hl memory_then counting
-        (Rattle.task_laws.proofs.Loads.Loads.same_location_found (sym ((counting.counted).located facts) ∙ is))
+        (same_Some _ _ (sym ((counting.counted).located facts) ∙ is))
         stands less on holds.low holds.high steady.0 steady.1 goes)))

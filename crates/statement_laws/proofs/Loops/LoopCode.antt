@@ -1,5 +1,5 @@
 -- What code of loops does that comes to the address of the variable, to a byte that it changes, and to a jump.
-use Rattle.statement_laws.proofs.Prelude.{◌≡◌, ℕ, ◌+◌, ◌*◌, ◌<◌, ◌≤◌, Bool, true, false, Option, Some, None, if◌then◌else◌, List, [], ◌∷◌, slice_set, refl, sym, ap, subst, ◌∙◌, arith, byte_at, byte_small, Location, IsSteady, address_asks, load, knowing, Event, height_of_reference, SourcePlace, write_byte, SourceState, Outcome, Gave, then_do, ScalarType, Condition, Instr, HoldBytes, Registers, State, holds, word, wrap, act, step_of, AtLabel, Jump, JumpWhere, size_of_instruction, Does, at_place, IsReady, jump_passed, word_step, Asks, IsSteadyByte, no_facts_hold, Facts, LabelNumber, Step, after, no_facts, keeps_of_address, location_of, whole, Context, IsSound, distances_in, StepsStand, NoneThere, PlainThere, JumpThere, MarkThere, PartThere, AddressIsGiven, Know, Left, PartDoes, address_on_machine, FitsIn, plain_goes, ready_with_registers, Stage, at_carried, at_registers, script_of, byte_written}
+use Rattle.statement_laws.proofs.Prelude.{◌≡◌, ℕ, ◌+◌, ◌*◌, ◌<◌, ◌≤◌, Bool, true, false, Option, Some, None, if◌then◌else◌, List, [], ◌∷◌, slice_set, refl, sym, ap, subst, ◌∙◌, arith, byte_at, byte_small, Location, IsSteady, address_asks, load, knowing, Event, height_of_reference, SourcePlace, write_byte, SourceState, Outcome, Gave, then_do, ScalarType, Condition, Instr, HoldBytes, Registers, State, holds, word, wrap, act, step_of, AtLabel, Jump, JumpWhere, size_of_instruction, Does, at_place, IsReady, jump_passed, word_step, Asks, IsSteadyByte, no_facts_hold, Facts, LabelNumber, Step, after, no_facts, keeps_of_address, location_of, whole, Context, IsSound, distances_in, StepsStand, NoneThere, PlainThere, JumpThere, MarkThere, PartThere, AddressIsGiven, Know, Left, PartDoes, address_on_machine, FitsIn, plain_goes, ready_with_registers, Stage, at_carried, at_registers, script_of, byte_written, same_given}
 use Rattle.isa8080.specs.declared.instr.Register.TheVariants as registers
 use Rattle.steps8080.specs.declared.step.Step.TheVariants as steps
 use Rattle.steps8080.specs.declared.step.Task.TheVariants as tasks
@@ -20,9 +20,6 @@ pub record HoldsAddress
   pub a : Left (keeps_of_address context.site (whole variable)).a r.a now.a
   pub d : Left (keeps_of_address context.site (whole variable)).de r.d now.d
   pub e : Left (keeps_of_address context.site (whole variable)).de r.e now.e
-
-same_place : {one other : SourcePlace} {t u : SourceState} → Gave one t ≡ Gave other u → one ≡ other
-same_place same = cc
 
 same_state : {one other : SourcePlace} {t u : SourceState} → Gave one t ≡ Gave other u → t ≡ u
 same_state same = cc
@@ -54,7 +51,7 @@ address_then {A = A} {context = context} {top = top} {need = need} {more = more}
     (λ place u now memory_now is given there.
     let same : u ≡ t = same_state (sym is ∙ counted.means t) in
     let holds : HoldsAddress context variable r now = record {
-      hl = given.hl ∙ ap (address_on_machine context.activation) (same_place (sym is ∙ counted.means t));
+      hl = given.hl ∙ ap (address_on_machine context.activation) (same_given (sym is ∙ counted.means t));
       a = given.a;
       d = given.d;
       e = given.e;

@@ -1,12 +1,12 @@
 -- The step of an iterative DO whose variable is an ADDRESS in the frame: DE is added to it, byte by byte.
-use Rattle.statement_laws.proofs.Prelude.{◌≡◌, ℕ, ◌+◌, ◌*◌, ◌/◌, ◌%◌, ◌<◌, ◌≤◌, Bool, true, false, nat_le, List, [], ◌∷◌, slice_set, refl, sym, ap, subst, ◌∙◌, arith, leb-true, leb-false, le-leb, lt-leb, MEMORY_SIZE, byte_at, byte_small, Address, SourcePlace, next_place, write_byte, next_turn, SourceState, Outcome, then_do, Flow, Carry, Inx, MovToMemory, Add, AddWithCarry, Hl, A, D, E, bit, Registers, word, wrap, JumpWhere, byte_kept, address_asks, Does, at_place, carry_shows, same_test, Facts, LabelNumber, Step, load, with_register, distances_in, effect, at_instructions, does_same, script_of, first_fits, next_address, second_fits, then_next, BodyContext}
+use Rattle.statement_laws.proofs.Prelude.{◌≡◌, ℕ, ◌+◌, ◌*◌, ◌/◌, ◌%◌, ◌<◌, ◌≤◌, Bool, true, false, nat_le, List, [], ◌∷◌, slice_set, refl, sym, ap, subst, ◌∙◌, arith, leb-true, leb-false, le-leb, lt-leb, MEMORY_SIZE, byte_at, byte_small, Address, SourcePlace, next_place, write_byte, next_turn, SourceState, Outcome, then_do, Flow, Carry, Inx, MovToMemory, Add, AddWithCarry, Hl, A, D, E, bit, Registers, word, wrap, JumpWhere, byte_kept, address_asks, Does, at_place, carry_shows, same_test, Facts, LabelNumber, Step, load, with_register, distances_in, effect, at_instructions, does_same, script_of, first_fits, next_address, second_fits, BodyContext, next_is_other, next_word, then_again}
 use Rattle.steps8080.specs.declared.step.Step.TheVariants as steps
 use Rattle.statement_laws.proofs.Loops.CountedBytes.{stays}
 use Rattle.statement_laws.proofs.Loops.CountedVariables.{variable_address, variable_place}
 use Rattle.statement_laws.proofs.Loops.LoopCode.{Steps, address_step, address_then, byte_then, load_then}
 use Rattle.statement_laws.proofs.Loops.LoopMeaning.{stepped_by, stepped_with}
-use Rattle.statement_laws.proofs.Loops.LoopRules.{Checks, checks_at, next_word, sum_jumps}
-use Rattle.statement_laws.proofs.Loops.LoopSteps.{HasStep, other_byte}
+use Rattle.statement_laws.proofs.Loops.LoopRules.{Checks, checks_at, sum_jumps}
+use Rattle.statement_laws.proofs.Loops.LoopSteps.{HasStep}
 use Rattle.statement_laws.proofs.Loops.LoopTurns.{Loop, Out, StageAt}
 use Rattle.statement_laws.proofs.Loops.LoopWordSums.{ComesToDe}
 
@@ -81,7 +81,7 @@ add_de_in_frame {at = at} loop limit n end t r memory has de stand fewer stage c
     at_instructions (with_register Add E ∷ []) (steps.Plain (MovToMemory A) ∷ high_sum_code end) sound (tt, tt) at_add loaded
     (λ place_added known_added at_store added.
     let after : Registers = effect (with_register Add E ∷ []) (record now { a = low }) in
-    does_same _ (then_next (write_byte program place (new % 256) t) (λ _ u. write_byte program (next_place place) (new / 256) u) go)
+    does_same _ (then_again (write_byte program place (new % 256) t) (λ _ u. write_byte program (next_place place) (new / 256) u) go)
     (byte_then place (new % 256) after
     (λ _ u. then_do (write_byte program (next_place place) (new / 256) u) go)
     sound (omega arith) holds.hl (first_fits at.context.activation place counted.fits) at_store added refl added.ready.registers
@@ -96,7 +96,7 @@ add_de_in_frame {at = at} loop limit n end t r memory has de stand fewer stage c
     let in_memory : address < MEMORY_SIZE = subst (λ (m : ℕ). m < MEMORY_SIZE) holds.hl is_variable in
     let high_stays : byte_at left (wrap (address + 1)) ≡ high =
     byte_kept there (word now.h now.l) (wrap (address + 1)) (new % 256)
-    (λ same. other_byte address in_memory (same ∙ holds.hl)) in
+    (λ same. next_is_other address in_memory (same ∙ holds.hl)) in
     at_instructions (Inx Hl ∷ [])
     (steps.Plain (load A) ∷ steps.Plain (with_register AddWithCarry D) ∷ steps.Plain (MovToMemory A)
     ∷ steps.Jump (JumpWhere Carry) end ∷ []) sound (tt, tt) at_next ready_now

@@ -1,5 +1,5 @@
 -- What a turn of an iterative DO means, where the machine has its variable.
-use Rattle.statement_laws.proofs.Prelude.{◌≡◌, ℕ, ◌+◌, ◌*◌, ◌<◌, ◌≤◌, Bool, true, false, nat_lt, if◌then◌else◌, List, refl, sym, ap, subst, ◌∙◌, arith, ltb-true, ltb-false, byte_at, byte_small, ScalarType, Byte, Address, read_scalar, write_scalar, next_turn, step_value, value, SourceState, Outcome, Gave, then_do, taking_one, Flow, Onward, as_type, values_of, Registers, State, wrap, Does, Activation, IsReady, IsSteady, Context, IsSound, byte_read, word_read, script_of, BodyContext, IsSoundBody}
+use Rattle.statement_laws.proofs.Prelude.{◌≡◌, ℕ, ◌+◌, ◌*◌, ◌<◌, ◌≤◌, Bool, true, false, nat_lt, if◌then◌else◌, List, refl, sym, ap, subst, ◌∙◌, arith, ltb-true, ltb-false, byte_at, byte_small, ScalarType, Byte, Address, read_scalar, write_scalar, next_turn, step_value, value, SourceState, Outcome, Gave, then_do, taking_one, Flow, Onward, as_type, values_of, Registers, State, wrap, Does, Activation, IsReady, IsSteady, Context, IsSound, byte_read, word_read, script_of, BodyContext, IsSoundBody, two_bytes_fit}
 use Rattle.statement_laws.proofs.Loops.CountedVariables.{IsCounted, variable_address, variable_place}
 use Rattle.statement_laws.proofs.Loops.LoopTurns.{Loop, Out, after_list, from_list, from_test, next_is}
 
@@ -13,15 +13,12 @@ abbrev pub IsSteadyScalar : Activation → ScalarType → (address : ℕ) → Ty
 IsSteadyScalar activation Byte address = IsSteady activation address
 IsSteadyScalar activation Address address = IsSteady activation address × IsSteady activation (wrap (address + 1))
 
-word_is_small : (low high : ℕ) → low < 256 → high < 256 → low + 256 * high < 65536
-word_is_small low high one two = omega (arith, one, two)
-
 -- it is of the type
 pub scalar_small : (scalar : ScalarType) (memory : List ℕ) (address : ℕ)
     → Rattle.mem80.specs.Memory.IsMemory memory → scalar_at scalar memory address < values_of scalar
 scalar_small Byte memory address is = byte_small memory address is
 scalar_small Address memory address is =
-    word_is_small (byte_at memory address) (byte_at memory (wrap (address + 1))) (byte_small memory address is)
+    two_bytes_fit (byte_at memory address) (byte_at memory (wrap (address + 1))) (byte_small memory address is)
     (byte_small memory (wrap (address + 1)) is)
 
 -- the variable is read

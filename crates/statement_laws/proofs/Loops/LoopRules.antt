@@ -1,6 +1,6 @@
 -- Rules for code of loops in general: values of parts, operations with a byte of memory, and the jumps after a test and
 -- after a sum.
-use Rattle.statement_laws.proofs.Prelude.{◌≡◌, ℕ, ◌+◌, ◌*◌, ◌/◌, ◌%◌, ◌<◌, ◌≤◌, Bool, true, false, not, nat_lt, nat_le, if◌then◌else◌, List, [], ◌∷◌, refl, sym, ap, subst, ◌∙◌, arith, Some, ltb-true, ltb-false, lt-ltb, le-ltb, leb-true, leb-false, byte_at, ScalarType, Byte, Address, height_of, type_of, TypedExpression, TypesHold, read_scalar, next_turn, value, SourceState, Outcome, Gave, then_do, taking_one, Flow, Onward, values_of, Condition, Accumulate, M, Operation, Add, AddWithCarry, Compare, Subtract, SubtractWithBorrow, operate, subtract_of, bit, Registers, State, high_byte, holds, low_byte, word, wrap, JumpWhere, ExpressionNumber, IsExpressionIn, IsSteady, Does, at_place, borrow_shows, borrow_shows_more, word_borrow, after_step, Facts, LabelNumber, Step, no_facts, Context, IsSound, nodes_in, PartThere, PlainThere, Know, word_known, Stage, at_registers, has_less_room, script_of, then_does_where, BodyContext, IsSoundBody, step_of}
+use Rattle.statement_laws.proofs.Prelude.{◌≡◌, ℕ, ◌+◌, ◌*◌, ◌/◌, ◌%◌, ◌<◌, ◌≤◌, Bool, true, false, not, nat_lt, nat_le, if◌then◌else◌, List, [], ◌∷◌, refl, sym, ap, subst, ◌∙◌, arith, Some, ltb-true, ltb-false, lt-ltb, le-ltb, leb-true, leb-false, byte_at, ScalarType, Byte, height_of, type_of, TypedExpression, TypesHold, read_scalar, next_turn, value, SourceState, Outcome, Gave, then_do, taking_one, Flow, Onward, values_of, Condition, Accumulate, M, Operation, Add, AddWithCarry, Compare, Subtract, SubtractWithBorrow, operate, subtract_of, bit, Registers, State, holds, word, wrap, JumpWhere, ExpressionNumber, IsExpressionIn, IsSteady, Does, at_place, borrow_shows, borrow_shows_more, word_borrow, after_step, Facts, LabelNumber, Step, no_facts, Context, IsSound, nodes_in, PartThere, PlainThere, Know, word_known, Stage, at_registers, script_of, then_does_where, BodyContext, IsSoundBody, step_of, room_for, value_is_word}
 use Rattle.steps8080.specs.declared.step.Step.TheVariants as steps
 use Rattle.steps8080.specs.declared.step.Task.TheVariants as tasks
 use Rattle.statement_laws.proofs.Loops.CountedBytes.{Goes}
@@ -40,16 +40,12 @@ pub byte_comes :
     (then_do (value context.later context.activation.around tree s) go) Good
 byte_comes {context = context} {top = top} {need = need} {base = base} {tree = tree} {Good = Good} number go s r memory is types fits (PartThere {found = found} {middle = middle} does rest) stage next =
     then_does_where (value context.later context.activation.around tree s)
-    (does _ tree is types top base s r memory stage.below (has_less_room (2 * height_of tree) fits stage.room) stage.ready stage.known tt)
+    (does _ tree is types top base s r memory stage.below (room_for (2 * height_of tree) fits stage.room) stage.ready stage.known tt)
     (λ n u end gave arrives spent.
     let below = stage.below in
     subst (λ (state : State). Does (script_of context) u.budget 0 state (go n u) Good) (sym arrives.is_at)
     (next n u arrives.r arrives.memory found middle gave (record { small = (arrives.holds).small; a = (arrives.holds).a }) spent rest
     (record { below = omega (arith, below, spent); room = stage.room; ready = arrives.ready; known = (arrives.holds).known })))
-
-pub of_any_type : (scalar : ScalarType) (n : ℕ) → n < values_of scalar → n < 65536
-of_any_type Byte n small = omega (arith, small)
-of_any_type Address n small = small
 
 pub word_comes :
     {A : Type 0} {context : Context} {top need from to : ℕ} {base : List ℕ} {facts last : Facts} {others : List Step}
@@ -70,11 +66,11 @@ pub word_comes :
     (then_do (value context.later context.activation.around tree s) go) Good
 word_comes {context = context} {top = top} {need = need} {base = base} {tree = tree} {Good = Good} number go s r memory is types fits (PartThere {found = found} {middle = middle} does rest) stage next =
     then_does_where (value context.later context.activation.around tree s)
-    (does _ tree is types top base s r memory stage.below (has_less_room (2 * height_of tree) fits stage.room) stage.ready stage.known tt)
+    (does _ tree is types top base s r memory stage.below (room_for (2 * height_of tree) fits stage.room) stage.ready stage.known tt)
     (λ n u end gave arrives spent.
     let below = stage.below in
     let comes : ComesToHl n arrives.r = record {
-      small = of_any_type (type_of tree) n (arrives.holds).small;
+      small = value_is_word (type_of tree) n (arrives.holds).small;
       h = (arrives.holds).h;
       l = (arrives.holds).l;
     } in
@@ -315,14 +311,3 @@ pair_is_less d e h l one two three =
     borrow_shows_more d h (subtract_of e l false).flags.cy three
     ∙ ap (λ (borrow : Bool). nat_lt d (h + bit borrow)) (borrow_shows e l two)
     ∙ word_borrow d e h l one two
-
--- the address after one
-pub next_word : (h l address : ℕ) → word h l ≡ address
-    → word (high_byte (wrap (word h l + 1))) (low_byte (wrap (word h l + 1)))
-    ≡ wrap (address + 1)
-next_word h l address is =
-    ap (λ (n : ℕ). word (high_byte (wrap (n + 1))) (low_byte (wrap (n + 1)))) is
-    ∙ in_halves (wrap (address + 1)) (omega arith)
-  where
-    in_halves : (n : ℕ) → n < 65536 → word (n / 256) (n % 256) ≡ n
-    in_halves n small = omega (arith, small)

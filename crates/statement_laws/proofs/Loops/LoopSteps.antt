@@ -1,12 +1,12 @@
 -- The step of an iterative DO in general, counting by 1: the variable is counted where it lies, and where it becomes 0 the
 -- loop ends.
-use Rattle.statement_laws.proofs.Prelude.{◌≡◌, ◌≢◌, ℕ, ◌+◌, ◌*◌, ◌/◌, ◌%◌, ◌<◌, ◌≤◌, ◌==◌, Bool, true, false, not, nat_le, List, [], ◌∷◌, slice_set, refl, sym, ap, subst, ◌∙◌, arith, eqb-true, eqb-false, le-leb, lt-leb, MEMORY_SIZE, byte_at, byte_small, Event, ScalarType, Byte, Address, SourcePlace, next_place, write_byte, next_turn, step_value, SourceState, Outcome, Gave, then_do, Flow, Onward, NotZero, Zero, Inr, Inx, M, Hl, Flags, increment_of, Registers, word, wrap, step_of, JumpWhere, byte_kept, Does, at_place, IsReady, no_facts_hold, count_shows, same_test, after_step, Facts, LabelNumber, no_facts, address_on_machine, set_same, effect, at_instructions, does_same, script_of, first_fits, next_address, second_fits, then_next, byte_written, BodyContext, IsSoundBody}
+use Rattle.statement_laws.proofs.Prelude.{◌≡◌, ◌≢◌, ℕ, ◌+◌, ◌*◌, ◌/◌, ◌%◌, ◌<◌, ◌≤◌, ◌==◌, not, nat_le, List, [], ◌∷◌, slice_set, refl, sym, ap, subst, ◌∙◌, arith, eqb-true, eqb-false, le-leb, lt-leb, MEMORY_SIZE, byte_at, byte_small, Event, ScalarType, Byte, Address, SourcePlace, next_place, write_byte, next_turn, step_value, SourceState, Outcome, Gave, then_do, Flow, Onward, NotZero, Zero, Inr, Inx, M, Hl, Flags, increment_of, Registers, word, wrap, step_of, JumpWhere, byte_kept, Does, at_place, IsReady, no_facts_hold, count_shows, same_test, after_step, Facts, LabelNumber, no_facts, address_on_machine, set_same, effect, at_instructions, does_same, script_of, first_fits, next_address, second_fits, byte_written, BodyContext, IsSoundBody, next_is_other, next_word, not-false, not-true, then_again}
 use Rattle.steps8080.specs.declared.step.Step.TheVariants as steps
 use Rattle.statement_laws.proofs.Loops.CountedBytes.{Goes, stays, one_more_now}
 use Rattle.statement_laws.proofs.Loops.CountedVariables.{IsCounted, variable_address, variable_place}
 use Rattle.statement_laws.proofs.Loops.LoopCode.{Steps, address_step, address_then, byte_then, jump_then}
 use Rattle.statement_laws.proofs.Loops.LoopMeaning.{next_tests, stepped_by, stepped_with, stepped_with_is}
-use Rattle.statement_laws.proofs.Loops.LoopRules.{Checks, checks_at, next_word, sum_jumps}
+use Rattle.statement_laws.proofs.Loops.LoopRules.{Checks, checks_at, sum_jumps}
 use Rattle.statement_laws.proofs.Loops.LoopTurns.{Loop, Out, StageAt, after_list}
 
 -- what is true of a loop at its step: its variable, its test, which follows, and its end
@@ -70,14 +70,6 @@ count_byte {at = at} loop limit end t r memory has step_is stand fewer stage che
     (is_zero ∙ top_is number small) last_steps fewer_now ready_now has.ends
     (λ of_type over. checks_at loop limit u after left checks over fewer_now ready_now)))))
 
-not_true : (b : Bool) → not b ≡ true → b ≡ false
-not_true false same = refl
-not_true true same = sym same
-
-not_false : (b : Bool) → not b ≡ false → b ≡ true
-not_false true same = refl
-not_false false same = sym same
-
 -- the bytes of an ADDRESS that is counted
 sum_low : (low high : ℕ) → (low + 1) % 256 ≡ ((low + 256 * high + 1) % 65536) % 256
 sum_low low high = omega arith
@@ -93,9 +85,6 @@ sum_top low high small is =
     same_test (high == 255) (nat_le 65536 (low + 256 * high + 1))
     (λ top. let same = eqb-true high 255 top in le-leb 65536 (low + 256 * high + 1) (omega (arith, same, is)))
     (λ less. let differ = eqb-false high 255 less in lt-leb 65536 (low + 256 * high + 1) (omega (arith, differ, small, is)))
-
-pub other_byte : (address : ℕ) → address < MEMORY_SIZE → wrap (address + 1) ≢ address
-other_byte address small same = omega (arith, small, same)
 
 not_past : (low high : ℕ) → low < 256 → high < 256 → low ≢ 255 → 65536 ≤ low + 256 * high + 1 → ⊥
 not_past low high one two differ past = omega (arith, one, two, differ, past)
@@ -140,7 +129,7 @@ count_word {at = at} loop limit test end t r memory has step_is stand fewer stag
     ap (λ (n : ℕ). (increment_of n now.flags).flags.z) (ap (byte_at there) holds.hl) ∙ count_shows low now.flags low_small in
     stepped_by loop Address 1 t has.sound counted here.ready
     (λ steady.
-    does_same _ (then_next (write_byte program place (new % 256) t) (λ _ u. write_byte program (next_place place) (new / 256) u) go)
+    does_same _ (then_again (write_byte program place (new % 256) t) (λ _ u. write_byte program (next_place place) (new / 256) u) go)
     (byte_then place (new % 256) after
     (λ _ u. then_do (write_byte program (next_place place) (new / 256) u) go)
     sound (omega arith) holds.hl (first_fits at.context.activation place counted.fits) rest here refl
@@ -155,10 +144,10 @@ count_word {at = at} loop limit test end t r memory has step_is stand fewer stag
     let in_memory : address < MEMORY_SIZE = subst (λ (n : ℕ). n < MEMORY_SIZE) holds.hl is_variable in
     let high_stays : byte_at left (wrap (address + 1)) ≡ high =
     byte_kept there (word now.h now.l) (wrap (address + 1)) (new % 256)
-    (λ same. other_byte address in_memory (same ∙ holds.hl)) in
+    (λ same. next_is_other address in_memory (same ∙ holds.hl)) in
     jump_then sound last_steps ready_now
     (λ taken step.
-    let differ = eqb-false low 255 (not_true (low == 255) (ap not (sym is_zero) ∙ taken)) in
+    let differ = eqb-false low 255 (not-true (low == 255) (ap not (sym is_zero) ∙ taken)) in
     let is_same : slice_set left (address_on_machine at.context.activation (next_place place)) (new / 256) ≡ left =
     ap (λ (n : ℕ). slice_set left n (new / 256)) next_is
     ∙ ap (slice_set left (wrap (address + 1))) (sum_high_same low high low_small high_small differ ∙ sym high_stays)
@@ -186,7 +175,7 @@ count_word {at = at} loop limit test end t r memory has step_is stand fewer stag
     })))
     (λ past. absurd (not_past low high low_small high_small differ past))))))
     (λ passed rest_high.
-    let is = eqb-true low 255 (not_false (low == 255) (ap not (sym is_zero) ∙ passed)) in
+    let is = eqb-true low 255 (not-false (low == 255) (ap not (sym is_zero) ∙ passed)) in
     at_instructions (Inx Hl ∷ []) (steps.Plain (Inr M) ∷ steps.Jump (JumpWhere Zero) end ∷ []) sound (tt, tt) rest_high ready_now
     (λ place_next known_next at_high next_there.
     let two : Registers = effect (Inx Hl ∷ []) after in

@@ -1,5 +1,5 @@
 -- The test of an iterative DO in general, by its form: the last value against the variable.
-use Rattle.statement_laws.proofs.Prelude.{◌≡◌, ℕ, ◌+◌, ◌*◌, ◌/◌, ◌%◌, ◌<◌, ◌≤◌, Bool, true, false, not, nat_lt, if◌then◌else◌, List, [], ◌∷◌, ◌++◌, Some, refl, ap, subst, ◌∙◌, arith, ltb-true, byte_at, byte_small, ScalarType, Byte, Address, height_of, type_of, TypesHold, value, SourceState, Outcome, Gave, then_do, taking_one, Onward, values_of, Carry, NoCarry, Accumulate, AccumulateImmediate, Inx, Xchg, M, Compare, Subtract, SubtractWithBorrow, Hl, A, D, E, H, L, Registers, wrap, Jump, JumpWhere, ExpressionNumber, IsExpressionIn, Does, at_place, borrow_shows, Facts, LabelNumber, Step, no_facts, copy, high, low, with_register, plain, load_byte_steps, load_word_steps, knowing, whole, nodes_in, Know, effect, at_instructions, does_same, script_of, at_end, BodyContext}
+use Rattle.statement_laws.proofs.Prelude.{◌≡◌, ℕ, ◌+◌, ◌*◌, ◌/◌, ◌%◌, ◌<◌, ◌≤◌, Bool, true, false, not, nat_lt, if◌then◌else◌, List, [], ◌∷◌, ◌++◌, Some, refl, ap, ◌∙◌, arith, ltb-true, byte_at, byte_small, ScalarType, Byte, Address, height_of, type_of, TypesHold, value, SourceState, Outcome, Gave, then_do, taking_one, Onward, values_of, Carry, NoCarry, Accumulate, AccumulateImmediate, Inx, Xchg, M, Compare, Subtract, SubtractWithBorrow, Hl, A, D, E, H, L, Registers, wrap, Jump, JumpWhere, ExpressionNumber, IsExpressionIn, Does, at_place, borrow_shows, Facts, LabelNumber, Step, no_facts, copy, high, low, with_register, plain, load_byte_steps, load_word_steps, knowing, whole, nodes_in, Know, effect, at_instructions, does_same, script_of, at_end, BodyContext, next_word}
 use Rattle.steps8080.specs.declared.step.Step.TheVariants as steps
 use Rattle.steps8080.specs.declared.step.Task.TheVariants as tasks
 use Rattle.statement_laws.proofs.Loops.CountedBytes.{Goes}
@@ -7,10 +7,11 @@ use Rattle.statement_laws.proofs.Loops.CountedVariables.{variable_address, varia
 use Rattle.statement_laws.proofs.Loops.LoadedVariables.{byte_loaded, word_loaded}
 use Rattle.statement_laws.proofs.Loops.LoopCode.{Steps, address_step, address_then, jump_always, knowing_nothing}
 use Rattle.statement_laws.proofs.Loops.LoopMeaning.{counted_read, scalar_at, scalar_small}
-use Rattle.statement_laws.proofs.Loops.LoopRules.{HasTurns, address_of_variable_known, after_last, byte_comes, byte_known, from_test_is, if_not_above, next_word, not_above, operate_then, operated, pair_is_less, place_known, test_jumps, word_comes}
+use Rattle.statement_laws.proofs.Loops.LoopRules.{HasTurns, address_of_variable_known, after_last, byte_comes, byte_known, from_test_is, if_not_above, not_above, operate_then, operated, pair_is_less, place_known, test_jumps, word_comes}
 use Rattle.statement_laws.proofs.Loops.LoopTurns.{Loop, Out, StageAt, from_list, from_test, to_turn}
 use Rattle.statement_laws.proofs.Loops.SteadyReads.{steady_byte_read, steady_read}
 use Rattle.statement_laws.proofs.Loops.TestedLoops.{word_test, low_is, on_registers, other_way, shows}
+use Rattle.statement_laws.proofs.Numbers.{byte_is_small, whole_of_halves}
 
 -- the last value of a loop, as its code has it
 pub record HasLast {at : BodyContext} (loop : Loop at) (last : ExpressionNumber) : Type 0 where
@@ -22,12 +23,6 @@ pub record HasLast {at : BodyContext} (loop : Loop at) (last : ExpressionNumber)
 abbrev pub Enters : BodyContext → (facts turn_facts : Facts) → Type 0
 Enters at facts turn_facts =
     (r : Registers) (memory : List ℕ) → Know at.context facts r memory → Know at.context turn_facts r memory
-
-byte_itself : (n : ℕ) → n < 256 → n % 256 ≡ n
-byte_itself n small = omega (arith, small)
-
-whole_of : (h l n : ℕ) → h ≡ n / 256 → l ≡ n % 256 → 256 * h + l ≡ n
-whole_of h l n one two = omega (arith, one, two)
 
 never_above : (scalar : ScalarType) (n last : ℕ) → n < values_of scalar → values_of scalar ≤ last + 1 → last < n → ⊥
 never_above scalar n last small great above = omega (arith, small, great, above)
@@ -162,9 +157,6 @@ word_step number = steps.Part (record { task = tasks.Word number; pushed = 0 })
 pub kept_a : (a now n : ℕ) → now ≡ a → a ≡ n % 256 → n < 256 → now ≡ n
 kept_a a now n one two small = omega (arith, one, two, small)
 
-of_byte : (scalar : ScalarType) (n : ℕ) → scalar ≡ Byte → n < values_of scalar → n < 256
-of_byte scalar n same small = subst (λ (one : ScalarType). n < values_of one) same small
-
 -- a BYTE against a last value that is a BYTE
 pub byte_tests :
     {at : BodyContext} (loop : Loop at) (limit : ℕ) (last : ExpressionNumber) (turn : LabelNumber) (turn_facts : Facts)
@@ -187,7 +179,7 @@ byte_tests {at = at} loop limit last turn turn_facts t r memory turns has is_byt
     does_same _ (from_test_is loop Byte t turns.scalar_is)
     (byte_comes last (after_last loop Byte) t r memory has.is has.types has.fits stand stage
     (λ n u now memory_now known middle gave comes spent rest there.
-    let small = of_byte (type_of (loop.head).last) n is_byte comes.small in
+    let small = byte_is_small (type_of (loop.head).last) n is_byte comes.small in
     address_then counted turns.enough rest there
     (λ known_address place at_variable memory_then rest_of_code holds here.
     let number : ℕ = byte_at memory_then address in
@@ -253,7 +245,7 @@ byte_with_word_tests {at = at} loop limit last turn turn_facts t r memory turns 
     test_jumps loop limit turn turn_facts NoCarry n number u after memory_then turns
     (ap not (pair_is_less at_variable.d at_variable.e 0 number here.ready.registers.e
     (byte_small memory_then address here.ready.shares.is_memory) (omega arith)
-    ∙ ap (λ (m : ℕ). nat_lt m (256 * 0 + number)) (whole_of at_variable.d at_variable.e n d_is e_is)
+    ∙ ap (λ (m : ℕ). nat_lt m (256 * 0 + number)) (whole_of_halves at_variable.d at_variable.e n d_is e_is)
     ∙ ap (nat_lt n) (no_high number)))
     jump (omega (arith, spent, fewer)) compared
     (enters after memory_then (place_known counted after memory_then holds.hl)) goes))))))))
@@ -302,7 +294,7 @@ word_tests {at = at} loop limit last turn turn_facts {exchanged_facts = exchange
     (λ steady_again.
     test_jumps loop limit turn turn_facts NoCarry n number u after memory_then turns
     (ap not (pair_is_less in_hl.d in_hl.e in_hl.h in_hl.l here.ready.registers.e here.ready.registers.l here.ready.registers.h
-    ∙ ap (λ (m : ℕ). nat_lt m (256 * in_hl.h + in_hl.l)) (whole_of in_hl.d in_hl.e n d_is e_is)
+    ∙ ap (λ (m : ℕ). nat_lt m (256 * in_hl.h + in_hl.l)) (whole_of_halves in_hl.d in_hl.e n d_is e_is)
     ∙ ap (nat_lt n) (other_way in_hl.h in_hl.l (byte_at memory_then address) (byte_at memory_then (wrap (address + 1))) holds.low holds.high)))
     jump (omega (arith, spent, fewer)) compared
     (enters after memory_then
@@ -368,7 +360,7 @@ frame_word_tests {at = at} loop limit last turn turn_facts t r memory turns has 
     (ap not (pair_is_less at_variable.d at_variable.e high_number low_number here.ready.registers.e
     (byte_small memory_then address here.ready.shares.is_memory)
     (byte_small memory_then (wrap (address + 1)) here.ready.shares.is_memory)
-    ∙ ap (λ (m : ℕ). nat_lt m (256 * high_number + low_number)) (whole_of at_variable.d at_variable.e n d_is e_is)
+    ∙ ap (λ (m : ℕ). nat_lt m (256 * high_number + low_number)) (whole_of_halves at_variable.d at_variable.e n d_is e_is)
     ∙ ap (nat_lt n) (low_first low_number high_number)))
     jump (omega (arith, spent, fewer)) compared
     (enters after memory_then (knowing_nothing compared).known) goes)))))))))

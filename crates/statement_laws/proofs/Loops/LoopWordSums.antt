@@ -1,6 +1,6 @@
 -- The step of an iterative DO whose variable is an ADDRESS, where it is added: it comes into DE, and is added to the variable in
 -- memory.
-use Rattle.statement_laws.proofs.Prelude.{◌≡◌, ℕ, ◌+◌, ◌*◌, ◌/◌, ◌%◌, ◌<◌, ◌≤◌, List, [], ◌∷◌, Option, Some, None, refl, ap, ◌∙◌, arith, byte_at, Address, type_of, TypedExpression, next_turn, value, write_scalar, SourceState, Outcome, then_do, Flow, as_type, Carry, Dad, Xchg, De, Registers, carries, high_byte, low_byte, word, wrap, JumpWhere, LoadPair, StoreHl, ExpressionNumber, Place, location_at, place_at, Does, at_place, Facts, LabelNumber, Step, known, knowing, load_word_steps, whole, distances_in, NoneThere, WordThere, known_small, effect, ready_with_registers, word_goes, known_means, at_end, at_instructions, does_same, script_of, BodyContext, IsSoundBody}
+use Rattle.statement_laws.proofs.Prelude.{◌≡◌, ℕ, ◌+◌, ◌*◌, ◌/◌, ◌%◌, ◌<◌, ◌≤◌, List, [], ◌∷◌, Option, Some, None, refl, ap, ◌∙◌, arith, byte_at, Address, type_of, TypedExpression, next_turn, value, write_scalar, SourceState, Outcome, then_do, Flow, as_type, Carry, Dad, Xchg, De, Registers, carries, high_byte, low_byte, word, wrap, JumpWhere, LoadPair, StoreHl, ExpressionNumber, Place, location_at, place_at, Does, at_place, Facts, LabelNumber, Step, known, knowing, load_word_steps, whole, distances_in, NoneThere, WordThere, known_small, effect, ready_with_registers, word_goes, known_means, at_end, at_instructions, does_same, script_of, BodyContext, IsSoundBody, high_is_byte, value_is_word}
 use Rattle.treecode.specs.declared.place.Location.TheVariants as locations
 use Rattle.steps8080.specs.declared.step.Step.TheVariants as steps
 use Rattle.statement_laws.proofs.Loops.CountedBytes.{stays}
@@ -8,7 +8,7 @@ use Rattle.statement_laws.proofs.Loops.CountedVariables.{variable_address, varia
 use Rattle.statement_laws.proofs.Loops.LoadedVariables.{word_loaded}
 use Rattle.statement_laws.proofs.Loops.LoopCode.{Steps}
 use Rattle.statement_laws.proofs.Loops.LoopMeaning.{scalar_at, stepped_by, stepped_with}
-use Rattle.statement_laws.proofs.Loops.LoopRules.{Checks, checks_at, of_any_type, sum_jumps, word_comes}
+use Rattle.statement_laws.proofs.Loops.LoopRules.{Checks, checks_at, sum_jumps, word_comes}
 use Rattle.statement_laws.proofs.Loops.LoopSteps.{HasStep}
 use Rattle.statement_laws.proofs.Loops.LoopSums.{HasAdded}
 use Rattle.statement_laws.proofs.Loops.LoopTests.{word_step}
@@ -26,9 +26,6 @@ pub record ComesToDe (n : ℕ) (now : Registers) : Type 0 where
 abbrev pub to_de : (found : Option Place) → (step : ExpressionNumber) → List Step
 to_de (Some place) step = steps.Word (LoadPair De) place ∷ []
 to_de None step = word_step step ∷ steps.Plain Xchg ∷ []
-
-high_small : (n : ℕ) → n < 65536 → n / 256 < 256
-high_small n small = omega (arith, small)
 
 low_small : (n : ℕ) → n % 256 < 256
 low_small n = omega arith
@@ -50,7 +47,7 @@ pub comes_to_de :
     (then_do (value at.context.later at.context.activation.around tree s) go) (Out loop)
 comes_to_de {at = at} loop facts_of_site (Some place) step tree go s r memory sound has is (WordThere there NoneThere) stage next =
     let number : ℕ = place_at at.context.activation.layout place in
-    let small = of_any_type (type_of tree) number (known_small facts_of_site place sound.sound has.is has.types is) in
+    let small = value_is_word (type_of tree) number (known_small facts_of_site place sound.sound has.is has.types is) in
     let held = stage.ready.registers in
     let now : Registers = record r { d = high_byte number; e = low_byte number } in
     does_same _ (ap (λ (one : Outcome ℕ). then_do one go) (known_means facts_of_site place sound.sound has.is has.types is s))
@@ -65,7 +62,7 @@ comes_to_de {at = at} loop facts_of_site (Some place) step tree go s r memory so
             a = held.a;
             b = held.b;
             c = held.c;
-            d = high_small number small;
+            d = high_is_byte number small;
             e = low_small number;
             h = held.h;
             l = held.l;

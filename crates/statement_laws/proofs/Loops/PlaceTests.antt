@@ -1,5 +1,5 @@
 -- The test of an ADDRESS in memory against an ADDRESS at a place, which stays there.
-use Rattle.statement_laws.proofs.Prelude.{◌≡◌, ℕ, ◌+◌, ◌*◌, ◌/◌, ◌%◌, ◌≤◌, ◌⊎◌, inl, inr, false, not, nat_lt, List, [], ◌∷◌, Option, Some, None, refl, sym, ap, subst, ◌∙◌, arith, byte_at, byte_small, ScalarType, Byte, Address, value, SourceState, Outcome, Gave, NoCarry, Subtract, SubtractWithBorrow, H, L, subtract_of, Registers, wrap, JumpWhere, LoadA, Expression, ExpressionForm, ExpressionNumber, Place, place_after, IsSteady, place_at, Does, at_place, GoesOutside, Facts, LabelNumber, Step, no_facts, with_register, Site, direct, expression, option_and_then, direct_word, word_in_memory, word_of, knowing, load_word_steps, site_of, whole, test_steps, word_at, word_of_form, PlainThere, WordThere, WordAtPlace, words_at_places, read_then, at_a, at_load_a, does_same, script_of, BodyContext, IsSoundBody}
+use Rattle.statement_laws.proofs.Prelude.{◌≡◌, ℕ, ◌+◌, ◌*◌, ◌/◌, ◌%◌, ◌≤◌, ◌⊎◌, inl, inr, false, not, nat_lt, List, [], ◌∷◌, Option, Some, None, refl, sym, ap, subst, ◌∙◌, arith, byte_at, byte_small, ScalarType, Byte, Address, value, SourceState, Outcome, Gave, NoCarry, Subtract, SubtractWithBorrow, H, L, subtract_of, Registers, wrap, JumpWhere, LoadA, Expression, ExpressionForm, ExpressionNumber, Place, place_after, IsSteady, place_at, Does, at_place, GoesOutside, Facts, LabelNumber, Step, no_facts, with_register, Site, direct, expression, option_and_then, direct_word, word_in_memory, word_of, knowing, load_word_steps, site_of, whole, test_steps, word_at, word_of_form, PlainThere, WordThere, WordAtPlace, words_at_places, read_then, at_a, at_load_a, does_same, script_of, BodyContext, IsSoundBody, same_given}
 use Rattle.treecode.specs.declared.expression.ExpressionForm.TheVariants as forms
 use Rattle.steps8080.specs.declared.step.Step.TheVariants as steps
 use Rattle.statement_laws.proofs.Loops.CountedBytes.{Goes}
@@ -23,9 +23,6 @@ place_compare place turn =
     steps.Word LoadA place ∷ steps.Plain (with_register Subtract L)
     ∷ steps.Word LoadA (place_after place 1) ∷ steps.Plain (with_register SubtractWithBorrow H)
     ∷ steps.Jump (JumpWhere NoCarry) turn ∷ []
-
-same_number : {one other : ℕ} {t u : SourceState} → Gave one t ≡ Gave other u → one ≡ other
-same_number same = cc
 
 halves_of : (high low n : ℕ) → n % 256 ≡ low → n / 256 ≡ high → 256 * high + low ≡ n
 halves_of high low n one two = omega (arith, one, two)
@@ -118,7 +115,7 @@ place_tests {at = at} loop limit last turn turn_facts site_facts place {loaded =
         → WordAtPlace at.context place memory_then t outcome ⊎ GoesOutside outcome
         → Does (script_of at.context) t.budget 0 (at_place middle in_hl memory_then t.events) (after_last loop Address n t) (Out loop)
     by n gave steady steady_too in_hl memory_then low high there (inl read) =
-        let same : read.found ≡ n = same_number (sym read.is ∙ gave) in
+        let same : read.found ≡ n = same_given (sym read.is ∙ gave) in
         compared_with_place loop limit n turn turn_facts place t in_hl memory_then turns
         (sym (ap (λ (m : ℕ). m % 256) same) ∙ read.low) (sym (ap (λ (m : ℕ). m / 256) same) ∙ read.high)
         read.low_steady read.high_steady low high steady steady_too stand enters fewer there goes

@@ -1,5 +1,5 @@
 -- A BYTE is tested before the first turn of a loop to a known value.
-use Rattle.statement_laws.proofs.Prelude.{◌≡◌, ℕ, ◌+◌, ◌*◌, ◌/◌, ◌%◌, ◌<◌, ◌≤◌, Bool, true, false, not, nat_lt, if◌then◌else◌, List, [], ◌∷◌, ◌++◌, refl, sym, ap, ◌∙◌, arith, ltb-true, ltb-false, byte_at, ScalarType, Byte, Address, read_scalar, SourceState, Outcome, Gave, then_do, taking_one, Onward, NoCarry, AccumulateImmediate, Compare, Subtract, SubtractWithBorrow, Registers, holds, wrap, AtLabel, JumpWhere, Does, at_place, word_step, after_step, borrow_shows, Facts, LabelNumber, Step, no_facts, copy, high, low, plain, Instr, A, H, L, load_byte_steps, load_word_steps, knowing, whole, JumpThere, NoneThere, Know, AreOnRegisters, effect, at_instructions, does_same, script_of, BodyContext, IsSoundBody}
+use Rattle.statement_laws.proofs.Prelude.{◌≡◌, ℕ, ◌+◌, ◌*◌, ◌/◌, ◌%◌, ◌<◌, ◌≤◌, Bool, true, false, nat_lt, if◌then◌else◌, List, [], ◌∷◌, ◌++◌, refl, sym, ap, ◌∙◌, arith, ltb-true, ltb-false, byte_at, ScalarType, Byte, Address, read_scalar, SourceState, Outcome, Gave, then_do, taking_one, Onward, NoCarry, AccumulateImmediate, Compare, Subtract, SubtractWithBorrow, Registers, holds, wrap, AtLabel, JumpWhere, Does, at_place, word_step, after_step, borrow_shows, Facts, LabelNumber, Step, no_facts, copy, high, low, plain, Instr, A, H, L, load_byte_steps, load_word_steps, knowing, whole, JumpThere, NoneThere, Know, AreOnRegisters, effect, at_instructions, does_same, script_of, BodyContext, IsSoundBody, not-false, not-true}
 use Rattle.steps8080.specs.declared.step.Step.TheVariants as steps
 use Rattle.statement_laws.proofs.Loops.CountedVariables.{IsCounted, variable_address, variable_place}
 use Rattle.statement_laws.proofs.Loops.KnownLoops.{ToKnown}
@@ -18,14 +18,6 @@ first_test last end =
 
 pub low_is : (n : ℕ) → n < 255 → (n + 1) % 256 ≡ n + 1
 low_is n less = omega (arith, less)
-
-taken_is : (b : Bool) → not b ≡ true → b ≡ false
-taken_is false same = refl
-taken_is true same = sym same
-
-passed_is : (b : Bool) → not b ≡ false → b ≡ true
-passed_is true same = refl
-passed_is false same = sym same
 
 -- what the jump of the test comes to
 jump_tests :
@@ -63,13 +55,13 @@ jump_tests {at = at} loop scalar last from _ end turn_facts {facts = facts} u r 
     by : (jumps : Bool) → holds NoCarry r.flags ≡ jumps
         → Does (script_of at.context) u.budget 0 (at_place from r memory u.events) (from_test loop u) (Out loop)
     by true is =
-        let past = ltb-false number (last + 1) (sym flag ∙ taken_is r.flags.cy is) in
+        let past = ltb-false number (last + 1) (sym flag ∙ not-true r.flags.cy is) in
         tested loop scalar last u sound to_known.scalar_is (to_known.last_is u) counted stage.ready
         (λ above steady.
         after_step (step true is ∙ ap (λ (n : ℕ). at_place n r memory u.events) end_is) (ends r memory (knowing_nothing stage)))
         (λ fine steady. let not_above = ltb-false last number fine in absurd (omega (arith, past, not_above)))
     by false is =
-        let less = ltb-true number (last + 1) (sym flag ∙ passed_is r.flags.cy is) in
+        let less = ltb-true number (last + 1) (sym flag ∙ not-false r.flags.cy is) in
         tested loop scalar last u sound to_known.scalar_is (to_known.last_is u) counted stage.ready
         (λ above steady. let is_above = ltb-true last number above in absurd (omega (arith, less, is_above)))
         (λ fine steady.

@@ -1,5 +1,5 @@
 -- An iterative DO that counts by 1 to a known last value does what it says.
-use Rattle.statement_laws.proofs.Prelude.{◌≡◌, ℕ, ◌+◌, ◌%◌, ◌<◌, ◌≤◌, Bool, true, false, not, ◌&&◌, ◌||◌, if◌then◌else◌, is_some, nat_eq, nat_le, List, [], ◌∷◌, ◌++◌, Some, None, refl, sym, ap, subst, ◌∙◌, arith, eqb-true, leb-true, leb-false, same_Some, IsMemory, ScalarType, Byte, Address, SourceState, Gave, Onward, values_of, NoCarry, Registers, JumpWhere, Range, Location, Iteration, IsReady, Does, at_place, Facts, LabelNumber, no_facts, label_of, plain, number, place_in_memory, knowing, Counter, Planned, whole, address_fact, counter_of, counter_place, counts_by_one, word_fact, asked_mark, asked_test_steps, below_steps, counts_in_place, facts_of_turn, first_test_steps, is_byte_type, next_turn_steps, to_known_steps, all, jump, nth_label, load_byte_steps, load_word_steps, site_of, Know, script_of, BodyContext}
+use Rattle.statement_laws.proofs.Prelude.{◌≡◌, ℕ, ◌+◌, ◌%◌, ◌<◌, ◌≤◌, Bool, true, false, not, ◌&&◌, ◌||◌, if◌then◌else◌, is_some, nat_eq, nat_le, List, [], ◌∷◌, ◌++◌, Some, None, refl, sym, ap, subst, ◌∙◌, arith, eqb-true, leb-true, leb-false, same_Some, IsMemory, ScalarType, Byte, Address, SourceState, Gave, Onward, values_of, NoCarry, Registers, JumpWhere, Range, Location, Iteration, IsReady, Does, at_place, Facts, LabelNumber, no_facts, label_of, plain, number, place_in_memory, knowing, Counter, Planned, whole, address_fact, counter_of, counter_place, counts_by_one, word_fact, asked_mark, asked_test_steps, below_steps, counts_in_place, facts_of_turn, first_test_steps, is_byte_type, next_turn_steps, to_known_steps, all, jump, nth_label, load_byte_steps, load_word_steps, site_of, Know, script_of, BodyContext, and_parts}
 use Rattle.treecode.specs.declared.place.Location.TheVariants as locations
 use Rattle.steps8080.specs.declared.step.Step.TheVariants as steps
 use Rattle.statements8080.specs.declared.plan.Planned.TheVariants as planned
@@ -76,11 +76,6 @@ end_is :
 end_is loop end turn facts place u there is less now memory_now stage =
     goes_at_end loop loop.budget no_facts loop.to (there.after is) refl u now memory_now less stage
 
-both : (one other : Bool) → (one && other) ≡ true → (one ≡ true) × (other ≡ true)
-both true true is = (refl, refl)
-both true false is = let never : ⊥ = cc in absurd never
-both false other is = let never : ⊥ = cc in absurd never
-
 below_least : (n last : ℕ) → n < 256 → 255 ≤ last → n ≤ last
 below_least n last small great = omega (arith, small, great)
 
@@ -118,7 +113,7 @@ module _
     parts_in_place :
         ((is_byte_type head.scalar || is_some (counter_place (counter_of (knowing (site_of at.body) facts) head))) ≡ true)
         × (counts_by_one (knowing (site_of at.body) facts) head.step ≡ true)
-    parts_in_place = both _ _ in_place
+    parts_in_place = and_parts _ _ in_place
 
     to_known : (scalar : ScalarType) → (loop.head).scalar ≡ scalar → ToKnown loop scalar last
     to_known scalar same = to_known_is loop head list facts scalar last iterates same last_is parts_in_place.1

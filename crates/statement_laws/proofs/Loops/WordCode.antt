@@ -1,5 +1,5 @@
 -- What code of loops does that comes to a store of the ADDRESS in HL, and to a comparison of it with a number.
-use Rattle.statement_laws.proofs.Prelude.{◌≡◌, ◌≢◌, ℕ, ◌+◌, ◌*◌, ◌/◌, ◌%◌, ◌<◌, Bool, false, nat_lt, List, ◌∷◌, length, slice_set, sym, ap, subst, ◌∙◌, arith, length-set, MEMORY_SIZE, byte_at, Event, Address, SourcePlace, write_scalar, SourceState, Outcome, then_do, subtract_of, bit, Registers, State, high_byte, low_byte, word, wrap, StoreHl, byte_kept, byte_put, Place, Does, at_place, borrow_shows, borrow_shows_more, word_borrow, IsSteadyByte, place_at, Facts, Step, after_word, Context, IsSound, WordThere, address_on_machine, FitsIn, word_goes, Stage, script_of, word_written}
+use Rattle.statement_laws.proofs.Prelude.{◌≡◌, ℕ, ◌+◌, ◌*◌, ◌/◌, ◌%◌, ◌<◌, Bool, false, nat_lt, List, ◌∷◌, length, slice_set, sym, ap, subst, ◌∙◌, arith, length-set, MEMORY_SIZE, byte_at, Event, Address, SourcePlace, write_scalar, SourceState, Outcome, then_do, subtract_of, bit, Registers, State, high_byte, low_byte, word, wrap, StoreHl, byte_kept, byte_put, Place, Does, at_place, borrow_shows, borrow_shows_more, word_borrow, IsSteadyByte, place_at, Facts, Step, after_word, Context, IsSound, WordThere, address_on_machine, FitsIn, word_goes, Stage, script_of, word_written, differs_from_next, halves_joined, high_of_halves, low_of_halves}
 use Rattle.steps8080.specs.declared.step.Step.TheVariants as steps
 use Rattle.statement_laws.proofs.Loops.LoopCode.{Steps}
 use Rattle.statement_laws.proofs.Loops.LoopMeaning.{scalar_at}
@@ -7,9 +7,6 @@ use Rattle.statement_laws.proofs.Loops.LoopMeaning.{scalar_at}
 -- a memory with a word put at an address
 abbrev pub with_word : (memory : List ℕ) → (address number : ℕ) → List ℕ
 with_word memory address number = slice_set (slice_set memory address (number % 256)) (wrap (address + 1)) (number / 256)
-
-differ : (address : ℕ) → address < MEMORY_SIZE → address ≢ wrap (address + 1)
-differ address small same = omega (arith, small, same)
 
 both_halves : (low high number : ℕ) → low ≡ number % 256 → high ≡ number / 256 → low + 256 * high ≡ number
 both_halves low high number one two = omega (arith, one, two)
@@ -25,15 +22,9 @@ word_put memory address number size small small_too =
     let long = length-set memory address (number % 256) in
     both_halves (byte_at (with_word memory address number) address)
     (byte_at (with_word memory address number) (wrap (address + 1))) number
-    (byte_kept first (wrap (address + 1)) address (number / 256) (differ address small)
+    (byte_kept first (wrap (address + 1)) address (number / 256) (differs_from_next address small)
     ∙ byte_put memory address (number % 256) (omega (arith, size, small)))
     (byte_put first (wrap (address + 1)) (number / 256) (omega (arith, long, size, small_too)))
-
-low_part : (h l number : ℕ) → h ≡ number / 256 → l ≡ number % 256 → number % 256 ≡ low_byte (word h l)
-low_part h l number one two = omega (arith, one, two)
-
-high_part : (h l number : ℕ) → h ≡ number / 256 → l ≡ number % 256 → number / 256 ≡ high_byte (word h l)
-high_part h l number one two = omega (arith, one, two)
 
 -- SHLD at the place of an ADDRESS
 pub shld_then :
@@ -66,8 +57,8 @@ shld_then {context = context} {top = top} {need = need} {more = more} {from = fr
     let left : List ℕ = with_word memory own number in
     let same : slice_set (slice_set memory address (low_byte (word r.h r.l))) (wrap (address + 1)) (high_byte (word r.h r.l)) ≡ left =
     sym (ap (λ (n : ℕ). slice_set (slice_set memory n (number % 256)) (wrap (n + 1)) (number / 256)) is_at
-    ∙ ap (λ (n : ℕ). slice_set (slice_set memory address n) (wrap (address + 1)) (number / 256)) (low_part r.h r.l number h l)
-    ∙ ap (λ (n : ℕ). slice_set (slice_set memory address (low_byte (word r.h r.l))) (wrap (address + 1)) n) (high_part r.h r.l number h l)) in
+    ∙ ap (λ (n : ℕ). slice_set (slice_set memory address n) (wrap (address + 1)) (number / 256)) (low_of_halves r.h r.l number h l)
+    ∙ ap (λ (n : ℕ). slice_set (slice_set memory address (low_byte (word r.h r.l))) (wrap (address + 1)) n) (high_of_halves r.h r.l number h l)) in
     word_written place number t go sound small stage.ready fits
     (λ u events_same budget_same steady steady_too ready.
     word_goes StoreHl static r r left sound there (record { ready = stage.ready; known = stage.known }) (
@@ -86,9 +77,6 @@ shld_then {context = context} {top = top} {need = need} {more = more} {from = fr
       known = known;
     })))))
 
-in_halves : (n : ℕ) → 256 * (n / 256) + n % 256 ≡ n
-in_halves n = omega arith
-
 -- the borrow of a word that is compared byte by byte
 pub word_is_less : (h l n : ℕ) → l < 256 → n < 65536
     → (subtract_of h (n / 256) (subtract_of l (n % 256) false).flags.cy).flags.cy ≡ nat_lt (256 * h + l) n
@@ -96,4 +84,4 @@ word_is_less h l n low small =
     borrow_shows_more h (n / 256) (subtract_of l (n % 256) false).flags.cy (omega (arith, small))
     ∙ ap (λ (borrow : Bool). nat_lt h (n / 256 + bit borrow)) (borrow_shows l (n % 256) (omega arith))
     ∙ word_borrow h l (n / 256) (n % 256) low (omega arith)
-    ∙ ap (nat_lt (256 * h + l)) (in_halves n)
+    ∙ ap (nat_lt (256 * h + l)) (halves_joined n)

@@ -1,5 +1,5 @@
 -- The call of the routine of MOVE.
-use Rattle.statement_laws.proofs.Prelude.{◌≡◌, ℕ, ◌+◌, ◌-◌, ◌<◌, ◌≤◌, true, List, [], ◌∷◌, refl, sym, ap, subst, ◌∙◌, arith, MEMORY_SIZE, IsIn, is_declared, SourceState, Outcome, Gave, then_do, Call, bytes_of, Registers, State, word, wrap, CallTo, InstructionStands, Keeps, below, Move, BlockMisses, HasReturned, IsInBlock, Returns, copied, moved, IsReady, IsVariable, Does, Lands, Told, at_place, told_on, stands_now, no_facts_hold, bytes_alike, stands_in, Facts, CallRoutine, no_facts, jump_item, label_of_routine, Context, IsSound, RoutineIsAt, RoutineThere, NoneThere, in_memory, machine_is, ready_after_routine, small, twice_wrapped, wrapped_once, bytes_at_place, Stage, does_same, script_of}
+use Rattle.statement_laws.proofs.Prelude.{◌≡◌, ℕ, ◌+◌, ◌-◌, ◌<◌, ◌≤◌, true, List, [], ◌∷◌, refl, sym, ap, subst, ◌∙◌, arith, MEMORY_SIZE, IsIn, is_declared, SourceState, Outcome, Gave, then_do, Call, bytes_of, Registers, State, word, wrap, CallTo, InstructionStands, Keeps, below, Move, BlockMisses, HasReturned, IsInBlock, Returns, copied, moved, IsReady, IsVariable, Does, Lands, Told, at_place, told_on, stands_now, no_facts_hold, bytes_alike, stands_in, Facts, CallRoutine, no_facts, jump_item, label_of_routine, Context, IsSound, RoutineIsAt, RoutineThere, NoneThere, in_memory, machine_is, ready_after_routine, twice_wrapped, bytes_at_place, Stage, does_same, script_of, wrapped_once, wrapped_small}
 use Rattle.mem80.specs.declared.range.Range.{Range}
 use Rattle.statement_laws.proofs.Loops.LoopCode.{Steps}
 use Rattle.statement_laws.proofs.Moves.MovedBlocks.{Moved, MovesAll, MovesOutside, copied_ready, declared_in_block, moved_is, variable_in_block}
@@ -90,7 +90,7 @@ move_then {context = context} {top = top} {pushed = pushed} {need = need} {from 
         fits least here ready.shares.code found.stands)
         (record {
           running = refl;
-          place = small from;
+          place = wrapped_small from;
           registers = bytes_at_place (wrap from) r ready.registers;
           memory = ready.shares.is_memory;
           call = call;

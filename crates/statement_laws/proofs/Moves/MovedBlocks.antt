@@ -1,5 +1,5 @@
 -- The bytes that MOVE copies: the source goes outside, or all of them are declared, and those that it writes variables.
-use Rattle.statement_laws.proofs.Prelude.{◌≡◌, ℕ, zero, suc, ◌+◌, ◌<◌, Bool, true, false, if◌then◌else◌, List, slice_set, refl, ap, subst, ◌∙◌, arith, MEMORY_SIZE, byte_at, byte_small, Reason, UndeclaredByte, Constant, is_constant, is_declared, moved, Program, SourceState, Outside, Outcome, Gave, Stopped, then_do, Registers, wrap, copied, Activation, IsReady, IsVariable, LiesWell, ready_with_variable}
+use Rattle.statement_laws.proofs.Prelude.{◌≡◌, ℕ, zero, suc, ◌+◌, ◌<◌, Bool, true, false, if◌then◌else◌, List, slice_set, refl, ap, subst, ◌∙◌, arith, byte_at, byte_small, Reason, UndeclaredByte, Constant, is_constant, is_declared, moved, Program, SourceState, Outside, Outcome, Gave, Stopped, then_do, Registers, wrap, copied, Activation, IsReady, IsVariable, LiesWell, ready_with_variable, one_moved, wrapped_small}
 
 -- all bytes of a block are declared
 abbrev pub AreDeclared : Program → (count source : ℕ) → Type 0
@@ -93,9 +93,6 @@ moved_is program (suc count) source destination s =
         MovesAll (one_more program count source destination s one_is (two_is, three_is) ∙ same)
         (one_is, declared) ((two_is, three_is), variables)
 
-wrapped_small : (n : ℕ) → wrap n < MEMORY_SIZE
-wrapped_small n = omega arith
-
 -- an activation stays ready while both copy
 pub copied_ready :
     (activation : Activation) (top : ℕ) (base : List ℕ) (frame : List (List ℕ)) (r : Registers)
@@ -123,11 +120,8 @@ declared_in_block program zero source k less declared = absurd (omega (arith, le
 declared_in_block program (suc count) source zero less declared =
     subst (λ (n : ℕ). is_declared program (wrap n) ≡ true) (omega arith) declared.0
 declared_in_block program (suc count) source (suc k) less declared =
-    subst (λ (n : ℕ). is_declared program (wrap n) ≡ true) (next source k)
+    subst (λ (n : ℕ). is_declared program (wrap n) ≡ true) (one_moved source k)
     (declared_in_block program count (source + 1) k (omega (arith, less)) declared.1)
-  where
-    next : (a b : ℕ) → a + 1 + b ≡ a + suc b
-    next a b = omega arith
 
 pub variable_in_block :
     (program : Program) (count destination k : ℕ) → k < count → AreVariables program count destination
@@ -136,8 +130,5 @@ variable_in_block program zero destination k less variables = absurd (omega (ari
 variable_in_block program (suc count) destination zero less variables =
     subst (λ (n : ℕ). IsVariable program (wrap n)) (omega arith) variables.0
 variable_in_block program (suc count) destination (suc k) less variables =
-    subst (λ (n : ℕ). IsVariable program (wrap n)) (next destination k)
+    subst (λ (n : ℕ). IsVariable program (wrap n)) (one_moved destination k)
     (variable_in_block program count (destination + 1) k (omega (arith, less)) variables.1)
-  where
-    next : (a b : ℕ) → a + 1 + b ≡ a + suc b
-    next a b = omega arith

@@ -1,5 +1,5 @@
 -- Code of CALL MOVE does what it says.
-use Rattle.statement_laws.proofs.Prelude.{◌≡◌, ℕ, ◌+◌, ◌-◌, ◌*◌, ◌/◌, ◌%◌, ◌<◌, ◌≤◌, min, max, Bool, true, false, if◌then◌else◌, List, [], ◌∷◌, ◌++◌, map, slice_get, Option, Some, None, refl, sym, ap, subst, ◌∙◌, arith, same_Some, ScalarType, Address, height_of, height_of_statement, type_of, TypedExpression, TypedStatement, MoveStatement, HasType, TypesHoldIn, done, moved, SourceState, Outcome, Gave, then_do, Flow, Onward, values_of, Pop, Push, Xchg, Bc, De, StackBc, StackDe, StackHl, Registers, State, high_byte, low_byte, with_popped, word, wrap, LoadPair, Move, ExpressionNumber, Place, Statement, StatementNumber, IsExpressionIn, IsMove, IsStatementForm, IsStatementNode, pushed_word, Does, at_place, gives, place_at, Facts, Step, Site, keeps, known, expression, knowing, Planned, ends_steps, move_steps, Here, statement_steps, Context, IsSound, nodes_in, PartThere, PlainThere, WordThere, NoneThere, WordIsGiven, known_small, ready_with_registers, word_goes, known_means, value_in, Stage, at_instructions, at_pop, at_push, at_word, does_same, script_of, BodyContext, IsSoundBody, Leaves, StatementDoes, StatementStands}
+use Rattle.statement_laws.proofs.Prelude.{◌≡◌, ℕ, ◌+◌, ◌-◌, ◌*◌, ◌/◌, ◌%◌, ◌<◌, ◌≤◌, min, max, Bool, true, false, if◌then◌else◌, List, [], ◌∷◌, ◌++◌, map, slice_get, Option, Some, None, refl, sym, ap, subst, ◌∙◌, arith, same_Some, ScalarType, Address, height_of, height_of_statement, type_of, TypedExpression, TypedStatement, MoveStatement, HasType, TypesHoldIn, done, moved, SourceState, Outcome, Gave, then_do, Flow, Onward, values_of, Pop, Push, Xchg, Bc, De, StackBc, StackDe, StackHl, Registers, State, high_byte, low_byte, with_popped, word, wrap, LoadPair, Move, ExpressionNumber, Place, Statement, StatementNumber, IsExpressionIn, IsMove, IsStatementForm, IsStatementNode, pushed_word, Does, at_place, gives, place_at, Facts, Step, Site, keeps, known, expression, knowing, Planned, ends_steps, move_steps, Here, statement_steps, Context, IsSound, nodes_in, PartThere, PlainThere, WordThere, NoneThere, WordIsGiven, known_small, ready_with_registers, word_goes, known_means, value_in, Stage, at_instructions, at_pop, at_push, at_word, does_same, script_of, BodyContext, IsSoundBody, Leaves, StatementDoes, StatementStands, word_from_halves, low_byte_small}
 use Rattle.treecode.specs.declared.statement.Statement.TheVariants as statements
 use Rattle.steps8080.specs.declared.step.Step.TheVariants as steps
 use Rattle.steps8080.specs.declared.step.Task.TheVariants as tasks
@@ -52,9 +52,6 @@ pub record IsIn (value high low : ℕ) : Type 0 where
   pub high_is : high ≡ value / 256
   pub low_is : low ≡ value % 256
 
-back : (value high low : ℕ) → high ≡ value / 256 → low ≡ value % 256 → word high low ≡ value
-back value high low one two = omega (arith, one, two)
-
 is_word : (tree : TypedExpression) (found : ℕ) → type_of tree ≡ Address → found < values_of (type_of tree) → found < 65536
 is_word tree found same small = subst (λ (scalar : ScalarType). found < values_of scalar) same small
 
@@ -100,7 +97,7 @@ push_hl :
     (at_place (from + 1) (record r { sp = wrap (top - 2) }) (pushed_word top value memory) t.events) outcome Good)
     → Does (script_of context) t.budget 0 (at_place from r memory t.events) outcome Good
 push_hl {r = r} value sound in_hl enough (PlainThere there rest) stage next =
-    at_push value (back value r.h r.l in_hl.high_is in_hl.low_is) sound enough stage there (λ pushed_stage. next rest pushed_stage)
+    at_push value (word_from_halves value r.h r.l in_hl.high_is in_hl.low_is) sound enough stage there (λ pushed_stage. next rest pushed_stage)
 
 -- what was pushed comes into DE
 pop_de :
@@ -143,9 +140,6 @@ pop_bc value sound small enough start (PlainThere there rest) stage next =
 known_word : (n : ℕ) → n < 65536 → high_byte n < 256
 known_word n small = omega (arith, small)
 
-low_is_byte : (n : ℕ) → low_byte n < 256
-low_is_byte n = omega arith
-
 -- a known word comes into DE
 de_loaded :
     {A : Type 0} {context : Context} {top pushed need from to : ℕ} {base : List ℕ} {t : SourceState} {facts last : Facts}
@@ -168,7 +162,7 @@ de_loaded {context = context} {r = r} {memory = memory} place sound small (WordT
       below = stage.below;
       room = stage.room;
       ready = ready_with_registers refl
-          (record { a = held.a; b = held.b; c = held.c; d = known_word number small; e = low_is_byte number; h = held.h; l = held.l }) stage.ready;
+          (record { a = held.a; b = held.b; c = held.c; d = known_word number small; e = low_byte_small number; h = held.h; l = held.l }) stage.ready;
       known = known;
     }))
 
@@ -195,7 +189,7 @@ bc_loaded {context = context} {r = r} {memory = memory} place sound small (WordT
       below = stage.below;
       room = stage.room;
       ready = ready_with_registers refl
-          (record { a = held.a; b = known_word number small; c = low_is_byte number; d = held.d; e = held.e; h = held.h; l = held.l }) stage.ready;
+          (record { a = held.a; b = known_word number small; c = low_byte_small number; d = held.d; e = held.e; h = held.h; l = held.l }) stage.ready;
       known = known;
     }))
 
@@ -390,9 +384,9 @@ move_by {at = at} {base = base} {to = to} {need = need} {after = after} {before 
         (is_word bytes number parts.count_types.1 (known_small before here sound parts.count_is parts.count_types.0 is)) call.first there
         (λ last_one known same rest loaded.
         move_then number a b (λ _ w. Gave Onward w) sound (omega (arith, destination_fits))
-        (back number last_one.b last_one.c (ap (λ (r : Registers). r.b) same) (ap (λ (r : Registers). r.c) same))
-        (back a last_one.d last_one.e (ap (λ (r : Registers). r.d) same ∙ in_de.high_is) (ap (λ (r : Registers). r.e) same ∙ in_de.low_is))
-        (back b last_one.h last_one.l (ap (λ (r : Registers). r.h) same ∙ in_hl.high_is) (ap (λ (r : Registers). r.l) same ∙ in_hl.low_is))
+        (word_from_halves number last_one.b last_one.c (ap (λ (r : Registers). r.b) same) (ap (λ (r : Registers). r.c) same))
+        (word_from_halves a last_one.d last_one.e (ap (λ (r : Registers). r.d) same ∙ in_de.high_is) (ap (λ (r : Registers). r.e) same ∙ in_de.low_is))
+        (word_from_halves b last_one.h last_one.l (ap (λ (r : Registers). r.h) same ∙ in_hl.high_is) (ap (λ (r : Registers). r.l) same ∙ in_hl.low_is))
         rest loaded
         (λ u ended memory_ended done. move_ends u ended memory_ended call.rest done))))
     by None is stand =
@@ -425,9 +419,9 @@ move_by {at = at} {base = base} {to = to} {need = need} {after = after} {before 
         (λ found rest_last done.
         let now_last : Registers = record (with_popped StackBc n last_one) { sp = wrap at.context.activation.level } in
         move_then n a b (λ _ w. Gave Onward w) sound (omega (arith, count_fits))
-        (back n now_last.b now_last.c refl refl)
-        (back a now_last.d now_last.e in_de.high_is in_de.low_is)
-        (back b now_last.h now_last.l in_hl_too.high_is in_hl_too.low_is)
+        (word_from_halves n now_last.b now_last.c refl refl)
+        (word_from_halves a now_last.d now_last.e in_de.high_is in_de.low_is)
+        (word_from_halves b now_last.h now_last.l in_hl_too.high_is in_hl_too.low_is)
         rest_last done
         (λ u ended memory_ended finished. move_ends u ended memory_ended call.rest finished)))))
 

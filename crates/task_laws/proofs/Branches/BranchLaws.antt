@@ -1,5 +1,5 @@
 -- The code of jumps on a condition does what the condition means.
-use Rattle.task_laws.proofs.Prelude.{◌≡◌, ℕ, zero, suc, ◌+◌, ◌-◌, ◌*◌, ◌/◌, ◌%◌, ◌<◌, ◌≤◌, ◌==◌, Bool, true, false, not, ◌&&◌, List, [], ◌∷◌, ◌++◌, Option, Some, None, max, bit_and, bit_or, refl, sym, ap, ◌∙◌, subst, arith, if◌then◌else◌, false≢true, none-some, same_Some, and_comm, or_comm, ScalarType, BinaryOperator, Not, Negate, Low, High, Double, height_of, type_of, TypedExpression, BinaryNode, TypesHold, computed, SourceState, Outcome, Gave, then_do, as_type, is_true, result_of, result_of_one, truth, values_of, Registers, Expression, ExpressionForm, ExpressionNumber, IsExpression, IsForm, IsNumber, IsValue, IsLocation, IsConstantList, IsConversion, IsEmbedded, IsUnary, IsBinary, IsCallOf, IsFunction, IsShift, IsInput, Facts, LabelNumber, Step, Does, at_place, Comparison, Question, LeftBelow, RightBelow, Equal, Between, Relation, Site, expression, is_quiet, number, agree, question_of, relation_of, fits_byte, SameAs, Opposite, Whatever, Joined, Other, branch_setting, branch_steps, by_bit_steps, equality_steps, is_odd, outcome_branch_steps, shape_of, shape_of_form, shape_steps, other_steps, relation_outcome, relation_steps, equality_of_words, low_difference_steps, words_asked, words_of, words_steps, knowing, jumps_once, Context, IsSound, nodes_in, StepsStand, PartThere, BranchDoes, Parts, PartDoes, in_order}
+use Rattle.task_laws.proofs.Prelude.{◌≡◌, ℕ, zero, suc, ◌+◌, ◌-◌, ◌*◌, ◌/◌, ◌%◌, ◌<◌, ◌≤◌, ◌==◌, Bool, true, false, not, ◌&&◌, List, [], ◌∷◌, ◌++◌, Option, Some, None, max, bit_and, bit_or, refl, sym, ap, ◌∙◌, subst, arith, if◌then◌else◌, false≢true, none-some, same_Some, and_comm, or_comm, ScalarType, BinaryOperator, Not, Negate, Low, High, Double, height_of, type_of, TypedExpression, BinaryNode, TypesHold, computed, SourceState, Outcome, Gave, then_do, as_type, is_true, result_of, result_of_one, truth, values_of, Registers, Expression, ExpressionForm, ExpressionNumber, IsExpression, IsForm, IsNumber, IsValue, IsLocation, IsConstantList, IsConversion, IsEmbedded, IsUnary, IsBinary, IsCallOf, IsFunction, IsShift, IsInput, Facts, LabelNumber, Step, Does, at_place, Comparison, Question, LeftBelow, RightBelow, Equal, Between, Relation, Site, expression, is_quiet, number, agree, question_of, relation_of, fits_byte, SameAs, Opposite, Whatever, Joined, Other, branch_setting, branch_steps, by_bit_steps, equality_steps, is_odd, outcome_branch_steps, shape_of, shape_of_form, shape_steps, other_steps, relation_outcome, relation_steps, equality_of_words, low_difference_steps, words_asked, words_of, words_steps, knowing, jumps_once, Context, IsSound, nodes_in, StepsStand, PartThere, BranchDoes, Parts, PartDoes, in_order, not-not}
 use Rattle.trees.specs.declared.declaration.ScalarType.TheVariants as scalars
 use Rattle.trees.specs.declared.expression.BinaryOperator.TheVariants as operators
 use Rattle.operands8080.specs.{declared.branches.Branch.{Branch}, declared.branches.Shape.TheVariants.{Known}}
@@ -16,6 +16,7 @@ use Rattle.task_laws.proofs.Machine.Nodes.{node_of}
 use Rattle.task_laws.proofs.Relations.Relations.{IsRelation, Relates, between, between_is, in_order_of, relation_is}
 use Rattle.task_laws.proofs.Machine.SiteNodes.{number_means, quiet_means, value_in}
 use Rattle.task_laws.proofs.Machine.Stages.{Stage, at_effects, does_same, script_of}
+use Rattle.task_laws.proofs.Agreement.{agreeing, disagreeing}
 
 abbrev IsByteType : ScalarType → Type 0
 IsByteType scalars.Byte = Unit {0}
@@ -85,22 +86,6 @@ between_asked :
 unfolding equality_of_words
 between_asked site left right operands question holds_if comparison is =
     equality_asked site left right operands question comparison is
-
-agreeing : (one other : Bool) → agree one other ≡ true → one ≡ other
-agreeing true true same = refl
-agreeing false false same = refl
-agreeing true false same = sym same
-agreeing false true same = same
-
-disagreeing : (one other : Bool) → agree one other ≡ false → one ≡ not other
-disagreeing true true same = same
-disagreeing true false same = refl
-disagreeing false true same = refl
-disagreeing false false same = sym same
-
-not_twice : (b : Bool) → not (not b) ≡ b
-not_twice true = refl
-not_twice false = refl
 
 agree_back : (sense h : Bool) → agree (agree sense h) h ≡ sense
 agree_back true true = refl
@@ -289,8 +274,8 @@ module _
       (part_jumps (not branch.sense) from to inner tree branch.sense f (only_part stand) node types fewer stage
       (λ v u is.
       let bit = bits v (asked.values_fit inner bound top v inside base s u r memory node types stage.ready is) in (
-        (λ yes. bit ∙ (ap not yes ∙ not_twice branch.sense)),
-        (λ no. bit ∙ (ap not no ∙ not_twice (not branch.sense))),
+        (λ yes. bit ∙ (ap not yes ∙ not-not branch.sense)),
+        (λ no. bit ∙ (ap not no ∙ not-not (not branch.sense))),
       )) once)
 
   -- AND or OR with a number
@@ -387,9 +372,6 @@ module _
       by None is None left_is false quiet_is stands =
           others_jump condition whole_bound tree node hold whole stands stage
 
-  high_is_no_conversion : {A : Type 0} → false ≡ true → A
-  high_is_no_conversion is = absurd (false≢true is)
-
   -- a condition of a form
   form_jumps :
       (condition : ExpressionNumber) (whole_bound bound : ℕ) (tree : TypedExpression) (form : ExpressionForm)
@@ -406,10 +388,10 @@ module _
       (λ v small. type_keeps_bit scalar v) (λ single. single) stand stage
   form_jumps condition whole_bound bound tree _ node types fewer (IsFunction {function = Low} {operand = operand} {tree = inside} part) stand stage =
       same_as condition operand bound tree inside (λ v. v % 256) part types (omega (arith, fewer)) (λ t. refl)
-      (λ v small. low_keeps_bit v) high_is_no_conversion stand stage
+      (λ v small. low_keeps_bit v) (λ is. absurd (false≢true is)) stand stage
   form_jumps condition whole_bound bound tree _ node types fewer (IsFunction {function = Double} {operand = operand} {tree = inside} part) stand stage =
       same_as condition operand bound tree inside (λ v. v) part types (omega (arith, fewer)) (λ t. refl)
-      (λ v small. refl) high_is_no_conversion stand stage
+      (λ v small. refl) (λ is. absurd (false≢true is)) stand stage
   form_jumps condition whole_bound bound tree _ node types fewer (IsFunction {function = High} part) stand stage =
       others_jump condition whole_bound tree node types fewer stand stage
   form_jumps condition whole_bound bound tree _ node types fewer (IsUnary {scalar = scalar} {operator = Not} {operand = operand} {tree = inside} part) stand stage =
@@ -417,7 +399,7 @@ module _
       (λ v small. complement_turns_bit scalar v (subst (λ given. v < values_of given) types.1 small)) (λ single. single) stand stage
   form_jumps condition whole_bound bound tree _ node types fewer (IsUnary {scalar = scalar} {operator = Negate} {operand = operand} {tree = inside} part) stand stage =
       same_as condition operand bound tree inside (λ v. result_of_one scalar Negate v) part types.0 (omega (arith, fewer)) (λ t. refl)
-      (λ v small. negation_keeps_bit scalar v (subst (λ given. v < values_of given) types.1 small)) high_is_no_conversion stand stage
+      (λ v small. negation_keeps_bit scalar v (subst (λ given. v < values_of given) types.1 small)) (λ is. absurd (false≢true is)) stand stage
   form_jumps condition whole_bound bound tree _ node types fewer (IsBinary {operator = operators.And} {left = left} {right = right} {first = first} {second = second} one two) stand stage =
       junction_jumps condition left right bound whole_bound tree first second false (λ v w. bit_and v w) one types.1.0 two types.2.0
       node types fewer (omega (arith, fewer)) (omega (arith, fewer)) refl (λ t. refl)

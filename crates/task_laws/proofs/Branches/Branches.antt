@@ -1,5 +1,5 @@
 -- Code that jumps on a condition.
-use Rattle.task_laws.proofs.Prelude.{◌≡◌, ℕ, ◌*◌, ◌%◌, ◌≤◌, ◌==◌, Bool, true, false, not, List, ◌++◌, refl, sym, ap, ◌∙◌, arith, height_of, TypedExpression, TypesHold, SourceState, Outcome, Gave, Stopped, then_do, is_true, truth, Condition, NotZero, NoCarry, rotate_right_of, Registers, ExpressionNumber, IsExpression, Facts, Does, at_place, Relation, Shown, Known, Where, branch_setting, by_bit_steps, outcome_branch_steps, relation_outcome, relation_steps, knowing, Context, IsSound, nodes_in, StepsStand, PartThere, PlainThere, Parts, PartDoes}
+use Rattle.task_laws.proofs.Prelude.{◌≡◌, ℕ, ◌*◌, ◌%◌, ◌≤◌, ◌==◌, Bool, true, false, not, List, ◌++◌, refl, sym, ap, ◌∙◌, arith, height_of, TypedExpression, TypesHold, SourceState, Outcome, Gave, Stopped, then_do, is_true, truth, Condition, NotZero, NoCarry, rotate_right_of, Registers, ExpressionNumber, IsExpression, Facts, Does, at_place, Relation, Shown, Known, Where, branch_setting, by_bit_steps, outcome_branch_steps, relation_outcome, relation_steps, knowing, Context, IsSound, nodes_in, StepsStand, PartThere, PlainThere, Parts, PartDoes, not-not}
 use Rattle.isa8080.specs.declared.instr.Condition.TheVariants.{Zero, Carry}
 use Rattle.operands8080.specs.declared.answers.Purpose.TheVariants as purposes
 use Rattle.operands8080.specs.declared.branches.Branch.{Branch}
@@ -35,19 +35,11 @@ outcome_jumps branch (Known known) answer sound shows stand stage =
 outcome_jumps branch (Where Carry) answer sound shows stand stage =
     jumps_where branch Carry (truth answer) sound (shows ∙ sym (truth_is_true answer)) stand stage
 outcome_jumps {r = r} branch (Where NoCarry) answer sound shows stand stage =
-    jumps_where branch NoCarry (truth answer) sound (ap not shows ∙ twice answer ∙ sym (truth_is_true answer)) stand stage
-  where
-    twice : (b : Bool) → not (not b) ≡ b
-    twice true = refl
-    twice false = refl
+    jumps_where branch NoCarry (truth answer) sound (ap not shows ∙ not-not answer ∙ sym (truth_is_true answer)) stand stage
 outcome_jumps branch (Where Zero) answer sound shows stand stage =
     jumps_where branch Zero (truth answer) sound (shows ∙ sym (truth_is_true answer)) stand stage
 outcome_jumps {r = r} branch (Where NotZero) answer sound shows stand stage =
-    jumps_where branch NotZero (truth answer) sound (ap not shows ∙ twice answer ∙ sym (truth_is_true answer)) stand stage
-  where
-    twice : (b : Bool) → not (not b) ≡ b
-    twice true = refl
-    twice false = refl
+    jumps_where branch NotZero (truth answer) sound (ap not shows ∙ not-not answer ∙ sym (truth_is_true answer)) stand stage
 outcome_jumps branch (Where Rattle.isa8080.specs.declared.instr.Condition.TheVariants.ParityOdd) answer sound shows stand stage = absurd shows
 outcome_jumps branch (Where Rattle.isa8080.specs.declared.instr.Condition.TheVariants.ParityEven) answer sound shows stand stage = absurd shows
 outcome_jumps branch (Where Rattle.isa8080.specs.declared.instr.Condition.TheVariants.Plus) answer sound shows stand stage = absurd shows

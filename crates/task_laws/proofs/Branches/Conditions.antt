@@ -1,10 +1,12 @@
 -- Conditions with the lowest bit of a part, or of both parts.
-use Rattle.task_laws.proofs.Prelude.{◌≡◌, ℕ, ◌*◌, ◌≤◌, Bool, true, false, not, List, [], ◌∷◌, refl, sym, ap, ◌∙◌, subst, arith, if◌then◌else◌, false≢true, height_of, TypedExpression, TypesHold, SourceState, Outcome, Gave, then_do, is_true, Registers, State, ExpressionNumber, IsExpression, Facts, LabelNumber, Part, label_of, Does, at_place, after_step, gives, no_facts_hold, Found, Fails, IsQuiet, outcome_of, in_order, branch_part, joined_steps, agree, jumps_once, Context, nodes_in, StepsStand, NoneThere, PartThere, MarkThere, BranchDoes, Know, Parts, Goes, Passes, PartDoes}
+use Rattle.task_laws.proofs.Prelude.{◌≡◌, ℕ, ◌*◌, ◌≤◌, Bool, true, false, not, List, [], ◌∷◌, refl, sym, ap, ◌∙◌, subst, arith, if◌then◌else◌, false≢true, height_of, TypedExpression, TypesHold, SourceState, Outcome, Gave, then_do, is_true, Registers, State, ExpressionNumber, IsExpression, Facts, LabelNumber, Part, label_of, Does, at_place, after_step, gives, no_facts_hold, Found, Fails, IsQuiet, outcome_of, in_order, branch_part, joined_steps, agree, jumps_once, Context, nodes_in, StepsStand, NoneThere, PartThere, MarkThere, BranchDoes, Know, Parts, Goes, Passes, PartDoes, not-not}
 use Rattle.steps8080.specs.declared.step.Step.TheVariants as steps
 use Rattle.treecode_laws.specs.internal.Evaluations.{Answer}
 use Rattle.operands8080.specs.declared.branches.Branch.{Branch}
 use Rattle.task_laws.proofs.Machine.SiteNodes.{value_in}
-use Rattle.task_laws.proofs.Machine.Stages.{Stage, does_same, has_less_room, script_of, then_does_where}
+use Rattle.task_laws.proofs.Machine.Stages.{Stage, does_same, script_of, then_does_where}
+use Rattle.task_laws.proofs.Agreement.{agreeing}
+use Rattle.task_laws.proofs.Machine.Rules.{room_for}
 
 ended :
     {context : Context} {PartIs : (before : Facts) → Part → (from : ℕ) → (after : Facts) → (to : ℕ) → Type 0}
@@ -56,7 +58,7 @@ pub part_jumps :
     (Parts context last tree label sense top base to)
 part_jumps {context = context} {top = top} {base = base} {s = s} {r = r} {memory = memory} {bound = bound} {inner = inner} other from to condition tree sense f does node types fewer stage bits once =
     then_does_where (value_in context inner s)
-    (does bound inner node types top base s r memory stage.below (has_less_room (2 * height_of inner) fewer stage.room)
+    (does bound inner node types top base s r memory stage.below (room_for (2 * height_of inner) fewer stage.room)
     stage.ready stage.known)
     (λ v u end is parts spent.
     let both = bits v u is in gives (same_parts parts both.0 both.1 once))
@@ -77,24 +79,11 @@ quiet_given {C = C} {script = script} {budget = budget} {more = more} {from = fr
         does_same (then_do (outcome_of (Fails reason) u) rest) (ap (λ (given : Outcome ℕ). then_do given rest) is)
         (record { told = tt })
 
-never_once : {A : Type 0} → false ≡ true → A
-never_once is = absurd (false≢true is)
-
-agree_splits : (sense deciding : Bool) → agree sense deciding ≡ true → sense ≡ deciding
-agree_splits true true is = refl
-agree_splits false false is = refl
-agree_splits true false is = sym is
-agree_splits false true is = is
-
 agree_parts : (sense deciding : Bool) → agree sense deciding ≡ false → not sense ≡ deciding
 agree_parts true true is = sym is
 agree_parts true false is = refl
 agree_parts false true is = refl
 agree_parts false false is = is
-
-not_not : (b : Bool) → not (not b) ≡ b
-not_not true = refl
-not_not false = refl
 
 pub marked :
     {context : Context} {PartIs : (before : Facts) → Part → (from : ℕ) → (after : Facts) → (to : ℕ) → Type 0}
@@ -140,7 +129,7 @@ joined_jumps {context = context} {top = top} {need = need} {base = base} {t = t}
     after_left alike v u end does spent (Goes there is step arrives) =
         quiet_given (λ s. value_in context second s) (λ w s. Gave (f v w) s) u quiet
         (λ w. gives (Goes there (decides v w (is ∙ alike) ∙ sym alike) step
-        (record { r = arrives.r; memory = arrives.memory; is_at = arrives.is_at; ready = arrives.ready; holds = λ single. never_once (sym many ∙ single) })))
+        (record { r = arrives.r; memory = arrives.memory; is_at = arrives.is_at; ready = arrives.ready; holds = λ single. absurd (false≢true (sym many ∙ single)) })))
     after_left alike v u end {middle = middle} does spent (Passes is arrives) =
         let below = stage.below in
         let next : Stage context top branch.pushed need base u _ arrives.r arrives.memory =
@@ -151,7 +140,7 @@ joined_jumps {context = context} {top = top} {need = need} {base = base} {t = t}
         (λ w s given.
         let bit = other_decides v w (is ∙ ap not alike) in
         ((λ yes. bit ∙ yes), (λ no. bit ∙ no)))
-        (λ single. never_once (sym many ∙ single)))
+        (λ single. absurd (false≢true (sym many ∙ single))))
 
     moved :
         {v w other_middle : ℕ} {s : SourceState} {late : State} {other_found : Facts}
@@ -162,7 +151,7 @@ joined_jumps {context = context} {top = top} {need = need} {base = base} {t = t}
         → Parts context last tree branch.label branch.sense top base to (f v w) s late
     moved bit mark (Goes there is step arrives) =
         Goes there (bit ∙ is) step
-        (record { r = arrives.r; memory = arrives.memory; is_at = arrives.is_at; ready = arrives.ready; holds = λ single. never_once (sym many ∙ single) })
+        (record { r = arrives.r; memory = arrives.memory; is_at = arrives.is_at; ready = arrives.ready; holds = λ single. absurd (false≢true (sym many ∙ single)) })
     moved {s = s} bit mark (Passes is arrives) =
         Passes (bit ∙ is)
         (record {
@@ -184,7 +173,7 @@ joined_jumps {context = context} {top = top} {need = need} {base = base} {t = t}
     after_other unlike v u end does mark spent (Goes there is step arrives) =
         quiet_given (λ s. value_in context second s) (λ w s. Gave (f v w) s) u quiet
         (λ w. after_step step
-        (gives (Passes (decides v w is ∙ (sym (not_not deciding) ∙ ap not (sym unlike)))
+        (gives (Passes (decides v w is ∙ (sym (not-not deciding) ∙ ap not (sym unlike)))
         (record {
           r = arrives.r;
           memory = arrives.memory;
@@ -200,7 +189,7 @@ joined_jumps {context = context} {top = top} {need = need} {base = base} {t = t}
         (sym arrives.is_at)
         (then_does_where (value_in context second u)
         (does bound second two other_types top base u arrives.r arrives.memory next.below
-        (has_less_room (2 * height_of second) less next.room) next.ready next.known)
+        (room_for (2 * height_of second) less next.room) next.ready next.known)
         (λ w s late given parts more_spent.
         gives (moved (other_decides v w is) mark parts)))
 
@@ -217,15 +206,15 @@ joined_jumps {context = context} {top = top} {need = need} {base = base} {t = t}
         (then_do (value_in context first t) go)
         (Parts context last tree branch.label branch.sense top base to)
     by true same (PartThere does others) =
-        let alike = agree_splits branch.sense deciding same in
+        let alike = agreeing branch.sense deciding same in
         then_does_where (value_in context first t)
-        (does bound first one types top base t r memory stage.below (has_less_room (2 * height_of first) fewer stage.room)
+        (does bound first one types top base t r memory stage.below (room_for (2 * height_of first) fewer stage.room)
         stage.ready stage.known)
         (λ v u end is parts spent. after_left alike v u end (only_part others) spent parts)
     by false same (PartThere does (PartThere other_does mark)) =
         let unlike = agree_parts branch.sense deciding same in
         then_does_where (value_in context first t)
-        (does bound first one types top base t r memory stage.below (has_less_room (2 * height_of first) fewer stage.room)
+        (does bound first one types top base t r memory stage.below (room_for (2 * height_of first) fewer stage.room)
         stage.ready stage.known)
         (λ v u end is parts spent.
-        after_other (sym (not_not branch.sense) ∙ ap not unlike) v u end other_does (marked mark) spent parts)
+        after_other (sym (not-not branch.sense) ∙ ap not unlike) v u end other_does (marked mark) spent parts)

@@ -1,9 +1,10 @@
 -- Jumps by flags, and without them.
-use Rattle.task_laws.proofs.Prelude.{◌≡◌, ℕ, ◌+◌, Bool, true, false, not, List, [], ◌∷◌, refl, sym, ap, ◌∙◌, if◌then◌else◌, TypedExpression, SourceState, Gave, is_true, Condition, NotZero, NoCarry, ParityOdd, ParityEven, Plus, Minus, Flags, Registers, holds, AtLabel, Facts, LabelNumber, Jump, Does, at_place, jump_passed, word_step, gives, no_facts_hold, known_branch_steps, opposite_condition, where_flags_steps, agree, Context, IsSound, StepsStand, JumpThere, NoneThere, Parts, Goes, Passes, PartDoes}
+use Rattle.task_laws.proofs.Prelude.{◌≡◌, ℕ, ◌+◌, Bool, true, false, not, List, [], ◌∷◌, refl, sym, ap, ◌∙◌, if◌then◌else◌, TypedExpression, SourceState, Gave, is_true, Condition, NotZero, NoCarry, ParityOdd, ParityEven, Plus, Minus, Flags, Registers, holds, AtLabel, Facts, LabelNumber, Jump, Does, at_place, jump_passed, word_step, gives, no_facts_hold, known_branch_steps, opposite_condition, where_flags_steps, agree, Context, IsSound, StepsStand, JumpThere, NoneThere, Parts, Goes, Passes, PartDoes, not-not}
 use Rattle.isa8080.specs.declared.instr.Condition.TheVariants.{Zero, Carry}
 use Rattle.asm8080.specs.declared.item.WordForm.TheVariants as forms
 use Rattle.operands8080.specs.declared.branches.Branch.{Branch}
 use Rattle.task_laws.proofs.Machine.Stages.{Stage, at_end, script_of}
+use Rattle.task_laws.proofs.Agreement.{agreeing, disagreeing}
 
 -- a machine at the end of code that jumps
 pub passes :
@@ -17,29 +18,13 @@ passes {r = r} {memory = memory} to found is stage =
     gives (Passes is (record { r = r; memory = memory; is_at = refl; ready = stage.ready; holds = stage.known }))
 
 opposite_holds : (c : Condition) (f : Flags) → holds (opposite_condition c) f ≡ not (holds c f)
-opposite_holds NotZero f = twice f.z
-  where
-    twice : (b : Bool) → b ≡ not (not b)
-    twice true = refl
-    twice false = refl
+opposite_holds NotZero f = sym (not-not f.z)
 opposite_holds Zero f = refl
-opposite_holds NoCarry f = twice f.cy
-  where
-    twice : (b : Bool) → b ≡ not (not b)
-    twice true = refl
-    twice false = refl
+opposite_holds NoCarry f = sym (not-not f.cy)
 opposite_holds Carry f = refl
-opposite_holds ParityOdd f = twice f.p
-  where
-    twice : (b : Bool) → b ≡ not (not b)
-    twice true = refl
-    twice false = refl
+opposite_holds ParityOdd f = sym (not-not f.p)
 opposite_holds ParityEven f = refl
-opposite_holds Plus f = twice f.s
-  where
-    twice : (b : Bool) → b ≡ not (not b)
-    twice true = refl
-    twice false = refl
+opposite_holds Plus f = sym (not-not f.s)
 opposite_holds Minus f = refl
 
 wanted_holds :
@@ -126,18 +111,6 @@ pub jumps_known :
 jumps_known {context = context} {top = top} {base = base} {u = u} {facts = facts} {last = last} {r = r} {memory = memory} {from = from} {to = to} {tree = tree} branch answer found sound is stand stage =
     by (agree answer branch.sense) refl stand
   where
-    here_agreed : (one other : Bool) → agree one other ≡ true → one ≡ other
-    here_agreed true true same = refl
-    here_agreed false false same = refl
-    here_agreed true false same = sym same
-    here_agreed false true same = same
-
-    here_not : (one other : Bool) → agree one other ≡ false → one ≡ not other
-    here_not true true same = same
-    here_not true false same = refl
-    here_not false true same = refl
-    here_not false false same = sym same
-
     goes : StepsStand context (PartDoes context) facts from (Jump forms.Jump branch.label ∷ []) last to
         → is_true found ≡ branch.sense
         → Does (script_of context) u.budget 0 (at_place from r memory u.events) (Gave found u)
@@ -149,6 +122,6 @@ jumps_known {context = context} {top = top} {base = base} {u = u} {facts = facts
         (if jumps then Jump forms.Jump branch.label ∷ [] else []) last to
         → Does (script_of context) u.budget 0 (at_place from r memory u.events) (Gave found u)
         (Parts context last tree branch.label branch.sense top base to)
-    by true same stand = goes stand (is ∙ here_agreed answer branch.sense same)
+    by true same stand = goes stand (is ∙ agreeing answer branch.sense same)
     by false same ends =
-        at_end ends stage (λ final. passes to found (is ∙ here_not answer branch.sense same) final)
+        at_end ends stage (λ final. passes to found (is ∙ disagreeing answer branch.sense same) final)

@@ -1,5 +1,5 @@
 -- The low byte of operators with two operands.
-use Rattle.task_laws.proofs.Prelude.{◌≡◌, ℕ, ◌-◌, ◌*◌, ◌%◌, ◌<◌, ◌&&◌, Bool, true, false, [], ◌∷◌, ◌++◌, Option, Some, None, is_some, option_map, refl, sym, ap, ◌∙◌, subst, arith, and_parts, false≢true, none-some, ScalarType, BinaryOperator, ShiftFunction, RotateLeft, RotateRight, ShiftLeft, ShiftRight, type_of, type_of_result, BinaryNode, ShiftNode, TypedExpression, ShiftsIn, TypesHold, computed, Gave, then_do, result_of, shifted, turned, values_of, Operation, Add, Subtract, And, ExclusiveOr, Or, Expression, ExpressionForm, ExpressionNumber, Number, IsExpression, free_at, has_immediate, is_free_form, is_free_with, is_of_low_byte, known_of, memory_of_form, number_at, Facts, CallRoutine, low, Relation, is_free, number_of, relation_of, relation_of_form, scalar_of, fits_byte, fits_byte_by, low_number, byte_product_steps, outcome_value_steps, relation_outcome, relation_steps, relation_value_steps, value_setting, byte_binary_steps, byte_operation_steps, form_of, from_number_steps, in_form_steps, product_byte_steps, with_number_steps, by_number_steps, byte_routine, byte_shift_steps, operands_steps, knowing, low_of_word_steps, Context, IsSound, nodes_in, StepsStand, PartDoes}
+use Rattle.task_laws.proofs.Prelude.{◌≡◌, ℕ, ◌-◌, ◌*◌, ◌%◌, ◌<◌, ◌&&◌, Bool, true, false, [], ◌∷◌, ◌++◌, Option, Some, None, is_some, option_map, refl, sym, ap, ◌∙◌, subst, arith, and_parts, false≢true, none-some, ScalarType, BinaryOperator, ShiftFunction, RotateLeft, RotateRight, ShiftLeft, ShiftRight, type_of, type_of_result, BinaryNode, ShiftNode, TypedExpression, ShiftsIn, TypesHold, computed, Gave, then_do, result_of, shifted, turned, values_of, Operation, Add, Subtract, And, ExclusiveOr, Or, Expression, ExpressionForm, ExpressionNumber, Number, IsExpression, free_at, has_immediate, is_free_form, is_free_with, is_of_low_byte, known_of, memory_of_form, number_at, Facts, CallRoutine, low, Relation, is_free, number_of, relation_of, relation_of_form, scalar_of, fits_byte, fits_byte_by, low_number, byte_product_steps, outcome_value_steps, relation_outcome, relation_steps, relation_value_steps, value_setting, byte_binary_steps, byte_operation_steps, form_of, from_number_steps, in_form_steps, product_byte_steps, with_number_steps, by_number_steps, byte_routine, byte_shift_steps, operands_steps, knowing, low_of_word_steps, Context, IsSound, nodes_in, StepsStand, PartDoes, false_from_ne_true, mul_comm}
 use Rattle.trees.specs.declared.declaration.ScalarType.TheVariants as scalars
 use Rattle.trees.specs.declared.expression.BinaryOperator.TheVariants as operators
 use Rattle.treecode.specs.declared.expression.ExpressionForm.TheVariants as forms
@@ -40,10 +40,6 @@ pub never_free :
     → is_free_form (nodes_in context) (type_of tree) form ≡ false
     → is_free context.site number ≡ true → ⊥
 never_free node none free = false≢true (sym none ∙ sym node.free ∙ free)
-
-not_true : (b : Bool) → (b ≡ true → ⊥) → b ≡ false
-not_true true never = absurd (never refl)
-not_true false never = refl
 
 -- of a free operator with a number the left operand is free, and the right one is the number
 free_parts :
@@ -143,7 +139,7 @@ module _
           same_rest (value_in context second u)
           (λ w x. computed (result_of operands operator v w) x) (λ w x. Gave (result_by operation operands v w) x)
           (λ w x. ap (λ (found : Option ℕ). computed found x) (gives v w))))
-          (not_true (is_free context.site number)
+          (false_from_ne_true (is_free context.site number)
           (λ free. false≢true (sym (no_number context facts right none) ∙ (free_parts context left right (has_immediate operator) (sym node.free ∙ free)).1)))
           given
 
@@ -186,9 +182,6 @@ module _
       product_small scalars.Byte n = omega arith
       product_small scalars.Address n = omega arith
 
-      turned_product : (v w : ℕ) → v * w ≡ w * v
-      turned_product v w = grind arith
-
       by_left : (found : Option ℕ) → number_of (knowing context.site facts) left ≡ found
           → StepsStand context (PartDoes context) facts from
           (elim (option_map low found) [
@@ -199,7 +192,7 @@ module _
       by_left (Some k) here given =
           product_by_number context sound operands k (k % 256) refl
           (of_right facts number operators.Multiply operands k (λ w. (w * k) % values_of operands) sound one two here
-          (λ w. ap (λ (n : ℕ). Some (n % values_of operands)) (turned_product k w))
+          (λ w. ap (λ (n : ℕ). Some (n % values_of operands)) (mul_comm k w))
           (λ w fits. product_small operands (w * k)) (λ free. absurd (never_free node refl free)))
           (never_free node refl) given
       by_left None here given = low_word_law number pushed sound node.is node.types (never_free node refl) given
@@ -349,7 +342,7 @@ module _
       → ByteCarried context facts number (ShiftNode scalar function first second) pushed from last to
   by_count_law scalars.Byte function one is_type two count_type in_type none node stand =
       shift_by_count function number asked sound one is_type two count_type in_type
-      (not_true (is_free context.site number)
+      (false_from_ne_true (is_free context.site number)
       (λ free. false≢true (sym (no_number context facts count none)
       ∙ (free_parts context moved count (is_of_low_byte scalars.Byte function) (sym node.free ∙ free)).1)))
       stand

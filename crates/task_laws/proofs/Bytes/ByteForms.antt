@@ -115,10 +115,6 @@ pub type_byte : (scalar : ScalarType) (v : ℕ) → v % 256 ≡ as_type scalar v
 type_byte Byte v = omega arith
 type_byte Address v = omega arith
 
-pub type_small : (scalar : ScalarType) (v : ℕ) → as_type scalar v < values_of scalar
-type_small Byte v = omega arith
-type_small Address v = omega arith
-
 pub complement_byte : (scalar : ScalarType) (v : ℕ) → v < values_of scalar → 255 - v % 256 ≡ result_of_one scalar Not v % 256
 complement_byte Byte v small = omega (arith, small)
 complement_byte Address v small = omega (arith, small)

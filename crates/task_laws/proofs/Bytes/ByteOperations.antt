@@ -1,9 +1,10 @@
 -- An operation on the low bytes of two values, for each form.
-use Rattle.task_laws.proofs.Prelude.{◌≡◌, ℕ, ◌+◌, ◌*◌, ◌/◌, ◌%◌, ◌<◌, ◌≤◌, true, List, [], ◌∷◌, Some, refl, sym, ap, ◌∙◌, subst, arith, cond_some, option_and_then_some, or_of_8, xor_of_8, and_le_l, byte_at, height_of, type_of, TypedExpression, NumberNode, ValueNode, LocationNode, ListNode, ConversionNode, AssignmentNode, UnaryNode, BinaryNode, CallNode, FunctionNode, ShiftNode, InputNode, PartOf, TypesHold, SourceState, Outcome, Gave, values_of, Pop, Push, Operation, Add, AddWithCarry, Subtract, SubtractWithBorrow, And, ExclusiveOr, Or, Compare, A, B, E, Psw, StackBc, Flags, operate, flag_byte, Registers, State, with_popped, word, wrap, ExpressionNumber, Reference, IsExpression, Facts, Plain, copy, with_memory, with_register, part, Does, at_place, is_free, keeps_of_address, memory, fits_byte, operand_in_memory, exchanged, in_order, knowing, Context, IsSound, nodes_in, StepsStand, PartThere, PlainThere, PartDoes}
+use Rattle.task_laws.proofs.Prelude.{◌≡◌, ℕ, ◌+◌, ◌*◌, ◌%◌, ◌<◌, ◌≤◌, true, List, [], ◌∷◌, Some, refl, sym, ap, ◌∙◌, subst, arith, cond_some, option_and_then_some, or_of_8, xor_of_8, and_le_l, byte_at, height_of, type_of, TypedExpression, TypesHold, SourceState, Outcome, Gave, values_of, Pop, Push, Operation, Add, AddWithCarry, Subtract, SubtractWithBorrow, And, ExclusiveOr, Or, Compare, A, B, E, Psw, StackBc, Flags, operate, flag_byte, Registers, State, with_popped, word, wrap, ExpressionNumber, Reference, IsExpression, Facts, Plain, copy, with_memory, with_register, part, Does, at_place, is_free, keeps_of_address, memory, fits_byte, operand_in_memory, exchanged, in_order, knowing, Context, IsSound, nodes_in, StepsStand, PartThere, PlainThere, PartDoes, flag_byte_small, high_of_pair}
 use Rattle.steps8080.specs.declared.step.Task.TheVariants.{Address, Byte}
 use Rattle.task_laws.proofs.Bytes.BytesAsked.{BytesAsked, ByteIsAtHl}
 use Rattle.task_laws.proofs.Machine.SiteNodes.{value_in}
-use Rattle.task_laws.proofs.Machine.Stages.{Stage, at_a, at_byte, at_carried, at_end, at_pop, at_push, at_registers, flag_byte_is_small, pushed_is_small, script_of}
+use Rattle.task_laws.proofs.Machine.Stages.{Stage, at_a, at_byte, at_carried, at_end, at_pop, at_push, at_registers, pushed_is_small, script_of}
+use Rattle.task_laws.proofs.Heights.{some_height}
 
 -- an operation of bytes gives a byte
 pub operate_small :
@@ -35,21 +36,6 @@ operated_so operation v w x y now f one two a flags = record {
   a = a ∙ (ap (λ n. (operate operation n y f).value) one ∙ ap (λ n. (operate operation (v % 256) n f).value) two);
   flags = flags ∙ (ap (λ n. (operate operation n y f).flags) one ∙ ap (λ n. (operate operation (v % 256) n f).flags) two);
 }
-
--- an expression has a height
-pub some_height : (tree : TypedExpression) → 1 ≤ height_of tree
-some_height (NumberNode scalar number origin) = omega arith
-some_height (ValueNode scalar (PartOf object one member offset other)) = omega arith
-some_height (LocationNode (PartOf object one member offset other)) = omega arith
-some_height (ListNode list) = omega arith
-some_height (ConversionNode scalar inner) = some_height inner
-some_height (AssignmentNode target inner) = omega arith
-some_height (UnaryNode scalar operator operand) = omega arith
-some_height (BinaryNode operands operator left right) = omega arith
-some_height (CallNode procedure scalar given) = omega arith
-some_height (FunctionNode function operand) = omega arith
-some_height (ShiftNode scalar function moved count) = omega arith
-some_height (InputNode port) = omega arith
 
 -- an operand in memory; the code for its address keeps A
 pub record IsOperandAt (context : Context) (facts : Facts) (number : ExpressionNumber) (reference : Reference) : Type 0 where
@@ -188,9 +174,6 @@ operated_with_e {context = context} {operation = operation} go asked sound one t
     (operated_so operation v w late.a late.e _ late.flags other_given.a e refl refl)
     final)))))
 
-high_of_pair : (high low : ℕ) → low < 256 → (256 * high + low) / 256 ≡ high
-high_of_pair high low small = omega (arith, small)
-
 -- the first on the stack, the second in A, which the first is taken to
 pub operated_with_first_in_b :
     {C : Type 0} {context : Context} {top pushed need : ℕ} {base : List ℕ} {t : SourceState} {facts last : Facts}
@@ -218,7 +201,7 @@ operated_with_first_in_b {context = context} {top = top} {need = need} {second =
     at_byte _ _ _ does one types fewer stage
     (λ v u now memory_now is given next.
     let held = next.ready.registers in
-    let flags_small = flag_byte_is_small now.flags in
+    let flags_small = flag_byte_small now.flags in
     at_push (word now.a (flag_byte now.flags)) refl sound enough next pushes
     (λ pushed_stage.
     at_byte _ _ _ other_does two other_types (omega (arith, less)) pushed_stage
@@ -264,7 +247,7 @@ operated_with_second_in_b {context = context} {top = top} {need = need} {second 
     at_byte _ _ _ does one types fewer stage
     (λ v u now memory_now is given next.
     let held = next.ready.registers in
-    let flags_small = flag_byte_is_small now.flags in
+    let flags_small = flag_byte_small now.flags in
     at_push (word now.a (flag_byte now.flags)) refl sound enough next pushes
     (λ pushed_stage.
     at_byte _ _ _ other_does two other_types (omega (arith, less)) pushed_stage

@@ -6,6 +6,7 @@ use Rattle.task_laws.proofs.Bytes.ByteNumbers.{zero_after}
 use Rattle.task_laws.proofs.Bytes.ByteShiftNumbers.{doubled_code, low_of_type}
 use Rattle.task_laws.proofs.Words.Multiples.{bit_clear, bit_instructions, bit_is, bit_set, chain_instructions, chain_on, chain_same, effect_on, factor, fewer_bits, first_quotient, last_quotient, less_bits, next_quotient, power_is}
 use Rattle.task_laws.proofs.Machine.RegisterCode.{effect}
+use Rattle.task_laws.proofs.Numbers.{one_alone, twice_none}
 
 -- after the bits from one on: A is the multiple by them, or unchanged if all are 0
 record Gone (below : Bool) (x gone : ℕ) (now : Registers) : Type 0 where
@@ -33,17 +34,11 @@ gone_on false false x half q now same is gone = record {
   a = gone.a;
   b = gone.b;
 }
-  where
-    twice_none : (n : ℕ) → n ≡ 0 → 2 * n ≡ 0
-    twice_none n e = omega (arith, e)
 gone_on false true x half q now same is gone = record {
   nothing = λ bad. absurd (false≢true (sym bad));
   a = gone.a ∙ ap (λ (n : ℕ). (x * n) % 256) (sym (bit_set q half same is ∙ one_alone half (gone.nothing refl)));
   b = gone.b;
 }
-  where
-    one_alone : (n : ℕ) → n ≡ 0 → 2 * n + 1 ≡ 1
-    one_alone n e = omega (arith, e)
 gone_on true false x half q now same is gone = record {
   nothing = λ bad. absurd (false≢true (sym bad));
   a = twice now.a x half gone.a ∙ ap (λ (n : ℕ). (x * n) % 256) (sym (bit_clear q half same is));

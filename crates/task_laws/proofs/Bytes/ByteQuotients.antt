@@ -1,5 +1,5 @@
 -- The low byte of operators with one operand that is a number, by their meaning; quotients and remainders.
-use Rattle.task_laws.proofs.Prelude.{◌≡◌, ℕ, ◌+◌, ◌-◌, ◌/◌, ◌%◌, ◌^◌, ◌<◌, ◌≤◌, ◌==◌, true, false, List, [], ◌∷◌, ◌++◌, Option, Some, None, is_some, option_and_then, bit_and, refl, sym, ap, ◌∙◌, subst, arith, if◌then◌else◌, ne_eqb, and_mask, pow_pos, mod-le, none-some, same_Some, and_mod, ScalarType, BinaryOperator, height_of, type_of, type_of_result, BinaryNode, TypedExpression, TypesHold, computed, SourceState, Outcome, Gave, result_of, values_of, And, A, E, Registers, State, word, Event, ExpressionNumber, Number, IsExpression, Does, at_place, gives, Facts, Part, CallRoutine, Plain, copy, low, is_free, number_of, power, power_of_two, LeftInHl, pair_steps, number_of_two, quotient_byte_steps, remainder_byte_steps, with_number_steps, low_byte_shifted_right_steps, knowing, low_of_word_steps, Context, IsSound, nodes_in, StepsStand, NoneThere, PartDoes}
+use Rattle.task_laws.proofs.Prelude.{◌≡◌, ℕ, ◌+◌, ◌-◌, ◌/◌, ◌%◌, ◌^◌, ◌<◌, ◌≤◌, ◌==◌, true, false, List, [], ◌∷◌, ◌++◌, Option, Some, None, is_some, option_and_then, bit_and, refl, sym, ap, ◌∙◌, subst, arith, if◌then◌else◌, ne_eqb, and_mask, pow_pos, mod-le, none-some, same_Some, and_mod, ScalarType, BinaryOperator, height_of, type_of, type_of_result, BinaryNode, TypedExpression, TypesHold, computed, SourceState, Outcome, Gave, result_of, values_of, And, A, E, Registers, State, word, Event, ExpressionNumber, Number, IsExpression, Does, at_place, gives, Facts, Part, CallRoutine, Plain, copy, low, is_free, number_of, power, power_of_two, LeftInHl, pair_steps, number_of_two, quotient_byte_steps, remainder_byte_steps, with_number_steps, low_byte_shifted_right_steps, knowing, low_of_word_steps, Context, IsSound, nodes_in, StepsStand, NoneThere, PartDoes, value_is_word, word_from_halves}
 use Rattle.trees.specs.declared.declaration.ScalarType.TheVariants as scalars
 use Rattle.trees.specs.declared.expression.BinaryOperator.TheVariants as operators
 use Rattle.runtime8080.specs.declared.routine.Routine.TheVariants as routines
@@ -15,7 +15,6 @@ use Rattle.task_laws.proofs.Machine.RegisterCode.{registers_then}
 use Rattle.task_laws.proofs.Machine.RoutineCalls.{routine_then}
 use Rattle.task_laws.proofs.Machine.Rules.{GoesOn}
 use Rattle.task_laws.proofs.Machine.SiteNodes.{value_in}
-use Rattle.task_laws.proofs.Words.WordArithmetic.{word_is}
 use Rattle.task_laws.proofs.Words.WordRoutines.{divided_does, some_of}
 use Rattle.task_laws.proofs.Words.WordSums.{first_known, one_high, second_known, two_high}
 
@@ -145,10 +144,6 @@ remainder_byte v count n same small =
 low_of_pair : (d e n : ℕ) → e < 256 → word d e ≡ n → e ≡ n % 256
 low_of_pair d e n small same = omega (arith, small, same)
 
-wide : (operands : ScalarType) (n : ℕ) → n < values_of operands → n < 65536
-wide scalars.Byte n small = omega (arith, small)
-wide scalars.Address n small = omega (arith, small)
-
 -- no step is left
 nothing_more :
     {A : Type 0} {context : Context} {PartIs : (before : Facts) → Part → (from : ℕ) → (after : Facts) → (to : ℕ) → Type 0}
@@ -223,7 +218,7 @@ module _
       by (Some n) here given =
           let power_is_there : IsPower context facts right n = two_there context facts right n here in
           let count : ℕ = power_is_there.count in
-          let small : 2 ^ count < 65536 = wide (type_of second) (2 ^ count) (number_small facts (2 ^ count) sound two.is two.types power_is_there.there) in
+          let small : 2 ^ count < 65536 = value_is_word (type_of second) (2 ^ count) (number_small facts (2 ^ count) sound two.is two.types power_is_there.there) in
           with_number context sound
           (of_left facts number operators.Modulo operands (2 ^ count) (λ v. v % 2 ^ count) sound one two power_is_there.there
           (λ v. some_of (2 ^ count) (v % 2 ^ count) (not_none count))
@@ -246,8 +241,8 @@ module _
           (λ after last_memory stand_on going_last computes leaves.
           let bytes = going_last.ready.registers in
           let remainder : word after.d after.e ≡ x % y = computes.1 (x % y)
-          (ap (λ n. result_of scalars.Address operators.Modulo n (word now.d now.e)) (word_is x now.h now.l has.h has.l)
-          ∙ ap (λ n. result_of scalars.Address operators.Modulo x n) (word_is y now.d now.e has.d has.e)
+          (ap (λ n. result_of scalars.Address operators.Modulo n (word now.d now.e)) (word_from_halves x now.h now.l has.h has.l)
+          ∙ ap (λ n. result_of scalars.Address operators.Modulo x n) (word_from_halves y now.d now.e has.d has.e)
           ∙ some_of y (x % y) some) in
           registers_then (copy A E ∷ []) [] after sound (tt, tt) stand_on going_last
           (λ at_end at_end_found ends going_end.

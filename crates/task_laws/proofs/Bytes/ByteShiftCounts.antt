@@ -1,19 +1,20 @@
 -- Shifts and rotations of a BYTE by a count that is not known: by routines.
-use Rattle.task_laws.proofs.Prelude.{◌≡◌, ℕ, ◌+◌, ◌*◌, ◌/◌, ◌%◌, ◌<◌, ◌≤◌, ◌&&◌, ◌||◌, Bool, true, false, List, [], ◌∷◌, ◌++◌, Option, Some, None, is_some, refl, sym, ap, ◌∙◌, subst, arith, if◌then◌else◌, and_parts, false≢true, byte_at, ScalarType, ShiftFunction, RotateLeft, RotateRight, ShiftLeft, ShiftRight, height_of, type_of, TypedExpression, ShiftNode, ShiftsIn, SourceState, Gave, shifted, values_of, Pop, Push, A, E, Psw, flag_byte, Registers, with_popped, word, wrap, ExpressionNumber, Place, Reference, Arrives, Does, at_place, Facts, CallRoutine, Plain, copy, load, part, is_free, known, may_exchange, operand_in_memory, byte_routine, count_in_memory_steps, operands_steps, knowing, Context, IsSound, StepsStand, PartThere, PlainThere, ByteIsGiven, PartDoes}
+use Rattle.task_laws.proofs.Prelude.{◌≡◌, ℕ, ◌+◌, ◌*◌, ◌%◌, ◌<◌, ◌≤◌, ◌&&◌, ◌||◌, Bool, true, false, List, [], ◌∷◌, ◌++◌, Option, Some, None, is_some, refl, sym, ap, ◌∙◌, subst, arith, if◌then◌else◌, and_parts, false≢true, byte_at, ScalarType, ShiftFunction, RotateLeft, RotateRight, ShiftLeft, ShiftRight, height_of, type_of, TypedExpression, ShiftNode, ShiftsIn, SourceState, Gave, shifted, values_of, Pop, Push, A, E, Psw, flag_byte, Registers, with_popped, word, wrap, ExpressionNumber, Place, Reference, Arrives, Does, at_place, Facts, CallRoutine, Plain, copy, load, part, is_free, known, may_exchange, operand_in_memory, byte_routine, count_in_memory_steps, operands_steps, knowing, Context, IsSound, StepsStand, PartThere, PlainThere, ByteIsGiven, PartDoes, low_of_byte, flag_byte_small, high_of_pair}
 use Rattle.trees.specs.declared.declaration.ScalarType.TheVariants as scalars
 use Rattle.runtime8080.specs.declared.routine.Routine.TheVariants as routines
 use Rattle.steps8080.specs.declared.step.Task.TheVariants as tasks
-use Rattle.task_laws.proofs.Relations.Answers.{low_is_all}
 use Rattle.task_laws.proofs.Bytes.ByteCode.{ByteCarried}
 use Rattle.task_laws.proofs.Bytes.ByteForms.{byte_given}
 use Rattle.task_laws.proofs.Bytes.ByteKnown.{known_byte_free}
-use Rattle.task_laws.proofs.Bytes.ByteOperations.{IsOperandAt, operand_at, some_height}
+use Rattle.task_laws.proofs.Bytes.ByteOperations.{IsOperandAt, operand_at}
 use Rattle.task_laws.proofs.Bytes.BytesAsked.{BytesAsked, ByteIsAtHl}
 use Rattle.task_laws.proofs.Machine.KnownOperands.{shift_fits}
 use Rattle.task_laws.proofs.Words.Pairs.{IsOperand}
 use Rattle.task_laws.proofs.Machine.RoutineCalls.{routine_then}
 use Rattle.task_laws.proofs.Machine.SiteNodes.{does_exchanged, free_is}
-use Rattle.task_laws.proofs.Machine.Stages.{Stage, at_byte, at_carried, at_end, at_pop, at_push, at_registers, flag_byte_is_small, pushed_is_small, script_of}
+use Rattle.task_laws.proofs.Machine.Stages.{Stage, at_byte, at_carried, at_end, at_pop, at_push, at_registers, pushed_is_small, script_of}
+use Rattle.task_laws.proofs.Numbers.{equals_byte}
+use Rattle.task_laws.proofs.Heights.{some_height}
 
 -- after the routine
 routine_done :
@@ -37,7 +38,7 @@ routine_done {to = to} function v k number r in_type not_free small a e computes
     (λ final.
     byte_given to number (shifted scalars.Byte function v k)
     (computes ∙ ap (λ n. shifted scalars.Byte function n r.e) a ∙ ap (λ n. shifted scalars.Byte function v n) e
-    ∙ sym (low_is_all (shifted scalars.Byte function v k) fits)) fits
+    ∙ sym (low_of_byte (shifted scalars.Byte function v k) fits)) fits
     (λ free. absurd (false≢true (sym not_free ∙ free))) final)
 
 -- the call of the routine, with the byte in A and the count in E
@@ -78,12 +79,6 @@ routine_ends {r = r} RotateRight v k number sound in_type not_free two small a e
     routine_done RotateRight v k number r in_type not_free small a e computes rest
     (record { below = stage.below; room = stage.room; ready = going.ready; known = going.known }))
 
-high_of_pair : (high low : ℕ) → low < 256 → (256 * high + low) / 256 ≡ high
-high_of_pair high low small = omega (arith, small)
-
-byte_itself : (a v : ℕ) → a ≡ v % 256 → v < 256 → a ≡ v
-byte_itself a v same small = omega (arith, same, small)
-
 as_byte : (scalar : ScalarType) (v : ℕ) → scalar ≡ scalars.Byte → v < values_of scalar → v < 256
 as_byte scalar v same small = subst (λ (of : ScalarType). v < values_of of) same small
 
@@ -115,7 +110,7 @@ module _
       let bytes = stage_late.ready.registers in
       let count_small : k < 256 = as_byte (type_of second) k count_is_byte lies.small in
       let small : v < 256 = as_byte (type_of first) v is_byte given.small in
-      let loaded : byte_at memory_late (word late.h late.l) ≡ k = byte_itself _ k lies.is_there count_small in
+      let loaded : byte_at memory_late (word late.h late.l) ≡ k = equals_byte _ k lies.is_there count_small in
       at_registers (record late { e = byte_at memory_late (word late.h late.l) }) sound stage_late there refl refl
       (record {
         a = bytes.a;
@@ -128,7 +123,7 @@ module _
       }) tt
       (λ in_e.
       routine_ends function v k number sound in_type not_free (omega arith) small
-      (lies.a operand.keeps ∙ byte_itself now.a v given.a small) loaded rest in_e)))
+      (lies.a operand.keeps ∙ equals_byte now.a v given.a small) loaded rest in_e)))
 
   -- with the count first
   count_first :
@@ -152,8 +147,8 @@ module _
       (λ v t late memory_late other_is other_given stage_late.
       let small : v < 256 = as_byte (type_of first) v is_byte other_given.small in
       routine_ends function v k number sound in_type not_free (omega arith) small
-      (byte_itself late.a v other_given.a small)
-      ((other_given.free free).e ∙ byte_itself now.a k given.a count_small) rest stage_late))))
+      (equals_byte late.a v other_given.a small)
+      ((other_given.free free).e ∙ equals_byte now.a k given.a count_small) rest stage_late))))
 
   -- with the byte on the stack
   count_pushed :
@@ -166,7 +161,7 @@ module _
       at_byte _ _ _ does one.is one.types (omega arith) (record { below = below; room = room; ready = ready; known = known_before })
       (λ v u now memory_now is given next.
       let held = next.ready.registers in
-      let flags_small = flag_byte_is_small now.flags in
+      let flags_small = flag_byte_small now.flags in
       let small : v < 256 = as_byte (type_of first) v is_byte given.small in
       at_push (word now.a (flag_byte now.flags)) refl sound (omega (arith, some)) next pushes
       (λ pushed_stage.
@@ -181,8 +176,8 @@ module _
       (λ popped.
       let back : Registers = record (with_popped Psw (word now.a (flag_byte now.flags)) (record late { e = late.a })) { sp = wrap top } in
       routine_ends function v k number sound in_type not_free (omega arith) small
-      (high_of_pair now.a (flag_byte now.flags) flags_small ∙ byte_itself now.a v given.a small)
-      (byte_itself late.a k other_given.a count_small) rest popped)))))
+      (high_of_pair now.a (flag_byte now.flags) flags_small ∙ equals_byte now.a v given.a small)
+      (equals_byte late.a k other_given.a count_small) rest popped)))))
 
   -- in any way
   pub shift_by_count :

@@ -1,5 +1,5 @@
 -- The low byte of shifts and rotations by a number.
-use Rattle.task_laws.proofs.Prelude.{◌≡◌, ℕ, zero, suc, ◌+◌, ◌-◌, ◌*◌, ◌/◌, ◌%◌, ◌^◌, ◌<◌, ◌==◌, Bool, true, false, nat_le, nat_lt, bit_and, bit_or, List, [], ◌∷◌, ◌++◌, replicate, refl, sym, ap, ◌∙◌, subst, arith, if◌then◌else◌, eqb-true, leb-true, leb-false, lt-ltb, or_self, ScalarType, TypedExpression, turned, values_of, Instr, AccumulateImmediate, Rar, Rlc, Rrc, Add, And, Or, A, Registers, equal_below, none_right, shift_left, shifted_left, times, turn_left, turn_right, turned_left, turned_right, ExpressionNumber, Facts, Step, Plain, clear_a, with_register, part, plain, repeat_steps, byte_shifted_right_steps, kept_bits, right_shift_steps, rotation_steps, shifted_left_steps, turned_right_steps, zero_steps, Context, IsSound, StepsStand, PartDoes}
+use Rattle.task_laws.proofs.Prelude.{◌≡◌, ℕ, zero, suc, ◌+◌, ◌-◌, ◌*◌, ◌/◌, ◌%◌, ◌^◌, ◌<◌, ◌==◌, Bool, true, false, nat_le, nat_lt, bit_and, bit_or, List, [], ◌∷◌, ◌++◌, replicate, refl, sym, ap, ◌∙◌, subst, arith, if◌then◌else◌, eqb-true, leb-true, leb-false, lt-ltb, or_self, ScalarType, TypedExpression, turned, values_of, Instr, AccumulateImmediate, Rar, Rlc, Rrc, Add, And, Or, A, Registers, equal_below, none_right, shift_left, shifted_left, times, turn_left, turn_right, turned_left, turned_right, ExpressionNumber, Facts, Step, Plain, clear_a, with_register, part, plain, repeat_steps, byte_shifted_right_steps, kept_bits, right_shift_steps, rotation_steps, shifted_left_steps, turned_right_steps, zero_steps, Context, IsSound, StepsStand, PartDoes, low_of_byte}
 use Rattle.trees.specs.declared.declaration.ScalarType.TheVariants as scalars
 use Rattle.runtime8080.proofs.Bits.{none_left}
 use Rattle.steps8080.specs.declared.step.Task.TheVariants as tasks
@@ -194,9 +194,6 @@ pub low_of_type : (scalar : ScalarType) (n : ℕ) → n % 256 ≡ n % values_of 
 low_of_type scalars.Byte n = omega arith
 low_of_type scalars.Address n = omega arith
 
-pub whole_byte : (v : ℕ) → v < 256 → v % 256 ≡ v
-whole_byte v small = omega (arith, small)
-
 pub quotient_byte : (v p : ℕ) → v < 256 → v / p ≡ v / p % 256
 quotient_byte v p small = let less = quotient_less v p in omega (arith, small, less)
 
@@ -246,7 +243,7 @@ module _
           (λ v fits. sym (ap (λ n. n % 256) (none_right count v (leb-true 8 count is) fits))) given
       by false is given =
           byte_by_code context sound one (shifted_code count (leb-false 8 count is))
-          (λ v fits. ap (λ n. n / 2 ^ count) (whole_byte v fits) ∙ quotient_byte v (2 ^ count) fits) given
+          (λ v fits. ap (λ n. n / 2 ^ count) (low_of_byte v fits) ∙ quotient_byte v (2 ^ count) fits) given
 
   -- a rotation of a BYTE by a number below 8
   pub turned_by_number :
@@ -257,4 +254,4 @@ module _
       → ByteCarried context facts number tree pushed from last to
   turned_by_number count few one stand =
       byte_by_code context sound one (rotation_code count few)
-      (λ v fits. sym (whole_byte (turned (v % 256) count) (turned_fits (v % 256) count (omega arith) few))) stand
+      (λ v fits. sym (low_of_byte (turned (v % 256) count) (turned_fits (v % 256) count (omega arith) few))) stand

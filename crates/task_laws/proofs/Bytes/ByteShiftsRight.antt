@@ -1,5 +1,5 @@
 -- The low byte of any value shifted right by a number.
-use Rattle.task_laws.proofs.Prelude.{◌≡◌, ℕ, zero, suc, ◌+◌, ◌-◌, ◌*◌, ◌/◌, ◌%◌, ◌^◌, ◌<◌, ◌≤◌, ◌==◌, Bool, true, false, nat_le, List, [], ◌∷◌, ◌++◌, replicate, pow-add, refl, sym, ap, ◌∙◌, subst, arith, if◌then◌else◌, eqb-true, eqb-false, leb-true, leb-false, false≢true, div-div-eq-div-mul, div-eq_of_lt, pow-le-pow_right, ScalarType, type_of, TypedExpression, values_of, Instr, Dad, Rar, Or, Hl, A, H, L, bit, Registers, ExpressionNumber, Facts, Plain, clear_a, copy, with_register, part, plain, repeat_steps, is_free, fits_byte, byte_shifted_right_steps, low_byte_shifted_right_steps, middle_byte_steps, right_shift_steps, zero_steps, knowing, high_byte_steps, Context, IsSound, StepsStand, PartDoes}
+use Rattle.task_laws.proofs.Prelude.{◌≡◌, ℕ, zero, suc, ◌+◌, ◌-◌, ◌*◌, ◌/◌, ◌%◌, ◌^◌, ◌<◌, ◌≤◌, ◌==◌, Bool, true, false, nat_le, List, [], ◌∷◌, ◌++◌, replicate, pow-add, refl, sym, ap, ◌∙◌, subst, arith, if◌then◌else◌, eqb-true, eqb-false, leb-true, leb-false, false≢true, div-div-eq-div-mul, ScalarType, type_of, TypedExpression, values_of, Instr, Dad, Rar, Or, Hl, A, H, L, bit, Registers, ExpressionNumber, Facts, Plain, clear_a, copy, with_register, part, plain, repeat_steps, is_free, fits_byte, byte_shifted_right_steps, low_byte_shifted_right_steps, middle_byte_steps, right_shift_steps, zero_steps, knowing, high_byte_steps, Context, IsSound, StepsStand, PartDoes, halves_joined, high_is_byte, value_is_word, none_left}
 use Rattle.trees.specs.declared.declaration.ScalarType.TheVariants as scalars
 use Rattle.steps8080.specs.declared.step.Task.TheVariants as tasks
 use Rattle.task_laws.proofs.Bytes.ByteCode.{ByteCarried, OfOne, all_straight, at_last_instructions, beside_itself, byte_makes, byte_of_word}
@@ -20,14 +20,6 @@ by_high v count most =
     ∙ ap (λ p. v / p) (sym (pow-add 2 8 (count - 8)))
     ∙ ap (λ n. v / 2 ^ n) (omega (arith, most))
 
-past_word : (v count : ℕ) → 16 ≤ count → v < 65536 → v / 2 ^ count ≡ 0
-past_word v count most small =
-    let more : 2 ^ 16 ≤ 2 ^ count = pow-le-pow_right (omega arith) most in
-    div-eq_of_lt (omega (arith, more, small))
-
-high_small : (v : ℕ) → v < 65536 → v / 256 < 256
-high_small v small = omega (arith, small)
-
 first_half : (v h l : ℕ) → h ≡ v / 256 → l ≡ v % 256 → l / 2 + 128 * (h % 2) ≡ v / 2 % 256
 first_half v h l one two = omega (arith, one, two)
 
@@ -46,13 +38,6 @@ middle (suc (suc (suc (suc (suc (suc (suc (suc count)))))))) v some few small = 
 at_least : (scalar : ScalarType) → 256 ≤ values_of scalar
 at_least scalars.Byte = omega arith
 at_least scalars.Address = omega arith
-
-at_most : (scalar : ScalarType) → values_of scalar ≤ 65536
-at_most scalars.Byte = omega arith
-at_most scalars.Address = omega arith
-
-pub word_at_most : (scalar : ScalarType) (v : ℕ) → v < values_of scalar → v < 65536
-word_at_most scalar v small = let most = at_most scalar in omega (arith, most, small)
 
 byte_at_least : (scalar : ScalarType) (v : ℕ) → v < 256 → v < values_of scalar
 byte_at_least scalar v small = let least = at_least scalar in omega (arith, least, small)
@@ -76,9 +61,6 @@ high_there h l small = omega (arith, small)
 
 low_there : (h l : ℕ) → l < 256 → l ≡ (256 * h + l) % 256
 low_there h l small = omega (arith, small)
-
-halves : (v : ℕ) → 256 * (v / 256) + v % 256 ≡ v
-halves v = omega arith
 
 module _
     (context : Context) {facts last : Facts} {from to pushed : ℕ} {number inner : ExpressionNumber}
@@ -118,8 +100,8 @@ module _
           (record { h = high_there r.h r.l l_small; l = low_there r.h r.l l_small })).h)
           not_free
           (λ v fits.
-          ap (λ n. (n * 2 ^ (8 - count)) % 65536 / 256) (halves v)
-          ∙ middle count v some few (word_at_most (type_of inside) v fits))
+          ap (λ n. (n * 2 ^ (8 - count)) % 65536 / 256) (halves_joined v)
+          ∙ middle count v some few (value_is_word (type_of inside) v fits))
           (subst (λ steps. StepsStand context (PartDoes context) facts from (part (tasks.Word inner) pushed ∷ steps) last to)
           (ap (λ steps. steps ++ (Plain (copy A H) ∷ [])) (repeated (Dad Hl) (8 - count)) ∙ sym (plain_on turns (copy A H ∷ [])))
           given)
@@ -168,13 +150,13 @@ module _
           (record { below = below; room = room; ready = ready; known = known })
           (λ v u now memory_now same high next.
           let fits = one.fits s u v (ready_fits context s ready) same in
-          let small = word_at_most (type_of inside) v fits in
+          let small = value_is_word (type_of inside) v fits in
           at_last_instructions code.instructions sound code.on
           (subst (λ steps. StepsStand context (PartDoes context) parts.found parts.middle steps last to) code.same parts.second) next
           (λ final.
           byte_given to number (v / 2 ^ count)
           (code.makes now next.ready.registers.a ∙ ap (λ n. n / 2 ^ (count - 8)) high.a
-          ∙ quotient_byte (v / 256) (2 ^ (count - 8)) (high_small v small) ∙ ap (λ n. n % 256) (by_high v count most))
+          ∙ quotient_byte (v / 256) (2 ^ (count - 8)) (high_is_byte v small) ∙ ap (λ n. n % 256) (by_high v count most))
           (one.small v fits) (λ free. absurd (not_free wide free)) final)))
 
       by_word : (all : Bool) → nat_le 16 count ≡ all
@@ -187,7 +169,7 @@ module _
           → ByteCarried context facts number tree pushed from last to
       by_word true is wide given =
           zero_after context sound one
-          (λ v fits. sym (ap (λ n. n % 256) (past_word v count (leb-true 16 count is) (word_at_most (type_of inside) v fits)))) given
+          (λ v fits. sym (ap (λ n. n % 256) (none_left v count (leb-true 16 count is) (value_is_word (type_of inside) v fits)))) given
       by_word false is wide given = by_byte (nat_le 8 count) refl wide given is
 
       by_fits : (fits : Bool) → fits_byte (knowing context.site facts) inner ≡ fits

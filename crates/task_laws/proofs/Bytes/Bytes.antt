@@ -1,10 +1,10 @@
 -- The code of the low byte of an expression does what the expression means.
-use Rattle.task_laws.proofs.Prelude.{◌≡◌, ℕ, ◌+◌, ◌-◌, ◌*◌, ◌/◌, ◌%◌, ◌<◌, ◌≤◌, true, false, [], ◌∷◌, ◌++◌, Option, Some, None, option_and_then, refl, sym, ap, ◌∙◌, subst, arith, false≢true, none-some, option_map_or, ScalarType, UnaryOperator, Not, Negate, Low, High, Double, height_of, type_of, type_of_target, AssignmentNode, ConversionNode, FunctionNode, TypedExpression, TypedTarget, UnaryNode, TypesHold, TypesHoldInTarget, SourceState, Gave, then_do, as_type, result_of_one, values_of, Cma, Inr, Of, A, Expression, ExpressionForm, ExpressionNumber, Place, Reference, Target, IsExpression, IsTarget, IsStored, IsSent, IsForm, IsNumber, IsValue, IsLocation, IsConstantList, IsConversion, IsEmbedded, IsUnary, IsBinary, IsCallOf, IsFunction, IsShift, IsInput, source, known_of, place_of_reference, Facts, part, is_free, known, memory_of, relation_of, relation_of_form, expression, scalar_of, byte_in_memory_steps, byte_form_steps, byte_function_steps, byte_of_two_steps, byte_steps, byte_unary_steps, called_byte_steps, embedded_steps, known_byte_steps, low_of_value_steps, call_steps, value_task, knowing, Context, IsSound, nodes_in, StepsStand, ByteDoes, PartDoes}
+use Rattle.task_laws.proofs.Prelude.{◌≡◌, ℕ, ◌+◌, ◌-◌, ◌*◌, ◌/◌, ◌%◌, ◌<◌, ◌≤◌, true, false, [], ◌∷◌, ◌++◌, Option, Some, None, option_and_then, refl, sym, ap, ◌∙◌, subst, arith, false≢true, none-some, option_map_or, ScalarType, UnaryOperator, Not, Negate, Low, High, Double, height_of, type_of, type_of_target, AssignmentNode, ConversionNode, FunctionNode, TypedExpression, TypedTarget, UnaryNode, TypesHold, TypesHoldInTarget, SourceState, Gave, then_do, as_type, result_of_one, values_of, Cma, Inr, Of, A, Expression, ExpressionForm, ExpressionNumber, Place, Reference, Target, IsExpression, IsTarget, IsStored, IsSent, IsForm, IsNumber, IsValue, IsLocation, IsConstantList, IsConversion, IsEmbedded, IsUnary, IsBinary, IsCallOf, IsFunction, IsShift, IsInput, source, known_of, place_of_reference, Facts, part, is_free, known, memory_of, relation_of, relation_of_form, expression, scalar_of, byte_in_memory_steps, byte_form_steps, byte_function_steps, byte_of_two_steps, byte_steps, byte_unary_steps, called_byte_steps, embedded_steps, known_byte_steps, low_of_value_steps, call_steps, value_task, knowing, Context, IsSound, nodes_in, StepsStand, ByteDoes, PartDoes, as_type_fits}
 use Rattle.trees.specs.declared.declaration.ScalarType.TheVariants as scalars
 use Rattle.steps8080.specs.declared.step.Task.TheVariants as tasks
 use Rattle.task_laws.proofs.Bytes.ByteBinaries.{IsElsewhere, binary_law, never_free, shift_law}
 use Rattle.task_laws.proofs.Bytes.ByteCode.{ByteCarried, OfOne, beside_a, beside_itself, byte_makes}
-use Rattle.task_laws.proofs.Bytes.ByteForms.{byte_given, complement_byte, complement_small, free_by_form, negative_byte, negative_small, type_byte, type_small}
+use Rattle.task_laws.proofs.Bytes.ByteForms.{byte_given, complement_byte, complement_small, free_by_form, negative_byte, negative_small, type_byte}
 use Rattle.task_laws.proofs.Bytes.ByteKnown.{known_by_form, known_law}
 use Rattle.task_laws.proofs.Bytes.BytesAsked.{BytesAsked, HighIsGiven}
 use Rattle.task_laws.proofs.Loads.BytesInMemory.{memory_same}
@@ -105,7 +105,7 @@ module _ (context : Context) (sound : IsSound context) (asked : BytesAsked conte
   form_law {number = number} (IsConversion {inner = inner} {scalar = scalar} {tree = inside} is) node stand =
       byte_makes context sound
       (of_part {number = number} {tree = ConversionNode scalar inside} (as_type scalar) is node.types (omega arith) (λ t. refl)
-      (λ v fits. type_small scalar v) (λ free. free_is context.site inner ∙ sym node.free ∙ free))
+      (λ v fits. as_type_fits scalar v) (λ free. free_is context.site inner ∙ sym node.free ∙ free))
       [] (λ x. x) tt (λ r small. refl) (λ free r. beside_itself r) (λ v fits. type_byte scalar v) stand
   form_law {number = number} (IsFunction {function = Low} {operand = inner} {tree = inside} is) node stand =
       byte_makes context sound

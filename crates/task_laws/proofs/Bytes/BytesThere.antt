@@ -1,12 +1,12 @@
 -- The low byte of a value in memory.
-use Rattle.task_laws.proofs.Prelude.{◌≡◌, ℕ, ◌*◌, ◌/◌, ◌%◌, ◌<◌, ◌≤◌, true, false, Option, Some, None, is_some, option_and_then, refl, sym, ap, ◌∙◌, subst, arith, false≢true, none-some, same_Some, option_map_or, ScalarType, Byte, Address, Low, High, Double, height_of, height_of_reference, type_of, FunctionNode, TypedExpression, TypedReference, ValueNode, RefersToScalar, TypesHold, TypesHoldInReference, read_scalar, SourceState, Outcome, Gave, then_do, as_type, values_of, Expression, ExpressionForm, ExpressionNumber, Home, Place, Reference, IndexNode, converted_place, function_of_place, known_distance, place_of_part, IsExpression, IsReference, IsForm, IsNumber, IsValue, IsLocation, IsConstantList, IsConversion, IsEmbedded, IsUnary, IsBinary, IsCallOf, IsFunction, IsShift, IsInput, home_at, byte_after, distance_of, free_at, is_free_form, known_at, known_of, memory_of_form, memory_of_inner, no_traits, place_of_reference, same_low_byte, traits_of, Arrives, Does, at_place, Facts, Base, Split, base_after, base_of, is_free, location_of, located_at, memory_of, number_of, reference_after, split, split_computed, byte_in_memory_steps, knowing, Context, IsSound, nodes_in, StepsStand, ByteIsGiven, PartDoes}
+use Rattle.task_laws.proofs.Prelude.{◌≡◌, ℕ, ◌*◌, ◌/◌, ◌%◌, ◌<◌, ◌≤◌, true, false, Option, Some, None, is_some, option_and_then, refl, sym, ap, ◌∙◌, subst, arith, false≢true, none-some, same_Some, option_map_or, ScalarType, Byte, Address, Low, High, Double, height_of, height_of_reference, type_of, FunctionNode, TypedExpression, TypedReference, ValueNode, RefersToScalar, TypesHold, TypesHoldInReference, read_scalar, SourceState, Outcome, Gave, then_do, as_type, values_of, Expression, ExpressionForm, ExpressionNumber, Home, Place, Reference, IndexNode, converted_place, function_of_place, place_of_part, IsExpression, IsReference, IsForm, IsNumber, IsValue, IsLocation, IsConstantList, IsConversion, IsEmbedded, IsUnary, IsBinary, IsCallOf, IsFunction, IsShift, IsInput, home_at, byte_after, distance_of, free_at, is_free_form, known_at, known_of, memory_of_form, memory_of_inner, no_traits, place_of_reference, same_low_byte, traits_of, Arrives, Does, at_place, Facts, Base, base_after, base_of, is_free, location_of, located_at, memory_of, reference_after, split, byte_in_memory_steps, knowing, Context, IsSound, nodes_in, StepsStand, ByteIsGiven, PartDoes, as_type_fits, high_is_byte}
 use Rattle.treecode.specs.declared.expression.ExpressionForm.TheVariants as forms
 use Rattle.treecode.specs.declared.place.Home.TheVariants as homes
 use Rattle.treecode.specs.declared.place.Location.TheVariants as locations
 use Rattle.steps8080.specs.Queries.{location_at, located}
 use Rattle.task_laws.proofs.Branches.Branches.{given_itself}
 use Rattle.task_laws.proofs.Bytes.ByteCode.{ByteCarried}
-use Rattle.task_laws.proofs.Bytes.ByteForms.{byte_given, free_by_form, type_byte, type_small}
+use Rattle.task_laws.proofs.Bytes.ByteForms.{byte_given, free_by_form, type_byte}
 use Rattle.task_laws.proofs.Loads.ByteLoads.{ByteIsLoaded, byte_in_memory_law}
 use Rattle.task_laws.proofs.Loads.BytesInMemory.{memory_same}
 use Rattle.task_laws.proofs.Machine.Effects.{then_again}
@@ -14,8 +14,9 @@ use Rattle.task_laws.proofs.Bytes.HighBytes.{HighIsLoaded, high_in_memory_law}
 use Rattle.task_laws.proofs.Machine.KnownOperands.{bytes_differ, word_fits}
 use Rattle.task_laws.proofs.Places.Located.{located_in}
 use Rattle.task_laws.proofs.Machine.Nodes.{NodeOf, node_of}
-use Rattle.task_laws.proofs.Machine.SiteNodes.{free_is, number_is, value_in}
+use Rattle.task_laws.proofs.Machine.SiteNodes.{free_is, value_in}
 use Rattle.task_laws.proofs.Machine.Stages.{at_carried, does_same}
+use Rattle.task_laws.proofs.Places.StaticPlaces.{not_computed}
 
 -- the byte of a scalar that a part of memory holds, as a function of its value
 data IsHalf (g : ℕ → ℕ) : ScalarType → (base reference : Reference) → Type 0 where
@@ -48,12 +49,6 @@ record LiesAs (context : Context) (form : ExpressionForm) (tree : TypedExpressio
   unknown : known_of (nodes_in context) (type_of tree) form ≡ None
   direct : is_free_form (nodes_in context) (type_of tree) form ≡ true → is_some (place_of_reference (nodes_in context) reference) ≡ true
 
-no_byte : {B : Type 0} {reference : Reference} → None ≡ Some reference → B
-no_byte same = absurd (none-some _ same)
-
-high_small : (v : ℕ) → v < 65536 → v / 256 < 256
-high_small v small = omega (arith, small)
-
 high_byte_of : (v : ℕ) → v < 65536 → v / 256 % 256 ≡ v / 256
 high_byte_of v small = omega (arith, small)
 
@@ -64,8 +59,8 @@ only_value :
     → (base : Reference) × (form ≡ forms.Value base) × (scalar ≡ Address) × (reference_after base 1 ≡ reference)
 only_value Address (forms.Value base) {reference = reference} same =
     (base, refl, refl, same_Some (reference_after base 1) reference same)
-only_value Byte form same = no_byte same
-only_value Address form same = no_byte same
+only_value Byte form same = absurd (none-some _ same)
+only_value Address form same = absurd (none-some _ same)
 
 half_on :
     {g : ℕ → ℕ} {scalar : ScalarType} {base reference : Reference} (of : ScalarType) (h : ℕ → ℕ)
@@ -142,7 +137,7 @@ module _ (context : Context) (sound : IsSound context) where
         refers = types.0;
         types = types.1;
         means = λ s. refl;
-        small = λ v fits. high_small v fits;
+        small = λ v fits. high_is_byte v fits;
         fewer = omega arith;
         half = subst (λ (one : Reference). IsHalf (λ v. v / 256) Address base one) same (HighHalf (λ v fits. high_byte_of v fits));
         unknown = unknown;
@@ -189,18 +184,18 @@ module _ (context : Context) (sound : IsSound context) where
       (λ free.
       sym (ap (λ (found : Option Reference). option_map_or (λ (one : Reference). is_some (place_of_reference (nodes_in context) one)) found false) same)
       ∙ free)
-  lies_inner (IsFunction {function = Low} is) types same = no_byte same
-  lies_inner (IsFunction {function = Double} is) types same = no_byte same
-  lies_inner IsNumber types same = no_byte same
-  lies_inner (IsLocation is) types same = no_byte same
-  lies_inner IsConstantList types same = no_byte same
-  lies_inner (IsConversion is) types same = no_byte same
-  lies_inner (IsEmbedded target is) types same = no_byte same
-  lies_inner (IsUnary is) types same = no_byte same
-  lies_inner (IsBinary one two) types same = no_byte same
-  lies_inner (IsCallOf given) types same = no_byte same
-  lies_inner (IsShift one two) types same = no_byte same
-  lies_inner IsInput types same = no_byte same
+  lies_inner (IsFunction {function = Low} is) types same = absurd (none-some _ same)
+  lies_inner (IsFunction {function = Double} is) types same = absurd (none-some _ same)
+  lies_inner IsNumber types same = absurd (none-some _ same)
+  lies_inner (IsLocation is) types same = absurd (none-some _ same)
+  lies_inner IsConstantList types same = absurd (none-some _ same)
+  lies_inner (IsConversion is) types same = absurd (none-some _ same)
+  lies_inner (IsEmbedded target is) types same = absurd (none-some _ same)
+  lies_inner (IsUnary is) types same = absurd (none-some _ same)
+  lies_inner (IsBinary one two) types same = absurd (none-some _ same)
+  lies_inner (IsCallOf given) types same = absurd (none-some _ same)
+  lies_inner (IsShift one two) types same = absurd (none-some _ same)
+  lies_inner IsInput types same = absurd (none-some _ same)
 
   -- the inner part of a tree
   inside_free :
@@ -233,7 +228,7 @@ module _ (context : Context) (sound : IsSound context) where
       let inside = next _ _ _ _ node.form types
       (sym (ap (λ (found : Option Expression).
       memory_of_inner (nodes_in context) (f (option_map_or (λ (one : Expression). one.form) found (forms.Conversion inner)))) node.is_there) ∙ same) in
-      around (as_type scalar) inside (λ s. refl) (λ n fits. type_small scalar n) (λ n fits. sym (type_byte scalar n)) (omega arith)
+      around (as_type scalar) inside (λ s. refl) (λ n fits. as_type_fits scalar n) (λ n fits. sym (type_byte scalar n)) (omega arith)
       (ap (λ (found : Option Place). option_and_then (converted_place scalar) found) (known_in_table node ∙ inside.unknown))
       (inside_free node inside.unknown)
   lies_step f next (IsFunction {function = Low} {operand = inner} {tree = tree} is) types same =
@@ -277,27 +272,6 @@ module _ (context : Context) (sound : IsSound context) where
       lies_step (λ inside. inside) (λ one two three four five six seven. lies_inner five six seven) is_there types_there same_there)
       is types same
 
--- a subscript that is known has no part in a location
-split_known :
-    (context : Context) (facts : Facts) (subscript : Option IndexNode)
-    → is_some (distance_of (nodes_in context) subscript) ≡ true
-    → (split (knowing context.site facts) subscript).computed ≡ None
-unfolding split
-split_known context facts None is = refl
-split_known context facts (Some subscript) is =
-    by (number_of (knowing context.site facts) subscript.index) refl
-  where
-    by : (found : Option ℕ) → number_of (knowing context.site facts) subscript.index ≡ found
-        → (elim found as (λ (one : Option ℕ). Split) [
-          | Some index ↦ record { computed = None; offset = (index * subscript.stride) % 65536 }
-          | None ↦ split_computed (knowing context.site facts) subscript
-        ]).computed ≡ None
-    by (Some index) here = refl
-    by None here =
-        absurd (false≢true
-        (sym (ap (λ (found : Option ℕ). is_some (known_distance subscript.stride found))
-        (sym (number_is (knowing context.site facts) subscript.index) ∙ here)) ∙ is))
-
 -- an object that a known place is part of begins at a known place
 record IsKnownPart (home : Home) (first second : Option ℕ) : Type 0 where
   place : Place
@@ -325,8 +299,8 @@ static_there context facts reference is =
     let part = known_part (home_at (nodes_in context).homes reference.object) reference.offset
     (distance_of (nodes_in context) reference.subscript) (distance_of (nodes_in context) reference.member_subscript) is in
     by part.place part.begins
-    (split (knowing context.site facts) reference.subscript).computed (split_known context facts reference.subscript part.one)
-    (split (knowing context.site facts) reference.member_subscript).computed (split_known context facts reference.member_subscript part.two)
+    (split (knowing context.site facts) reference.subscript).computed (not_computed context facts reference.subscript part.one)
+    (split (knowing context.site facts) reference.member_subscript).computed (not_computed context facts reference.member_subscript part.two)
   where
     one : ℕ
     one = (split (knowing context.site facts) reference.subscript).offset

@@ -1,15 +1,16 @@
 -- The high byte of a value is put into A.
-use Rattle.task_laws.proofs.Prelude.{◌≡◌, ℕ, ◌+◌, ◌*◌, ◌/◌, ◌%◌, ◌<◌, ◌≤◌, ◌&&◌, Bool, true, List, [], ◌∷◌, Option, Some, None, refl, sym, ap, ◌∙◌, subst, arith, MEMORY_SIZE, byte_at, byte_small, Address, height_of_reference, InData, InConstants, Placed, BasedOn, Elsewhere, Nowhere, InFrame, PartOf, TypedReference, RefersToScalar, TypesHoldInReference, InMemory, InTheFrame, SourcePlace, Surroundings, home_of, next_place, place_of, read_scalar, Displacement, based_place, displacement, SourceState, Ended, More, Outside, Outcome, Gave, Stopped, then_do, Registers, State, wrap, Location, Reference, IsReference, is_static_location, Activation, Arrives, HasRoom, Does, Lands, at_place, gives, told_on, IsSteady, location_at, Facts, Plain, load, part, location_of, reference_after, byte_in_memory_steps, location_byte_steps, knowing, Context, IsSound, distances_in, nodes_in, StepsStand, PartThere, AddressIsGiven, Carries, ChangesAOnly, IsReferred, Know, Nothing, PartDoes, address_on_machine}
+use Rattle.task_laws.proofs.Prelude.{◌≡◌, ℕ, ◌+◌, ◌*◌, ◌/◌, ◌%◌, ◌<◌, ◌≤◌, ◌&&◌, Bool, true, List, [], ◌∷◌, Option, Some, None, refl, sym, ap, ◌∙◌, subst, arith, MEMORY_SIZE, byte_at, byte_small, Address, height_of_reference, InData, InConstants, Placed, BasedOn, Elsewhere, Nowhere, InFrame, PartOf, TypedReference, RefersToScalar, TypesHoldInReference, InMemory, InTheFrame, SourcePlace, Surroundings, home_of, next_place, place_of, read_scalar, Displacement, based_place, displacement, SourceState, Ended, More, Outside, Outcome, Gave, Stopped, then_do, Registers, State, wrap, Location, Reference, IsReference, is_static_location, Activation, Arrives, HasRoom, Does, Lands, at_place, gives, told_on, IsSteady, location_at, Facts, Plain, load, part, location_of, reference_after, byte_in_memory_steps, location_byte_steps, knowing, Context, IsSound, distances_in, nodes_in, StepsStand, PartThere, AddressIsGiven, Carries, ChangesAOnly, IsReferred, Know, Nothing, PartDoes, address_on_machine, high_of_two, same_Some, two_bytes_fit, given_again}
 use Rattle.typed_trees.specs.TypedTrees.{Home}
 use Rattle.isa8080.specs.declared.instr.Register.TheVariants as registers
 use Rattle.steps8080.specs.declared.step.Task.TheVariants as tasks
 use Rattle.task_laws.proofs.Places.Fitting.{located_fits, refers_is_referred}
-use Rattle.task_laws.proofs.Loads.Loads.{LiesThere, given_last, lies_there, same_location_found, static_only}
+use Rattle.task_laws.proofs.Loads.Loads.{LiesThere, lies_there, static_only}
 use Rattle.task_laws.proofs.Places.Located.{located_in}
 use Rattle.task_laws.proofs.Places.LocationBytes.{load_a_goes, location_byte_goes}
 use Rattle.task_laws.proofs.Stores.NextBytes.{next_part, reference_next}
 use Rattle.task_laws.proofs.Places.Reading.{word_read}
 use Rattle.task_laws.proofs.Machine.Rules.{GoesOn}
+use Rattle.task_laws.proofs.Numbers.{one_between, wrapped_step}
 
 one_further : (address bytes : ℕ) → (address + (bytes + 1)) % MEMORY_SIZE ≡ ((address + bytes) % MEMORY_SIZE + 1) % MEMORY_SIZE
 one_further address bytes = omega arith
@@ -35,9 +36,6 @@ base_next (Placed at) around object bytes is_inside s = ap (λ (n : ℕ). Gave (
 base_next Elsewhere around object bytes is_inside s = ap (λ (n : ℕ). Gave (InMemory n) s) (one_further _ bytes)
 base_next Nowhere around object bytes is_inside s = ap (λ (n : ℕ). Gave (InMemory n) s) (one_further _ bytes)
 
-one_more : (one offset two : ℕ) → one + (offset + 1) + two ≡ one + offset + two + 1
-one_more one offset two = omega arith
-
 -- so a part one byte further on is at the place after
 pub next_located :
     (context : Context) (part : TypedReference) (s : SourceState)
@@ -58,7 +56,7 @@ next_located context (PartOf object first member offset second) s =
         (one.is_inside && two.is_inside) u)) (λ place t. Gave (next_place place) t)
     by_two one (Gave two u) =
         ap (λ (n : ℕ). based_place (home_of around object) around object n (one.is_inside && two.is_inside) u)
-        (one_more one.bytes offset two.bytes)
+        (one_between one.bytes offset two.bytes)
         ∙ base_next (home_of around object) around object (one.bytes + offset + two.bytes) (one.is_inside && two.is_inside) u
     by_two one (Stopped why u) = refl
 
@@ -80,12 +78,9 @@ pub next_on_machine :
     → address_on_machine activation (next_place place) ≡ wrap (address_on_machine activation place + 1)
 next_on_machine activation (InMemory address) = refl
 next_on_machine activation (InTheFrame object offset is_inside) =
-    by (activation.level + activation.distance object) offset
-  where
-    by : (start offset : ℕ) → wrap (start + (offset + 1)) ≡ wrap (wrap (start + offset) + 1)
-    by start offset = omega arith
+    wrapped_step (activation.level + activation.distance object) offset
 
-next_is_referred : (context : Context) (part : TypedReference) → IsReferred context part → IsReferred context (next_part part)
+pub next_is_referred : (context : Context) (part : TypedReference) → IsReferred context part → IsReferred context (next_part part)
 next_is_referred context (PartOf object first member offset second) is = is
 
 next_types :
@@ -94,7 +89,7 @@ next_types :
     → TypesHoldInReference context.typed context.within (next_part part)
 next_types context (PartOf object first member offset second) types = types
 
-next_height : (part : TypedReference) → height_of_reference (next_part part) ≡ height_of_reference part
+pub next_height : (part : TypedReference) → height_of_reference (next_part part) ≡ height_of_reference part
 next_height (PartOf object first member offset second) = refl
 
 -- code that locates the next place, and then code for the place itself
@@ -135,12 +130,6 @@ pub record HighIsLoaded
   pub known : Know context after now memory_now
   pub free : (location : Location) → location_of (knowing context.site before) (reference_after reference 1) ≡ Some location
       → is_static_location location ≡ true → ChangesAOnly r memory now memory_now
-
-high_of_two : (low high : ℕ) → low < 256 → high ≡ (low + 256 * high) / 256
-high_of_two low high small = omega (arith, small)
-
-two_bytes : (low high : ℕ) → low < 256 → high < 256 → low + 256 * high < 65536
-two_bytes low high one two = omega (arith, one, two)
 
 -- The code of the high byte of an ADDRESS in memory.
 pub high_in_memory_law :
@@ -185,7 +174,7 @@ high_in_memory_law {context = context} {facts = facts} {last = last} {reference 
           holds = record {
             a = a ∙ high_of_two (byte_at ended (address_on_machine context.activation place))
                 (byte_at ended (wrap (address_on_machine context.activation place + 1))) low;
-            small = two_bytes (byte_at ended (address_on_machine context.activation place))
+            small = two_bytes_fit (byte_at ended (address_on_machine context.activation place))
                 (byte_at ended (wrap (address_on_machine context.activation place + 1))) low high;
             known = on.known;
             free = free;
@@ -227,7 +216,7 @@ high_in_memory_law {context = context} {facts = facts} {last = last} {reference 
             (Arrives context.activation top base to (HighIsLoaded context facts last reference r memory))) (sym state_is)
             (subst (λ (given : Outcome ℕ). Does context.activation.around.program.script s.budget 0 (at_place from r memory s.events) given
             (Arrives context.activation top base to (HighIsLoaded context facts last reference r memory)))
-            (given_last (read_scalar context.activation.around.program Address place s))
+            (given_again (read_scalar context.activation.around.program Address place s))
             (word_read place s (λ n u. Gave n u) sound ready fits
             (λ low_steady high_steady.
             let steady = subst (λ (n : ℕ). IsSteady context.activation n) is_at high_steady in
@@ -236,7 +225,7 @@ high_in_memory_law {context = context} {facts = facts} {last = last} {reference 
             (subst (λ (n : ℕ). IsSteady context.activation n) is_at high_steady)
             known stand going
             (λ now loaded on. ends place s now memory to (loaded.a ∙ ap (byte_at memory) (sym is_at))
-            (λ other other_is static. loaded.others (ap is_static_location (same_location_found (sym found ∙ other_is)) ∙ static)) on))))
+            (λ other other_is static. loaded.others (ap is_static_location (same_Some _ _ (sym found ∙ other_is)) ∙ static)) on))))
     by_location None found (PartThere {found = found_there} {middle = middle} does stand) =
         through_next (located_in context part_of s)
         (subst (λ (outcome : Outcome SourcePlace). Does context.activation.around.program.script s.budget 0 (at_place from r memory s.events) outcome
@@ -254,7 +243,7 @@ high_in_memory_law {context = context} {facts = facts} {last = last} {reference 
         (Arrives context.activation top base to (HighIsLoaded context facts last reference r memory))) (sym given.is_at)
         (subst (λ (outcome : Outcome ℕ). Does context.activation.around.program.script t.budget 0 (at_place middle there ended t.events) outcome
         (Arrives context.activation top base to (HighIsLoaded context facts last reference r memory)))
-        (given_last (read_scalar context.activation.around.program Address place t))
+        (given_again (read_scalar context.activation.around.program Address place t))
         (word_read place t (λ n u. Gave n u) sound given.ready fits
         (λ low_steady high_steady.
         load_a_goes (wrap (address_on_machine context.activation place + 1)) there sound high_steady hl stand

@@ -1,5 +1,5 @@
 -- The high byte of an ADDRESS is put into A; the word that an ADDRESS expression reads is in memory.
-use Rattle.task_laws.proofs.Prelude.{◌≡◌, ℕ, ◌+◌, ◌*◌, ◌/◌, ◌≤◌, ◌⊎◌, inl, inr, Bool, true, false, if◌then◌else◌, List, [], ◌∷◌, Option, Some, None, option_map, refl, sym, ap, subst, ◌∙◌, arith, option_and_then, byte_at, ScalarType, height_of, height_of_reference, type_of, TypedExpression, TypedReference, ValueNode, TypesHold, SourcePlace, next_place, read_scalar, SourceState, Outcome, Gave, then_do, Registers, State, word, wrap, Expression, ExpressionForm, ExpressionNumber, Location, Place, Reference, place_after, IsExpression, IsForm, IsReference, IsValue, Does, at_place, Arrives, gives, IsSteady, place_at, location_after_is, Facts, Plain, load, part, GoesOutside, direct, location_of, place_in_memory, reference_after, direct_word, high_byte_in_memory, is_word_in_hl, word_in_memory, word_of, high_by_hl_steps, load_a_steps, knowing, Context, IsSound, distances_in, nodes_in, PartThere, PlainThere, StepsStand, WordThere, PartDoes, address_on_machine}
+use Rattle.task_laws.proofs.Prelude.{◌≡◌, ℕ, ◌+◌, ◌*◌, ◌/◌, ◌≤◌, ◌⊎◌, inl, inr, Bool, true, false, if◌then◌else◌, List, [], ◌∷◌, Option, Some, None, option_map, refl, sym, ap, subst, ◌∙◌, arith, option_and_then, byte_at, ScalarType, height_of, height_of_reference, type_of, TypedExpression, TypedReference, ValueNode, TypesHold, SourcePlace, next_place, read_scalar, SourceState, Outcome, Gave, then_do, Registers, State, word, wrap, Expression, ExpressionForm, ExpressionNumber, Location, Place, Reference, place_after, IsExpression, IsForm, IsReference, IsValue, Does, at_place, Arrives, gives, IsSteady, place_at, location_after_is, Facts, Plain, load, part, GoesOutside, direct, location_of, place_in_memory, reference_after, direct_word, high_byte_in_memory, is_word_in_hl, word_in_memory, word_of, high_by_hl_steps, load_a_steps, knowing, Context, IsSound, distances_in, nodes_in, PartThere, PlainThere, StepsStand, WordThere, PartDoes, address_on_machine, same_Some, same_given, given_again}
 use Rattle.trees.specs.declared.declaration.ScalarType.TheVariants as scalars
 use Rattle.isa8080.specs.declared.instr.Register.TheVariants as registers
 use Rattle.treecode.specs.declared.place.Location.TheVariants as locations
@@ -7,7 +7,7 @@ use Rattle.steps8080.specs.declared.step.Task.TheVariants as tasks
 use Rattle.operands8080.specs.WordRelations.{high_byte_steps}
 use Rattle.task_laws.proofs.Bytes.BytesAsked.{HighBytesGiven, HighIsGiven, WordAtPlace, WordsAtPlaces}
 use Rattle.task_laws.proofs.Places.Fitting.{located_fits, refers_is_referred}
-use Rattle.task_laws.proofs.Loads.Loads.{given_last, lies_there}
+use Rattle.task_laws.proofs.Loads.Loads.{lies_there}
 use Rattle.task_laws.proofs.Bytes.LocatedBytes.{high_found, high_stops, next_lies, where_located}
 use Rattle.task_laws.proofs.Places.Located.{located_in}
 use Rattle.task_laws.proofs.Places.LocationBytes.{load_a_goes}
@@ -27,9 +27,6 @@ pub record WordPart (context : Context) (reference : Reference) (tree : TypedExp
   pub is : IsReference (nodes_in context) context.storage bound reference part
   pub types : TypesHold context.typed context.within (ValueNode scalars.Address part)
 
-same_reference : {one other : Reference} → Some one ≡ Some other → one ≡ other
-same_reference same = cc
-
 -- a form that is one
 word_form :
     (context : Context) (reference : Reference) (bound : ℕ) (form : ExpressionForm) (scalar : ScalarType)
@@ -43,7 +40,7 @@ word_form context reference bound _ scalars.Address _ types same (IsValue {scala
   bound = bound;
   part = part;
   same = refl;
-  is = subst (λ (given : Reference). IsReference (nodes_in context) context.storage bound given part) (same_reference told) is;
+  is = subst (λ (given : Reference). IsReference (nodes_in context) context.storage bound given part) (same_Some _ _ told) is;
   types = types;
 }
 word_form context reference bound _ scalars.Address _ types same (IsValue {scalar = scalars.Byte} is) told = absurd cc
@@ -78,9 +75,6 @@ pub direct_is :
     → location_of (knowing context.site facts) reference ≡ Some (locations.Static place)
 unfolding direct
 direct_is context facts reference place told = static_location (location_of (knowing context.site facts) reference) place told
-
-same_found : {one other : ℕ} {t u : SourceState} → Gave one t ≡ Gave other u → one ≡ other
-same_found same = cc
 
 -- the word of an ADDRESS at a place in memory
 pub words_at_places : (context : Context) → IsSound context → WordsAtPlaces context
@@ -120,7 +114,7 @@ words_at_places context sound known_there number place bound top tree base s r m
               found = (found.low_is).found;
               is = (found.low_is).is;
               low = sym (found.low_is).low ∙ ap (byte_at memory) is_at;
-              high = ap (λ (n : ℕ). n / 256) (same_found (sym (found.low_is).is ∙ (found.high_is).is))
+              high = ap (λ (n : ℕ). n / 256) (same_given (sym (found.low_is).is ∙ (found.high_is).is))
                   ∙ sym (found.high_is).high ∙ ap (byte_at memory) next;
               low_steady = subst (λ (n : ℕ). IsSteady context.activation n) is_at (found.low_is).steady;
               high_steady = subst (λ (n : ℕ). IsSteady context.activation n) next (found.high_is).steady;
@@ -154,7 +148,7 @@ high_given outcome address t now ended a high on =
 reference_again : (found : Option Reference) (reference : Reference)
     → option_map (λ (inner : Reference). reference_after inner 1) found ≡ Some reference
     → (inner : Reference) × (found ≡ Some inner) × (reference_after inner 1 ≡ reference)
-reference_again (Some inner) reference same = (inner, refl, same_reference same)
+reference_again (Some inner) reference same = (inner, refl, same_Some _ _ same)
 reference_again None reference same = absurd cc
 
 -- the high byte of an ADDRESS
@@ -172,7 +166,7 @@ high_bytes_given context sound facts last number pushed from to bound tree node 
 
     by_hl : StepsStand context (PartDoes context) facts from (high_by_hl_steps number pushed) last to → Comes
     by_hl (PartThere {middle = middle} does (PlainThere there ends)) =
-        does_same (then_do (value_in context tree s) (λ n t. Gave n t)) (sym (given_last (value_in context tree s)))
+        does_same (then_do (value_in context tree s) (λ n t. Gave n t)) (sym (given_again (value_in context tree s)))
         (at_word from middle number does node types (omega arith) stage
         (λ n t now ended is given next.
         let held = next.ready.registers in

@@ -1,5 +1,5 @@
 -- The code of the high byte of a value.
-use Rattle.task_laws.proofs.Prelude.{◌≡◌, ℕ, ◌*◌, ◌/◌, ◌<◌, ◌==◌, Bool, true, false, List, [], ◌∷◌, Option, Some, None, option_map, option_and_then, refl, sym, ap, ◌∙◌, subst, arith, if◌then◌else◌, eqb-true, none-some, same_Some, ScalarType, Byte, Address, height_of, type_of, TypedExpression, TypedReference, ValueNode, TypesHold, SourceState, Gave, A, H, Registers, Expression, ExpressionForm, ExpressionNumber, Reference, IsExpression, IsReference, IsForm, IsNumber, IsValue, IsLocation, IsConstantList, IsConversion, IsEmbedded, IsUnary, IsBinary, IsCallOf, IsFunction, IsShift, IsInput, Arrives, HasRoom, Does, at_place, gives, Facts, Plain, clear_a, copy, high, set, part, number_of, reference_after, fits_byte, high_byte_in_memory, word_in_memory, word_of, byte_in_memory_steps, knowing, byte_number_steps, high_byte_steps, Context, IsSound, nodes_in, StepsStand, PartThere, Carries, Nothing, PartDoes}
+use Rattle.task_laws.proofs.Prelude.{◌≡◌, ℕ, ◌*◌, ◌/◌, ◌==◌, Bool, true, false, List, [], ◌∷◌, Option, Some, None, option_map, option_and_then, refl, sym, ap, ◌∙◌, subst, arith, if◌then◌else◌, eqb-true, none-some, same_Some, ScalarType, Byte, Address, height_of, type_of, TypedExpression, TypedReference, ValueNode, TypesHold, SourceState, Gave, A, H, Registers, Expression, ExpressionForm, ExpressionNumber, Reference, IsExpression, IsReference, IsForm, IsNumber, IsValue, IsLocation, IsConstantList, IsConversion, IsEmbedded, IsUnary, IsBinary, IsCallOf, IsFunction, IsShift, IsInput, Arrives, HasRoom, Does, at_place, gives, Facts, Plain, clear_a, copy, high, set, part, number_of, reference_after, fits_byte, high_byte_in_memory, word_in_memory, word_of, byte_in_memory_steps, knowing, byte_number_steps, high_byte_steps, Context, IsSound, nodes_in, StepsStand, PartThere, Carries, Nothing, PartDoes}
 use Rattle.steps8080.specs.declared.step.Task.TheVariants as tasks
 use Rattle.task_laws.proofs.Branches.Branches.{given_itself}
 use Rattle.task_laws.proofs.Bytes.ByteCode.{CodeOfA, at_last_instructions, beside_a, with_outcome}
@@ -10,6 +10,7 @@ use Rattle.task_laws.proofs.Machine.Nodes.{NodeOf, node_of}
 use Rattle.task_laws.proofs.Ranges.Ranges.{fits_means, ready_fits}
 use Rattle.task_laws.proofs.Machine.SiteNodes.{number_means, value_in}
 use Rattle.task_laws.proofs.Machine.Stages.{Stage, at_effects, at_word, does_same, script_of}
+use Rattle.task_laws.proofs.Numbers.{no_high_byte}
 
 -- a number into A
 pub byte_number_code : (k : ℕ) → CodeOfA (byte_number_steps k) (λ x. k)
@@ -56,9 +57,6 @@ IsWordOf context tree reference =
     × IsReference (nodes_in context) context.storage bound reference part
     × (tree ≡ ValueNode Address part)
 
-some_never : {B : Type 0} {reference : Reference} → None ≡ Some reference → B
-some_never same = absurd (none-some _ same)
-
 word_form :
     (context : Context) {bound : ℕ} {form : ExpressionForm} {tree : TypedExpression} {reference : Reference}
     → IsForm (nodes_in context) context.storage bound form tree
@@ -67,21 +65,18 @@ word_form :
 word_form context {bound = bound} (IsValue {scalar = Address} {reference = found} {part = part_of} is) same =
     subst (λ (one : Reference). IsWordOf context (ValueNode Address part_of) one)
     (same_Some found _ same) (bound, part_of, is, refl)
-word_form context (IsValue {scalar = Byte} is) same = some_never same
-word_form context IsNumber same = some_never same
-word_form context (IsLocation is) same = some_never same
-word_form context IsConstantList same = some_never same
-word_form context (IsConversion is) same = some_never same
-word_form context (IsEmbedded target is) same = some_never same
-word_form context (IsUnary is) same = some_never same
-word_form context (IsBinary one two) same = some_never same
-word_form context (IsCallOf given) same = some_never same
-word_form context (IsFunction is) same = some_never same
-word_form context (IsShift one two) same = some_never same
-word_form context IsInput same = some_never same
-
-small_high : (n : ℕ) → n < 256 → 0 ≡ n / 256
-small_high n small = omega (arith, small)
+word_form context (IsValue {scalar = Byte} is) same = absurd (none-some _ same)
+word_form context IsNumber same = absurd (none-some _ same)
+word_form context (IsLocation is) same = absurd (none-some _ same)
+word_form context IsConstantList same = absurd (none-some _ same)
+word_form context (IsConversion is) same = absurd (none-some _ same)
+word_form context (IsEmbedded target is) same = absurd (none-some _ same)
+word_form context (IsUnary is) same = absurd (none-some _ same)
+word_form context (IsBinary one two) same = absurd (none-some _ same)
+word_form context (IsCallOf given) same = absurd (none-some _ same)
+word_form context (IsFunction is) same = absurd (none-some _ same)
+word_form context (IsShift one two) same = absurd (none-some _ same)
+word_form context IsInput same = absurd (none-some _ same)
 
 -- the code of the high byte
 pub high_byte_law :
@@ -164,7 +159,7 @@ high_byte_law {context = context} {facts = facts} {last = last} {inner = inner} 
         (λ v u now memory_now equal next.
         let small = fits_means context sound facts s is types here (ready_fits context s ready) equal in
         at_last_instructions (clear_a ∷ []) sound (tt, tt) stands next
-        (λ final. high_given to v (cleared now ∙ small_high v small) final)))
+        (λ final. high_given to v (cleared now ∙ no_high_byte v small) final)))
     by_fits false here given =
         by_memory (word_of node.found.form (type_of inside)) refl
         (subst (λ (found : Option Reference). StepsStand context (PartDoes context) facts from

@@ -1,97 +1,20 @@
 -- The low byte of an expression in memory: it is at the place of the part of an object that the tree names.
-use Rattle.task_laws.proofs.Prelude.{◌≡◌, ◌&&◌, ℕ, ◌+◌, ◌*◌, ◌/◌, ◌%◌, ◌<◌, ◌≤◌, ◌⊎◌, inl, inr, List, Option, Some, refl, sym, ap, subst, ◌∙◌, arith, option_and_then, option_map_or, MEMORY_SIZE, byte_at, ScalarType, Byte, Address, Low, High, Double, height_of, height_of_reference, type_of, BasedOn, ConversionNode, Elsewhere, FunctionNode, InConstants, InData, InFrame, Nowhere, PartOf, Placed, TypedExpression, TypedReference, ValueNode, RefersToScalar, TypesHold, TypesHoldInReference, InMemory, InTheFrame, Surroundings, home_of, next_place, place_in, place_of, read_scalar, Displacement, based_place, displacement, SourceState, Outcome, Gave, Stop, Stopped, then_do, as_type, values_of, Registers, State, Expression, ExpressionForm, ExpressionNumber, Reference, IsBinary, IsCallOf, IsConstantList, IsConversion, IsEmbedded, IsExpression, IsForm, IsFunction, IsInput, IsLocation, IsNumber, IsReference, IsShift, IsUnary, IsValue, Does, at_place, Arrives, IsReady, gives, IsSteady, Facts, GoesOutside, memory, reference_after, knowing, Context, IsSound, nodes_in, AddressIsGiven, IsReferred, address_on_machine}
-use Rattle.typed_trees.specs.TypedTrees.{Home}
+use Rattle.task_laws.proofs.Prelude.{◌≡◌, ℕ, ◌*◌, ◌/◌, ◌%◌, ◌<◌, ◌≤◌, ◌⊎◌, inl, inr, List, Option, Some, refl, sym, ap, subst, ◌∙◌, arith, option_and_then, option_map_or, byte_at, ScalarType, Byte, Address, Low, High, Double, height_of, height_of_reference, type_of, ConversionNode, FunctionNode, PartOf, TypedExpression, TypedReference, ValueNode, RefersToScalar, TypesHold, TypesHoldInReference, next_place, place_in, read_scalar, SourceState, Outcome, Gave, Stop, Stopped, then_do, as_type, values_of, Registers, State, Expression, ExpressionForm, ExpressionNumber, Reference, IsBinary, IsCallOf, IsConstantList, IsConversion, IsEmbedded, IsExpression, IsForm, IsFunction, IsInput, IsLocation, IsNumber, IsReference, IsShift, IsUnary, IsValue, Does, at_place, Arrives, IsReady, gives, IsSteady, Facts, GoesOutside, memory, reference_after, knowing, Context, IsSound, nodes_in, AddressIsGiven, IsReferred, address_on_machine, as_type_fits, high_is_byte, same_Some, same_both, value_is_word}
 use Rattle.meaning.specs.Access.{Place}
 use Rattle.treecode.specs.declared.expression.ExpressionForm.TheVariants as forms
 use Rattle.treecode.specs.Traits as traits
 use Rattle.task_laws.proofs.Bytes.BytesAsked.{ByteIsAtHl, LocatesBytes}
 use Rattle.task_laws.proofs.Loads.BytesInMemory.{memory_same}
-use Rattle.task_laws.proofs.Bytes.ByteForms.{type_byte, type_small}
+use Rattle.task_laws.proofs.Bytes.ByteForms.{type_byte}
 use Rattle.task_laws.proofs.Places.Fitting.{gave_first, located_fits, refers_is_referred}
 use Rattle.task_laws.proofs.Places.Located.{located_in}
 use Rattle.task_laws.proofs.Stores.NextBytes.{next_part, reference_next}
 use Rattle.task_laws.proofs.Machine.Nodes.{NodeOf, node_of}
-use Rattle.task_laws.proofs.Relations.PlaceComparisons.{word_of_type}
 use Rattle.task_laws.proofs.Machine.Rules.{room_for}
 use Rattle.task_laws.proofs.Places.ReadPlaces.{HighIsAt, LowIsAt, WordIsAt, does_outside, scalar_found, then_outside, word_found}
 use Rattle.task_laws.proofs.Machine.SiteNodes.{value_in}
 use Rattle.task_laws.proofs.Machine.Stages.{does_same, then_does_where}
-
-memory_next : (start one offset two : ℕ) (s : SourceState)
-    → Gave (InMemory ((start + (one + (offset + 1) + two)) % MEMORY_SIZE)) s
-    ≡ Gave (InMemory (((start + (one + offset + two)) % MEMORY_SIZE + 1) % MEMORY_SIZE)) s
-memory_next start one offset two s = ap (λ (n : ℕ). Gave (InMemory n) s) (further start one offset two)
-  where
-    further : (start one offset two : ℕ)
-        → (start + (one + (offset + 1) + two)) % MEMORY_SIZE
-        ≡ ((start + (one + offset + two)) % MEMORY_SIZE + 1) % MEMORY_SIZE
-    further start one offset two = omega arith
-
--- a part one byte further on is at the next place
-based_next :
-    (home : Home) (around : Surroundings) (object one offset two : ℕ) (is_inside : _) (s : SourceState)
-    → based_place home around object (one + (offset + 1) + two) is_inside s
-    ≡ then_do (based_place home around object (one + offset + two) is_inside s)
-    (λ place t. Gave (next_place place) t)
-based_next (BasedOn base) around object one offset two is_inside s =
-    by (read_scalar around.program Address (place_of around base) s)
-  where
-    further : (start : ℕ) → (start + (one + (offset + 1) + two)) % MEMORY_SIZE
-        ≡ ((start + (one + offset + two)) % MEMORY_SIZE + 1) % MEMORY_SIZE
-    further start = omega arith
-
-    by : (outcome : Outcome ℕ)
-        → then_do outcome (λ start t. Gave (InMemory ((start + (one + (offset + 1) + two)) % MEMORY_SIZE)) t)
-        ≡ then_do (then_do outcome
-        (λ start t. Gave (InMemory ((start + (one + offset + two)) % MEMORY_SIZE)) t))
-        (λ place t. Gave (next_place place) t)
-    by (Gave start t) = ap (λ (n : ℕ). Gave (InMemory n) t) (further start)
-    by (Stopped why t) = refl
-based_next (InFrame procedure) around object one offset two is_inside s =
-    ap (λ (n : ℕ). Gave (InTheFrame object n is_inside) s) (further one offset two)
-  where
-    further : (one offset two : ℕ) → one + (offset + 1) + two ≡ one + offset + two + 1
-    further one offset two = omega arith
-based_next (InData values) around object one offset two is_inside s = memory_next (Rattle.meaning.specs.Access.address_of around object) one offset two s
-based_next (InConstants values) around object one offset two is_inside s = memory_next (Rattle.meaning.specs.Access.address_of around object) one offset two s
-based_next (Placed at) around object one offset two is_inside s = memory_next (Rattle.meaning.specs.Access.address_of around object) one offset two s
-based_next Elsewhere around object one offset two is_inside s = memory_next (Rattle.meaning.specs.Access.address_of around object) one offset two s
-based_next Nowhere around object one offset two is_inside s = memory_next (Rattle.meaning.specs.Access.address_of around object) one offset two s
-
--- the rest after two outcomes
-after_both :
-    {A B C D : Type 0} (first : Outcome A) (second : A → SourceState → Outcome B)
-    (one : A → B → SourceState → Outcome C)
-    (other : A → B → SourceState → Outcome D) (go : D → SourceState → Outcome C)
-    → ((a : A) (b : B) (u : SourceState) → one a b u ≡ then_do (other a b u) go)
-    → then_do first (λ a t. then_do (second a t) (λ b u. one a b u))
-    ≡ then_do (then_do first (λ a t. then_do (second a t) (λ b u. other a b u))) go
-after_both {B = B} {C = C} (Gave a t) second one other go same = by (second a t)
-  where
-    by : (outcome : Outcome B) → then_do outcome (λ b u. one a b u) ≡ then_do
-        (then_do outcome (λ b u. other a b u)) go
-    by (Gave b u) = same a b u
-    by (Stopped why u) = refl
-after_both (Stopped why t) second one other go same = refl
-
-pub located_next :
-    (context : Context) (part : TypedReference) (s : SourceState)
-    → located_in context (next_part part) s ≡ then_do (located_in context part s)
-    (λ place t. Gave (next_place place) t)
-located_next context (PartOf object subscript member offset member_subscript) s =
-    let around = context.activation.around in
-    after_both (displacement context.later around subscript s)
-    (λ (one : Displacement) t. displacement context.later around member_subscript t)
-    (λ (one two : Displacement) u. based_place (home_of around object) around object
-    (one.bytes + (offset + 1) + two.bytes) (one.is_inside && two.is_inside) u)
-    (λ (one two : Displacement) u. based_place (home_of around object) around object
-    (one.bytes + offset + two.bytes) (one.is_inside && two.is_inside) u)
-    (λ place t. Gave (next_place place) t)
-    (λ one two u. based_next (home_of around object) around object one.bytes offset two.bytes (one.is_inside && two.is_inside) u)
-
-same_both : {A : Type 0} {one other : A} {t u : SourceState} → Gave one t ≡ Gave other u → (one ≡ other)
-    × (t ≡ u)
-same_both same = (cc, cc)
+use Rattle.task_laws.proofs.Bytes.HighBytes.{next_height, next_is_referred, next_located}
 
 -- The low byte of an expression is at the part of an object of a reference.
 pub record ByteLies (context : Context) (reference : Reference) (tree : TypedExpression) : Type 0 where
@@ -128,8 +51,8 @@ pub high_found :
 high_found {context = context} part place s u top base memory r sound refers same ready =
     let program = context.activation.around.program in
     let given = gave_first (located_in context part s) (λ place t. Gave (next_place place) t) place u
-    (sym (located_next context part s) ∙ same) in
-    let both = same_both given.next in
+    (sym (next_located context part s) ∙ same) in
+    let both = same_both _ _ _ _ given.next in
     let value_is : value_in context (ValueNode Address part) s ≡ read_scalar program Address given.first given.t
     = ap (λ (outcome : Outcome Place). then_do outcome (λ place t. read_scalar program Address place t)) given.is in
     let ready_there : IsReady context.activation top base (given.t).memory (given.t).frame r memory
@@ -157,7 +80,7 @@ pub high_stops :
     → located_in context (next_part part) s ≡ Stopped why u
     → value_in context (ValueNode Address part) s ≡ Stopped why u
 high_stops context part why s u same =
-    by (located_in context part s) (sym (located_next context part s) ∙ same)
+    by (located_in context part s) (sym (next_located context part s) ∙ same)
   where
     by : (outcome : Outcome Place) → then_do outcome (λ place t. Gave (next_place place) t) ≡ Stopped why u
         → then_do outcome (λ place t. read_scalar context.activation.around.program Address place t) ≡ Stopped
@@ -165,17 +88,10 @@ high_stops context part why s u same =
     by (Gave place t) is = absurd cc
     by (Stopped reason t) is = cc
 
-next_referred : (context : Context) (part : TypedReference) → IsReferred context part → IsReferred context
-    (next_part part)
-next_referred context (PartOf _ _ _ _ _) is = is
-
 next_types : (context : Context) (part : TypedReference)
     → TypesHoldInReference context.typed context.within part → TypesHoldInReference context.typed
     context.within (next_part part)
 next_types context (PartOf _ _ _ _ _) is = is
-
-next_height : (part : TypedReference) → height_of_reference (next_part part) ≡ height_of_reference part
-next_height (PartOf _ _ _ _ _) = refl
 
 -- the parts of a reference one byte further on
 pub record NextLies (context : Context) (bound : ℕ) (reference : Reference) (part : TypedReference) : Type 0 where
@@ -192,16 +108,13 @@ pub next_lies :
     → NextLies context bound reference part
 next_lies context bound reference part is refers types = record {
   is = reference_next (nodes_in context) context.storage bound reference part is;
-  referred = next_referred context part (refers_is_referred context Address part refers);
+  referred = next_is_referred context part (refers_is_referred context Address part refers);
   types = next_types context part types;
   height = next_height part;
 }
 
 high_byte : (n : ℕ) → n < 65536 → n / 256 ≡ n / 256 % 256
 high_byte n small = omega (arith, small)
-
-high_small : (n : ℕ) → n < 65536 → n / 256 < 256
-high_small n small = omega (arith, small)
 
 module _ (context : Context) (sound : IsSound context) where
   -- a value that is read
@@ -256,7 +169,7 @@ module _ (context : Context) (sound : IsSound context) where
         found = high.found / 256;
         is = ap (λ (given : Outcome ℕ). then_do given (λ n t. Gave (n / 256) t)) high.is;
         low = high.high ∙ high_byte high.found high.small;
-        small = high_small high.found high.small;
+        small = high_is_byte high.found high.small;
         steady = high.steady;
       })
       by place u memory outcome (inr outside) = inr (then_outside outcome _ outside)
@@ -310,9 +223,6 @@ module _ (context : Context) (sound : IsSound context) where
       → tells form ≡ Some reference
       → ByteLies context reference tree
 
-  same_some : {one other : Reference} → Some one ≡ Some other → one ≡ other
-  same_some same = cc
-
   -- where its byte after it is one
   after_lies :
       (reference : Reference) (operand : ExpressionNumber) (tree : TypedExpression)
@@ -330,7 +240,7 @@ module _ (context : Context) (sound : IsSound context) where
           → traits.byte_after scalar form ≡ Some reference
           → ByteLies context reference (FunctionNode High tree)
       by bound _ Address tree types same (IsValue {scalar = Address} {reference = inner} {part = part} is) told =
-          subst (λ (given : Reference). ByteLies context given (FunctionNode High (ValueNode Address part))) (same_some told)
+          subst (λ (given : Reference). ByteLies context given (FunctionNode High (ValueNode Address part))) (same_Some _ _ told)
           (high_lies part is types)
       by bound _ Address tree types same (IsValue {scalar = Byte} is) told = absurd cc
       by bound _ Address tree types same other told = absurd cc
@@ -339,7 +249,7 @@ module _ (context : Context) (sound : IsSound context) where
   -- a form other than these
   inner_lies : LiesBy (λ form. traits.memory_of_inner (nodes_in context) form)
   inner_lies bound _ _ reference (IsValue {scalar = scalar} {part = part} is) types told =
-      subst (λ (given : Reference). ByteLies context given (ValueNode scalar part)) (same_some told) (value_lies scalar part is types)
+      subst (λ (given : Reference). ByteLies context given (ValueNode scalar part)) (same_Some _ _ told) (value_lies scalar part is types)
   inner_lies bound _ _ reference (IsFunction {function = High} {operand = operand} {tree = tree} is) types told =
       let node = node_of {context = context} {number = operand} sound is in
       after_lies reference operand tree node types
@@ -355,7 +265,7 @@ module _ (context : Context) (sound : IsSound context) where
       → ByteLies context reference (ConversionNode scalar tree)
   conversion_inside scalar tree lies =
       inside_lies (ConversionNode scalar tree) tree (as_type scalar) (omega arith) (λ s. refl)
-      (λ n small. type_byte scalar n) (λ n small. type_small scalar n) lies
+      (λ n small. type_byte scalar n) (λ n small. as_type_fits scalar n) lies
 
   low_inside :
       {reference : Reference} (tree : TypedExpression)
@@ -371,7 +281,7 @@ module _ (context : Context) (sound : IsSound context) where
       → ByteLies context reference (FunctionNode Double tree)
   double_inside tree lies =
       inside_lies (FunctionNode Double tree) tree (λ n. n) (omega arith) (λ s. refl)
-      (λ n small. refl) (λ n small. word_of_type (type_of tree) n small) lies
+      (λ n small. refl) (λ n small. value_is_word (type_of tree) n small) lies
 
   -- inside a conversion, LOW or DOUBLE too
   deeper :

@@ -1,5 +1,5 @@
 -- The low byte of values that are computed through HL, of calls and of ports.
-use Rattle.task_laws.proofs.Prelude.{◌≡◌, ℕ, ◌*◌, ◌%◌, ◌<◌, true, List, [], ◌∷◌, ◌++◌, Some, refl, sym, subst, arith, ScalarType, height_of, type_of, CallNode, InputNode, TypedArguments, TypedExpression, Takes, TypesHold, TypesHoldInArguments, SourceState, Outcome, Gave, values_of, In, A, L, Registers, State, ExpressionNumber, Range, AreArguments, IsExpression, Arrives, IsReady, Does, at_place, gives, Facts, Plain, copy, is_free, low_of_value_steps, call_steps, knowing, low_of_word_steps, Context, InRegister, IsSound, nodes_in, StepsStand, PlainThere, ByteIsGiven, Know, PartDoes}
+use Rattle.task_laws.proofs.Prelude.{◌≡◌, ℕ, ◌*◌, ◌%◌, true, List, [], ◌∷◌, ◌++◌, Some, refl, sym, subst, arith, ScalarType, height_of, type_of, CallNode, InputNode, TypedArguments, TypedExpression, Takes, TypesHold, TypesHoldInArguments, SourceState, Outcome, Gave, values_of, In, A, L, Registers, State, ExpressionNumber, Range, AreArguments, IsExpression, Arrives, IsReady, Does, at_place, gives, Facts, Plain, copy, is_free, low_of_value_steps, call_steps, knowing, low_of_word_steps, Context, InRegister, IsSound, nodes_in, StepsStand, PlainThere, ByteIsGiven, Know, PartDoes, byte_as_low, byte_is_low}
 use Rattle.trees.specs.declared.declaration.ScalarType.TheVariants as scalars
 use Rattle.task_laws.proofs.Branches.Branches.{given_itself}
 use Rattle.task_laws.proofs.Bytes.ByteCode.{ByteCarried, OfOne, at_last_instructions, byte_of_word, with_outcome}
@@ -7,9 +7,9 @@ use Rattle.task_laws.proofs.Bytes.ByteForms.{byte_given}
 use Rattle.task_laws.proofs.Calls.Calls.{call_does}
 use Rattle.task_laws.proofs.Machine.EffectForms.{input_goes}
 use Rattle.task_laws.proofs.Ranges.Ranges.{ready_fits, value_fits}
-use Rattle.task_laws.proofs.Machine.Rules.{Parted, split}
+use Rattle.task_laws.proofs.Machine.Rules.{Parted, split, room_for}
 use Rattle.task_laws.proofs.Machine.SiteNodes.{value_in}
-use Rattle.task_laws.proofs.Machine.Stages.{Stage, at_end, gives_then, has_less_room, script_of}
+use Rattle.task_laws.proofs.Machine.Stages.{Stage, at_end, gives_then, script_of}
 
 -- through HL
 pub low_word_law :
@@ -84,11 +84,8 @@ input_law {to = to} number port pushed sound (PlainThere there rest) top base s 
     (λ small next.
     at_end rest next
     (λ final.
-    byte_given to number _ (byte_itself _ small) small
+    byte_given to number _ (byte_is_low _ small) small
     (λ free. record { b = refl; c = refl; d = refl; e = refl; h = refl; l = refl; same_memory = refl }) final))
-  where
-    byte_itself : (n : ℕ) → n < 256 → n ≡ n % 256
-    byte_itself n small = omega (arith, small)
 
 -- the low byte of a value that is in A or HL, by its type
 low_of_value :
@@ -105,10 +102,7 @@ low_of_value :
     → Does (script_of context) budget more (at_place from r memory t.events) outcome Good
 unfolding low_of_value_steps
 low_of_value {r = r} scalars.Byte found sound there stand stage rest =
-    at_end stand stage (λ final. rest r (low_is r.a found there stage.ready.registers.a) final)
-  where
-    low_is : (a found : ℕ) → a ≡ found → a < 256 → a ≡ found % 256
-    low_is a found same small = omega (arith, same, small)
+    at_end stand stage (λ final. rest r (byte_as_low r.a found there stage.ready.registers.a) final)
 low_of_value scalars.Address found sound there stand stage rest =
     at_last_instructions (copy A L ∷ []) sound (tt, tt) stand stage (λ final. rest _ there.1 final)
 
@@ -129,7 +123,7 @@ called_law {context = context} {facts = facts} {last = last} {from = from} {to =
     low_given number from s r memory sound is (takes, types) not_free ready
     (gives_then (value_in context (CallNode procedure scalar trees) s)
     (call_does procedure range sound parts.first bound (Some scalar) trees are takes types top base s r memory
-    below (has_less_room _ (omega arith) room) ready known tt)
+    below (room_for _ (omega arith) room) ready known tt)
     (λ found t end arrives spent.
     subst (λ (state : State). Does (script_of context) t.budget 0 state (Gave found t)
     (Arrives context.activation top base to (LowIsGiven context last r memory))) (sym arrives.is_at)

@@ -1,5 +1,5 @@
 -- Tests whether an ADDRESS is 0: by its value in HL, or by the byte that a mask keeps.
-use Rattle.task_laws.proofs.Prelude.{◌≡◌, ℕ, ◌*◌, ◌/◌, ◌%◌, ◌<◌, ◌≤◌, ◌==◌, Bool, true, false, ◌||◌, nat_lt, bit_and, List, [], ◌∷◌, ◌++◌, refl, sym, ap, ◌∙◌, subst, arith, if◌then◌else◌, ltb-true, eqb-true, eqb-false, eq-eqb, ne_eqb, and_le_l, and_le_r, and_mod, and_shr, height_of, type_of, TypedExpression, TypesHold, SourceState, Gave, then_do, values_of, AccumulateImmediate, And, operate, Registers, ExpressionNumber, IsExpression, Facts, Plain, high, low, part, Arrives, Does, at_place, gives, same_test, Is, Purpose, Branch, Value, Setting, number_in_a_steps, masked_steps, zero_by_hl_steps, knowing, Context, IsSound, nodes_in, StepsStand, PartThere, PlainThere, Carries, Nothing, PartDoes}
+use Rattle.task_laws.proofs.Prelude.{◌≡◌, ℕ, ◌*◌, ◌/◌, ◌%◌, ◌<◌, ◌≤◌, ◌==◌, Bool, true, false, ◌||◌, nat_lt, bit_and, List, [], ◌∷◌, ◌++◌, refl, sym, ap, ◌∙◌, subst, arith, if◌then◌else◌, ltb-true, eqb-true, eqb-false, eq-eqb, ne_eqb, and_le_l, and_le_r, and_mod, and_shr, height_of, type_of, TypedExpression, TypesHold, SourceState, Gave, then_do, values_of, AccumulateImmediate, And, operate, Registers, ExpressionNumber, IsExpression, Facts, Plain, high, low, part, Arrives, Does, at_place, gives, same_test, Is, Purpose, Branch, Value, Setting, number_in_a_steps, masked_steps, zero_by_hl_steps, knowing, Context, IsSound, nodes_in, StepsStand, PartThere, PlainThere, Carries, Nothing, PartDoes, low_of_byte}
 use lib.Bits.{and_zero_r}
 use Rattle.trees.specs.declared.declaration.ScalarType.TheVariants as scalars
 use Rattle.steps8080.specs.declared.step.Task.TheVariants as tasks
@@ -40,10 +40,7 @@ shown_zero context last Value r now memory memory_now found shows known =
 pub low_mask : (v n : ℕ) → n < 256 → bit_and (v % 256) (n % 256) ≡ bit_and v n
 low_mask v n small =
     let less = and_le_r v n in
-    sym (and_mod v n 8) ∙ all (bit_and v n) (omega (arith, less, small))
-  where
-    all : (m : ℕ) → m < 256 → m % 256 ≡ m
-    all m bound = omega (arith, bound)
+    sym (and_mod v n 8) ∙ low_of_byte (bit_and v n) (omega (arith, less, small))
 
 high_mask : (v n : ℕ) → n % 256 ≡ 0 → (bit_and (v / 256) (n / 256) == 0) ≡ (bit_and v n == 0)
 high_mask v n is =

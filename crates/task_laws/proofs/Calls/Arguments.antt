@@ -1,9 +1,9 @@
 -- Code of the arguments of a call: all but the last are pushed.
-use Rattle.task_laws.proofs.Prelude.{◌≡◌, ℕ, zero, suc, ◌+◌, ◌-◌, ◌*◌, ◌%◌, ◌<◌, ◌≤◌, inl, inr, nat_lt, true, List, [], ◌∷◌, ◌++◌, length, slice_get, Some, None, refl, sym, ap, subst, ◌∙◌, arith, lt-ltb, length-set, MEMORY_SIZE, byte_at, ScalarType, Byte, Address, count_of_arguments, height_of_arguments, type_of, MoreArguments, NoArguments, TypedArguments, TypedExpression, TypesHoldInArguments, types_of, value, values, SourceState, Outcome, Gave, then_do, flag_byte, Registers, State, word, wrap, pushed_word, pushed_keeps, IsPushed, pushed_is_pushed, ExpressionNumber, Range, AreArguments, AreMore, AreNone, IsExpression, argument, Facts, Step, scalar, Activation, IsReady, LiesWell, Owns, Does, at_place, keeps_all, keeps_both, keeps_wider, owns_more, pushed_is_not_owned, argument_steps, arguments_steps, last_argument_steps, push_of, pushed_argument_steps, value_task, knowing, ArgumentsLie, Context, InRegister, InWord, IsSound, bytes_pushed, nodes_in, NoneThere, PartThere, PlainThere, StepsStand, PartDoes, TaskDoes}
+use Rattle.task_laws.proofs.Prelude.{◌≡◌, ℕ, zero, suc, ◌+◌, ◌-◌, ◌*◌, ◌%◌, ◌<◌, ◌≤◌, inl, inr, nat_lt, true, List, [], ◌∷◌, ◌++◌, length, slice_get, Some, None, refl, sym, ap, subst, ◌∙◌, arith, lt-ltb, length-set, MEMORY_SIZE, byte_at, ScalarType, Byte, Address, count_of_arguments, height_of_arguments, type_of, MoreArguments, NoArguments, TypedArguments, TypedExpression, TypesHoldInArguments, types_of, value, values, SourceState, Outcome, Gave, then_do, flag_byte, Registers, State, word, wrap, pushed_word, pushed_keeps, IsPushed, pushed_is_pushed, ExpressionNumber, Range, AreArguments, AreMore, AreNone, IsExpression, argument, Facts, Step, scalar, Activation, IsReady, LiesWell, Owns, Does, at_place, keeps_all, keeps_both, keeps_wider, owns_more, pushed_is_not_owned, argument_steps, arguments_steps, last_argument_steps, push_of, pushed_argument_steps, value_task, knowing, ArgumentsLie, Context, InRegister, InWord, IsSound, bytes_pushed, nodes_in, NoneThere, PartThere, PlainThere, StepsStand, PartDoes, TaskDoes, word_high_byte, flag_byte_small}
 use Rattle.asm8080.specs.Standing.{Keeps}
 use Rattle.task_laws.proofs.Machine.Nodes.{node_of}
 use Rattle.task_laws.proofs.Machine.Rules.{Parted, split}
-use Rattle.task_laws.proofs.Machine.Stages.{Stage, at_push, does_same, flag_byte_is_small, script_of}
+use Rattle.task_laws.proofs.Machine.Stages.{Stage, at_push, does_same, script_of}
 use Rattle.task_laws.proofs.Machine.Effects.{then_again}
 use Rattle.task_laws.proofs.Machine.StoredValues.{at_value}
 
@@ -51,7 +51,7 @@ push_keeps activation top number memory room = record {
 }
 
 -- the type of an argument as code sees it
-scalar_is :
+pub scalar_is :
     {context : Context} {bound : ℕ} {number : ExpressionNumber} {tree : TypedExpression} (facts : Facts)
     → IsSound context
     → IsExpression (nodes_in context) context.storage bound number.index tree
@@ -98,13 +98,10 @@ lies_in_word activation Byte found top low r memory ended lies room below size f
     ap (byte_at ended) (one_more low top place room)
     ∙ kept.bytes (top - 1)
     (pushed_is_not_owned activation (top - 2) (top - 1) lies (omega (arith, room)) (omega arith) (omega (arith, room, below)))
-    ∙ pushed.high ∙ high_of r.a (flag_byte r.flags) flags ∙ is
+    ∙ pushed.high ∙ word_high_byte r.a (flag_byte r.flags) flags ∙ is
   where
     one_more : (low top : ℕ) → low ≡ top - 2 → activation.floor + 2 ≤ top → low + 1 ≡ top - 1
     one_more low top place room = omega (arith, place, room)
-
-    high_of : (high low : ℕ) → low < 256 → Rattle.isa8080.specs.State.high_byte (word high low) ≡ high
-    high_of high low small = omega (arith, small)
 lies_in_word activation Address found top low r memory ended lies room below size flags small is kept place =
     let above = lies.above in
     let stack = lies.placed.stack_in_memory in
@@ -117,14 +114,11 @@ lies_in_word activation Address found top low r memory ended lies room below siz
       ap (byte_at ended) (one_more low top place room)
           ∙ kept.bytes (top - 1)
           (pushed_is_not_owned activation (top - 2) (top - 1) lies (omega (arith, room)) (omega arith) (omega (arith, room, below)))
-          ∙ pushed.high ∙ high_of r.h r.l small ∙ is.0,
+          ∙ pushed.high ∙ word_high_byte r.h r.l small ∙ is.0,
     )
   where
     one_more : (low top : ℕ) → low ≡ top - 2 → activation.floor + 2 ≤ top → low + 1 ≡ top - 1
     one_more low top place room = omega (arith, place, room)
-
-    high_of : (high low : ℕ) → low < 256 → Rattle.isa8080.specs.State.high_byte (word high low) ≡ high
-    high_of high low small = omega (arith, small)
 
     low_of : (high low : ℕ) → low < 256 → Rattle.isa8080.specs.State.low_byte (word high low) ≡ low
     low_of high low small = omega (arith, small)
@@ -304,7 +298,7 @@ at_arguments {context = context} {top = top} {pushed = pushed} {need = need} {ba
               count = ap (λ n. suc n) count;
               lie = (
                 lies_in_word context.activation (type_of tree) found top (low + 2 * length (types_of nexts)) now memory_now ended lies start highest
-                    after.ready.shares.is_memory.size (flag_byte_is_small now.flags) registers.l is_there passed.kept
+                    after.ready.shares.is_memory.size (flag_byte_small now.flags) registers.l is_there passed.kept
                     (omega (arith, count, height, start)),
                 passed.lie,
               );

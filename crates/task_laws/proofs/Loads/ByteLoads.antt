@@ -1,5 +1,5 @@
 -- The code that puts the low byte of a value in memory into A.
-use Rattle.task_laws.proofs.Prelude.{◌≡◌, ℕ, ◌+◌, ◌*◌, ◌%◌, ◌<◌, true, List, [], ◌∷◌, Option, Some, None, refl, sym, ap, subst, ◌∙◌, arith, MEMORY_SIZE, byte_at, byte_small, ScalarType, Byte, Address, height_of_reference, size_of_scalar, TypedReference, RefersToScalar, TypesHoldInReference, SourcePlace, InMemory, InTheFrame, read_scalar, SourceState, Outcome, Gave, then_do, values_of, Registers, State, wrap, Location, Reference, IsReference, is_static_location, Does, at_place, Activation, Arrives, IsReady, gives, IsSteady, Facts, Plain, load, part, location_of, byte_in_memory_steps, location_byte_steps, knowing, Context, IsSound, nodes_in, StepsStand, PartThere, Carries, ChangesAOnly, Know, Nothing, PartDoes, address_on_machine}
+use Rattle.task_laws.proofs.Prelude.{◌≡◌, ℕ, ◌+◌, ◌*◌, ◌%◌, ◌<◌, true, List, [], ◌∷◌, Option, Some, None, refl, sym, ap, subst, ◌∙◌, arith, MEMORY_SIZE, byte_at, byte_small, ScalarType, Byte, Address, height_of_reference, size_of_scalar, TypedReference, RefersToScalar, TypesHoldInReference, SourcePlace, InMemory, InTheFrame, read_scalar, SourceState, Outcome, Gave, then_do, values_of, Registers, State, wrap, Location, Reference, IsReference, is_static_location, Does, at_place, Activation, Arrives, IsReady, gives, IsSteady, Facts, Plain, load, part, location_of, byte_in_memory_steps, location_byte_steps, knowing, Context, IsSound, nodes_in, StepsStand, PartThere, Carries, ChangesAOnly, Know, Nothing, PartDoes, address_on_machine, same_Some, two_bytes_fit, given_again}
 use Rattle.isa8080.specs.declared.instr.Register.TheVariants as registers
 use Rattle.steps8080.specs.declared.step.Task.TheVariants as tasks
 use Rattle.task_laws.proofs.Machine.Values.{then_does_where}
@@ -7,13 +7,10 @@ use Rattle.task_laws.proofs.Places.Reading.{FitsIn, byte_read, word_read}
 use Rattle.task_laws.proofs.Places.Located.{located_in}
 use Rattle.task_laws.proofs.Places.Fitting.{located_fits, refers_is_referred}
 use Rattle.task_laws.proofs.Places.LocationBytes.{load_a_goes, location_byte_goes}
-use Rattle.task_laws.proofs.Loads.Loads.{given_last, lies_there, same_location_found, static_only}
+use Rattle.task_laws.proofs.Loads.Loads.{lies_there, static_only}
 
 low_of : (low high : ℕ) → low < 256 → (low + 256 * high) % 256 ≡ low
 low_of low high small = omega (arith, small)
-
-two_bytes : (low high : ℕ) → low < 256 → high < 256 → low + 256 * high < 65536
-two_bytes low high one two = omega (arith, one, two)
 
 -- a scalar that is read: its low byte is at the address of its place
 pub scalar_read :
@@ -40,7 +37,7 @@ scalar_read {context = context} {memory = memory} Address place s go sound ready
     let small = byte_small memory address ready.shares.is_memory in
     let small_too = byte_small memory (wrap (address + 1)) ready.shares.is_memory in
     word_read place s go sound ready fits
-    (λ steady next. does (low + 256 * high) steady (sym (low_of low high small)) (two_bytes low high small small_too))
+    (λ steady next. does (low + 256 * high) steady (sym (low_of low high small)) (two_bytes_fit low high small small_too))
 
 pub place_small : (activation : Activation) (size : ℕ) (place : SourcePlace) → FitsIn activation size place
     → address_on_machine activation place < MEMORY_SIZE
@@ -86,7 +83,7 @@ byte_in_memory_law {context = context} {facts = facts} {last = last} {reference 
         let fits = located_fits context scalar tree lies.place s s sound refers (lies.means s) in
         subst (λ (outcome : Outcome ℕ). Does context.activation.around.program.script s.budget 0 (at_place from r memory s.events) outcome
         (Arrives context.activation top base to (ByteIsLoaded context facts last reference scalar r memory)))
-        (given_last (read_scalar context.activation.around.program scalar lies.place s)
+        (given_again (read_scalar context.activation.around.program scalar lies.place s)
         ∙ sym (ap (λ (outcome : Outcome SourcePlace). then_do outcome (λ place t. read_scalar context.activation.around.program scalar place t)) (lies.means s)))
         (scalar_read scalar lies.place s (λ n t. Gave n t) sound ready fits
         (λ n steady low small.
@@ -104,7 +101,7 @@ byte_in_memory_law {context = context} {facts = facts} {last = last} {reference 
             small = small;
             known = on.known;
             free = λ other other_is static.
-                loaded.others (ap is_static_location (same_location_found (sym found ∙ other_is)) ∙ static);
+                loaded.others (ap is_static_location (same_Some _ _ (sym found ∙ other_is)) ∙ static);
           };
         }))))
     by_location None found (PartThere {middle = middle} does stand) =
@@ -118,7 +115,7 @@ byte_in_memory_law {context = context} {facts = facts} {last = last} {reference 
         (Arrives context.activation top base to (ByteIsLoaded context facts last reference scalar r memory))) (sym given.is_at)
         (subst (λ (outcome : Outcome ℕ). Does context.activation.around.program.script t.budget 0 (at_place middle there ended t.events) outcome
         (Arrives context.activation top base to (ByteIsLoaded context facts last reference scalar r memory)))
-        (given_last (read_scalar context.activation.around.program scalar place t))
+        (given_again (read_scalar context.activation.around.program scalar place t))
         (scalar_read scalar place t (λ n u. Gave n u) sound given.ready (located_fits context scalar tree place s t sound refers same)
         (λ n steady low small.
         load_a_goes address there sound steady (given.holds).hl stand (record { ready = given.ready; known = (given.holds).known })

@@ -1,5 +1,5 @@
 -- Operations on a word in memory, at a known place, and the word in HL.
-use Rattle.task_laws.proofs.Prelude.{◌≡◌, ℕ, ◌+◌, ◌-◌, ◌/◌, ◌%◌, ◌<◌, Bool, true, false, List, [], ◌∷◌, Option, Some, None, if◌then◌else◌, refl, sym, ◌∙◌, subst, arith, byte_at, ScalarType, Address, height_of, type_of, SourceState, Gave, values_of, Operation, Subtract, SubtractWithBorrow, A, H, L, Registers, ExpressionNumber, Place, place_after, keeps_none, Does, at_place, Arrives, IsSteady, place_at, Facts, Plain, Word, LoadA, copy, with_register, Site, keeps, may_exchange, direct_word, RightInHl, Operands, knowing, left_word, with_word_steps, Context, IsSound, StepsStand, PartThere, WordThere, PartDoes, WordIsGiven}
+use Rattle.task_laws.proofs.Prelude.{◌≡◌, ℕ, ◌+◌, ◌-◌, ◌/◌, ◌%◌, ◌<◌, Bool, true, false, List, [], ◌∷◌, Option, Some, None, if◌then◌else◌, refl, sym, ◌∙◌, arith, byte_at, Address, height_of, type_of, SourceState, Gave, Operation, Subtract, SubtractWithBorrow, A, H, L, Registers, ExpressionNumber, Place, place_after, keeps_none, Does, at_place, Arrives, IsSteady, place_at, Facts, Plain, Word, LoadA, copy, with_register, Site, keeps, may_exchange, direct_word, RightInHl, Operands, knowing, left_word, with_word_steps, Context, IsSound, StepsStand, PartThere, WordThere, PartDoes, WordIsGiven}
 use Rattle.task_laws.proofs.Bytes.BytesAsked.{WordAtPlace, WordsAtPlaces}
 use Rattle.task_laws.proofs.Words.PairedWords.{Makes, byte_instructions, difference_makes, kept_none}
 use Rattle.task_laws.proofs.Relations.PlaceComparisons.{read_then}
@@ -11,6 +11,7 @@ use Rattle.task_laws.proofs.Machine.Values.{HasWord, word_given, word_then}
 use Rattle.task_laws.proofs.Words.WordBinaries.{LeftWordDoes}
 use Rattle.task_laws.proofs.Words.WordForms.{difference_small}
 use Rattle.task_laws.proofs.Words.WordSums.{less_high}
+use Rattle.task_laws.proofs.Numbers.{address_is_word}
 
 -- an operation of a word that was read and the one in HL
 module _
@@ -81,9 +82,6 @@ left_word_is site operands place is = by (direct_word site operands.left) (may_e
     by (Some one) false here allowed is = absurd cc
     by None may here allowed is = absurd cc
 
-word_of : (n : ℕ) (scalar : ScalarType) → scalar ≡ Address → n < values_of scalar → n < 65536
-word_of n scalar same small = subst (λ (of : ScalarType). n < values_of of) same small
-
 -- a difference with a word in memory on the left
 pub left_words_do : (context : Context) → IsSound context → WordsAtPlaces context → LeftWordDoes context
 left_words_do context sound places facts last operands number place pushed top need from to base s r memory first second words is none less room height (PartThere part rest) going =
@@ -98,8 +96,8 @@ left_words_do context sound places facts last operands number place pushed top n
     (λ (read : WordAtPlace context place ended t (value_in context first t)).
     with_word_then Subtract SubtractWithBorrow (λ x y. (x + (65536 - y)) % 65536) number sound difference_makes none
     place read.found y t r now memory ended
-    (word_of read.found (type_of first) words.one_is
+    (address_is_word read.found (type_of first) words.one_is
     (value_fits t sound words.one.is words.one.types (ready_fits context t going_on.ready) read.is))
-    (word_of y (type_of second) words.two_is given.small) (difference_small read.found y)
+    (address_is_word y (type_of second) words.two_is given.small) (difference_small read.found y)
     read.low read.high read.low_steady read.high_steady (record { h = given.h; l = given.l }) rest
     (record { below = omega (arith, less, fewer); room = room; ready = going_on.ready; known = going_on.known }))))

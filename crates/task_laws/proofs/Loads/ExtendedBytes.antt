@@ -1,5 +1,5 @@
 -- Bytes in memory that are put into HL, zero-extended.
-use Rattle.task_laws.proofs.Prelude.{◌≡◌, ℕ, ◌+◌, ◌*◌, ◌/◌, ◌%◌, ◌<◌, ◌==◌, ◌&&◌, ◌⊎◌, inl, inr, Bool, true, false, if◌then◌else◌, List, [], ◌∷◌, ◌++◌, Option, Some, None, refl, sym, ap, ◌∙◌, subst, arith, option_map_or, eqb-true, false≢true, MEMORY_SIZE, byte_at, word_at, byte_small, Event, ScalarType, Address, Byte, height_of_reference, type_of, TypedHome, InData, InConstants, Placed, BasedOn, Elsewhere, Nowhere, InFrame, PartOf, TypedExpression, TypedReference, TypesHold, SourcePlace, InMemory, home_of, place_of, read_scalar, based_place, displacement, SourceState, Outcome, Gave, then_do, values_of, Instr, H, L, Registers, State, high_byte, low_byte, word, wrap, LoadHl, ExpressionForm, ExpressionNumber, Location, Place, Reference, Keeps, IsExpression, IsForm, IsNumber, IsValue, IsLocation, IsConstantList, IsConversion, IsEmbedded, IsUnary, IsBinary, IsCallOf, IsFunction, IsShift, IsInput, keeps_none, keeps_of_form, memory_of_form, Does, at_place, Arrives, HasRoom, plain_first, location_at, place_at, without_hl_holds, address_in_hl_is, byte_in_a_is, byte_in_h_is, word_in_hl_is, GoesOutside, Facts, Part, Step, Plain, Word, before, is_at, copy, load, set, part_of, plain, keeps, keeps_at_site, location_of, memory_of, distance, location_address_steps, byte_to_l_steps, extended_byte_in_memory_steps, frame_byte_to_l_steps, top_word_steps, knowing, Context, IsSound, distances_in, nodes_in, StepsStand, NoneThere, PartThere, PlainThere, WordThere, Know, PartDoes, WordIsGiven, address_on_machine}
+use Rattle.task_laws.proofs.Prelude.{◌≡◌, ℕ, ◌+◌, ◌*◌, ◌%◌, ◌<◌, ◌==◌, ◌&&◌, ◌⊎◌, inl, inr, Bool, true, false, if◌then◌else◌, List, [], ◌∷◌, ◌++◌, Option, Some, None, refl, sym, ap, ◌∙◌, subst, arith, option_map_or, eqb-true, MEMORY_SIZE, byte_at, word_at, byte_small, Event, ScalarType, Address, Byte, height_of_reference, type_of, TypedHome, InData, InConstants, Placed, BasedOn, Elsewhere, Nowhere, InFrame, PartOf, TypedExpression, TypedReference, TypesHold, SourcePlace, InMemory, home_of, place_of, read_scalar, based_place, displacement, SourceState, Outcome, Gave, then_do, values_of, Instr, H, L, Registers, State, high_byte, low_byte, word, wrap, LoadHl, ExpressionForm, ExpressionNumber, Location, Place, Reference, Keeps, IsExpression, IsForm, IsNumber, IsValue, IsLocation, IsConstantList, IsConversion, IsEmbedded, IsUnary, IsBinary, IsCallOf, IsFunction, IsShift, IsInput, keeps_none, keeps_of_form, memory_of_form, Does, at_place, Arrives, HasRoom, plain_first, location_at, place_at, without_hl_holds, address_in_hl_is, byte_in_a_is, byte_in_h_is, word_in_hl_is, GoesOutside, Facts, Part, Step, Plain, Word, before, is_at, copy, load, set, part_of, plain, keeps, keeps_at_site, location_of, memory_of, distance, location_address_steps, byte_to_l_steps, extended_byte_in_memory_steps, frame_byte_to_l_steps, top_word_steps, knowing, Context, IsSound, distances_in, nodes_in, StepsStand, NoneThere, PartThere, PlainThere, WordThere, Know, PartDoes, WordIsGiven, address_on_machine, same_given, remainder_in_memory}
 use Rattle.isa8080.specs.declared.instr.Register.TheVariants as registers
 use Rattle.treecode.specs.declared.expression.ExpressionForm.TheVariants as forms
 use Rattle.treecode.specs.declared.place.Location.TheVariants as locations
@@ -7,11 +7,11 @@ use Rattle.treecode.specs.Traits.{keeps_of_address}
 use Rattle.steps8080.specs.declared.step.Task.TheVariants as tasks
 use Rattle.task_laws.proofs.Machine.Addresses.{location_address_goes, nothing_goes, registers_end}
 use Rattle.task_laws.proofs.Places.Fitting.{gave_first}
-use Rattle.task_laws.proofs.Words.KeptInside.{IsKeptBy}
+use Rattle.task_laws.proofs.Words.KeptInside.{IsKeptBy, kept_nothing}
 use Rattle.task_laws.proofs.Loads.Loads.{lies_there}
 use Rattle.task_laws.proofs.Bytes.LocatedBytes.{ByteLies, byte_lies, where_located}
-use Rattle.task_laws.proofs.Places.LocationBytes.{at_none, at_one}
-use Rattle.task_laws.proofs.Places.LocationWords.{frame_away, high_there, low_there, top_word_goes}
+use Rattle.task_laws.proofs.Places.LocationBytes.{at_one}
+use Rattle.task_laws.proofs.Places.LocationWords.{frame_away, high_there, low_there, top_word_goes, at_none}
 use Rattle.task_laws.proofs.Places.ReadPlaces.{LowIsAt, does_outside}
 use Rattle.task_laws.proofs.Machine.Rules.{GoesOn, ready_with_registers, registers_go, room_for, split, word_acts}
 use Rattle.task_laws.proofs.Machine.SiteNodes.{value_in}
@@ -19,6 +19,7 @@ use Rattle.task_laws.proofs.Machine.Stages.{does_same}
 use Rattle.task_laws.proofs.Places.Located.{located_in}
 use Rattle.task_laws.proofs.Machine.Values.{KeepsThem, word_given}
 use Rattle.task_laws.proofs.Words.CarriedWords.{IsCarriedOut}
+use Rattle.task_laws.proofs.Numbers.{no_high_byte}
 
 -- HL is the byte at an address, zero-extended; A and DE are kept
 pub record ExtendedBeside (memory : List ℕ) (address : ℕ) (r now : Registers) : Type 0 where
@@ -245,12 +246,6 @@ module _
           stand on rest
       by_test false false false false low_is a_is high_is here_is stand = by_location location refl stand
 
-no_high : (n : ℕ) → n < 256 → 0 ≡ n / 256
-no_high n small = omega (arith, small)
-
-nothing_kept : (more : Keeps) → IsKeptBy keeps_none more
-nothing_kept more = record { a = λ is. absurd (false≢true is); de = λ is. absurd (false≢true is) }
-
 -- of a BYTE in memory no more is kept than of its address
 memory_keeps :
     (context : Context) {bound : ℕ} {form : ExpressionForm} {tree : TypedExpression} (reference : Reference)
@@ -264,7 +259,7 @@ memory_keeps context reference is here = by is here
     through (Some one) same =
         subst (λ (other : Option Reference). IsKeptBy (option_map_or (keeps_of_address (nodes_in context)) other keeps_none)
         (keeps_of_address (nodes_in context) reference)) (sym same) (record { a = λ is. is; de = λ is. is })
-    through None same = nothing_kept _
+    through None same = kept_nothing _
 
     by : {bound : ℕ} {form : ExpressionForm} {tree : TypedExpression}
         → IsForm (nodes_in context) context.storage bound form tree
@@ -275,17 +270,14 @@ memory_keeps context reference is here = by is here
     by (IsFunction {function = function} {operand = operand} is) here =
         through (memory_of_form (nodes_in context) (forms.Function function operand)) here
     by (IsLocation given) here = absurd cc
-    by IsNumber here = nothing_kept _
-    by IsConstantList here = nothing_kept _
-    by (IsEmbedded target inner) here = nothing_kept _
-    by (IsUnary operand) here = nothing_kept _
-    by (IsBinary one two) here = nothing_kept _
-    by (IsCallOf given) here = nothing_kept _
-    by (IsShift one two) here = nothing_kept _
-    by IsInput here = nothing_kept _
-
-same_given : {A : Type 0} {one other : A} {t u : SourceState} → Gave one t ≡ Gave other u → one ≡ other
-same_given same = cc
+    by IsNumber here = kept_nothing _
+    by IsConstantList here = kept_nothing _
+    by (IsEmbedded target inner) here = kept_nothing _
+    by (IsUnary operand) here = kept_nothing _
+    by (IsBinary one two) here = kept_nothing _
+    by (IsCallOf given) here = kept_nothing _
+    by (IsShift one two) here = kept_nothing _
+    by IsInput here = kept_nothing _
 
 -- the address of a located part is below the size of memory
 based_small :
@@ -296,10 +288,7 @@ based_small context home object bytes is_inside place s u same = by home same
   where
     in_memory : (address : ℕ) → InMemory (address % MEMORY_SIZE) ≡ place → address_on_machine context.activation place < MEMORY_SIZE
     in_memory address is_there =
-        subst (λ (p : SourcePlace). address_on_machine context.activation p < MEMORY_SIZE) is_there (wrapped address)
-      where
-        wrapped : (n : ℕ) → n % MEMORY_SIZE < MEMORY_SIZE
-        wrapped n = omega arith
+        subst (λ (p : SourcePlace). address_on_machine context.activation p < MEMORY_SIZE) is_there (remainder_in_memory address)
 
     by : (kind : TypedHome) → based_place kind context.activation.around object bytes is_inside s ≡ Gave place u
         → address_on_machine context.activation place < MEMORY_SIZE
@@ -367,7 +356,7 @@ extended_carried {context = context} {facts = facts} {last = last} {number = num
         (Arrives context.activation top base to (WordIsGiven context last number Byte r memory))
     whole t address found h l low small keeps_them on =
         let below : found < 256 = subst (λ (scalar : ScalarType). found < values_of scalar) byte small in
-        word_given t below (record { h = h ∙ no_high found below; l = l ∙ low }) keeps_them on
+        word_given t below (record { h = h ∙ no_high_byte found below; l = l ∙ low }) keeps_them on
 
     by_location : (found : Option Location) → location_of (knowing context.site facts) reference ≡ found
         → StepsStand context (PartDoes context) facts from

@@ -1,5 +1,5 @@
 -- The code of values in memory.
-use Rattle.task_laws.proofs.Prelude.{◌≡◌, ℕ, ◌&&◌, ◌+◌, ◌*◌, ◌/◌, ◌%◌, ◌<◌, Bool, true, List, ◌∷◌, Option, Some, None, refl, sym, ap, subst, ◌∙◌, arith, IsSomeAnd, slice_get, byte_at, byte_small, Address, height_of_reference, PartOf, Subscript, TypedObject, TypedReference, IsSeen, RefersToScalar, TypesHoldInReference, SourcePlace, InMemory, InTheFrame, home_of, read_scalar, Displacement, based_place, displacement, SourceState, Outcome, Gave, Stopped, then_do, Registers, State, wrap, Location, Reference, IndexNode, IsPart, IsReference, home, is_static_location, Does, at_place, Arrives, gives, IsSteady, location_at, place_at, Facts, part, Base, base_after, base_of, keeps_of_address, location_of, base_location, located_at, location_word_steps, word_at_hl_steps, word_in_memory_steps, knowing, Context, IsSound, distances_in, nodes_in, StepsStand, PartThere, Carries, IsReferred, Know, Left, Nothing, PartDoes, address_on_machine}
+use Rattle.task_laws.proofs.Prelude.{◌≡◌, ℕ, ◌&&◌, ◌+◌, ◌*◌, ◌/◌, ◌%◌, ◌<◌, Bool, true, List, ◌∷◌, Option, Some, None, refl, sym, ap, subst, ◌∙◌, arith, IsSomeAnd, slice_get, byte_at, byte_small, Address, height_of_reference, PartOf, Subscript, TypedObject, TypedReference, IsSeen, RefersToScalar, TypesHoldInReference, SourcePlace, InMemory, InTheFrame, home_of, read_scalar, Displacement, based_place, displacement, SourceState, Outcome, Gave, then_do, Registers, State, wrap, Location, Reference, IndexNode, IsPart, IsReference, home, is_static_location, Does, at_place, Arrives, gives, IsSteady, location_at, place_at, Facts, part, Base, base_after, base_of, keeps_of_address, location_of, base_location, located_at, location_word_steps, word_at_hl_steps, word_in_memory_steps, knowing, Context, IsSound, distances_in, nodes_in, StepsStand, PartThere, Carries, IsReferred, Know, Left, Nothing, PartDoes, address_on_machine, none-some, same_Some, two_bytes_fit, given_again}
 use Rattle.steps8080.specs.declared.step.Task.TheVariants as tasks
 use Rattle.steps8080.specs.declared.sites.queries.Base.TheVariants as bases
 use Rattle.steps8080.specs.Queries.{located}
@@ -17,12 +17,6 @@ pub record LiesThere (context : Context) (tree : TypedReference) (location : Loc
   pub means : (s : SourceState) → located_in context tree s ≡ Gave place s
   pub is_at : address_on_machine context.activation place ≡ location_at context.activation (distances_in context) location
 
-none_there : {A B : Type 0} {x : A} → None ≡ Some x → B
-none_there same = absurd cc
-
-pub same_location_found : {A : Type 0} {one other : A} → Some one ≡ Some other → one ≡ other
-same_location_found same = cc
-
 -- a base without computed subscripts
 lies_at_base :
     (context : Context) (object known bytes : ℕ) (is_inside : Bool) (base : Base) (location : Location)
@@ -37,7 +31,7 @@ lies_at_base context object known bytes is_inside (bases.Static place) location 
   InMemory (wrap (place_at context.activation.layout place + 0)),
   (λ s. at bytes 0 is_inside s (omega (arith, is))),
   small_sum (place_at context.activation.layout place) small
-      ∙ ap (λ (l : Location). location_at context.activation (distances_in context) l) (same_location_found same),
+      ∙ ap (λ (l : Location). location_at context.activation (distances_in context) l) (same_Some _ _ same),
 )
   where
     small_sum : (n : ℕ) → n < 65536 → wrap (n + 0) ≡ n
@@ -46,13 +40,13 @@ lies_at_base context object known bytes is_inside (bases.Frame variable offset) 
   InTheFrame object bytes is_inside,
   (λ s. at bytes is_inside s),
   is_at bytes 0 (omega (arith, is)) ∙ wrapped_twice _
-      ∙ ap (λ (l : Location). location_at context.activation (distances_in context) l) (same_location_found same),
+      ∙ ap (λ (l : Location). location_at context.activation (distances_in context) l) (same_Some _ _ same),
 )
   where
     wrapped_twice : (n : ℕ) → wrap (wrap n + 0) ≡ wrap n
     wrapped_twice n = omega arith
 lies_at_base context object known bytes is_inside (bases.Based pointer offset) location small (OnBase base offset_is at pointer_is fits) is same =
-    none_there same
+    absurd (none-some _ same)
 
 -- a location where no subscript is computed
 abbrev location_where : Option IndexNode → Option Location → Option Location
@@ -94,10 +88,10 @@ lies_by_split {context = context} object offset first second tree_one member_sub
       is_at = lies.2;
     }
 lies_by_split object offset first second tree_one member_subscript member _ _ one_known two_known location sound referred
-    (IsComputed of bound inner shift is types address high means bytes kept less) two same = none_there same
+    (IsComputed of bound inner shift is types address high means bytes kept less) two same = absurd (none-some _ same)
 lies_by_split object offset first second tree_one member_subscript member _ _ one_known two_known location sound referred
     (AllKnown shift means bytes kept) (IsComputed of bound inner shift_too is types address high means_too bytes_too kept_too less) same =
-    none_there same
+    absurd (none-some _ same)
 
 -- where tree code knows the location of a part of an object, the source has the part
 pub lies_there :
@@ -114,11 +108,6 @@ lies_there facts location sound
     referred types same =
     lies_by_split object offset first second subscript member_subscript member _ _ _ _ location sound referred
     (is_split facts sound one types.0) (is_split facts sound two types.1) same
-
--- the value at the end is passed on
-pub given_last : {A : Type 0} (outcome : Outcome A) → then_do outcome (λ found t. Gave found t) ≡ outcome
-given_last (Gave found t) = refl
-given_last (Stopped why t) = refl
 
 -- a word of memory is in HL
 pub record WordIsLoaded
@@ -138,9 +127,6 @@ high_is h low high one same two = omega (arith, one, same, two)
 
 low_is : (l low high : ℕ) → low < 256 → l ≡ low → l ≡ (low + 256 * high) % 256
 low_is l low high one same = omega (arith, one, same)
-
-two_bytes : (low high : ℕ) → low < 256 → high < 256 → low + 256 * high < 65536
-two_bytes low high one two = omega (arith, one, two)
 
 pub static_only : {A : Type 0} {x : Location} {y : Option Location} → y ≡ None → y ≡ Some x → A
 static_only one two = absurd cc
@@ -177,7 +163,7 @@ word_in_memory_law {context = context} {facts = facts} {last = last} {reference 
         let high_small = byte_small memory (wrap (address + 1)) ready.shares.is_memory in
         subst (λ (outcome : Outcome ℕ). Does context.activation.around.program.script s.budget 0 (at_place from r memory s.events) outcome
         (Arrives context.activation top base to (WordIsLoaded context facts last reference r memory)))
-        (given_last (read_scalar context.activation.around.program Address lies.place s)
+        (given_again (read_scalar context.activation.around.program Address lies.place s)
         ∙ sym (ap (λ (outcome : Outcome SourcePlace). then_do outcome (λ place t. read_scalar context.activation.around.program Address place t)) (lies.means s)))
         (word_read lies.place s (λ n t. Gave n t) sound ready (located_fits context Address tree lies.place s s sound refers (lies.means s))
         (λ steady next.
@@ -193,10 +179,10 @@ word_in_memory_law {context = context} {facts = facts} {last = last} {reference 
           holds = record {
             h = high_is now.h low high low_small (loaded.high ∙ ap (λ (n : ℕ). byte_at memory (wrap (n + 1))) (sym lies.is_at)) high_small;
             l = low_is now.l low high low_small (loaded.low ∙ ap (byte_at memory) (sym lies.is_at));
-            small = two_bytes low high low_small high_small;
+            small = two_bytes_fit low high low_small high_small;
             known = on.known;
             a = λ other other_is static.
-                loaded.a (ap is_static_location (same_location_found (sym found ∙ other_is)) ∙ static);
+                loaded.a (ap is_static_location (same_Some _ _ (sym found ∙ other_is)) ∙ static);
             d = λ kept. loaded.d;
             e = λ kept. loaded.e;
           };
@@ -216,7 +202,7 @@ word_in_memory_law {context = context} {facts = facts} {last = last} {reference 
         (Arrives context.activation top base to (WordIsLoaded context facts last reference r memory))) (sym given.is_at)
         (subst (λ (outcome : Outcome ℕ). Does context.activation.around.program.script t.budget 0 (at_place middle there ended t.events) outcome
         (Arrives context.activation top base to (WordIsLoaded context facts last reference r memory)))
-        (given_last (read_scalar context.activation.around.program Address place t))
+        (given_again (read_scalar context.activation.around.program Address place t))
         (word_read place t (λ n u. Gave n u) sound given.ready (located_fits context Address tree place s t sound refers same)
         (λ steady next.
         word_at_hl_goes address there sound steady (given.holds).hl stand (record { ready = given.ready; known = (given.holds).known })
@@ -228,7 +214,7 @@ word_in_memory_law {context = context} {facts = facts} {last = last} {reference 
           holds = record {
             h = high_is now.h low high low_small loaded.high high_small;
             l = low_is now.l low high low_small loaded.low;
-            small = two_bytes low high low_small high_small;
+            small = two_bytes_fit low high low_small high_small;
             known = on.known;
             a = λ other other_is static. static_only found other_is;
             d = λ kept. loaded.d ∙ (given.holds).d kept;

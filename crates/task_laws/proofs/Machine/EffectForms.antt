@@ -1,12 +1,12 @@
 -- The code for the effects of an expression of each form.
-use Rattle.task_laws.proofs.Prelude.{◌≡◌, ℕ, ◌+◌, ◌*◌, ◌<◌, ◌≤◌, ◌⊎◌, inl, inr, Bool, true, false, if◌then◌else◌, List, [], ◌∷◌, ◌++◌, Option, Some, None, refl, sym, ap, subst, ◌∙◌, arith, zero, suc, All, slice_get, slice_index_or, read_event, input_value, queue_of, ScalarType, height_of, TypedExpression, TypesHold, address_in_memory, computed, value, read_scalar, SourceState, Outcome, Gave, Stopped, then_do, as_type, function_of, result_of, result_of_one, shifted, In, after, Registers, State, Expression, ExpressionForm, ExpressionNumber, IsExpression, IsForm, IsNumber, IsValue, IsLocation, IsConstantList, IsConversion, IsEmbedded, IsUnary, IsBinary, IsCallOf, IsFunction, IsShift, IsInput, is_free, is_quiet, keeps, option_map_or, is_some, left_true, right_true, Low, High, Double, Site, expression, Keeps, nodes_of, free_at, has_immediate, is_free_form, is_free_with, is_of_low_byte, is_quiet_form, keeps_at, no_traits, number_at, quiet_at, quiet_computed, quiet_gave, quiet_scalar, false_is_true, Facts, Arrives, IsThere, Does, at_place, gives, both_effects_steps, effects_steps, form_effects_steps, knowing, Context, IsSound, nodes_in, NoneThere, PartThere, PlainThere, StepsStand, ChangesAOnly, EffectsAreGiven, EffectsDo, Know, NothingIsGiven, PartDoes}
+use Rattle.task_laws.proofs.Prelude.{◌≡◌, ℕ, ◌+◌, ◌*◌, ◌<◌, ◌≤◌, ◌⊎◌, inl, inr, Bool, true, false, if◌then◌else◌, List, [], ◌∷◌, ◌++◌, Option, Some, None, refl, sym, ap, subst, ◌∙◌, arith, zero, suc, All, slice_get, slice_index_or, read_event, input_value, queue_of, ScalarType, height_of, TypedExpression, TypesHold, address_in_memory, computed, value, read_scalar, SourceState, Outcome, Gave, Stopped, then_do, as_type, function_of, result_of, result_of_one, shifted, In, after, Registers, State, Expression, ExpressionForm, ExpressionNumber, IsExpression, IsForm, IsNumber, IsValue, IsLocation, IsConstantList, IsConversion, IsEmbedded, IsUnary, IsBinary, IsCallOf, IsFunction, IsShift, IsInput, is_free, is_quiet, keeps, option_map_or, is_some, Low, High, Double, Site, expression, Keeps, nodes_of, free_at, has_immediate, is_free_form, is_free_with, is_of_low_byte, is_quiet_form, keeps_at, no_traits, number_at, quiet_at, quiet_computed, quiet_gave, quiet_scalar, Facts, Arrives, IsThere, Does, at_place, gives, both_effects_steps, effects_steps, form_effects_steps, knowing, Context, IsSound, nodes_in, NoneThere, PartThere, PlainThere, StepsStand, ChangesAOnly, EffectsAreGiven, EffectsDo, Know, NothingIsGiven, PartDoes, false≢true, and_parts}
 use Rattle.asm8080.specs.declared.item.Item.TheVariants as items
 use Rattle.treecode.specs.declared.expression.ExpressionForm.TheVariants as forms
 use Rattle.task_laws.proofs.Machine.FreeForms.{high_is_quiet, not_known, number_is_free, value_is_quiet}
 use Rattle.task_laws.proofs.Machine.KeptCode.{kept_quiet, quiet_of_entry}
 use Rattle.task_laws.proofs.Machine.Nodes.{node_of}
-use Rattle.task_laws.proofs.Machine.Rules.{plain_goes, ready_with_registers}
-use Rattle.task_laws.proofs.Machine.Stages.{Stage, at_effects, does_same, gives_then, has_less_room, script_of}
+use Rattle.task_laws.proofs.Machine.Rules.{plain_goes, ready_with_registers, room_for}
+use Rattle.task_laws.proofs.Machine.Stages.{Stage, at_effects, does_same, gives_then, script_of}
 use Rattle.task_laws.proofs.Machine.Effects.{at_reference, ends_here, quiet_ends}
 use Rattle.task_laws.proofs.Machine.SiteNodes.{free_is, quiet_is, quiet_means}
 use Rattle.task_laws.proofs.Machine.Values.{effects_then}
@@ -147,7 +147,7 @@ form_goes (forms.Binary operands operator left right) sound (IsBinary first seco
     top _ base s r memory stand first second types.1.0 types.2.0 (omega arith) (omega arith) stage
 form_goes {context = context} {last = last} {to = to} (forms.Call procedure range) sound (IsCallOf {scalar = scalar} {trees = trees} are) types stand top base s r memory stage =
     gives_then _
-    (Rattle.task_laws.proofs.Calls.Calls.call_does procedure range sound stand _ (Some scalar) trees are types.0 types.1 top base s r memory stage.below (has_less_room _ (omega arith) stage.room) stage.ready stage.known tt)
+    (Rattle.task_laws.proofs.Calls.Calls.call_does procedure range sound stand _ (Some scalar) trees are types.0 types.1 top base s r memory stage.below (room_for _ (omega arith) stage.room) stage.ready stage.known tt)
     (λ found t end arrives spent.
     gives (record {
       r = arrives.r;
@@ -293,32 +293,32 @@ free_form_goes :
     (Arrives context.activation top base to (OnlyAIsGiven context last r memory))
 unfolding form_effects_steps
 free_form_goes {context = context} (forms.Value reference) scalar sound free loud (IsValue part) types stand top base s r memory stage =
-    false_is_true (sym loud ∙ value_is_quiet (nodes_in context) context.storage sound.lowered.traits part free)
+    (absurd (false≢true (sym loud ∙ value_is_quiet (nodes_in context) context.storage sound.lowered.traits part free)))
 free_form_goes (forms.Conversion inner) scalar sound free loud (IsConversion {scalar = to_scalar} node) types stand top base s r memory stage =
     one_free (λ n. as_type to_scalar n) top _ base s r memory free stand node types (omega arith) stage
 free_form_goes (forms.Unary operator operand) scalar sound free loud (IsUnary {scalar = of} node) types stand top base s r memory stage =
     one_free (λ n. result_of_one of operator n) top _ base s r memory free stand node types.0 (omega arith) stage
 free_form_goes {context = context} (forms.Binary operands operator left right) scalar sound free loud (IsBinary first second) types stand top base s r memory stage =
-    let both = right_true (has_immediate operator) (is_free_with (nodes_in context) left right) free in
+    let both = (and_parts (has_immediate operator) (is_free_with (nodes_in context) left right) free).1 in
     two_free (λ one two u. computed (result_of operands operator one two) u) (λ one two. quiet_computed (result_of operands operator one two))
     top _ base s r memory
-    (left_true (free_at (nodes_in context) left) (is_some (number_at (nodes_in context) right)) both)
+    (and_parts (free_at (nodes_in context) left) (is_some (number_at (nodes_in context) right)) both).0
     (number_is_free (nodes_in context) context.storage sound.lowered.traits second
-    (right_true (free_at (nodes_in context) left) (is_some (number_at (nodes_in context) right)) both))
+    (and_parts (free_at (nodes_in context) left) (is_some (number_at (nodes_in context) right)) both).1)
     stand first second types.1.0 types.2.0 (omega arith) (omega arith) stage
 free_form_goes {context = context} (forms.Function High operand) scalar sound free loud (IsFunction node) types stand top base s r memory stage =
-    false_is_true (sym loud ∙ high_is_quiet (nodes_in context) context.storage sound.lowered.traits {operand = operand} node free)
+    (absurd (false≢true (sym loud ∙ high_is_quiet (nodes_in context) context.storage sound.lowered.traits {operand = operand} node free)))
 free_form_goes (forms.Function Low operand) scalar sound free loud (IsFunction node) types stand top base s r memory stage =
     one_free (λ n. function_of Low n) top _ base s r memory free stand node types (omega arith) stage
 free_form_goes (forms.Function Double operand) scalar sound free loud (IsFunction node) types stand top base s r memory stage =
     one_free (λ n. function_of Double n) top _ base s r memory free stand node types (omega arith) stage
 free_form_goes {context = context} (forms.Shift function count_of count) scalar sound free loud (IsShift {scalar = of} first second) types stand top base s r memory stage =
-    let both = right_true (is_of_low_byte scalar function) (is_free_with (nodes_in context) count_of count) free in
+    let both = (and_parts (is_of_low_byte scalar function) (is_free_with (nodes_in context) count_of count) free).1 in
     two_free (λ one two u. Gave (shifted of function one two) u) (λ one two. quiet_gave (shifted of function one two))
     top _ base s r memory
-    (left_true (free_at (nodes_in context) count_of) (is_some (number_at (nodes_in context) count)) both)
+    (and_parts (free_at (nodes_in context) count_of) (is_some (number_at (nodes_in context) count)) both).0
     (number_is_free (nodes_in context) context.storage sound.lowered.traits second
-    (right_true (free_at (nodes_in context) count_of) (is_some (number_at (nodes_in context) count)) both))
+    (and_parts (free_at (nodes_in context) count_of) (is_some (number_at (nodes_in context) count)) both).1)
     stand first second types.1.0 types.2.0 (omega arith) (omega arith) stage
 free_form_goes {to = to} (forms.Input port) scalar sound free loud IsInput types (PlainThere there NoneThere) top base s r memory stage =
     input_goes port sound there stage
@@ -332,11 +332,11 @@ free_form_goes {to = to} (forms.Input port) scalar sound free loud IsInput types
         only = record { b = refl; c = refl; d = refl; e = refl; h = refl; l = refl; same_memory = refl };
       };
     }))
-free_form_goes (forms.Number number) scalar sound free loud form types stand top base s r memory stage = false_is_true free
-free_form_goes (forms.List offset) scalar sound free loud form types stand top base s r memory stage = false_is_true free
-free_form_goes (forms.Location reference) scalar sound free loud form types stand top base s r memory stage = false_is_true free
-free_form_goes (forms.Assignment target inner) scalar sound free loud form types stand top base s r memory stage = false_is_true free
-free_form_goes (forms.Call procedure range) scalar sound free loud form types stand top base s r memory stage = false_is_true free
+free_form_goes (forms.Number number) scalar sound free loud form types stand top base s r memory stage = absurd (false≢true free)
+free_form_goes (forms.List offset) scalar sound free loud form types stand top base s r memory stage = absurd (false≢true free)
+free_form_goes (forms.Location reference) scalar sound free loud form types stand top base s r memory stage = absurd (false≢true free)
+free_form_goes (forms.Assignment target inner) scalar sound free loud form types stand top base s r memory stage = absurd (false≢true free)
+free_form_goes (forms.Call procedure range) scalar sound free loud form types stand top base s r memory stage = absurd (false≢true free)
 
 -- only quiet code keeps A and DE
 given_kept :
@@ -398,7 +398,7 @@ effects_do {context = context} {facts = facts} {last = last} {pushed = pushed} {
         by_free (is_free context.site number) refl
       where
         never_kept : ((keeps context.site number).a ≡ true) ⊎ ((keeps context.site number).de ≡ true) → ⊥
-        never_kept keeps_one = false_is_true (sym (is context.site.facts) ∙ kept bound number tree node keeps_one)
+        never_kept keeps_one = (absurd (false≢true (sym (is context.site.facts) ∙ kept bound number tree node keeps_one)))
 
         loud_at : quiet_at (nodes_in context) number ≡ false
         loud_at = sym (quiet_is context.site number) ∙ is context.site.facts
@@ -432,7 +432,7 @@ effects_do {context = context} {facts = facts} {last = last} {pushed = pushed} {
               memory = arrives.memory;
               is_at = arrives.is_at;
               ready = arrives.ready;
-              holds = given_kept number never_kept (λ so. absurd (false_is_true (sym told ∙ so))) arrives.holds.known;
+              holds = given_kept number never_kept (λ so. absurd (absurd (false≢true (sym told ∙ so)))) arrives.holds.known;
             }))
 
 -- the registers that are kept according to the tree, as code queries them

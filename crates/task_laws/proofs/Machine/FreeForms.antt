@@ -1,19 +1,16 @@
 -- Free expressions: a number is free, and a free expression in memory is quiet.
-use Rattle.task_laws.proofs.Prelude.{◌≡◌, ℕ, ◌+◌, ◌%◌, ◌&&◌, Bool, true, false, Option, Some, None, refl, sym, ap, ◌∙◌, is_some, slice_get, option_and_then, option_map_or, ScalarType, Byte, Address, High, TypedExpression, TypedReference, Storage, node_traits, false_is_true, Expression, ExpressionForm, ExpressionNumber, Place, Code, Data, External, Number, Reference, Traits, number_of_place, known_number, IsExpression, IsForm, IsNode, IsPart, IsReference, IsValue, Nodes, home_at, KeepTraits, byte_after, distance_of, free_at, is_direct, is_free_form, is_free_of, is_quiet_form, known_of, number_at, place_of_reference, quiet_at, traits_of}
+use Rattle.task_laws.proofs.Prelude.{◌≡◌, ℕ, ◌+◌, ◌%◌, true, false, Option, Some, None, refl, sym, ap, ◌∙◌, is_some, slice_get, option_and_then, option_map_or, ScalarType, Byte, Address, High, TypedExpression, TypedReference, Storage, node_traits, Expression, ExpressionForm, ExpressionNumber, Place, Code, Data, External, Number, Reference, Traits, number_of_place, known_number, IsExpression, IsForm, IsNode, IsPart, IsReference, IsValue, Nodes, home_at, KeepTraits, byte_after, distance_of, free_at, is_direct, is_free_form, is_free_of, is_quiet_form, known_of, number_at, place_of_reference, quiet_at, traits_of, and_from, false≢true}
 use Rattle.treecode.specs.declared.expression.ExpressionForm.TheVariants as forms
 use Rattle.task_laws.proofs.Machine.KeptCode.{index_known_quiet, known_of_entry, known_quiet, part_known_quiet, place_known, quiet_of_entry}
-
-both_true : (one other : Bool) → one ≡ true → other ≡ true → (one && other) ≡ true
-both_true one other first second = ap (λ b. b && other) first ∙ second
 
 -- a known number
 number_of : (found : Option Place) → is_some (known_number found) ≡ true → (place : Place)
     × (found ≡ Some place) × (is_some (number_of_place place) ≡ true)
 number_of (Some (Number n)) is = (Number n, refl, refl)
-number_of (Some (Code offset)) is = false_is_true is
-number_of (Some (Data offset)) is = false_is_true is
-number_of (Some (External offset name)) is = false_is_true is
-number_of None is = false_is_true is
+number_of (Some (Code offset)) is = absurd (false≢true is)
+number_of (Some (Data offset)) is = absurd (false≢true is)
+number_of (Some (External offset name)) is = absurd (false≢true is)
+number_of None is = absurd (false≢true is)
 
 module _ (nodes : Nodes) (storage : Storage) (keeps : KeepTraits nodes) where
   pub free_of_entry : (number : ℕ) (expression : Expression) → slice_get nodes.expressions number ≡ Some
@@ -50,8 +47,8 @@ module _ (nodes : Nodes) (storage : Storage) (keeps : KeepTraits nodes) where
       by : (found : Option Place) → known_of nodes expression.traits.scalar expression.form ≡ found
           → is_free_form nodes expression.traits.scalar expression.form ≡ true
       by (Some place) is =
-          false_is_true (sym loud ∙ known_quiet nodes storage keeps node
-          (ap (λ (found : Option Place). is_some found) (known_of_entry nodes storage keeps number expression at ∙ is)))
+          (absurd (false≢true (sym loud ∙ known_quiet nodes storage keeps node
+          (ap (λ (found : Option Place). is_some found) (known_of_entry nodes storage keeps number expression at ∙ is)))))
       by None is =
           sym (ap (λ (found : Option Place). is_free_of nodes expression.traits.scalar found expression.form) is)
           ∙ sym (free_of_entry number expression at) ∙ free
@@ -73,9 +70,9 @@ module _ (nodes : Nodes) (storage : Storage) (keeps : KeepTraits nodes) where
       → is_quiet_form nodes form ≡ true
   after_is_quiet Address _ tree (IsValue (IsPart {object = object} {offset = offset} {first = first} {second = second} one two)) direct =
       let both = place_known (home_at nodes.homes object) ((offset % 65536 + 1) % 65536) (distance_of nodes first) (distance_of nodes second) direct in
-      both_true _ _ (index_known_quiet nodes storage keeps one both.0) (index_known_quiet nodes storage keeps two both.1)
-  after_is_quiet Address _ tree other direct = false_is_true direct
-  after_is_quiet Byte _ tree other direct = false_is_true direct
+      and_from _ _ (index_known_quiet nodes storage keeps one both.0) (index_known_quiet nodes storage keeps two both.1)
+  after_is_quiet Address _ tree other direct = absurd (false≢true direct)
+  after_is_quiet Byte _ tree other direct = absurd (false≢true direct)
 
   pub high_is_quiet :
       {bound : ℕ} {operand : ExpressionNumber} {tree : TypedExpression}

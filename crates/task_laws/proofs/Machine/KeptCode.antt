@@ -1,21 +1,9 @@
 -- An expression with code that keeps A or DE is quiet, and so is a known one.
-use Rattle.task_laws.proofs.Prelude.{◌≡◌, ℕ, zero, suc, ◌%◌, ◌<◌, ◌≤◌, ◌&&◌, ◌⊎◌, inl, inr, Bool, true, false, not, ◌||◌, if◌then◌else◌, Option, Some, None, is_some, option_and_then, option_map, slice_get, refl, sym, ap, subst, ◌∙◌, arith, and_parts, ScalarType, Byte, Address, Xor, Less, Greater, LessOrEqual, GreaterOrEqual, Unequal, Multiply, Divide, Modulo, Subscript, TypedExpression, TypedReference, Storage, Expression, ExpressionForm, Home, Place, Reference, IndexNode, Keeps, Traits, place_of_part, IsExpression, IsNode, IsForm, IsNumber, IsValue, IsLocation, IsConstantList, IsConversion, IsEmbedded, IsUnary, IsBinary, IsCallOf, IsFunction, IsShift, IsInput, IsReference, IsPart, IsSubscript, IsAbsent, IsIndex, Nodes, home_at, option_map_or, ShiftLeft, ShiftRight, RotateLeft, RotateRight, Low, High, Double, ExpressionNumber, KeepTraits, byte_after, distance_of, form_at, is_quiet_form, is_static_location, keeps_at, keeps_of, keeps_none, keeps_of_byte, keeps_of_extended, keeps_of_form, keeps_of_index, keeps_of_part, keeps_of_shift, keeps_of_subscript, keeps_of_sum, known_at, known_of, memory_of_form, memory_of_inner, number_at, place_of_reference, quiet_at, reference_is_quiet, same_low_byte, subscript_is_quiet, traits_at, traits_of, node_traits, false_is_true}
+use Rattle.task_laws.proofs.Prelude.{◌≡◌, ℕ, zero, suc, ◌%◌, ◌<◌, ◌≤◌, ◌&&◌, ◌⊎◌, inl, inr, Bool, true, false, not, ◌||◌, if◌then◌else◌, Option, Some, None, is_some, option_and_then, option_map, slice_get, refl, sym, ap, subst, ◌∙◌, arith, and_parts, ScalarType, Byte, Address, Xor, Less, Greater, LessOrEqual, GreaterOrEqual, Unequal, Multiply, Divide, Modulo, Subscript, TypedExpression, TypedReference, Storage, Expression, ExpressionForm, Home, Place, Reference, IndexNode, Keeps, Traits, place_of_part, IsExpression, IsNode, IsForm, IsNumber, IsValue, IsLocation, IsConstantList, IsConversion, IsEmbedded, IsUnary, IsBinary, IsCallOf, IsFunction, IsShift, IsInput, IsReference, IsPart, IsSubscript, IsAbsent, IsIndex, Nodes, home_at, option_map_or, ShiftLeft, ShiftRight, RotateLeft, RotateRight, Low, High, Double, ExpressionNumber, KeepTraits, byte_after, distance_of, form_at, is_quiet_form, is_static_location, keeps_at, keeps_of, keeps_none, keeps_of_byte, keeps_of_extended, keeps_of_form, keeps_of_index, keeps_of_part, keeps_of_shift, keeps_of_subscript, keeps_of_sum, known_at, known_of, memory_of_form, memory_of_inner, number_at, place_of_reference, quiet_at, reference_is_quiet, same_low_byte, subscript_is_quiet, traits_at, traits_of, node_traits, and_from, false≢true, from_number, from_value, none-some}
 use Rattle.trees.specs.declared.expression.BinaryOperator.TheVariants.{Or, And, Equal, Add, Subtract}
 use Rattle.treecode.specs.declared.expression.ExpressionForm.TheVariants as forms
 use Rattle.treecode.specs.declared.place.Home.TheVariants as homes
 use Rattle.treecode.specs.Traits.{keeps_of_address}
-
--- if a function of an optional value has a result, the value is there
-some_then : {A B : Type 0} (go : A → Option B) (found : Option A) → is_some (option_and_then go found) ≡ true → is_some found ≡ true
-some_then go (Some found) some = refl
-some_then go None some = some
-
-some_map : {A B : Type 0} (go : A → B) (found : Option A) → is_some (option_map go found) ≡ true → is_some found ≡ true
-some_map go (Some found) some = refl
-some_map go None some = some
-
-both_true : (one other : Bool) → one ≡ true → other ≡ true → (one && other) ≡ true
-both_true one other first second = ap (λ b. b && other) first ∙ second
 
 -- both subscripts of a known place are known
 pub place_known :
@@ -23,10 +11,10 @@ pub place_known :
     → is_some (place_of_part home offset first second) ≡ true
     → (is_some first ≡ true) × (is_some second ≡ true)
 place_known (homes.Static place) offset (Some first) second some =
-    (refl, some_map (λ two. Rattle.treecode.specs.Homes.place_after (Rattle.treecode.specs.Homes.place_after (Rattle.treecode.specs.Homes.place_after place offset) first) two) second some)
-place_known (homes.Static place) offset None second some = false_is_true some
-place_known (homes.Based base) offset first second some = false_is_true some
-place_known (homes.Frame variable) offset first second some = false_is_true some
+    (refl, from_number (λ two. Rattle.treecode.specs.Homes.place_after (Rattle.treecode.specs.Homes.place_after (Rattle.treecode.specs.Homes.place_after place offset) first) two) second some)
+place_known (homes.Static place) offset None second some = absurd (false≢true some)
+place_known (homes.Based base) offset first second some = absurd (false≢true some)
+place_known (homes.Frame variable) offset first second some = absurd (false≢true some)
 
 module _ (nodes : Nodes) (storage : Storage) (keeps : KeepTraits nodes) where
   -- the known value in the entry of a node
@@ -55,32 +43,32 @@ module _ (nodes : Nodes) (storage : Storage) (keeps : KeepTraits nodes) where
         → is_some (known_of nodes scalar form) ≡ true
         → is_quiet_form nodes form ≡ true
     form_known_quiet scalar IsNumber some = refl
-    form_known_quiet scalar (IsValue part) some = false_is_true some
+    form_known_quiet scalar (IsValue part) some = absurd (false≢true some)
     form_known_quiet scalar (IsLocation {reference = reference} part) some = part_known_quiet part some
     form_known_quiet scalar IsConstantList some = refl
-    form_known_quiet scalar (IsConversion inner) some = known_quiet inner (some_then _ _ some)
-    form_known_quiet scalar (IsEmbedded target inner) some = false_is_true some
-    form_known_quiet scalar (IsUnary operand) some = known_quiet operand (some_then _ _ (some_map _ _ some))
+    form_known_quiet scalar (IsConversion inner) some = known_quiet inner (from_value _ _ some)
+    form_known_quiet scalar (IsEmbedded target inner) some = absurd (false≢true some)
+    form_known_quiet scalar (IsUnary operand) some = known_quiet operand (from_value _ _ (from_number _ _ some))
     form_known_quiet scalar (IsBinary {left = left} {right = right} first second) some =
-        both_true _ _ (known_quiet first (some_then _ _ some)) (known_quiet second (second_of _ (known_at nodes left) (known_at nodes right) some))
+        and_from _ _ (known_quiet first (from_value _ _ some)) (known_quiet second (second_of _ (known_at nodes left) (known_at nodes right) some))
       where
         second_of : (go : Place → Place → Option Place) (one other : Option Place)
             → is_some (option_and_then (λ before. option_and_then (go before) other) one) ≡ true
             → is_some other ≡ true
-        second_of go (Some one) other some = some_then _ other some
-        second_of go None other some = false_is_true some
-    form_known_quiet scalar (IsCallOf are) some = false_is_true some
-    form_known_quiet scalar (IsFunction operand) some = known_quiet operand (some_then _ _ some)
+        second_of go (Some one) other some = from_value _ other some
+        second_of go None other some = absurd (false≢true some)
+    form_known_quiet scalar (IsCallOf are) some = absurd (false≢true some)
+    form_known_quiet scalar (IsFunction operand) some = known_quiet operand (from_value _ _ some)
     form_known_quiet scalar (IsShift {value = value} {count = count} first second) some =
-        both_true _ _ (known_quiet first (some_then _ _ (some_then _ _ some)))
-        (known_quiet second (some_then _ _ (second_of _ (number_at nodes value) (number_at nodes count) some)))
+        and_from _ _ (known_quiet first (from_value _ _ (from_value _ _ some)))
+        (known_quiet second (from_value _ _ (second_of _ (number_at nodes value) (number_at nodes count) some)))
       where
         second_of : (go : ℕ → ℕ → Place) (one other : Option ℕ)
             → is_some (option_and_then (λ before. option_map (go before) other) one) ≡ true
             → is_some other ≡ true
-        second_of go (Some one) other some = some_map _ other some
-        second_of go None other some = false_is_true some
-    form_known_quiet scalar IsInput some = false_is_true some
+        second_of go (Some one) other some = from_number _ other some
+        second_of go None other some = absurd (false≢true some)
+    form_known_quiet scalar IsInput some = absurd (false≢true some)
 
     pub part_known_quiet : {bound : ℕ} {reference : Reference} {part : TypedReference}
         → IsReference nodes storage bound reference part
@@ -88,14 +76,14 @@ module _ (nodes : Nodes) (storage : Storage) (keeps : KeepTraits nodes) where
         → reference_is_quiet nodes reference ≡ true
     part_known_quiet (IsPart {object = object} {offset = offset} {first = first} {second = second} one two) some =
         let both = place_known (home_at nodes.homes object) (offset % 65536) (distance_of nodes first) (distance_of nodes second) some in
-        both_true _ _ (index_known_quiet one both.0) (index_known_quiet two both.1)
+        and_from _ _ (index_known_quiet one both.0) (index_known_quiet two both.1)
 
     pub index_known_quiet : {bound : ℕ} {index : Option IndexNode} {subscript : Subscript}
         → IsSubscript nodes storage bound index subscript
         → is_some (distance_of nodes index) ≡ true
         → subscript_is_quiet nodes index ≡ true
     index_known_quiet IsAbsent some = refl
-    index_known_quiet (IsIndex index) some = known_quiet index (some_then _ _ (some_map _ _ some))
+    index_known_quiet (IsIndex index) some = known_quiet index (from_value _ _ (from_number _ _ some))
 
   -- A or DE is kept
   abbrev pub Kept : Keeps → Type 0
@@ -106,13 +94,13 @@ module _ (nodes : Nodes) (storage : Storage) (keeps : KeepTraits nodes) where
   IfKept (Some kept) = Kept kept
 
   none_is_kept : {A : Type 0} → Kept (record { a = false; de = false }) → A
-  none_is_kept (inl kept) = false_is_true kept
-  none_is_kept (inr kept) = false_is_true kept
+  none_is_kept (inl kept) = absurd (false≢true kept)
+  none_is_kept (inr kept) = absurd (false≢true kept)
 
   sum_kept : (first second : Option Keeps) → Kept (keeps_of_sum first second) → IfKept first × IfKept second
   sum_kept (Some first) (Some second) (inl kept) =
       let both = and_parts first.a second.a kept in (inl both.0, inl both.1)
-  sum_kept (Some first) (Some second) (inr kept) = false_is_true kept
+  sum_kept (Some first) (Some second) (inr kept) = absurd (false≢true kept)
   sum_kept (Some first) None kept = (kept, tt)
   sum_kept None (Some second) kept = (tt, kept)
   sum_kept None None kept = (tt, tt)
@@ -124,9 +112,9 @@ module _ (nodes : Nodes) (storage : Storage) (keeps : KeepTraits nodes) where
   part_kept (homes.Static place) first second kept = kept
   part_kept (homes.Frame variable) first second kept = kept
   part_kept (homes.Based base) first second (inl kept) =
-      inl ((and_parts (keeps_of_sum first second).a (is_static_location base) kept).0)
+      inl (and_parts (keeps_of_sum first second).a (is_static_location base) kept).0
   part_kept (homes.Based base) first second (inr kept) =
-      inr ((and_parts (keeps_of_sum first second).de (not (is_some first || is_some second)) kept).0)
+      inr (and_parts (keeps_of_sum first second).de (not (is_some first || is_some second)) kept).0
 
   -- numbers below one
   abbrev Below : (limit : ℕ) → Type 0
@@ -153,7 +141,7 @@ module _ (nodes : Nodes) (storage : Storage) (keeps : KeepTraits nodes) where
     where
       by : (found : Option ℕ) → number_at nodes number ≡ found → IfKept (keeps_of_index nodes number found)
           → quiet_at nodes number ≡ true
-      by (Some value) is kept = known_quiet (IsNode less_than at scalar form) (some_then _ _ (some_of (number_at nodes number) value is))
+      by (Some value) is kept = known_quiet (IsNode less_than at scalar form) (from_value _ _ (some_of (number_at nodes number) value is))
       by None is kept = below _ number.index tree (omega (arith, less_than, less)) (IsNode less_than at scalar form) kept
 
   reference_kept :
@@ -166,7 +154,7 @@ module _ (nodes : Nodes) (storage : Storage) (keeps : KeepTraits nodes) where
   reference_kept below less (IsPart {object = object} {first = first} {second = second} one two) kept =
       let both = sum_kept (keeps_of_subscript nodes first) (keeps_of_subscript nodes second)
       (part_kept (home_at nodes.homes object) (keeps_of_subscript nodes first) (keeps_of_subscript nodes second) kept) in
-      both_true _ _ (index_kept below less one both.0) (index_kept below less two both.1)
+      and_from _ _ (index_kept below less one both.0) (index_kept below less two both.1)
 
   -- a form, and one inside conversions that has the same low byte
   record LowStep (limit : ℕ) (form : ExpressionForm) : Type 0 where
@@ -222,9 +210,6 @@ module _ (nodes : Nodes) (storage : Storage) (keeps : KeepTraits nodes) where
   low_step less whole (IsShift value count) = same_step less refl whole
   low_step less whole IsInput = same_step less refl whole
 
-  none_is_some : {A B : Type 0} {one : A} → None ≡ Some one → B
-  none_is_some is = false_is_true (ap (λ (found : Option _). is_some found) is)
-
   -- the high byte of an ADDRESS in memory
   high_kept :
       {bound limit : ℕ} {tree : TypedExpression} (scalar : ScalarType) (form : ExpressionForm) (reference : Reference)
@@ -238,18 +223,18 @@ module _ (nodes : Nodes) (storage : Storage) (keeps : KeepTraits nodes) where
       reference_kept below less part
       (subst (λ (one : Reference). Kept (keeps_of_part (home_at nodes.homes one.object) (keeps_of_subscript nodes one.subscript) (keeps_of_subscript nodes one.member_subscript)))
       (sym (ap (λ (found : Option Reference). option_map_or (λ (one : Reference). one) found reference) is)) kept)
-  high_kept Byte form reference below less shape is kept = none_is_some is
-  high_kept Address (forms.Number number) reference below less shape is kept = none_is_some is
-  high_kept Address (forms.Location part) reference below less shape is kept = none_is_some is
-  high_kept Address (forms.List offset) reference below less shape is kept = none_is_some is
-  high_kept Address (forms.Conversion inner) reference below less shape is kept = none_is_some is
-  high_kept Address (forms.Unary operator operand) reference below less shape is kept = none_is_some is
-  high_kept Address (forms.Binary operands operator left right) reference below less shape is kept = none_is_some is
-  high_kept Address (forms.Function function operand) reference below less shape is kept = none_is_some is
-  high_kept Address (forms.Shift function value count) reference below less shape is kept = none_is_some is
-  high_kept Address (forms.Assignment target value) reference below less shape is kept = none_is_some is
-  high_kept Address (forms.Call procedure range) reference below less shape is kept = none_is_some is
-  high_kept Address (forms.Input port) reference below less shape is kept = none_is_some is
+  high_kept Byte form reference below less shape is kept = absurd (none-some _ is)
+  high_kept Address (forms.Number number) reference below less shape is kept = absurd (none-some _ is)
+  high_kept Address (forms.Location part) reference below less shape is kept = absurd (none-some _ is)
+  high_kept Address (forms.List offset) reference below less shape is kept = absurd (none-some _ is)
+  high_kept Address (forms.Conversion inner) reference below less shape is kept = absurd (none-some _ is)
+  high_kept Address (forms.Unary operator operand) reference below less shape is kept = absurd (none-some _ is)
+  high_kept Address (forms.Binary operands operator left right) reference below less shape is kept = absurd (none-some _ is)
+  high_kept Address (forms.Function function operand) reference below less shape is kept = absurd (none-some _ is)
+  high_kept Address (forms.Shift function value count) reference below less shape is kept = absurd (none-some _ is)
+  high_kept Address (forms.Assignment target value) reference below less shape is kept = absurd (none-some _ is)
+  high_kept Address (forms.Call procedure range) reference below less shape is kept = absurd (none-some _ is)
+  high_kept Address (forms.Input port) reference below less shape is kept = absurd (none-some _ is)
 
   -- the part of memory that holds the low byte of a form
   inner_kept :
@@ -260,26 +245,26 @@ module _ (nodes : Nodes) (storage : Storage) (keeps : KeepTraits nodes) where
       → memory_of_inner nodes form ≡ Some reference
       → Kept (keeps_of_address nodes reference)
       → is_quiet_form nodes form ≡ true
-  inner_kept reference below less IsNumber is kept = none_is_some is
+  inner_kept reference below less IsNumber is kept = absurd (none-some _ is)
   inner_kept reference below less (IsValue {reference = whole} part) is kept =
       reference_kept below less part
       (subst (λ (one : Reference). Kept (keeps_of_address nodes one))
       (sym (ap (λ (found : Option Reference). option_map_or (λ (one : Reference). one) found reference) is)) kept)
-  inner_kept reference below less (IsLocation part) is kept = none_is_some is
-  inner_kept reference below less IsConstantList is kept = none_is_some is
-  inner_kept reference below less (IsConversion node) is kept = none_is_some is
-  inner_kept reference below less (IsEmbedded target value) is kept = none_is_some is
-  inner_kept reference below less (IsUnary operand) is kept = none_is_some is
-  inner_kept reference below less (IsBinary left right) is kept = none_is_some is
-  inner_kept reference below less (IsCallOf are) is kept = none_is_some is
-  inner_kept reference below less (IsFunction {function = Low} node) is kept = none_is_some is
-  inner_kept reference below less (IsFunction {function = Double} node) is kept = none_is_some is
+  inner_kept reference below less (IsLocation part) is kept = absurd (none-some _ is)
+  inner_kept reference below less IsConstantList is kept = absurd (none-some _ is)
+  inner_kept reference below less (IsConversion node) is kept = absurd (none-some _ is)
+  inner_kept reference below less (IsEmbedded target value) is kept = absurd (none-some _ is)
+  inner_kept reference below less (IsUnary operand) is kept = absurd (none-some _ is)
+  inner_kept reference below less (IsBinary left right) is kept = absurd (none-some _ is)
+  inner_kept reference below less (IsCallOf are) is kept = absurd (none-some _ is)
+  inner_kept reference below less (IsFunction {function = Low} node) is kept = absurd (none-some _ is)
+  inner_kept reference below less (IsFunction {function = Double} node) is kept = absurd (none-some _ is)
   inner_kept reference below less (IsFunction {function = High} {operand = operand} (IsNode {expression = expression} less_than at scalar shape)) is kept =
       quiet_of_entry operand.index expression at
       ∙ high_kept expression.traits.scalar expression.form reference below (omega (arith, less_than, less)) shape
       (sym (ap (λ (found : Option Expression). option_and_then (λ (one : Expression). byte_after one.traits.scalar one.form) found) at) ∙ is) kept
-  inner_kept reference below less (IsShift value count) is kept = none_is_some is
-  inner_kept reference below less IsInput is kept = none_is_some is
+  inner_kept reference below less (IsShift value count) is kept = absurd (none-some _ is)
+  inner_kept reference below less IsInput is kept = absurd (none-some _ is)
 
   -- a byte with zeros added
   byte_kept :
@@ -390,15 +375,15 @@ module _ (nodes : Nodes) (storage : Storage) (keeps : KeepTraits nodes) where
   form_kept Byte below less whole (IsBinary first second) kept = none_is_kept kept
   form_kept Address below less whole (IsBinary {operator = Add} first second) kept =
       chosen_kept _
-      (λ known left. both_true _ _ (at_node below less first left) (known_quiet second known))
-      (λ known right. both_true _ _ (known_quiet first known) (at_node below less second right)) kept
+      (λ known left. and_from _ _ (at_node below less first left) (known_quiet second known))
+      (λ known right. and_from _ _ (known_quiet first known) (at_node below less second right)) kept
   form_kept Address below less whole (IsBinary {operator = Multiply} first second) kept =
       chosen_kept _
-      (λ known left. both_true _ _ (at_node below less first left) (known_quiet second (some_then _ _ known)))
-      (λ known right. both_true _ _ (known_quiet first (some_then _ _ known)) (at_node below less second right)) kept
+      (λ known left. and_from _ _ (at_node below less first left) (known_quiet second (from_value _ _ known)))
+      (λ known right. and_from _ _ (known_quiet first (from_value _ _ known)) (at_node below less second right)) kept
   form_kept Address below less whole (IsBinary {operator = Subtract} first second) kept =
       either_kept _
-      (λ known left. both_true _ _ (at_node below less first left) (known_quiet second (some_then _ _ known))) kept
+      (λ known left. and_from _ _ (at_node below less first left) (known_quiet second (from_value _ _ known))) kept
   form_kept Address below less whole (IsBinary {operator = Or} first second) kept = none_is_kept kept
   form_kept Address below less whole (IsBinary {operator = Xor} first second) kept = none_is_kept kept
   form_kept Address below less whole (IsBinary {operator = And} first second) kept = none_is_kept kept
@@ -419,8 +404,8 @@ module _ (nodes : Nodes) (storage : Storage) (keeps : KeepTraits nodes) where
           → (quiet_at nodes value && quiet_at nodes count) ≡ true
       shifted_by (Some number) is kept =
           either_kept _
-          (λ small left. both_true _ _ (at_node below less moved left)
-          (known_quiet by (some_then _ _ (some_of (number_at nodes count) number is)))) kept
+          (λ small left. and_from _ _ (at_node below less moved left)
+          (known_quiet by (from_value _ _ (some_of (number_at nodes count) number is)))) kept
       shifted_by None is kept = none_is_kept kept
   form_kept Address below less whole (IsShift {function = ShiftRight} moved by) kept = none_is_kept kept
   form_kept Address below less whole (IsShift {function = RotateLeft} moved by) kept = none_is_kept kept

@@ -1,6 +1,6 @@
 -- Expressions at a site: values that are known as numbers or relocatable addresses, their range, and operands
 -- that may be evaluated in the other order.
-use Rattle.task_laws.proofs.Prelude.{◌≡◌, ℕ, ◌+◌, ◌-◌, ◌*◌, ◌/◌, ◌%◌, ◌^◌, ◌<◌, ◌≤◌, ◌==◌, Bool, true, false, ◌&&◌, ◌||◌, not, nat_lt, nat_le, if◌then◌else◌, Option, Some, None, is_some, option_map, slice_get, List, bit_and, refl, sym, ap, ◌∙◌, subst, arith, length, option_and_then, option_map_or, and_le_l, or_of_8, or_of_16, xor_of_8, xor_of_16, ScalarType, Byte, Address, BinaryOperator, UnaryOperator, Not, Negate, ShiftFunction, ShiftLeft, ShiftRight, RotateLeft, RotateRight, UnaryFunction, Low, High, Double, type_of, type_of_function, type_of_result, TypedExpression, NumberNode, ValueNode, LocationNode, ListNode, ConversionNode, AssignmentNode, UnaryNode, BinaryNode, CallNode, FunctionNode, ShiftNode, InputNode, TypedModule, TypedReference, PartOf, Subscript, NoSubscript, At, ShiftsIn, TypesHold, TypesHoldInReference, TypesHoldInSubscript, Within, WorksOn, value, Ended, More, Outside, Outcome, Gave, Stopped, result_of, result_of_one, shifted, truth, turned, values_of, Machine, Expression, ExpressionForm, ExpressionNumber, Home, Place, Number, Code, Data, External, number_of_place, place_after, converted_place, function_of_place, known_number, known_subscript, known_value, place_of_part, result_of_known, result_of_place, shift_of_known, IsExpression, IsNode, IsForm, IsNumber, IsValue, IsLocation, IsConstantList, IsConversion, IsEmbedded, IsUnary, IsBinary, IsCallOf, IsFunction, IsShift, IsInput, home_at, HaveOperands, PartHasOperands, SubscriptHasOperands, known_at, no_traits, known_kept, AreAlike, AreSame, BothOutside, GoesOutside, may_exchange_at, in_order, exchanged, known_gives, operands_exchanged, Does, place_at, Facts, is_quiet, known, may_exchange, number, stores_nothing, expression, knowing, equal_below, Context, IsSound, NumbersAreWords, nodes_in}
+use Rattle.task_laws.proofs.Prelude.{◌≡◌, ℕ, ◌+◌, ◌-◌, ◌*◌, ◌/◌, ◌%◌, ◌^◌, ◌<◌, ◌≤◌, ◌==◌, Bool, true, false, ◌&&◌, ◌||◌, not, nat_lt, nat_le, if◌then◌else◌, Option, Some, None, is_some, option_map, slice_get, List, refl, sym, ap, ◌∙◌, subst, arith, length, option_and_then, option_map_or, and_le_l, or_of_8, or_of_16, xor_of_8, xor_of_16, ScalarType, Byte, Address, BinaryOperator, UnaryOperator, Not, Negate, ShiftFunction, ShiftLeft, ShiftRight, RotateLeft, RotateRight, UnaryFunction, Low, High, Double, type_of, type_of_function, type_of_result, TypedExpression, NumberNode, ValueNode, LocationNode, ListNode, ConversionNode, AssignmentNode, UnaryNode, BinaryNode, CallNode, FunctionNode, ShiftNode, InputNode, TypedModule, TypedReference, PartOf, Subscript, NoSubscript, At, ShiftsIn, TypesHold, TypesHoldInReference, TypesHoldInSubscript, Within, WorksOn, value, Ended, More, Outside, Outcome, Gave, Stopped, result_of, result_of_one, shifted, truth, turned, values_of, Machine, Expression, ExpressionForm, ExpressionNumber, Home, Place, Number, Code, Data, External, number_of_place, place_after, converted_place, function_of_place, known_number, known_subscript, known_value, place_of_part, result_of_known, result_of_place, shift_of_known, IsExpression, IsNode, IsForm, IsNumber, IsValue, IsLocation, IsConstantList, IsConversion, IsEmbedded, IsUnary, IsBinary, IsCallOf, IsFunction, IsShift, IsInput, home_at, HaveOperands, PartHasOperands, SubscriptHasOperands, known_at, no_traits, known_kept, AreAlike, AreSame, BothOutside, GoesOutside, may_exchange_at, in_order, exchanged, known_gives, operands_exchanged, Does, place_at, Facts, is_quiet, known, may_exchange, number, stores_nothing, expression, knowing, equal_below, Context, IsSound, NumbersAreWords, nodes_in, lt_of_le_of_lt}
 use Rattle.trees.specs.declared.expression.BinaryOperator.TheVariants as operators
 use Rattle.meaning.specs.Outcomes.{State}
 use Rattle.treecode.specs.declared.expression.ExpressionForm.TheVariants as forms
@@ -75,9 +75,6 @@ fits_function Low of (Some (External n name)) fits = tt
 fits_function High of (Some (External n name)) fits = tt
 fits_function Double of (Some (External n name)) fits = refl
 
-pub less_or_same : (x y limit : ℕ) → x ≤ y → y < limit → x < limit
-less_or_same x y limit one two = omega (arith, one, two)
-
 turned_high : (byte count : ℕ) → byte < 256 → count < 8 → (256 * count + byte) / 256 ≡ count
 turned_high byte count small few = omega (arith, small)
 
@@ -102,7 +99,7 @@ pub shift_fits : (scalar : ScalarType) (function : ShiftFunction) (n count : ℕ
     → n < values_of scalar → shifted scalar function n count < values_of scalar
 shift_fits Byte ShiftLeft n count in_type small = omega arith
 shift_fits Address ShiftLeft n count in_type small = omega arith
-shift_fits scalar ShiftRight n count in_type small = less_or_same (n / 2 ^ count) n (values_of scalar) (quotient_less n (2 ^ count)) small
+shift_fits scalar ShiftRight n count in_type small = lt_of_le_of_lt (quotient_less n (2 ^ count)) small
 shift_fits Byte RotateLeft n count in_type small = turned_fits (n % 256) (count % 8) (omega arith) (omega arith)
 shift_fits Byte RotateRight n count in_type small = turned_fits (n % 256) ((8 - count % 8) % 8) (omega arith) (omega arith)
 shift_fits Address RotateLeft n count in_type small = let same : Address ≡ Byte = in_type in bytes_differ (sym same)
@@ -132,7 +129,7 @@ result_fits Byte operators.Or x y one two = or_of_8 x y one two
 result_fits Address operators.Or x y one two = or_of_16 x y one two
 result_fits Byte operators.Xor x y one two = xor_of_8 x y one two
 result_fits Address operators.Xor x y one two = xor_of_16 x y one two
-result_fits operands operators.And x y one two = less_or_same (bit_and x y) x (values_of operands) (and_le_l x y) one
+result_fits operands operators.And x y one two = lt_of_le_of_lt (and_le_l x y) one
 result_fits operands operators.Equal x y one two = truth_fits (x == y)
 result_fits operands operators.Less x y one two = truth_fits (nat_lt x y)
 result_fits operands operators.Greater x y one two = truth_fits (nat_lt y x)
@@ -149,12 +146,12 @@ result_fits operands operators.Divide x y one two = by (y == 0)
   where
     by : (none : Bool) → KnownFits (option_map Number (if none then None else Some (x / y))) operands
     by true = tt
-    by false = less_or_same (x / y) x (values_of operands) (quotient_less x y) one
+    by false = lt_of_le_of_lt (quotient_less x y) one
 result_fits operands operators.Modulo x y one two = by (y == 0)
   where
     by : (none : Bool) → KnownFits (option_map Number (if none then None else Some (x % y))) operands
     by true = tt
-    by false = less_or_same (x % y) x (values_of operands) (Rattle.std.proofs.Math.Nat.mod-le x y) one
+    by false = lt_of_le_of_lt (Rattle.std.proofs.Math.Nat.mod-le x y) one
 
 -- an ADDRESS `distance` bytes further on
 after_fits : (place : Place) (distance : ℕ) → KnownFits (Some (place_after place distance)) Address

@@ -1,5 +1,5 @@
 -- The address of a static object has 16 bits, if the numbers of tree code have.
-use Rattle.task_laws.proofs.Prelude.{◌≡◌, ℕ, ◌<◌, List, MEMORY_SIZE, Layout, wrapped_small, Home, Place, Number, Code, Data, External, home_at, place_at}
+use Rattle.task_laws.proofs.Prelude.{◌≡◌, ℕ, ◌<◌, List, MEMORY_SIZE, Layout, Home, Place, Number, Code, Data, External, home_at, place_at, wrapped_small}
 use Rattle.treecode.specs.declared.place.Home.TheVariants.{Static}
 
 pub place_is_word : (layout : Layout) (homes : List Home)

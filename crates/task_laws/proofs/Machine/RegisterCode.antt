@@ -1,5 +1,5 @@
 -- Steps that change only registers, one after another.
-use Rattle.task_laws.proofs.Prelude.{◌≡◌, ℕ, ◌+◌, ◌*◌, ◌/◌, ◌%◌, ◌<◌, ◌≤◌, Bool, true, false, List, [], ◌∷◌, ◌++◌, bit_and, refl, sym, ap, ◌∙◌, arith, subst, and_le_l, or_of_8, xor_of_8, IsMemory, byte_at, byte_small, Event, SourceState, Outcome, Instr, Accumulate, AccumulateImmediate, Cma, Dad, Dcx, Inx, Lxi, Mov, Mvi, Rar, Rlc, Rrc, Ral, Xchg, Of, Operation, Add, AddWithCarry, Subtract, SubtractWithBorrow, And, ExclusiveOr, Or, Compare, Bc, De, Hl, Register, A, B, C, D, E, H, L, Flags, bit, HoldBytes, Registers, State, register_of, wrap, operate, act, running, InstructionStands, size_of_instruction, Does, at_place, plain_first, stands_now, Asks, FactsHold, facts_after, Facts, Part, Step, after, plain, Context, IsSound, distances_in, StepsStand, PlainThere, Know}
+use Rattle.task_laws.proofs.Prelude.{◌≡◌, ℕ, ◌+◌, ◌/◌, ◌%◌, ◌<◌, ◌≤◌, List, [], ◌∷◌, ◌++◌, bit_and, refl, sym, ap, ◌∙◌, arith, subst, and_le_l, or_of_8, xor_of_8, IsMemory, byte_at, byte_small, Event, SourceState, Outcome, Instr, Accumulate, AccumulateImmediate, Cma, Dad, Dcx, Inx, Lxi, Mov, Mvi, Rar, Rlc, Rrc, Ral, Xchg, Of, Operation, Add, AddWithCarry, Subtract, SubtractWithBorrow, And, ExclusiveOr, Or, Compare, Bc, De, Hl, Register, A, B, C, D, E, H, L, Flags, HoldBytes, Registers, State, register_of, wrap, operate, act, running, InstructionStands, size_of_instruction, Does, at_place, plain_first, stands_now, Asks, FactsHold, facts_after, Facts, Part, Step, after, plain, Context, IsSound, distances_in, StepsStand, PlainThere, Know, high_is_byte, half_small, high_of_wrapped, turned_small}
 use Rattle.isa8080.specs.State.{with_register}
 use Rattle.asm8080.specs.declared.item.Item.TheVariants as items
 use Rattle.task_laws.proofs.Machine.Rules.{GoesOn, ready_with_registers}
@@ -188,35 +188,21 @@ operated_small ExclusiveOr a x flags one other = xor_of_8 a x one other
 operated_small Or a x flags one other = or_of_8 a x one other
 operated_small Compare a x flags one other = one
 
-half_small : (n : ℕ) (carry : Bool) → n < 256 → n / 2 + 128 * bit carry < 256
-half_small n true small = omega arith
-half_small n false small = omega arith
-
-twice_small : (n : ℕ) (carry : Bool) → n < 256 → n * 2 % 256 + bit carry < 256
-twice_small n true small = omega arith
-twice_small n false small = omega arith
-
-wrapped_high : (n : ℕ) → wrap n / 256 < 256
-wrapped_high n = omega arith
-
 low_small : (n : ℕ) → n % 256 < 256
 low_small n = omega arith
 
-high_small : (n : ℕ) → n < 65536 → n / 256 < 256
-high_small n small = omega (arith, small)
-
 -- and the others hold bytes
 bytes_after : (i : Instr) (r : Registers) → IsOnRegisters i → NumbersFit i → HoldBytes r → HoldBytes (does_to i r)
-bytes_after (Lxi Bc word) r is fit bytes = record { a = bytes.a; b = high_small word fit; c = low_small word; d = bytes.d; e = bytes.e; h = bytes.h; l = bytes.l }
-bytes_after (Lxi De word) r is fit bytes = record { a = bytes.a; b = bytes.b; c = bytes.c; d = high_small word fit; e = low_small word; h = bytes.h; l = bytes.l }
-bytes_after (Lxi Hl word) r is fit bytes = record { a = bytes.a; b = bytes.b; c = bytes.c; d = bytes.d; e = bytes.e; h = high_small word fit; l = low_small word }
-bytes_after (Inx Bc) r is fit bytes = record { a = bytes.a; b = wrapped_high _; c = low_small _; d = bytes.d; e = bytes.e; h = bytes.h; l = bytes.l }
-bytes_after (Inx De) r is fit bytes = record { a = bytes.a; b = bytes.b; c = bytes.c; d = wrapped_high _; e = low_small _; h = bytes.h; l = bytes.l }
-bytes_after (Inx Hl) r is fit bytes = record { a = bytes.a; b = bytes.b; c = bytes.c; d = bytes.d; e = bytes.e; h = wrapped_high _; l = low_small _ }
-bytes_after (Dcx Bc) r is fit bytes = record { a = bytes.a; b = wrapped_high _; c = low_small _; d = bytes.d; e = bytes.e; h = bytes.h; l = bytes.l }
-bytes_after (Dcx De) r is fit bytes = record { a = bytes.a; b = bytes.b; c = bytes.c; d = wrapped_high _; e = low_small _; h = bytes.h; l = bytes.l }
-bytes_after (Dcx Hl) r is fit bytes = record { a = bytes.a; b = bytes.b; c = bytes.c; d = bytes.d; e = bytes.e; h = wrapped_high _; l = low_small _ }
-bytes_after (Dad pair) r is fit bytes = record { a = bytes.a; b = bytes.b; c = bytes.c; d = bytes.d; e = bytes.e; h = wrapped_high _; l = low_small _ }
+bytes_after (Lxi Bc word) r is fit bytes = record { a = bytes.a; b = high_is_byte word fit; c = low_small word; d = bytes.d; e = bytes.e; h = bytes.h; l = bytes.l }
+bytes_after (Lxi De word) r is fit bytes = record { a = bytes.a; b = bytes.b; c = bytes.c; d = high_is_byte word fit; e = low_small word; h = bytes.h; l = bytes.l }
+bytes_after (Lxi Hl word) r is fit bytes = record { a = bytes.a; b = bytes.b; c = bytes.c; d = bytes.d; e = bytes.e; h = high_is_byte word fit; l = low_small word }
+bytes_after (Inx Bc) r is fit bytes = record { a = bytes.a; b = high_of_wrapped _; c = low_small _; d = bytes.d; e = bytes.e; h = bytes.h; l = bytes.l }
+bytes_after (Inx De) r is fit bytes = record { a = bytes.a; b = bytes.b; c = bytes.c; d = high_of_wrapped _; e = low_small _; h = bytes.h; l = bytes.l }
+bytes_after (Inx Hl) r is fit bytes = record { a = bytes.a; b = bytes.b; c = bytes.c; d = bytes.d; e = bytes.e; h = high_of_wrapped _; l = low_small _ }
+bytes_after (Dcx Bc) r is fit bytes = record { a = bytes.a; b = high_of_wrapped _; c = low_small _; d = bytes.d; e = bytes.e; h = bytes.h; l = bytes.l }
+bytes_after (Dcx De) r is fit bytes = record { a = bytes.a; b = bytes.b; c = bytes.c; d = high_of_wrapped _; e = low_small _; h = bytes.h; l = bytes.l }
+bytes_after (Dcx Hl) r is fit bytes = record { a = bytes.a; b = bytes.b; c = bytes.c; d = bytes.d; e = bytes.e; h = high_of_wrapped _; l = low_small _ }
+bytes_after (Dad pair) r is fit bytes = record { a = bytes.a; b = bytes.b; c = bytes.c; d = bytes.d; e = bytes.e; h = high_of_wrapped _; l = low_small _ }
 bytes_after (Mvi (Of register) number) r is fit bytes = with_small register r number fit bytes
 bytes_after (Mov register (Of other)) r is fit bytes = with_small register r (register_of other r) (register_small other r bytes) bytes
 bytes_after (Accumulate operation (Of register)) r is fit bytes =
@@ -227,7 +213,7 @@ bytes_after (AccumulateImmediate operation number) r is fit bytes =
     with_a r result.value result.flags (operated_small operation r.a number r.flags bytes.a fit) bytes
 bytes_after Rlc r is fit bytes = let a = bytes.a in record { a = omega (arith, a); b = bytes.b; c = bytes.c; d = bytes.d; e = bytes.e; h = bytes.h; l = bytes.l }
 bytes_after Rrc r is fit bytes = let a = bytes.a in record { a = omega (arith, a); b = bytes.b; c = bytes.c; d = bytes.d; e = bytes.e; h = bytes.h; l = bytes.l }
-bytes_after Ral r is fit bytes = record { a = twice_small r.a r.flags.cy bytes.a; b = bytes.b; c = bytes.c; d = bytes.d; e = bytes.e; h = bytes.h; l = bytes.l }
+bytes_after Ral r is fit bytes = record { a = turned_small r.a r.flags.cy bytes.a; b = bytes.b; c = bytes.c; d = bytes.d; e = bytes.e; h = bytes.h; l = bytes.l }
 bytes_after Rar r is fit bytes = record { a = half_small r.a r.flags.cy bytes.a; b = bytes.b; c = bytes.c; d = bytes.d; e = bytes.e; h = bytes.h; l = bytes.l }
 bytes_after Cma r is fit bytes = record { a = omega arith; b = bytes.b; c = bytes.c; d = bytes.d; e = bytes.e; h = bytes.h; l = bytes.l }
 bytes_after Xchg r is fit bytes = record { a = bytes.a; b = bytes.b; c = bytes.c; d = bytes.h; e = bytes.l; h = bytes.d; l = bytes.e }

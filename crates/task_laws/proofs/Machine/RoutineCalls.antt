@@ -1,5 +1,5 @@
 -- Calls of routines.
-use Rattle.task_laws.proofs.Prelude.{◌≡◌, ℕ, ◌+◌, ◌-◌, ◌<◌, ◌≤◌, inl, inr, List, [], ◌∷◌, refl, sym, ap, ◌∙◌, arith, subst, MEMORY_SIZE, byte_at, IsIn, Event, SourceState, Outcome, Call, Running, bytes_of, HoldBytes, Registers, State, wrap, CallTo, InstructionStands, below, Does, Lands, at_place, Activation, HasRoom, IsReady, LiesWell, Owns, told_on, keeps_both, keeps_wider, stands_now, no_facts_hold, bytes_alike, stands_in, Facts, Part, Step, CallRoutine, no_facts, jump_item, label_of_routine, Context, IsSound, RoutineIsAt, StepsStand, RoutineThere}
+use Rattle.task_laws.proofs.Prelude.{◌≡◌, ℕ, ◌+◌, ◌-◌, ◌<◌, ◌≤◌, inl, inr, List, [], ◌∷◌, refl, sym, ap, ◌∙◌, arith, subst, MEMORY_SIZE, byte_at, IsIn, Event, SourceState, Outcome, Call, Running, bytes_of, HoldBytes, Registers, State, wrap, CallTo, InstructionStands, below, Does, Lands, at_place, Activation, HasRoom, IsReady, LiesWell, Owns, told_on, keeps_both, keeps_wider, stands_now, no_facts_hold, bytes_alike, stands_in, Facts, Part, Step, CallRoutine, no_facts, jump_item, label_of_routine, Context, IsSound, RoutineIsAt, StepsStand, RoutineThere, wrapped_once, wrapped_small}
 use Rattle.mem80.specs.declared.range.Range.{Range}
 use Rattle.asm8080.specs.Standing.{Keeps}
 use Rattle.runtime8080.specs.{declared.routine.Routine.{Routine}, Routines.{BlocksMiss, Computes, CopyMisses, HasReturned, Leaves, Returns, memory_after}}
@@ -88,12 +88,6 @@ machine_is after place events runs here same =
 
 pub twice_wrapped : (place : ℕ) → wrap (wrap place + 3) ≡ wrap (place + 3)
 twice_wrapped place = omega arith
-
-pub wrapped_once : (place : ℕ) → wrap place ≡ wrap (wrap place)
-wrapped_once place = omega arith
-
-pub small : (place : ℕ) → wrap place < MEMORY_SIZE
-small place = omega arith
 
 pub in_memory : (entry to limit : ℕ) → entry < to → to ≤ limit → limit ≤ MEMORY_SIZE → wrap entry ≡ entry
 in_memory entry to limit less high fits = omega (arith, less, high, fits)
@@ -214,7 +208,7 @@ routine_then {outcome = outcome} {Good = Good} {context = context} {from = from}
     fits least here ready.shares.code found.stands)
     (record {
       running = refl;
-      place = small from;
+      place = wrapped_small from;
       registers = bytes_at_place (wrap from) r ready.registers;
       memory = ready.shares.is_memory;
       call = call;

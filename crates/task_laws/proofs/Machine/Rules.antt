@@ -206,7 +206,7 @@ push_size StackDe = refl
 push_size StackHl = refl
 push_size Psw = refl
 
-pop_size : (pair : StackPair) → size_of_instruction (Pop pair) ≡ 1
+pub pop_size : (pair : StackPair) → size_of_instruction (Pop pair) ≡ 1
 pop_size StackBc = refl
 pop_size StackDe = refl
 pop_size StackHl = refl

@@ -1,8 +1,8 @@
 -- A machine within the code of a body, and its run at a step.
-use Rattle.task_laws.proofs.Prelude.{◌≡◌, ℕ, ◌+◌, ◌-◌, ◌*◌, ◌%◌, ◌<◌, ◌≤◌, Bool, true, false, List, [], ◌∷◌, ◌++◌, refl, sym, ap, ◌∙◌, subst, arith, MEMORY_SIZE, byte_at, byte_small, height_of, type_of, TypedExpression, TypesHold, value, SourceState, Ended, More, Outside, Outcome, Gave, Stopped, then_do, Instr, Pop, Push, StackPair, StackBc, StackDe, StackHl, Psw, Flags, act, bit, flag_byte, HoldBytes, Registers, State, pushed_of, with_popped, wrap, size_of_instruction, pushed_word, pop_does, push_does, ExpressionNumber, IsExpression, Facts, Part, Step, after, after_word, plain, word_item, LoadA, Place, Activation, HasRoom, IsReady, IsThere, Does, Lands, at_place, plain_first, then_does, told_on, ready_after_pop, ready_after_push, still_pushed, Asks, FactsHold, IsSteady, place_at, facts_after, push_asks, Context, IsSound, distances_in, nodes_in, StepsStand, NoneThere, ByteDoes, ByteIsGiven, Carries, EffectsDo, Know, EffectsAreGiven, WordDoes, WordIsGiven}
+use Rattle.task_laws.proofs.Prelude.{◌≡◌, ℕ, ◌+◌, ◌-◌, ◌*◌, ◌%◌, ◌<◌, ◌≤◌, List, [], ◌∷◌, ◌++◌, refl, sym, ap, ◌∙◌, subst, arith, MEMORY_SIZE, byte_at, byte_small, height_of, type_of, TypedExpression, TypesHold, value, SourceState, Ended, More, Outside, Outcome, Gave, Stopped, then_do, Instr, Pop, Push, StackPair, StackBc, StackDe, StackHl, Psw, Flags, act, flag_byte, HoldBytes, Registers, State, pushed_of, with_popped, wrap, size_of_instruction, pushed_word, pop_does, push_does, ExpressionNumber, IsExpression, Facts, Part, Step, after, after_word, plain, word_item, LoadA, Place, HasRoom, IsReady, IsThere, Does, Lands, at_place, plain_first, then_does, told_on, ready_after_pop, ready_after_push, still_pushed, Asks, FactsHold, IsSteady, place_at, facts_after, push_asks, Context, IsSound, distances_in, nodes_in, StepsStand, NoneThere, ByteDoes, ByteIsGiven, Carries, EffectsDo, Know, EffectsAreGiven, WordDoes, WordIsGiven, flag_byte_small, given_again}
 use Rattle.asm8080.specs.declared.item.Item.TheVariants as items
 use Rattle.task_laws.proofs.Machine.RegisterCode.{AreOnRegisters, effect, registers_then}
-use Rattle.task_laws.proofs.Machine.Rules.{ready_with_registers, word_goes}
+use Rattle.task_laws.proofs.Machine.Rules.{ready_with_registers, word_goes, room_for}
 
 -- the script of the ports
 abbrev pub script_of : Context → List (List ℕ)
@@ -36,12 +36,8 @@ pub gives_then :
     → Does script t.budget more end (Gave found t) Good)
     → Does script budget more from outcome Good
 gives_then {A = A} {script = script} {budget = budget} {more = more} {from = from} outcome {Middle = Middle} {Good = Good} one rest =
-    subst (λ (given : Outcome A). Does script budget more from given Good) (ends outcome)
+    subst (λ (given : Outcome A). Does script budget more from given Good) (given_again outcome)
     (then_does {go = λ found t. Gave found t} one rest)
-  where
-    ends : (of : Outcome A) → then_do of (λ found t. Gave found t) ≡ of
-    ends (Gave found t) = refl
-    ends (Stopped why t) = refl
 
 -- the rest after a part, which may use the value that the part gave
 pub then_does_where :
@@ -59,15 +55,6 @@ then_does_where {A = A} {B = B} {script = script} {budget = budget} {other = oth
 then_does_where (Stopped Ended t) one rest = record { told = one.told }
 then_does_where (Stopped More t) one rest = record { told = one.told }
 then_does_where (Stopped (Outside reason) t) one rest = record { told = tt }
-
--- less is needed
-pub has_less_room :
-    {activation : Activation} {top pushed need : ℕ} (less : ℕ)
-    → less ≤ need
-    → HasRoom activation top pushed need
-    → HasRoom activation top pushed less
-has_less_room less fewer room =
-    let enough = room.enough in record { depth = room.depth; even = room.even; enough = omega (arith, enough, fewer) }
 
 -- an instruction that changes registers other than the stack pointer
 pub at_registers :
@@ -136,19 +123,6 @@ at_a {r = r} value flags sound stage there acts small asks rest =
     at_registers (record r { a = value; flags = flags }) sound stage there acts refl
     (record { a = small; b = held.b; c = held.c; d = held.d; e = held.e; h = held.h; l = held.l }) asks rest
 
-bit_is_small : (b : Bool) → bit b ≤ 1
-bit_is_small true = omega arith
-bit_is_small false = omega arith
-
-pub flag_byte_is_small : (f : Flags) → flag_byte f < 256
-flag_byte_is_small f =
-    let s = bit_is_small f.s in
-    let z = bit_is_small f.z in
-    let ac = bit_is_small f.ac in
-    let p = bit_is_small f.p in
-    let cy = bit_is_small f.cy in
-    omega (arith, s, z, ac, p, cy)
-
 word_is_small : (high low : ℕ) → high < 256 → low < 256 → 256 * high + low < MEMORY_SIZE
 word_is_small high low one two = omega (arith, one, two)
 
@@ -157,7 +131,7 @@ pub pushed_is_small :
 pushed_is_small StackBc r held = word_is_small r.b r.c held.b held.c
 pushed_is_small StackDe r held = word_is_small r.d r.e held.d held.e
 pushed_is_small StackHl r held = word_is_small r.h r.l held.h held.l
-pushed_is_small Psw r held = word_is_small r.a (flag_byte r.flags) held.a (flag_byte_is_small r.flags)
+pushed_is_small Psw r held = word_is_small r.a (flag_byte r.flags) held.a (flag_byte_small r.flags)
 
 room_below :
     (start room top pushed need level : ℕ)
@@ -384,7 +358,7 @@ pub at_carried :
     → Does (script_of context) t.budget more (at_place from r memory t.events) (then_do (meant t) go) Good
 at_carried {A = A} {B = B} {context = context} {top = top} {pushed = pushed} {need = need} {base = base} {t = t} {facts = facts} {r = r} {memory = memory} {more = more} {less = less} {meant = meant} {go = go} {Holds = Holds} {Good = Good} from middle found_facts carries fewer asked knows stage rest =
     then_does_where (meant t)
-    (carries top base t r memory stage.below (has_less_room less fewer stage.room) stage.ready stage.known asked)
+    (carries top base t r memory stage.below (room_for less fewer stage.room) stage.ready stage.known asked)
     (λ found u end is arrives spent.
     let below = stage.below in
     subst (λ (s : State). Does (script_of context) u.budget more s (go found u) Good) (sym arrives.is_at)

@@ -1,5 +1,5 @@
 -- A value in its register, and a value that is stored while it is evaluated.
-use Rattle.task_laws.proofs.Prelude.{◌≡◌, ℕ, ◌+◌, ◌*◌, ◌%◌, ◌<◌, ◌≤◌, Bool, true, List, sym, subst, ◌∙◌, arith, ScalarType, Byte, Address, height_of, height_of_target, type_of, TypedExpression, TypedTarget, AssignmentNode, TypesHold, TypesHoldInTarget, stored, value, SourceState, Ended, More, Outside, Outcome, Gave, Stopped, then_do, values_of, Registers, State, ExpressionNumber, Target, IsExpression, IsTarget, IsStored, IsSent, source, Facts, Does, Lands, at_place, embedded_steps, value_task, Context, InRegister, nodes_in, NoneThere, PartThere, StepsStand, ByteIsGiven, Carries, WasStored, PartDoes, StoreDoes, TaskDoes, WordIsGiven}
+use Rattle.task_laws.proofs.Prelude.{◌≡◌, ℕ, ◌+◌, ◌*◌, ◌<◌, ◌≤◌, Bool, true, List, sym, subst, ◌∙◌, arith, ScalarType, Byte, Address, height_of, height_of_target, type_of, TypedExpression, TypedTarget, AssignmentNode, TypesHold, TypesHoldInTarget, stored, value, SourceState, Ended, More, Outside, Outcome, Gave, Stopped, then_do, values_of, Registers, State, ExpressionNumber, Target, IsExpression, IsTarget, IsStored, IsSent, source, Facts, Does, Lands, at_place, embedded_steps, value_task, Context, InRegister, nodes_in, NoneThere, PartThere, StepsStand, ByteIsGiven, Carries, WasStored, PartDoes, StoreDoes, TaskDoes, WordIsGiven, low_of_byte}
 use Rattle.task_laws.proofs.Machine.Stages.{Stage, at_byte, at_carried, at_word, does_same, script_of}
 use Rattle.task_laws.proofs.Machine.Effects.{then_again}
 
@@ -26,9 +26,6 @@ without_more {outcome = Stopped Ended t} does = record { told = does.told }
 without_more {outcome = Stopped More t} does = record { told = does.told }
 without_more {outcome = Stopped (Outside reason) t} does = record { told = tt }
 
-low_byte_itself : (found : ℕ) → found < 256 → found % 256 ≡ found
-low_byte_itself found small = omega (arith, small)
-
 -- the value of a part into its register
 pub at_value :
     {B : Type 0} {context : Context} {top pushed need : ℕ} {base : List ℕ} {t : SourceState} {facts found_facts : Facts}
@@ -53,7 +50,7 @@ at_value {context = context} {found_facts = found_facts} {r = r} {memory = memor
     at_byte from middle number does node types fewer stage
     (λ found u now memory_now is (given : ByteIsGiven context found_facts number (type_of tree) r memory found now memory_now) next.
     let small : found < 256 = subst (λ scalar. found < values_of scalar) type given.small in
-    rest found u now memory_now (given.a ∙ low_byte_itself found small) small next)
+    rest found u now memory_now (given.a ∙ low_of_byte found small) small next)
 at_value {context = context} {found_facts = found_facts} {r = r} {memory = memory} {tree = tree} Address from middle number does node types type fewer stage rest =
     at_word from middle number does node types fewer stage
     (λ found u now memory_now is (given : WordIsGiven context found_facts number (type_of tree) r memory found now memory_now) next.

@@ -117,7 +117,7 @@ given (Gave place t) = place
 given (Stopped why t) = InMemory 0
 
 -- an object that is not BASED is at its home
-not_based :
+pub not_based :
     (within : Within) (kind : TypedHome) (around : Surroundings) (object bytes : ℕ) (is_inside : Bool) (s : SourceState)
     → LiesFor within kind
     → based_place kind around object bytes is_inside s ≡ Gave (place_in kind around object bytes is_inside) s

@@ -1,5 +1,5 @@
 -- A located scalar is within its object, if each subscript is below its dimension.
-use Rattle.task_laws.proofs.Prelude.{◌≡◌, ℕ, ◌+◌, ◌%◌, ◌<◌, ◌≤◌, ◌&&◌, Bool, true, Option, Some, None, refl, sym, ap, subst, ◌∙◌, arith, IsSomeAnd, slice_get, ltb-true, MEMORY_SIZE, left_true, right_true, ScalarType, IsScalarOf, size_of_object, size_of_scalar, TypedHome, InData, InConstants, Placed, BasedOn, Elsewhere, Nowhere, InFrame, PartOf, Subscript, NoSubscript, At, TypedObject, TypedReference, IsSeen, RefersToScalar, InMemory, home_of, place_of, read_scalar, Displacement, based_place, displaced, displacement, located, value, Outcome, Gave, Stopped, then_do, Context, IsSound, IsReferred}
+use Rattle.task_laws.proofs.Prelude.{◌≡◌, ℕ, ◌+◌, ◌%◌, ◌≤◌, ◌&&◌, Bool, true, Option, Some, None, refl, sym, ap, subst, ◌∙◌, arith, IsSomeAnd, slice_get, ltb-true, MEMORY_SIZE, ScalarType, IsScalarOf, size_of_object, size_of_scalar, TypedHome, InData, InConstants, Placed, BasedOn, Elsewhere, Nowhere, InFrame, PartOf, Subscript, NoSubscript, At, TypedObject, TypedReference, IsSeen, RefersToScalar, InMemory, home_of, place_of, read_scalar, Displacement, based_place, displaced, displacement, located, value, Outcome, Gave, Stopped, then_do, Context, IsSound, IsReferred, and_parts, remainder_in_memory}
 use Rattle.typed_trees.proofs.Inside.{LiesAt, scalar_lies_within}
 use Rattle.meaning.specs.{Access.{Place}, Outcomes.{State}}
 use Rattle.task_laws.proofs.Places.Bases.{has_some, home_there, own_frame}
@@ -38,9 +38,6 @@ displacement_lies context (At stride count index) found s u same inside =
       ap (λ (d : Displacement). d.bytes) (sym is),
     )
 
-wrapped : (n : ℕ) → n % MEMORY_SIZE < MEMORY_SIZE
-wrapped n = omega arith
-
 -- a place that is located from a base fits
 based_fits :
     (context : Context) (object bytes size : ℕ) (is_inside : Bool) (found : TypedObject) (place : Place) (s u : State)
@@ -56,7 +53,7 @@ based_fits context object bytes size is_inside found place s u sound is seen fit
     (home_there context object found sound is)) ∙ same)
   where
     in_memory : (address : ℕ) → InMemory (address % MEMORY_SIZE) ≡ place → FitsIn context.activation size place
-    in_memory address is_there = subst (λ (place : Place). FitsIn context.activation size place) is_there (wrapped address)
+    in_memory address is_there = subst (λ (place : Place). FitsIn context.activation size place) is_there (remainder_in_memory address)
 
     by_kind : (kind : TypedHome) → found.home ≡ kind
         → based_place kind context.activation.around object bytes is_inside s ≡ Gave place u
@@ -98,8 +95,8 @@ located_fits context scalar (PartOf object subscript member offset member_subscr
     ((one.first).is_inside && (two.first).is_inside) its.found place two.t u sound its.is its.holds.0
     (λ inside.
     scalar_lies_within its.found scalar object subscript member offset member_subscript (one.first).bytes (two.first).bytes its.holds.1
-    (displacement_lies context subscript one.first s one.t one.is (left_true (one.first).is_inside (two.first).is_inside inside))
-    (displacement_lies context member_subscript two.first one.t two.t two.is (right_true (one.first).is_inside (two.first).is_inside inside)))
+    (displacement_lies context subscript one.first s one.t one.is (and_parts (one.first).is_inside (two.first).is_inside inside).0)
+    (displacement_lies context member_subscript two.first one.t two.t two.is (and_parts (one.first).is_inside (two.first).is_inside inside).1))
     two.next
 
 -- a scalar that is referred to is an object that is

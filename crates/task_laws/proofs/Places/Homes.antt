@@ -1,23 +1,11 @@
 -- The homes of objects in tree code: those that are BASED, those in the frame, and all others in memory.
-use Rattle.task_laws.proofs.Prelude.{◌≡◌, ℕ, zero, suc, ◌+◌, ◌<◌, List, [], ◌∷◌, ◌++◌, length, slice_get, get_or, Some, refl, ap, sym, ◌∙◌, arith, get_or_append_left, get_or_push, length_push, none-some, same_Some, AtNumber, AtObject, TypedHome, InData, InConstants, Placed, BasedOn, Elsewhere, Nowhere, InFrame, TypedObject, TypedModule, Storage, Home, Place, Number, frame_number, home_after, home_of_object, homes_from, homes_of, home_at}
+use Rattle.task_laws.proofs.Prelude.{◌≡◌, ℕ, zero, suc, ◌+◌, ◌<◌, List, [], ◌∷◌, ◌++◌, length, slice_get, get_or, Some, refl, ap, sym, ◌∙◌, arith, get_or_append_left, get_or_push, length_push, none-some, same_Some, AtNumber, AtObject, TypedHome, InData, InConstants, Placed, BasedOn, Elsewhere, Nowhere, InFrame, TypedObject, TypedModule, Storage, Home, Place, Number, frame_number, home_after, home_of_object, homes_from, homes_of, home_at, earlier_kept}
 use Rattle.treecode.specs.declared.place.Home.TheVariants as homes
 use Rattle.treecode.specs.Homes.{location_of}
 
 -- where the object after those before begins
 abbrev next_home : TypedModule → Storage → (before : List Home) → TypedObject → Home
 next_home typed storage before object = home_of_object typed storage before (length before) object.home
-
--- those before stay
-kept :
-    (typed : TypedModule) (storage : Storage) (before : List Home) (objects : List TypedObject)
-    (number : ℕ) (default : Home)
-    → number < length before
-    → get_or (homes_from typed storage before objects) number default ≡ get_or before number default
-kept typed storage before [] number default within = refl
-kept typed storage before (object ∷ others) number default within =
-    kept typed storage (before ++ next_home typed storage before object ∷ []) others number default
-    (omega (arith, within, length_push before (next_home typed storage before object)))
-    ∙ get_or_append_left before (next_home typed storage before object ∷ []) default number within
 
 -- an object begins where its kind says, by where those before it begin
 pub record IsMade
@@ -40,14 +28,14 @@ made_from typed storage before (first ∷ others) zero number object is found =
     record {
       before = before;
       is =
-          kept typed storage more others number (homes.Static (Number 0)) (omega (arith, is, long))
+          earlier_kept typed storage more others number (homes.Static (Number 0)) (omega (arith, is, long))
           ∙ ap (λ (n : ℕ). get_or more n (homes.Static (Number 0))) here
           ∙ get_or_push before (next_home typed storage before first) (homes.Static (Number 0)) (length before) refl
           ∙ ap (λ (object : TypedObject). home_of_object typed storage before (length before) object.home)
           (same_Some first object found)
           ∙ ap (λ (n : ℕ). home_of_object typed storage before n object.home) (sym here);
       same = λ other less.
-          sym (kept typed storage more others other (homes.Static (Number 0)) (omega (arith, less, is, long))
+          sym (earlier_kept typed storage more others other (homes.Static (Number 0)) (omega (arith, less, is, long))
           ∙ get_or_append_left before (next_home typed storage before first ∷ []) (homes.Static (Number 0)) other
           (omega (arith, less, is)));
     }

@@ -1,5 +1,5 @@
 -- The code of the address of an object or a part of it puts the address of its place into HL.
-use Rattle.task_laws.proofs.Prelude.{◌≡◌, ℕ, ◌+◌, ◌*◌, ◌%◌, ◌<◌, ◌≤◌, Bool, true, false, not, ◌&&◌, ◌||◌, List, ◌++◌, Option, Some, None, is_some, max, refl, sym, ap, subst, ◌∙◌, arith, IsSomeAnd, slice_get, height_of, height_of_reference, height_of_subscript, PartOf, Subscript, TypedObject, TypedReference, IsSeen, SourcePlace, home_of, Displacement, based_place, displacement, value, SourceState, Outcome, Gave, Stopped, then_do, Registers, word, wrap, left_true, right_true, Home, Reference, IndexNode, Keeps, IsPart, home_at, home, is_static_location, keeps_of_part, keeps_of_subscript, keeps_of_sum, Does, at_place, Arrives, HasRoom, gives, Facts, Base, base_after, base_of, keeps_of_address, located_at, address_steps, base_added_steps, located_steps, second_steps, product_steps, knowing, Context, IsSound, nodes_in, StepsStand, AddressDoes, AddressIsGiven, PartDoes}
+use Rattle.task_laws.proofs.Prelude.{◌≡◌, ℕ, ◌+◌, ◌*◌, ◌%◌, ◌<◌, ◌≤◌, Bool, true, false, not, ◌&&◌, ◌||◌, List, ◌++◌, Option, Some, None, is_some, max, refl, sym, ap, subst, ◌∙◌, arith, IsSomeAnd, slice_get, height_of, height_of_reference, height_of_subscript, PartOf, Subscript, TypedObject, TypedReference, IsSeen, SourcePlace, home_of, Displacement, based_place, displacement, value, SourceState, Outcome, Gave, Stopped, then_do, Registers, word, wrap, Home, Reference, IndexNode, Keeps, IsPart, home_at, home, is_static_location, keeps_of_part, keeps_of_subscript, keeps_of_sum, Does, at_place, Arrives, HasRoom, gives, Facts, Base, base_after, base_of, keeps_of_address, located_at, address_steps, base_added_steps, located_steps, second_steps, product_steps, knowing, Context, IsSound, nodes_in, StepsStand, AddressDoes, AddressIsGiven, PartDoes, false≢true, and_parts}
 use Rattle.treecode.specs.declared.place.Home.TheVariants as homes
 use Rattle.steps8080.specs.Queries.{located}
 use Rattle.task_laws.proofs.Machine.Rules.{GoesOn, split as split_steps}
@@ -35,8 +35,8 @@ home_keeps_a :
 home_keeps_a (homes.Static place) offset one two first second kept = (kept, refl)
 home_keeps_a (homes.Frame variable) offset one two first second kept = (kept, refl)
 home_keeps_a (homes.Based pointer) offset one two first second kept = (
-  left_true (keeps_of_sum first second).a (is_static_location pointer) kept,
-  right_true (keeps_of_sum first second).a (is_static_location pointer) kept,
+  (and_parts (keeps_of_sum first second).a (is_static_location pointer) kept).0,
+  (and_parts (keeps_of_sum first second).a (is_static_location pointer) kept).1,
 )
 
 not_both : (test : Bool) → not test ≡ true → test ≡ true → false ≡ true
@@ -52,9 +52,9 @@ home_keeps_de :
 home_keeps_de (homes.Static place) offset one two first second kept = (kept, λ computed. refl)
 home_keeps_de (homes.Frame variable) offset one two first second kept = (kept, λ computed. refl)
 home_keeps_de (homes.Based pointer) offset one two first second kept = (
-  left_true (keeps_of_sum first second).de (not (is_some first || is_some second)) kept,
+  (and_parts (keeps_of_sum first second).de (not (is_some first || is_some second)) kept).0,
   λ computed. not_both (is_some first || is_some second)
-      (right_true (keeps_of_sum first second).de (not (is_some first || is_some second)) kept) computed,
+      (and_parts (keeps_of_sum first second).de (not (is_some first || is_some second)) kept).1 computed,
 )
 
 part_keeps :
@@ -323,19 +323,16 @@ located_goes {context = context} {facts = facts} {last = last} {pushed = pushed}
         a = λ kept.
             let both = home_keeps_a start (offset % 65536) one_known two_known (Some of) (Some of_too) (ap (λ (of : Keeps). of.a) (sym whole) ∙ kept) in
             beside.a both.1
-            ∙ kept_a (keeps_less_too.a (right_true of.a of_too.a both.0))
-            ∙ given.a (keeps_less.a (left_true of.a of_too.a both.0));
+            ∙ kept_a (keeps_less_too.a (and_parts of.a of_too.a both.0).1)
+            ∙ given.a (keeps_less.a (and_parts of.a of_too.a both.0).0);
         d = λ kept.
             let both = home_keeps_de start (offset % 65536) one_known two_known (Some of) (Some of_too) (ap (λ (of : Keeps). of.de) (sym whole) ∙ kept) in
-            never both.0;
+            absurd (false≢true both.0);
         e = λ kept.
             let both = home_keeps_de start (offset % 65536) one_known two_known (Some of) (Some of_too) (ap (λ (of : Keeps). of.de) (sym whole) ∙ kept) in
-            never both.0;
+            absurd (false≢true both.0);
       };
     }))))))
-  where
-    never : {A : Type 0} → false ≡ true → A
-    never is = absurd cc
 
 -- The code of the address of an object or a part of it.
 pub address_law :

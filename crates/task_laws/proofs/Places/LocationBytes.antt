@@ -3,7 +3,8 @@ use Rattle.task_laws.proofs.Prelude.{◌≡◌, ℕ, ◌+◌, ◌<◌, ◌≤◌
 use Rattle.treecode.specs.declared.place.Location.TheVariants as locations
 use Rattle.task_laws.proofs.Machine.Rules.{GoesOn, holds_go, ready_with_registers, registers_go, split, word_goes}
 use Rattle.task_laws.proofs.Machine.Addresses.{location_address_goes, nothing_goes}
-use Rattle.task_laws.proofs.Places.LocationWords.{frame_away, high_there, low_there, top_word_goes, word_known}
+use Rattle.task_laws.proofs.Places.LocationWords.{frame_away, high_there, low_there, top_word_goes, word_known, at_none}
+use Rattle.task_laws.proofs.Machine.EffectForms.{only_itself}
 
 -- A is the byte at an address; where that is said, nothing else has changed
 pub record ByteBeside (memory : List ℕ) (address : ℕ) (alone : Bool) (r now : Registers) : Type 0 where
@@ -12,9 +13,6 @@ pub record ByteBeside (memory : List ℕ) (address : ℕ) (alone : Bool) (r now 
 
 only_a : (r : Registers) (a : ℕ) (memory : List ℕ) → ChangesAOnly r memory (record r { a = a }) memory
 only_a r a memory = record { b = refl; c = refl; d = refl; e = refl; h = refl; l = refl; same_memory = refl }
-
-unchanged : (r : Registers) (memory : List ℕ) → ChangesAOnly r memory r memory
-unchanged r memory = record { b = refl; c = refl; d = refl; e = refl; h = refl; l = refl; same_memory = refl }
 
 -- the byte at a place in memory
 static_byte_goes :
@@ -180,9 +178,6 @@ first_is_steady activation top pushed need sp lies room pointer steady =
 
 pub at_one : (away sp address : ℕ) → away ≡ 1 → wrap (away + sp) ≡ address → wrap (sp + 1) ≡ address
 at_one away sp address one is = omega (arith, one, is)
-
-pub at_none : (away sp address : ℕ) → away ≡ 0 → sp < MEMORY_SIZE → wrap (away + sp) ≡ address → sp ≡ address
-at_none away sp address none small is = omega (arith, none, small, is)
 
 back_one : (sp address before : ℕ) → sp < MEMORY_SIZE → wrap (sp + 1) ≡ address → before ≡ wrap (address + 65535) → sp ≡ before
 back_one sp address before small is before_is = omega (arith, small, is, before_is)
@@ -389,5 +384,5 @@ location_byte_goes {outcome = outcome} {Good = Good} {context = context} {PartIs
         → Does context.activation.around.program.script budget more (at_place from r memory events) outcome Good
     by_test true low high here a_is low_is high_is here_is stand =
         let is = byte_in_a_is context.activation (distances_in context) used.byte_in_a location r.a memory a_is known.byte_holds in
-        nothing_goes r stand on (rest r (record { a = is.0; others = λ alone. unchanged r memory }))
+        nothing_goes r stand on (rest r (record { a = is.0; others = λ alone. only_itself r memory }))
     by_test false low high here a_is low_is high_is here_is stand = by_hl low high here low_is high_is here_is stand

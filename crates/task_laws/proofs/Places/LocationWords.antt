@@ -1,20 +1,15 @@
 -- The code that puts the word at a location into HL.
-use Rattle.task_laws.proofs.Prelude.{◌≡◌, ℕ, zero, suc, ◌+◌, ◌*◌, ◌<◌, ◌==◌, Bool, true, false, if◌then◌else◌, List, [], ◌∷◌, ◌++◌, Some, slice_set, slice_index, refl, sym, ap, subst, ◌∙◌, arith, eqb-true, MEMORY_SIZE, IsMemory, byte_at, word_at, byte_small, Event, SourceState, Outcome, Mov, Pop, Push, Of, A, L, StackPair, StackBc, StackHl, Registers, State, high_byte, low_byte, one_less, pushed_of, two_less, word, wrap, act, LoadHl, Place, Location, is_static_location, Does, at_place, HasRoom, plain_first, IsSteady, location_at, place_at, without_hl_holds, address_asks, word_in_hl_is, Facts, Part, Step, Word, is_at, no_facts, plain, distance, frame_word_steps, hold_word_steps, location_address_steps, location_word_steps, word_at_hl_steps, knowing, Context, IsSound, distances_in, StepsStand, NoneThere, PlainThere, WordThere, HoldsThere, Know}
+use Rattle.task_laws.proofs.Prelude.{◌≡◌, ℕ, zero, suc, ◌+◌, ◌*◌, ◌<◌, ◌==◌, Bool, true, false, if◌then◌else◌, List, [], ◌∷◌, ◌++◌, Some, slice_set, slice_index, refl, sym, ap, subst, ◌∙◌, arith, eqb-true, MEMORY_SIZE, IsMemory, byte_at, word_at, byte_small, Event, SourceState, Outcome, Mov, Pop, Push, Of, A, L, StackPair, StackBc, StackHl, Registers, State, high_byte, low_byte, one_less, pushed_of, two_less, word, wrap, act, LoadHl, Place, Location, is_static_location, Does, at_place, HasRoom, plain_first, IsSteady, location_at, place_at, without_hl_holds, address_asks, word_in_hl_is, Facts, Part, Step, Word, is_at, no_facts, plain, distance, frame_word_steps, hold_word_steps, location_address_steps, location_word_steps, word_at_hl_steps, knowing, Context, IsSound, distances_in, StepsStand, NoneThere, PlainThere, WordThere, HoldsThere, Know, next_word}
 use Rattle.treecode.specs.declared.place.Location.TheVariants as locations
 use Rattle.task_laws.proofs.Machine.Rules.{GoesOn, holds_go, pushed_anywhere, ready_with_registers, registers_go, split, word_goes}
 use Rattle.task_laws.proofs.Machine.Addresses.{frame_address, location_address_goes, nothing_goes, registers_end}
+use Rattle.task_laws.proofs.Numbers.{up_and_down, up_and_one_down}
 
 -- a byte that is put where it is changes nothing
 pub set_same : (xs : List ℕ) (index : ℕ) → slice_set xs index (slice_index xs index) ≡ xs
 set_same [] index = refl
 set_same (first ∷ xs) zero = refl
 set_same (first ∷ xs) (suc index) = ap (λ (others : List ℕ). first ∷ others) (set_same xs index)
-
-up_and_down : (p : ℕ) → p < MEMORY_SIZE → two_less (wrap (p + 2)) ≡ p
-up_and_down p small = omega (arith, small)
-
-up_and_one_down : (p : ℕ) → p < MEMORY_SIZE → one_less (wrap (p + 2)) ≡ wrap (p + 1)
-up_and_one_down p small = omega (arith, small)
 
 high_of_two : (low high : ℕ) → low < 256 → high < 256 → high_byte (low + 256 * high) ≡ high
 high_of_two low high one two = omega (arith, one, two)
@@ -157,10 +152,6 @@ pub record WordBeside (memory : List ℕ) (address : ℕ) (keeps_a : Bool) (r no
   pub d : now.d ≡ r.d
   pub e : now.e ≡ r.e
 
-after_one : (h l address : ℕ) → word h l ≡ address
-    → word (high_byte (wrap (word h l + 1))) (low_byte (wrap (word h l + 1))) ≡ wrap (address + 1)
-after_one h l address same = omega (arith, same)
-
 -- HL becomes the word at the address that it holds
 pub word_at_hl_goes :
     {A : Type 0} {outcome : Outcome A} {Good : A → SourceState → State → Type 0}
@@ -198,7 +189,7 @@ word_at_hl_goes {context = context} {memory = memory} {events = events} {facts =
     (λ on_three. registers_end (Mov L (Of A) ∷ []) three sound (tt, tt) stand on_three
     (λ on. rest _ (record {
       low = ap (byte_at memory) is;
-      high = ap (byte_at memory) (after_one r.h r.l address is);
+      high = ap (byte_at memory) (next_word r.h r.l address is);
       a = λ never. absurd cc;
       d = refl;
       e = refl;
@@ -244,7 +235,7 @@ frame_away context top pushed need variable offset sp room pointer =
     ap (λ (n : ℕ). wrap (distance context.site variable offset pushed + n)) pointer
     ∙ frame_address context.activation.level (distances_in context variable) offset top pushed room.depth
 
-at_none : (away sp address : ℕ) → away ≡ 0 → sp < MEMORY_SIZE → wrap (away + sp) ≡ address → sp ≡ address
+pub at_none : (away sp address : ℕ) → away ≡ 0 → sp < MEMORY_SIZE → wrap (away + sp) ≡ address → sp ≡ address
 at_none away sp address none small is = omega (arith, none, small, is)
 
 at_two : (away sp address : ℕ) → away ≡ 2 → wrap (away + sp) ≡ address → wrap (sp + 2) ≡ address

@@ -1,5 +1,5 @@
 -- Reads at places, on both sides: the bytes of the machine's memory, or the read goes outside the language.
-use Rattle.task_laws.proofs.Prelude.{◌≡◌, ℕ, ◌+◌, ◌*◌, ◌/◌, ◌%◌, ◌<◌, ◌≤◌, ◌⊎◌, inl, inr, Bool, true, false, if◌then◌else◌, List, refl, sym, ap, ◌∙◌, arith, byte_at, byte_small, ScalarType, Byte, Address, size_of_scalar, UndeclaredByte, SourceState, Ended, More, Outside, Outcome, Gave, Stopped, then_do, InMemory, InTheFrame, is_declared, next_place, read_byte, read_scalar, values_of, Registers, State, wrap, Does, IsReady, IsSteady, declared_is_steady, GoesOutside, Context, IsSound, address_on_machine}
+use Rattle.task_laws.proofs.Prelude.{◌≡◌, ℕ, ◌+◌, ◌*◌, ◌/◌, ◌%◌, ◌<◌, ◌≤◌, ◌⊎◌, inl, inr, Bool, true, false, if◌then◌else◌, List, refl, sym, ap, ◌∙◌, arith, byte_at, byte_small, ScalarType, Byte, Address, size_of_scalar, UndeclaredByte, SourceState, Ended, More, Outside, Outcome, Gave, Stopped, then_do, InMemory, InTheFrame, is_declared, next_place, read_byte, read_scalar, values_of, Registers, State, wrap, Does, IsReady, IsSteady, declared_is_steady, GoesOutside, Context, IsSound, address_on_machine, high_of_two, low_of_two, two_bytes_fit, byte_is_low}
 use Rattle.meaning.specs.Access.{Place}
 use Rattle.task_laws.proofs.Places.Reading.{FitsIn, frame_is, of_frame}
 use Rattle.task_laws.proofs.Stores.WordWriting.{first_fits, second_fits}
@@ -75,18 +75,6 @@ byte_found {context = context} {memory = memory} (InTheFrame object offset true)
     )
 byte_found (InTheFrame object offset false) t sound ready fits = inr tt
 
-low_of : (low high : ℕ) → low < 256 → low ≡ (low + 256 * high) % 256
-low_of low high small = omega (arith, small)
-
-high_of : (low high : ℕ) → low < 256 → high ≡ (low + 256 * high) / 256
-high_of low high small = omega (arith, small)
-
-two_bytes : (low high : ℕ) → low < 256 → high < 256 → low + 256 * high < 65536
-two_bytes low high one two = omega (arith, one, two)
-
-itself : (n : ℕ) → n < 256 → n ≡ n % 256
-itself n small = omega (arith, small)
-
 -- an ADDRESS that is read; both its bytes are steady
 pub record WordIsAt
     (context : Context) (place : Place) (memory : List ℕ) (t : SourceState) (outcome : Outcome ℕ) : Type 0 where
@@ -133,15 +121,15 @@ word_found {context = context} {memory = memory} place t sound ready fits =
           low_is = record {
             found = byte_at memory here + 256 * byte_at memory next;
             is = is;
-            low = low_of (byte_at memory here) (byte_at memory next) small;
-            small = two_bytes (byte_at memory here) (byte_at memory next) small small_too;
+            low = low_of_two (byte_at memory here) (byte_at memory next) small;
+            small = two_bytes_fit (byte_at memory here) (byte_at memory next) small small_too;
             steady = first.0;
           };
           high_is = record {
             found = byte_at memory here + 256 * byte_at memory next;
             is = is;
-            high = high_of (byte_at memory here) (byte_at memory next) small;
-            small = two_bytes (byte_at memory here) (byte_at memory next) small small_too;
+            high = high_of_two (byte_at memory here) (byte_at memory next) small;
+            small = two_bytes_fit (byte_at memory here) (byte_at memory next) small small_too;
             steady = second.0;
           };
         })
@@ -170,7 +158,7 @@ scalar_found {context = context} {memory = memory} Byte place t sound ready fits
     by (inr outside) = inr outside
     by (inl first) =
         let small = byte_small memory here ready.shares.is_memory in
-        inl (record { found = byte_at memory here; is = first.1; low = itself (byte_at memory here) small; small = small; steady = first.0 })
+        inl (record { found = byte_at memory here; is = first.1; low = byte_is_low (byte_at memory here) small; small = small; steady = first.0 })
 scalar_found {context = context} {memory = memory} Address place t sound ready fits =
     by (word_found place t sound ready fits)
   where

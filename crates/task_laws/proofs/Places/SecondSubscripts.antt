@@ -1,27 +1,10 @@
 -- The code that adds a second subscript to a first one, which is kept in DE or on the stack meanwhile.
-use Rattle.task_laws.proofs.Prelude.{◌≡◌, ℕ, ◌+◌, ◌-◌, ◌*◌, ◌%◌, ◌<◌, ◌≤◌, Bool, true, false, if◌then◌else◌, List, [], ◌∷◌, ◌++◌, refl, sym, ap, ◌∙◌, arith, Address, height_of, height_of_reference, type_of, TypedExpression, NumberNode, ValueNode, LocationNode, ListNode, ConversionNode, AssignmentNode, UnaryNode, BinaryNode, CallNode, FunctionNode, ShiftNode, InputNode, TypedReference, PartOf, TypesHold, value, SourceState, Outcome, then_do, Dad, Pop, Push, Xchg, De, StackDe, StackHl, Registers, State, high_byte, low_byte, pushed_of, word, wrap, pushed_memory, ExpressionNumber, IndexNode, IsExpression, Does, at_place, HasRoom, Facts, Plain, plain, keeps, expression, second_steps, product_steps, knowing, Context, IsSound, nodes_in, StepsStand, PlainThere, Left, PartDoes}
+use Rattle.task_laws.proofs.Prelude.{◌≡◌, ℕ, ◌+◌, ◌-◌, ◌*◌, ◌%◌, ◌<◌, ◌≤◌, Bool, true, false, if◌then◌else◌, List, [], ◌∷◌, ◌++◌, refl, sym, ap, ◌∙◌, arith, Address, height_of, type_of, TypedExpression, TypesHold, value, SourceState, Outcome, then_do, Dad, Pop, Push, Xchg, De, StackDe, StackHl, Registers, State, high_byte, low_byte, pushed_of, word, wrap, pushed_memory, ExpressionNumber, IndexNode, IsExpression, Does, at_place, HasRoom, Facts, Plain, plain, keeps, expression, second_steps, product_steps, knowing, Context, IsSound, nodes_in, StepsStand, PlainThere, Left, PartDoes, word_of_bytes}
 use Rattle.task_laws.proofs.Machine.Rules.{GoesOn, more_pushed, pop_goes, push_goes, pushed_word_small, split}
 use Rattle.task_laws.proofs.Machine.RegisterCode.{registers_then}
 use Rattle.task_laws.proofs.Machine.Addresses.{back_together, registers_end}
 use Rattle.task_laws.proofs.Places.Products.{ProductIsGiven, ProductsDo, product_then}
-
-pub reference_height : (part : TypedReference) → 1 ≤ height_of_reference part
-reference_height (PartOf object one member offset two) = omega arith
-
--- an expression is no lower than 1
-pub some_height : (tree : TypedExpression) → 1 ≤ height_of tree
-some_height (NumberNode scalar number origin) = omega arith
-some_height (ValueNode scalar reference) = reference_height reference
-some_height (LocationNode reference) = reference_height reference
-some_height (ListNode list) = omega arith
-some_height (ConversionNode scalar inner) = some_height inner
-some_height (AssignmentNode target inner) = omega arith
-some_height (UnaryNode scalar operator operand) = omega arith
-some_height (BinaryNode operands operator left right) = omega arith
-some_height (CallNode procedure scalar given) = omega arith
-some_height (FunctionNode function operand) = omega arith
-some_height (ShiftNode scalar function moved count) = omega arith
-some_height (InputNode port) = omega arith
+use Rattle.task_laws.proofs.Heights.{some_height}
 
 -- the facts about the registers do not change which registers code keeps
 pub keeps_anywhere : (context : Context) (used : Facts) (of : ExpressionNumber)
@@ -35,9 +18,6 @@ sum_in_hl h l d e first second one two = omega (arith, one, two)
 
 both_bytes : (h l d e : ℕ) → d ≡ h → e ≡ l → word d e ≡ word h l
 both_bytes h l d e one two = omega (arith, one, two)
-
-popped_back : (n : ℕ) → word (high_byte n) (low_byte n) ≡ n
-popped_back n = omega arith
 
 high_enough : (height need : ℕ) → 2 + 2 * height ≤ need → 2 * height ≤ need
 high_enough height need is = omega (arith, is)
@@ -126,5 +106,5 @@ second_then {more = more} {go = go} {Good = Good} {context = context} {facts = f
             (λ on_sum. rest n t _ ended fewer on_sum
             (back_together (word now.h now.l + word (high_byte number) (low_byte number))
             ∙ sum_in_hl now.h now.l (high_byte number) (low_byte number) (word r.h r.l) (n * second.stride) given.hl
-            (popped_back number))
+            (word_of_bytes number))
             given.a))

@@ -6,7 +6,7 @@ use Rattle.task_laws.proofs.Machine.KeptCode.{place_known}
 use Rattle.task_laws.proofs.Machine.SiteNodes.{number_is}
 
 -- a subscript that is known is not computed
-not_computed :
+pub not_computed :
     (context : Context) (facts : Facts) (given : Option IndexNode)
     → is_some (distance_of (nodes_in context) given) ≡ true
     → (split (knowing context.site facts) given).computed ≡ None

@@ -1,13 +1,13 @@
 -- Subscripts as tree code splits them: the computed part plus the known bytes is the source's displacement,
 -- modulo the size of memory.
-use Rattle.task_laws.proofs.Prelude.{◌≡◌, ℕ, ◌+◌, ◌-◌, ◌*◌, ◌%◌, ◌<◌, ◌≤◌, true, Option, Some, None, is_some, slice_get, max, if◌then◌else◌, refl, sym, ap, ◌∙◌, subst, arith, mul_comm, unwrap_or, mul-add, mul-mod_second, option_and_then, option_map_or, ScalarType, Address, BinaryOperator, height_of, height_of_subscript, type_of, TypedExpression, BinaryNode, Subscript, At, TypesHold, TypesHoldInSubscript, Displacement, computed, displaced, displacement, no_displacement, value, Outcome, Gave, Stopped, then_do, result_of, values_of, Expression, ExpressionForm, ExpressionNumber, Place, Number, Code, Data, External, IndexNode, Keeps, Traits, IsExpression, IsForm, IsBinary, IsSubscript, IsAbsent, IsIndex, known_number, result_of_known, none_kept, place_number, keeps_at, keeps_none, keeps_of, keeps_of_index, keeps_of_subscript, known_of, known_at, no_traits, number_at, traits_at, traits_of, wrap, Facts, keeps, known, number, split, split_computed, split_form, split_sum, split_whole, expression, knowing, Context, IsSound, nodes_in}
+use Rattle.task_laws.proofs.Prelude.{◌≡◌, ℕ, ◌+◌, ◌-◌, ◌*◌, ◌%◌, ◌<◌, ◌≤◌, true, Option, Some, None, is_some, slice_get, max, if◌then◌else◌, refl, sym, ap, ◌∙◌, subst, arith, mul_comm, unwrap_or, mul-add, mul-mod_second, option_and_then, option_map_or, ScalarType, Address, BinaryOperator, height_of, height_of_subscript, type_of, TypedExpression, BinaryNode, Subscript, At, TypesHold, TypesHoldInSubscript, Displacement, computed, displaced, displacement, no_displacement, value, Outcome, Gave, Stopped, then_do, result_of, values_of, Expression, ExpressionForm, ExpressionNumber, Place, Number, IndexNode, Keeps, Traits, IsExpression, IsForm, IsBinary, IsSubscript, IsAbsent, IsIndex, known_number, result_of_known, none_kept, place_number, keeps_at, keeps_none, keeps_of, keeps_of_index, keeps_of_subscript, known_of, known_at, no_traits, number_at, traits_at, traits_of, wrap, Facts, keeps, known, number, split, split_computed, split_form, split_sum, split_whole, expression, knowing, Context, IsSound, nodes_in}
 use Rattle.trees.specs.declared.expression.BinaryOperator.TheVariants as operators
 use Rattle.meaning.specs.Outcomes.{State}
 use Rattle.treecode.specs.declared.expression.ExpressionForm.TheVariants as forms
 use Rattle.treecode.specs.Traits.{keeps_both}
 use Rattle.task_laws.proofs.Machine.Nodes.{NodeOf, node_of}
 use Rattle.task_laws.proofs.Machine.KnownOperands.{number_small}
-use Rattle.task_laws.proofs.Machine.SiteNodes.{number_means}
+use Rattle.task_laws.proofs.Machine.SiteNodes.{number_means, place_of_number}
 
 -- the registers that one keeps are kept by another
 pub record KeepsLess (one other : Keeps) : Type 0 where
@@ -191,13 +191,6 @@ whole_is context facts index stride count bound tree stride_is is types address 
       de = λ kept. ap (λ (of : Keeps). of.de) (keeps_same context index.index) ∙ kept;
     })
 
-known_number_is : (place : Option Place) (k : ℕ) → known_number place ≡ Some k → place ≡ Some (Number k)
-known_number_is (Some (Number n)) k is = ap (λ (found : Option ℕ). Rattle.std.specs.Prelude.option_map Number found) is
-known_number_is (Some (Code n)) k is = absurd cc
-known_number_is (Some (Data n)) k is = absurd cc
-known_number_is (Some (External n name)) k is = absurd cc
-known_number_is None k is = absurd cc
-
 -- the registers that the code of a known value keeps
 known_keeps :
     {context : Context} {bound : ℕ} {of : ExpressionNumber} {tree : TypedExpression} (place : Place)
@@ -331,7 +324,7 @@ sum_split context facts number left right stride count bound k first second soun
     ∙ ap (λ (form : ExpressionForm). keeps_of (nodes_in context) Address (known_of (nodes_in context) Address form) form) form_is)
     (less_than _ (keeps_at (nodes_in context) left) (keeps context.site left)
     (sum_keeps context bound k left right first sound one
-    (known_number_is (known_at (nodes_in context) right) k (sym (number_same context facts right) ∙ known_is)))
+    (place_of_number (known_at (nodes_in context) right) k (sym (number_same context facts right) ∙ known_is)))
     (sym (keeps_same context left))))
 
 -- and with one that is taken
@@ -366,7 +359,7 @@ difference_split context facts number left right stride count bound k first seco
     ∙ ap (λ (form : ExpressionForm). keeps_of (nodes_in context) Address (known_of (nodes_in context) Address form) form) form_is)
     (less_than _ (keeps_at (nodes_in context) left) (keeps context.site left)
     (difference_keeps context bound k left right first sound one
-    (known_number_is (known_at (nodes_in context) right) k (sym (number_same context facts right) ∙ known_is)))
+    (place_of_number (known_at (nodes_in context) right) k (sym (number_same context facts right) ∙ known_is)))
     (sym (keeps_same context left))))
 
 -- an operator from which no number is split off

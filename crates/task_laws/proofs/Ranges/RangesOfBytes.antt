@@ -1,6 +1,6 @@
 -- Values that are read and written have their types: bytes of a state of the source, places, operators and
 -- functions.
-use Rattle.task_laws.proofs.Prelude.{◌≡◌, ◌≢◌, ◌⊎◌, inl, inr, ℕ, ◌+◌, ◌*◌, ◌/◌, ◌%◌, ◌<◌, ◌≤◌, Bool, true, false, List, [], length, All, option_map, Option, Some, None, slice_get, slice_index_or, slice_set, if◌then◌else◌, refl, subst, arith, option_map_or, All-get_or, All-nil, All-set, get_or_past, length-set, cases_lt, cases_eq, MEMORY_SIZE, byte_at, input_value, queue_of, reads_of, IsScript, ScalarType, Byte, Address, UnaryFunction, Low, High, Double, type_of_function, type_of_target, InData, InConstants, Placed, BasedOn, Elsewhere, Nowhere, InFrame, TypedModule, TypedTarget, StoredIn, SentTo, TypesHoldInTarget, Within, Reason, Constant, InMemory, InTheFrame, Surroundings, frame_bytes, is_constant, is_declared, next_place, place_of, read_byte, read_scalar, write_byte, write_scalar, address_in_memory, address_of_list, based_place, computed, Outside, Outcome, Gave, Stop, Stopped, then_do, as_type, function_of, values_of, Number, ModulePlacement, Event, byte_kept, byte_put, SourceFits}
+use Rattle.task_laws.proofs.Prelude.{◌≡◌, ◌≢◌, ◌⊎◌, inl, inr, ℕ, ◌+◌, ◌*◌, ◌/◌, ◌%◌, ◌<◌, ◌≤◌, Bool, true, false, List, [], length, All, option_map, Option, Some, None, slice_get, slice_index_or, slice_set, if◌then◌else◌, refl, subst, arith, option_map_or, All-get_or, All-nil, All-set, get_or_past, length-set, cases_lt, cases_eq, MEMORY_SIZE, byte_at, input_value, queue_of, reads_of, IsScript, ScalarType, Byte, Address, UnaryFunction, Low, High, Double, type_of_function, type_of_target, InData, InConstants, Placed, BasedOn, Elsewhere, Nowhere, InFrame, TypedModule, TypedTarget, StoredIn, SentTo, TypesHoldInTarget, Within, Reason, Constant, InMemory, InTheFrame, Surroundings, frame_bytes, is_constant, is_declared, next_place, place_of, read_byte, read_scalar, write_byte, write_scalar, address_in_memory, address_of_list, based_place, computed, Outside, Outcome, Gave, Stop, Stopped, then_do, function_of, values_of, Number, ModulePlacement, Event, byte_kept, byte_put, SourceFits, two_bytes_fit}
 use Rattle.typed_trees.specs.TypedTrees.{Home}
 use Rattle.meaning.specs.{Access.{Place}, Outcomes.{State}}
 use Rattle.task_laws.proofs.Machine.KnownOperands.{KnownFits, high_fits, word_fits}
@@ -85,9 +85,6 @@ module _ (around : Surroundings) where
       picked is_inside (Gave (slice_index_or (frame_bytes s.frame object) offset 0) s) _ s
       (λ inside. IsGiven (small_at (frame_bytes s.frame object) offset (bytes_at s.frame object source.frame), source))
 
-  two_small : (low high : ℕ) → low < 256 → high < 256 → low + 256 * high < 65536
-  two_small low high one two = omega (arith, one, two)
-
   pub scalar_fits : (scalar : ScalarType) (place : Place) (s : State) → SourceFits around s
       → Gives (λ n t. (n < values_of scalar) × SourceFits around t) (read_scalar around.program scalar place s)
   scalar_fits Byte place s source = read_fits place s source
@@ -98,7 +95,7 @@ module _ (around : Surroundings) where
       (λ low t one.
       gives_then (read_byte around.program (next_place place) t) (λ high u. Gave (low + 256 * high) u)
       (read_fits (next_place place) t one.1)
-      (λ high u two. IsGiven (two_small low high one.0 two.0, two.1)))
+      (λ high u two. IsGiven (two_bytes_fit low high one.0 two.0, two.1)))
 
   put_fits : (memory : List ℕ) (address byte other : ℕ) → byte < 256
       → byte_at memory other < 256
@@ -167,10 +164,6 @@ module _ (around : Surroundings) where
   place_fits Elsewhere object bytes is_inside s source = IsGiven (omega arith, source)
   place_fits Nowhere object bytes is_inside s source = IsGiven (omega arith, source)
   place_fits (InFrame procedure) object bytes is_inside s source = IsGiven (tt, source)
-
-  pub as_type_fits : (scalar : ScalarType) (number : ℕ) → as_type scalar number < values_of scalar
-  as_type_fits Byte number = omega arith
-  as_type_fits Address number = omega arith
 
 pub address_fits : (place : Place) → PlaceFits place → address_in_memory place < 65536
 address_fits (InMemory address) fits = fits

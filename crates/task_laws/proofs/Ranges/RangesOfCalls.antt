@@ -1,6 +1,6 @@
 -- Values of typed trees are of their types: calls with arguments of the types of parameters give values of
 -- the types of results, and leave bytes, in any program with well-typed modules.
-use Rattle.task_laws.proofs.Prelude.{◌≡◌, ℕ, zero, suc, ◌+◌, ◌-◌, ◌<◌, Bool, true, false, nat_lt, List, [], ◌∷◌, replicate, get_or, IsSomeAnd, Option, Some, None, option_map, slice_get, if◌then◌else◌, refl, sym, ap, ◌∙◌, subst, arith, All, AllByRecursion, enumerate_from, option_and_then, option_map_or, All-get_or, All-map, All-nil, All-replicate, All-from_recursion, length-enumerate_from, get_or-enumerate_from, slice_get_within, get_or_from_slice_get, ScalarType, Visibility, charge_of, size_of_object, TypedModule, TypedObject, TypedProcedure, IsWellTyped, TypesHoldInList, TypesHoldInProcedure, WithinProcedure, DeclaredProcedure, InProgram, is_public_procedure, procedure_meant, Stack, Surroundings, place_of, write_scalar, Later, called, called_for, callee_in, charged, done_list, entered, frame_of, is_frame_of, later_by, parameters_set, procedure_at, value_of_flow, Flow, Gave, Jumped, Onward, Outcome, Outside, Returned, Stopped, then_do, AreOfTypes, CallsFit, Context, IsOfResult, SourceFits, NumbersFitInList, NumbersFitInModule, NumbersFitInProcedure, HasTypes}
+use Rattle.task_laws.proofs.Prelude.{◌≡◌, ℕ, zero, suc, ◌-◌, ◌<◌, Bool, true, false, nat_lt, List, [], ◌∷◌, replicate, IsSomeAnd, Option, Some, None, option_map, slice_get, if◌then◌else◌, refl, sym, ap, ◌∙◌, subst, arith, All, AllByRecursion, option_and_then, option_map_or, All-map, All-nil, All-replicate, All-from_recursion, ScalarType, Visibility, charge_of, size_of_object, TypedModule, TypedObject, TypedProcedure, IsWellTyped, TypesHoldInList, TypesHoldInProcedure, WithinProcedure, DeclaredProcedure, InProgram, is_public_procedure, procedure_meant, Stack, Surroundings, place_of, write_scalar, Later, called, called_for, callee_in, charged, done_list, entered, frame_of, is_frame_of, later_by, parameters_set, procedure_at, value_of_flow, Flow, Gave, Jumped, Onward, Outcome, Outside, Returned, Stopped, then_do, AreOfTypes, CallsFit, Context, IsOfResult, SourceFits, NumbersFitInList, NumbersFitInModule, NumbersFitInProcedure, HasTypes, holds_for_item, numbered_at}
 use Rattle.typed_trees.specs.declared.parts.Visibility.TheVariants as visibilities
 use Rattle.layout.specs.Joined.{agree}
 use Rattle.layout.proofs.Meant.{MeansProcedure, external_procedure_meant, procedures_agree}
@@ -8,34 +8,6 @@ use Rattle.meaning.specs.Outcomes.{State}
 use Rattle.task_laws.proofs.Ranges.RangesOfBytes.{Gives, IsGiven, IsStopped, given_by, gives_then, write_fits}
 use Rattle.task_laws.proofs.Ranges.RangesOfTrees.{CalleesAreHeaded, FlowFits, IsHeaded, LaterFits, calls_give, nothing_fits}
 use Rattle.task_laws.proofs.Ranges.RangesOfStatements.{after_taking, either, list_fits, rest_fits, turn_fits}
-
--- a property of each element holds for one
-of_each :
-    {X : Type 0} (P : X → Type 0) (items : List X) (at : ℕ) (item : X)
-    → All P items
-    → slice_get items at ≡ Some item
-    → P item
-of_each P items at item all found =
-    subst P (get_or_from_slice_get items at item item found)
-    (All-get_or P items at item (slice_get_within items at item found) all)
-
--- and so of each with its number
-of_numbered :
-    {X : Type 0} (P : ℕ × X → Type 0) (items : List X) (at : ℕ) (item : X)
-    → All P (enumerate_from 0 items)
-    → slice_get items at ≡ Some item
-    → P (at, item)
-of_numbered {X} P items at item all found =
-    subst P
-    (get_or-enumerate_from 0 items at (at, item) (slice_get_within items at item found)
-    ∙ ap (λ (number : ℕ). (number, get_or items at item)) zero_plus
-    ∙ ap (λ (other : X). (at, other)) (get_or_from_slice_get items at item item found))
-    (All-get_or P (enumerate_from 0 items) at (at, item)
-    (subst (λ (count : ℕ). at < count) (sym (length-enumerate_from 0 items))
-    (slice_get_within items at item found)) all)
-  where
-    zero_plus : 0 + at ≡ at
-    zero_plus = omega arith
 
 -- A call finds its procedure.
 module _ (around : Surroundings) (program : HasTypes around.program) (typed : TypedModule)
@@ -230,13 +202,13 @@ module _ (later : Later) (fits : LaterFits later) where
     where
       body_types : TypesHoldInList typed (WithinProcedure number procedure.result) procedure.body
       body_types =
-          of_numbered (TypesHoldInProcedure typed) typed.procedures number procedure
-          (of_each IsWellTyped around.program.modules around.number_of_module typed program.types here).procedures is
+          numbered_at (TypesHoldInProcedure typed) typed.procedures number procedure
+          (holds_for_item IsWellTyped around.program.modules around.number_of_module typed program.types here).procedures is
 
       body_numbers : NumbersFitInList procedure.body
       body_numbers =
-          of_each NumbersFitInProcedure typed.procedures number procedure
-          (of_each NumbersFitInModule around.program.modules around.number_of_module typed program.numbers here).procedures
+          holds_for_item NumbersFitInProcedure typed.procedures number procedure
+          (holds_for_item NumbersFitInModule around.program.modules around.number_of_module typed program.numbers here).procedures
           is
 
   -- a call of a procedure that is found

@@ -1,8 +1,8 @@
 -- Values of typed trees are of their types: for statements, provided that those of calls, further turns and
 -- jumps are.
-use Rattle.task_laws.proofs.Prelude.{◌≡◌, ℕ, zero, suc, ◌+◌, ◌-◌, ◌%◌, ◌<◌, ◌==◌, Bool, true, false, nat_le, nat_lt, Option, Some, None, option_map, slice_get, if◌then◌else◌, refl, subst, IfSome, MEMORY_SIZE, type_of, TypedExpression, TypedIteration, TypedStatement, LabelStatement, NullStatement, AssignmentStatement, CallStatement, MoveStatement, ReturnStatement, HaltStatement, GotoStatement, IfStatement, DoStatement, WhileStatement, IterateStatement, CaseStatement, TypedElse, NoElse, ElseStatement, TypedStatements, NoStatements, MoreStatements, TypedList, ListOf, TypedModule, IsReturned, TypesHold, TypesHoldIn, TypesHoldInElse, TypesHoldInList, TypesHoldInStatements, Within, WithinMain, WithinProcedure, InMemory, Surroundings, place_of, read_byte, write_byte, IterateTurn, Later, Turn, WhileTurn, after_turn, called_for, callee_in, caught_in, done, done_all, done_case, done_else, done_list, dropped, going_on, iterated, landed, moved, next_turn, read_variable, rest_from, rest_of, returned, step_value, stepped, stored_in_each, turn_of, value, values, write_variable, Flow, Gave, Jumped, More, Onward, Outcome, Returned, Stopped, taking_one, then_do, as_type, is_true, values_of, SourceFits, NumbersFit, NumbersFitIfSome, NumbersFitIn, NumbersFitInElse, NumbersFitInList, NumbersFitInStatements, HasTypes}
+use Rattle.task_laws.proofs.Prelude.{◌≡◌, ℕ, zero, suc, ◌+◌, ◌-◌, ◌%◌, ◌<◌, ◌==◌, Bool, true, false, nat_le, nat_lt, Option, Some, None, option_map, slice_get, if◌then◌else◌, refl, subst, IfSome, MEMORY_SIZE, type_of, TypedExpression, TypedIteration, TypedStatement, LabelStatement, NullStatement, AssignmentStatement, CallStatement, MoveStatement, ReturnStatement, HaltStatement, GotoStatement, IfStatement, DoStatement, WhileStatement, IterateStatement, CaseStatement, TypedElse, NoElse, ElseStatement, TypedStatements, NoStatements, MoreStatements, TypedList, ListOf, TypedModule, IsReturned, TypesHold, TypesHoldIn, TypesHoldInElse, TypesHoldInList, TypesHoldInStatements, Within, WithinMain, WithinProcedure, InMemory, Surroundings, place_of, read_byte, write_byte, IterateTurn, Later, Turn, WhileTurn, after_turn, called_for, callee_in, caught_in, done, done_all, done_case, done_else, done_list, dropped, going_on, iterated, landed, moved, next_turn, read_variable, rest_from, rest_of, returned, step_value, stepped, stored_in_each, turn_of, value, values, write_variable, Flow, Gave, Jumped, More, Onward, Outcome, Returned, Stopped, taking_one, then_do, as_type, is_true, values_of, SourceFits, NumbersFit, NumbersFitIfSome, NumbersFitIn, NumbersFitInElse, NumbersFitInList, NumbersFitInStatements, HasTypes, as_type_fits}
 use Rattle.meaning.specs.Outcomes.{State}
-use Rattle.task_laws.proofs.Ranges.RangesOfBytes.{Gives, IsGiven, IsStopped, as_type_fits, byte_fits, gives_then, of_type, read_fits, scalar_fits, write_fits}
+use Rattle.task_laws.proofs.Ranges.RangesOfBytes.{Gives, IsGiven, IsStopped, byte_fits, gives_then, of_type, read_fits, scalar_fits, write_fits}
 use Rattle.task_laws.proofs.Ranges.RangesOfTrees.{CalleesAreHeaded, CallsGive, FlowFits, LaterFits, ReturnFits, TurnFits, calls_give, takes_fits, targets_fit, tree_fits, trees_fit}
 
 -- where a test decides
@@ -23,7 +23,7 @@ after_taking {A = A} {Holds = Holds} around s go source rest =
     (rest (record s { budget = s.budget - 1 }) (record { memory = source.memory; frame = source.frame }))
 
 -- the statements of a list from one on
-dropped_types : (typed : TypedModule) (within : Within) (count : ℕ) (list : TypedStatements)
+pub dropped_types : (typed : TypedModule) (within : Within) (count : ℕ) (list : TypedStatements)
     → TypesHoldInStatements typed within list
     → TypesHoldInStatements typed within (dropped count list)
 dropped_types typed within zero list types = types
@@ -190,7 +190,7 @@ module _ (later : Later) (fits : LaterFits later) (typed : TypedModule) (within 
       gives_then (write_variable around head (as_type head.scalar (number + step)) u)
       (λ _ v. next_turn later around head body (number + step) v)
       (write_fits around head.scalar (place_of around head.variable) (as_type head.scalar (number + step)) u
-      (as_type_fits around head.scalar (number + step)) two)
+      (as_type_fits head.scalar (number + step)) two)
       (λ _ v three.
       either (nat_lt (number + step) (values_of head.scalar)) (later.again (IterateTurn head body) around v)
       (Gave Onward v)
@@ -315,7 +315,7 @@ module _ (later : Later) (fits : LaterFits later) (typed : TypedModule) (within 
         gives_then (write_variable around head (as_type head.scalar first) t)
         (λ _ u. iterated later around head body (λ v. done_list later around body v) u)
         (write_fits around head.scalar (place_of around head.variable) (as_type head.scalar first) t
-        (as_type_fits around head.scalar first) one.1)
+        (as_type_fits head.scalar first) one.1)
         (λ _ u two.
         iterated_fits head body (λ v. done_list later around body v) u ((types.0, small.0), types.1, small.1)
         (λ v three. list_fits body v types.1 small.1 three) two))

@@ -1,9 +1,9 @@
 -- Values of typed expressions are of their types, provided that calls give such values: for the trees of any
 -- module of a program.
-use Rattle.task_laws.proofs.Prelude.{◌≡◌, ℕ, ◌+◌, ◌<◌, ◌&&◌, List, [], ◌∷◌, IsSomeAnd, Option, Some, None, slice_get, refl, sym, subst, arith, ScalarType, Byte, Address, type_of, type_of_result, type_of_target, TypedExpression, NumberNode, ValueNode, LocationNode, ListNode, ConversionNode, AssignmentNode, UnaryNode, BinaryNode, CallNode, FunctionNode, ShiftNode, InputNode, TypedReference, PartOf, Subscript, NoSubscript, At, TypedTarget, StoredIn, SentTo, TypedArguments, NoArguments, MoreArguments, TypedModule, TypedProcedure, TypedList, TypedStatements, TypesHold, TypesHoldInArguments, TypesHoldInHead, TypesHoldInList, TypesHoldInReference, TypesHoldInStatements, TypesHoldInSubscript, TypesHoldInTarget, TypesHoldInTargets, Takes, Within, WithinMain, WithinProcedure, types_of, InProgram, IsScript, Surroundings, home_of, read_scalar, write_scalar, IterateTurn, Later, Turn, WhileTurn, address_in_memory, based_place, called_for, callee_in, computed, displaced, displacement, located, procedure_at, stored, stored_in_each, value, values, Flow, Gave, Jumped, Onward, Returned, then_do, as_type, function_of, result_of, result_of_one, shifted, values_of, AreOfTypes, IsOfResult, SourceFits, NumbersFit, NumbersFitInArguments, NumbersFitInHead, NumbersFitInList, NumbersFitInReference, NumbersFitInStatements, NumbersFitInSubscript, NumbersFitInTarget, NumbersFitInTargets, HasTypes}
+use Rattle.task_laws.proofs.Prelude.{◌≡◌, ℕ, ◌+◌, ◌<◌, ◌&&◌, List, [], ◌∷◌, IsSomeAnd, Option, Some, None, slice_get, refl, sym, subst, arith, ScalarType, Byte, Address, type_of, type_of_result, type_of_target, TypedExpression, NumberNode, ValueNode, LocationNode, ListNode, ConversionNode, AssignmentNode, UnaryNode, BinaryNode, CallNode, FunctionNode, ShiftNode, InputNode, TypedReference, PartOf, Subscript, NoSubscript, At, TypedTarget, StoredIn, SentTo, TypedArguments, NoArguments, MoreArguments, TypedModule, TypedProcedure, TypedList, TypedStatements, TypesHold, TypesHoldInArguments, TypesHoldInHead, TypesHoldInList, TypesHoldInReference, TypesHoldInStatements, TypesHoldInSubscript, TypesHoldInTarget, TypesHoldInTargets, Takes, Within, WithinMain, WithinProcedure, types_of, InProgram, IsScript, Surroundings, home_of, read_scalar, write_scalar, IterateTurn, Later, Turn, WhileTurn, address_in_memory, based_place, called_for, callee_in, computed, displaced, displacement, located, procedure_at, stored, stored_in_each, value, values, Flow, Gave, Jumped, Onward, Returned, then_do, as_type, function_of, result_of, result_of_one, shifted, values_of, AreOfTypes, IsOfResult, SourceFits, NumbersFit, NumbersFitInArguments, NumbersFitInHead, NumbersFitInList, NumbersFitInReference, NumbersFitInStatements, NumbersFitInSubscript, NumbersFitInTarget, NumbersFitInTargets, HasTypes, as_type_fits}
 use Rattle.meaning.specs.Outcomes.{State}
 use Rattle.task_laws.proofs.Machine.KnownOperands.{number_fits, one_fits, result_fits, shift_fits}
-use Rattle.task_laws.proofs.Ranges.RangesOfBytes.{Gives, IsGiven, PlaceFits, address_fits, as_type_fits, computed_fits, function_fits, gives_then, input_fits, list_fits, of_type, place_fits, scalar_fits, target_type, write_fits}
+use Rattle.task_laws.proofs.Ranges.RangesOfBytes.{Gives, IsGiven, PlaceFits, address_fits, computed_fits, function_fits, gives_then, input_fits, list_fits, of_type, place_fits, scalar_fits, target_type, write_fits}
 
 -- a value that a body returns is one of its result
 abbrev pub ReturnFits : Within → (found : ℕ) → Type 0
@@ -142,7 +142,7 @@ module _ (later : Later) (typed : TypedModule) (within : Within) (around : Surro
     tree_fits (ConversionNode scalar inner) s types small source =
         gives_then (value later around inner s) (λ n t. Gave (as_type scalar n) t)
         (tree_fits inner s types small source)
-        (λ n t one. IsGiven (as_type_fits around scalar n, one.1))
+        (λ n t one. IsGiven (as_type_fits scalar n, one.1))
     tree_fits (AssignmentNode to inner) s types small source =
         gives_then (value later around inner s)
         (λ n t. then_do (stored later around to n t) (λ _ u. Gave n u))
@@ -245,7 +245,7 @@ module _ (later : Later) (typed : TypedModule) (within : Within) (around : Surro
         gives_then (located later around part s)
         (λ place t. write_scalar around.program to place (as_type to n) t)
         (location_fits part s types.2 small source)
-        (λ place t one. write_fits around to place (as_type to n) t (as_type_fits around to n) one.1)
+        (λ place t one. write_fits around to place (as_type to n) t (as_type_fits to n) one.1)
     target_fits scalar (SentTo from port) s n types small source =
         IsGiven (record { memory = source.memory; frame = source.frame })
 

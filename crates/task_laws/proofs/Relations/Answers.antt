@@ -1,8 +1,9 @@
 -- The meaning of questions, and the flags that show their answers.
-use Rattle.task_laws.proofs.Prelude.{◌≡◌, ℕ, ◌+◌, ◌%◌, ◌<◌, ◌≤◌, ◌==◌, Bool, true, false, not, nat_lt, nat_le, min, if◌then◌else◌, Option, Some, refl, sym, ap, ◌∙◌, arith, ltb-true, ltb-false, lt-ltb, le-ltb, leb-true, leb-false, le-leb, lt-leb, eqb-true, eqb-false, eq-eqb, ne_eqb, none-some, same_Some, ScalarType, Byte, Address, BinaryOperator, result_of, truth, values_of, Compare, Subtract, Registers, borrow_shows, same_test, zero_shows, NumberQuestion, Never, Below, Is, Question, LeftBelow, RightBelow, Equal, agree, greatest, mirrored, number_question, question_of, Answer, Carry, Zero, Purpose, Branch, Value}
+use Rattle.task_laws.proofs.Prelude.{◌≡◌, ℕ, ◌+◌, ◌%◌, ◌<◌, ◌≤◌, ◌==◌, Bool, true, false, not, nat_lt, nat_le, min, if◌then◌else◌, Option, Some, refl, sym, ap, ◌∙◌, arith, ltb-true, ltb-false, lt-ltb, le-ltb, leb-true, leb-false, le-leb, lt-leb, eqb-true, eqb-false, eq-eqb, ne_eqb, none-some, same_Some, ScalarType, Byte, Address, BinaryOperator, result_of, truth, values_of, Compare, Subtract, Registers, borrow_shows, same_test, zero_shows, NumberQuestion, Never, Below, Is, Question, LeftBelow, RightBelow, Equal, agree, greatest, mirrored, number_question, question_of, Answer, Carry, Zero, Purpose, Branch, Value, low_of_byte}
 use Rattle.trees.specs.declared.expression.BinaryOperator.TheVariants as operators
 use Rattle.operands8080.specs.declared.answers.Answer.TheVariants.{Known}
 use Rattle.task_laws.proofs.Bytes.ByteOperations.{IsOperated}
+use Rattle.task_laws.proofs.Agreement.{agree_true}
 
 -- the answer to a question about two values
 abbrev pub question_truth : Question → (left right : ℕ) → Bool
@@ -26,10 +27,6 @@ abbrev pub AnswerShows : Purpose → Answer → (answer : Bool) → Registers �
 AnswerShows purpose (Known known) answer r = answer ≡ known
 AnswerShows purpose Carry answer r = r.flags.cy ≡ answer
 AnswerShows purpose Zero answer r = ZeroShows purpose answer r
-
-pub agree_true : (b : Bool) → agree b true ≡ b
-agree_true true = refl
-agree_true false = refl
 
 pub agree_twice : (b one other : Bool) → agree (agree b one) other ≡ agree b (agree other one)
 agree_twice true true true = refl
@@ -138,10 +135,6 @@ number_asks RightBelow n scalar v small = by (nat_le (greatest scalar) n) refl
         (λ here. agree_false (nat_lt v (min (n + 1) 65535))
         ∙ ap not (lt-ltb v (min (n + 1) 65535) (omega (arith, ltb-false n v here, less, high))))
 
--- a byte is its low byte
-pub low_is_all : (v : ℕ) → v < 256 → v % 256 ≡ v
-low_is_all v small = omega (arith, small)
-
 low_small : (v : ℕ) → v % 256 < 256
 low_small v = omega arith
 
@@ -150,18 +143,18 @@ pub compared_below :
     (v w : ℕ) (now : Registers) → v < 256 → w < 256 → IsOperated Compare v w now → now.flags.cy ≡ nat_lt v w
 compared_below v w now one two is =
     ap (λ f. f.cy) is.flags ∙ borrow_shows (v % 256) (w % 256) (low_small w)
-    ∙ ap (λ n. nat_lt n (w % 256)) (low_is_all v one) ∙ ap (λ n. nat_lt v n) (low_is_all w two)
+    ∙ ap (λ n. nat_lt n (w % 256)) (low_of_byte v one) ∙ ap (λ n. nat_lt v n) (low_of_byte w two)
 
 -- and zero that they are equal
 pub compared_equal :
     (v w : ℕ) (now : Registers) → v < 256 → w < 256 → IsOperated Compare v w now → now.flags.z ≡ (v == w)
 compared_equal v w now one two is =
     ap (λ f. f.z) is.flags ∙ zero_shows (v % 256) (w % 256) (low_small v) (low_small w)
-    ∙ ap (λ n. n == (w % 256)) (low_is_all v one) ∙ ap (λ n. v == n) (low_is_all w two)
+    ∙ ap (λ n. n == (w % 256)) (low_of_byte v one) ∙ ap (λ n. v == n) (low_of_byte w two)
 
 -- a difference is 0 where they are equal
 pub subtracted_equal :
     (v w : ℕ) (now : Registers) → v < 256 → w < 256 → IsOperated Subtract v w now → (now.a == 0) ≡ (v == w)
 subtracted_equal v w now one two is =
     ap (λ n. n == 0) is.a ∙ zero_shows (v % 256) (w % 256) (low_small v) (low_small w)
-    ∙ ap (λ n. n == (w % 256)) (low_is_all v one) ∙ ap (λ n. v == n) (low_is_all w two)
+    ∙ ap (λ n. n == (w % 256)) (low_of_byte v one) ∙ ap (λ n. v == n) (low_of_byte w two)

@@ -1,11 +1,11 @@
 -- Relations that test whether two ADDRESSes are equal, as jumps.
-use Rattle.task_laws.proofs.Prelude.{◌≡◌, ℕ, ◌+◌, ◌*◌, ◌<◌, ◌≤◌, ◌==◌, false, List, [], ◌∷◌, ◌++◌, Option, Some, None, max, refl, arith, height_of, type_of, TypedExpression, TypesHold, SourceState, Outcome, Registers, State, ExpressionNumber, IsExpression, Facts, Step, Does, at_place, in_order, Equal, PairOrder, LeftInHl, RightInHl, pair_order, pair_steps, Apart, Words, PlaceAndHl, DeAndHl, operand_apart, words_of, words_steps, knowing, Context, IsSound, nodes_in, StepsStand, PartThere, PartDoes}
+use Rattle.task_laws.proofs.Prelude.{◌≡◌, ℕ, ◌+◌, ◌*◌, ◌<◌, ◌≤◌, ◌==◌, false, List, [], ◌∷◌, ◌++◌, Option, Some, None, max, refl, arith, height_of, type_of, TypedExpression, TypesHold, SourceState, Outcome, Registers, State, ExpressionNumber, IsExpression, Facts, Step, Does, at_place, in_order, Equal, PairOrder, LeftInHl, RightInHl, pair_order, pair_steps, Apart, Words, PlaceAndHl, DeAndHl, operand_apart, words_of, words_steps, knowing, Context, IsSound, nodes_in, StepsStand, PartThere, PartDoes, value_is_word}
 use Rattle.trees.specs.declared.declaration.ScalarType.TheVariants as scalars
 use Rattle.task_laws.proofs.Relations.Answers.{same_turned}
 use Rattle.task_laws.proofs.Bytes.BytesAsked.{BytesAsked, PairIsGiven, PairLies}
 use Rattle.task_laws.proofs.Relations.ByteComparisons.{asking}
 use Rattle.task_laws.proofs.Relations.EqualityJumps.{HasWords, InMemory, InRegisters}
-use Rattle.task_laws.proofs.Relations.PlaceComparisons.{IsApart, LeftStays, RightStays, is_apart, read_then, word_of_type}
+use Rattle.task_laws.proofs.Relations.PlaceComparisons.{IsApart, LeftStays, RightStays, is_apart, read_then}
 use Rattle.task_laws.proofs.Machine.Rules.{split}
 use Rattle.task_laws.proofs.Machine.SiteNodes.{does_exchanged, value_in}
 use Rattle.task_laws.proofs.Machine.Stages.{Stage, at_carried, at_word, does_same, script_of}
@@ -65,7 +65,7 @@ words_come {C = C} {context = context} {top = top} {pushed = pushed} {need = nee
         (λ read.
         rest read.found w read.found w u now memory_now _ _ stand
         (InMemory given.h given.l read.high read.low read.high_steady read.low_steady)
-        (word_of_type (type_of second) w given.small) refl next)))
+        (value_is_word (type_of second) w given.small) refl next)))
     apart_comes apart (RightStays {place = place} asks lies) (PartThere does stand) rest =
         at_word _ _ _ does one types (omega (arith, fewer)) stage
         (λ v u now memory_now is given next.
@@ -74,7 +74,7 @@ words_come {C = C} {context = context} {top = top} {pushed = pushed} {need = nee
         (λ read.
         rest v read.found read.found v u now memory_now _ _ stand
         (InMemory given.h given.l read.high read.low read.high_steady read.low_steady)
-        (word_of_type (type_of first) v given.small) (same_turned v read.found) next))
+        (value_is_word (type_of first) v given.small) (same_turned v read.found) next))
 
     in_pair :
         (order : PairOrder) (v w : ℕ) (u : SourceState) (now : Registers) (memory_now : List ℕ) (found : Facts) (middle : ℕ)

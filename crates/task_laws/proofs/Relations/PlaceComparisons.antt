@@ -1,5 +1,5 @@
 -- Comparisons of two ADDRESSes, one of them in memory.
-use Rattle.task_laws.proofs.Prelude.{◌≡◌, ℕ, ◌*◌, ◌/◌, ◌%◌, ◌<◌, ◌≤◌, ◌==◌, ◌⊎◌, inl, inr, Bool, true, false, nat_lt, bit_or, List, ◌++◌, Option, Some, None, refl, sym, ap, ◌∙◌, subst, arith, if◌then◌else◌, byte_at, or_of_8, ScalarType, height_of, type_of, TypedExpression, TypesHold, SourceState, Ended, More, Outside, Outcome, Gave, Stopped, then_do, values_of, Or, operate, subtract_of, Registers, State, ExpressionNumber, Place, place_after, IsExpression, Facts, Does, at_place, IsSteady, place_at, GoesOutside, evaluated_in_order, Question, LeftBelow, RightBelow, Equal, Site, may_exchange, direct_word, is_word_in_hl, Purpose, Setting, Apart, answer_to, apart_of, high_steps, in_hl, left_apart, load_a_steps, low_steps, operand_apart, right_apart, with_place_steps, knowing, Context, IsSound, nodes_in, StepsStand, PartThere, PlainThere, WordThere, PartDoes}
+use Rattle.task_laws.proofs.Prelude.{◌≡◌, ℕ, ◌*◌, ◌/◌, ◌%◌, ◌<◌, ◌≤◌, ◌==◌, ◌⊎◌, inl, inr, Bool, true, false, nat_lt, bit_or, List, ◌++◌, Option, Some, None, refl, sym, ap, ◌∙◌, subst, arith, if◌then◌else◌, byte_at, or_of_8, ScalarType, height_of, type_of, TypedExpression, TypesHold, SourceState, Ended, More, Outside, Outcome, Gave, Stopped, then_do, Or, operate, subtract_of, Registers, State, ExpressionNumber, Place, place_after, IsExpression, Facts, Does, at_place, IsSteady, place_at, GoesOutside, evaluated_in_order, Question, LeftBelow, RightBelow, Equal, Site, may_exchange, direct_word, is_word_in_hl, Purpose, Setting, Apart, answer_to, apart_of, high_steps, in_hl, left_apart, load_a_steps, low_steps, operand_apart, right_apart, with_place_steps, knowing, Context, IsSound, nodes_in, StepsStand, PartThere, PlainThere, WordThere, PartDoes, value_is_word}
 use Rattle.task_laws.proofs.Relations.Answers.{AnswerShows, question_truth, same_turned}
 use Rattle.task_laws.proofs.Bytes.BytesAsked.{BytesAsked, WordAtPlace}
 use Rattle.task_laws.proofs.Relations.ByteComparisons.{asking}
@@ -220,10 +220,6 @@ shown_from_right LeftBelow purpose v w now (inl same) equal below =
 shown_from_right LeftBelow purpose v w now (inr same) equal below =
     absurd (subst IsOrder same tt)
 
-pub word_of_type : (scalar : ScalarType) (v : ℕ) → v < values_of scalar → v < 65536
-word_of_type Rattle.trees.specs.declared.declaration.ScalarType.TheVariants.Byte v small = omega (arith, small)
-word_of_type Rattle.trees.specs.declared.declaration.ScalarType.TheVariants.Address v small = small
-
 -- one stays in memory
 pub place_compared :
     {C : Type 0} {context : Context} {top need : ℕ} {base : List ℕ} {t : SourceState} {facts last : Facts}
@@ -253,8 +249,8 @@ place_compared {context = context} {top = top} {base = base} {t = t} {bound = bo
     read_then (value_in context first u) (λ v s. go v w s)
     (asked.places known_there left place bound top first base u now memory_now one types lies next.ready)
     (λ read.
-    let v_small = word_of_type (type_of first) read.found (asked.values_fit left bound top read.found first base u u now memory_now one types next.ready read.is) in
-    let w_small = word_of_type (type_of second) w given.small in
+    let v_small = value_is_word (type_of first) read.found (asked.values_fit left bound top read.found first base u u now memory_now one types next.ready read.is) in
+    let w_small = value_is_word (type_of second) w given.small in
     taken_from_place place read.found w question sound read.low read.high read.low_steady read.high_steady given.h given.l
     v_small w_small stand next
     (λ end equal below final.
@@ -266,8 +262,8 @@ place_compared {context = context} {top = top} {base = base} {t = t} {bound = bo
     read_then (value_in context second u) (λ w s. go v w s)
     (asked.places known_there right place bound top second base u now memory_now two other_types lies next.ready)
     (λ read.
-    let w_small = word_of_type (type_of second) read.found (asked.values_fit right bound top read.found second base u u now memory_now two other_types next.ready read.is) in
-    let v_small = word_of_type (type_of first) v given.small in
+    let w_small = value_is_word (type_of second) read.found (asked.values_fit right bound top read.found second base u u now memory_now two other_types next.ready read.is) in
+    let v_small = value_is_word (type_of first) v given.small in
     taken_from_place place read.found v question sound read.low read.high read.low_steady read.high_steady given.h given.l
     w_small v_small stand next
     (λ end equal below final.

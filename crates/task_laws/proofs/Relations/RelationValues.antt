@@ -1,5 +1,5 @@
 -- A relation as a value: 0FFH in A if it holds, else 0.
-use Rattle.task_laws.proofs.Prelude.{◌≡◌, ℕ, ◌+◌, ◌*◌, ◌%◌, ◌<◌, ◌≤◌, ◌==◌, Bool, true, false, not, nat_le, List, ◌++◌, Some, bit_xor, refl, sym, ap, ◌∙◌, arith, false≢true, eqb-true, le-leb, xor_self, height_of, type_of, TypedExpression, TypesHold, SourceState, Outcome, Gave, truth, values_of, ScalarType, Byte, Address, Flags, add_of, operate, subtract_of, ExclusiveOr, Registers, State, ExpressionNumber, IsExpression, Facts, Arrives, Does, at_place, gives, borrow_shows, Relation, relation_of, is_free, Shown, Known, Where, outcome_value_steps, relation_outcome, relation_steps, value_setting, knowing, Context, IsSound, nodes_in, StepsStand, PlainThere, ByteIsGiven, Carries, Nothing, PartDoes}
+use Rattle.task_laws.proofs.Prelude.{◌≡◌, ℕ, ◌+◌, ◌*◌, ◌%◌, ◌<◌, ◌≤◌, ◌==◌, Bool, true, false, not, nat_le, List, ◌++◌, Some, bit_xor, refl, sym, ap, ◌∙◌, arith, false≢true, eqb-true, le-leb, xor_self, height_of, type_of, TypedExpression, TypesHold, SourceState, Outcome, Gave, truth, values_of, ScalarType, Byte, Address, Flags, add_of, operate, subtract_of, ExclusiveOr, Registers, State, ExpressionNumber, IsExpression, Facts, Arrives, Does, at_place, gives, borrow_shows, Relation, relation_of, is_free, Shown, Known, Where, outcome_value_steps, relation_outcome, relation_steps, value_setting, knowing, Context, IsSound, nodes_in, StepsStand, PlainThere, ByteIsGiven, Carries, Nothing, PartDoes, not-not}
 use Rattle.isa8080.specs.declared.instr.Condition.TheVariants as conditions
 use Rattle.operands8080.specs.declared.answers.Purpose.TheVariants as purposes
 use Rattle.task_laws.proofs.Branches.Branches.{given_itself}
@@ -59,11 +59,7 @@ outcome_in_a {r = r} (Where conditions.NoCarry) holds sound shows (PlainThere tu
     (λ middle.
     at_a (subtract_of r.a r.a flags.cy).value (subtract_of r.a r.a flags.cy).flags sound middle there refl (omega arith) tt
     (λ next. at_end ends next
-    (λ final. rest _ (borrow_fills r.a (not r.flags.cy) holds stage.ready.registers.a (ap not shows ∙ twice holds)) final)))
-  where
-    twice : (b : Bool) → not (not b) ≡ b
-    twice true = refl
-    twice false = refl
+    (λ final. rest _ (borrow_fills r.a (not r.flags.cy) holds stage.ready.registers.a (ap not shows ∙ not-not holds)) final)))
 outcome_in_a {r = r} (Where conditions.Zero) holds sound shows (PlainThere turned (PlainThere there ends)) stage rest =
     let one = subtract_of r.a 1 false in
     let carry : one.flags.cy ≡ holds = borrow_shows r.a 1 (omega arith) ∙ sym (below_one r.a) ∙ shows in

@@ -1,5 +1,5 @@
 -- Relations: the result of their code shows whether they hold.
-use Rattle.task_laws.proofs.Prelude.{◌≡◌, ℕ, ◌+◌, ◌*◌, ◌<◌, ◌≤◌, ◌==◌, Bool, true, false, not, ◌&&◌, nat_le, min, max, List, Option, Some, None, option_map, refl, sym, ap, ◌∙◌, subst, arith, if◌then◌else◌, option_and_then, and_parts, none-some, same_Some, ScalarType, BinaryOperator, height_of, type_of, TypedExpression, BinaryNode, TypesHold, computed, SourceState, Outcome, Gave, Stopped, then_do, result_of, truth, values_of, Registers, State, Expression, ExpressionForm, ExpressionNumber, IsExpression, IsForm, IsNumber, IsValue, IsLocation, IsConstantList, IsConversion, IsEmbedded, IsUnary, IsBinary, IsCallOf, IsFunction, IsShift, IsInput, Facts, Does, at_place, Between, NumberQuestion, Never, Below, Question, LeftBelow, RightBelow, Equal, Relation, Site, number, agree, greatest, mirrored, number_question, question_of, relation_between, relation_of, relation_of_form, relation_with_number, fits_byte, Answer, Purpose, Branch, Value, Setting, Shown, Known, Where, Apart, answer_to, byte_relation_steps, comparison_steps, number_answer, number_steps, relation_outcome, relation_steps, operand_apart, with_pair_steps, with_place_steps, evaluated_in_order, knowing, Context, IsSound, nodes_in, StepsStand, PartDoes}
+use Rattle.task_laws.proofs.Prelude.{◌≡◌, ℕ, ◌+◌, ◌*◌, ◌<◌, ◌≤◌, ◌==◌, Bool, true, false, not, ◌&&◌, nat_le, min, max, List, Option, Some, None, option_map, refl, sym, ap, ◌∙◌, subst, arith, if◌then◌else◌, option_and_then, and_parts, none-some, same_Some, ScalarType, BinaryOperator, height_of, type_of, TypedExpression, BinaryNode, TypesHold, computed, SourceState, Outcome, Gave, Stopped, then_do, result_of, truth, values_of, Registers, State, Expression, ExpressionForm, ExpressionNumber, IsExpression, IsForm, IsNumber, IsValue, IsLocation, IsConstantList, IsConversion, IsEmbedded, IsUnary, IsBinary, IsCallOf, IsFunction, IsShift, IsInput, Facts, Does, at_place, Between, NumberQuestion, Never, Below, Question, LeftBelow, RightBelow, Equal, Relation, Site, number, agree, greatest, mirrored, number_question, question_of, relation_between, relation_of, relation_of_form, relation_with_number, fits_byte, Answer, Purpose, Branch, Value, Setting, Shown, Known, Where, Apart, answer_to, byte_relation_steps, comparison_steps, number_answer, number_steps, relation_outcome, relation_steps, operand_apart, with_pair_steps, with_place_steps, evaluated_in_order, knowing, Context, IsSound, nodes_in, StepsStand, PartDoes, value_is_word}
 use Rattle.trees.specs.declared.declaration.ScalarType.TheVariants as scalars
 use Rattle.isa8080.specs.declared.instr.Condition.TheVariants as conditions
 use Rattle.operands8080.specs.declared.answers.Answer.TheVariants as answers
@@ -9,11 +9,12 @@ use Rattle.task_laws.proofs.Bytes.BytesAsked.{BytesAsked}
 use Rattle.task_laws.proofs.Relations.ByteComparisons.{asking, bytes_compared}
 use Rattle.task_laws.proofs.Machine.Nodes.{node_of}
 use Rattle.task_laws.proofs.Relations.NumberComparisons.{GoesOnAsked, byte_asked}
-use Rattle.task_laws.proofs.Relations.PlaceComparisons.{is_apart, place_compared, word_of_type}
+use Rattle.task_laws.proofs.Relations.PlaceComparisons.{is_apart, place_compared}
 use Rattle.task_laws.proofs.Machine.SiteNodes.{number_means, value_in}
 use Rattle.task_laws.proofs.Machine.Stages.{Stage, does_same, script_of}
 use Rattle.task_laws.proofs.Relations.WordComparisons.{GoesOnBoth, pair_compared}
 use Rattle.task_laws.proofs.Relations.WordNumbers.{IsBounded, word_asked}
+use Rattle.task_laws.proofs.Agreement.{agree_true}
 
 -- an outcome shows whether a relation holds
 abbrev pub OutcomeShows : Purpose → Shown → (holds : Bool) → Registers → Type 0
@@ -24,10 +25,6 @@ OutcomeShows purpose (Where conditions.Zero) holds r = ZeroShows purpose holds r
 OutcomeShows purpose (Where conditions.NotZero) holds r = ZeroShows purpose (not holds) r
 OutcomeShows purpose (Where condition) holds r = ⊥
 
-agree_with_true : (b : Bool) → agree b true ≡ b
-agree_with_true true = refl
-agree_with_true false = refl
-
 not_agreed : (b : Bool) → not (agree b false) ≡ b
 not_agreed true = refl
 not_agreed false = refl
@@ -37,11 +34,11 @@ outcome_shown :
     → AnswerShows purpose answer is r
     → OutcomeShows purpose (outcome_of answer holds_if) (agree is holds_if) r
 outcome_shown purpose (answers.Known known) holds_if is r shows = ap (λ b. agree b holds_if) shows
-outcome_shown purpose answers.Carry true is r shows = shows ∙ sym (agree_with_true is)
+outcome_shown purpose answers.Carry true is r shows = shows ∙ sym (agree_true is)
 outcome_shown purpose answers.Carry false is r shows = shows ∙ sym (not_agreed is)
-outcome_shown Branch answers.Zero true is r shows = shows ∙ sym (agree_with_true is)
+outcome_shown Branch answers.Zero true is r shows = shows ∙ sym (agree_true is)
 outcome_shown Branch answers.Zero false is r shows = shows ∙ sym (not_agreed is)
-outcome_shown Value answers.Zero true is r shows = shows ∙ sym (agree_with_true is)
+outcome_shown Value answers.Zero true is r shows = shows ∙ sym (agree_true is)
 outcome_shown Value answers.Zero false is r shows = shows ∙ sym (not_agreed is)
 
 -- the relation of a tree
@@ -286,7 +283,7 @@ module _
       let site = knowing context.site facts in
       let asked_so = number_question question n operands in
       let means = number_means facts n sound two types.2.0 right_is in
-      let n_small = word_of_type (type_of second) n (asked.values_fit right bound top n second base t t r memory two types.2.0 stage.ready (means t)) in
+      let n_small = value_is_word (type_of second) n (asked.values_fit right bound top n second base t t r memory two types.2.0 stage.ready (means t)) in
       does_same _ (in_order_of context first second operands operator go t)
       (number_asked left operands asked_so.0 t r from bound first
       (λ v u. then_do (value_in context second u) (λ w s. then_do (computed (result_of operands operator v w) s) go))
@@ -307,7 +304,7 @@ module _
       let site = knowing context.site facts in
       let asked_so = number_question (mirrored question) n operands in
       let means = number_means facts n sound one types.1.0 left_is in
-      let n_small = word_of_type (type_of first) n (asked.values_fit left bound top n first base t t r memory one types.1.0 stage.ready (means t)) in
+      let n_small = value_is_word (type_of first) n (asked.values_fit left bound top n first base t t r memory one types.1.0 stage.ready (means t)) in
       does_same (then_do (value_in context second t) (λ w s. then_do (computed (result_of operands operator n w) s) go))
       (in_order_of context first second operands operator go t
       ∙ ap (λ (given : Outcome ℕ). then_do given (λ v u. then_do (value_in context second u) (λ w s. then_do (computed (result_of operands operator v w) s) go))) (means t))

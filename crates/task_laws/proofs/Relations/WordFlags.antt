@@ -1,8 +1,5 @@
 -- The flags after the bytes of two words were subtracted.
-use Rattle.task_laws.proofs.Prelude.{◌≡◌, ℕ, ◌+◌, ◌-◌, ◌*◌, ◌/◌, ◌%◌, ◌<◌, ◌==◌, Bool, true, false, nat_lt, bit_or, sym, ap, ◌∙◌, arith, ltb-true, ltb-false, lt-ltb, le-ltb, eqb-true, eqb-false, eq-eqb, ne_eqb, le_or_l, le_or_r, subtract_of, bit, borrow_shows, borrow_shows_more, same_test, word_borrow}
-
-whole : (v : ℕ) → 256 * (v / 256) + v % 256 ≡ v
-whole v = omega arith
+use Rattle.task_laws.proofs.Prelude.{◌≡◌, ℕ, ◌+◌, ◌-◌, ◌*◌, ◌/◌, ◌%◌, ◌<◌, ◌==◌, Bool, true, false, nat_lt, bit_or, sym, ap, ◌∙◌, arith, ltb-true, ltb-false, lt-ltb, le-ltb, eqb-true, eqb-false, eq-eqb, ne_eqb, le_or_l, le_or_r, subtract_of, bit, borrow_shows, borrow_shows_more, same_test, word_borrow, halves_joined}
 
 -- the borrow of both bytes shows that a word is less than another one
 pub word_below :
@@ -14,8 +11,8 @@ word_below v w h l d e one two three four small =
     borrow_shows_more h d (subtract_of l e false).flags.cy (omega (arith, three, small))
     ∙ (ap (λ b. nat_lt h (d + bit b)) (borrow_shows l e (omega (arith, four)))
     ∙ (word_borrow h l d e (omega (arith, two)) (omega (arith, four))
-    ∙ (ap (λ n. nat_lt n (256 * d + e)) (ap (λ m. 256 * m + l) one ∙ ap (λ m. 256 * (v / 256) + m) two ∙ whole v)
-    ∙ ap (λ n. nat_lt v n) (ap (λ m. 256 * m + e) three ∙ ap (λ m. 256 * (w / 256) + m) four ∙ whole w))))
+    ∙ (ap (λ n. nat_lt n (256 * d + e)) (ap (λ m. 256 * m + l) one ∙ ap (λ m. 256 * (v / 256) + m) two ∙ halves_joined v)
+    ∙ ap (λ n. nat_lt v n) (ap (λ m. 256 * m + e) three ∙ ap (λ m. 256 * (w / 256) + m) four ∙ halves_joined w))))
 
 -- an OR is 0 where both sides are
 pub or_is_zero : (x y : ℕ) → bit_or x y ≡ 0 → (x ≡ 0) × (y ≡ 0)

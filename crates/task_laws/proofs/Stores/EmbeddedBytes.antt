@@ -1,9 +1,8 @@
 -- The low byte of an assignment within an expression.
-use Rattle.task_laws.proofs.Prelude.{◌≡◌, ℕ, ◌*◌, ◌/◌, ◌%◌, ◌<◌, true, false, List, [], ◌∷◌, refl, sym, ◌∙◌, subst, arith, false≢true, height_of, type_of, type_of_target, TypedExpression, TypedTarget, AssignmentNode, TypesHold, TypesHoldInTarget, stored, SourceState, Ended, More, Outside, Outcome, Gave, Stopped, values_of, A, L, State, ExpressionNumber, Target, IsExpression, IsTarget, Facts, Plain, copy, part, Does, Lands, is_free, Context, InRegister, IsSound, nodes_in, StepsStand, PartThere, PlainThere, ByteIsGiven, Carries, Nothing, PartDoes}
+use Rattle.task_laws.proofs.Prelude.{◌≡◌, ℕ, ◌*◌, ◌/◌, ◌%◌, ◌<◌, true, false, List, [], ◌∷◌, refl, sym, ◌∙◌, subst, arith, false≢true, height_of, type_of, type_of_target, TypedExpression, TypedTarget, AssignmentNode, TypesHold, TypesHoldInTarget, stored, SourceState, Ended, More, Outside, Outcome, Gave, Stopped, values_of, A, L, State, ExpressionNumber, Target, IsExpression, IsTarget, Facts, Plain, copy, part, Does, Lands, is_free, Context, InRegister, IsSound, nodes_in, StepsStand, PartThere, PlainThere, ByteIsGiven, Carries, Nothing, PartDoes, low_of_byte}
 use Rattle.trees.specs.declared.declaration.ScalarType.TheVariants as scalars
 use Rattle.steps8080.specs.declared.step.Task.TheVariants as tasks
 use Rattle.task_laws.specs.Tasks.{IsStored}
-use Rattle.task_laws.proofs.Relations.Answers.{low_is_all}
 use Rattle.task_laws.proofs.Bytes.ByteForms.{byte_given}
 use Rattle.task_laws.proofs.Machine.SiteNodes.{value_in}
 use Rattle.task_laws.proofs.Machine.Stages.{at_a, at_byte, at_carried, at_end, at_word}
@@ -52,12 +51,12 @@ module _
       does_less (stored context.later context.activation.around place v u_there)
       (stores bound v (type_of inside) place is_target target_types given.small top_there base_there u_there r_there memory_there below_there room_there ready_there known_there in_a))
       (omega arith)
-      (subst (λ scalar. InRegister scalar v now) (sym is_byte) (given.a ∙ low_is_all v small))
+      (subst (λ scalar. InRegister scalar v now) (sym is_byte) (given.a ∙ low_of_byte v small))
       (λ found late memory_late (kept : IsStored context _ (type_of inside) true v now memory_now found late memory_late). kept.known) next
       (λ found t late memory_late stored_is kept final_stage. at_end ends final_stage
       (λ final.
       let a : late.a ≡ v = subst (λ scalar. InRegister scalar v late) is_byte (kept.wanted refl) in
-      byte_given to number v (a ∙ sym (low_is_all v small)) (subst (λ scalar. v < values_of scalar) (sym same_type) given.small)
+      byte_given to number v (a ∙ sym (low_of_byte v small)) (subst (λ scalar. v < values_of scalar) (sym same_type) given.small)
       (λ free. absurd (false≢true (sym not_free ∙ free))) final)))
 
   -- an ADDRESS is assigned

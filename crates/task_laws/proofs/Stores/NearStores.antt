@@ -1,11 +1,12 @@
 -- A word that is stored next to the stack pointer, by POP and PUSH.
-use Rattle.task_laws.proofs.Prelude.{◌≡◌, ◌≢◌, ℕ, zero, suc, ◌+◌, ◌*◌, ◌/◌, ◌%◌, ◌<◌, List, [], ◌∷◌, ◌++◌, slice_set, refl, sym, ap, subst, ◌∙◌, arith, MEMORY_SIZE, byte_at, word_at, Event, Address, SourcePlace, write_scalar, SourceState, Outcome, then_do, Pop, Push, StackPair, StackBc, StackHl, act, Registers, State, high_byte, low_byte, one_less, pushed_of, two_less, word, wrap, byte_kept, Does, at_place, IsReady, plain_first, plain_step, Facts, Step, MemoryChanged, Near, First, Second, exchange_near, Context, IsSound, ChangeThere, PlainThere, StepsStand, PartDoes, address_on_machine}
+use Rattle.task_laws.proofs.Prelude.{◌≡◌, ◌≢◌, ℕ, zero, suc, ◌+◌, ◌*◌, ◌/◌, ◌%◌, ◌<◌, List, [], ◌∷◌, ◌++◌, slice_set, refl, sym, ap, subst, ◌∙◌, arith, MEMORY_SIZE, byte_at, word_at, Event, Address, SourcePlace, write_scalar, SourceState, Outcome, then_do, Pop, Push, StackPair, StackBc, StackHl, act, Registers, State, high_byte, low_byte, one_less, pushed_of, two_less, word, wrap, byte_kept, Does, at_place, IsReady, plain_first, plain_step, Facts, Step, MemoryChanged, Near, First, Second, exchange_near, Context, IsSound, ChangeThere, PlainThere, StepsStand, PartDoes, address_on_machine, next_is_other}
 use Rattle.task_laws.proofs.Places.LocationWords.{push_back, word_small}
 use Rattle.task_laws.proofs.Places.Reading.{FitsIn}
 use Rattle.task_laws.proofs.Machine.Rules.{GoesOn, pushed_anywhere, ready_with_registers}
 use Rattle.task_laws.proofs.Stores.StoreRules.{WordLiesAt, word_lies_at}
 use Rattle.task_laws.proofs.Stores.Stores.{gains}
 use Rattle.task_laws.proofs.Stores.WordWriting.{word_written}
+use Rattle.task_laws.proofs.Numbers.{up_and_down, up_and_one_down}
 
 -- the address of a word next to the stack pointer
 abbrev pub near_address : Near → (sp : ℕ) → ℕ
@@ -21,15 +22,6 @@ set_apart (first ∷ xs) zero (suc j) x y differ = refl
 set_apart (first ∷ xs) (suc i) zero x y differ = refl
 set_apart (first ∷ xs) (suc i) (suc j) x y differ =
     ap (λ (others : List ℕ). first ∷ others) (set_apart xs i j x y (λ same. differ (ap suc same)))
-
-up_and_down : (p : ℕ) → p < MEMORY_SIZE → two_less (wrap (p + 2)) ≡ p
-up_and_down p small = omega (arith, small)
-
-up_and_one_down : (p : ℕ) → p < MEMORY_SIZE → one_less (wrap (p + 2)) ≡ wrap (p + 1)
-up_and_one_down p small = omega (arith, small)
-
-next_differs : (p : ℕ) → p < MEMORY_SIZE → wrap (p + 1) ≢ p
-next_differs p small = omega (arith, small)
 
 -- a word that is pushed where another one was popped
 push_there :
@@ -49,7 +41,7 @@ push_there script pair place p number r memory events pointer small high low =
     ∙ ap (λ (n : ℕ). left n (two_less r.sp) (number / 256) (number % 256)) (ap one_less pointer ∙ up_and_one_down p small)
     ∙ ap (λ (n : ℕ). left (wrap (p + 1)) n (number / 256) (number % 256)) (ap two_less pointer ∙ up_and_down p small)
     ∙ ap (λ (memory : List ℕ). at_place place (record r { sp = p }) memory events)
-    (set_apart memory (wrap (p + 1)) p (number / 256) (number % 256) (next_differs p small))
+    (set_apart memory (wrap (p + 1)) p (number / 256) (number % 256) (next_is_other p small))
   where
     left : (one two high low : ℕ) → State
     left one two high low =

@@ -1,5 +1,5 @@
 -- The code that sends the low byte of a value to a port.
-use Rattle.task_laws.proofs.Prelude.{◌≡◌, ℕ, ◌+◌, ◌%◌, ◌<◌, Bool, List, [], ◌∷◌, ◌++◌, refl, sym, ap, subst, ◌∙◌, arith, write_event, ScalarType, Byte, Address, SourceState, values_of, Out, Registers, Sent, IsSent, Does, at_place, Arrives, gives, Facts, Plain, send_steps, Context, InRegister, IsSound, StepsStand, PlainThere, PartDoes, StoreDoes}
+use Rattle.task_laws.proofs.Prelude.{◌≡◌, ℕ, ◌+◌, ◌%◌, ◌<◌, Bool, List, [], ◌∷◌, ◌++◌, refl, sym, ap, subst, ◌∙◌, write_event, ScalarType, Byte, Address, SourceState, values_of, Out, Registers, Sent, IsSent, Does, at_place, Arrives, gives, Facts, Plain, send_steps, Context, InRegister, IsSound, StepsStand, PlainThere, PartDoes, StoreDoes, byte_is_low}
 use Rattle.task_laws.specs.Tasks.{IsStored}
 use Rattle.task_laws.proofs.Machine.Rules.{GoesOn, registers_go}
 use Rattle.task_laws.proofs.Machine.Addresses.{nothing_goes}
@@ -24,9 +24,6 @@ out_goes {context = context} {top = top} {from = from} {to = to} {base = base} H
     nothing_goes r stand (record { ready = on.ready; known = known })
     (λ on_last. gives (record { r = r; memory = memory; is_at = refl; ready = on_last.ready; holds = holds on_last })))
 
-low_byte_is : (n : ℕ) → n < 256 → n ≡ n % 256
-low_byte_is n small = omega (arith, small)
-
 pub send_law :
     {context : Context} {facts last : Facts} {pushed from to port : ℕ} {scalar : ScalarType} (is_wanted : Bool)
     → IsSound context
@@ -36,7 +33,7 @@ send_law {context = context} {last = last} {port = port} {scalar = Byte} is_want
     let at_a : InRegister Byte number r = subst (λ (scalar : ScalarType). InRegister scalar number r) (sym types.0) asked in
     let fits : number < values_of Byte = subst (λ (scalar : ScalarType). number < values_of scalar) (sym types.0) small in
     out_goes (IsStored context last _ is_wanted number r memory) port (number % 256) s r memory sound
-    (at_a ∙ low_byte_is number fits) stand (record { ready = ready; known = known })
+    (at_a ∙ byte_is_low number fits) stand (record { ready = ready; known = known })
     (λ on. record { known = on.known; wanted = λ wanted. asked })
 send_law {context = context} {last = last} {port = port} {scalar = Address} is_wanted sound (PlainThere there stand) bound number _ tree IsSent types small top base s r memory less room ready known asked =
     let at_hl : InRegister Address number r = subst (λ (scalar : ScalarType). InRegister scalar number r) (sym types.0) asked in

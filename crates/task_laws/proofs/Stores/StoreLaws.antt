@@ -1,12 +1,12 @@
 -- The code of stores, for each target.
-use Rattle.task_laws.proofs.Prelude.{◌≡◌, ℕ, ◌+◌, ◌*◌, ◌/◌, ◌%◌, ◌<◌, ◌==◌, Bool, true, false, ◌&&◌, not, if◌then◌else◌, List, [], ◌∷◌, ◌++◌, Option, Some, None, slice_set, refl, sym, ap, subst, ◌∙◌, arith, eqb-true, append_assoc, MEMORY_SIZE, ScalarType, Byte, Address, height_of_reference, TypedReference, RefersToScalar, TypesHoldInReference, SourcePlace, write_byte, write_scalar, SourceState, Outcome, Gave, then_do, as_type, values_of, Inx, MovToMemory, Mvi, M, Hl, Registers, State, word, wrap, StoreA, StoreHl, Location, Place, Reference, Target, Sent, Stored, IsReference, IsStoredIn, Does, at_place, Arrives, HasRoom, gives, location_at, address_asks, Facts, Step, Holds, MemoryChanged, Plain, Word, after, no_facts, copy, set, extension_steps, keeps_of_address, location_of, distance, Goal, Near, First, Second, address_beside_de_steps, byte_is_here_steps, exchange_near, goal_of, goal_steps, store_a_at_steps, store_a_steps, store_extended_steps, store_hl_at_steps, store_low_byte_at_steps, store_low_byte_steps, store_near_steps, store_steps, store_word_steps, value_back_steps, word_is_here_steps, word_near, knowing, Context, InRegister, IsSound, distances_in, nodes_in, HoldsThere, PlainThere, StepsStand, Carries, PartDoes, StoreDoes, address_on_machine}
+use Rattle.task_laws.proofs.Prelude.{◌≡◌, ℕ, ◌+◌, ◌*◌, ◌/◌, ◌%◌, ◌<◌, ◌==◌, Bool, true, false, ◌&&◌, not, if◌then◌else◌, List, [], ◌∷◌, ◌++◌, Option, Some, None, slice_set, refl, sym, ap, subst, ◌∙◌, arith, eqb-true, append_assoc, MEMORY_SIZE, ScalarType, Byte, Address, height_of_reference, TypedReference, RefersToScalar, TypesHoldInReference, SourcePlace, write_byte, write_scalar, SourceState, Outcome, Gave, then_do, as_type, values_of, Inx, MovToMemory, Mvi, M, Hl, Registers, State, word, wrap, StoreA, StoreHl, Location, Place, Reference, Target, Sent, Stored, IsReference, IsStoredIn, Does, at_place, Arrives, HasRoom, gives, location_at, address_asks, Facts, Step, Holds, MemoryChanged, Plain, Word, after, no_facts, copy, set, extension_steps, keeps_of_address, location_of, distance, Goal, Near, First, Second, address_beside_de_steps, byte_is_here_steps, exchange_near, goal_of, goal_steps, store_a_at_steps, store_a_steps, store_extended_steps, store_hl_at_steps, store_low_byte_at_steps, store_low_byte_steps, store_near_steps, store_steps, store_word_steps, value_back_steps, word_is_here_steps, word_near, knowing, Context, InRegister, IsSound, distances_in, nodes_in, HoldsThere, PlainThere, StepsStand, Carries, PartDoes, StoreDoes, address_on_machine, given_again}
 use Rattle.isa8080.specs.declared.instr.Register.TheVariants as registers
 use Rattle.treecode.specs.declared.place.Location.TheVariants as locations
 use Rattle.operands8080.specs.Stores.{high_byte_steps}
 use Rattle.task_laws.specs.Tasks.{IsStored}
 use Rattle.task_laws.proofs.Machine.Addresses.{nothing_goes}
 use Rattle.task_laws.proofs.Places.Fitting.{located_fits, refers_is_referred}
-use Rattle.task_laws.proofs.Loads.Loads.{LiesThere, given_last, lies_there}
+use Rattle.task_laws.proofs.Loads.Loads.{LiesThere, lies_there}
 use Rattle.task_laws.proofs.Places.Located.{located_in}
 use Rattle.task_laws.proofs.Places.LocationWords.{frame_away}
 use Rattle.task_laws.proofs.Stores.NearStores.{near_address, near_stored}
@@ -169,7 +169,7 @@ module _
       (λ place t. write_byte program place (number % 256 % 256) t) from s r memory sound stand is (refers_is_referred context Byte tree refers)
       types less room (omega arith) (record { ready = ready; known = known })
       (λ place t now ended middle found same a hl stands on.
-      does_same _ (sym (given_last (write_byte program place (number % 256 % 256) t)))
+      does_same _ (sym (given_again (write_byte program place (number % 256 % 256) t)))
       (one_stored (MovToMemory registers.A) [] (λ done u. Gave done u) place (number % 256 % 256) t
       now ended sound (omega arith) hl (located_fits context Byte tree place s t sound refers same)
       (λ n memory. ap (λ (b : ℕ). at_place n now (slice_set memory (word now.h now.l) b) t.events) (a ∙ asked ∙ byte_twice number small))
@@ -193,7 +193,7 @@ module _
       (λ place t. write_scalar program Address place (number % 65536) t) from s r memory sound stand is referred types less room
       (omega arith) (record { ready = ready; known = known })
       (λ place t now ended middle found same a hl stands on.
-      does_same _ (sym (given_last (write_scalar program Address place (number % 65536) t)))
+      does_same _ (sym (given_again (write_scalar program Address place (number % 65536) t)))
       (two_stored (MovToMemory registers.A) (Mvi M 0) (byte_is_here_steps the_location) (λ done u. Gave done u) place (number % 65536) t
       now ended sound (omega arith) hl (located_fits context Address tree place s t sound refers same)
       (λ n memory. ap (λ (b : ℕ). at_place n now (slice_set memory (word now.h now.l) b) t.events) (a ∙ asked ∙ byte_low number small))
@@ -221,7 +221,7 @@ module _
       (value_back_steps (the_goal Byte) is_wanted)) stand)
       is referred types less room (omega arith) (record { ready = ready; known = known })
       (λ place t now ended middle found same d e hl stands on.
-      does_same _ (sym (given_last (write_byte program place (number % 256 % 256) t)))
+      does_same _ (sym (given_again (write_byte program place (number % 256 % 256) t)))
       (one_stored (MovToMemory registers.E) (value_back_steps (the_goal Byte) is_wanted) (λ done u. Gave done u) place (number % 256 % 256) t
       now ended sound (omega arith) hl (located_fits context Byte tree place s t sound refers same)
       (λ n memory. ap (λ (b : ℕ). at_place n now (slice_set memory (word now.h now.l) b) t.events) (e ∙ asked.1 ∙ low_twice number))
@@ -271,7 +271,7 @@ module _
       (λ place t now ended middle found same d e hl stands on.
       let high : now.d ≡ number % 65536 / 256 = d ∙ asked.0 ∙ ap (λ (n : ℕ). n / 256) (whole number small) in
       let low : now.e ≡ number % 65536 % 256 = e ∙ asked.1 ∙ ap (λ (n : ℕ). n % 256) (whole number small) in
-      does_same _ (sym (given_last (write_scalar program Address place (number % 65536) t)))
+      does_same _ (sym (given_again (write_scalar program Address place (number % 65536) t)))
       (two_stored (MovToMemory registers.E) (MovToMemory registers.D) (value_back_steps (the_goal Address) is_wanted)
       (λ done u. Gave done u) place (number % 65536) t now ended sound (omega arith) hl
       (located_fits context Address tree place s t sound refers same)
@@ -326,7 +326,7 @@ module _
       (λ place t. write_byte program place (number % 256 % 256) t) _ s low memory sound stand is (refers_is_referred context Byte tree refers)
       types less room (omega arith) on_low
       (λ place t now ended middle found same a hl stands on.
-      does_same _ (sym (given_last (write_byte program place (number % 256 % 256) t)))
+      does_same _ (sym (given_again (write_byte program place (number % 256 % 256) t)))
       (one_stored (MovToMemory registers.A) [] (λ done u. Gave done u) place (number % 256 % 256) t
       now ended sound (omega arith) hl (located_fits context Byte tree place s t sound refers same)
       (λ n memory. ap (λ (b : ℕ). at_place n now (slice_set memory (word now.h now.l) b) t.events) (a ∙ asked.1 ∙ low_twice number))
@@ -350,7 +350,7 @@ module _
   at_known_place scalar n s location lies does =
       does_same _ (ap (λ (outcome : Outcome SourcePlace). then_do outcome
       (λ place t. write_scalar context.activation.around.program scalar place n t)) (lies.means s))
-      (does_same _ (sym (given_last (write_scalar context.activation.around.program scalar lies.place n s))) does)
+      (does_same _ (sym (given_again (write_scalar context.activation.around.program scalar lies.place n s))) does)
 
   byte_at_static :
       (static : Place)

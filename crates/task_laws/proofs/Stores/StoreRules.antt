@@ -1,26 +1,18 @@
 -- Rules of stores at computed addresses: the address is put into HL beside the value, and then bytes are
 -- stored.
-use Rattle.task_laws.proofs.Prelude.{◌≡◌, ◌≢◌, ℕ, ◌+◌, ◌-◌, ◌*◌, ◌/◌, ◌%◌, ◌<◌, ◌≤◌, Bool, true, false, if◌then◌else◌, List, [], ◌∷◌, ◌++◌, length, Option, Some, None, slice_set, refl, sym, ap, subst, ◌∙◌, arith, length-set, MEMORY_SIZE, byte_at, Event, ScalarType, Address, height_of_reference, TypedReference, TypesHoldInReference, SourcePlace, next_place, write_byte, write_scalar, SourceState, Outcome, Gave, then_do, Instr, Inx, Pop, Push, Xchg, Hl, Psw, StackDe, StackHl, act, flag_byte, flags_in, flag_byte_small, Registers, State, high_byte, low_byte, pushed_of, word, wrap, StoreHl, size_of_instruction, pushed_memory, byte_kept, byte_put, Location, Place, Reference, IsReference, Does, at_place, Activation, HasRoom, IsReady, Asks, IsSteadyByte, IsSteady, location_at, place_at, Facts, Step, Plain, Word, after, no_facts, part, keeps_of_address, location_of, address_beside_a_steps, address_beside_de_steps, goal_of, knowing, Context, IsSound, distances_in, nodes_in, PartThere, PlainThere, StepsStand, WordThere, IsReferred, Know, PartDoes, address_on_machine}
+use Rattle.task_laws.proofs.Prelude.{◌≡◌, ℕ, ◌+◌, ◌-◌, ◌*◌, ◌/◌, ◌%◌, ◌<◌, ◌≤◌, Bool, true, false, if◌then◌else◌, List, [], ◌∷◌, ◌++◌, length, Option, Some, None, slice_set, refl, sym, ap, subst, ◌∙◌, arith, length-set, MEMORY_SIZE, byte_at, Event, ScalarType, Address, height_of_reference, TypedReference, TypesHoldInReference, SourcePlace, next_place, write_byte, write_scalar, SourceState, Outcome, Gave, then_do, Instr, Inx, Pop, Push, Xchg, Hl, Psw, StackDe, StackHl, act, flag_byte, flags_in, flag_byte_small, Registers, State, high_byte, low_byte, pushed_of, word, wrap, StoreHl, size_of_instruction, pushed_memory, byte_kept, byte_put, Location, Place, Reference, IsReference, Does, at_place, Activation, HasRoom, IsReady, Asks, IsSteadyByte, IsSteady, location_at, place_at, Facts, Step, Plain, Word, after, no_facts, part, keeps_of_address, location_of, address_beside_a_steps, address_beside_de_steps, goal_of, knowing, Context, IsSound, distances_in, nodes_in, PartThere, PlainThere, StepsStand, WordThere, IsReferred, Know, PartDoes, address_on_machine, differs_from_next, high_of_halves, low_of_halves, next_word, same_given, word_high_byte, word_low_byte}
 use Rattle.steps8080.specs.declared.step.Task.TheVariants as tasks
 use Rattle.task_laws.proofs.Loads.Loads.{lies_there}
 use Rattle.task_laws.proofs.Places.Located.{located_in}
 use Rattle.task_laws.proofs.Places.Reading.{FitsIn}
 use Rattle.task_laws.proofs.Machine.Rules.{GoesOn, more_pushed, plain_goes, pop_goes, push_goes, pushed_word_small, registers_go, room_for}
-use Rattle.task_laws.proofs.Places.SecondSubscripts.{reference_height}
 use Rattle.task_laws.proofs.Stores.StaticStores.{word_gains}
 use Rattle.task_laws.proofs.Stores.Stores.{address_keeps_anywhere, plain_gains}
 use Rattle.task_laws.proofs.Machine.Values.{then_does_where}
-use Rattle.task_laws.proofs.Stores.WordWriting.{first_fits, next_address, second_fits, then_next, word_written}
+use Rattle.task_laws.proofs.Stores.WordWriting.{first_fits, next_address, second_fits, word_written}
 use Rattle.task_laws.proofs.Stores.Writing.{byte_written}
-
-popped_a : (a low : ℕ) → low < 256 → high_byte (word a low) ≡ a
-popped_a a low small = omega (arith, small)
-
-popped_high : (h l : ℕ) → l < 256 → high_byte (word h l) ≡ h
-popped_high h l small = omega (arith, small)
-
-popped_low : (h l : ℕ) → l < 256 → low_byte (word h l) ≡ l
-popped_low h l small = omega (arith, small)
+use Rattle.task_laws.proofs.Heights.{reference_height}
+use Rattle.task_laws.proofs.Machine.Effects.{then_again}
 
 -- the address of a part into HL, while A keeps its value
 pub beside_a_then :
@@ -90,7 +82,7 @@ beside_a_then {Good = Good} {context = context} {facts = facts} {last = last} {r
         (pop_goes Psw given.r sound again two room on.ready (pushed_word_small Psw r on.ready.registers)
         (record { ready = given.ready; known = (given.holds).known })
         (λ on_back.
-        rest place t back given.memory (middle + 1) _ same (popped_a r.a (flag_byte r.flags) (flag_byte_small r.flags))
+        rest place t back given.memory (middle + 1) _ same (word_high_byte r.a (flag_byte r.flags) (flag_byte_small r.flags))
         (given.holds).hl stand on_back))))
 
 -- the value that was in HL is put into DE
@@ -168,7 +160,7 @@ beside_de_then {Good = Good} {context = context} {facts = facts} {last = last} {
         (pop_goes StackDe given.r sound again two room on.ready (pushed_word_small StackHl r on.ready.registers)
         (record { ready = given.ready; known = (given.holds).known })
         (λ on_back.
-        rest place t back given.memory (middle + 1) _ same (popped_high r.h r.l on.ready.registers.l) (popped_low r.h r.l on.ready.registers.l)
+        rest place t back given.memory (middle + 1) _ same (word_high_byte r.h r.l on.ready.registers.l) (word_low_byte r.h r.l on.ready.registers.l)
         (given.holds).hl stand on_back))))
 
 -- a byte was stored at an address
@@ -183,9 +175,6 @@ pub record WordLiesAt (activation : Activation) (memory : List ℕ) (address num
   pub steady : IsSteady activation address
   pub steady_too : IsSteady activation (wrap (address + 1))
 
-differs : (address : ℕ) → address < MEMORY_SIZE → address ≢ wrap (address + 1)
-differs address small = omega (arith, small)
-
 pub word_lies_at :
     (activation : Activation) (memory : List ℕ) (address number : ℕ)
     → length memory ≡ MEMORY_SIZE
@@ -199,7 +188,7 @@ word_lies_at activation memory address number size steady steady_too =
     let inside = steady.1 in
     let inside_too = steady_too.1 in
     record {
-      low = byte_kept once (wrap (address + 1)) address (number / 256) (differs address inside)
+      low = byte_kept once (wrap (address + 1)) address (number / 256) (differs_from_next address inside)
           ∙ byte_put memory address (number % 256) (omega (arith, size, inside));
       high = byte_put once (wrap (address + 1)) (number / 256) (omega (arith, size, long, inside_too));
       steady = steady.0;
@@ -260,10 +249,6 @@ one_stored {Good = Good} {context = context} {facts = facts} {last = last} {top 
 abbrev pub further : Registers → Registers
 further r = record r { h = high_byte (wrap (word r.h r.l + 1)); l = low_byte (wrap (word r.h r.l + 1)) }
 
-after_one : (h l address : ℕ) → word h l ≡ address
-    → word (high_byte (wrap (word h l + 1))) (low_byte (wrap (word h l + 1))) ≡ wrap (address + 1)
-after_one h l address same = omega (arith, same)
-
 -- two bytes go to the address in HL and the next one
 pub two_stored :
     {A : Type 0} {Good : A → SourceState → State → Type 0}
@@ -306,7 +291,7 @@ two_stored {Good = Good} {context = context} {facts = facts} {last = last} {top 
     let once_same : slice_set ended address (number % 256) ≡ once
     = ap (λ (n : ℕ). slice_set ended n (number % 256)) (sym hl) in
     subst (λ (outcome : Outcome _). Does script t.budget 1 (at_place from r ended t.events) outcome Good)
-    (sym (then_next (write_byte program place (number % 256) t)
+    (sym (then_again (write_byte program place (number % 256) t)
     (λ _ t. write_byte program (next_place place) (number / 256) t) go))
     (byte_written place (number % 256) t (λ _ t. then_do (write_byte program (next_place place) (number / 256) t) go) sound
     (omega arith) on.ready (first_fits context.activation place fits)
@@ -327,10 +312,10 @@ two_stored {Good = Good} {context = context} {facts = facts} {last = last} {top 
     let twice : List ℕ = slice_set once (word two.h two.l) (number / 256) in
     let next_is : address_on_machine context.activation (next_place place) ≡ wrap (address + 1) = next_address context.activation place in
     let twice_same : slice_set once (address_on_machine context.activation (next_place place)) (number / 256) ≡ twice
-    = ap (λ (n : ℕ). slice_set once n (number / 256)) (next_is ∙ sym (after_one r.h r.l address hl)) in
+    = ap (λ (n : ℕ). slice_set once n (number / 256)) (next_is ∙ sym (next_word r.h r.l address hl)) in
     let whole_same : slice_set (slice_set ended address (number % 256)) (wrap (address + 1)) (number / 256) ≡ twice
     = ap (λ (memory : List ℕ). slice_set memory (wrap (address + 1)) (number / 256)) once_same
-    ∙ ap (λ (n : ℕ). slice_set once n (number / 256)) (sym (after_one r.h r.l address hl)) in
+    ∙ ap (λ (n : ℕ). slice_set once n (number / 256)) (sym (next_word r.h r.l address hl)) in
     let lies : WordLiesAt context.activation twice address number
     = subst (λ (memory : List ℕ). WordLiesAt context.activation memory address number) whole_same
     (word_lies_at context.activation ended address number on.ready.shares.is_memory.size steady
@@ -352,9 +337,6 @@ PlaceLies context None place = Unit {0}
 PlaceLies context (Some location) place =
     address_on_machine context.activation place ≡ location_at context.activation (distances_in context) location
 
-same_place : {one other : SourcePlace} {t u : SourceState} → Gave one t ≡ Gave other u → one ≡ other
-same_place same = cc
-
 pub place_lies :
     {context : Context} {bound : ℕ} {reference : Reference} {tree : TypedReference} (facts : Facts)
     (place : SourcePlace)
@@ -373,7 +355,7 @@ place_lies {context = context} {reference = reference} {tree = tree} facts place
     by None told = tt
     by (Some location) told =
         let lies = lies_there facts location sound is referred types told in
-        ap (λ (of : SourcePlace). address_on_machine context.activation of) (same_place (sym same ∙ lies.means s)) ∙ lies.is_at
+        ap (λ (of : SourcePlace). address_on_machine context.activation of) (same_given (sym same ∙ lies.means s)) ∙ lies.is_at
 
 -- the facts about A and HL, if a place is at a location
 pub byte_known_at :
@@ -411,12 +393,6 @@ word_known_at context (Some location) place number memory r lies h l word_is = r
   zero_holds = tt;
 }
 
-word_low : (h l number : ℕ) → h ≡ number / 256 → l ≡ number % 256 → number % 256 ≡ low_byte (word h l)
-word_low h l number one two = omega (arith, one, two)
-
-word_high : (h l number : ℕ) → h ≡ number / 256 → l ≡ number % 256 → number / 256 ≡ high_byte (word h l)
-word_high h l number one two = omega (arith, one, two)
-
 -- HL is stored at a place in memory
 pub shld_then :
     {A : Type 0} {Good : A → SourceState → State → Type 0}
@@ -449,8 +425,8 @@ shld_then {Good = Good} {context = context} {facts = facts} {last = last} {top =
     let same : slice_set (slice_set ended (address_on_machine context.activation place) (number % 256))
     (wrap (address_on_machine context.activation place + 1)) (number / 256) ≡ left
     = ap (λ (n : ℕ). slice_set (slice_set ended n (number % 256)) (wrap (n + 1)) (number / 256)) is_at
-    ∙ ap (λ (n : ℕ). slice_set (slice_set ended address n) (wrap (address + 1)) (number / 256)) (word_low r.h r.l number h l)
-    ∙ ap (λ (n : ℕ). slice_set (slice_set ended address (low_byte (word r.h r.l))) (wrap (address + 1)) n) (word_high r.h r.l number h l) in
+    ∙ ap (λ (n : ℕ). slice_set (slice_set ended address n) (wrap (address + 1)) (number / 256)) (low_of_halves r.h r.l number h l)
+    ∙ ap (λ (n : ℕ). slice_set (slice_set ended address (low_byte (word r.h r.l))) (wrap (address + 1)) n) (high_of_halves r.h r.l number h l) in
     let lies : WordLiesAt context.activation left (address_on_machine context.activation place) number
     = subst (λ (memory : List ℕ). WordLiesAt context.activation memory (address_on_machine context.activation place) number) same
     (word_lies_at context.activation ended (address_on_machine context.activation place) number on.ready.shares.is_memory.size steady steady_too) in

@@ -1,8 +1,10 @@
 -- Words that are written on both sides.
-use Rattle.task_laws.proofs.Prelude.{◌≡◌, ℕ, ◌+◌, ◌/◌, ◌%◌, ◌<◌, List, slice_set, refl, sym, subst, ◌∙◌, arith, Address, SourceState, Outcome, Gave, Stopped, then_do, InMemory, InTheFrame, next_place, write_byte, write_scalar, Registers, State, wrap, Does, Activation, IsReady, IsSteadyByte, Context, IsSound, address_on_machine}
+use Rattle.task_laws.proofs.Prelude.{◌≡◌, ℕ, ◌+◌, ◌/◌, ◌%◌, ◌<◌, List, slice_set, refl, sym, subst, ◌∙◌, arith, Address, SourceState, Outcome, then_do, InMemory, InTheFrame, next_place, write_byte, write_scalar, Registers, State, wrap, Does, Activation, IsReady, IsSteadyByte, Context, IsSound, address_on_machine}
 use Rattle.meaning.specs.Access.{Place}
 use Rattle.task_laws.proofs.Places.Reading.{FitsIn}
 use Rattle.task_laws.proofs.Stores.Writing.{byte_written}
+use Rattle.task_laws.proofs.Machine.Effects.{then_again}
+use Rattle.task_laws.proofs.Numbers.{wrapped_step}
 
 pub first_fits : (activation : Activation) (place : Place) → FitsIn activation 2 place → FitsIn activation 1 place
 first_fits activation (InMemory address) fits = fits
@@ -18,17 +20,7 @@ pub next_address : (activation : Activation) (place : Place)
     → address_on_machine activation (next_place place) ≡ wrap (address_on_machine activation place + 1)
 next_address activation (InMemory address) = refl
 next_address activation (InTheFrame object offset is_inside) =
-    one_on (activation.level + activation.distance object) offset
-  where
-    one_on : (n offset : ℕ) → wrap (n + (offset + 1)) ≡ wrap (wrap (n + offset) + 1)
-    one_on n offset = omega arith
-
--- one after another
-pub then_next :
-    {A B C : Type 0} (outcome : Outcome A) (first : A → SourceState → Outcome B) (second : B → SourceState → Outcome C)
-    → then_do (then_do outcome first) second ≡ then_do outcome (λ found t. then_do (first found t) second)
-then_next (Gave found t) first second = refl
-then_next (Stopped why t) first second = refl
+    wrapped_step (activation.level + activation.distance object) offset
 
 -- an ADDRESS that is written
 pub word_written :
@@ -55,7 +47,7 @@ word_written {budget = budget} {more = more} {from = from} {Good = Good} {contex
     let address : ℕ = address_on_machine context.activation place in
     let next = next_address context.activation place in
     subst (λ (outcome : Outcome _). Does program.script budget more from outcome Good)
-    (sym (then_next (write_byte program place (number % 256) s)
+    (sym (then_again (write_byte program place (number % 256) s)
     (λ _ t. write_byte program (next_place place) (number / 256) t) go))
     (byte_written place (number % 256) s (λ _ t. then_do (write_byte program (next_place place) (number / 256) t) go) sound
     (omega arith) ready (first_fits context.activation place fits)

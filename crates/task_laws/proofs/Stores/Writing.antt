@@ -17,26 +17,32 @@ set_there (first ∷ xs) zero (suc other) x d differ = refl
 set_there (first ∷ xs) (suc i) zero x d differ = refl
 set_there (first ∷ xs) (suc i) (suc other) x d differ = set_there xs i other x d (λ same. differ (ap suc same))
 
-past : (frame : List (List ℕ)) (object : ℕ) → length frame ≤ object → frame_bytes frame object ≡ []
+pub past : (frame : List (List ℕ)) (object : ℕ) → length frame ≤ object → frame_bytes frame object ≡ []
 past [] object less = refl
 past (first ∷ frame) zero less = absurd (omega (arith, less))
 past (first ∷ frame) (suc object) less = past frame object (omega (arith, less))
 
 -- an object with bytes is in the frame
-in_frame :
-    (activation : Activation) (frame : List (List ℕ)) (memory : List ℕ) (object offset : ℕ)
+pub sized_in_frame :
+    (activation : Activation) (frame : List (List ℕ)) (object offset : ℕ)
     → offset < activation.size object
-    → FrameLies activation frame memory
+    → length (frame_bytes frame object) ≡ activation.size object
     → object < length frame
-in_frame activation frame memory object offset within lies =
+sized_in_frame activation frame object offset within size =
     by_cases (cases_lt object (length frame))
   where
     by_cases : (object < length frame) ⊎ (length frame ≤ object) → object < length frame
     by_cases (inl less) = less
     by_cases (inr more) =
-        let size = lies.sizes object in
         let none : length (frame_bytes frame object) ≡ 0 = ap (λ (xs : List ℕ). length xs) (past frame object more) in
         absurd (omega (arith, size, none, within))
+
+in_frame :
+    (activation : Activation) (frame : List (List ℕ)) (memory : List ℕ) (object offset : ℕ)
+    → offset < activation.size object
+    → FrameLies activation frame memory
+    → object < length frame
+in_frame activation frame memory object offset within lies = sized_in_frame activation frame object offset within (lies.sizes object)
 
 -- a byte of the frame on both sides
 put_frame :

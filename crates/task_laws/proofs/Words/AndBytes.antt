@@ -1,17 +1,17 @@
 -- AND of two ADDRESSes, one of them below 256: the result fits a byte.
-use Rattle.task_laws.proofs.Prelude.{◌≡◌, ℕ, ◌+◌, ◌*◌, ◌%◌, ◌<◌, ◌≤◌, ◌⊎◌, inl, inr, max, Bool, true, false, ◌||◌, List, ◌++◌, Option, Some, None, option_map, length, bit_and, refl, ap, subst, arith, slice_get_past, and_le_l, and_le_r, Address, height_of, BinaryNode, TypedExpression, SourceState, Gave, then_do, And, Registers, Expression, ExpressionNumber, IsExpression, IsNode, keeps_none, Does, at_place, Arrives, HasRoom, Facts, low, extension_steps, expression, is_free, keeps, number_of, fits_byte, low_number, Operands, knowing, byte_operation_steps, form_of, from_number_steps, in_form_steps, with_number_steps, is_of_bytes, Context, IsSound, nodes_in, StepsStand, ByteIsGiven, PartDoes, WordIsGiven}
+use Rattle.task_laws.proofs.Prelude.{◌≡◌, ℕ, ◌+◌, ◌*◌, ◌<◌, ◌≤◌, ◌⊎◌, inl, inr, max, true, false, List, ◌++◌, Option, Some, None, option_map, length, bit_and, refl, ap, subst, arith, slice_get_past, and_le_l, and_le_r, Address, height_of, BinaryNode, TypedExpression, SourceState, Gave, then_do, And, Registers, Expression, ExpressionNumber, IsExpression, IsNode, keeps_none, Does, at_place, Arrives, HasRoom, Facts, low, extension_steps, expression, is_free, keeps, number_of, fits_byte, low_number, Operands, knowing, byte_operation_steps, form_of, from_number_steps, in_form_steps, with_number_steps, is_of_bytes, Context, IsSound, nodes_in, StepsStand, ByteIsGiven, PartDoes, WordIsGiven, or_cases, same_given, given_again}
 use Rattle.trees.specs.declared.expression.BinaryOperator.TheVariants as operators
 use Rattle.task_laws.proofs.Words.AndNumbers.{extended_then}
 use Rattle.task_laws.proofs.Bytes.BytesAsked.{BytesAsked}
 use Rattle.task_laws.proofs.Places.Fitting.{gave_first}
 use Rattle.task_laws.proofs.Words.LogicPairs.{LogicGiven}
 use Rattle.task_laws.proofs.Ranges.Ranges.{bytes_fit_after, fits_means, ready_fits}
-use Rattle.task_laws.proofs.Loads.Loads.{given_last}
 use Rattle.task_laws.proofs.Machine.Rules.{GoesOn, Parted, split}
 use Rattle.task_laws.proofs.Machine.SiteNodes.{value_in}
 use Rattle.task_laws.proofs.Machine.Stages.{at_carried, script_of}
 use Rattle.task_laws.proofs.Bytes.TwoBytes.{two_bytes}
 use Rattle.task_laws.proofs.Words.WordSums.{TwoWords}
+use Rattle.task_laws.proofs.Numbers.{equals_byte}
 
 -- a number without an expression: nothing is promised about the registers that its code keeps
 abbrev pub no_expression : Context → ExpressionNumber
@@ -40,21 +40,11 @@ least a b = omega arith
 least_too : (a b : ℕ) → b ≤ max a b
 least_too a b = omega arith
 
-same_given : {x y : ℕ} {t u : SourceState} → Gave x t ≡ Gave y u → x ≡ y
-same_given same = cc
-
 and_left : (x y : ℕ) → x < 256 → bit_and x y < 256
 and_left x y small = let less : bit_and x y ≤ x = and_le_l x y in omega (arith, less, small)
 
 and_right : (x y : ℕ) → y < 256 → bit_and x y < 256
 and_right x y small = let less : bit_and x y ≤ y = and_le_r x y in omega (arith, less, small)
-
-one_of : (a b : Bool) → (a || b) ≡ true → (a ≡ true) ⊎ (b ≡ true)
-one_of true b is = inl refl
-one_of false b is = inr is
-
-whole_byte : (a n : ℕ) → a ≡ n % 256 → n < 256 → a ≡ n
-whole_byte a n same small = omega (arith, same, small)
 
 pub of_bytes_does :
     {context : Context} {pushed top need to : ℕ} {base : List ℕ} {facts last : Facts}
@@ -77,7 +67,7 @@ unfolding byte_operation_steps low_number is_of_bytes
 of_bytes_does {context = context} {pushed = pushed} {top = top} {need = need} {to = to} {base = base} {facts = facts} {last = last} {first = first} {second = second} operands number from s r memory sound asked words bytes right_none left_none none less room height stand going =
     subst (λ outcome. Does (script_of context) s.budget 0 (at_place from r memory s.events) outcome
     (Arrives context.activation top base to (WordIsGiven context last number Address r memory)))
-    (given_last (value_in context (BinaryNode Address operators.And first second) s))
+    (given_again (value_in context (BinaryNode Address operators.And first second) s))
     (at_carried from parts.middle parts.found
     (two_bytes context facts parts.found from parts.middle pushed (max words.one.bound words.two.bound) (no_expression context)
     operands.left operands.right Address first second And (BinaryNode Address operators.And first second) asked sound
@@ -88,7 +78,7 @@ of_bytes_does {context = context} {pushed = pushed} {top = top} {need = need} {t
     (λ n now ended (given : ByteIsGiven context parts.found (no_expression context) Address r memory n now ended). given.known)
     (record { below = less; room = room; ready = going.ready; known = going.known })
     (λ n t now ended same given next.
-    extended_then number sound none n t r now memory ended (small n t same) (whole_byte now.a n given.a (small n t same)) parts.second next))
+    extended_then number sound none n t r now memory ended (small n t same) (equals_byte now.a n given.a (small n t same)) parts.second next))
   where
     by_number :
         (one other : Option ℕ)
@@ -123,7 +113,7 @@ of_bytes_does {context = context} {pushed = pushed} {top = top} {need = need} {t
         let two = gave_first (value_in context second one.t) (λ y u. Gave (bit_and one.first y) u) n t one.next in
         let source = ready_fits context s going.ready in
         subst (λ (m : ℕ). m < 256) (same_given two.next)
-        (by (one_of (fits_byte (knowing context.site facts) operands.left) (fits_byte (knowing context.site facts) operands.right) bytes)
+        (by (or_cases (fits_byte (knowing context.site facts) operands.left) (fits_byte (knowing context.site facts) operands.right) bytes)
         (λ fits. and_left one.first two.first (fits_means context sound facts s words.one.is words.one.types fits source one.is))
         (λ fits. and_right one.first two.first
         (fits_means context sound facts one.t words.two.is words.two.types fits

@@ -1,5 +1,5 @@
 -- AND of an ADDRESS and a number in HL; a byte of the number may be 0.
-use Rattle.task_laws.proofs.Prelude.{◌≡◌, ℕ, ◌*◌, ◌/◌, ◌%◌, ◌<◌, ◌≤◌, ◌==◌, nat_lt, Bool, true, false, if◌then◌else◌, List, [], ◌∷◌, ◌++◌, bit_and, refl, sym, ap, ◌∙◌, subst, arith, eqb-true, ltb-true, append_assoc, and_le_r, xor_self, and_zero_r, Address, height_of, type_of, TypedExpression, TypesHold, SourceState, Gave, then_do, AccumulateImmediate, And, A, H, L, Registers, ExpressionNumber, IsExpression, keeps_none, Does, at_place, Arrives, HasRoom, Facts, Step, Plain, clear_a, copy, high, low, set, extension_steps, part_of, plain, keeps, immediate_steps, with_number_steps, knowing, high_byte_steps, and_with_number_steps, both_halves_steps, high_half_steps, logic_with_number_steps, Context, IsSound, nodes_in, StepsStand, PartThere, Carries, Nothing, PartDoes, WordIsGiven}
+use Rattle.task_laws.proofs.Prelude.{◌≡◌, ℕ, ◌*◌, ◌/◌, ◌%◌, ◌<◌, ◌≤◌, ◌==◌, nat_lt, Bool, true, false, if◌then◌else◌, List, [], ◌∷◌, ◌++◌, bit_and, refl, sym, ap, ◌∙◌, subst, arith, eqb-true, ltb-true, append_assoc, and_le_r, xor_self, and_zero_r, Address, height_of, type_of, TypedExpression, TypesHold, SourceState, Gave, then_do, AccumulateImmediate, And, A, H, L, Registers, ExpressionNumber, IsExpression, keeps_none, Does, at_place, Arrives, HasRoom, Facts, Step, Plain, clear_a, copy, high, low, set, extension_steps, part_of, plain, keeps, immediate_steps, with_number_steps, knowing, high_byte_steps, and_with_number_steps, both_halves_steps, high_half_steps, logic_with_number_steps, Context, IsSound, nodes_in, StepsStand, PartThere, Carries, Nothing, PartDoes, WordIsGiven, byte_is_low}
 use Rattle.steps8080.specs.declared.step.Task.TheVariants as tasks
 use Rattle.task_laws.proofs.Bytes.BytesAsked.{HighIsGiven}
 use Rattle.task_laws.proofs.Words.LogicNumbers.{and_full, bits_high, bits_low, halves_do}
@@ -11,6 +11,7 @@ use Rattle.task_laws.proofs.Machine.SiteNodes.{value_in}
 use Rattle.task_laws.proofs.Machine.Stages.{Stage, at_byte, at_carried, at_effects, at_end, at_instructions, script_of}
 use Rattle.task_laws.proofs.Machine.Values.{HasWord, word_given}
 use Rattle.task_laws.proofs.Bytes.Zeros.{low_mask}
+use Rattle.task_laws.proofs.Numbers.{byte_is_word, no_high_byte}
 
 -- the high byte of a value, 0 for a BYTE, is put into A
 abbrev pub HighHalvesGiven : Context → Type 0
@@ -28,18 +29,12 @@ nothing_left x n small none = ap (bit_and x) (zero_is n small none) ∙ and_zero
     zero_is : (n : ℕ) → n < 256 → n % 256 ≡ 0 → n ≡ 0
     zero_is n small none = omega (arith, small, none)
 
-no_high : (n : ℕ) → n < 256 → 0 ≡ n / 256
-no_high n small = omega (arith, small)
-
-all_low : (n : ℕ) → n < 256 → n ≡ n % 256
-all_low n small = omega (arith, small)
-
 and_under : (x n limit : ℕ) → n < limit → bit_and x n < limit
 and_under x n limit small = let less : bit_and x n ≤ n = and_le_r x n in omega (arith, less, small)
 
 -- a byte in A is put into HL
 pub extended : (n : ℕ) (now : Registers) → n < 256 → now.a ≡ n → HasWord n (effect (copy L A ∷ set H 0 ∷ []) now)
-extended n now small same = record { h = no_high n small; l = same ∙ all_low n small }
+extended n now small same = record { h = no_high_byte n small; l = same ∙ byte_is_low n small }
 
 module _
     {context : Context} {top pushed need to : ℕ} {base : List ℕ} {last : Facts} (number : ExpressionNumber)
@@ -56,11 +51,8 @@ module _
   extended_then n t r now memory ended small same stand stage =
       at_instructions (copy L A ∷ set H 0 ∷ []) [] sound (tt, (tt, tt)) stand stage
       (λ middle found ends next. at_end ends next
-      (λ final. word_given t (below n small) (extended n now small same) (kept_none context number r _ none)
+      (λ final. word_given t (byte_is_word n small) (extended n now small same) (kept_none context number r _ none)
       (record { ready = final.ready; known = final.known })))
-    where
-      below : (n : ℕ) → n < 256 → n < 65536
-      below n small = omega (arith, small)
 
   module _ {facts : Facts} {other : ExpressionNumber} {tree : TypedExpression} (operand : IsOperand context other tree) where
     -- the low byte AND a number below 256

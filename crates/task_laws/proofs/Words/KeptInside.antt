@@ -11,7 +11,7 @@ pub record IsKeptBy (less more : Keeps) : Type 0 where
 pub kept_same : (keeps : Keeps) → IsKeptBy keeps keeps
 kept_same keeps = record { a = λ is. is; de = λ is. is }
 
-kept_nothing : (more : Keeps) → IsKeptBy keeps_none more
+pub kept_nothing : (more : Keeps) → IsKeptBy keeps_none more
 kept_nothing more = record { a = λ is. absurd (false≢true is); de = λ is. absurd (false≢true is) }
 
 abbrev in_memory : Nodes → Option Reference → Keeps

@@ -1,5 +1,5 @@
 -- Shifts of an ADDRESS left by a number.
-use Rattle.task_laws.proofs.Prelude.{◌≡◌, ℕ, ◌+◌, ◌-◌, ◌*◌, ◌/◌, ◌%◌, ◌^◌, ◌<◌, ◌≤◌, Bool, true, false, nat_le, if◌then◌else◌, List, [], ◌∷◌, ◌++◌, replicate, Some, pow-add, refl, sym, ap, ◌∙◌, subst, arith, leb-true, leb-false, lt-ltb, le-ltb, Address, ShiftLeft, height_of, TypedExpression, value, SourceState, Gave, then_do, shifted, Instr, Dad, Hl, A, H, L, Registers, LoadPair, ExpressionNumber, Number, keeps_at, keeps_none, keeps_of_shift, Does, at_place, Arrives, HasRoom, Facts, Step, copy, set, part_of, plain, repeat_steps, keeps, Context, IsSound, nodes_in, StepsStand, PartThere, WordThere, PartDoes, WordIsGiven}
+use Rattle.task_laws.proofs.Prelude.{◌≡◌, ℕ, ◌+◌, ◌-◌, ◌*◌, ◌/◌, ◌%◌, ◌^◌, ◌<◌, ◌≤◌, Bool, true, false, nat_le, if◌then◌else◌, List, [], ◌∷◌, ◌++◌, replicate, Some, pow-add, refl, sym, ap, ◌∙◌, subst, arith, leb-true, leb-false, lt-ltb, le-ltb, Address, ShiftLeft, height_of, TypedExpression, value, SourceState, Gave, then_do, shifted, Instr, Dad, Hl, A, H, L, Registers, LoadPair, ExpressionNumber, Number, keeps_at, keeps_none, keeps_of_shift, Does, at_place, Arrives, HasRoom, Facts, Step, copy, set, part_of, plain, repeat_steps, keeps, Context, IsSound, nodes_in, StepsStand, PartThere, WordThere, PartDoes, WordIsGiven, left_far_number}
 use Rattle.steps8080.specs.declared.step.Task.TheVariants as tasks
 use Rattle.exprgen8080.specs.WordShifts.{shifted_left_steps, zero_steps}
 use Rattle.task_laws.proofs.Machine.Addresses.{registers_end}
@@ -11,16 +11,7 @@ use Rattle.task_laws.proofs.Words.PairedWords.{kept_none}
 use Rattle.task_laws.proofs.Words.WordArithmetic.{word_below}
 use Rattle.task_laws.proofs.Words.WordSums.{kept_as, kept_beside}
 use Rattle.task_laws.proofs.Words.Multiples.{by_high_byte, doubled_is, low_word_small, repeated, repeated_on}
-
-past_a_word : (x p : ℕ) → (x * (65536 * p)) % 65536 ≡ 0
-past_a_word x p = omega arith
-
--- by 16 bits or more nothing is left
-pub none_left : (x count : ℕ) → 16 ≤ count → (x * 2 ^ count) % 65536 ≡ 0
-none_left x count most =
-    let more : count ≡ 16 + (count - 16) = omega (arith, most) in
-    ap (λ n. (x * 2 ^ n) % 65536) more ∙ ap (λ p. (x * p) % 65536) (pow-add 2 16 (count - 16))
-    ∙ past_a_word x (2 ^ (count - 16))
+use Rattle.task_laws.proofs.Numbers.{high_of_shifted, low_of_shifted, product_is_word}
 
 by_eight_bits : (x count : ℕ) → 8 ≤ count
     → (256 * (x % 256) * 2 ^ (count - 8)) % 65536 ≡ (x * 2 ^ count) % 65536
@@ -28,9 +19,6 @@ by_eight_bits x count most =
     let more : 8 + (count - 8) ≡ count = omega (arith, most) in
     by_high_byte x (2 ^ (count - 8))
     ∙ ap (λ p. (x * p) % 65536) (sym (pow-add 2 8 (count - 8)) ∙ ap (λ n. 2 ^ n) more)
-
-shifted_small : (x p : ℕ) → (x * p) % 65536 < 65536
-shifted_small x p = omega arith
 
 -- 0, after the effects of an expression
 pub zero_does :
@@ -66,12 +54,6 @@ zero_does {context = context} f number from s r memory sound none operand kept l
           going_on.ready;
       known = known_now;
     })))
-
-high_is : (a x : ℕ) → a ≡ x % 256 → a ≡ (256 * (x % 256)) / 256
-high_is a x same = omega (arith, same)
-
-low_is : (x : ℕ) → 0 ≡ (256 * (x % 256)) % 256
-low_is x = omega arith
 
 -- a shift to the left by a number
 pub left_does :
@@ -113,7 +95,7 @@ left_does {context = context} {pushed = pushed} {top = top} {need = need} {to = 
         (subst (λ (steps : List Step). StepsStand context (PartDoes context) found middle steps last to) (repeated (Dad Hl) count) rest)
         going_on
         (λ going_last.
-        word_given t (shifted_small x (2 ^ count)) (record { h = beside.h; l = beside.l })
+        word_given t (product_is_word x (2 ^ count)) (record { h = beside.h; l = beside.l })
         (kept_as context number other r (effect doubled now)
         (kept ∙ ap (λ (test : Bool). if test then keeps_at (nodes_in context) other else keeps_none) (lt-ltb count 8 (leb-false 8 count is)))
         (kept_beside (effect doubled now) given beside.a beside.d beside.e)) going_last))
@@ -123,7 +105,7 @@ left_does {context = context} {pushed = pushed} {top = top} {need = need} {to = 
         let begun : Registers = effect (copy H A ∷ set L 0 ∷ []) now in
         let doubled : List Instr = replicate (count - 8) (Dad Hl) in
         let beside = doubled_is (count - 8) (256 * (x % 256)) begun (low_word_small x)
-        (record { h = high_is now.a x given.a; l = low_is x }) in
+        (record { h = high_of_shifted now.a x given.a; l = low_of_shifted x }) in
         let most = leb-true 8 count is in
         registers_then (copy H A ∷ set L 0 ∷ []) (repeat_steps (Dad Hl) (count - 8)) now sound (tt, (tt, tt)) rest going_on
         (λ after after_found stand_on going_still.
@@ -131,7 +113,7 @@ left_does {context = context} {pushed = pushed} {top = top} {need = need} {to = 
         (subst (λ (steps : List Step). StepsStand context (PartDoes context) after_found after steps last to) (repeated (Dad Hl) (count - 8)) stand_on)
         going_still
         (λ going_last.
-        word_given t (shifted_small x (2 ^ count))
+        word_given t (product_is_word x (2 ^ count))
         (record {
           h = beside.h ∙ ap (λ n. n / 256) (by_eight_bits x count most);
           l = beside.l ∙ ap (λ n. n % 256) (by_eight_bits x count most);
@@ -149,6 +131,6 @@ left_does {context = context} {pushed = pushed} {top = top} {need = need} {to = 
         (Arrives context.activation top base to (WordIsGiven context last number Address r memory))
     by_word true is given =
         let most = leb-true 16 count is in
-        zero_does (λ x. (x * 2 ^ count) % 65536) number from s r memory sound (λ x t same. none_left x count most) operand
+        zero_does (λ x. (x * 2 ^ count) % 65536) number from s r memory sound (λ x t same. left_far_number x count most) operand
         (none_kept (omega (arith, most))) less room height given going
     by_word false is given = by_byte (nat_le 8 count) refl given

@@ -5,13 +5,14 @@ use Rattle.task_laws.proofs.Machine.KnownOperands.{number_known, number_small}
 use Rattle.task_laws.proofs.Words.Pairs.{same_rest}
 use Rattle.task_laws.proofs.Words.PairedWords.{byte_instructions, paired_does}
 use Rattle.task_laws.proofs.Words.WordSums.{TwoWords, first_known, less_high, one_high, second_known, two_high}
-use Rattle.task_laws.proofs.Words.WordBinaries.{bytes_on, number_below, pairs_same}
+use Rattle.task_laws.proofs.Words.WordBinaries.{bytes_on, pairs_same}
 use Rattle.task_laws.proofs.Words.LogicPairs.{LogicGiven, bits_turned, logic_makes}
 use Rattle.task_laws.proofs.Words.AndBytes.{of_bytes_does}
 use Rattle.task_laws.proofs.Words.AndNumbers.{HighHalvesGiven, and_number_does}
 use Rattle.task_laws.proofs.Bytes.BytesAsked.{BytesAsked}
 use Rattle.task_laws.proofs.Words.LogicNumbers.{bits, bits_small}
 use Rattle.task_laws.proofs.Words.SimpleLogic.{with_simple_does}
+use Rattle.task_laws.proofs.Numbers.{address_is_word}
 
 -- if AND does not fit a byte, no operand does
 no_byte_left : (one other : Bool) → (one || other) ≡ false → one ≡ true → ⊥
@@ -94,7 +95,7 @@ and_does {context = context} {pushed = pushed} {top = top} {need = need} {to = t
         (λ y u. Gave (bits And n y) u) (λ y u. Gave (bits And y n) u)
         (λ y u. ap (λ m. Gave m u) (bits_turned And n y))))
         (and_number_does number sound none words.two n from s r memory highs words.two_is
-        (number_below n (type_of first) words.one_is (number_small facts n sound words.one.is words.one.types here))
+        (address_is_word n (type_of first) words.one_is (number_small facts n sound words.one.is words.one.types here))
         less room (less_high (height_of first) (height_of second) need height) stand going)
     by_left None here right_none stand =
         by_bytes (is_of_bytes (knowing context.site facts) And operands) refl right_none here stand
@@ -114,6 +115,6 @@ and_does {context = context} {pushed = pushed} {top = top} {need = need} {to = t
         (sym (second_known first facts (Number n) (λ x y u. Gave (bits And x y) u) s sound words.two
         (number_known context facts operands.right n here)))
         (and_number_does number sound none words.one n from s r memory highs words.one_is
-        (number_below n (type_of second) words.two_is (number_small facts n sound words.two.is words.two.types here))
+        (address_is_word n (type_of second) words.two_is (number_small facts n sound words.two.is words.two.types here))
         less room (one_high (height_of first) (height_of second) need height) stand going)
     by_right None here stand = by_left (number_of (knowing context.site facts) operands.left) refl here stand

@@ -1,5 +1,5 @@
 -- AND, OR and XOR of an ADDRESS and a number, byte by byte.
-use Rattle.task_laws.proofs.Prelude.{◌≡◌, ℕ, ◌-◌, ◌*◌, ◌/◌, ◌%◌, ◌<◌, ◌≤◌, ◌==◌, Bool, true, false, if◌then◌else◌, List, [], ◌∷◌, ◌++◌, bit_and, bit_or, bit_xor, refl, sym, ap, ◌∙◌, subst, arith, eqb-true, and_le_l, or_of_16, xor_of_16, Address, height_of, TypedExpression, value, SourceState, Gave, then_do, Instr, AccumulateImmediate, Cma, Operation, And, ExclusiveOr, Or, A, H, L, Registers, ExpressionNumber, keeps_none, Does, at_place, Arrives, HasRoom, Facts, Step, Plain, copy, set, part_of, plain, keeps, both_halves_steps, half_steps, half_through_a_steps, equal_below, Context, IsSound, StepsStand, PartDoes, WordIsGiven}
+use Rattle.task_laws.proofs.Prelude.{◌≡◌, ℕ, ◌-◌, ◌*◌, ◌/◌, ◌%◌, ◌<◌, ◌≤◌, ◌==◌, Bool, true, false, if◌then◌else◌, List, [], ◌∷◌, ◌++◌, bit_and, bit_or, bit_xor, refl, sym, ap, ◌∙◌, subst, arith, eqb-true, and_le_l, or_of_16, xor_of_16, Address, height_of, TypedExpression, value, SourceState, Gave, then_do, Instr, AccumulateImmediate, Cma, Operation, And, ExclusiveOr, Or, A, H, L, Registers, ExpressionNumber, keeps_none, Does, at_place, Arrives, HasRoom, Facts, Step, Plain, copy, set, part_of, plain, keeps, both_halves_steps, half_steps, half_through_a_steps, equal_below, Context, IsSound, StepsStand, PartDoes, WordIsGiven, low_is_byte}
 use Rattle.steps8080.specs.declared.step.Task.TheVariants as tasks
 use Rattle.task_laws.proofs.Machine.Rules.{GoesOn}
 use Rattle.task_laws.proofs.Machine.RegisterCode.{AreOnRegisters, effect}
@@ -8,6 +8,7 @@ use Rattle.task_laws.proofs.Words.Pairs.{IsOperand}
 use Rattle.task_laws.proofs.Words.WordForms.{straight_does}
 use Rattle.task_laws.proofs.Words.WordArithmetic.{and_high, and_low, or_high, or_low, xor_high, xor_low}
 use Rattle.task_laws.proofs.Words.Multiples.{both_on, effect_on, plain_on}
+use Rattle.task_laws.proofs.Numbers.{half_is_byte}
 
 -- the operations on bits
 abbrev pub IsLogic : Operation → Type 0
@@ -226,12 +227,6 @@ bits_small Or x n is one two = or_of_16 x n one two
 bits_small ExclusiveOr x n is one two = xor_of_16 x n one two
 bits_small operation x n is one two = absurd is
 
-byte_small : (l x : ℕ) → l ≡ x % 256 → l < 256
-byte_small l x same = omega (arith, same)
-
-high_small : (h x : ℕ) → h ≡ x / 256 → x < 65536 → h < 256
-high_small h x same small = omega (arith, same, small)
-
 -- AND, OR or XOR of a value and a number, byte by byte
 pub halves_do :
     {context : Context} {pushed top need to : ℕ} {base : List ℕ} {facts last : Facts}
@@ -257,9 +252,9 @@ halves_do {context = context} {pushed = pushed} {to = to} {facts = facts} {last 
     (both_on one.instructions two.instructions one.on two.on)
     (λ x now small has.
     let middle : Registers = effect one.instructions now in
-    let low_made = one.makes now (byte_small now.l x has.l) in
+    let low_made = one.makes now (low_is_byte now.l x has.l) in
     let h_same : middle.h ≡ x / 256 = low_made.1 ∙ has.h in
-    let high_made = two.makes middle (high_small middle.h x h_same small) in
+    let high_made = two.makes middle (half_is_byte middle.h x h_same small) in
     subst (λ (after : Registers). HasWord (bits operation x n) after) (sym (effect_on one.instructions two.instructions now))
     (record {
       h = high_made.0 ∙ ap (λ h. bits operation h (n / 256)) h_same ∙ bits_high operation x n is;

@@ -5,8 +5,9 @@ use Rattle.task_laws.proofs.Machine.KnownOperands.{number_known, number_small}
 use Rattle.task_laws.proofs.Words.Pairs.{same_rest}
 use Rattle.task_laws.proofs.Words.PairedWords.{Makes, and_makes, byte_instructions, or_makes, paired_does, xor_makes}
 use Rattle.task_laws.proofs.Words.WordSums.{TwoWords, first_known, less_high, one_high, second_known, two_high}
-use Rattle.task_laws.proofs.Words.WordBinaries.{bytes_on, number_below, pairs_same}
+use Rattle.task_laws.proofs.Words.WordBinaries.{bytes_on, pairs_same}
 use Rattle.task_laws.proofs.Words.LogicNumbers.{IsLogic, bits, bits_small, halves_do}
+use Rattle.task_laws.proofs.Numbers.{address_is_word}
 
 -- OR or XOR
 abbrev pub IsEither : Operation → Type 0
@@ -107,7 +108,7 @@ either_does {context = context} {pushed = pushed} {top = top} {need = need} {to 
         (λ y u. Gave (bits operation n y) u) (λ y u. Gave (bits operation y n) u)
         (λ y u. ap (λ m. Gave m u) (bits_turned operation n y))))
         (halves_do operation n number from s r memory sound (either_logic operation is)
-        (number_below n (type_of first) words.one_is (number_small facts n sound words.one.is words.one.types here))
+        (address_is_word n (type_of first) words.one_is (number_small facts n sound words.one.is words.one.types here))
         words.two none less room (less_high (height_of first) (height_of second) need height)
         (subst (λ steps. StepsStand context (PartDoes context) facts from steps last to)
         (with_number_is (knowing context.site facts) operation operands.right n pushed is) stand) going)
@@ -135,7 +136,7 @@ either_does {context = context} {pushed = pushed} {top = top} {need = need} {to 
         (sym (second_known first facts (Number n) (λ x y u. Gave (bits operation x y) u) s sound words.two
         (number_known context facts operands.right n here)))
         (halves_do operation n number from s r memory sound (either_logic operation is)
-        (number_below n (type_of second) words.two_is (number_small facts n sound words.two.is words.two.types here))
+        (address_is_word n (type_of second) words.two_is (number_small facts n sound words.two.is words.two.types here))
         words.one none less room (one_high (height_of first) (height_of second) need height)
         (subst (λ steps. StepsStand context (PartDoes context) facts from steps last to)
         (with_number_is (knowing context.site facts) operation operands.left n pushed is) stand) going)

@@ -1,5 +1,5 @@
 -- HL times a number, by sums.
-use Rattle.task_laws.proofs.Prelude.{◌≡◌, ℕ, zero, suc, ◌+◌, ◌*◌, ◌/◌, ◌%◌, ◌^◌, ◌<◌, ◌≤◌, ◌==◌, Bool, true, false, ◌||◌, if◌then◌else◌, List, [], ◌∷◌, ◌++◌, replicate, Option, Some, None, refl, sym, ap, ◌∙◌, subst, arith, eqb-true, eqb-false, eq-eqb, false≢true, true≢false, lt-ltb, div-div-eq-div-mul, pow-suc, Event, value, SourceState, Outcome, Gave, Stopped, then_do, Instr, Dad, Bc, Hl, B, C, H, L, Registers, State, high_byte, low_byte, word, wrap, LoadPair, ExpressionNumber, Number, Does, at_place, Arrives, gives, Facts, Part, Step, Plain, Word, copy, set, part_of, plain, repeat_steps, power_from, power_of_two, bit_steps, chain_from, chain_steps, has_bit, multiple_steps, product_steps, small_multiple_steps, Context, IsSound, StepsStand, PartThere, WordThere, PartDoes}
+use Rattle.task_laws.proofs.Prelude.{◌≡◌, ℕ, zero, suc, ◌+◌, ◌*◌, ◌/◌, ◌%◌, ◌^◌, ◌<◌, ◌≤◌, ◌==◌, Bool, true, false, ◌||◌, if◌then◌else◌, List, [], ◌∷◌, ◌++◌, replicate, Option, Some, None, refl, sym, ap, ◌∙◌, subst, arith, eqb-true, eqb-false, eq-eqb, false≢true, true≢false, lt-ltb, div-div-eq-div-mul, pow-suc, Event, value, SourceState, Outcome, Gave, Stopped, then_do, Instr, Dad, Bc, Hl, B, C, H, L, Registers, State, high_byte, low_byte, word, wrap, LoadPair, ExpressionNumber, Number, Does, at_place, Arrives, gives, Facts, Part, Step, Plain, Word, copy, set, part_of, plain, repeat_steps, power_from, power_of_two, bit_steps, chain_from, chain_steps, has_bit, multiple_steps, product_steps, small_multiple_steps, Context, IsSound, StepsStand, PartThere, WordThere, PartDoes, same_Some, suc_moved, word_from_halves}
 use Rattle.steps8080.specs.declared.step.Task.TheVariants as tasks
 use Rattle.task_laws.proofs.Machine.Addresses.{nothing_goes, registers_end}
 use Rattle.task_laws.proofs.Machine.Rules.{GoesOn, ready_with_registers, word_goes}
@@ -7,6 +7,7 @@ use Rattle.task_laws.proofs.Places.Products.{ProductDoes, ProductIsGiven, Produc
 use Rattle.task_laws.proofs.Words.WordArithmetic.{word_below}
 use Rattle.task_laws.proofs.Machine.RegisterCode.{AreOnRegisters, IsOnRegisters, does_to, effect, registers_then}
 use Rattle.task_laws.proofs.Machine.Values.{HasWord, effects_then, word_then}
+use Rattle.task_laws.proofs.Numbers.{high_of_shifted, low_of_shifted, one_alone, twice_none}
 
 -- HL is a word, and A and DE are kept
 pub record WordBeside (n : ℕ) (r now : Registers) : Type 0 where
@@ -47,11 +48,8 @@ repeats P i zero before r turn holds = subst (λ (n : ℕ). P n r) (no_more befo
     no_more : (n : ℕ) → n ≡ n + 0
     no_more n = omega arith
 repeats P i (suc count) before r turn holds =
-    subst (λ (n : ℕ). P n (effect (replicate count i) (does_to i r))) (one_on before count)
+    subst (λ (n : ℕ). P n (effect (replicate count i) (does_to i r))) (suc_moved before count)
     (repeats P i count (suc before) (does_to i r) turn (turn before r holds))
-  where
-    one_on : (n k : ℕ) → suc n + k ≡ n + suc k
-    one_on n k = omega arith
 
 doubled_high : (h l x p : ℕ) → h ≡ ((x * p) % 65536) / 256 → l ≡ ((x * p) % 65536) % 256
     → high_byte (wrap (word h l + word h l)) ≡ ((x * (p * 2)) % 65536) / 256
@@ -85,9 +83,6 @@ doubled_is count x r small has =
     none_before : (n : ℕ) → 0 + n ≡ n
     none_before n = omega arith
 
-same_some : (n m : ℕ) → Some n ≡ Some m → n ≡ m
-same_some n m e = cc
-
 -- a number that is found to be a power of 2
 pub power_is : (count power number found : ℕ) → power_from count power number ≡ Some found → number ≡ 2 ^ found
 power_is zero power number found same = let bad : None ≡ Some found = same in cc
@@ -98,7 +93,7 @@ power_is (suc others) power number found same =
         → (if test then Some power else power_from others (power + 1) number) ≡ Some found
         → (power_from others (power + 1) number ≡ Some found → number ≡ 2 ^ found)
         → number ≡ 2 ^ found
-    by true is same rest = eqb-true number (2 ^ power) is ∙ ap (λ (n : ℕ). 2 ^ n) (same_some power found same)
+    by true is same rest = eqb-true number (2 ^ power) is ∙ ap (λ (n : ℕ). 2 ^ n) (same_Some power found same)
     by false is same rest = rest same
 
 -- instructions of a bit, and of a chain of bits
@@ -202,9 +197,6 @@ gone_on false false x half q r now same is gone = record {
   b = gone.b;
   c = gone.c;
 }
-  where
-    twice_none : (n : ℕ) → n ≡ 0 → 2 * n ≡ 0
-    twice_none n e = omega (arith, e)
 gone_on false true x half q r now same is gone = record {
   nothing = λ bad. absurd (false≢true (sym bad));
   beside = subst (λ (n : ℕ). WordBeside ((x * n) % 65536) r now)
@@ -212,9 +204,6 @@ gone_on false true x half q r now same is gone = record {
   b = gone.b;
   c = gone.c;
 }
-  where
-    one_alone : (n : ℕ) → n ≡ 0 → 2 * n + 1 ≡ 1
-    one_alone n e = omega (arith, e)
 gone_on true false x half q r now same is gone =
     let has = gone.beside in
     record {
@@ -355,13 +344,7 @@ small_goes {budget = budget} {more = more} {outcome = outcome} {Good = Good} {co
         (subst (λ (n : ℕ). Gone ends.0 x n r (effect chain begun)) (last_quotient number) ends.1)) going_last)
 
 shifted_word : (x : ℕ) (r : Registers) → HasWord x r → HasWord (256 * (x % 256)) (effect (copy H L ∷ set L 0 ∷ []) r)
-shifted_word x r has = record { h = high_is r.l x has.l; l = low_zero x }
-  where
-    high_is : (l x : ℕ) → l ≡ x % 256 → l ≡ (256 * (x % 256)) / 256
-    high_is l x same = omega (arith, same)
-
-    low_zero : (x : ℕ) → 0 ≡ (256 * (x % 256)) % 256
-    low_zero x = omega arith
+shifted_word x r has = record { h = high_of_shifted r.l x has.l; l = low_of_shifted x }
 
 by_two : (h l k : ℕ) → (256 * l * k) % 65536 ≡ ((256 * h + l) * (256 * k)) % 65536
 by_two h l k = omega arith
@@ -431,9 +414,6 @@ multiple_goes {budget = budget} {more = more} {outcome = outcome} {Good = Good} 
 nothing_left : (x : ℕ) → 0 ≡ (x * 0) % 65536
 nothing_left x = omega arith
 
-word_back : (n h l : ℕ) → h ≡ n / 256 → l ≡ n % 256 → word h l ≡ n
-word_back n h l one two = omega (arith, one, two)
-
 -- the code of a product with a number
 pub products_do :
     (context : Context) (sound : IsSound context) (facts last : Facts) (index : ExpressionNumber)
@@ -471,7 +451,7 @@ products_do context sound facts last index stride pushed from to fits stand boun
           is_at = refl;
           ready = going_last.ready;
           holds = record {
-            hl = word_back ((x * stride) % 65536) after.h after.l beside.h beside.l;
+            hl = word_from_halves ((x * stride) % 65536) after.h after.l beside.h beside.l;
             known = going_last.known;
             a = λ kept. beside.a ∙ given.a kept;
             d = λ kept. beside.d ∙ given.d kept;

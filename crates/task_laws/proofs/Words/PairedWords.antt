@@ -1,10 +1,10 @@
 -- Operators with two operands that are put into HL and DE, and then straight-line code.
-use Rattle.task_laws.proofs.Prelude.{◌≡◌, ℕ, ◌+◌, ◌-◌, ◌*◌, ◌/◌, ◌%◌, ◌<◌, ◌≤◌, not, nat_lt, bit_and, bit_or, bit_xor, List, [], ◌∷◌, ◌++◌, append-nil, Option, sym, ap, ◌∙◌, subst, false≢true, Address, height_of, TypedExpression, SourceState, Gave, then_do, Instr, Dad, Operation, And, ExclusiveOr, Or, Subtract, SubtractWithBorrow, De, A, D, E, H, L, bit, HoldBytes, Registers, ExpressionNumber, keeps_none, Does, at_place, Arrives, HasRoom, Facts, Step, copy, with_register, plain, keeps, PairOrder, LeftInHl, RightInHl, pair_in_order_steps, pair_order_by, knowing, Context, IsSound, StepsStand, PartDoes, WordIsGiven}
+use Rattle.task_laws.proofs.Prelude.{◌≡◌, ℕ, ◌+◌, ◌-◌, ◌*◌, ◌/◌, ◌%◌, ◌<◌, ◌≤◌, not, nat_lt, bit_and, bit_or, bit_xor, List, [], ◌∷◌, ◌++◌, append-nil, Option, sym, ap, ◌∙◌, subst, false≢true, Address, height_of, TypedExpression, SourceState, Gave, then_do, Instr, Dad, Operation, And, ExclusiveOr, Or, Subtract, SubtractWithBorrow, De, A, D, E, H, L, bit, HoldBytes, Registers, ExpressionNumber, keeps_none, Does, at_place, Arrives, HasRoom, Facts, Step, copy, with_register, plain, keeps, PairOrder, LeftInHl, RightInHl, pair_in_order_steps, pair_order_by, knowing, Context, IsSound, StepsStand, PartDoes, WordIsGiven, sum_turned}
 use Rattle.task_laws.proofs.Machine.Rules.{GoesOn}
 use Rattle.task_laws.proofs.Machine.RegisterCode.{AreOnRegisters, effect, registers_then}
 use Rattle.task_laws.proofs.Machine.Values.{HasWord, KeepsThem, word_ends}
 use Rattle.task_laws.proofs.Words.Pairs.{HasPair, IsOperand, pair_then}
-use Rattle.task_laws.proofs.Words.WordArithmetic.{and_high as and_high_of, and_low as and_low_of, high_difference, low_difference, or_high as or_high_of, or_low as or_low_of, sum_high, sum_low, sum_turned, word_below, xor_high as xor_high_of, xor_low as xor_low_of}
+use Rattle.task_laws.proofs.Words.WordArithmetic.{and_high as and_high_of, and_low as and_low_of, high_difference, low_difference, or_high as or_high_of, or_low as or_low_of, sum_high, sum_low, word_below, xor_high as xor_high_of, xor_low as xor_low_of}
 
 -- nothing is kept
 pub kept_none :
@@ -88,22 +88,14 @@ byte_instructions on_low on_high LeftInHl =
 byte_instructions on_low on_high RightInHl =
     copy A E ∷ with_register on_low L ∷ copy L A ∷ copy A D ∷ with_register on_high H ∷ copy H A ∷ []
 
-difference_high_is : (x y : ℕ) → x < 65536 → y < 65536
-    → (x / 256 + (255 - y / 256) + bit (not (nat_lt (x % 256 + (255 - y % 256) + 1) 256))) % 256
-    ≡ ((x + (65536 - y)) % 65536) / 256
-difference_high_is x y one two = high_difference x y one two
-
-difference_low_is : (x y : ℕ) → y < 65536 → (x % 256 + (255 - y % 256) + 1) % 256 ≡ ((x + (65536 - y)) % 65536) % 256
-difference_low_is x y two = low_difference x y two
-
 difference_high : (h l d e x y : ℕ) → h ≡ x / 256 → l ≡ x % 256 → d ≡ y / 256 → e ≡ y % 256 → x < 65536 → y < 65536
     → (h + (255 - d) + bit (not (nat_lt (l + (255 - e) + 1) 256))) % 256 ≡ ((x + (65536 - y)) % 65536) / 256
 difference_high h l d e x y one two three four small_x small_y =
-    rw one (rw two (rw three (rw four (difference_high_is x y small_x small_y))))
+    rw one (rw two (rw three (rw four (high_difference x y small_x small_y))))
 
 difference_low : (l e x y : ℕ) → l ≡ x % 256 → e ≡ y % 256 → y < 65536
     → (l + (255 - e) + 1) % 256 ≡ ((x + (65536 - y)) % 65536) % 256
-difference_low l e x y two four small_y = rw two (rw four (difference_low_is x y small_y))
+difference_low l e x y two four small_y = rw two (rw four (low_difference x y small_y))
 
 pub difference_makes : Makes (byte_instructions Subtract SubtractWithBorrow) (λ x y. (x + (65536 - y)) % 65536)
 difference_makes LeftInHl x y r one two has = record {

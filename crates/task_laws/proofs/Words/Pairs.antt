@@ -1,5 +1,5 @@
 -- Two words, one put into HL and the other into DE.
-use Rattle.task_laws.proofs.Prelude.{◌≡◌, ℕ, ◌+◌, ◌-◌, ◌*◌, ◌/◌, ◌%◌, ◌<◌, ◌≤◌, Bool, true, false, ◌&&◌, if◌then◌else◌, List, [], ◌∷◌, ◌++◌, Option, Some, None, refl, sym, ap, ◌∙◌, subst, arith, and_parts, height_of, height_of_reference, type_of, TypedExpression, NumberNode, ValueNode, LocationNode, ListNode, ConversionNode, AssignmentNode, UnaryNode, BinaryNode, CallNode, FunctionNode, ShiftNode, InputNode, TypedReference, PartOf, TypesHold, value, SourceState, Outcome, Gave, Stopped, then_do, Xchg, De, A, D, E, StackDe, StackHl, Registers, State, wrap, LoadPair, ExpressionNumber, Place, IsExpression, Does, at_place, HasRoom, place_at, Facts, Step, copy, set, part_of, Site, is_free, keeps, known, may_exchange, expression, fits_byte, append_assoc, Choices, PairForm, RightKnown, LeftKnown, RightKeeps, LeftKeeps, PairOrder, LeftInHl, RightInHl, any_order, choices_of, form_steps, is_free_byte, left_in_hl, order_of, pair_form, pair_in_order_steps, pair_order_by, right_in_hl, wished_steps, with_byte_steps, with_exchange_steps, with_known_steps, knowing, Context, IsSound, nodes_in, StepsStand, PlainThere, WordThere, PartThere, PartDoes}
+use Rattle.task_laws.proofs.Prelude.{◌≡◌, ℕ, ◌+◌, ◌-◌, ◌*◌, ◌/◌, ◌%◌, ◌<◌, ◌≤◌, Bool, true, false, ◌&&◌, if◌then◌else◌, List, [], ◌∷◌, ◌++◌, Option, Some, None, refl, sym, ap, ◌∙◌, subst, arith, and_parts, height_of, type_of, TypedExpression, TypesHold, value, SourceState, Outcome, Gave, Stopped, then_do, Xchg, De, A, D, E, StackDe, StackHl, Registers, State, wrap, LoadPair, ExpressionNumber, Place, IsExpression, Does, at_place, HasRoom, place_at, Facts, Step, copy, set, part_of, Site, is_free, keeps, known, may_exchange, expression, fits_byte, append_assoc, Choices, PairForm, RightKnown, LeftKnown, RightKeeps, LeftKeeps, PairOrder, LeftInHl, RightInHl, any_order, choices_of, form_steps, is_free_byte, left_in_hl, order_of, pair_form, pair_in_order_steps, pair_order_by, right_in_hl, wished_steps, with_byte_steps, with_exchange_steps, with_known_steps, knowing, Context, IsSound, nodes_in, StepsStand, PlainThere, WordThere, PartThere, PartDoes}
 use Rattle.steps8080.specs.declared.step.Task.TheVariants as tasks
 use Rattle.operands8080.specs.{declared.pairs.PairForm.TheVariants.{RightFree, LeftFree, Pushed}, Pairs.{with_stack_steps}}
 use Rattle.task_laws.proofs.Machine.Rules.{GoesOn, more_pushed, pop_goes, push_goes, word_goes}
@@ -8,6 +8,8 @@ use Rattle.task_laws.proofs.Machine.KnownOperands.{known_small, word_fits}
 use Rattle.task_laws.proofs.Ranges.Ranges.{fits_means, ready_fits}
 use Rattle.task_laws.proofs.Machine.Values.{byte_then, part_first, word_then}
 use Rattle.task_laws.proofs.Machine.SiteNodes.{does_exchanged, known_means}
+use Rattle.task_laws.proofs.Numbers.{high_of_joined, low_of_joined, no_high_byte}
+use Rattle.task_laws.proofs.Heights.{some_height}
 
 -- one value is in HL, and another one in DE
 pub record HasBoth (first second : ℕ) (r : Registers) : Type 0 where
@@ -27,38 +29,11 @@ pub record IsOperand (context : Context) (of : ExpressionNumber) (tree : TypedEx
   pub is : IsExpression (nodes_in context) context.storage bound of.index tree
   pub types : TypesHold context.typed context.within tree
 
--- an expression is no lower than 1
-pub reference_height : (part : TypedReference) → 1 ≤ height_of_reference part
-reference_height (PartOf object one member offset two) = omega arith
-
-pub some_height : (tree : TypedExpression) → 1 ≤ height_of tree
-some_height (NumberNode scalar number origin) = omega arith
-some_height (ValueNode scalar reference) = reference_height reference
-some_height (LocationNode reference) = reference_height reference
-some_height (ListNode list) = omega arith
-some_height (ConversionNode scalar inner) = some_height inner
-some_height (AssignmentNode target inner) = omega arith
-some_height (UnaryNode scalar operator operand) = omega arith
-some_height (BinaryNode operands operator left right) = omega arith
-some_height (CallNode procedure scalar given) = omega arith
-some_height (FunctionNode function operand) = omega arith
-some_height (ShiftNode scalar function moved count) = omega arith
-some_height (InputNode port) = omega arith
-
 word_of_value : (n : ℕ) → n < 65536 → (256 * (n / 256) + n % 256) / 256 ≡ n / 256
 word_of_value n small = omega (arith, small)
 
-swap_height : (h l n : ℕ) → h ≡ n / 256 → l ≡ n % 256 → (256 * h + l) / 256 ≡ n / 256
-swap_height h l n one two = omega (arith, one, two)
-
-swap_low : (h l n : ℕ) → h ≡ n / 256 → l ≡ n % 256 → (256 * h + l) % 256 ≡ n % 256
-swap_low h l n one two = omega (arith, one, two)
-
 low_byte_is : (a n : ℕ) → a ≡ n % 256 → n < 256 → a ≡ n % 256
 low_byte_is a n same small = same
-
-no_high : (n : ℕ) → n < 256 → 0 ≡ n / 256
-no_high n small = omega (arith, small)
 
 -- the rest after an outcome may be replaced by an equal one
 pub same_rest : {A B : Type 0} (outcome : Outcome A) (one other : A → SourceState → Outcome B)
@@ -204,7 +179,7 @@ module _ (context : Context) (sound : IsSound context) where
       (record {
         h = only.h ∙ given.h;
         l = only.l ∙ given.l;
-        d = no_high n small;
+        d = no_high_byte n small;
         e = then_given.a;
       }))))
 
@@ -244,8 +219,8 @@ module _ (context : Context) (sound : IsSound context) where
       (record {
         h = then_given.h;
         l = then_given.l;
-        d = swap_height now.h now.l m given.h given.l;
-        e = swap_low now.h now.l m given.h given.l;
+        d = high_of_joined now.h now.l m given.h given.l;
+        e = low_of_joined now.h now.l m given.h given.l;
       })))))
 
   -- the requirement of a form
@@ -284,13 +259,10 @@ module _ (context : Context) (sound : IsSound context) where
     left_free_allowed is =
         and_parts (may_exchange (knowing context.site facts) left right) (is_free_byte (knowing context.site facts) left) is
 
-    both_true : (one other : Bool) → (one && other) ≡ true → (one ≡ true) × (other ≡ true)
-    both_true one other is = and_parts one other is
-
     any_allowed : Allowed (any_order choices)
     any_allowed =
         chosen Allowed (choices.left_keeps && choices.right_is_in_hl) LeftKeeps _
-        (λ is. left_keeps_allowed (both_true choices.left_keeps choices.right_is_in_hl is).0)
+        (λ is. left_keeps_allowed (and_parts choices.left_keeps choices.right_is_in_hl is).0)
         (λ _. chosen Allowed choices.right_keeps RightKeeps _ (λ is. is)
         (λ _. chosen Allowed choices.left_keeps LeftKeeps _ (λ is. left_keeps_allowed is)
         (λ _. chosen Allowed choices.right_is_free RightFree _ (λ is. is)
@@ -299,18 +271,18 @@ module _ (context : Context) (sound : IsSound context) where
     left_allowed : Allowed (left_in_hl choices)
     left_allowed =
         chosen Allowed (choices.left_is_in_hl && choices.right_is_free) RightFree _
-        (λ is. (both_true choices.left_is_in_hl choices.right_is_free is).1)
+        (λ is. (and_parts choices.left_is_in_hl choices.right_is_free is).1)
         (λ _. chosen Allowed (choices.left_is_in_hl && choices.right_keeps) RightKeeps _
-        (λ is. (both_true choices.left_is_in_hl choices.right_keeps is).1)
+        (λ is. (and_parts choices.left_is_in_hl choices.right_keeps is).1)
         (λ _. chosen Allowed choices.left_keeps LeftKeeps _ (λ is. left_keeps_allowed is)
         (λ _. chosen Allowed choices.right_is_free RightFree (any_order choices) (λ is. is) (λ _. any_allowed))))
 
     right_allowed : Allowed (right_in_hl choices)
     right_allowed =
         chosen Allowed (choices.right_is_in_hl && choices.left_is_free) LeftFree _
-        (λ is. left_free_allowed (both_true choices.right_is_in_hl choices.left_is_free is).1)
+        (λ is. left_free_allowed (and_parts choices.right_is_in_hl choices.left_is_free is).1)
         (λ _. chosen Allowed (choices.right_is_in_hl && choices.left_keeps) LeftKeeps _
-        (λ is. left_keeps_allowed (both_true choices.right_is_in_hl choices.left_keeps is).1)
+        (λ is. left_keeps_allowed (and_parts choices.right_is_in_hl choices.left_keeps is).1)
         (λ _. chosen Allowed choices.right_keeps RightKeeps _ (λ is. is)
         (λ _. chosen Allowed choices.left_is_free LeftFree (any_order choices) (λ is. left_free_allowed is) (λ _. any_allowed))))
 

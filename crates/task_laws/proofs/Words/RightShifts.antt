@@ -1,5 +1,5 @@
 -- Shifts of an ADDRESS right by a number, in HL.
-use Rattle.task_laws.proofs.Prelude.{◌≡◌, ℕ, ◌+◌, ◌-◌, ◌*◌, ◌/◌, ◌%◌, ◌^◌, ◌<◌, ◌≤◌, ◌==◌, nat_le, Bool, true, false, if◌then◌else◌, List, [], ◌∷◌, ◌++◌, refl, sym, ap, ◌∙◌, subst, arith, eqb-true, leb-true, leb-false, append_assoc, xor_self, ScalarType, Address, ShiftRight, height_of, type_of, TypedExpression, SourceState, Gave, then_do, values_of, Instr, AccumulateImmediate, Rar, Rrc, And, ExclusiveOr, Or, A, H, L, Registers, by_eight, half_small, halves, none_left, quarter_high_small, quarter_low_small, quarters, none_right, ExpressionNumber, keeps_none, Does, at_place, Arrives, HasRoom, Facts, Step, CallRoutine, Plain, clear_a, copy, set, with_register, extension_steps, part_of, plain, keeps, fits_byte, byte_shifted_right_steps, right_shift_steps, byte_zero_steps, knowing, high_byte_steps, quarter_steps, shifted_right_little_steps, word_routine, word_shifted_right_steps, Context, IsSound, StepsStand, PartThere, PartDoes, WordIsGiven}
+use Rattle.task_laws.proofs.Prelude.{◌≡◌, ℕ, ◌+◌, ◌-◌, ◌*◌, ◌/◌, ◌%◌, ◌^◌, ◌<◌, ◌≤◌, ◌==◌, nat_le, Bool, true, false, if◌then◌else◌, List, [], ◌∷◌, ◌++◌, refl, sym, ap, ◌∙◌, subst, arith, eqb-true, leb-true, leb-false, append_assoc, xor_self, Address, ShiftRight, height_of, type_of, TypedExpression, SourceState, Gave, then_do, Instr, AccumulateImmediate, Rar, Rrc, And, ExclusiveOr, Or, A, H, L, Registers, by_eight, half_small, halves, none_left, quarter_high_small, quarter_low_small, quarters, none_right, ExpressionNumber, keeps_none, Does, at_place, Arrives, HasRoom, Facts, Step, CallRoutine, Plain, clear_a, copy, set, with_register, extension_steps, part_of, plain, keeps, fits_byte, byte_shifted_right_steps, right_shift_steps, byte_zero_steps, knowing, high_byte_steps, quarter_steps, shifted_right_little_steps, word_routine, word_shifted_right_steps, Context, IsSound, StepsStand, PartThere, PartDoes, WordIsGiven, word_from_halves, low_is_byte}
 use Rattle.runtime8080.specs.declared.routine.Routine.TheVariants as routines
 use Rattle.steps8080.specs.declared.step.Task.TheVariants as tasks
 use Rattle.exprgen8080.specs.WordShifts.{half_steps, zero_steps}
@@ -11,16 +11,18 @@ use Rattle.task_laws.proofs.Machine.KnownOperands.{quotient_less}
 use Rattle.task_laws.proofs.Words.LeftShifts.{zero_does}
 use Rattle.task_laws.proofs.Words.Multiples.{effect_on, plain_on}
 use Rattle.task_laws.proofs.Words.PairedWords.{kept_none}
-use Rattle.task_laws.proofs.Words.Pairs.{IsOperand, some_height}
+use Rattle.task_laws.proofs.Words.Pairs.{IsOperand}
 use Rattle.task_laws.proofs.Ranges.Ranges.{fits_means, ready_fits, value_fits}
 use Rattle.task_laws.proofs.Machine.RegisterCode.{AreOnRegisters, effect, registers_then}
 use Rattle.task_laws.proofs.Machine.Rules.{GoesOn, split}
 use Rattle.task_laws.proofs.Machine.SiteNodes.{value_in}
 use Rattle.task_laws.proofs.Machine.Stages.{Stage, at_byte, at_carried, at_effects, at_instructions, script_of}
 use Rattle.task_laws.proofs.Machine.Values.{HasWord, word_given, word_then}
-use Rattle.task_laws.proofs.Words.WordArithmetic.{has_word, word_is}
+use Rattle.task_laws.proofs.Words.WordArithmetic.{has_word}
 use Rattle.task_laws.proofs.Words.WordForms.{straight_does}
 use Rattle.task_laws.proofs.Words.WordRoutines.{shift_then}
+use Rattle.task_laws.proofs.Numbers.{address_is_word, byte_is_word, equals_byte, half_is_byte}
+use Rattle.task_laws.proofs.Heights.{some_height}
 
 no_shift : (a count : ℕ) → count ≡ 0 → a ≡ a / 2 ^ count
 no_shift a count none = sym (ap (λ n. a / 2 ^ n) none ∙ whole a)
@@ -47,13 +49,10 @@ coded_then {context = context} {from = from} {to = to} {facts = facts} {last = l
     (subst (λ (list : List Step). StepsStand context (PartDoes context) facts from list last to)
     (ap (λ (list : List Step). list ++ extension_steps) code.same ∙ sym (plain_on code.instructions extension)) stand) stage
     (λ final.
-    word_given t (below n small)
+    word_given t (byte_is_word n small)
     (subst (λ (after : Registers). HasWord n after) (sym (effect_on code.instructions extension now))
     (extended n (effect code.instructions now) small (code.makes now stage.ready.registers.a ∙ is)))
     (kept_none context number r _ none) (record { ready = final.ready; known = final.known }))
-  where
-    below : (n : ℕ) → n < 256 → n < 65536
-    below n small = omega (arith, small)
 
 -- HL shifted by 1 and by 2
 abbrev half_instructions : List Instr
@@ -66,35 +65,26 @@ quarter_instructions =
     ∷ copy A H ∷ AccumulateImmediate And 0xfc
     ∷ Rrc ∷ Rrc ∷ copy H A ∷ []
 
-low_small : (l x : ℕ) → l ≡ x % 256 → l < 256
-low_small l x same = omega (arith, same)
-
-high_small : (h x : ℕ) → h ≡ x / 256 → x < 65536 → h < 256
-high_small h x same small = omega (arith, same, small)
-
 half_makes : (x : ℕ) (now : Registers) → x < 65536 → HasWord x now → HasWord (x / 2) (effect half_instructions now)
 half_makes x now small has =
     let after : Registers = effect half_instructions now in
-    let h_small = high_small now.h x has.h small in
-    let l_small = low_small now.l x has.l in
+    let h_small = half_is_byte now.h x has.h small in
+    let l_small = low_is_byte now.l x has.l in
     let is = has_word (x / 2) after.h after.l (half_small now.h false h_small) (half_small now.l (now.h % 2 == 1) l_small)
-    (halves now.h now.l false refl ∙ ap (λ n. n / 2) (word_is x now.h now.l has.h has.l)) in
+    (halves now.h now.l false refl ∙ ap (λ n. n / 2) (word_from_halves x now.h now.l has.h has.l)) in
     record { h = is.0; l = is.1 }
 
 quarter_makes : (x : ℕ) (now : Registers) → x < 65536 → HasWord x now → HasWord (x / 4) (effect quarter_instructions now)
 quarter_makes x now small has =
     let after : Registers = effect quarter_instructions now in
-    let h_small = high_small now.h x has.h small in
-    let l_small = low_small now.l x has.l in
+    let h_small = half_is_byte now.h x has.h small in
+    let l_small = low_is_byte now.l x has.l in
     let is = has_word (x / 4) after.h after.l (quarter_high_small now.h h_small) (quarter_low_small now.h now.l h_small l_small)
-    (quarters now.h now.l h_small l_small ∙ ap (λ n. n / 4) (word_is x now.h now.l has.h has.l)) in
+    (quarters now.h now.l h_small l_small ∙ ap (λ n. n / 4) (word_from_halves x now.h now.l has.h has.l)) in
     record { h = is.0; l = is.1 }
 
 less_shifted : (x count limit : ℕ) → x < limit → x / 2 ^ count < limit
 less_shifted x count limit small = let less : x / 2 ^ count ≤ x = quotient_less x (2 ^ count) in omega (arith, less, small)
-
-word_of : (n : ℕ) (scalar : ScalarType) → scalar ≡ Address → n < values_of scalar → n < 65536
-word_of n scalar same small = subst (λ (of : ScalarType). n < values_of of) same small
 
 low_count : (count : ℕ) → count < 8 → count % 256 ≡ count
 low_count count few = omega (arith, few)
@@ -180,9 +170,6 @@ module _
       below : (x : ℕ) (t : SourceState) → value_in context tree s ≡ Gave x t → x < 256
       below x t same = fits_means context sound facts s operand.is operand.types fits (ready_fits context s going.ready) same
 
-      whole_byte : (a x : ℕ) → a ≡ x % 256 → x < 256 → a ≡ x
-      whole_byte a x same small = omega (arith, same, small)
-
       by : (most : Bool) → nat_le 8 count ≡ most
           → StepsStand context (PartDoes context) facts from
           ((if most then part_of (tasks.Effects other) pushed ∷ Plain clear_a ∷ []
@@ -202,7 +189,7 @@ module _
           (λ x t now ended same given next.
           coded_then (shifted_code count (leb-false 8 count is)) number (x / 2 ^ count) t r now memory ended sound none
           (less_shifted x count 256 (below x t same))
-          (ap (λ n. n / 2 ^ count) (whole_byte now.a x given.a (below x t same))) stand next)
+          (ap (λ n. n / 2 ^ count) (equals_byte now.a x given.a (below x t same))) stand next)
 
   -- of the high byte
   high_shift_does :
@@ -259,7 +246,7 @@ module _
       by_none false true fits more zero_is most_is fits_is more_is given =
           zero_does (λ x. x / 2 ^ count) number from s r memory sound
           (λ x t same. none_left x count (leb-true 16 count most_is)
-          (word_of x (type_of tree) address (value_fits s sound operand.is operand.types (ready_fits context s going.ready) same))) operand none less room height given going
+          (address_is_word x (type_of tree) address (value_fits s sound operand.is operand.types (ready_fits context s going.ready) same))) operand none less room height given going
       by_none false false true more zero_is most_is fits_is more_is given = byte_shift_does fits_is given
       by_none false false false true zero_is most_is fits_is more_is given =
           high_shift_does highs (leb-true 8 count more_is) (leb-false 16 count most_is) given

@@ -1,5 +1,5 @@
 -- AND, OR and XOR of an operand in HL and one with code that does not change HL.
-use Rattle.task_laws.proofs.Prelude.{◌≡◌, ℕ, ◌+◌, ◌*◌, ◌/◌, ◌%◌, ◌<◌, ◌≤◌, max, Bool, true, false, ◌&&◌, List, [], ◌∷◌, Option, Some, None, if◌then◌else◌, refl, sym, ap, ◌∙◌, subst, arith, ScalarType, Address, height_of, type_of, TypedExpression, SourceState, Gave, then_do, values_of, Operation, ExclusiveOr, Or, A, L, Registers, ExpressionNumber, Place, keeps_none, Does, at_place, Arrives, HasRoom, Facts, copy, with_register, Site, is_free, keeps, may_exchange, direct_word, fits_byte, is_word_in_hl, Operands, Simple, knowing, exchanged_operand, first_and_simple, logic_with_byte_steps, logic_with_simple_steps, simple_operand, with_simple, Context, IsSound, StepsStand, PartThere, PartDoes, WordIsGiven}
+use Rattle.task_laws.proofs.Prelude.{◌≡◌, ℕ, ◌+◌, ◌*◌, ◌/◌, ◌%◌, ◌<◌, ◌≤◌, max, Bool, true, false, ◌&&◌, List, [], ◌∷◌, Option, Some, None, if◌then◌else◌, refl, sym, ap, ◌∙◌, subst, arith, Address, height_of, type_of, TypedExpression, SourceState, Gave, then_do, Operation, ExclusiveOr, Or, A, L, Registers, ExpressionNumber, Place, keeps_none, Does, at_place, Arrives, HasRoom, Facts, copy, with_register, Site, is_free, keeps, may_exchange, direct_word, fits_byte, is_word_in_hl, Operands, Simple, knowing, exchanged_operand, first_and_simple, logic_with_byte_steps, logic_with_simple_steps, simple_operand, with_simple, Context, IsSound, StepsStand, PartThere, PartDoes, WordIsGiven, high_is_byte, byte_is_low}
 use Rattle.exprgen8080.specs.declared.word_operators.Simple.TheVariants as simple
 use Rattle.task_laws.proofs.Bytes.BytesAsked.{WordAtPlace, WordsAtPlaces}
 use Rattle.task_laws.proofs.Loads.DirectWords.{with_word_then}
@@ -14,6 +14,7 @@ use Rattle.task_laws.proofs.Machine.Rules.{GoesOn}
 use Rattle.task_laws.proofs.Machine.SiteNodes.{does_exchanged, value_in}
 use Rattle.task_laws.proofs.Machine.Values.{HasWord, byte_then, word_ends, word_then}
 use Rattle.task_laws.proofs.Words.WordSums.{TwoWords, less_high, one_high}
+use Rattle.task_laws.proofs.Numbers.{address_is_word, no_high_byte}
 
 -- a simple operand
 pub data IsSimple (site : Site) (of : ExpressionNumber) : Simple → Type 0 where
@@ -26,25 +27,16 @@ nothing_more Or h is small = or_none h small
 nothing_more ExclusiveOr h is small = xor_none h small
 nothing_more operation h is small = absurd is
 
-high_small : (x : ℕ) → x < 65536 → x / 256 < 256
-high_small x small = omega (arith, small)
-
-no_high : (y : ℕ) → y < 256 → 0 ≡ y / 256
-no_high y small = omega (arith, small)
-
-all_low : (y : ℕ) → y < 256 → y ≡ y % 256
-all_low y small = omega (arith, small)
-
 high_stays : (operation : Operation) (h x y : ℕ) → IsEither operation → h ≡ x / 256 → x < 65536 → y < 256
     → h ≡ bits operation x y / 256
 high_stays operation h x y is same small byte =
-    same ∙ sym (nothing_more operation (x / 256) is (high_small x small)) ∙ ap (bits operation (x / 256)) (no_high y byte)
+    same ∙ sym (nothing_more operation (x / 256) is (high_is_byte x small)) ∙ ap (bits operation (x / 256)) (no_high_byte y byte)
     ∙ bits_high operation x y (either_logic operation is)
 
 low_made : (operation : Operation) (a l x y : ℕ) → IsEither operation → a ≡ y → l ≡ x % 256 → y < 256
     → bits operation a l ≡ bits operation x y % 256
 low_made operation a l x y is same low byte =
-    ap (λ m. bits operation m l) (same ∙ all_low y byte) ∙ ap (bits operation (y % 256)) low
+    ap (λ m. bits operation m l) (same ∙ byte_is_low y byte) ∙ ap (bits operation (y % 256)) low
     ∙ bits_turned operation (y % 256) (x % 256) ∙ bits_low operation x y (either_logic operation is)
 
 byte_makes :
@@ -55,9 +47,6 @@ byte_makes Or x y now is one two has a =
 byte_makes ExclusiveOr x y now is one two has a =
     record { h = high_stays ExclusiveOr now.h x y tt has.h one two; l = low_made ExclusiveOr now.a now.l x y tt a has.l two }
 byte_makes operation x y now is one two has a = absurd is
-
-word_of : (n : ℕ) (scalar : ScalarType) → scalar ≡ Address → n < values_of scalar → n < 65536
-word_of n scalar same small = subst (λ (of : ScalarType). n < values_of of) same small
 
 -- one operand in HL, and then a simple one
 simple_then :
@@ -87,13 +76,13 @@ simple_then {context = context} {need = need} {facts = facts} {other = other} {f
     byte_then _ t now ended byte_part two.is two.types (omega (arith, less, fewer)) room higher going_on
     (λ y u after after_memory also fewer_still going_still byte.
     let only = byte.free (sym (free_same context sound facts other) ∙ free) in
-    let x_small = word_of x (type_of first) one_is given.small in
+    let x_small = address_is_word x (type_of first) one_is given.small in
     let y_small : y < 256 = fits_means context sound facts t two.is two.types fits (ready_fits context t going_on.ready) also in
     registers_then (with_register operation L ∷ copy L A ∷ []) [] after sound (tt, (tt, tt)) rest going_still
     (λ end end_found ends going_last.
-    word_ends u ends (bits_small operation x y logic x_small (word_of y (type_of second) two_is byte.small))
+    word_ends u ends (bits_small operation x y logic x_small (address_is_word y (type_of second) two_is byte.small))
     (byte_makes operation x y after (either fits) x_small y_small
-    (record { h = only.h ∙ given.h; l = only.l ∙ given.l }) (byte.a ∙ sym (all_low y y_small)))
+    (record { h = only.h ∙ given.h; l = only.l ∙ given.l }) (byte.a ∙ sym (byte_is_low y y_small)))
     (kept_none context number r _ none) going_last)))
 simple_then {context = context} {top = top} {need = need} {to = to} {base = base} {facts = facts} {last = last} {other = other} {first = first} {second = second} operation number from s r memory sound places logic either (IsDirectWord {place = place} direct) one two one_is two_is none less room high higher (PartThere {middle = middle} part rest) going =
     word_then from s r memory part one.is one.types less room high going
@@ -101,8 +90,8 @@ simple_then {context = context} {top = top} {need = need} {to = to} {base = base
     read_then (value_in context second t) (λ y u. Gave (bits operation x y) u)
     (places facts other place two.bound top second base t now ended two.is two.types direct going_on.ready)
     (λ (read : WordAtPlace context place ended t (value_in context second t)).
-    let x_small = word_of x (type_of first) one_is given.small in
-    let y_small = word_of read.found (type_of second) two_is
+    let x_small = address_is_word x (type_of first) one_is given.small in
+    let y_small = address_is_word read.found (type_of second) two_is
     (value_fits t sound two.is two.types (ready_fits context t going_on.ready) read.is) in
     subst (λ (n : ℕ). Does context.activation.around.program.script t.budget 0 (at_place middle now ended t.events) (Gave n t)
     (Arrives context.activation top base to (WordIsGiven context last number Address r memory)))

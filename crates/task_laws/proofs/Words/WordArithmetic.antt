@@ -5,14 +5,11 @@ use Rattle.task_laws.proofs.Prelude.{◌≡◌, ℕ, ◌+◌, ◌-◌, ◌/◌, 
 pub has_word : (n h l : ℕ) → h < 256 → l < 256 → word h l ≡ n → (h ≡ n / 256) × (l ≡ n % 256)
 has_word n h l one two same = (omega (arith, one, two, same), omega (arith, one, two, same))
 
-pub word_is : (n h l : ℕ) → h ≡ n / 256 → l ≡ n % 256 → word h l ≡ n
-word_is n h l one two = omega (arith, one, two)
-
 pub word_below : (n h l : ℕ) → h ≡ n / 256 → h < 256 → n < 65536
 word_below n h l same small = omega (arith, same, small)
 
 -- the difference of two words by a borrow
-high_of_difference : (x y : ℕ) (borrow : Bool)
+pub high_of_difference : (x y : ℕ) (borrow : Bool)
     → nat_lt (x % 256 + (255 - y % 256) + 1) 256 ≡ borrow
     → x < 65536 → y < 65536
     → (x / 256 + (255 - y / 256) + bit (not borrow)) % 256 ≡ ((x + (65536 - y)) % 65536) / 256
@@ -57,6 +54,3 @@ sum_high h l d e x y one two three four = omega (arith, one, two, three, four)
 pub sum_low : (h l d e x y : ℕ) → h ≡ x / 256 → l ≡ x % 256 → d ≡ y / 256 → e ≡ y % 256
     → low_byte (wrap (word h l + word d e)) ≡ ((x + y) % 65536) % 256
 sum_low h l d e x y one two three four = omega (arith, one, two, three, four)
-
-pub sum_turned : (x y : ℕ) → (y + x) % 65536 ≡ (x + y) % 65536
-sum_turned x y = omega arith

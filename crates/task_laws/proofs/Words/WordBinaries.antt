@@ -1,5 +1,5 @@
 -- Products and differences in HL.
-use Rattle.task_laws.proofs.Prelude.{◌≡◌, ℕ, ◌+◌, ◌-◌, ◌*◌, ◌%◌, ◌<◌, ◌≤◌, max, false, if◌then◌else◌, List, [], ◌∷◌, ◌++◌, Option, Some, None, is_some, refl, sym, ap, ◌∙◌, subst, arith, ScalarType, Address, height_of, type_of, TypedExpression, value, SourceState, Gave, then_do, values_of, Operation, Subtract, SubtractWithBorrow, Registers, ExpressionNumber, Place, Number, number_of_place, known_number, Nodes, keeps_at, keeps_none, keeps_of_binary, number_at, Does, at_place, Arrives, HasRoom, Facts, CallRoutine, part_of, plain, keeps, known, number_of, fits_byte, PairOrder, LeftInHl, RightInHl, addition_steps, pair_in_order_steps, product_steps, Operands, knowing, difference_steps, left_word, paired_steps, product_order, product_word_steps, taken_from_number_steps, with_word_steps, Context, IsSound, nodes_in, StepsStand, PartDoes, WordIsGiven}
+use Rattle.task_laws.proofs.Prelude.{◌≡◌, ℕ, ◌+◌, ◌-◌, ◌*◌, ◌%◌, ◌<◌, ◌≤◌, max, false, if◌then◌else◌, List, [], ◌∷◌, ◌++◌, Option, Some, None, is_some, refl, sym, ap, ◌∙◌, subst, arith, Address, height_of, type_of, TypedExpression, value, SourceState, Gave, then_do, Operation, Subtract, SubtractWithBorrow, Registers, ExpressionNumber, Place, Number, number_of_place, known_number, Nodes, keeps_at, keeps_none, keeps_of_binary, number_at, Does, at_place, Arrives, HasRoom, Facts, CallRoutine, part_of, plain, keeps, known, number_of, fits_byte, PairOrder, LeftInHl, RightInHl, addition_steps, pair_in_order_steps, product_steps, Operands, knowing, difference_steps, left_word, paired_steps, product_order, product_word_steps, taken_from_number_steps, with_word_steps, Context, IsSound, nodes_in, StepsStand, PartDoes, WordIsGiven}
 use Rattle.trees.specs.declared.expression.BinaryOperator.TheVariants as operators
 use Rattle.runtime8080.specs.declared.routine.Routine.TheVariants as routines
 use Rattle.steps8080.specs.declared.step.Task.TheVariants as tasks
@@ -12,10 +12,11 @@ use Rattle.task_laws.proofs.Words.Pairs.{IsOperand, same_rest}
 use Rattle.task_laws.proofs.Words.PairedWords.{byte_instructions, difference_makes, paired_does}
 use Rattle.task_laws.proofs.Words.WordSums.{TwoWords, added_does, first_known, kept_as, less_high, one_high, second_known, two_high}
 use Rattle.task_laws.proofs.Words.WordForms.{difference_small, taken_does}
-use Rattle.task_laws.proofs.Words.WordRoutines.{multiply_does, product_small, word_given_by}
+use Rattle.task_laws.proofs.Words.WordRoutines.{multiply_does, word_given_by}
 use Rattle.task_laws.proofs.Places.Products.{product_then}
 use Rattle.task_laws.proofs.Words.Multiples.{products_do}
 use Rattle.task_laws.proofs.Machine.SiteNodes.{known_is}
+use Rattle.task_laws.proofs.Numbers.{address_is_word, product_is_word}
 
 -- a number at a site is that of its node
 pub number_same :
@@ -61,14 +62,11 @@ numbered_product_does {context = context} {pushed = pushed} {to = to} {facts = f
     height going
     (λ x t now ended fewer going_on given.
     let bytes = going_on.ready.registers in
-    word_given t (product_small x n) (word_given_by ((x * n) % 65536) now.h now.l bytes.h bytes.l given.hl now refl refl)
+    word_given t (product_is_word x n) (word_given_by ((x * n) % 65536) now.h now.l bytes.h bytes.l given.hl now refl refl)
     (kept_as context number other r now kept (record { a = given.a; d = given.d; e = given.e })) going_on)
 
 turned_product : (a b : ℕ) → (a * b) % 65536 ≡ (b * a) % 65536
 turned_product a b = omega arith
-
-pub number_below : (n : ℕ) (scalar : ScalarType) → scalar ≡ Address → n < values_of scalar → n < 65536
-number_below n scalar same small = subst (λ (of : ScalarType). n < values_of of) same small
 
 module _ (nodes : Nodes) (left right : ExpressionNumber) where
   abbrev by_numbers : (one other : Option ℕ) → Rattle.treecode.specs.declared.traits.Keeps.Keeps
@@ -137,7 +135,7 @@ product_does {context = context} {pushed = pushed} {top = top} {need = need} {to
         (λ y u. Gave ((n * y) % 65536) u) (λ y u. Gave ((y * n) % 65536) u)
         (λ y u. ap (λ m. Gave m u) (turned_product n y))))
         (numbered_product_does n number from s r memory sound
-        (number_below n (type_of first) words.one_is (number_small facts n sound words.one.is words.one.types is))
+        (address_is_word n (type_of first) words.one_is (number_small facts n sound words.one.is words.one.types is))
         words.two words.two_is
         (kept ∙ product_left (nodes_in context) operands.left operands.right n
         (is_number_at context facts operands.right None none) (is_number_at context facts operands.left (Some n) is))
@@ -172,7 +170,7 @@ product_does {context = context} {pushed = pushed} {top = top} {need = need} {to
         (sym (second_known first facts (Number n) (λ x y u. Gave ((x * y) % 65536) u) s sound words.two
         (number_known context facts operands.right n is)))
         (numbered_product_does n number from s r memory sound
-        (number_below n (type_of second) words.two_is (number_small facts n sound words.two.is words.two.types is))
+        (address_is_word n (type_of second) words.two_is (number_small facts n sound words.two.is words.two.types is))
         words.one words.one_is
         (kept ∙ product_right (nodes_in context) operands.left operands.right n
         (is_number_at context facts operands.right (Some n) is))
@@ -286,7 +284,7 @@ difference_does {context = context} {pushed = pushed} {top = top} {need = need} 
         (sym (first_known second facts (Number n) (λ x y u. Gave ((x + (65536 - y)) % 65536) u) s sound words.one
         (number_known context facts operands.left n is)))
         (taken_does n number from s r memory sound
-        (number_below n (type_of first) words.one_is (number_small facts n sound words.one.is words.one.types is))
+        (address_is_word n (type_of first) words.one_is (number_small facts n sound words.one.is words.one.types is))
         words.two
         (kept ∙ difference_none (nodes_in context) operands.left operands.right (is_number_at context facts operands.right None none))
         less room (less_high (height_of first) (height_of second) need height) stand going)
@@ -305,7 +303,7 @@ difference_does {context = context} {pushed = pushed} {top = top} {need = need} 
         ]) last to
         → DifferenceGiven context from s r memory first second last number top base to
     by_right (Some n) is stand =
-        let small = number_below n (type_of second) words.two_is (number_small facts n sound words.two.is words.two.types is) in
+        let small = address_is_word n (type_of second) words.two_is (number_small facts n sound words.two.is words.two.types is) in
         subst (λ outcome. Does context.activation.around.program.script s.budget 0 (at_place from r memory s.events) outcome
         (Arrives context.activation top base to (WordIsGiven context last number Address r memory)))
         (sym (second_known first facts (Number n) (λ x y u. Gave ((x + (65536 - y)) % 65536) u) s sound words.two

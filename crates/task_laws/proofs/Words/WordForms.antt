@@ -1,12 +1,13 @@
 -- Values in HL of one operand, and straight-line code.
-use Rattle.task_laws.proofs.Prelude.{◌≡◌, ℕ, ◌+◌, ◌-◌, ◌*◌, ◌/◌, ◌%◌, ◌<◌, ◌≤◌, ◌==◌, Bool, true, false, not, nat_lt, if◌then◌else◌, List, [], ◌∷◌, append-nil, bit_xor, refl, sym, ap, ◌∙◌, subst, arith, xor_self, ltb-true, ltb-false, eqb-true, ScalarType, Byte, Address, UnaryOperator, Not, Negate, height_of, type_of, TypedExpression, value, SourceState, Gave, then_do, result_of_one, values_of, Instr, Cma, Subtract, SubtractWithBorrow, A, H, L, bit, Registers, ExpressionNumber, keeps_none, Does, at_place, Arrives, HasRoom, Facts, Step, Plain, clear_a, copy, high, low, set, with_register, extension_steps, part_of, plain, keeps, taken_from_number_steps, word_unary_steps, Context, IsSound, StepsStand, PartThere, PartDoes, WordIsGiven}
+use Rattle.task_laws.proofs.Prelude.{◌≡◌, ℕ, ◌+◌, ◌-◌, ◌*◌, ◌/◌, ◌%◌, ◌<◌, ◌≤◌, ◌==◌, Bool, true, false, not, nat_lt, if◌then◌else◌, List, [], ◌∷◌, append-nil, bit_xor, refl, sym, ap, ◌∙◌, subst, arith, xor_self, eqb-true, ScalarType, Byte, Address, UnaryOperator, Not, Negate, height_of, type_of, TypedExpression, value, SourceState, Gave, then_do, result_of_one, values_of, Instr, Cma, Subtract, SubtractWithBorrow, A, H, L, bit, Registers, ExpressionNumber, keeps_none, Does, at_place, Arrives, HasRoom, Facts, Step, Plain, clear_a, copy, high, low, set, with_register, extension_steps, part_of, plain, keeps, taken_from_number_steps, word_unary_steps, Context, IsSound, StepsStand, PartThere, PartDoes, WordIsGiven}
 use Rattle.steps8080.specs.declared.step.Task.TheVariants as tasks
 use Rattle.task_laws.proofs.Machine.Rules.{GoesOn}
 use Rattle.task_laws.proofs.Machine.RegisterCode.{AreOnRegisters, effect, registers_then}
 use Rattle.task_laws.proofs.Machine.Values.{HasWord, byte_then, word_ends, word_then}
 use Rattle.task_laws.proofs.Words.Pairs.{IsOperand}
 use Rattle.task_laws.proofs.Words.PairedWords.{kept_none}
-use Rattle.task_laws.proofs.Words.WordArithmetic.{word_below}
+use Rattle.task_laws.proofs.Words.WordArithmetic.{word_below, high_of_difference}
+use Rattle.task_laws.proofs.Numbers.{no_high_byte}
 
 -- a value into HL, and then straight code that makes another one of it
 pub straight_does :
@@ -51,20 +52,10 @@ not_instructions = copy A L ∷ Cma ∷ copy L A ∷ copy A H ∷ Cma ∷ copy H
 not_makes : (x : ℕ) (now : Registers) → x < 65536 → HasWord x now → HasWord (result_of_one Address Not x) (effect not_instructions now)
 not_makes x now small has = record { h = not_high now.h x has.h small; l = not_low now.l x has.l small }
 
--- a word that is taken from a number
-taken_high_of : (n x : ℕ) (borrow : Bool)
-    → nat_lt (n % 256 + (255 - x % 256) + 1) 256 ≡ borrow
-    → n < 65536 → x < 65536
-    → (n / 256 + (255 - x / 256) + bit (not borrow)) % 256 ≡ ((n + (65536 - x)) % 65536) / 256
-taken_high_of n x true is one two =
-    let less = ltb-true (n % 256 + (255 - x % 256) + 1) 256 is in omega (arith, less, one, two)
-taken_high_of n x false is one two =
-    let more = ltb-false (n % 256 + (255 - x % 256) + 1) 256 is in omega (arith, more, one, two)
-
 taken_high : (n a h l x : ℕ) → a ≡ n % 256 → h ≡ x / 256 → l ≡ x % 256 → n < 65536 → x < 65536
     → (n / 256 + (255 - h) + bit (not (nat_lt (a + (255 - l) + 1) 256))) % 256 ≡ ((n + (65536 - x)) % 65536) / 256
 taken_high n a h l x zero one two fits small =
-    rw zero (rw one (rw two (taken_high_of n x (nat_lt (n % 256 + (255 - x % 256) + 1) 256) refl fits small)))
+    rw zero (rw one (rw two (high_of_difference n x (nat_lt (n % 256 + (255 - x % 256) + 1) 256) refl fits small)))
 
 taken_low : (n a l x : ℕ) → a ≡ n % 256 → l ≡ x % 256 → x < 65536
     → (a + (255 - l) + 1) % 256 ≡ ((n + (65536 - x)) % 65536) % 256
@@ -174,9 +165,6 @@ unary_does Negate number from s r memory sound operand none less room height sta
     straight_does negate_instructions (result_of_one Address Negate) number from s r memory sound
     (tt, (tt, (tt, (tt, (tt, (tt, tt)))))) negate_makes (λ x small. one_small Negate x) operand none less room height stand going
 
-no_high : (n : ℕ) → n < 256 → 0 ≡ n / 256
-no_high n small = omega (arith, small)
-
 -- a BYTE with zeros added
 pub extended_does :
     {context : Context} {pushed top need to : ℕ} {base : List ℕ} {facts last : Facts}
@@ -199,5 +187,5 @@ extended_does {context = context} {tree = tree} number from s r memory sound ope
     let small : x < 256 = subst (λ (scalar : ScalarType). x < values_of scalar) byte given.small in
     registers_then (copy L A ∷ set H 0 ∷ []) [] now sound (tt, (tt, tt)) rest going_on
     (λ after after_found ends going_last.
-    word_ends t ends small (record { h = no_high x small; l = given.a })
+    word_ends t ends small (record { h = no_high_byte x small; l = given.a })
     (kept_none context number r (effect (copy L A ∷ set H 0 ∷ []) now) none) going_last))

@@ -1,5 +1,5 @@
 -- Products, quotients, remainders and shifts in HL by routines.
-use Rattle.task_laws.proofs.Prelude.{◌≡◌, ℕ, ◌+◌, ◌-◌, ◌*◌, ◌/◌, ◌%◌, ◌<◌, ◌≤◌, ◌==◌, Bool, true, false, if◌then◌else◌, List, [], ◌∷◌, ◌++◌, Option, Some, None, refl, sym, ap, ◌∙◌, subst, arith, Address, Byte, Divide, Modulo, Multiply, ShiftFunction, RotateLeft, RotateRight, ShiftLeft, ShiftRight, height_of, TypedExpression, type_of, ShiftsIn, ScalarType, computed, value, SourceState, Gave, then_do, result_of, shifted, values_of, Pop, Push, Xchg, StackHl, HoldBytes, Registers, word, wrap, ExpressionNumber, keeps_none, Does, at_place, Arrives, HasRoom, Facts, CallRoutine, Plain, part_of, is_free, keeps, Shifted, computed_count_steps, count_beside_word_steps, word_routine, PairOrder, LeftInHl, RightInHl, pair_in_order_steps, pair_steps, knowing, Context, IsSound, StepsStand, PartThere, PlainThere, PartDoes, WordIsGiven}
+use Rattle.task_laws.proofs.Prelude.{◌≡◌, ℕ, ◌+◌, ◌-◌, ◌*◌, ◌/◌, ◌%◌, ◌<◌, ◌≤◌, ◌==◌, Bool, true, false, if◌then◌else◌, List, [], ◌∷◌, ◌++◌, Option, Some, None, refl, sym, ap, ◌∙◌, subst, arith, Address, Byte, Divide, Modulo, Multiply, ShiftFunction, RotateLeft, RotateRight, ShiftLeft, ShiftRight, height_of, TypedExpression, type_of, ShiftsIn, ScalarType, computed, value, SourceState, Gave, then_do, result_of, shifted, values_of, Pop, Push, Xchg, StackHl, HoldBytes, Registers, word, wrap, ExpressionNumber, keeps_none, Does, at_place, Arrives, HasRoom, Facts, CallRoutine, Plain, part_of, is_free, keeps, Shifted, computed_count_steps, count_beside_word_steps, word_routine, PairOrder, LeftInHl, RightInHl, pair_in_order_steps, pair_steps, knowing, Context, IsSound, StepsStand, PartThere, PlainThere, PartDoes, WordIsGiven, mul_comm, word_from_halves}
 use Rattle.runtime8080.specs.declared.routine.Routine.TheVariants as routines
 use Rattle.steps8080.specs.declared.step.Task.TheVariants as tasks
 use Rattle.task_laws.proofs.Machine.Rules.{GoesOn, more_pushed, pop_goes, push_goes}
@@ -7,9 +7,11 @@ use Rattle.task_laws.proofs.Machine.KnownOperands.{quotient_less, shift_fits}
 use Rattle.task_laws.proofs.Machine.RegisterCode.{effect, registers_then}
 use Rattle.task_laws.proofs.Machine.RoutineCalls.{routine_then}
 use Rattle.task_laws.proofs.Machine.Values.{HasWord, byte_then, word_ends, word_then}
-use Rattle.task_laws.proofs.Words.Pairs.{HasBoth, HasPair, IsOperand, free_same, pair_then, some_height}
+use Rattle.task_laws.proofs.Words.Pairs.{HasBoth, HasPair, IsOperand, free_same, pair_then}
 use Rattle.task_laws.proofs.Words.PairedWords.{kept_none}
-use Rattle.task_laws.proofs.Words.WordArithmetic.{has_word, word_below, word_is}
+use Rattle.task_laws.proofs.Words.WordArithmetic.{has_word, word_below}
+use Rattle.task_laws.proofs.Numbers.{equals_byte, high_of_joined, low_of_joined, product_is_word}
+use Rattle.task_laws.proofs.Heights.{some_height}
 
 -- the number that is given
 abbrev given_number : Option ℕ → ℕ
@@ -23,9 +25,6 @@ product_of : (x y h l d e hh ll : ℕ)
 product_of x y h l d e hh ll computes one two =
     sym (ap given_number computes) ∙ ap (λ n. (n * word d e) % 65536) one ∙ ap (λ n. (x * n) % 65536) two
 
-pub product_small : (x y : ℕ) → (x * y) % 65536 < 65536
-product_small x y = omega arith
-
 pub word_given_by : (n h l : ℕ) → h < 256 → l < 256 → word h l ≡ n → (r : Registers) → r.h ≡ h → r.l ≡ l → HasWord n r
 word_given_by n h l one two same r hh ll =
     let is = has_word n h l one two same in record { h = hh ∙ is.0; l = ll ∙ is.1 }
@@ -37,14 +36,11 @@ multiplied : (order : PairOrder) (x y : ℕ) (before after : Registers)
     → word after.h after.l ≡ (x * y) % 65536
 multiplied LeftInHl x y before after has computes =
     product_of x y before.h before.l before.d before.e after.h after.l computes
-    (word_is x before.h before.l has.h has.l) (word_is y before.d before.e has.d has.e)
+    (word_from_halves x before.h before.l has.h has.l) (word_from_halves y before.d before.e has.d has.e)
 multiplied RightInHl x y before after has computes =
     product_of y x before.h before.l before.d before.e after.h after.l computes
-    (word_is y before.h before.l has.h has.l) (word_is x before.d before.e has.d has.e)
-    ∙ ap (λ n. n % 65536) (turned_product y x)
-  where
-    turned_product : (a b : ℕ) → a * b ≡ b * a
-    turned_product a b = grind arith
+    (word_from_halves y before.h before.l has.h has.l) (word_from_halves x before.d before.e has.d has.e)
+    ∙ ap (λ n. n % 65536) (mul_comm y x)
 
 pub multiply_does :
     {context : Context} {pushed top need to : ℕ} {base : List ℕ} {facts last : Facts}
@@ -72,7 +68,7 @@ multiply_does {context = context} {facts = facts} {left = left} {right = right} 
     routine_then routines.Multiply [] now sound tt room (omega (arith, higher)) rest going_on
     (λ after last_memory ends going_last computes leaves.
     let bytes = going_last.ready.registers in
-    word_ends t ends (product_small x y)
+    word_ends t ends (product_is_word x y)
     (word_given_by ((x * y) % 65536) after.h after.l bytes.h bytes.l (multiplied order x y now after has computes) after refl refl)
     (kept_none context number r after none) going_last))
 
@@ -133,8 +129,8 @@ quotient_does {context = context} number from s r memory sound one two none less
     (λ after last_memory ends going_last computes leaves.
     let bytes = going_last.ready.registers in
     let is : word after.h after.l ≡ x / y = computes.0 (x / y)
-    (ap (λ n. result_of Address Divide n (word now.d now.e)) (word_is x now.h now.l has.h has.l)
-    ∙ ap (λ n. result_of Address Divide x n) (word_is y now.d now.e has.d has.e)
+    (ap (λ n. result_of Address Divide n (word now.d now.e)) (word_from_halves x now.h now.l has.h has.l)
+    ∙ ap (λ n. result_of Address Divide x n) (word_from_halves y now.d now.e has.d has.e)
     ∙ some_of y (x / y) some) in
     word_ends t ends (quotient_small x y small)
     (word_given_by (x / y) after.h after.l bytes.h bytes.l is after refl refl)
@@ -170,8 +166,8 @@ remainder_does {context = context} number from s r memory sound one two none les
     (λ after last_memory stand_on going_last computes leaves.
     let bytes = going_last.ready.registers in
     let is : word after.d after.e ≡ x % y = computes.1 (x % y)
-    (ap (λ n. result_of Address Modulo n (word now.d now.e)) (word_is x now.h now.l has.h has.l)
-    ∙ ap (λ n. result_of Address Modulo x n) (word_is y now.d now.e has.d has.e)
+    (ap (λ n. result_of Address Modulo n (word now.d now.e)) (word_from_halves x now.h now.l has.h has.l)
+    ∙ ap (λ n. result_of Address Modulo x n) (word_from_halves y now.d now.e has.d has.e)
     ∙ some_of y (x % y) some) in
     registers_then (Xchg ∷ []) [] after sound (tt, tt) stand_on going_last
     (λ at_end at_end_found ends going_end.
@@ -209,7 +205,7 @@ shift_then {context = context} ShiftLeft n k number t r now memory ended sound i
     let bytes = going_last.ready.registers in
     word_ends t ends (shift_small ShiftLeft n k in_type (word_below n now.h now.l has.h going.ready.registers.h))
     (word_given_by (shifted Address ShiftLeft n k) after.h after.l bytes.h bytes.l
-    (computes ∙ ap (λ m. shifted Address ShiftLeft m now.a) (word_is n now.h now.l has.h has.l)
+    (computes ∙ ap (λ m. shifted Address ShiftLeft m now.a) (word_from_halves n now.h now.l has.h has.l)
     ∙ ap (λ m. shifted Address ShiftLeft n m) count) after refl refl)
     (kept_none context number r after none) going_last)
 shift_then {context = context} ShiftRight n k number t r now memory ended sound in_type room two none has count stand going =
@@ -218,22 +214,13 @@ shift_then {context = context} ShiftRight n k number t r now memory ended sound 
     let bytes = going_last.ready.registers in
     word_ends t ends (shift_small ShiftRight n k in_type (word_below n now.h now.l has.h going.ready.registers.h))
     (word_given_by (shifted Address ShiftRight n k) after.h after.l bytes.h bytes.l
-    (computes ∙ ap (λ m. shifted Address ShiftRight m now.a) (word_is n now.h now.l has.h has.l)
+    (computes ∙ ap (λ m. shifted Address ShiftRight m now.a) (word_from_halves n now.h now.l has.h has.l)
     ∙ ap (λ m. shifted Address ShiftRight n m) count) after refl refl)
     (kept_none context number r after none) going_last)
 shift_then RotateLeft n k number t r now memory ended sound in_type room two none has count stand going =
     absurd_type in_type
 shift_then RotateRight n k number t r now memory ended sound in_type room two none has count stand going =
     absurd_type in_type
-
-low_is : (a k : ℕ) → a ≡ k % 256 → k < 256 → a ≡ k
-low_is a k same small = omega (arith, same, small)
-
-low_of_word : (h l n : ℕ) → h ≡ n / 256 → l ≡ n % 256 → (256 * h + l) % 256 ≡ n % 256
-low_of_word h l n one two = omega (arith, one, two)
-
-high_of_word : (h l n : ℕ) → h ≡ n / 256 → l ≡ n % 256 → (256 * h + l) / 256 ≡ n / 256
-high_of_word h l n one two = omega (arith, one, two)
 
 -- a shift by a count that is not known
 pub computed_shift_does :
@@ -279,7 +266,7 @@ computed_shift_does {context = context} {pushed = pushed} {top = top} {need = ne
         let only = count_given.free (sym (free_same context sound facts moved.count) ∙ is) in
         let small : k < 256 = subst (λ (scalar : ScalarType). k < values_of scalar) byte count_given.small in
         shift_then moved.function n k number u r after memory after_memory sound in_type room (omega (arith, higher)) none
-        (record { h = only.h ∙ given.h; l = only.l ∙ given.l }) (low_is after.a k count_given.a small) rest going_still))
+        (record { h = only.h ∙ given.h; l = only.l ∙ given.l }) (equals_byte after.a k count_given.a small) rest going_still))
     by_free false is (PartThere part (PlainThere push_there (PartThere count_part (PlainThere pop_there rest)))) =
         let some = some_height second in
         let enough : 2 ≤ need = omega (arith, higher) in
@@ -297,5 +284,5 @@ computed_shift_does {context = context} {pushed = pushed} {top = top} {need = ne
         pop_goes StackHl after sound pop_there enough room going_on.ready (omega (arith, h_small, l_small)) going_still
         (λ going_last.
         shift_then moved.function n k number u r _ memory after_memory sound in_type room enough none
-        (record { h = high_of_word now.h now.l n given.h given.l; l = low_of_word now.h now.l n given.h given.l })
-        (low_is after.a k count_given.a small) rest going_last))))
+        (record { h = high_of_joined now.h now.l n given.h given.l; l = low_of_joined now.h now.l n given.h given.l })
+        (equals_byte after.a k count_given.a small) rest going_last))))

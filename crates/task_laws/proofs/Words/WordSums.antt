@@ -1,5 +1,5 @@
 -- Sums and differences in HL.
-use Rattle.task_laws.proofs.Prelude.{◌≡◌, ℕ, ◌+◌, ◌*◌, ◌/◌, ◌%◌, ◌<◌, ◌≤◌, max, false, if◌then◌else◌, List, [], ◌∷◌, ◌++◌, Option, Some, None, is_some, refl, sym, ap, ◌∙◌, subst, arith, option_map_or, Address, height_of, type_of, TypedExpression, value, SourceState, Outcome, Gave, then_do, Instr, Registers, word, wrap, Expression, ExpressionNumber, Place, keeps_at, keeps_none, keeps_of_binary, known_at, no_traits, Does, at_place, Arrives, HasRoom, place_at, Facts, Plain, part_of, keeps, known, expression, addition_steps, Operands, knowing, sum_steps, Context, IsSound, nodes_in, StepsStand, PartThere, PartDoes, WordIsGiven}
+use Rattle.task_laws.proofs.Prelude.{◌≡◌, ℕ, ◌+◌, ◌*◌, ◌/◌, ◌%◌, ◌<◌, ◌≤◌, max, false, if◌then◌else◌, List, [], ◌∷◌, ◌++◌, Option, Some, None, is_some, refl, sym, ap, ◌∙◌, subst, arith, option_map_or, Address, height_of, type_of, TypedExpression, value, SourceState, Outcome, Gave, then_do, Instr, Registers, word, wrap, Expression, ExpressionNumber, Place, keeps_at, keeps_none, keeps_of_binary, known_at, no_traits, Does, at_place, Arrives, HasRoom, place_at, Facts, Plain, part_of, keeps, known, expression, addition_steps, Operands, knowing, sum_steps, Context, IsSound, nodes_in, StepsStand, PartThere, PartDoes, WordIsGiven, sum_turned}
 use Rattle.trees.specs.declared.expression.BinaryOperator.TheVariants as operators
 use Rattle.steps8080.specs.declared.step.Task.TheVariants as tasks
 use Rattle.task_laws.proofs.Machine.Addresses.{addition_goes}
@@ -8,7 +8,7 @@ use Rattle.task_laws.proofs.Machine.KnownOperands.{known_small, word_fits}
 use Rattle.task_laws.proofs.Machine.Values.{KeepsThem, word_given, word_then}
 use Rattle.task_laws.proofs.Words.Pairs.{IsOperand, same_rest}
 use Rattle.task_laws.proofs.Words.PairedWords.{paired_does, sum_instructions, sum_makes}
-use Rattle.task_laws.proofs.Words.WordArithmetic.{has_word, word_is}
+use Rattle.task_laws.proofs.Words.WordArithmetic.{has_word}
 use Rattle.task_laws.proofs.Machine.SiteNodes.{known_is, known_means}
 
 -- the registers that a node keeps are those at the site
@@ -208,7 +208,7 @@ sum_does {context = context} {pushed = pushed} {top = top} {need = need} {to = t
         ∙ same_rest (value context.later context.activation.around second s)
         (λ y u. Gave ((place_at context.activation.layout place + y) % 65536) u)
         (λ y u. Gave ((y + place_at context.activation.layout place) % 65536) u)
-        (λ y u. ap (λ n. Gave n u) (Rattle.task_laws.proofs.Words.WordArithmetic.sum_turned y (place_at context.activation.layout place)))))
+        (λ y u. ap (λ n. Gave n u) (sum_turned y (place_at context.activation.layout place)))))
         (added_does place number from s r memory sound
         (word_fits (place_at context.activation.layout place) (type_of first) (known_small facts place sound words.one.is words.one.types is))
         words.two

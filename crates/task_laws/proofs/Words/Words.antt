@@ -1,5 +1,5 @@
 -- The code of values in HL does what the expressions mean.
-use Rattle.task_laws.proofs.Prelude.{◌≡◌, ℕ, ◌+◌, ◌-◌, ◌*◌, ◌/◌, ◌%◌, ◌^◌, ◌<◌, ◌≤◌, ◌==◌, max, Bool, true, false, if◌then◌else◌, bit_and, is_some, [], ◌∷◌, ◌++◌, Option, Some, None, refl, sym, ap, ◌∙◌, subst, arith, append_assoc, ScalarType, Address, Byte, BinaryOperator, ShiftFunction, RotateLeft, RotateRight, ShiftLeft, ShiftRight, Low, High, Double, height_of, type_of, type_of_result, BinaryNode, ConversionNode, FunctionNode, ShiftNode, TypedExpression, TypesHold, value, SourceState, Outcome, Gave, Stopped, then_do, as_type, shifted, Xchg, State, Expression, ExpressionForm, ExpressionNumber, Static, Place, Number, Reference, IsExpression, IsForm, IsNumber, IsValue, IsLocation, IsConstantList, IsConversion, IsEmbedded, IsUnary, IsBinary, IsCallOf, IsFunction, IsShift, IsInput, keeps_none, keeps_of_form, keeps_of, keeps_of_extended, memory_of_form, keeps_of_shift, same_low_byte, traits_at, known_of, no_traits, number_at, traits_of, Traits, option_map_or, expression, Does, at_place, Arrives, place_at, Facts, CallRoutine, Plain, extension_steps, part_of, Site, keeps, known, memory_of, number_of, power, location_address_steps, extended_byte_in_memory_steps, pair_steps, knowing, number_of_two, division_steps, logic_with_number_steps, quotient_steps, remainder_steps, word_binary_steps, computed_count_steps, word_by_number_steps, word_shift_steps, word_shifted_right_steps, computed_word_steps, extended_byte_steps, word_form_steps, word_function_steps, word_of_two_steps, word_steps, Context, IsSound, nodes_in, StepsStand, PartThere, PartDoes, WordDoes, WordIsGiven, Keeps, Nodes, pow-le-pow_right, eqb-false, ne_eqb, and_mask, option_and_then, computed, result_of, power_of_two}
+use Rattle.task_laws.proofs.Prelude.{◌≡◌, ℕ, ◌+◌, ◌-◌, ◌*◌, ◌/◌, ◌%◌, ◌^◌, ◌<◌, ◌≤◌, ◌==◌, max, Bool, true, false, if◌then◌else◌, bit_and, is_some, [], ◌∷◌, ◌++◌, Option, Some, None, refl, sym, ap, ◌∙◌, subst, arith, append_assoc, ScalarType, Address, Byte, BinaryOperator, ShiftFunction, RotateLeft, RotateRight, ShiftLeft, ShiftRight, Low, High, Double, height_of, type_of, type_of_result, BinaryNode, ConversionNode, FunctionNode, ShiftNode, TypedExpression, TypesHold, value, SourceState, Outcome, Gave, Stopped, then_do, as_type, shifted, Xchg, State, Expression, ExpressionForm, ExpressionNumber, Static, Place, Number, Reference, IsExpression, IsForm, IsNumber, IsValue, IsLocation, IsConstantList, IsConversion, IsEmbedded, IsUnary, IsBinary, IsCallOf, IsFunction, IsShift, IsInput, keeps_none, keeps_of_form, keeps_of, keeps_of_extended, memory_of_form, keeps_of_shift, same_low_byte, traits_at, known_of, no_traits, number_at, traits_of, Traits, option_map_or, expression, Does, at_place, Arrives, place_at, Facts, CallRoutine, Plain, extension_steps, part_of, Site, keeps, known, memory_of, number_of, power, location_address_steps, extended_byte_in_memory_steps, pair_steps, knowing, number_of_two, division_steps, logic_with_number_steps, quotient_steps, remainder_steps, word_binary_steps, computed_count_steps, word_by_number_steps, word_shift_steps, word_shifted_right_steps, computed_word_steps, extended_byte_steps, word_form_steps, word_function_steps, word_of_two_steps, word_steps, Context, IsSound, nodes_in, StepsStand, PartThere, PartDoes, WordDoes, WordIsGiven, Keeps, Nodes, pow-le-pow_right, eqb-false, ne_eqb, and_mask, option_and_then, computed, result_of, power_of_two, same_Some}
 use Rattle.trees.specs.declared.expression.BinaryOperator.TheVariants as operators
 use Rattle.runtime8080.specs.declared.routine.Routine.TheVariants as routines
 use Rattle.treecode.specs.declared.expression.ExpressionForm.TheVariants as forms
@@ -32,9 +32,9 @@ use Rattle.task_laws.proofs.Words.Multiples.{power_is}
 use Rattle.task_laws.proofs.Words.Pairs.{same_rest}
 use Rattle.task_laws.proofs.Words.RightShifts.{right_does}
 use Rattle.task_laws.proofs.Words.SimpleLogic.{with_simple_does}
-use Rattle.task_laws.proofs.Words.WordBinaries.{number_below}
 use Rattle.task_laws.proofs.Words.WordValues.{call_carried, embedded_carried, location_carried, value_carried}
 use Rattle.task_laws.proofs.Machine.SiteNodes.{known_means}
+use Rattle.task_laws.proofs.Numbers.{address_is_word}
 
 without_rest :
     (context : Context) {from : State} {budget : ℕ} {Good : ℕ → SourceState → State → Type 0} (outcome : Outcome ℕ)
@@ -78,9 +78,6 @@ operand_of : {context : Context} {bound : ℕ} {of : ExpressionNumber} {tree : T
     → IsOperand context of tree
 operand_of {bound = bound} is types = record { bound = bound; is = is; types = types }
 
-same_number : {one other : ℕ} → Some one ≡ Some other → one ≡ other
-same_number same = cc
-
 -- a number that is a power of 2
 record IsPower (site : Site) (of : ExpressionNumber) (count : ℕ) : Type 0 where
   n : ℕ
@@ -109,8 +106,8 @@ two_means site of n is = by (number_of site of) (power site of) refl refl is
         → (count : ℕ) × (number_of site of ≡ Some n) × (n ≡ 2 ^ count)
     by (Some m) (Some count) here there same =
         let found = power_means site of count there in
-        let one : m ≡ n = same_number same in
-        (count, here ∙ same, sym one ∙ same_number (sym here ∙ found.is) ∙ found.same)
+        let one : m ≡ n = same_Some _ _ same in
+        (count, here ∙ same, sym one ∙ same_Some _ _ (sym here ∙ found.is) ∙ found.same)
     by (Some m) None here there same = absurd cc
     by None power_found here there same = absurd cc
 
@@ -243,7 +240,7 @@ module _ (context : Context) (sound : IsSound context) (asked : BytesAsked conte
           → IsCarriedOut context facts number (BinaryNode Address operators.Modulo first second) Address pushed from last to
       by (Some n) is given = λ top need base s r memory less room height going.
           let found = two_means (knowing context.site facts) right n is in
-          let small = number_below n (type_of second) words.two_is (number_small facts n sound words.two.is words.two.types found.1) in
+          let small = address_is_word n (type_of second) words.two_is (number_small facts n sound words.two.is words.two.types found.1) in
           subst (λ outcome. Does context.activation.around.program.script s.budget 0 (at_place from r memory s.events) outcome
           (Arrives context.activation top base to (WordIsGiven context last number Address r memory)))
           (sym (second_known first facts (Number n) (λ x y u. computed (result_of Address operators.Modulo x y) u) s sound words.two

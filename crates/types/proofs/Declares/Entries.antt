@@ -1,5 +1,5 @@
 -- What a part of a text declares is added to the tables, in its order.
-use Rattle.types.proofs.Prelude.{◌≡◌, ℕ, List, [], ◌∷◌, ◌++◌, length, map, filter_map, Option, None, Some, option_map, option_map_or, slice_get, slice_set, unwrap_or, not, nat_le, refl, sym, ap, ◌∙◌, subst, append_assoc, append-nil, filter_map-append, set-append_seam, slice_get-map, map-append, AllZip, Gives, gives_ok, gives_after, in_turn, then_more, AreNamed, Holds, Keeps, NamesFit, IsNamed, keeps_append, names_known, object_names, procedure_names, ItemTree, HeadingTree, DeclarationTrees, Identifier, declared_by, Names, Object, Here, is_declared_again, FRAME_LIMIT, OBJECT_LIMIT, DeclaredTwice, MisplacedAttribute, TooLarge, TypedList, TypedProcedure, Block, Progress, is_external, is_public_linkage, require, line_of, TypedItem, declare_element, declare_elements, declare_item, declare_names, line_of_item, object_named, size_of_item, with_objects, with_typed_object, close_procedure, parameter_types, procedure_with, with_here, IsDeclared, HasHeading, Entry, ObjectEntry, ProcedureEntry, declared_object, declared_procedure, entries_in_element, entries_in_elements, name_in}
+use Rattle.types.proofs.Prelude.{◌≡◌, ℕ, List, [], ◌∷◌, ◌++◌, length, map, filter_map, Option, None, Some, option_map, option_map_or, slice_get, slice_set, unwrap_or, not, nat_le, refl, sym, ap, ◌∙◌, subst, append_assoc, append-nil, filter_map-append, set-append_seam, slice_get-map, AllZip, Gives, gives_ok, gives_after, in_turn, then_more, AreNamed, Holds, Keeps, NamesFit, IsNamed, keeps_append, names_known, object_names, procedure_names, ItemTree, HeadingTree, DeclarationTrees, Identifier, declared_by, Names, Object, Here, is_declared_again, FRAME_LIMIT, OBJECT_LIMIT, DeclaredTwice, MisplacedAttribute, TooLarge, TypedList, TypedProcedure, Block, Progress, is_external, is_public_linkage, require, line_of, TypedItem, declare_element, declare_elements, declare_item, declare_names, line_of_item, object_named, size_of_item, with_objects, with_typed_object, close_procedure, parameter_types, procedure_with, with_here, IsDeclared, HasHeading, Entry, ObjectEntry, ProcedureEntry, declared_object, declared_procedure, entries_in_element, entries_in_elements, name_in, same_names}
 use Rattle.trees.specs.Trees.{ElementTree, ItemElement, LiterallyElement}
 use Rattle.typed_trees.specs.TypedTrees.{TypedObject}
 use Rattle.names.specs.Environment.{out_of_body}
@@ -258,21 +258,6 @@ procedure_adds heading declared places body before opened within after first sec
       );
     }
 
--- its entry takes the place of that of its heading, which has its name
-closed_names : (before : List TypedProcedure) (start last : TypedProcedure) (added table : List TypedProcedure)
-    → start.name ≡ last.name
-    → table ≡ (before ++ start ∷ []) ++ added
-    → procedure_names (slice_set table (length before) last) ≡ procedure_names table
-closed_names before start last added table same is =
-    let name_of : TypedProcedure → List ℕ = λ procedure. procedure.name in
-    let split : table ≡ before ++ start ∷ added = is ∙ append_assoc before (start ∷ []) added in
-    ap (λ (all : List TypedProcedure). procedure_names (slice_set all (length before) last)) split
-    ∙ ap procedure_names (set-append_seam before start added last)
-    ∙ map-append name_of before (last ∷ added)
-    ∙ ap (λ (name : List ℕ). procedure_names before ++ name ∷ procedure_names added) (sym same)
-    ∙ sym (map-append name_of before (start ∷ added))
-    ∙ ap procedure_names (sym split)
-
 pub closed_holds : (heading : HeadingTree) (declared : DeclarationTrees) (places : List ℕ) (body : TypedList)
     (before opened after : Progress) {entries : List Entry}
     → Opened heading declared before opened
@@ -286,5 +271,5 @@ closed_holds heading declared places body before opened after heads inside holds
     let is : after.known.procedures ≡ (before.known.procedures ++ start ∷ []) ++ inside.procedures =
     inside.procedures_added ∙ ap (λ (all : List TypedProcedure). all ++ inside.procedures) heads.procedures in
     subst (λ (names : List (List ℕ)). Fits (object_names after.known.objects) names (out_of_body after.known.here))
-    (sym (closed_names before.known.procedures start last inside.procedures after.known.procedures refl is))
+    (sym (same_names before.known.procedures start last inside.procedures after.known.procedures refl is))
     (out_of_body-fits holds)

@@ -1,13 +1,13 @@
 -- The tables of a typing have what the text of a module declares.
-use Rattle.types.proofs.Prelude.{◌≡◌, ℕ, ◌+◌, not, List, [], ◌∷◌, ◌++◌, length, Ok, filter_map, refl, sym, ap, ◌∙◌, subst, AllZip, Gives, gives_ok, gives_after, in_turn, then_more, Fits, Holds, Keeps, Same, objects_are, object_names, procedure_names, HeadingTree, ItemTree, ModuleTree, StatementTree, StatementTrees, DeclarationTrees, Identifier, Here, DeclaredTwice, Checked, require, line_of, Block, Progress, TypedList, TypedModule, TypedProcedure, TypedStatement, TypedStatements, declare_labels, labels_before, list_of, with_here, parameter_objects, alone, at_the_beginning, cases, declarations, labelled, module_block, module_with, statements, typing_of, declare_elements, Declares, Entry, HasHeading, IsDeclared, declared_object, declared_procedure, entries_in, entries_in_declaration, entries_in_else, entries_in_kind, entries_in_statement, entries_in_statements, entries_of}
+use Rattle.types.proofs.Prelude.{◌≡◌, ℕ, ◌+◌, List, [], ◌++◌, length, Ok, filter_map, refl, sym, ap, ◌∙◌, subst, AllZip, Gives, gives_ok, gives_after, in_turn, then_more, Fits, Holds, Keeps, Same, objects_are, object_names, procedure_names, HeadingTree, ItemTree, ModuleTree, StatementTree, StatementTrees, DeclarationTrees, Here, Checked, Block, Progress, TypedList, TypedModule, TypedProcedure, TypedStatement, TypedStatements, labels_before, list_of, with_here, parameter_objects, alone, at_the_beginning, cases, declarations, labelled, module_block, module_with, statements, typing_of, declare_elements, Declares, Entry, HasHeading, IsDeclared, declared_object, declared_procedure, entries_in, entries_in_declaration, entries_in_else, entries_in_kind, entries_in_statement, entries_in_statements, entries_of, declare_labels-fit}
 use Rattle.trees.specs.Trees as trees
 use Rattle.trees.specs.Trees.{DeclarationTree, DeclareTree, ElseTree, LabelledStatement, MoreDeclarations, NoDeclarations, ProcedureTree, StatementKindTree}
-use Rattle.names.specs.{Environment.{into_block, into_list, is_label_again, out_of_block, out_of_list, with_label}, Events.{labels_of}}
+use Rattle.names.specs.{Environment.{into_block, into_list, out_of_block, out_of_list}, Events.{labels_of}}
 use Rattle.typed_trees.specs.TypedTrees.{TypedElse, TypedObject}
 use Rattle.typing.specs.{Expressions.{arguments}, Procedures.{check_body, own_block}, References.{Known}, Statements.{without_label}, Typing.{declaration, else_part, entered, inner_block, kind}}
 use Rattle.typing.proofs.DeclarationsBack.{declare_elements-walk, open_procedure-opens}
 use Rattle.typing.proofs.Parameters.{Opening.{opens}, Walks.{assignment_same, call_same, goto_same, iteration_same, return_same, value_same}}
-use Rattle.typing.proofs.Tables.{at_the_start-fits, into_block-fits, into_list-fits, out_of_block-fits, out_of_list-fits, with_label-fits}
+use Rattle.typing.proofs.Tables.{at_the_start-fits, into_block-fits, into_list-fits, out_of_block-fits, out_of_list-fits}
 use Rattle.types.proofs.Declares.Entries.{Adds, adds_from_here, adds_here, adds_none, adds_then, closed_holds, elements_add, procedure_adds}
 
 both : {A : Type 0} {P Q : A → Type 0} {result : Checked A} → Gives P result → Gives Q result
@@ -33,15 +33,6 @@ from_same {A} {progress} {result} holds is =
       adds_none progress found.1 (ap (λ (known : Known). known.objects) same)
           (ap (λ (known : Known). known.procedures) same),
     ))
-
--- labels before a statement
-labels_fit : (objects procedures : List (List ℕ)) (labels : List Identifier) (here : Here)
-    → Fits objects procedures here
-    → Gives (Fits objects procedures) (declare_labels labels here)
-labels_fit objects procedures [] here fits = gives_ok fits
-labels_fit objects procedures (label ∷ others) here fits =
-    gives_after (require (not (is_label_again here label.name)) DeclaredTwice (line_of label)) λ once.
-    labels_fit objects procedures others (with_label label.name here) (with_label-fits label.name fits)
 
 list_walks : (trees : StatementTrees) (entries : List Entry)
     (typed_from : ℕ → Progress → Checked (TypedStatements × Progress)) (progress : Progress)
@@ -125,7 +116,7 @@ mutual
   statements_walk block trees.NoStatements label progress holds =
       gives_ok (holds, adds_none progress progress refl refl)
   statements_walk block (trees.MoreStatements first others) label progress holds =
-      in_turn (labels_fit _ _ (labels_before first) progress.known.here holds) λ here fits.
+      in_turn (declare_labels-fit _ _ (labels_before first) progress.known.here holds) λ here fits.
       in_turn (labelled_walks block first (with_here here progress) fits) λ done one.
       in_turn (statements_walk block others (label + length (labels_before first)) done.1 one.0) λ rest two.
       gives_ok (two.0, adds_then (adds_from_here here one.1) two.1)

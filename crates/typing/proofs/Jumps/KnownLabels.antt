@@ -1,5 +1,5 @@
 -- Which labels are known at a place: those of the lists around it.
-use Rattle.typing.proofs.Prelude.{◌≡◌, ℕ, suc, ◌+◌, ◌<◌, ◌≤◌, List, [], ◌∷◌, length, Option, None, Some, Bool, true, false, cond, refl, arith, IfSome, Any, AllByRecursion, lookup, option_or, bytes_eq, Identifier, Entity, Object, Procedure, Label, Definition, Names, known_in, numbered_from, LabelsOf, IsAmongLabels}
+use Rattle.typing.proofs.Prelude.{◌≡◌, ℕ, ◌+◌, ◌<◌, ◌≤◌, List, [], ◌∷◌, length, Option, None, Some, Bool, true, false, cond, refl, arith, IfSome, Any, AllByRecursion, lookup, option_or, bytes_eq, Identifier, Entity, Object, Procedure, Label, Definition, Names, known_in, numbered_from, LabelsOf, IsAmongLabels, any_later}
 
 -- what a name after GOTO may stand for: if it is a label, then one of a list around it
 abbrev pub IsLabelAround : List LabelsOf → Entity → Type 0
@@ -17,15 +17,12 @@ EachIs P names = AllByRecursion (λ (entry : List ℕ × Entity). P entry.1) nam
 pub none_around : (around : List LabelsOf) → AreAround around []
 none_around around = record { known = λ name. tt }
 
-Any-later : {X : Type 0} (P : X → Type 0) (x : X) (xs : List X) → Any P xs → Any P (x ∷ xs)
-Any-later P x xs found = (suc found.0, found.1, omega arith, found.3, found.4)
-
 Any-first : {X : Type 0} (P : X → Type 0) (x : X) (xs : List X) → P x → Any P (x ∷ xs)
 Any-first P x xs holds = (0, x, omega arith, refl, holds)
 
 around_more : (labels : LabelsOf) (around : List LabelsOf) (entity : Entity)
     → IsLabelAround around entity → IsLabelAround (labels ∷ around) entity
-around_more labels around (Label label) is = Any-later (IsAmongLabels label) labels around is
+around_more labels around (Label label) is = any_later labels around is
 around_more labels around (Object number) is = tt
 around_more labels around (Procedure number) is = tt
 around_more labels around Definition is = tt

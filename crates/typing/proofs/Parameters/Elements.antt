@@ -1,11 +1,12 @@
 -- DECLARE in a block: what its elements add to the tables and, where the block is that of a procedure, to its names.
-use Rattle.typing.proofs.Prelude.{◌≡◌, ℕ, ◌+◌, ◌<◌, inr, Bool, true, false, ◌||◌, List, [], ◌∷◌, ◌++◌, length, Option, Some, None, Ok, nat_le, refl, ap, sym, subst, ◌∙◌, append-nil, arith, not, AllByRecursion, list_any, option_or, ScalarType, Identifier, ElementTree, ItemElement, ItemTree, LiterallyElement, Definition, is_declared_again, with_definition, declared_by, OBJECT_LIMIT, InFrame, TypedObject, DeclaredTwice, MisplacedAttribute, TooLarge, require, Block, OfProcedure, Owner, Progress, TheModule, declares_parameter, is_external, TypedItem, declare_definition, declare_element, declare_elements, declare_item, declare_names, line_of_item, names_parameter, object_named, size_of_item, typed_item, with_objects, scalar_in_element, scalar_in_elements, scalar_of_type, Known, line_of}
+use Rattle.typing.proofs.Prelude.{◌≡◌, ℕ, ◌+◌, ◌<◌, inr, Bool, true, false, ◌||◌, List, [], ◌∷◌, ◌++◌, length, Option, Some, None, Ok, nat_le, refl, ap, sym, subst, ◌∙◌, append-nil, arith, not, AllByRecursion, list_any, option_or, ScalarType, Identifier, ElementTree, ItemElement, ItemTree, LiterallyElement, Definition, is_declared_again, with_definition, declared_by, OBJECT_LIMIT, InFrame, TypedObject, DeclaredTwice, MisplacedAttribute, TooLarge, require, Block, OfProcedure, Owner, Progress, TheModule, declares_parameter, is_external, TypedItem, declare_definition, declare_element, declare_elements, declare_item, declare_names, line_of_item, names_parameter, object_named, size_of_item, typed_item, with_objects, scalar_in_element, scalar_in_elements, scalar_of_type, Known, line_of, and_parts, or_right}
 use Rattle.typing.proofs.Types.FramesSummed.{HomeFits, typed_item_home}
 use Rattle.typing.proofs.Kept.{Gives, anything, gives_after, gives_ok, in_turn, required, then_more}
 use Rattle.typing.proofs.Types.TypesOfDeclarations.{made, with_objects-make}
 use Rattle.typing.proofs.Parameters.Grown.{Grown, IsNew, OwnerStands, Standing, all_more, grown_same, grown_then, standing_after}
-use Rattle.typing.proofs.Parameters.Items.{May, Owned, both_of, declare_names-own, fitting_by, not_again, owned_other, owned_scan, owns, plain_scalar, scan_names, scanned}
+use Rattle.typing.proofs.Parameters.Items.{May, Owned, declare_names-own, fitting_by, not_again, owned_other, owned_scan, owns, plain_scalar, scan_names, scanned}
 use Rattle.typing.proofs.Parameters.OwnBlock.{Scan, is_parameter}
+use Rattle.typing.proofs.Options.{nothing_more}
 
 -- who may have more parameters is a procedure so far
 pub may_below : (block : Block) (progress : Progress) → Standing block.owner progress
@@ -25,12 +26,8 @@ any_each p (first ∷ all) = (
   λ is. ap (λ (test : Bool). test || list_any p all) is,
   all_more (λ (one : _). p one ≡ true → list_any p all ≡ true)
       (λ (one : _). p one ≡ true → list_any p (first ∷ all) ≡ true) all
-      (λ one rest is. later (p first) (list_any p all) (rest is)) (any_each p all),
+      (λ one rest is. or_right (p first) (list_any p all) (rest is)) (any_each p all),
 )
-  where
-    later : (one other : Bool) → other ≡ true → (one || other) ≡ true
-    later true other is = refl
-    later false other is = is
 
 abbrev block_of : Owner → Bool → Block
 block_of owner is_own = record { owner = owner; is_own = is_own }
@@ -75,7 +72,7 @@ made_new block typed low high [] home = tt
 made_new block typed low high (name ∷ names) home = (
   λ number parameter.
       inr (
-        (both_of block.is_own _ parameter.1).0,
+        (and_parts block.is_own _ parameter.1).0,
         by block.owner number (subst (HomeFits block.owner) parameter.0 home),
       ),
   made_new block typed low high names home,
@@ -128,10 +125,6 @@ declare_item-goes block item progress scan stands owned =
           (progress.known.objects ++ made block typed names) here.body.block
           (λ name. scanned names scan scalar name) own.0),
     )
-
-pub nothing_more : (found : Option ScalarType) → found ≡ option_or found None
-nothing_more None = refl
-nothing_more (Some scalar) = refl
 
 pub both_more : (one two three : Option ScalarType) → option_or (option_or one two) three ≡ option_or one (option_or two three)
 both_more None two three = refl

@@ -1,10 +1,11 @@
 -- What a DECLARE adds: objects, of which those that are named as parameters are scalars of the types that the text says.
-use Rattle.typing.proofs.Prelude.{◌≡◌, ℕ, Bool, true, false, ◌&&◌, ◌||◌, List, [], ◌∷◌, ◌++◌, length, map, Option, Some, None, if◌then◌else◌, nat_le, refl, ap, sym, subst, ◌∙◌, append-nil, append_assoc, length-append, arith, is_none, is_some, not, slice_get, AllByRecursion, lookup, option_or, bytes_eq, insert_entry, Dimension, Count, Implied, Linkage, ScalarType, Identifier, AtTree, HeadingTree, ItemTree, ItemTypeTree, ScalarItem, StructureItem, ValueListTree, Entity, Object, Here, Names, is_among, is_declared_again, with_object, AtAddress, home_of_parameters, Elsewhere, Home, InData, InFrame, Nowhere, ObjectType, ScalarObject, TypedObject, DeclaredTwice, MisplacedAttribute, WrongConstant, WrongUse, require, Block, OfProcedure, Owner, TheModule, declares_parameter, is_external, is_external_linkage, Contents, Extents, NoArray, TypedItem, base_of, check_linkage, declare_names, extents_of, home_in, home_of, home_with_values, is_data, is_plain, line_of_item, names_parameter, object_named, typed_at, typed_base, typed_contents, typed_item, typed_type, scalar_of_type, visibility_of, Known, line_of}
+use Rattle.typing.proofs.Prelude.{◌≡◌, ℕ, Bool, true, false, ◌&&◌, ◌||◌, List, [], ◌∷◌, ◌++◌, length, map, Option, Some, None, if◌then◌else◌, nat_le, refl, ap, sym, subst, ◌∙◌, append-nil, append_assoc, length-append, arith, is_none, is_some, not, slice_get, AllByRecursion, lookup, option_or, bytes_eq, insert_entry, Dimension, Count, Implied, Linkage, ScalarType, Identifier, AtTree, HeadingTree, ItemTree, ItemTypeTree, ScalarItem, StructureItem, ValueListTree, Entity, Object, Here, Names, is_among, is_declared_again, with_object, AtAddress, home_of_parameters, Elsewhere, Home, InData, InFrame, Nowhere, ObjectType, ScalarObject, TypedObject, DeclaredTwice, MisplacedAttribute, WrongConstant, WrongUse, require, Block, OfProcedure, Owner, TheModule, declares_parameter, is_external, is_external_linkage, Contents, Extents, NoArray, TypedItem, base_of, check_linkage, declare_names, extents_of, home_in, home_of, home_with_values, is_data, is_plain, line_of_item, names_parameter, object_named, typed_at, typed_base, typed_contents, typed_item, typed_type, scalar_of_type, visibility_of, Known, line_of, and_parts}
 use Rattle.trees.specs.declared.declaration.Linkage.TheVariants as linkages
 use Rattle.typing.proofs.Kept.{Gives, gives_after, gives_ok, in_turn, required, then_more}
 use Rattle.typing.proofs.Types.TypesOfDeclarations.{made}
 use Rattle.typing.proofs.Parameters.Grown.{IsParameterOf}
 use Rattle.typing.proofs.Parameters.OwnBlock.{IsFitting, OwnBlock, Scan, with_other, with_own, with_rest, with_scan, with_type}
+use Rattle.typing.proofs.Options.{nothing_more}
 
 -- a block of a procedure itself, and nothing of any other block
 abbrev pub owned_by : Owner → (is_own : Bool) → Scan → List TypedObject → Names → Type 0
@@ -96,11 +97,7 @@ pub scanned :
     → scan_names scan scalar names wanted
     ≡ option_or (scan wanted)
     (if is_among (map (λ (name : Identifier). name.name) names) wanted then Some scalar else None)
-scanned [] scan scalar wanted = by (scan wanted)
-  where
-    by : (found : Option ScalarType) → found ≡ option_or found None
-    by None = refl
-    by (Some scalar) = refl
+scanned [] scan scalar wanted = nothing_more (scan wanted)
 scanned (name ∷ others) scan scalar wanted =
     scanned others (with_type scan name.name scalar) scalar wanted
     ∙ by (scan wanted) (bytes_eq wanted name.name)
@@ -163,10 +160,6 @@ no_such : (is : Bool) → not is ≡ true → is ≡ true → ⊥
 no_such true lacks has = let bad : false ≡ true = lacks in absurd cc
 no_such false lacks has = let bad : false ≡ true = has in absurd cc
 
-pub both_of : (one other : Bool) → (one && other) ≡ true → (one ≡ true) × (other ≡ true)
-both_of true other is = (refl, is)
-both_of false other is = absurd (let bad : false ≡ true = is in cc)
-
 module _ (known : Known) (number : ℕ) (heading : HeadingTree) (item : ItemTree) where
   abbrev OwnOf : Block
   OwnOf = record { owner = OfProcedure number heading; is_own = true }
@@ -207,7 +200,7 @@ module _ (known : Known) (number : ℕ) (heading : HeadingTree) (item : ItemTree
   is_not_plain : NamesOne → is_plain OwnOf item ≡ true → ⊥
   is_not_plain names is =
       no_such (names_parameter OwnOf item.subject)
-      (both_of _ _ (both_of _ _ is).0).1 names
+      (and_parts _ _ (and_parts _ _ is).0).1 names
 
   at_none : NamesOne → (at : Option AtTree)
       → Gives (λ (found : Option AtAddress). found ≡ None) (typed_at known OwnOf item at)
@@ -227,7 +220,7 @@ module _ (known : Known) (number : ℕ) (heading : HeadingTree) (item : ItemTree
       (gives_ok (refl, refl, refl))
   contents_none names object_type extents is (Some list) =
       in_turn (required (is_plain OwnOf item && is_none item.at) _ _) λ _ plain.
-      absurd (is_not_plain names (both_of (is_plain OwnOf item) (is_none item.at) plain).0)
+      absurd (is_not_plain names (and_parts (is_plain OwnOf item) (is_none item.at) plain).0)
 
   abbrev ParameterHome : Home
   ParameterHome = home_of_parameters number (is_some heading.reentrant) (visibility_of heading.linkage)

@@ -1,30 +1,16 @@
 -- Headings of procedures: where their bodies begin, and what is known of their parameters there.
-use Rattle.typing.proofs.Prelude.{◌≡◌, ℕ, zero, suc, ◌≤◌, Bool, true, false, ◌||◌, List, [], ◌∷◌, ◌++◌, length, take, drop, refl, ap, sym, subst, ◌∙◌, arith, if◌then◌else◌, not, AllByRecursion, bytes_eq, insert_key, Identifier, DeclarationTrees, HeadingTree, Here, into_body, is_among, is_declared_again, is_parameter_again, with_parameter, with_procedure, PARAMETER_LIMIT, DeclaredTwice, require, Block, Progress, is_external, is_reentrant, check_reentrant, check_visibility, declare_parameters, no_more_parameters, open_procedure, line_of}
+use Rattle.typing.proofs.Prelude.{◌≡◌, ℕ, zero, suc, ◌≤◌, Bool, true, false, ◌||◌, List, [], ◌∷◌, ◌++◌, length, take, drop, refl, ap, sym, subst, ◌∙◌, arith, if◌then◌else◌, not, AllByRecursion, bytes_eq, insert_key, Identifier, DeclarationTrees, HeadingTree, Here, into_body, is_among, is_declared_again, is_parameter_again, with_parameter, with_procedure, PARAMETER_LIMIT, DeclaredTwice, require, Block, Progress, is_external, is_reentrant, check_reentrant, check_visibility, declare_parameters, no_more_parameters, open_procedure, line_of, bytes_eq-Decides, not-true, or_assoc, or_parts}
 use Rattle.typing.proofs.Kept.{Gives, gives_after, gives_fault, gives_ok, in_turn, required, then_more}
 use Rattle.typing.proofs.Types.TypesOfDeclarations.{heading_procedure}
 use Rattle.typing.proofs.Parameters.Grown.{all_more}
-use Rattle.typing.proofs.Parameters.OwnBlock.{equal_names}
 use Rattle.typing.proofs.Parameters.Parameters.{Differ}
-
-not_so : (is : Bool) → not is ≡ true → is ≡ false
-not_so false is = refl
-not_so true is = absurd (let bad : false ≡ true = is in cc)
-
--- names that are not among others
-neither : (one other : Bool) → (one || other) ≡ false → (one ≡ false) × (other ≡ false)
-neither false other is = (refl, is)
-neither true other is = absurd (let bad : true ≡ false = is in cc)
 
 among_both : (names more : List (List ℕ)) (name : List ℕ)
     → is_among (names ++ more) name ≡ (is_among names name || is_among more name)
 among_both [] more name = refl
 among_both (first ∷ names) more name =
     ap (λ (rest : Bool). bytes_eq name first || rest) (among_both names more name)
-    ∙ by (bytes_eq name first) (is_among names name) (is_among more name)
-  where
-    by : (one two three : Bool) → (one || (two || three)) ≡ ((one || two) || three)
-    by true two three = refl
-    by false two three = refl
+    ∙ sym (or_assoc (bytes_eq name first) (is_among names name) (is_among more name))
 
 not_inserted : (names : List (List ℕ)) (name other : List ℕ)
     → is_among names name ≡ false
@@ -35,11 +21,11 @@ not_inserted names name other new is =
     ap (λ (test : Bool). if test then names else names ++ (name ∷ [])) new in
     let split : (is_among names other || (bytes_eq other name || false)) ≡ false =
     sym (ap (λ (all : List (List ℕ)). is_among all other) inserted ∙ among_both names (name ∷ []) other) ∙ is in
-    let both = neither (is_among names other) (bytes_eq other name || false) split in (
+    let both = or_parts (is_among names other) (bytes_eq other name || false) split in (
       λ same.
-          let equal : bytes_eq other name ≡ true = equal_names other name (sym same) in
+          let equal : bytes_eq other name ≡ true = (bytes_eq-Decides other name).1 (sym same) in
           let bad : true ≡ false =
-          sym equal ∙ (neither (bytes_eq other name) false both.1).0 in
+          sym equal ∙ (or_parts (bytes_eq other name) false both.1).0 in
           absurd cc,
       both.0,
     )
@@ -59,7 +45,7 @@ parameters_differ (parameter ∷ others) here =
     in_turn (required (not (is_parameter_again here parameter.name)) DeclaredTwice (line_of parameter)) λ _ once.
     then_more (parameters_differ others (with_parameter parameter.name here)) λ after is.
     let new : is_among here.body.declared parameter.name ≡ false =
-    not_so (is_among here.body.declared parameter.name) once in
+    not-true (is_among here.body.declared parameter.name) once in
     record {
       differ = (
         all_more (λ (one : Identifier).

@@ -33,13 +33,6 @@ pub record OwnBlock
       → (lookup (bytes_eq object.name) block ≡ Some (Object place)) × (is_parameter heading object.name ≡ true)
   pub unseen : (name : List ℕ) → lookup (bytes_eq name) block ≡ None → scan name ≡ None
 
--- one more name in a block that has none of that name
-pub same_names : (one other : List ℕ) → bytes_eq one other ≡ true → one ≡ other
-same_names one other is = (bytes_eq-Decides one other).0 is
-
-pub equal_names : (one other : List ℕ) → one ≡ other → bytes_eq one other ≡ true
-equal_names one other is = (bytes_eq-Decides one other).1 is
-
 pub found_new :
     (block : Names) (name : List ℕ) (entity : Entity) (wanted : List ℕ)
     → lookup (bytes_eq name) block ≡ None
@@ -62,7 +55,7 @@ found_new (entry ∷ others) name entity wanted none same =
     by true e none rest = absurd (none-some entry.1 (sym none))
     by false e none rest =
         let other : bytes_eq wanted entry.0 ≡ false =
-        ap (λ (one : List ℕ). bytes_eq one entry.0) (same_names wanted name same) ∙ e in
+        ap (λ (one : List ℕ). bytes_eq one entry.0) ((bytes_eq-Decides wanted name).0 same) ∙ e in
         ap (λ (test : Bool).
         if test then Some entry.1 else lookup (bytes_eq wanted) (insert_entry bytes_eq others name entity)) other
         ∙ rest none same
@@ -84,7 +77,7 @@ found_other (entry ∷ others) name entity wanted differ =
         ≡ (if bytes_eq wanted entry.0 then Some entry.1 else lookup (bytes_eq wanted) others)
     by true e rest =
         let other : bytes_eq wanted entry.0 ≡ false =
-        ap (bytes_eq wanted) (sym (same_names name entry.0 e)) ∙ differ in
+        ap (bytes_eq wanted) (sym ((bytes_eq-Decides name entry.0).0 e)) ∙ differ in
         ap (λ (test : Bool). if test then Some entity else lookup (bytes_eq wanted) others) other
         ∙ sym (ap (λ (test : Bool). if test then Some entry.1 else lookup (bytes_eq wanted) others) other)
     by false e rest =
@@ -145,7 +138,7 @@ with_other number heading scan objects block name entity other none own = record
       same_or_not object.name name
       (λ same.
       absurd (none-some (Object place)
-      (sym (ap (λ (one : List ℕ). lookup (bytes_eq one) block) (same_names object.name name same) ∙ none) ∙ is.0)))
+      (sym (ap (λ (one : List ℕ). lookup (bytes_eq one) block) ((bytes_eq-Decides object.name name).0 same) ∙ none) ∙ is.0)))
       (λ differ. (found_other block name entity object.name differ ∙ is.0, is.1));
   unseen = λ wanted found.
       same_or_not wanted name
@@ -208,7 +201,7 @@ with_own number heading scan objects block name scalar object none fits own = re
       number_of (Object (length objects)) (Object place) (length objects) refl
       (ap (λ (one : Option Entity). unwrap_or one (Object (length objects)))
       (sym (found_new block name (Object (length objects)) wanted none same) ∙ found)) in
-      let name_same : wanted ≡ name = same_names wanted name same in
+      let name_same : wanted ≡ name = (bytes_eq-Decides wanted name).0 same in
       let is = fits.parameter (subst (λ (one : List ℕ). is_parameter heading one ≡ true) name_same parameter) in
       record {
         object = object;
@@ -244,7 +237,7 @@ with_own number heading scan objects block name scalar object none fits own = re
       same_or_not each.name name
       (λ same.
       absurd (none-some (Object place)
-      (sym (ap (λ (one : List ℕ). lookup (bytes_eq one) block) (same_names each.name name same) ∙ none) ∙ is.0)))
+      (sym (ap (λ (one : List ℕ). lookup (bytes_eq one) block) ((bytes_eq-Decides each.name name).0 same) ∙ none) ∙ is.0)))
       (λ differ. (found_other block name (Object (length objects)) each.name differ ∙ is.0, is.1)))
       (λ at same there.
       let one = only at object each there in
@@ -252,7 +245,7 @@ with_own number heading scan objects block name scalar object none fits own = re
       let place_is : length objects ≡ place = here place at same one.0 in (
         ap (λ (one : List ℕ).
             lookup (bytes_eq one) (insert_entry bytes_eq block name (Object (length objects)))) each_name
-            ∙ found_new block name (Object (length objects)) name none (equal_names name name refl)
+            ∙ found_new block name (Object (length objects)) name none ((bytes_eq-Decides name name).1 refl)
             ∙ ap (λ (place : ℕ). Some (Object place)) place_is,
         ap (is_parameter heading) each_name
             ∙ fits.other (ap (λ (one : TypedObject). one.is_parameter) one.1 ∙ parameter.1),

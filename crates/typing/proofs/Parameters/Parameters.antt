@@ -1,8 +1,8 @@
 -- At the end of its declarations a procedure has the parameters that its heading says.
-use Rattle.typing.proofs.Prelude.{◌≡◌, ◌≢◌, ℕ, zero, suc, ◌<◌, ◌≤◌, Bool, true, false, ◌||◌, List, [], ◌∷◌, ◌++◌, length, map, Option, Some, None, unwrap_or, refl, ap, sym, subst, ◌∙◌, arith, Any, AllPairs, IsSomeAnd, is_some, slice_get, AllByRecursion, lookup, bytes_eq, All-from_recursion, AllPairs-cons, none-some, ScalarType, Byte, Identifier, HeadingTree, Entity, Object, Procedure, Label, Definition, Here, Names, is_among, PARAMETER_LIMIT, AreParameters, HasParameters, IsParameter, home_of_parameters, Home, ScalarObject, TypedObject, TypedList, TypedModule, parameter_object, parameter_objects, procedure_with, visibility_of}
+use Rattle.typing.proofs.Prelude.{◌≡◌, ◌≢◌, ℕ, zero, suc, ◌<◌, ◌≤◌, Bool, true, false, ◌||◌, List, [], ◌∷◌, ◌++◌, length, map, Option, Some, None, unwrap_or, refl, ap, sym, subst, ◌∙◌, arith, Any, AllPairs, IsSomeAnd, is_some, slice_get, AllByRecursion, lookup, bytes_eq, All-from_recursion, AllPairs-cons, none-some, ScalarType, Byte, Identifier, HeadingTree, Entity, Object, Procedure, Label, Definition, Here, Names, is_among, PARAMETER_LIMIT, AreParameters, HasParameters, IsParameter, home_of_parameters, Home, ScalarObject, TypedObject, TypedList, TypedModule, parameter_object, parameter_objects, procedure_with, visibility_of, bytes_eq-Decides, or_left, or_right}
 use Rattle.typing.proofs.Kept.{Gives, gives_fault, gives_ok, in_turn}
 use Rattle.typing.proofs.Parameters.Grown.{IsParameterOf, all_more}
-use Rattle.typing.proofs.Parameters.OwnBlock.{IsDescribed, OwnBlock, Scan, equal_names, front_or_back, is_parameter, kept_front, same_names}
+use Rattle.typing.proofs.Parameters.OwnBlock.{IsDescribed, OwnBlock, Scan, front_or_back, is_parameter, kept_front}
 
 -- the objects that names stand for in a block, one after another
 abbrev pub AreNamed : Names → List Identifier → List ℕ → Type 0
@@ -33,15 +33,6 @@ Differ [] = Unit {0}
 Differ (parameter ∷ others) =
     AllByRecursion (λ (other : Identifier). parameter.name ≡ other.name → ⊥) others × Differ others
 
--- each of the parameters is one
-or_first : (one other : Bool) → one ≡ true → (one || other) ≡ true
-or_first true other is = refl
-or_first false other is = absurd (let bad : false ≡ true = is in cc)
-
-or_later : (one other : Bool) → other ≡ true → (one || other) ≡ true
-or_later true other is = refl
-or_later false other is = is
-
 abbrev name_of : Identifier → List ℕ
 name_of parameter = parameter.name
 
@@ -49,11 +40,11 @@ all_among : (parameters : List Identifier)
     → AllByRecursion (λ (one : Identifier). is_among (map name_of parameters) one.name ≡ true) parameters
 all_among [] = tt
 all_among (parameter ∷ others) = (
-  or_first (bytes_eq parameter.name parameter.name) (is_among (map name_of others) parameter.name)
-      (equal_names parameter.name parameter.name refl),
+  or_left (bytes_eq parameter.name parameter.name) (is_among (map name_of others) parameter.name)
+      ((bytes_eq-Decides parameter.name parameter.name).1 refl),
   all_more (λ (one : Identifier). is_among (map name_of others) one.name ≡ true)
       (λ (one : Identifier). is_among (map name_of (parameter ∷ others)) one.name ≡ true) others
-      (λ one is. or_later (bytes_eq one.name parameter.name) (is_among (map name_of others) one.name) is)
+      (λ one is. or_right (bytes_eq one.name parameter.name) (is_among (map name_of others) one.name) is)
       (all_among others),
 )
 
@@ -112,7 +103,7 @@ named_one block (parameter ∷ parameters) (one ∷ places) name place named amo
     by true e among rest =
         first_one place one places
         (same_place (lookup (bytes_eq name) block) one place
-        (ap (λ (each : List ℕ). lookup (bytes_eq each) block) (same_names name parameter.name e) ∙ named.0) found)
+        (ap (λ (each : List ℕ). lookup (bytes_eq each) block) ((bytes_eq-Decides name parameter.name).0 e) ∙ named.0) found)
     by false e among rest = later_one place one places (rest among found)
 
 module _

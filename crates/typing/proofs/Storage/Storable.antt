@@ -1,5 +1,6 @@
 -- Objects and constants so far have a place each, and go on to as they grow.
 use Rattle.typing.proofs.Prelude.{◌≡◌, ℕ, suc, zero, ◌+◌, ◌≤◌, List, [], ◌∷◌, ◌++◌, length, slice_get, Option, All, refl, sym, ap, ◌∙◌, subst, length-append, append-nil, arith, filter_map, IsSomeAnd, cons_option, enumerate_from, All-append, All-cons, All-nil, All-weaker, filter_map-append, AtNumber, AtObject, ConstantObject, ConstantList, ConstantItem, Home, InConstants, Placed, TypedObject, Constants, object_in, list_in, constant_number, numbered_constant, numbers_from, LooksBack, LooksAtPlace, bytes_filled, size_of_object, ConstantTree, bytes_of_constants, with_list, with_constant}
+use Rattle.typing.proofs.ConstantTables.{lists_kept}
 
 abbrev pub AllLookBack : List TypedObject → Type 0
 AllLookBack objects =
@@ -70,11 +71,6 @@ lists_in_constants (InConstants values) number constants =
     ∙ append-nil (filter_map list_in constants.items)
 lists_in_constants home number constants = refl
 
-same_lists : (home : Home) (number : ℕ) (constants : Constants)
-    → (with_constant home number constants).lists ≡ constants.lists
-same_lists (InConstants values) number constants = refl
-same_lists home number constants = refl
-
 get_later : (P : TypedObject → Type 0) (objects others : List TypedObject) (number : ℕ)
     → IsSomeAnd (slice_get objects number) P → IsSomeAnd (slice_get (objects ++ others) number) P
 get_later P [] others number is = absurd is
@@ -107,7 +103,7 @@ object_more {objects} {constants} object back looks room are =
           ∙ sym (filter_map-append numbered_constant before ((count, object) ∷ []))
           ∙ ap (filter_map numbered_constant) (sym all);
       lists_stand = lists_in_constants object.home count constants ∙ are.lists_stand
-          ∙ ap (λ (lists : List (List ℕ)). numbers_from 0 (length lists)) (sym (same_lists object.home count constants));
+          ∙ ap (λ (lists : List (List ℕ)). numbers_from 0 (length lists)) (sym (lists_kept object.home count constants));
       look_back = subst (λ (numbered : List (ℕ × TypedObject)). All LookBack numbered) (sym all)
           (All-append LookBack before ((count, object) ∷ []) are.look_back
           (All-cons LookBack (count, object) [] back (All-nil LookBack)));

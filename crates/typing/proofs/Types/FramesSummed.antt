@@ -1,7 +1,7 @@
 -- The frame bytes of the procedures of a text so far are those of their variables, and go on to be as its tables grow.
-use Rattle.typing.proofs.Prelude.{◌≡◌, ℕ, zero, suc, ◌+◌, ◌<◌, ◌≤◌, ◌==◌, Bool, true, false, List, [], ◌∷◌, ◌++◌, length, sum_by, slice_get, Option, None, Some, if◌then◌else◌, cond, nat_le, refl, sym, ap, ◌∙◌, subst, length-append, zero-le, arith, All, not, is_some, ◌&&◌, AllByRecursion, enumerate_from, option_map_or, eqb-true, eqb-false, eq-eqb, ne_eqb, leb-true, All-append, All-cons, All-nil, All-weaker, All-from_recursion, recursion_from_All, sum_by-append, sum_by-cons, Identifier, ItemTree, HeadingTree, FRAME_LIMIT, AtAddress, InitialValue, Home, InData, InConstants, Placed, BasedOn, Elsewhere, Nowhere, InFrame, TypedObject, TypedProcedure, TypedModule, size_of_object, is_in_frame, variable_bytes, FrameFits, FramesFit, Known, Owner, TheModule, OfProcedure, Block, Progress, is_external_linkage, is_reentrant, TypedItem, base_of, typed_base, extents_of, typed_type, check_linkage, typed_at, typed_contents, is_data, home_in, home_with_values, home_of, object_named, bytes_in_frame, with_typed_object, with_objects, typed_item}
+use Rattle.typing.proofs.Prelude.{◌≡◌, ℕ, zero, suc, ◌+◌, ◌<◌, ◌≤◌, ◌==◌, Bool, true, false, List, [], ◌∷◌, ◌++◌, length, sum_by, slice_get, Option, None, Some, if◌then◌else◌, cond, nat_le, refl, sym, ap, ◌∙◌, subst, length-append, zero-le, arith, All, not, is_some, ◌&&◌, AllByRecursion, enumerate_from, option_map_or, eqb-true, eqb-false, eq-eqb, ne_eqb, leb-true, All-append, All-cons, All-nil, All-weaker, All-from_recursion, recursion_from_All, sum_by-append, sum_by-cons, Identifier, ItemTree, HeadingTree, FRAME_LIMIT, AtAddress, InitialValue, Home, InData, InConstants, Placed, BasedOn, Elsewhere, Nowhere, InFrame, TypedObject, TypedProcedure, TypedModule, size_of_object, is_in_frame, variable_bytes, FrameFits, FramesFit, Known, Owner, TheModule, OfProcedure, Block, Progress, is_external_linkage, is_reentrant, TypedItem, base_of, typed_base, extents_of, typed_type, check_linkage, typed_at, typed_contents, is_data, home_in, home_with_values, home_of, object_named, bytes_in_frame, with_typed_object, with_objects, typed_item, got_first}
 use Rattle.typing.proofs.Kept.{Gives, gives_ok, gives_after, in_turn, required}
-use Rattle.typing.proofs.Tables.{keeps_append, at_the_end}
+use Rattle.typing.proofs.Tables.{keeps_append}
 
 -- whose frame a block adds to, and any other
 abbrev pub IsOwn : Owner → (procedure : ℕ) → Type 0
@@ -237,7 +237,7 @@ procedure_summed {owner} {objects} {procedures} {frame} heading procedure plain 
         bytes = zero-le;
         none = λ is. refl;
         entry = λ each e.
-            let same : Some procedure ≡ Some each = sym (at_the_end procedures procedure) ∙ e in
+            let same : Some procedure ≡ Some each = sym (got_first procedures procedure []) ∙ e in
             let is : procedure ≡ each = cc in
             sym (ap (λ (one : TypedProcedure). one.frame_bytes) is) ∙ none;
       };
@@ -262,11 +262,6 @@ get_in_place (one ∷ before) first last added zero x e differ = e
 get_in_place (one ∷ before) first last added (suc number) x e differ =
     get_in_place before first last added number x e (λ same. differ (ap suc same))
 
-get_there : {X : Type 0} (before : List X) (last : X) (added : List X)
-    → slice_get (before ++ last ∷ added) (length before) ≡ Some last
-get_there [] last added = refl
-get_there (one ∷ before) last added = get_there before last added
-
 get_in_front : {X : Type 0} (before rest : List X) (number : ℕ) (x : X)
     → slice_get (before ++ rest) number ≡ Some x → number < length before → slice_get before number ≡ Some x
 get_in_front [] rest number x e small = absurd (omega (arith, small))
@@ -289,7 +284,7 @@ module _ (objects : List TypedObject) (before added : List TypedProcedure) (firs
       same_or_other number (length before)
       (λ same.
       let there : Some last ≡ Some procedure =
-      sym (get_there before last added)
+      sym (got_first before last added)
       ∙ subst (λ (at : ℕ). slice_get (before ++ last ∷ added) at ≡ Some procedure) same e in
       let it : last ≡ procedure = cc in
       let bytes : procedure.frame_bytes ≡ frame = ap (λ (one : TypedProcedure). one.frame_bytes) (sym it) ∙ is in

@@ -1,5 +1,5 @@
 -- What the types of a typed part say, whatever a module holds beside what is known where the part stands.
-use Rattle.typing.proofs.Prelude.{◌≡◌, ◌≤◌, List, map, length, Option, Some, None, sym, subst, arith, IsSomeAnd, ScalarType, Visibility, TypedProcedure, TypedModule, Constants, Known}
+use Rattle.typing.proofs.Prelude.{◌≡◌, ◌≤◌, List, map, length, Option, Some, None, subst, arith, IsSomeAnd, ScalarType, Visibility, TypedProcedure, TypedModule, Constants, Known}
 use Rattle.typing.proofs.Tables.{Keeps}
 
 -- what a heading says of a procedure: its result, the types of its parameters, and who sees it
@@ -49,10 +49,6 @@ holding_both first second both = record {
   says = λ tables has lists.
       both tables has (first.says tables has (omega (arith, lists, second.grows))) (second.says tables has lists);
 }
-
--- what holds of the value that there is
-pub some_and : {X : Type 0} (P : X → Type 0) (option : Option X) (x : X) → option ≡ Some x → P x → IsSomeAnd option P
-some_and P option x is holds = subst (λ found. IsSomeAnd found P) (sym is) holds
 
 pub of_some : {X : Type 0} (P : X → Type 0) (option : Option X) (x : X) → option ≡ Some x → IsSomeAnd option P → P x
 of_some P option x is holds = subst (λ found. IsSomeAnd found P) is holds

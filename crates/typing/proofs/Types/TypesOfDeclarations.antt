@@ -1,29 +1,22 @@
 -- Declared objects can be referred to where their names are known, and declarations only add to what is known.
-use Rattle.typing.proofs.Prelude.{◌≡◌, ℕ, zero, suc, ◌+◌, ◌<◌, ◌≤◌, Bool, true, false, List, [], ◌∷◌, ◌++◌, map, take, drop, length, Option, Some, None, slice_get, nat_le, refl, sym, ap, ◌∙◌, subst, cond, append_assoc, append-nil, length-append, arith, IfSome, IsSomeAnd, is_none, is_some, not, ◌||◌, ◌&&◌, option_map_or, length-map, ScalarType, Address, Identifier, SubjectTree, ItemTree, ElementTree, LiterallyElement, ItemElement, HeadingTree, DeclarationTrees, Binding, Declared, Object, Body, into_body, is_declared_again, with_procedure, with_definition, declared_by, OBJECT_LIMIT, FRAME_LIMIT, PARAMETER_LIMIT, AtAddress, InitialValue, ObjectType, ScalarObject, StructureObject, Home, InData, InConstants, Placed, BasedOn, Elsewhere, Nowhere, InFrame, TypedObject, TypedProcedure, TypedModule, Constants, IsScalar, Within, WithinProcedure, WithinMain, LiesFor, IsSeen, DeclaredTwice, MisplacedAttribute, TooLarge, require, Known, line_of, GlobalProcedure, with_global, Owner, TheModule, OfProcedure, Block, Progress, is_external, is_external_linkage, is_reentrant, TypedItem, declare_names, line_of_item, base_of, is_not_based, is_address, is_base, object_bound, names_parameter, typed_base, extents_of, typed_type, check_linkage, typed_at, typed_contents, is_data, home_in, home_with_values, home_of, object_named, with_constant, with_typed_object, with_objects, typed_item, size_of_item, declare_item, declare_definition, declare_element, declare_elements, no_more_parameters, check_visibility, check_reentrant, parameter_types, procedure_with, empty_list, open_procedure}
+use Rattle.typing.proofs.Prelude.{◌≡◌, ℕ, zero, suc, ◌+◌, ◌<◌, ◌≤◌, Bool, true, false, List, [], ◌∷◌, ◌++◌, map, take, drop, length, Option, Some, None, slice_get, nat_le, refl, sym, ap, ◌∙◌, subst, cond, append_assoc, append-nil, length-append, arith, IfSome, IsSomeAnd, is_some, not, ◌||◌, option_map_or, length-map, ScalarType, Address, Identifier, SubjectTree, ItemTree, ElementTree, LiterallyElement, ItemElement, HeadingTree, DeclarationTrees, Binding, Declared, Object, Body, into_body, is_declared_again, with_procedure, with_definition, declared_by, OBJECT_LIMIT, FRAME_LIMIT, PARAMETER_LIMIT, AtAddress, InitialValue, ObjectType, ScalarObject, StructureObject, Home, InData, InConstants, Placed, BasedOn, Elsewhere, Nowhere, InFrame, TypedObject, TypedProcedure, TypedModule, IsScalar, Within, WithinProcedure, WithinMain, LiesFor, IsSeen, DeclaredTwice, MisplacedAttribute, TooLarge, require, Known, line_of, GlobalProcedure, with_global, Owner, TheModule, OfProcedure, Block, Progress, is_external, is_external_linkage, is_reentrant, TypedItem, declare_names, line_of_item, base_of, is_not_based, is_address, is_base, object_bound, names_parameter, typed_base, extents_of, typed_type, check_linkage, typed_at, typed_contents, is_data, home_in, home_with_values, home_of, object_named, with_typed_object, with_objects, typed_item, size_of_item, declare_item, declare_definition, declare_element, declare_elements, no_more_parameters, check_visibility, check_reentrant, parameter_types, procedure_with, empty_list, open_procedure, and_parts, some_and}
 use Rattle.typing.proofs.Kept.{Gives, then_more, anything, gives_ok, gives_fault, gives_after, in_turn, required, is_found}
 use Rattle.typing.proofs.NamesBack.{is_bound, Binds, bound_entity}
 use Rattle.typing.proofs.Tables.{Keeps, keeps_append}
-use Rattle.typing.proofs.Types.TypesKept.{headings, Heading, heading_of, some_and, of_some}
+use Rattle.typing.proofs.Types.TypesKept.{headings, Heading, heading_of, of_some}
 use Rattle.typing.proofs.SeenNames.{names_within, lies_for_all, IsSeenIn, Stands, sees_names, with_definition-stands, with_procedure-stands, into_body-stands, declare_parameters-stand, declare_names-stand}
 use Rattle.typing.proofs.GlobalsListed.{Listed, procedure_listed, typed_item_fits, with_objects-listed}
 use Rattle.typing.proofs.Types.FramesSummed.{OwnFits, procedure_summed, typed_item_home, with_objects-summed}
 use Rattle.typing.proofs.Types.TypesWalked.{headings-append, StandsAt, Goes, goes_nowhere, goes_then, goes_as, goes_to}
-
--- the conditions of a base
-pub both : (one other : Bool) → (one && other) ≡ true → (one ≡ true) × (other ≡ true)
-both true other e = (refl, e)
-both false other e = absurd cc
+use Rattle.typing.proofs.Options.{equals_none}
+use Rattle.typing.proofs.ConstantTables.{lists_kept}
 
 base_is : (object : TypedObject) → is_base object ≡ true → IsScalar Address object × (is_not_based object.home ≡ true)
 base_is object is =
-    let first = both _ _ is in
-    let second = both _ _ first.0 in
-    ((has_none object.dimension second.0, is_address_object object.object_type second.1), first.1)
+    let first = and_parts _ _ is in
+    let second = and_parts _ _ first.0 in
+    ((equals_none object.dimension second.0, is_address_object object.object_type second.1), first.1)
   where
-    has_none : (dimension : Option ℕ) → is_none dimension ≡ true → dimension ≡ None
-    has_none None e = refl
-    has_none (Some count) e = absurd cc
-
     is_address_object : (object_type : ObjectType) → is_address object_type ≡ true → object_type ≡ ScalarObject Address
     is_address_object (ScalarObject Address) e = refl
     is_address_object (ScalarObject scalar) e = cc
@@ -127,11 +120,6 @@ pub record ObjectsMade (block : Block) (item : TypedItem) (names : List Identifi
   pub lists : after.constants.lists ≡ before.constants.lists
   pub here : after.known.here ≡ before.known.here
 
-same_lists : (home : Home) (object : ℕ) (constants : Constants)
-    → (with_constant home object constants).lists ≡ constants.lists
-same_lists (InConstants values) object constants = refl
-same_lists home object constants = refl
-
 pub with_objects-make : (block : Block) (item : TypedItem) (names : List Identifier) (progress : Progress)
     → Gives (ObjectsMade block item names progress) (with_objects block item names progress)
 with_objects-make block item [] progress =
@@ -144,7 +132,7 @@ with_objects-make block item (name ∷ others) progress =
     record {
       objects = rest.objects ∙ append_assoc progress.known.objects (object ∷ []) (made block item others);
       procedures = rest.procedures;
-      lists = rest.lists ∙ same_lists object.home (length progress.known.objects) progress.constants;
+      lists = rest.lists ∙ lists_kept object.home (length progress.known.objects) progress.constants;
       here = rest.here;
     }
 

@@ -1,5 +1,5 @@
 -- References, calls and targets have the types that are asked of their parts.
-use Rattle.typing.proofs.Prelude.{◌≡◌, ℕ, ◌+◌, ◌<◌, ◌==◌, Bool, true, false, List, [], ◌∷◌, length, take, Option, Some, None, nat_le, sum_by, slice_get, refl, sym, ap, ap₂, subst, ◌∙◌, arith, if◌then◌else◌, IsSomeAnd, option_map, bytes_eq, eqb-true, leb-true, sum_by-cons, slice_get-map, ScalarType, Byte, Address, Identifier, NumberConstant, StringConstant, ConstantLeaf, ReferenceLeaf, ReferenceTo, ArgumentTrees, NoArguments, MoreArguments, Binding, Declared, BuiltInName, BuiltIn, Object, Procedure, entity_of, FoundMember, TypedMember, ShiftFunction, UnaryFunction, Measure, TypedExpression, TypedReference, PartOf, Subscript, NoSubscript, TypedArguments, NoTyped, MoreTyped, ObjectType, ScalarObject, StructureObject, Home, InFrame, TypedObject, TypedProcedure, TypedModule, Constants, member_named, after_member, size_of_scalar, size_of_member, size_of_element, IsSubscriptOf, IsMemberOf, IsInElement, IsPartOf, IsOneOf, IsScalarIn, IsScalarOf, type_of, Within, IsSeen, RefersToScalar, HasLocation, RefersToLocation, IsNumberOf, ShiftsIn, types_of, Takes, TypesHold, TypesHoldInReference, TypesHoldInSubscript, TypesHoldInTarget, TypesHoldInArguments, HasType, type_of_number, converted, as_type, arguments_as, type_of_shift, shift_node, Destination, target_of, Known, Given, GivenMember, WithoutMember, WithMember, GivenReference, line_of, number_of_arguments, count_of_given, Extent, AnElement, AlsoTheWhole, takes_subscripts, subscript_of, members_of, scalar_of, FoundPart, whole_part, part_with_member, bound, part_of, scalar_part, without_member, port_from, port_of_character, port_of, has_location, location_of_bound, location_of, is_writable, destination_of_bound, destination_of, call_arguments, function_of, unary_function, shift_of, shift_function, measured_object, measure_of, measurement, number_of_variable, built_in_value, value_of_bound, value_of, WrongUse, Checked, require}
+use Rattle.typing.proofs.Prelude.{◌≡◌, ℕ, ◌+◌, ◌<◌, ◌==◌, Bool, true, false, List, [], ◌∷◌, length, take, Option, Some, None, nat_le, sum_by, slice_get, refl, sym, ap, ap₂, subst, ◌∙◌, arith, if◌then◌else◌, IsSomeAnd, option_map, bytes_eq, eqb-true, leb-true, sum_by-cons, slice_get-map, ScalarType, Byte, Address, Identifier, NumberConstant, StringConstant, ConstantLeaf, ReferenceLeaf, ReferenceTo, ArgumentTrees, NoArguments, MoreArguments, Binding, Declared, BuiltInName, BuiltIn, Object, Procedure, entity_of, FoundMember, TypedMember, ShiftFunction, UnaryFunction, Measure, TypedExpression, TypedReference, PartOf, Subscript, NoSubscript, TypedArguments, NoTyped, MoreTyped, ObjectType, ScalarObject, StructureObject, Home, InFrame, TypedObject, TypedProcedure, TypedModule, Constants, member_named, after_member, size_of_scalar, size_of_member, size_of_element, IsSubscriptOf, IsMemberOf, IsInElement, IsPartOf, IsOneOf, IsScalarIn, IsScalarOf, type_of, Within, IsSeen, RefersToScalar, HasLocation, RefersToLocation, IsNumberOf, ShiftsIn, types_of, Takes, TypesHold, TypesHoldInReference, TypesHoldInSubscript, TypesHoldInTarget, TypesHoldInArguments, HasType, type_of_number, converted, as_type, arguments_as, type_of_shift, shift_node, Destination, target_of, Known, Given, GivenMember, WithoutMember, WithMember, GivenReference, line_of, number_of_arguments, count_of_given, Extent, AnElement, AlsoTheWhole, takes_subscripts, subscript_of, members_of, scalar_of, FoundPart, whole_part, part_with_member, bound, part_of, scalar_part, without_member, port_from, port_of_character, port_of, has_location, location_of_bound, location_of, is_writable, destination_of_bound, destination_of, call_arguments, function_of, unary_function, shift_of, shift_function, measured_object, measure_of, measurement, number_of_variable, built_in_value, value_of_bound, value_of, WrongUse, Checked, require, some_and}
 use Rattle.names.specs.declared.entity.BuiltIn.TheVariants as built_in_names
 use Rattle.typed_trees.specs.declared.parts.ShiftFunction.TheVariants as shifts
 use Rattle.typed_trees.specs.declared.parts.UnaryFunction.TheVariants as functions
@@ -7,7 +7,7 @@ use Rattle.typed_trees.specs.declared.parts.Measure.TheVariants as measures
 use Rattle.typing.proofs.Kept.{Gives, then_more, gives_ok, gives_fault, gives_after, in_turn, required, is_found}
 use Rattle.typing.proofs.NamesBack.{bound_entity, is_bound, Binds}
 use Rattle.typing.proofs.Tables.{Keeps}
-use Rattle.typing.proofs.Types.TypesKept.{Heading, heading_of, Has, Holding, holding_at, holding_more, holding_both, some_and, of_some}
+use Rattle.typing.proofs.Types.TypesKept.{Heading, heading_of, Has, Holding, holding_at, holding_more, holding_both, of_some}
 
 -- a port
 port_is_low : (line number : ℕ) → Gives (λ port. port < 256) (port_from line number)
@@ -127,7 +127,7 @@ structure_is : (object_type : ObjectType) (members : List TypedMember)
 structure_is (ScalarObject scalar) members e = absurd cc
 structure_is (StructureObject its) members e = cc
 
-scalar_is : (object_type : ObjectType) (scalar : ScalarType)
+pub scalar_is : (object_type : ObjectType) (scalar : ScalarType)
     → scalar_of object_type ≡ Some scalar → object_type ≡ ScalarObject scalar
 scalar_is (ScalarObject own) scalar e = cc
 scalar_is (StructureObject members) scalar e = absurd cc

@@ -1,17 +1,18 @@
 -- Every typed module is well typed and lists its globals, and its frames fit.
-use Rattle.typing.proofs.Prelude.{◌≡◌, ℕ, ◌+◌, Bool, true, false, List, [], ◌∷◌, ◌++◌, length, map, Option, None, Some, Ok, slice_get, slice_set, refl, sym, ap, ◌∙◌, subst, length-append, arith, append_assoc, IfSome, IsSomeAnd, is_none, not, ◌&&◌, ◌==◌, enumerate_from, All-from_recursion, ScalarType, Address, Identifier, ExpressionTree, ReferenceTree, IterationTree, ArgumentTrees, StatementTree, LabelledStatement, StatementKindTree, ElseTree, StatementTrees, HeadingTree, DeclarationTree, DeclareTree, ProcedureTree, DeclarationTrees, NoDeclarations, MoreDeclarations, ModuleTree, Binding, Declared, BuiltInName, Move, Object, Procedure, Label, jump_of, out_of_block, into_list, out_of_list, labels_of, TypedArguments, NoTyped, MoreTyped, ObjectType, ScalarObject, StructureObject, TypedObject, TypedStatement, TypedStatements, TypedList, TypedProcedure, TypedModule, Constants, IsScalar, type_of, Within, WithinProcedure, WithinMain, LiesFor, TypesHold, TypesHoldInArguments, TypesHoldInTargets, TypesHoldInHead, TypesHoldIn, TypesHoldInElse, TypesHoldInStatements, TypesHoldInList, TypesHoldInProcedure, IsWellTyped, WrongUse, ListsGlobals, FramesFit, Destination, target_of, Known, Given, line_of, count_of_given, bound, is_writable, scalar_of, arguments, Owner, TheModule, OfProcedure, Block, Progress, is_external, is_external_linkage, is_not_based, with_here, with_constants, value, destinations, assignment, moved, call_bound, call, return_with, return_from, goto_bound, goto, Counter, counter_bound, step, iteration, labels_before, after_labels, list_of, parameter_types, procedure_with, parameter_objects, own_block, check_body, close_procedure, inner_block, entered, kind, labelled, alone, else_part, cases, statements, declaration, declarations, module_block, at_the_beginning, module_with, typing_of, Checked, require}
+use Rattle.typing.proofs.Prelude.{◌≡◌, ℕ, ◌+◌, true, false, List, [], ◌∷◌, ◌++◌, length, map, Option, None, Some, Ok, slice_get, slice_set, refl, sym, ap, ◌∙◌, subst, length-append, arith, append_assoc, IfSome, IsSomeAnd, is_none, not, ◌&&◌, ◌==◌, enumerate_from, All-from_recursion, ScalarType, Address, Identifier, ExpressionTree, ReferenceTree, IterationTree, ArgumentTrees, StatementTree, LabelledStatement, StatementKindTree, ElseTree, StatementTrees, HeadingTree, DeclarationTree, DeclareTree, ProcedureTree, DeclarationTrees, NoDeclarations, MoreDeclarations, ModuleTree, Binding, Declared, BuiltInName, Move, Object, Procedure, Label, jump_of, out_of_block, into_list, out_of_list, labels_of, TypedArguments, NoTyped, MoreTyped, TypedObject, TypedStatement, TypedStatements, TypedList, TypedProcedure, TypedModule, Constants, IsScalar, type_of, Within, WithinProcedure, WithinMain, LiesFor, TypesHold, TypesHoldInArguments, TypesHoldInTargets, TypesHoldInHead, TypesHoldIn, TypesHoldInElse, TypesHoldInStatements, TypesHoldInList, TypesHoldInProcedure, IsWellTyped, WrongUse, ListsGlobals, FramesFit, Destination, target_of, Known, Given, line_of, count_of_given, bound, is_writable, scalar_of, arguments, Owner, TheModule, OfProcedure, Block, Progress, is_external, is_external_linkage, is_not_based, with_here, with_constants, value, destinations, assignment, moved, call_bound, call, return_with, return_from, goto_bound, goto, Counter, counter_bound, step, iteration, labels_before, after_labels, list_of, parameter_types, procedure_with, parameter_objects, own_block, check_body, close_procedure, inner_block, entered, kind, labelled, alone, else_part, cases, statements, declaration, declarations, module_block, at_the_beginning, module_with, typing_of, Checked, require, and_parts, not-true, some_and}
 use Rattle.trees.specs.Trees as trees
 use Rattle.typing.proofs.Kept.{Gives, then_more, gives_ok, gives_fault, gives_after, in_turn, required, is_found}
 use Rattle.typing.proofs.NamesBack.{is_bound, Binds}
 use Rattle.typing.proofs.Tables.{Keeps}
-use Rattle.typing.proofs.Types.TypesKept.{Holding, holding_at, holding_more, holding_both, headings, some_and}
-use Rattle.typing.proofs.Types.TypesOfReferences.{as_type_holds, Sees, SeenObject, seen_object, GivenHolds, call_arguments_hold}
+use Rattle.typing.proofs.Types.TypesKept.{Holding, holding_at, holding_more, holding_both, headings}
+use Rattle.typing.proofs.Types.TypesOfReferences.{as_type_holds, Sees, SeenObject, seen_object, GivenHolds, call_arguments_hold, scalar_is}
 use Rattle.typing.proofs.Types.TypesOfExpressions.{expression_holds, arguments_hold, destination_holds}
 use Rattle.typing.proofs.SeenNames.{within_of, sees_within, into_block-stands, out_of_block-stands, into_list-stands, out_of_list-stands, out_of_body-stands, declare_labels-stand}
 use Rattle.typing.proofs.GlobalsListed.{Listed, none_listed, lists_globals}
 use Rattle.typing.proofs.Types.FramesSummed.{Summed, none_summed, closed_summed, frames_fit}
 use Rattle.typing.proofs.Types.TypesWalked.{StandsAt, Reaches, AllHold, Goes, goes_nowhere, goes_holding, goes_then, goes_as, goes_from, goes_to, closed_table, same_headings}
-use Rattle.typing.proofs.Types.TypesOfDeclarations.{Nothing, not_based_lies, both, declare_elements-go, heading_procedure, Opened, open_procedure-opens}
+use Rattle.typing.proofs.Types.TypesOfDeclarations.{Nothing, not_based_lies, declare_elements-go, heading_procedure, Opened, open_procedure-opens}
+use Rattle.typing.proofs.Options.{equals_none}
 
 -- what a typed part goes on to and says
 abbrev GoesOn : {A : Type 0} → Owner → Progress → (TypedModule → A → Type 0) → Checked (A × Progress) → Type 0
@@ -73,15 +74,6 @@ CountsIn within counter tables =
     IsSomeAnd (slice_get tables.objects counter.object)
     (λ (object : TypedObject). IsScalar counter.scalar object × LiesFor within object.home)
 
-scalar_object : (object_type : ObjectType) (scalar : ScalarType)
-    → scalar_of object_type ≡ Some scalar → object_type ≡ ScalarObject scalar
-scalar_object (ScalarObject own) scalar e = cc
-scalar_object (StructureObject members) scalar e = absurd cc
-
-no_dimension : (dimension : Option ℕ) → is_none dimension ≡ true → dimension ≡ None
-no_dimension None is = refl
-no_dimension (Some count) is = absurd cc
-
 counter_holds : (within : Within) (known : Known) (binding : Binding) (name : Identifier) (constants : Constants)
     → Sees within known → Binds known name binding
     → Gives (λ counter. Holding known constants constants (CountsIn within counter)) (counter_bound known binding name)
@@ -91,10 +83,10 @@ counter_holds within known (Declared (Object number)) name constants sees bound_
     in_turn (required (is_none object.dimension && is_not_based object.home) _ _) λ _ plain.
     in_turn (is_found (scalar_of object.object_type) _ _) λ scalar is.
     let seen : SeenObject within known number object = seen_object name sees bound_to entry in
-    let two = both _ _ plain in
+    let two = and_parts _ _ plain in
     gives_ok (holding_at (λ tables has.
     some_and _ (slice_get tables.objects number) object (seen.at tables has) (
-      (no_dimension object.dimension two.0, scalar_object object.object_type scalar is),
+      (equals_none object.dimension two.0, scalar_is object.object_type scalar is),
       not_based_lies tables within object.home two.1 (seen.seen tables has),
     )))
 counter_holds within known binding name constants sees bound_to = gives_fault
@@ -208,11 +200,7 @@ body_may_stand : (number : ℕ) (heading : HeadingTree) (body : StatementTrees)
 body_may_stand number heading trees.NoStatements = gives_ok tt
 body_may_stand number heading (trees.MoreStatements first others) =
     then_more (required (not (is_external_linkage heading.linkage)) _ _) λ _ is.
-    none (is_external_linkage heading.linkage) is
-  where
-    none : (outside : Bool) → not outside ≡ true → outside ≡ false
-    none true e = absurd cc
-    none false e = refl
+    not-true (is_external_linkage heading.linkage) is
 
 -- a list, whose labels are known in the whole of it
 list_goes : (owner : Owner) (trees : StatementTrees)

@@ -1,5 +1,5 @@
 use Rattle.example_objects.proofs.Prelude.{◌+◌, take, sym, subst, arith, AllZip, Spells}
-use Rattle.example_objects.proofs.FilesRead.{bytes_of, one_more}
+use Rattle.link.proofs.Reading.{bytes_of, one_more}
 use Rattle.example_objects.proofs.images.modules_in.Goals as goal
 
 pub loop-file-preserved : goal.loop-file-preserved

@@ -1,6 +1,6 @@
-use Rattle.interpreter.proofs.Prelude.{◌≡◌, ◌∙◌, Some, ap, map, option_map, sym, Typed, module_view, placement_view, found_from, found_view}
+use Rattle.interpreter.proofs.Prelude.{◌≡◌, ◌∙◌, Some, ap, map, option_map, sym, Typed, module_view, placement_view, found_from, found_view, begins_itself, if_ok_then}
 use Rattle.declared.specs.Access.{modules_in}
-use Rattle.interpreter.proofs.Runs.{begins_same, begun, either, if_ok, kept_reached, kept_stopped, meant, on_err, started, tables}
+use Rattle.interpreter.proofs.Runs.{begun, either, kept_reached, kept_stopped, meant, on_err, started, tables}
 use Rattle.interpreter.proofs.program.interpret.Goals as goal
 
 pub returns-in_default-clause-beginning : goal.returns-in_default-clause-beginning
@@ -23,7 +23,7 @@ pub returns-in-Some-clause-meaning : goal.returns-in-Some-clause-meaning
 returns-in-Some-clause-meaning g c =
     let found : found_from 0 (modules_in c.args.joined.now) ≡ Some (c.in-Some.found.number, module_view c.in-Some.found.typed.now) =
     ap (λ (modules : _). found_from 0 (map module_view modules)) (sym c.modules.ensures) ∙ sym c.main_module.ensures ∙ ap (option_map found_view) c.in-Some.is in
-    if_ok _ _ c.run.result
+    if_ok_then _ _ c.run.result
     (λ end stops. meant (modules_in c.args.joined.now) (placement_view c.args.placement.now) c.args.room c.args.memory c.put_contents.new.memory
     (g.P.Ports.script c.args.ports.now) (g.P.Ports.events c.args.ports.now) _ c.args.budget c.in-Some.found.number (module_view c.in-Some.found.typed.now)
     c.in-Ok-compile.program found c.requires.jumps c.in-Ok-compile.ensures c.in-Ok.ensures _ stops)
@@ -40,13 +40,13 @@ returns-in-Some-clause-beginning g c =
     c.run.ensures.reached
 
 pub returns-in_default-clause-kept : goal.returns-in_default-clause-kept
-returns-in_default-clause-kept g c = begins_same (g.P.Ports.events c.args.ports.now)
+returns-in_default-clause-kept g c = begins_itself (g.P.Ports.events c.args.ports.now)
 
 pub returns-in_default-compile-clause-kept : goal.returns-in_default-compile-clause-kept
-returns-in_default-compile-clause-kept g c = begins_same (g.P.Ports.events c.args.ports.now)
+returns-in_default-compile-clause-kept g c = begins_itself (g.P.Ports.events c.args.ports.now)
 
 pub returns-in-None-clause-kept : goal.returns-in-None-clause-kept
-returns-in-None-clause-kept g c = begins_same (g.P.Ports.events c.args.ports.now)
+returns-in-None-clause-kept g c = begins_itself (g.P.Ports.events c.args.ports.now)
 
 pub returns-in-Some-clause-kept : goal.returns-in-Some-clause-kept
 returns-in-Some-clause-kept g c =

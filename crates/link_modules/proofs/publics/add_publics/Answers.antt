@@ -1,7 +1,7 @@
 use Rattle.std.proofs.Common.{◌+◌, ◌++◌, ◌%◌, drop, map, ap, ◌∙◌, arith}
 use Rattle.object_modules.specs.Displacements.{public_moved}
 use Rattle.object_modules.specs.Views.{owned_public_view}
-use Rattle.link_laws.proofs.Pushed.{view_added}
+use Rattle.object_modules.proofs.Pushed.{view_added}
 use Rattle.link_modules.proofs.publics.add_publics.Goals as goal
 
 pub loop-public-preserved : goal.loop-public-preserved

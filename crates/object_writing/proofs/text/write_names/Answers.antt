@@ -1,5 +1,5 @@
-use Rattle.object_writing.proofs.Prelude.{ap, subst, flat_map, Appends, Appends-trans, AppendsBeginning, on_err, part_bytes, external_parts, publics_text}
-use Rattle.object_writing.proofs.Sequences.{first_begun, last_of_two_begun, on_ok_then, on_err_then}
+use Rattle.object_writing.proofs.Prelude.{ap, subst, flat_map, Appends, Appends-trans, AppendsBeginning, on_err, part_bytes, external_parts, publics_text, on_err_then, on_ok_then}
+use Rattle.object_writing.proofs.Sequences.{first_begun, last_of_two_begun}
 use Rattle.object_writing.proofs.text.write_names.Goals as goal
 
 pub returns-in_err-write_external_names-clause-err : goal.returns-in_err-write_external_names-clause-err

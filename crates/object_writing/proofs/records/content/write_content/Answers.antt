@@ -1,6 +1,6 @@
-use Rattle.object_writing.proofs.Prelude.{sym, subst, Appends, Appends-trans, AppendsBeginning, on_err}
+use Rattle.object_writing.proofs.Prelude.{sym, subst, Appends, Appends-trans, AppendsBeginning, on_err, on_err_then, on_ok_then}
 use Rattle.object_writing.proofs.FixTexts.{content_is}
-use Rattle.object_writing.proofs.Sequences.{first_begun, last_of_two_begun, on_ok_then, on_err_then}
+use Rattle.object_writing.proofs.Sequences.{first_begun, last_of_two_begun}
 use Rattle.object_writing.proofs.records.content.write_content.Goals as goal
 
 pub returns-in_err-write_bytes_at-clause-err : goal.returns-in_err-write_bytes_at-clause-err

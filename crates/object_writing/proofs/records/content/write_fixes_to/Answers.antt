@@ -1,5 +1,5 @@
-use Rattle.object_writing.proofs.Prelude.{on_err}
-use Rattle.object_writing.proofs.Sequences.{first_begun, second_begun, last_of_three_begun, three, on_ok_then, on_err_then}
+use Rattle.object_writing.proofs.Prelude.{on_err, on_err_then, on_ok_then}
+use Rattle.object_writing.proofs.Sequences.{first_begun, second_begun, last_of_three_begun, three}
 use Rattle.object_writing.proofs.records.content.write_fixes_to.Goals as goal
 
 pub returns-in_err-write_kind-clause-err : goal.returns-in_err-write_kind-clause-err

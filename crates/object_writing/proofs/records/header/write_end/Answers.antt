@@ -1,5 +1,5 @@
-use Rattle.object_writing.proofs.Prelude.{on_err}
-use Rattle.object_writing.proofs.Sequences.{first_begun, second_begun, on_err_then}
+use Rattle.object_writing.proofs.Prelude.{on_err, on_err_then}
+use Rattle.object_writing.proofs.Sequences.{first_begun, second_begun}
 use Rattle.object_writing.proofs.records.header.write_end.Goals as goal
 
 pub returns-in_err-write_module_end-clause-err : goal.returns-in_err-write_module_end-clause-err

@@ -1,6 +1,5 @@
-use Rattle.object_writing.proofs.Prelude.{ap, subst, ◌∙◌, bytes_of, AppendsBeginning}
+use Rattle.object_writing.proofs.Prelude.{ap, subst, ◌∙◌, bytes_of, AppendsBeginning, on_err_then}
 use Rattle.omf80.specs.declared.kind.RecordKind.TheVariants as kinds
-use Rattle.object_writing.proofs.Sequences.{on_err_then}
 use Rattle.object_writing.proofs.records.header.write_header.Goals as goal
 
 pub returns-clause-err : goal.returns-clause-err

@@ -1,5 +1,4 @@
-use Rattle.object_writing.proofs.Prelude.{length, Some, None, ap, sym, subst, ◌∙◌, cond-true, AppendsBeginning, same_segment, definition_bytes, definition_of, owned_public_view, flushed, flushed_by}
-use Rattle.object_writing.proofs.Sequences.{on_err_then}
+use Rattle.object_writing.proofs.Prelude.{length, Some, None, ap, sym, subst, ◌∙◌, cond-true, AppendsBeginning, same_segment, definition_bytes, definition_of, owned_public_view, flushed, flushed_by, on_err_then}
 use Rattle.object_writing.proofs.records.names.add_public.Goals as goal
 
 pub returns-then-is_in-clause-err : goal.returns-then-is_in-clause-err

@@ -1,5 +1,5 @@
-use Rattle.object_writing.proofs.Prelude.{arith, name_entry, on_err}
-use Rattle.object_writing.proofs.Sequences.{none_yet, last, last_begun, on_ok_then, on_err_then}
+use Rattle.object_writing.proofs.Prelude.{arith, name_entry, on_err, on_err_then, on_ok_then}
+use Rattle.object_writing.proofs.Sequences.{none_yet, last, last_begun}
 use Rattle.object_writing.proofs.Items.{item_written, item_begun, items_ended}
 use Rattle.object_writing.proofs.records.names.write_names.Goals as goal
 

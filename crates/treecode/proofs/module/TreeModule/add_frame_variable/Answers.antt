@@ -1,5 +1,5 @@
-use Rattle.treecode.proofs.Prelude.{◌≡◌, min, length, sym, ◌∙◌, ltb-false, ltb-true, on_ok_weaker, heading_of, headings_of, variable_number}
-use Rattle.treecode.proofs.FrameVariables.{if_ok_then, none_numbered, variable_numbered, variable_put}
+use Rattle.treecode.proofs.Prelude.{◌≡◌, min, length, sym, ◌∙◌, ltb-false, ltb-true, on_ok_weaker, heading_of, headings_of, variable_number, if_ok_then}
+use Rattle.treecode.proofs.FrameVariables.{none_numbered, variable_numbered, variable_put}
 use Rattle.treecode.proofs.module.TreeModule.add_frame_variable.Goals as goal
 
 pub returns-in-Some-clause-headings : goal.returns-in-Some-clause-headings

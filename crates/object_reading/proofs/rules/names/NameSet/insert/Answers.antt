@@ -1,5 +1,4 @@
-use Rattle.object_reading.proofs.Prelude.{not, ap, ◌∙◌, is_among}
-use Rattle.object_reading.proofs.NewNames.{among_borrowed}
+use Rattle.object_reading.proofs.Prelude.{not, ap, ◌∙◌, is_among, among_borrowed}
 use Rattle.object_reading.proofs.rules.names.NameSet.insert.Goals as goal
 
 pub returns-clause-new : goal.returns-clause-new
